@@ -44,7 +44,7 @@ VERSIONS = {
 
 # Where PROVED.md says in how many files and lines the report is defined, and the file that names the others.
 DEFINITIONS = re.compile(r"definitions that it names: (\d+) files with about ([\d,]+) lines")
-REPORT = TOP / "crates" / "bt_tool" / "specs" / "model" / "report" / "Report.antt"
+REPORT = TOP / "crates" / "bt_tool" / "specs" / "model" / "Report.antt"
 
 # Where ARCHITECTURE.md lists these files: from one line to another.
 LIST_BEGINS = "<!-- docs/links.py --write writes this list -->\n"

@@ -1,9 +1,9 @@
 -- How carrying out a plan ends, as standard error and the exit status report it.
 use Rattle.std.specs.Prelude.{◌≡◌, ◌⊎◌, [], Option, Some, option_map, unwrap_or}
 use Rattle.bt_lines.specs.model.Fault.{FaultValue}
-use Rattle.bt_tool.specs.model.usage.Options.{PlanSeen}
-use Rattle.bt_tool.specs.model.report.Report.{fault_text, status_of}
-use Rattle.bt_tool.specs.model.usage.Table.{Word, tool_name, tool_of}
+use Rattle.bt_tool.specs.model.Options.{PlanSeen}
+use Rattle.bt_tool.specs.model.Report.{fault_text, status_of}
+use Rattle.bt_tool.specs.model.Table.{Word, tool_name, tool_of}
 use Rattle.bedtools.specs.Message.{Says, cannot_open_text}
 use Rattle.bedtools.specs.declared.message.Message.{Message}
 

@@ -1,4 +1,4 @@
+pub mod Ending
+pub mod Message
 pub mod Opened
 pub mod StandIns
-pub mod Message
-pub mod Ending

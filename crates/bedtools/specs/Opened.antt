@@ -1,17 +1,14 @@
 -- What the program opens: the input that a name means,
 -- and whether a device has failed or was flushed.
 use Rattle.std.specs.Prelude.{Bool, List, ℕ, Option, Some, None, if◌then◌else◌}
-use Rattle.bt_lines.specs.calls.Adapter.{read_has_failed, read_end_told, write_has_failed}
-use Rattle.bt_lines.specs.calls.Adapter.{write_is_flushed}
-use Rattle.bt_tool.specs.model.usage.Options.{is_standard_input}
+use Rattle.bt_lines.specs.calls.Device.{read_has_failed, read_end_told, write_has_failed, write_is_flushed}
+use Rattle.bt_tool.specs.model.Options.{is_standard_input}
 use Rattle.bedtools.specs.declared.opened.Input.{Input}
-use Rattle.bedtools.specs.declared.opened.Input.TheVariants.{Standard as StandardInput}
-use Rattle.bedtools.specs.declared.opened.Input.TheVariants.{File as FileInput}
+use Rattle.bedtools.specs.declared.opened.Input.TheVariants.{Standard as StandardInput, File as FileInput}
 use Rattle.bedtools.specs.declared.opened.Opened.{Opened}
 use Rattle.bedtools.specs.declared.opened.Opened.TheVariants.{File, Standard}
 use Rattle.bedtools.specs.declared.output.Output.{Output}
-use Rattle.bedtools.specs.declared.output.Output.TheVariants.{Standard as StandardOutput}
-use Rattle.bedtools.specs.declared.output.Output.TheVariants.{File as FileOutput}
+use Rattle.bedtools.specs.declared.output.Output.TheVariants.{Standard as StandardOutput, File as FileOutput}
 
 abbrev pub opened_has_failed : Opened → Bool
 opened_has_failed (File source) = read_has_failed source

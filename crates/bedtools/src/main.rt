@@ -24,10 +24,10 @@
 
 ghost use Rattle.std.specs.Prelude.{◌≡◌, Ok, Err, [], is_some, None, Some, option_map, string_bytes, IfOk, IfErr};
 ghost use Rattle.bt_lines.specs.calls.Names.{fault_value};
-ghost use Rattle.bt_tool.specs.model.usage.Options.{PlanSeen, options};
-ghost use Rattle.bt_tool.specs.calls.words.Plan.{plan_seen, words_seen};
-ghost use Rattle.bt_tool.specs.model.usage.Table.{Word};
-ghost use Rattle.bt_tool.specs.model.usage.Usage.{usage_text};
+ghost use Rattle.bt_tool.specs.model.Options.{PlanSeen, options};
+ghost use Rattle.bt_tool.specs.calls.Plan.{plan_seen, words_seen};
+ghost use Rattle.bt_tool.specs.model.Table.{Word};
+ghost use Rattle.bt_tool.specs.model.Usage.{usage_text};
 ghost use Rattle.bt_tool.specs.declared.options.usage.Usage.{Usage};
 ghost use Rattle.bedtools.specs.Ending.{CannotBegin, Ends, ReportsRun, ReportsUnopened};
 ghost use Rattle.bedtools.specs.Message.{Says, line_seen};

@@ -1,7 +1,6 @@
 -- Lemmas by theme.
-pub mod definitions
+pub mod Definitions
+pub mod Writing
 pub mod order
 pub mod parse
 pub mod read
-pub mod records
-pub mod write

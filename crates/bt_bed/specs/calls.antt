@@ -4,9 +4,5 @@ pub mod Bed
 pub mod Blocks
 pub mod CursorLaws
 pub mod GenomeTable
-pub mod RawRecord
 pub mod Reading
 pub mod Records
-pub mod Run
-pub mod Single
-pub mod SortedReader

@@ -1,4 +1,6 @@
 -- What one has to believe: the definitions that the report names.
-pub mod feature
-pub mod input
-pub mod order
+pub mod Feature
+pub mod Genome
+pub mod Good
+pub mod Order
+pub mod Sorted

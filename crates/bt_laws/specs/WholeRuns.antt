@@ -1,14 +1,11 @@
 -- Runs without a fault: the records of their inputs, what they write, and the inputs of the next run in a pipe.
 use Rattle.std.specs.Prelude.{◌≡◌, ℕ, List, Option, None, Some, Ok}
-use Rattle.bt_lines.specs.model.Handed.{Handed, whole_text}
+use Rattle.bt_lines.specs.model.Lines.{Handed, whole_text}
 use Rattle.bt_lines.specs.declared.fault.Input.TheVariants.{First, Second}
-use Rattle.bt_bed.specs.model.feature.Feature.{Feature}
-use Rattle.bt_bed.specs.model.input.Good.{items_in}
-use Rattle.bt_bed.specs.model.input.GoodBed.{bed_good}
-use Rattle.bt_bed.specs.model.order.Genome.{Entry}
-use Rattle.bt_tool.specs.model.report.Behaviour.{order_of}
-use Rattle.bt_tool.specs.model.report.Inputs.{Inputs, or_empty}
-use Rattle.bt_tool.specs.model.report.Report.{chromosomes_of, report_of}
+use Rattle.bt_bed.specs.model.Feature.{Feature}
+use Rattle.bt_bed.specs.model.Good.{items_in, bed_good}
+use Rattle.bt_bed.specs.model.Genome.{Entry}
+use Rattle.bt_tool.specs.model.Report.{order_of, Inputs, or_empty, chromosomes_of, report_of}
 use Rattle.bt_tool.specs.declared.planning.plan_type.Command.{Command}
 
 -- a run without a fault, by the chromosomes of its genome file, or without one

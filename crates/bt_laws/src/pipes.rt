@@ -1,32 +1,7 @@
 //! Which outputs the next command takes as they are, in the same order of the chromosomes: each law is the contract
 //! of a function that does nothing.
 
-ghost use Rattle.bt_laws.specs.pipes.ConvertPipes.{bamtobed_is_input};
-ghost use Rattle.bt_laws.specs.pipes.PipeExamples.{
-  blocks_go_back,
-  cuts_go_back,
-  names_become_strands,
-  pieces_go_back,
-  returns_change_strands,
-};
-ghost use Rattle.bt_laws.specs.pipes.Pipes.{
-  complement_is_input,
-  cut_intersect_is_input,
-  cut_strands_stay,
-  genomecov_is_input,
-  intersect_is_input,
-  kept_places_stay,
-  kept_records_stay,
-  kept_strands_stay,
-  merge_is_input,
-  subtract_is_input,
-  whole_subtract_is_input,
-};
-ghost use Rattle.bt_laws.specs.pipes.PipesApart.{
-  complement_writes_disjoint,
-  genomecov_writes_disjoint,
-  merge_writes_disjoint,
-};
+ghost use Rattle.bt_laws.specs.Pipes.{bamtobed_is_input, blocks_go_back, cuts_go_back, names_become_strands, pieces_go_back, returns_change_strands, complement_is_input, cut_intersect_is_input, cut_strands_stay, genomecov_is_input, intersect_is_input, kept_places_stay, kept_records_stay, kept_strands_stay, merge_is_input, subtract_is_input, whole_subtract_is_input, complement_writes_disjoint, genomecov_writes_disjoint, merge_writes_disjoint};
 
 /// What merge writes is an input, whose records are the runs.
 pub fn merge_goes_on()

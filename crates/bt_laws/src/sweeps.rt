@@ -1,12 +1,7 @@
 //! Laws of what a sweep decides, takes and writes.
 
-ghost use Rattle.bt_laws.specs.sweeps.Taken.{decided_stays, both_of_nothing, taken_are_first, quiet_are_taken, written_are_a_prefix};
-ghost use Rattle.bt_sweep.specs.model.IntersectLines.{lines_are_before, lines_stay};
-ghost use Rattle.bt_laws.specs.sweeps.Limits.{limit_is_kept, limit_stops};
-ghost use Rattle.bt_sweep.specs.model.Pieces.{pieces_are, pieces_only};
-ghost use Rattle.bt_sweep.specs.model.Subtract.{left_are_lines, subtract_is_met};
-ghost use Rattle.bt_laws.specs.sweeps.Worked.{decided_before_the_limit, fault_behind_undecided, fault_of_first, fault_within_the_limit, first_is_too_many, half_is_taken, limit_before_the_fault, none_is_held, parts_are_left, third_is_too_many, three_are_enough, whole_is_left};
-ghost use Rattle.bt_sweep.specs.model.SweepMeeting.{faultless_are_all};
+ghost use Rattle.bt_laws.specs.Sweeps.{decided_stays, both_of_nothing, taken_are_first, quiet_are_taken, written_are_a_prefix, limit_is_kept, limit_stops, decided_before_the_limit, fault_behind_undecided, fault_of_first, fault_within_the_limit, first_is_too_many, half_is_taken, limit_before_the_fault, none_is_held, parts_are_left, third_is_too_many, three_are_enough, whole_is_left};
+ghost use Rattle.bt_sweep.specs.model.Lines.{lines_are_before, lines_stay, pieces_are, pieces_only, left_are_lines, subtract_is_met, faultless_are_all};
 
 /// What is decided stays decided, and its lines stay as they are, whatever comes after in order: the
 /// record that decides it included.

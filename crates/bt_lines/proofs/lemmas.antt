@@ -1,5 +1,5 @@
 -- Lemmas by theme.
-pub mod device
+pub mod Device
+pub mod Writer
 pub mod numbers
 pub mod reader
-pub mod writer

@@ -2,6 +2,5 @@
 pub mod Copying
 pub mod Digits
 pub mod ReadBuffer
-pub mod ReaderState
 pub mod Shape
 pub mod Spill

@@ -1,5 +1,3 @@
 -- What one has to believe: the definitions that the report names.
 pub mod Fault
-pub mod Handed
 pub mod Lines
-pub mod Number

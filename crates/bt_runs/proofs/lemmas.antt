@@ -1,7 +1,7 @@
 -- Lemmas by theme.
+pub mod Engine
 pub mod complement
 pub mod coverage
 pub mod definitions
-pub mod engine
 pub mod merge
 pub mod order

@@ -1,5 +1,6 @@
 -- Words of contracts inside of the crate.
+pub mod Coverage
+pub mod GapRule
 pub mod PlainRuns
-pub mod coverage
+pub mod Walk
 pub mod merge
-pub mod walk

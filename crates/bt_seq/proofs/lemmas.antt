@@ -1,5 +1,5 @@
 -- Lemmas by theme.
-pub mod bamtobed
+pub mod BamToBed
+pub mod Sam
 pub mod definitions
 pub mod mask
-pub mod sam

@@ -1,7 +1,4 @@
 -- Words of contracts inside of the crate.
-pub mod CigarSteps
-pub mod CopyThrough
-pub mod LineEnds
-pub mod MaskInside
-pub mod Phase
+pub mod Masking
+pub mod Sam
 pub mod Window

@@ -1,7 +1,6 @@
 -- Lemmas by theme.
-pub mod active
+pub mod Active
+pub mod Output
+pub mod Plain
 pub mod definitions
-pub mod hits
-pub mod output
-pub mod plain
 pub mod sweep

@@ -1,9 +1,4 @@
 -- Words of contracts inside of the crate.
-pub mod Ends
-pub mod HeldList
+pub mod Held
 pub mod Joining
-pub mod Pending
-pub mod PlainPieces
-pub mod Relating
-pub mod StateSteps
-pub mod Walking
+pub mod Pieces

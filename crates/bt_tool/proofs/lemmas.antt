@@ -1,4 +1,6 @@
 -- Lemmas by theme.
-pub mod options
-pub mod planning
+pub mod Division
+pub mod Fraction
+pub mod Options
+pub mod Planning
 pub mod running

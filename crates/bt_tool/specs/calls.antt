@@ -1,3 +1,5 @@
 -- What calls do, as contracts say it.
-pub mod run
-pub mod words
+pub mod Given
+pub mod Lent
+pub mod Plan
+pub mod Run

@@ -1,3 +1,6 @@
 -- Words of contracts inside of the crate.
-pub mod feed
-pub mod pair
+pub mod Feed
+pub mod MaskLoop
+pub mod Pair
+pub mod Rounds
+pub mod SweepLoop

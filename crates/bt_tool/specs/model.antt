@@ -1,3 +1,7 @@
 -- What one has to believe: the definitions that the report names.
-pub mod report
-pub mod usage
+pub mod Fraction
+pub mod Options
+pub mod Report
+pub mod Table
+pub mod Usage
+pub mod Written

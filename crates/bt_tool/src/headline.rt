@@ -1,13 +1,12 @@
 //! What a user sees, from words and texts, by the definitions that the contracts of `plan`,
 //! `usage_line`, `run` and `Outcome` cite. The function does nothing: it carries a fact on which its callers may rely.
 
-ghost use Rattle.std.specs.Prelude.{List};
-ghost use Rattle.bt_tool.specs.calls.run.Headline.{ShowsReport};
-ghost use Rattle.bt_tool.specs.model.report.Report.{ReportsAnswer};
-ghost use Rattle.bt_tool.specs.model.usage.Table.{Word};
-ghost use Rattle.bt_tool.specs.model.usage.Options.{options};
+ghost use Rattle.std.specs.Prelude.{List, ◌≡◌, Err};
+ghost use Rattle.bt_tool.specs.calls.Run.{ShowsReport};
+ghost use Rattle.bt_tool.specs.model.Report.{ReportsAnswer};
+ghost use Rattle.bt_tool.specs.model.Table.{Word};
+ghost use Rattle.bt_tool.specs.model.Options.{options};
 ghost use Rattle.bt_tool.specs.declared.options.usage.Usage.{Usage};
-ghost use Rattle.std.specs.Prelude.{◌≡◌, Err};
 
 use bt_lines::{Sink, Source};
 

@@ -1,5 +1,4 @@
 -- Lemmas on read.
+pub mod ColumnLemmas
 pub mod batch
 pub mod good
-pub mod FirstColumnLemmas
-pub mod ParsedColumns

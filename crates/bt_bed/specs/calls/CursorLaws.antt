@@ -1,13 +1,11 @@
 -- Laws of cursors: what was given after other records was given with them, and one record comes next. They are
 -- proved here since cursors cite them as their own.
-use Rattle.std.proofs.Common.{◌≡◌, ◌∙◌, ◌++◌, ◌∷◌, ℕ, List, [], ap, length, refl, subst, sym}
-use Rattle.std.proofs.Common.{append_assoc, length-append}
-use Rattle.bt_lines.proofs.lemmas.reader.lines.PassingLemmas.{passes_more, passes_none}
-use Rattle.bt_lines.specs.calls.Buffered.{PassesLines}
+use Rattle.std.proofs.Common.{◌≡◌, ◌∙◌, ◌++◌, ◌∷◌, ℕ, List, [], ap, length, refl, subst, sym, append_assoc, length-append}
+use Rattle.bt_lines.proofs.lemmas.reader.lines.BufferedLemmas.{passes_more, passes_none}
+use Rattle.bt_lines.specs.calls.Reader.{PassesLines}
 use Rattle.bt_bed.specs.calls.Batch.{Passes, cursor_in, left, start_in}
-use Rattle.bt_bed.specs.model.feature.Feature.{Feature}
-use Rattle.bt_bed.specs.calls.Run.{last_start}
-use Rattle.bt_bed.specs.calls.Single.{GivesSingle, single_left}
+use Rattle.bt_bed.specs.model.Feature.{Feature}
+use Rattle.bt_bed.specs.calls.Bed.{last_start, GivesSingle, single_left}
 use Rattle.bt_bed.specs.declared.read.batch.Batch.{Batch}
 use Rattle.bt_bed.specs.declared.read.cursor.Single.{Single}
 

@@ -1,19 +1,17 @@
 -- What a table of chromosomes holds, and what reading one does.
-use Rattle.std.specs.Prelude.{◌≡◌, ℕ, ◌-◌, ◌⊎◌, true, List, ◌++◌, take, map, Option, Some, None}
-use Rattle.std.specs.Prelude.{Result, Ok, Err, IfSome, Vec, option_map}
+use Rattle.std.specs.Prelude.{◌≡◌, ℕ, ◌-◌, ◌⊎◌, true, List, ◌++◌, take, map, Option, Some, None, Result, Ok, Err, IfSome, Vec, option_map}
 use Rattle.std.specs.Option.{option_to_list}
 use Rattle.std.specs.declared.alloc.Global.{Global}
 use Rattle.bt_lines.specs.declared.device.Source.{Ghosts as Source}
 use Rattle.bt_lines.specs.model.Fault.{FaultValue}
 use Rattle.bt_lines.specs.calls.Names.{fault_value}
-use Rattle.bt_lines.specs.calls.Reader.{Hands, IsNear, IsSound, end_told, source_of, input_of}
-use Rattle.bt_lines.specs.calls.Reader.{lines_given, fault_kept, has_ended, lines_left}
+use Rattle.bt_lines.specs.calls.Reader.{Hands, IsNear, IsSound, end_told, source_of, input_of, lines_given, fault_kept, has_ended, lines_left}
 use Rattle.bt_lines.specs.declared.fault.Fault.{Fault}
 use Rattle.bt_lines.specs.declared.fault.Kind.{Kind}
 use Rattle.bt_lines.specs.declared.reader.line_reader.LineReader.{LineReader}
-use Rattle.bt_bed.specs.model.order.Genome.{Entry, entry_of, genome_names, genome_of, new_entry}
-use Rattle.bt_bed.specs.model.feature.LineKind.{fault_at_line, is_genome_kind}
-use Rattle.bt_bed.specs.model.order.Rank.{AreDistinct}
+use Rattle.bt_bed.specs.model.Genome.{Entry, entry_of, genome_names, genome_of, new_entry}
+use Rattle.bt_bed.specs.model.Feature.{fault_at_line, is_genome_kind}
+use Rattle.bt_bed.specs.model.Order.{AreDistinct}
 use Rattle.bt_bed.specs.calls.Reading.{ReadingFails, MemoryRanOut, TellsOwnFailure}
 use Rattle.bt_bed.specs.declared.order.entry.EntryRef.{EntryRef}
 use Rattle.bt_bed.specs.declared.order.genome.Genome.{Genome}

@@ -1,23 +1,18 @@
 -- What a reader of the members of an input holds, and what its calls do.
-use Rattle.std.specs.Prelude.{◌≡◌, ℕ, suc, ◌+◌, ◌-◌, ◌^◌, ◌<◌, ◌≤◌, ◌⊎◌, Bool, true, false, List}
-use Rattle.std.specs.Prelude.{[], ◌∷◌, ◌++◌, drop, length, Option, Some, None, option_map, Result}
-use Rattle.std.specs.Prelude.{Ok, All, Err, IsSome, IfSome, ⊤}
+use Rattle.std.specs.Prelude.{◌≡◌, ℕ, suc, ◌+◌, ◌-◌, ◌^◌, ◌<◌, ◌≤◌, ◌⊎◌, Bool, true, false, List, [], ◌∷◌, ◌++◌, drop, length, Option, Some, None, option_map, Result, Ok, All, Err, IsSome, IfSome, ⊤}
 use Rattle.bt_lines.specs.declared.device.Source.{Ghosts as Source}
 use Rattle.bt_lines.specs.model.Fault.{FaultValue, read_failed, no_memory}
 use Rattle.bt_lines.specs.model.Lines.{TextLine}
 use Rattle.bt_lines.specs.calls.Names.{fault_value}
 use Rattle.bt_lines.specs.calls.Output.{block_size}
-use Rattle.bt_lines.specs.calls.Reader.{CutsOff, Hands, HasRead, IsKept, IsNear, TellsReads}
-use Rattle.bt_lines.specs.calls.Reader.{end_told, held, input_of, source_of, lines_given}
-use Rattle.bt_lines.specs.calls.Reader.{bytes_taken, has_ended, lines_left, room as line_room}
-use Rattle.bt_lines.specs.calls.Reader.{fault_kept as line_fault}
+use Rattle.bt_lines.specs.calls.Reader.{CutsOff, Hands, HasRead, IsKept, IsNear, TellsReads, end_told, held, input_of, source_of, lines_given, bytes_taken, has_ended, lines_left, room as line_room, fault_kept as line_fault}
 use Rattle.bt_lines.specs.declared.fault.Fault.{Fault}
 use Rattle.bt_lines.specs.declared.fault.Input.{Input}
 use Rattle.bt_lines.specs.declared.fault.Kind.{Kind}
 use Rattle.bt_lines.specs.declared.fault.Place.{Place}
 use Rattle.bt_lines.specs.declared.reader.line_reader.LineReader.{LineReader}
-use Rattle.bt_bed.specs.model.input.Good.{Format, Good, Member, ends_with, good_from}
-use Rattle.bt_bed.specs.model.feature.LineKind.{fault_at_line, is_of_line}
+use Rattle.bt_bed.specs.model.Good.{Format, Good, Member, ends_with, good_from}
+use Rattle.bt_bed.specs.model.Feature.{fault_at_line, is_of_line}
 
 -- each member's line comes after that of the one before, and none before the line given
 abbrev pub AreAscending : {A : Type 0} → ℕ → List (Member A) → Type 0

@@ -4,14 +4,12 @@ use Rattle.bt_lines.specs.declared.device.Source.{Ghosts as Source}
 use Rattle.bt_lines.specs.model.Fault.{FaultValue}
 use Rattle.bt_lines.specs.declared.fault.Fault.{Fault}
 use Rattle.bt_lines.specs.declared.reader.line_reader.LineReader.{LineReader}
-use Rattle.bt_bed.specs.calls.SortedReader.{FillsSorted, IsTaken as IsTakenIn, Lends as LendsFrom}
-use Rattle.bt_bed.specs.calls.SortedReader.{PeeksSorted, TakesSorted, count_in as count_from, view_in}
-use Rattle.bt_bed.specs.model.feature.Feature.{Feature}
-use Rattle.bt_bed.specs.model.input.GoodBed.{locus_at}
-use Rattle.bt_bed.specs.model.order.Order.{Order}
-use Rattle.bt_bed.specs.model.order.Locus.{Locus, IsUpTo}
+use Rattle.bt_bed.specs.calls.Batch.{FillsSorted, IsTaken as IsTakenIn, Lends as LendsFrom, PeeksSorted, TakesSorted, count_in as count_from, view_in}
+use Rattle.bt_bed.specs.model.Feature.{Feature}
+use Rattle.bt_bed.specs.model.Good.{locus_at}
+use Rattle.bt_bed.specs.model.Order.{Order}
+use Rattle.bt_bed.specs.model.Sorted.{Locus, IsUpTo, sorting_of}
 use Rattle.bt_bed.specs.calls.Reading.{MemberReader, room as room_in}
-use Rattle.bt_bed.specs.model.order.Sorting.{sorting_of}
 use Rattle.bt_bed.specs.declared.read.batch.Batch.{Batch}
 use Rattle.bt_bed.specs.declared.read.batch.Consumed.{Consumed}
 use Rattle.bt_bed.specs.declared.record.bed.BedRef.{BedRef}

@@ -1,13 +1,17 @@
--- The first columns of a line that are in order.
-use Rattle.std.specs.Prelude.{◌≡◌, ℕ, ◌<◌, ◌≤◌, ◌+◌, ◌==◌, true, false, List, ◌∷◌, ◌++◌, length}
-use Rattle.std.specs.Prelude.{take, drop, get_or, Some}
+-- The first columns of a line, packed names, and texts that are kept.
+use Rattle.std.specs.Prelude.{◌≡◌, ℕ, ◌<◌, ◌≤◌, ◌+◌, ◌==◌, true, false, List, ◌∷◌, ◌++◌, length, take, drop, get_or, Some, ◌*◌, ◌%◌, ◌^◌, []}
 use Rattle.std.specs.Char.{is_ascii_digit}
 use Rattle.std.specs.List.{All, list_all}
 use Rattle.std.specs.Str.Parse.{digits_value}
-use Rattle.bt_lines.specs.model.Number.{value_of}
-use Rattle.bt_bed.specs.model.feature.Header.{is_header}
-use Rattle.bt_bed.specs.model.feature.Record.{IsName}
+use Rattle.bt_lines.specs.model.Lines.{value_of}
+use Rattle.bt_bed.specs.model.Feature.{is_header, IsName}
 use Rattle.bt_bed.specs.declared.parse.parsed_number.ParsedNumber.{ParsedNumber}
+use Rattle.std.specs.Int.{from_le_bytes, w64}
+use Rattle.bt_bed.specs.declared.parse.packed_name.PackedName.{PackedName}
+use Rattle.bt_bed.specs.declared.record.inline_text.InlineText.{InlineText}
+use Rattle.bt_bed.specs.declared.record.inline_text.InlineText.TheVariants.{Short, Long}
+
+-- The first columns of a line that are in order.
 
 -- the first column ends here: it isn't empty, and a tab comes after it
 pub record EndsName (text : List ℕ) (end : ℕ) : Type 0 where
@@ -62,3 +66,22 @@ pub record HasColumns (bytes name : List ℕ) (start stop : ParsedNumber) : Type
   pub second : BeginsWith (drop (length name + start.end + 2) bytes) stop
   pub some_second : 0 < stop.end
   pub below : start.value < stop.value
+
+-- The name of a chromosome and the tab after it, as one number.
+
+-- the key of this name: the name and a tab as the upper bytes of a number, and what moves them there from the lower ones
+pub record IsKey (name : List ℕ) (key : PackedName) : Type 0 where
+  pub short : length name ≤ 7
+  pub bytes : (i : ℕ) → get_or name i 0 < 256
+  pub factor : key.factor * 256 ^ (length name + 1) ≡ 2 ^ 64
+  pub word : key.word ≡ (from_le_bytes w64 (name ++ 9 ∷ []) * key.factor) % 2 ^ 64
+
+-- it is, if the name is one that has a key
+abbrev pub HasKey : List ℕ → PackedName → Type 0
+HasKey name key = length name ≤ 7 → IsKey name key
+
+-- The bytes of a text that is kept, inline or in a buffer.
+
+abbrev pub bytes_of : InlineText → List ℕ
+bytes_of (Short bytes) = bytes
+bytes_of (Long text) = text.items

@@ -1,17 +1,15 @@
 -- The last record and the chromosome of the one ahead, sorted by some rule.
-use Rattle.std.specs.Prelude.{◌≡◌, ℕ, Bool, ◌&&◌, IsTrue, IfSome, List, [], bytes_eq, is_some}
-use Rattle.std.specs.Prelude.{if◌then◌else◌, Option, Some, None, Result, Ok, Err, option_map, unwrap_or}
+use Rattle.std.specs.Prelude.{◌≡◌, ℕ, Bool, ◌&&◌, IsTrue, IfSome, List, [], bytes_eq, is_some, if◌then◌else◌, Option, Some, None, Result, Ok, Err, option_map, unwrap_or}
 use Rattle.bt_lines.specs.calls.Names.{fault_value}
 use Rattle.bt_lines.specs.calls.Reader.{buffered_in}
 use Rattle.bt_lines.specs.declared.fault.Fault.{Fault}
 use Rattle.bt_lines.specs.declared.fault.Place.{Place}
 use Rattle.bt_lines.specs.declared.reader.line_reader.LineReader.{LineReader}
 use Rattle.bt_bed.specs.calls.Reading.{IsLost}
-use Rattle.bt_bed.specs.calls.Run.{run_of}
-use Rattle.bt_bed.specs.model.feature.Feature.{Feature}
-use Rattle.bt_bed.specs.model.input.GoodBed.{line_says}
-use Rattle.bt_bed.specs.model.order.Locus.{Locus}
-use Rattle.bt_bed.specs.model.order.Sorting.{Sorting}
+use Rattle.bt_bed.specs.calls.Bed.{run_of}
+use Rattle.bt_bed.specs.model.Feature.{Feature}
+use Rattle.bt_bed.specs.model.Good.{line_says}
+use Rattle.bt_bed.specs.model.Sorted.{Locus, Sorting}
 use Rattle.bt_bed.specs.declared.read.lookahead.OrderedLookahead.{OrderedLookahead}
 
 -- the chromosome of the last record is known

@@ -1,13 +1,12 @@
 -- The order of ranks is total. The proof is here since the order of a genome cites it as its law.
-use Rattle.std.specs.Prelude.{◌≡◌, ℕ, suc, Bool, true, false, cond, List, [], ◌∷◌, Option, Some, None}
-use Rattle.std.specs.Prelude.{option_map, is_some, bytes_eq, refl, slice_get}
+use Rattle.std.specs.Prelude.{◌≡◌, ℕ, suc, Bool, true, false, cond, List, [], ◌∷◌, Option, Some, None, option_map, is_some, bytes_eq, refl, slice_get}
 use Rattle.std.specs.Ordering.{ordering_reverse}
 use Rattle.std.specs.Cmp.{nat_cmp_total, ranked, tied_itself}
 use Rattle.std.specs.Cmp.Lexicographic.{bytes_decides}
 use Rattle.std.specs.declared.cmp.Ordering.TheVariants.{Less, Equal}
 use Rattle.std.proofs.Common.{sym, ap, subst}
 use Rattle.std.proofs.lemmas.Bool.{false≢true}
-use Rattle.bt_bed.specs.model.order.Rank.{rank_of, compare_ranks, ranks_are_total}
+use Rattle.bt_bed.specs.model.Order.{rank_of, compare_ranks, ranks_are_total}
 
 compared_same : (o : Option ℕ) → compare_ranks o o ≡ Equal
 compared_same None = refl

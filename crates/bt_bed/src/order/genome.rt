@@ -23,9 +23,9 @@ impl Genome {
     ghost use Rattle.std.specs.Prelude.{◌≡◌, false, [], ◌∷◌, ◌++◌, length, slice_get, Some, IfErr, OnOk, option_map};
     ghost use Rattle.bt_lines.specs.model.Fault.{no_memory};
     ghost use Rattle.bt_lines.specs.calls.Names.{fault_value};
-    ghost use Rattle.bt_bed.specs.model.order.Genome.{entry_of, new_entry};
+    ghost use Rattle.bt_bed.specs.model.Genome.{entry_of, new_entry};
     ghost use Rattle.bt_bed.specs.calls.Reading.{IsLost};
-    ghost use Rattle.bt_bed.specs.model.order.Rank.{is_among, rank_of};
+    ghost use Rattle.bt_bed.specs.model.Order.{is_among, rank_of};
     ghost use Rattle.bt_bed.specs.calls.GenomeTable.{LineAdded, ReadsGenome, entries, entry_lent, entry_said, names_of};
 
     /// A genome without chromosomes, as that of a run that has no genome file.

@@ -3,7 +3,7 @@
 ghost use Rattle.std.specs.Prelude.{◌≡◌, IsTrue};
 ghost use Rattle.bt_bed.specs.inside.RankTotal.{ranks_total};
 ghost use Rattle.bt_bed.specs.calls.GenomeTable.{names_of};
-ghost use Rattle.bt_bed.specs.model.order.Rank.{rank_order};
+ghost use Rattle.bt_bed.specs.model.Order.{rank_order};
 
 use crate::order::ChromOrder;
 use crate::order::genome::Genome;

@@ -7,7 +7,7 @@ pub(crate) mod genome_line;
 pub(crate) mod genome_order;
 
 ghost use Rattle.std.specs.Prelude.{◌≡◌, IsTrue};
-ghost use Rattle.bt_bed.specs.model.order.Order.{IsTotal, Order};
+ghost use Rattle.bt_bed.specs.model.Order.{IsTotal, Order};
 
 use std::cmp::Ordering;
 

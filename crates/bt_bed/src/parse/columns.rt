@@ -1,9 +1,8 @@
 //! The first three columns of a line, scanned where they stand.
 
 ghost use Rattle.std.specs.Prelude.{◌≡◌, ◌+◌, ◌<◌, ◌≤◌, IfSome, Some, IsTrue, drop, get_or, length, take};
-ghost use Rattle.bt_bed.specs.inside.FirstColumns.{BeginsWith, BeginsWithName, HasColumns};
-ghost use Rattle.bt_bed.specs.inside.PackedName.{HasKey};
-ghost use Rattle.bt_lines.specs.model.Number.{value_of};
+ghost use Rattle.bt_bed.specs.inside.FirstColumns.{BeginsWith, BeginsWithName, HasColumns, HasKey};
+ghost use Rattle.bt_lines.specs.model.Lines.{value_of};
 
 use crate::parse::names::is_same_name;
 use crate::parse::packed_name::{LONGEST_KEYED, PackedName};

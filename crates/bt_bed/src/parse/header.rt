@@ -2,7 +2,7 @@
 
 ghost use Rattle.std.specs.Prelude.{◌≡◌, false, bytes_eq};
 ghost use Rattle.std.specs.List.{All};
-ghost use Rattle.bt_bed.specs.model.feature.Header.{ends_word, first_word, is_header};
+ghost use Rattle.bt_bed.specs.model.Feature.{ends_word, first_word, is_header};
 
 /// Whether a line is blank or a header: a comment, or a line whose first word is `track` or `browser`
 /// (UCSC custom tracks description). A space or a tab ends the word, and `trackX` is another one.
@@ -18,7 +18,7 @@ pub(crate) fn is_header(text: &[u8]) -> bool
 }
 
 // Whether a text's first word is this one.
-#[tactic(auto, using(crate::proofs::lemmas::parse::HeaderLemmas::word_alone, crate::proofs::lemmas::parse::HeaderLemmas::word_ended))]
+#[tactic(auto, using(crate::proofs::lemmas::parse::FeatureLemmas::word_alone, crate::proofs::lemmas::parse::FeatureLemmas::word_ended))]
 fn begins_with_word(text: &[u8], word: &[u8]) -> bool
     requires { All (λ byte. ends_word byte ≡ false) word.now }
     ensures { result ≡ bytes_eq (first_word text.now) word.now }

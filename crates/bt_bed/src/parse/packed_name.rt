@@ -2,7 +2,7 @@
 
 ghost use Rattle.std.specs.Prelude.{◌≡◌, ◌*◌, ◌+◌, ◌-◌, ◌≤◌, ◌%◌, ◌^◌, [], ◌∷◌, ◌++◌, List, ℕ, IsTrue, length, take};
 ghost use Rattle.std.specs.Int.{from_le_bytes, w64};
-ghost use Rattle.bt_bed.specs.inside.PackedName.{HasKey, IsKey};
+ghost use Rattle.bt_bed.specs.inside.FirstColumns.{HasKey, IsKey};
 
 // The longest name that has a key: with the tab after it it fills eight bytes.
 pub(crate) const LONGEST_KEYED: usize = 7;
@@ -19,7 +19,7 @@ pub(crate) struct PackedName {
 
 impl PackedName {
     // The key of a name.
-    #[tactic(auto, using(crate::proofs::lemmas::parse::NameKeyLemmas::factor_is, crate::proofs::lemmas::parse::NameKeyLemmas::key_made))]
+    #[tactic(auto, using(crate::proofs::lemmas::parse::NameLemmas::factor_is, crate::proofs::lemmas::parse::NameLemmas::key_made))]
     pub(crate) fn of(name: &[u8]) -> PackedName
         ensures { HasKey name.now result }
     {
@@ -33,7 +33,7 @@ impl PackedName {
     }
 
     // Whether a line that begins with these eight bytes begins with the name and a tab.
-    #[tactic(auto, using(crate::proofs::lemmas::parse::NameKeyLemmas::key_tells))]
+    #[tactic(auto, using(crate::proofs::lemmas::parse::NameLemmas::key_tells))]
     #[inline(always)]
     pub(crate) fn begins(self, bytes: &[u8; 8]) -> bool
         ensures { (name : List ℕ) → IsKey name self → IsTrue result

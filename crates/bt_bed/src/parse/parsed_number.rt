@@ -2,7 +2,7 @@
 
 ghost use Rattle.std.specs.Prelude.{◌≡◌, ◌≤◌, ◌+◌, IfSome, Some, drop, length, take};
 ghost use Rattle.bt_bed.specs.inside.FirstColumns.{EndsFirst, Leads};
-ghost use Rattle.bt_lines.specs.model.Number.{value_of};
+ghost use Rattle.bt_lines.specs.model.Lines.{value_of};
 
 use crate::parse::parsing::behind;
 use bt_lines::{first_tab, number};
@@ -30,7 +30,7 @@ pub(crate) fn parse_number(text: &[u8], from: usize) -> ParsedNumber
 }
 
 // Where the column that begins here ends, counted from there.
-#[tactic(auto, using(crate::proofs::lemmas::read::ParsedColumns::alone_ends))]
+#[tactic(auto, using(crate::proofs::lemmas::read::ColumnLemmas::alone_ends))]
 #[cold]
 #[inline(never)]
 fn column_end(text: &[u8], from: usize) -> usize

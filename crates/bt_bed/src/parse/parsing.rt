@@ -2,9 +2,8 @@
 
 ghost use Rattle.std.specs.Prelude.{◌≡◌, ◌-◌, ◌≤◌, IfOk, IfSome, List, drop, length, ℕ};
 ghost use Rattle.bt_bed.specs.calls.Bed.{feature_between, record_seen};
-ghost use Rattle.bt_bed.specs.model.feature.Record.{feature_of, record_of};
-ghost use Rattle.bt_lines.specs.model.Lines.{pieces};
-ghost use Rattle.bt_lines.specs.model.Number.{value_of};
+ghost use Rattle.bt_bed.specs.model.Feature.{feature_of, record_of};
+ghost use Rattle.bt_lines.specs.model.Lines.{pieces, value_of};
 
 use crate::parse::header::is_header;
 use crate::record::bed::BedRef;

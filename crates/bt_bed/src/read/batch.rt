@@ -2,11 +2,10 @@
 
 ghost use Rattle.std.specs.Prelude.{◌≡◌, ◌-◌, ◌<◌, ◌≤◌, IsTrue, get_or, length, nat_eq};
 ghost use Rattle.std.specs.Io.BufRead.{strip_last};
-ghost use Rattle.bt_lines.specs.calls.Buffered.{rest_in};
-ghost use Rattle.bt_bed.specs.inside.FirstColumns.{IsRecordName};
-ghost use Rattle.bt_bed.specs.inside.PackedName.{HasKey};
-ghost use Rattle.bt_bed.specs.calls.Run.{is_on};
-ghost use Rattle.bt_bed.specs.model.feature.Record.{record_of};
+ghost use Rattle.bt_lines.specs.calls.Reader.{rest_in};
+ghost use Rattle.bt_bed.specs.inside.FirstColumns.{IsRecordName, HasKey};
+ghost use Rattle.bt_bed.specs.calls.Bed.{is_on};
+ghost use Rattle.bt_bed.specs.model.Feature.{record_of};
 
 use crate::parse::columns::{LOOKAHEAD, begins_with_long, scan_columns};
 use crate::parse::names::is_same_name;
@@ -42,16 +41,15 @@ pub struct Consumed {
     pub(crate) is_ahead: bool,
 }
 
-#[tactic(auto, unfolding(crate::specs::calls::Batch::left, crate::specs::calls::Batch::left_after, crate::specs::calls::Batch::chrom_in, crate::specs::calls::Batch::start_in, crate::specs::calls::Batch::line_in, crate::specs::calls::Batch::cursor_in, crate::specs::calls::RawRecord::text_in))]
+#[tactic(auto, unfolding(crate::specs::calls::Batch::left, crate::specs::calls::Batch::left_after, crate::specs::calls::Batch::chrom_in, crate::specs::calls::Batch::start_in, crate::specs::calls::Batch::line_in, crate::specs::calls::Batch::cursor_in, crate::specs::calls::Bed::text_in))]
 impl<'a> Batch<'a> {
     ghost use Rattle.std.specs.Prelude.{◌≡◌, ◌<◌, ◌≤◌, ◌∷◌, ◌++◌, [], IfNone, IfSome, false, length, take};
     ghost use Rattle.std.specs.Io.BufRead.{strip_last};
-    ghost use Rattle.bt_lines.specs.calls.Buffered.{lines_in, rest_in};
+    ghost use Rattle.bt_lines.specs.calls.Reader.{lines_in, rest_in};
     ghost use Rattle.bt_bed.specs.calls.Batch.{IsWhere, Passes, StandsFirst, chrom_in, consumed_in, cursor_in, left, line_in, start_in};
     ghost use Rattle.bt_bed.specs.inside.FirstColumns.{IsRecordName};
-    ghost use Rattle.bt_bed.specs.calls.RawRecord.{IsOnLine, raw_in, record_in};
-    ghost use Rattle.bt_bed.specs.model.feature.Record.{record_of};
-    ghost use Rattle.bt_bed.specs.calls.Run.{is_on, run_of};
+    ghost use Rattle.bt_bed.specs.calls.Bed.{IsOnLine, raw_in, record_in, is_on, run_of};
+    ghost use Rattle.bt_bed.specs.model.Feature.{record_of};
 
     // The records of these lines on the chromosome of this name, from this start on.
     pub(crate) fn new(lines: BufferedLines<'a>, name: &'a [u8], start: u64) -> Batch<'a>

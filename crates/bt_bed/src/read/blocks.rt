@@ -1,7 +1,7 @@
 //! The records of a BED input whose chromosomes come in any order.
 
-ghost use Rattle.bt_bed.specs.calls.SortedReader.{IsPlaced, view_in};
-ghost use Rattle.bt_bed.specs.model.order.Sorting.{block_sorting};
+ghost use Rattle.bt_bed.specs.calls.Batch.{IsPlaced, view_in};
+ghost use Rattle.bt_bed.specs.model.Sorted.{block_sorting};
 
 use crate::read::batch::{Batch, Consumed};
 use crate::read::sorted::InBlocks;
@@ -22,21 +22,19 @@ pub struct Blocks<S> {
     ghost placed: { IsPlaced block_sorting (view_in block_sorting sorted) },
 }
 
-#[tactic(auto, unfolding(crate::specs::calls::SortedReader::view_with, crate::specs::calls::Blocks::view_of))]
+#[tactic(auto, unfolding(crate::specs::calls::Batch::view_with, crate::specs::calls::Blocks::view_of))]
 impl<S: Source> Blocks<S> {
     ghost use Rattle.std.specs.Prelude.{◌≡◌, [], None, Some, IsSome, option_map};
     ghost use Rattle.std.specs.Borrow.{sem};
     ghost use Rattle.std.specs.Io.BufRead.{Rests};
     ghost use Rattle.bt_lines.specs.calls.Reader.{fault_kept as line_fault, input_of, lines_left};
     ghost use Rattle.bt_bed.specs.contracts.read.blocks.Blocks.{the_row};
-    ghost use Rattle.bt_bed.specs.model.input.GoodBed.{locus_at};
+    ghost use Rattle.bt_bed.specs.model.Good.{locus_at, good, block_format};
     ghost use Rattle.bt_bed.specs.calls.Reading.{BeginsComing, ahead_in, good_coming, line_of_ahead};
     ghost use Rattle.bt_bed.specs.calls.Blocks.{FillsBlocks, IsTaken, Lends, PeeksBlocks, TakesBlocks, below, buffered_in, count_in, fault_kept, view_of};
-    ghost use Rattle.bt_bed.specs.model.input.Good.{good};
-    ghost use Rattle.bt_bed.specs.model.input.GoodBlocks.{block_format};
 
     /// A reader of the records that the reader of lines has left.
-    #[tactic(auto, using(crate::proofs::lemmas::read::batch::RecordsLemmas::good_at_start, crate::proofs::lemmas::read::batch::RecordsLemmas::placed_at_start), unfolding(crate::specs::calls::SortedReader::view_with, crate::specs::calls::Blocks::view_of))]
+    #[tactic(auto, using(crate::proofs::lemmas::read::batch::RecordsLemmas::good_at_start, crate::proofs::lemmas::read::batch::RecordsLemmas::placed_at_start), unfolding(crate::specs::calls::Batch::view_with, crate::specs::calls::Blocks::view_of))]
     pub fn new(alloc: Global, reader: LineReader<S>) -> Blocks<S>
         ensures below { below result ≡ reader }
         ensures fault { fault_kept result ≡ line_fault reader }

@@ -1,7 +1,7 @@
 //! Records that come one after another, on one chromosome.
 
 ghost use Rattle.std.specs.Prelude.{◌≡◌, ◌∷◌, ◌++◌, ◌<◌, ◌≤◌, ℕ, ⊤, [], List, length, take, Some, IfSome, IfNone, false, refl, true};
-ghost use Rattle.bt_bed.specs.model.feature.Feature.{Feature};
+ghost use Rattle.bt_bed.specs.model.Feature.{Feature};
 ghost use Rattle.bt_bed.specs.declared.record.bed.BedRef.{BedRef};
 
 use crate::record::Record;
@@ -77,10 +77,9 @@ pub struct Single<'a> {
     ghost on: { (r : BedRef) → bed ≡ Some r → r.chrom.now ≡ chrom.now },
 }
 
-#[tactic(auto, unfolding(crate::specs::calls::Single::single_left, crate::specs::calls::Single::single_name, crate::specs::calls::Single::single_line))]
+#[tactic(auto, unfolding(crate::specs::calls::Bed::single_left, crate::specs::calls::Bed::single_name, crate::specs::calls::Bed::single_line))]
 impl<'a> Single<'a> {
-    ghost use Rattle.bt_bed.specs.calls.Bed.{feature_lent};
-    ghost use Rattle.bt_bed.specs.calls.Single.{single_left, single_line, single_name};
+    ghost use Rattle.bt_bed.specs.calls.Bed.{feature_lent, single_left, single_line, single_name};
 
     /// This record, which is on this line, counted from 1.
     pub fn new(bed: BedRef<'a>, line: u64) -> Single<'a>
@@ -119,10 +118,10 @@ impl<'a> Single<'a> {
     }
 }
 
-#[tactic(auto, unfolding(crate::specs::calls::Single::single_left, crate::specs::calls::Single::single_name, crate::specs::calls::Single::single_line))]
+#[tactic(auto, unfolding(crate::specs::calls::Bed::single_left, crate::specs::calls::Bed::single_name, crate::specs::calls::Bed::single_line))]
 impl<'a> Cursor for Single<'a> {
     ghost use Rattle.bt_bed.specs.calls.CursorLaws.{single_gives_more, single_gives_none, single_gives_same};
-    ghost use Rattle.bt_bed.specs.calls.Single.{GivesSingle, HasNone, single_left, single_line, single_name};
+    ghost use Rattle.bt_bed.specs.calls.Bed.{GivesSingle, HasNone, single_left, single_line, single_name};
 
     type Record = BedRef<'a>;
 

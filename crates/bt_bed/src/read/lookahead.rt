@@ -28,7 +28,7 @@ impl<Q: Sorted> OrderedLookahead<Q> {
     ghost use Rattle.std.specs.Prelude.{◌≡◌, None, Some};
     ghost use Rattle.std.specs.Result.{result_map_both};
     ghost use Rattle.bt_bed.specs.calls.Bed.{feature_lent};
-    ghost use Rattle.bt_bed.specs.model.input.GoodBed.{in_order};
+    ghost use Rattle.bt_bed.specs.model.Good.{in_order};
     ghost use Rattle.bt_bed.specs.inside.OrderedLookahead.{IsKnownLast, MakesLast, TakesLine, goes_on, last_in, name_in, start_in};
 
     // No record yet.

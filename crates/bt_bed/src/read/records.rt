@@ -1,7 +1,7 @@
 //! The records of a BED input, as many at a time as were read.
 
-ghost use Rattle.bt_bed.specs.calls.SortedReader.{IsPlaced, view_in};
-ghost use Rattle.bt_bed.specs.model.order.Sorting.{sorting_of};
+ghost use Rattle.bt_bed.specs.calls.Batch.{IsPlaced, view_in};
+ghost use Rattle.bt_bed.specs.model.Sorted.{sorting_of};
 
 use crate::order::ChromOrder;
 use crate::read::batch::{Batch, Consumed};
@@ -23,7 +23,7 @@ pub struct Records<'o, S, O: ChromOrder> {
         (view_in (sorting_of (O.order sorted.lookahead.rule.order.now)) sorted) },
 }
 
-#[tactic(auto, unfolding(crate::specs::calls::SortedReader::view_with, crate::specs::calls::Records::view_of, crate::specs::calls::Records::order_in))]
+#[tactic(auto, unfolding(crate::specs::calls::Batch::view_with, crate::specs::calls::Records::view_of, crate::specs::calls::Records::order_in))]
 impl<'o, S: Source, O: ChromOrder> Records<'o, S, O> {
     ghost use Rattle.std.specs.Prelude.{◌≡◌, [], ◌∷◌, List, None, Some, IsSome, option_map};
     ghost use Rattle.std.specs.Borrow.{sem};
@@ -31,9 +31,8 @@ impl<'o, S: Source, O: ChromOrder> Records<'o, S, O> {
     ghost use mir.Syntax.{named};
     ghost use Rattle.bt_lines.specs.calls.Reader.{fault_kept as line_fault, input_of, lines_left};
     ghost use Rattle.bt_bed.specs.contracts.read.records.Records.{the_row};
-    ghost use Rattle.bt_bed.specs.model.input.Good.{good};
-    ghost use Rattle.bt_bed.specs.model.input.GoodBed.{bed_format, locus_at};
-    ghost use Rattle.bt_bed.specs.model.order.Order.{IsTotal};
+    ghost use Rattle.bt_bed.specs.model.Good.{good, bed_format, locus_at};
+    ghost use Rattle.bt_bed.specs.model.Order.{IsTotal};
     ghost use Rattle.bt_bed.specs.calls.Reading.{BeginsComing, ahead_in, good_coming, line_of_ahead};
     ghost use Rattle.bt_bed.specs.calls.Records.{FillsRecords, IsTaken, Lends, PeeksRecord, TakesRecords, below, buffered_in, count_in, fault_kept, last_locus, order_in, view_of};
 

@@ -1,7 +1,7 @@
 //! Rules by which the records of an input are sorted.
 
 ghost use Rattle.std.specs.Prelude.{◌≡◌, IsTrue};
-ghost use Rattle.bt_bed.specs.model.order.Sorting.{Sorting, block_sorting, sorting_of};
+ghost use Rattle.bt_bed.specs.model.Sorted.{Sorting, block_sorting, sorting_of};
 
 use crate::order::ChromOrder;
 use std::cmp::Ordering;

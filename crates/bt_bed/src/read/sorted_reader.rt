@@ -1,7 +1,7 @@
 //! A reader of sorted records, whatever the rule by which they are sorted.
 
 ghost use Rattle.std.specs.Prelude.{◌≡◌, None, true};
-ghost use Rattle.bt_bed.specs.calls.Run.{is_some_left};
+ghost use Rattle.bt_bed.specs.calls.Bed.{is_some_left};
 ghost use Rattle.bt_bed.specs.inside.OrderedLookahead.{ahead_of};
 
 use crate::read::batch::{Batch, Consumed};
@@ -25,15 +25,15 @@ pub(crate) struct SortedReader<S, Q> {
     ghost going: { is_ahead ≡ true → fault ≡ None },
 }
 
-#[tactic(auto, unfolding(crate::specs::calls::SortedReader::view_with, crate::specs::calls::SortedReader::buffered_in))]
+#[tactic(auto, unfolding(crate::specs::calls::Batch::view_with, crate::specs::calls::Batch::buffered_in))]
 impl<S: Source, Q: Sorted + Drop> SortedReader<S, Q> {
     ghost use Rattle.std.specs.Prelude.{◌≡◌, ◌+◌, ◌<◌, ◌∷◌, [], List, None, Ok, false, true, IfSome, IfNone, length, take};
     ghost use Rattle.bt_lines.specs.calls.Reader.{buffered_bytes, fault_kept as line_fault, lines_given};
     ghost use Rattle.bt_bed.specs.calls.Bed.{feature_lent};
-    ghost use Rattle.bt_bed.specs.model.feature.Feature.{Feature};
+    ghost use Rattle.bt_bed.specs.model.Feature.{Feature};
     ghost use Rattle.bt_bed.specs.inside.OrderedLookahead.{IsKnownLast, last_in};
     ghost use Rattle.bt_bed.specs.calls.Reading.{Fills, Takes, TellsOwnFailure};
-    ghost use Rattle.bt_bed.specs.calls.SortedReader.{IsPlaced, IsTaken, Lends, TakesFirst, buffered_in, count_in, fault_in, view_in, view_with};
+    ghost use Rattle.bt_bed.specs.calls.Batch.{IsPlaced, IsTaken, Lends, TakesFirst, buffered_in, count_in, fault_in, view_in, view_with};
 
     // No record yet.
     pub(crate) fn new(alloc: Global, reader: LineReader<S>, rule: Q) -> SortedReader<S, Q>

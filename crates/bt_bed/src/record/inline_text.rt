@@ -1,7 +1,7 @@
 //! The text of a record that is kept.
 
 ghost use Rattle.std.specs.Prelude.{◌≡◌, ◌≤◌, ◌++◌, ◌-◌, length, take, IfOk, IfSome};
-ghost use Rattle.bt_bed.specs.inside.InlineText.{bytes_of};
+ghost use Rattle.bt_bed.specs.inside.FirstColumns.{bytes_of};
 
 use bt_lines::copy_piece;
 use std::alloc::{AllocError, Global};

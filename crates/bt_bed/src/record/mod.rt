@@ -9,10 +9,8 @@ pub(crate) mod strand;
 pub(crate) mod taken;
 
 ghost use Rattle.std.specs.Prelude.{◌≡◌, ◌∷◌, ◌++◌, ℕ, List, [], IfSome, IsTrue};
-ghost use Rattle.bt_bed.specs.calls.Bed.{feature_lent};
-ghost use Rattle.bt_bed.specs.model.feature.Feature.{Feature};
-ghost use Rattle.bt_bed.specs.model.feature.Record.{IsFeature, bed_text};
-ghost use Rattle.bt_bed.specs.calls.RawRecord.{raw_in, record_in};
+ghost use Rattle.bt_bed.specs.calls.Bed.{feature_lent, raw_in, record_in};
+ghost use Rattle.bt_bed.specs.model.Feature.{Feature, IsFeature, bed_text};
 
 use crate::record::bed::BedRef;
 use crate::record::kept_strand::kept_strand;
@@ -90,7 +88,7 @@ impl<'a> Record for BedRef<'a> {
     }
 }
 
-#[tactic(auto, unfolding(crate::specs::calls::RawRecord::record_in, crate::specs::calls::RawRecord::raw_in, crate::specs::calls::RawRecord::text_in, crate::specs::calls::RawRecord::kept_in))]
+#[tactic(auto, unfolding(crate::specs::calls::Bed::record_in, crate::specs::calls::Bed::raw_in, crate::specs::calls::Bed::text_in, crate::specs::calls::Bed::kept_in))]
 impl<'a> Record for RawRecord<'a> {
     ghost feature = { record_in };
 

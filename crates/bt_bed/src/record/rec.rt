@@ -27,9 +27,9 @@ pub struct Rec {
 
 impl Model for Rec {
     ghost use Rattle.std.specs.Prelude.{◌-◌, ◌≤◌, length, take};
-    ghost use Rattle.bt_bed.specs.model.feature.Feature.{Feature};
+    ghost use Rattle.bt_bed.specs.model.Feature.{Feature};
     ghost use Rattle.bt_bed.specs.calls.Bed.{IsFeatureIn, feature_in};
-    ghost use Rattle.bt_bed.specs.inside.InlineText.{bytes_of};
+    ghost use Rattle.bt_bed.specs.inside.FirstColumns.{bytes_of};
 
     ghost Value = { Feature };
 

@@ -2,8 +2,8 @@
 
 ghost use Rattle.std.specs.Prelude.{◌≡◌, ◌+◌, ◌≤◌, ◌++◌, codes, decimal, drop, false, true};
 ghost use Rattle.bt_lines.specs.model.Fault.{write_failed};
-ghost use Rattle.bt_lines.specs.calls.Putting.{FailsToPut, Puts, PutsAll, span_text};
-ghost use Rattle.bt_bed.specs.model.feature.IntervalLine.{bounds_text, interval_line};
+ghost use Rattle.bt_lines.specs.calls.Output.{FailsToPut, Puts, PutsAll, span_text};
+ghost use Rattle.bt_bed.specs.model.Feature.{bounds_text, interval_line};
 
 use bt_lines::{COLUMN, Fault, Out, Sink, put_both, put_column, write_column, write_failed};
 
@@ -12,7 +12,7 @@ const ROOM: usize = 2 * COLUMN + 1;
 
 /// Puts the line of an interval. It doesn't allocate. The start is zero-based, and the end isn't included. It fails
 /// with `WriteFailed`, only if the sink has failed: then the sink took a prefix of all bytes put.
-#[tactic(auto, using(crate::proofs::lemmas::write::IntervalLineLemmas::line_parts))]
+#[tactic(auto, using(crate::proofs::lemmas::Writing::line_parts))]
 #[inline]
 pub fn put_interval<K: Sink>(
     chrom: &[u8],
@@ -55,7 +55,7 @@ fn hold_ended<K: Sink>(chrom: &[u8], start: u64, stop: u64, end: u8, out: &mut O
 
 // Puts what `put_ended` puts, by a text that is written beside the output, and returns true if it could. A
 // `Result` with a fault would take room in the loops that this is called from.
-#[tactic(auto, using(crate::proofs::lemmas::write::IntervalLineLemmas::puts_text, crate::proofs::lemmas::write::IntervalLineLemmas::was_cut, crate::proofs::lemmas::write::IntervalLineLemmas::was_put))]
+#[tactic(auto, using(crate::proofs::lemmas::Writing::puts_text, crate::proofs::lemmas::Writing::was_cut, crate::proofs::lemmas::Writing::was_put))]
 #[cold]
 #[inline(never)]
 fn put_slowly<K: Sink>(chrom: &[u8], start: u64, stop: u64, end: u8, out: &mut Out<K>) -> bool
@@ -69,7 +69,7 @@ fn put_slowly<K: Sink>(chrom: &[u8], start: u64, stop: u64, end: u8, out: &mut O
 }
 
 // Puts the name and the bounds of an interval, without a line feed.
-#[tactic(auto, using(crate::proofs::lemmas::write::RecordLineLemmas::bounds_before_feed))]
+#[tactic(auto, using(crate::proofs::lemmas::Writing::bounds_before_feed))]
 #[inline]
 pub(crate) fn put_columns<K: Sink>(
     chrom: &[u8],

@@ -1,7 +1,9 @@
 -- Lemmas on pipes.
 pub mod ConvertPipes
-pub mod Covers
 pub mod DepthParts
-pub mod MaskPipes
+pub mod LinesBack
 pub mod PipeLaws
 pub mod Placing
+pub mod RunsBack
+pub mod SweepBack
+pub mod SweepRead

@@ -1,6 +1,6 @@
 //! The bases that genomecov counts, as the contract of a function that does nothing.
 
-ghost use Rattle.bt_laws.specs.counts.DepthSum.{depths_sum};
+ghost use Rattle.bt_laws.specs.Counts.{depths_sum};
 
 /// Depth times length over genomecov -bg add up to the bases of the counted records below the lengths.
 pub fn depths_add_up_to_bases()

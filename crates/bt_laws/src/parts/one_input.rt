@@ -1,7 +1,6 @@
 //! Parts of one input: each law is the contract of a function that does nothing.
 
-ghost use Rattle.bt_laws.specs.parts.GenomeSplitLaws.{complement_divides, genomecov_divides, merge_genomes_divide};
-ghost use Rattle.bt_laws.specs.parts.SplitLaws.{bamtobed_divides, merge_divides};
+ghost use Rattle.bt_laws.specs.Parts.{complement_divides, genomecov_divides, merge_genomes_divide, bamtobed_divides, merge_divides};
 
 /// Alignments may be divided at any line.
 pub fn parts_of_bamtobed_add_up()

@@ -1,13 +1,6 @@
 //! What to know of the jobs that run the parts: each law is the contract of a function that does nothing.
 
-ghost use Rattle.bt_laws.specs.parts.OwnGenomeLaws.{
-  complement_shards_suffice,
-  genomecov_shards_suffice,
-  intersect_shards_suffice,
-  merge_shards_suffice,
-  subtract_shards_suffice,
-};
-ghost use Rattle.bt_laws.specs.parts.Parts.{prefixes_begin};
+ghost use Rattle.bt_laws.specs.Parts.{complement_shards_suffice, genomecov_shards_suffice, intersect_shards_suffice, merge_shards_suffice, subtract_shards_suffice, prefixes_begin};
 
 /// If each part has its own part of the genome file, runs of all parts without a fault are enough: nobody has to
 /// know on which chromosomes the records of a part lie, since one that lies elsewhere is a fault there.

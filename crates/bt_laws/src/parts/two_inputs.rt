@@ -1,8 +1,6 @@
 //! Parts of two inputs that are divided at the same place: each law is the contract of a function that does nothing.
 
-ghost use Rattle.bt_laws.specs.parts.MaskSplitLaws.{maskfasta_divides, repeated_names_divide};
-ghost use Rattle.bt_laws.specs.parts.OwnGenomeLaws.{intersect_genomes_divide, subtract_genomes_divide};
-ghost use Rattle.bt_laws.specs.parts.SplitLaws.{intersect_divides, subtract_divides};
+ghost use Rattle.bt_laws.specs.Parts.{maskfasta_divides, repeated_names_divide, intersect_genomes_divide, subtract_genomes_divide, intersect_divides, subtract_divides};
 
 /// Both inputs of intersect may be divided between the same two chromosomes.
 pub fn parts_of_intersect_add_up()

@@ -1,11 +1,9 @@
 //! Laws of records and of what inputs give.
 
 ghost use Rattle.std.specs.Prelude.{◌≡◌, [], ◌∷◌, ◌++◌, Some, None, Ok, Err, codes};
-ghost use Rattle.bt_laws.specs.records.Features.{shared_are_common, read_are_rewritten, written_are_read, stretches_are_one};
-ghost use Rattle.bt_laws.specs.records.Inputs.{first_lines_have_the_first, good_stand_on_lines, EarlyLinesBegin};
-ghost use Rattle.bt_bed.specs.model.input.GoodBed.{wrong_lines_are_of_bed};
-ghost use Rattle.bt_bed.specs.model.feature.Record.{record_of, said_are_features};
-ghost use Rattle.bt_bed.specs.model.feature.Stretches.{scan_finds_stretches};
+ghost use Rattle.bt_laws.specs.Records.{shared_are_common, read_are_rewritten, written_are_read, stretches_are_one, first_lines_have_the_first, good_stand_on_lines, EarlyLinesBegin};
+ghost use Rattle.bt_bed.specs.model.Good.{wrong_lines_are_of_bed};
+ghost use Rattle.bt_bed.specs.model.Feature.{record_of, said_are_features, scan_finds_stretches};
 
 use bt_bed::Strand;
 use bt_lines::Kind;
@@ -45,7 +43,7 @@ pub fn early_lines_begin_the_whole<A, L, F>()
 {}
 
 /// What small texts say.
-#[tactic(auto, unfolding(bt_bed::specs::model::feature::Record::record_of, bt_lines::specs::model::Number::value_of))]
+#[tactic(auto, unfolding(bt_bed::specs::model::Feature::record_of, bt_lines::specs::model::Lines::value_of))]
 pub fn records_of_small_texts()
     ensures blank { record_of [] ≡ Ok None }
     ensures comment { record_of (codes "#chr1\t1\t2") ≡ Ok None }

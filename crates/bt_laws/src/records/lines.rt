@@ -1,9 +1,8 @@
 //! Laws of lines, columns and numbers.
 
 ghost use Rattle.std.specs.Prelude.{◌≡◌, ℕ, [], ◌∷◌, ◌++◌, List, Some, None, codes, flat_map, length, take};
-ghost use Rattle.bt_lines.specs.model.Lines.{AreNumbered, line_feeds, pieces, spelled, text_lines, whole_lines};
+ghost use Rattle.bt_lines.specs.model.Lines.{AreNumbered, line_feeds, pieces, spelled, text_lines, whole_lines, value_of};
 ghost use Rattle.bt_lines.specs.calls.Output.{block_size};
-ghost use Rattle.bt_lines.specs.model.Number.{value_of};
 
 use bt_lines::{BLOCK, LineEnd};
 
@@ -54,7 +53,7 @@ pub fn lines_of_small_texts()
 {}
 
 /// The columns and the numbers of small texts.
-#[tactic(auto, unfolding(bt_lines::specs::model::Number::value_of))]
+#[tactic(auto, unfolding(bt_lines::specs::model::Lines::value_of))]
 pub fn columns_and_numbers_of_small_texts()
     ensures one_column { pieces 9 [] ≡ [] ∷ [] }
     ensures empty_columns { pieces 9 (codes "a\t\tb\t")

@@ -2,15 +2,10 @@
 
 ghost use Rattle.std.specs.Prelude.{◌≡◌, [], ◌∷◌, ◌++◌, codes};
 ghost use Rattle.std.specs.declared.cmp.Ordering.TheVariants.{Less};
-ghost use Rattle.bt_bed.specs.model.order.ByteOrder.{byte_order, bytes_are_total};
-ghost use Rattle.bt_laws.specs.records.Orders.{bytes_know_each_chromosome, first_difference_decides, prefixes_come_first, contiguous_grows};
-ghost use Rattle.bt_laws.specs.records.Inputs.{first_lines_make_entries, genome_names_are_distinct, blocks_know_each_chromosome, good_in_blocks_are_non_empty, good_in_blocks_stand_on_lines};
-ghost use Rattle.bt_bed.specs.model.input.GoodBed.{good_are_non_empty, good_are_placed};
-ghost use Rattle.bt_bed.specs.model.input.GoodBlocks.{good_are_in_blocks};
-ghost use Rattle.bt_bed.specs.model.order.Locus.{prefixes_are_placed, placed_grows};
-ghost use Rattle.bt_bed.specs.model.order.Rank.{ranks_are_total};
-ghost use Rattle.bt_bed.specs.model.order.Sorting.{sorted_by_places};
-ghost use Rattle.bt_bed.specs.model.order.Contiguous.{prefixes_are_contiguous, placed_are_contiguous};
+ghost use Rattle.bt_bed.specs.model.Order.{byte_order, bytes_are_total, ranks_are_total};
+ghost use Rattle.bt_laws.specs.Records.{bytes_know_each_chromosome, first_difference_decides, prefixes_come_first, contiguous_grows, first_lines_make_entries, genome_names_are_distinct, blocks_know_each_chromosome, good_in_blocks_are_non_empty, good_in_blocks_stand_on_lines};
+ghost use Rattle.bt_bed.specs.model.Good.{good_are_non_empty, good_are_placed, good_are_in_blocks};
+ghost use Rattle.bt_bed.specs.model.Sorted.{prefixes_are_placed, placed_grows, sorted_by_places, prefixes_are_contiguous, placed_are_contiguous};
 
 /// Records in order stay so with a next one that isn't below the last, and so do the first of them. In a total order
 /// of the chromosomes the records of each are contiguous, and records are sorted by their places.

@@ -1,10 +1,10 @@
 //! Laws of command lines, and the results of some.
 
 ghost use Rattle.std.specs.Prelude.{◌≡◌, true, false, Ok, Err, Some, None, [], ◌∷◌, codes};
-ghost use Rattle.bt_tool.specs.model.usage.Fraction.{fraction_of};
-ghost use Rattle.bt_laws.specs.reports.OptionLaws.{AnswerIsUnique, LongestDivisionIsUnique, FaultIsOfWhatIsLeft, LastItemCounts, FaultsCanBeTold};
-ghost use Rattle.bt_tool.specs.model.usage.Options.{options};
-ghost use Rattle.bt_tool.specs.model.usage.Usage.{no_command, unknown_option, value_missing, bad_value, required_missing, input_named_twice};
+ghost use Rattle.bt_tool.specs.model.Fraction.{fraction_of};
+ghost use Rattle.bt_laws.specs.Reports.{AnswerIsUnique, LongestDivisionIsUnique, FaultIsOfWhatIsLeft, LastItemCounts, FaultsCanBeTold};
+ghost use Rattle.bt_tool.specs.model.Options.{options};
+ghost use Rattle.bt_tool.specs.model.Usage.{no_command, unknown_option, value_missing, bad_value, required_missing, input_named_twice};
 
 use bt_bed::Strand;
 use bt_runs::MergeStrand;
@@ -21,7 +21,7 @@ pub fn division()
 {}
 
 /// Some command lines, and what they mean.
-#[tactic(auto, unfolding(bt_tool::specs::model::usage::Items::items_of, bt_tool::specs::model::usage::Options::word_fault, bt_tool::specs::model::usage::Options::options, bt_tool::specs::model::usage::Fraction::fraction_in, bt_lines::specs::model::Number::value_of))]
+#[tactic(auto, unfolding(bt_tool::specs::model::Usage::items_of, bt_tool::specs::model::Options::word_fault, bt_tool::specs::model::Options::options, bt_tool::specs::model::Fraction::fraction_in, bt_lines::specs::model::Lines::value_of))]
 pub fn worked_cases()
     ensures no_words { options [] ≡ Err no_command }
     ensures no_such_command { options (codes "mend" ∷ codes "-g" ∷ codes "g" ∷ [])
@@ -95,7 +95,7 @@ pub fn worked_cases()
 {}
 
 /// Some command lines of bamtobed, which has no genome, and what they mean.
-#[tactic(auto, unfolding(bt_tool::specs::model::usage::Items::items_of, bt_tool::specs::model::usage::Options::word_fault, bt_tool::specs::model::usage::Options::options))]
+#[tactic(auto, unfolding(bt_tool::specs::model::Usage::items_of, bt_tool::specs::model::Options::word_fault, bt_tool::specs::model::Options::options))]
 pub fn worked_conversions()
     ensures no_words { options (codes "bamtobed" ∷ []) ≡ Ok (record {
       command = Command.BamToBed false false;
@@ -116,7 +116,7 @@ pub fn worked_conversions()
 {}
 
 /// Some words, and the fractions that they denote, in billionths.
-#[tactic(auto, unfolding(bt_tool::specs::model::usage::Fraction::fraction_in))]
+#[tactic(auto, unfolding(bt_tool::specs::model::Fraction::fraction_in))]
 pub fn worked_fractions()
     ensures half { fraction_of (codes "0.5") ≡ Some 500000000 }
     ensures no_digit_before { fraction_of (codes ".5") ≡ Some 500000000 }

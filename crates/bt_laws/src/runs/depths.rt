@@ -1,7 +1,6 @@
 //! Laws of depths.
 
-ghost use Rattle.bt_laws.specs.runs.Settled.{settled_depths_begin, settled_depths_stay};
-ghost use Rattle.bt_laws.specs.runs.Levels.{levels_are, levels_only, stretches_are_levels};
+ghost use Rattle.bt_laws.specs.Runs.{settled_depths_begin, settled_depths_stay, levels_are, levels_only, stretches_are_levels};
 
 /// The values of the positions of a chromosome make up one list of intervals, and no other. If one
 /// value stands for membership, it is the list of a set of positions.

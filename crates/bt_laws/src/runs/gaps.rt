@@ -1,10 +1,9 @@
 //! Laws of gaps.
 
 ghost use Rattle.std.specs.Prelude.{◌≡◌, ℕ, List};
-ghost use Rattle.bt_bed.specs.model.feature.Interval.{Span};
-ghost use Rattle.bt_bed.specs.model.feature.Stretches.{AreStretchesOf};
+ghost use Rattle.bt_bed.specs.model.Feature.{Span, AreStretchesOf};
 ghost use Rattle.bt_runs.specs.model.Gaps.{IsBare, gaps_of};
-ghost use Rattle.bt_laws.specs.runs.Settled.{one_place_is_kept, settled_gaps_begin, settled_gaps_stay};
+ghost use Rattle.bt_laws.specs.Runs.{one_place_is_kept, settled_gaps_begin, settled_gaps_stay};
 
 /// The gaps of a chromosome are the stretches of its bare positions, and no other list is.
 pub fn gaps_are_determined()

@@ -1,6 +1,6 @@
 //! Merged runs, gaps and depths by one definition.
 
-ghost use Rattle.bt_laws.specs.runs.CoveredLevels.{covered_have_depth, gaps_are_levels, gaps_have_depth_0, touching_runs_are_levels, runs_are_levels};
+ghost use Rattle.bt_laws.specs.Runs.{covered_have_depth, gaps_are_levels, gaps_have_depth_0, touching_runs_are_levels, runs_are_levels};
 
 /// The merged runs of a chromosome that no record reaches past are the intervals of its bridged
 /// positions; with a gap of 0, of its covered ones.

@@ -1,21 +1,14 @@
 //! Laws of merged runs.
 
 ghost use Rattle.std.specs.Prelude.{◌≡◌, ℕ, List};
-ghost use Rattle.bt_bed.specs.model.feature.Feature.{Feature, intervals_of};
-ghost use Rattle.bt_bed.specs.model.feature.Interval.{Span};
-ghost use Rattle.bt_bed.specs.model.feature.Stretches.{AreStretchesOf};
-ghost use Rattle.bt_bed.specs.model.order.Locus.{ArePlaced};
-ghost use Rattle.bt_bed.specs.model.order.Order.{IsTotal, Order};
-ghost use Rattle.bt_bed.specs.model.order.Rank.{AreDistinct, rank_order};
-ghost use Rattle.bt_runs.specs.calls.Settling.{SettledBegins, SettledStays};
+ghost use Rattle.bt_bed.specs.model.Feature.{Feature, intervals_of, Span, AreStretchesOf};
+ghost use Rattle.bt_bed.specs.model.Sorted.{ArePlaced};
+ghost use Rattle.bt_bed.specs.model.Order.{IsTotal, Order, AreDistinct, rank_order};
+ghost use Rattle.bt_runs.specs.calls.Engine.{SettledBegins, SettledStays};
 ghost use Rattle.bt_runs.specs.declared.merge.merge_strand.MergeStrand.{MergeStrand};
-ghost use Rattle.bt_runs.specs.model.Counted.{counted};
-ghost use Rattle.bt_runs.specs.model.Merged.{Bridged, merged, runs_of};
-ghost use Rattle.bt_laws.specs.runs.Kept.{one_run_is_kept, strand_runs_divide, strands_stay_in_order};
-ghost use Rattle.bt_runs.specs.model.MergedRuns.{AreTaken, merged_runs, settled_runs};
-ghost use Rattle.bt_laws.specs.runs.RunOrder.{chromosomes_are_named_once, file_runs_are_ordered, names_come_in_order};
-ghost use Rattle.bt_runs.specs.model.RunOrder.{ordered_runs};
-ghost use Rattle.bt_runs.specs.model.StrandRuns.{settled_strand_runs, strand_runs};
+ghost use Rattle.bt_runs.specs.model.Merged.{counted, Bridged, merged, runs_of, AreTaken, merged_runs, settled_runs, ordered_runs, settled_strand_runs, strand_runs};
+ghost use Rattle.bt_laws.specs.Merges.{one_run_is_kept, strand_runs_divide, strands_stay_in_order};
+ghost use Rattle.bt_laws.specs.Runs.{chromosomes_are_named_once, file_runs_are_ordered, names_come_in_order};
 
 /// The merged runs of a chromosome are the stretches of its bridged positions, and no other list is.
 pub fn runs_are_determined()

@@ -1,7 +1,7 @@
 //! Runs of merge, complement and genomecov that write the same bytes, as far as the lengths of the genome file go: each
 //! law is the contract of a function that does nothing.
 
-ghost use Rattle.bt_laws.specs.same.LengthLaws.{complement_of_complement, merge_of_genomecov};
+ghost use Rattle.bt_laws.specs.Same.{complement_of_complement, merge_of_genomecov};
 
 /// Complement of complement is merge, cut at the lengths, without `-L` and if no chromosome's name begins with the word
 /// `track` or `browser`.

@@ -1,15 +1,6 @@
 //! What maskfasta writes, as its input again: each law is the contract of a function that does nothing.
 
-ghost use Rattle.bt_laws.specs.same.MaskExamples.{repeated_names_differ};
-ghost use Rattle.bt_laws.specs.same.MaskLaws.{
-  masked_by_both,
-  masked_by_merged,
-  masked_by_positions,
-  masked_by_sorted,
-  masked_goes_on,
-  masked_keep_layout,
-  masked_twice,
-};
+ghost use Rattle.bt_laws.specs.Same.{repeated_names_differ, masked_by_both, masked_by_merged, masked_by_positions, masked_by_sorted, masked_goes_on, masked_keep_layout, masked_twice};
 
 /// The sequences of the output have the names, lengths and lines of those of the input.
 pub fn masked_sequences_keep_their_lines()

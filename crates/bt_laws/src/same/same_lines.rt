@@ -1,7 +1,7 @@
 //! Which options of intersect and subtract write the same lines: each law is the contract of a function that does
 //! nothing.
 
-ghost use Rattle.bt_laws.specs.same.SameLines.{counts_say_all, missing_is_whole};
+ghost use Rattle.bt_laws.specs.Same.{counts_say_all, missing_is_whole};
 
 /// intersect -v is subtract -A with the same rule.
 pub fn records_without_hits_are_whole()

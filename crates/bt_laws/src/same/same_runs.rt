@@ -1,17 +1,7 @@
 //! Runs of merge, complement and genomecov that write the same bytes: each law is the contract of a function that does
 //! nothing.
 
-ghost use Rattle.bt_laws.specs.same.SameRuns.{
-  bg_is_bga_above_0,
-  complement_of_merge,
-  depth_0_is_complement,
-  exchanged_complement,
-  exchanged_genomecov,
-  exchanged_merge,
-  merge_of_merge,
-  repeated_complement,
-  repeated_merge,
-};
+ghost use Rattle.bt_laws.specs.Same.{bg_is_bga_above_0, complement_of_merge, depth_0_is_complement, exchanged_complement, exchanged_genomecov, exchanged_merge, merge_of_merge, repeated_complement, repeated_merge};
 
 /// merge of merge is merge, with the same `-d` and without `-s`.
 pub fn merge_is_merged()

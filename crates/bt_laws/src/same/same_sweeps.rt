@@ -1,12 +1,7 @@
 //! Runs of intersect and subtract that write the same bytes by another second input: each law is the contract of a
 //! function that does nothing.
 
-ghost use Rattle.bt_laws.specs.same.SameSweeps.{
-  merged_second_missing,
-  merged_second_once,
-  merged_second_subtract,
-  subtract_by_complement,
-};
+ghost use Rattle.bt_laws.specs.Same.{merged_second_missing, merged_second_once, merged_second_subtract, subtract_by_complement};
 
 /// With merge of the second input instead of it intersect -u, -v and subtract write the same, without `-f` and `-s`.
 pub fn the_second_input_may_be_merged()

@@ -1,11 +1,8 @@
 //! Laws of alignments and of their blocks.
 
 ghost use Rattle.std.specs.Prelude.{◌≡◌, [], ◌∷◌, Some, None, Ok, Err, codes, true, false};
-ghost use Rattle.bt_seq.specs.model.Alignment.{alignment_of};
-ghost use Rattle.bt_laws.specs.sequences.Cigars.{blocks_are_within, unskipped_are_one_block, division_is_found, division_is_one, operations_are_divided};
-ghost use Rattle.bt_seq.specs.model.AlignmentBlocks.{blocks_in};
-ghost use Rattle.bt_seq.specs.model.Cigar.{length_of, operations_of};
-ghost use Rattle.bt_seq.specs.model.SamKind.{sam_kinds_are_of_lines, wrong_have_sam_kinds};
+ghost use Rattle.bt_seq.specs.model.Alignment.{alignment_of, blocks_in, length_of, operations_of, sam_kinds_are_of_lines, wrong_have_sam_kinds};
+ghost use Rattle.bt_laws.specs.Sequences.{blocks_are_within, unskipped_are_one_block, division_is_found, division_is_one, operations_are_divided};
 
 use bt_lines::Kind;
 
@@ -18,7 +15,7 @@ pub fn cigars_are_divided_in_one_way()
 {}
 
 /// The reference lengths of small CIGARs.
-#[tactic(auto, unfolding(bt_seq::specs::model::Cigar::operations_in, bt_lines::specs::model::Number::value_of))]
+#[tactic(auto, unfolding(bt_seq::specs::model::Alignment::operations_in, bt_lines::specs::model::Lines::value_of))]
 pub fn lengths_of_small_cigars()
     ensures star { length_of (codes "*") ≡ Some 0 }
     ensures empty { length_of [] ≡ None }
@@ -31,7 +28,7 @@ pub fn lengths_of_small_cigars()
 {}
 
 /// What small texts say.
-#[tactic(auto, unfolding(bt_seq::specs::model::Alignment::alignment_of, bt_seq::specs::model::Alignment::fields_say, bt_seq::specs::model::Cigar::operations_in, bt_lines::specs::model::Number::value_of))]
+#[tactic(auto, unfolding(bt_seq::specs::model::Alignment::alignment_of, bt_seq::specs::model::Alignment::fields_say, bt_seq::specs::model::Alignment::operations_in, bt_lines::specs::model::Lines::value_of))]
 pub fn alignments_of_small_texts()
     ensures blank { alignment_of [] ≡ Ok None }
     ensures header { alignment_of (codes "@HD\tVN:1.6") ≡ Ok None }
@@ -49,7 +46,7 @@ pub fn alignments_of_small_texts()
 {}
 
 /// The blocks of small CIGARs.
-#[tactic(auto, unfolding(bt_seq::specs::model::AlignmentBlocks::blocks_of, bt_seq::specs::model::Cigar::operations_in, bt_lines::specs::model::Number::value_of))]
+#[tactic(auto, unfolding(bt_seq::specs::model::Alignment::blocks_of, bt_seq::specs::model::Alignment::operations_in, bt_lines::specs::model::Lines::value_of))]
 pub fn blocks_of_small_cigars()
     ensures one_skip { blocks_in 15 (operations_of (codes "6M14N5M"))
         ≡ record { start = 15; stop = 21 } ∷ record { start = 35; stop = 40 } ∷ [] }
@@ -68,7 +65,7 @@ pub fn operations_without_skips_are_one_block()
 {}
 
 /// The blocks of an alignment are disjoint and in order, from its start to its end, and each has a base.
-#[tactic(auto, using(crate::proofs::lemmas::sequences::BetweenLemmas::within))]
+#[tactic(auto, using(crate::proofs::lemmas::single::Sequences::within))]
 pub fn blocks_lie_within_their_alignment()
     ensures { blocks_are_within }
 {}

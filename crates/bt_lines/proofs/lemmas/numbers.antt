@@ -1,4 +1,3 @@
 -- Lemmas on numbers.
-pub mod DigitLemmas
 pub mod EightLemmas
 pub mod NumberLemmas

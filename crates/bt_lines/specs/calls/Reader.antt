@@ -1,25 +1,79 @@
--- What a reader of lines holds, and what one call of `next` does.
-use Rattle.std.specs.Prelude.{◌≡◌, ◌≢◌, ℕ, suc, ◌+◌, ◌-◌, ◌^◌, ◌<◌, ◌≤◌, ◌⊎◌, Bool, true, false}
-use Rattle.std.specs.Prelude.{List, [], ◌++◌, length, Option, Some, None, option_map, Result, Ok}
-use Rattle.std.specs.Prelude.{Err, IfSome, take, drop, ⊤, ◌&&◌, if◌then◌else◌, nat_lt}
+-- What a reader of lines holds, what its calls do, and the lines that are left of those buffered.
+use Rattle.std.specs.Prelude.{◌≡◌, ℕ, suc, ◌+◌, ◌-◌, ◌≤◌, Bool, true, false, List, ◌∷◌, drop, length, nat_lt, take, ◌≢◌, ◌^◌, ◌<◌, ◌⊎◌, [], ◌++◌, Option, Some, None, option_map, Result, Ok, Err, IfSome, ⊤, ◌&&◌, if◌then◌else◌}
+use Rattle.bt_lines.specs.calls.Columns.{Shown, ending_at, line_seen, GivesFirst}
+use Rattle.bt_lines.specs.model.Lines.{TextLine, line_feeds, lines_from, whole_lines_from, bytes_in, spelled}
+use Rattle.bt_lines.specs.inside.Shape.{is_fed, held_at}
+use Rattle.bt_lines.specs.declared.reader.buffered_lines.BufferedLines.{BufferedLines}
+use Rattle.bt_lines.specs.declared.reader.buffered_lines.ConsumedLines.{ConsumedLines}
 use Rattle.std.specs.Io.KnownBytes.{Consumes, IsAtEnd, prepend_known}
 use Rattle.bt_lines.specs.declared.device.Source.{Ghosts as Source}
-use Rattle.bt_lines.specs.inside.ReadBuffer.{complete, text_in, unread}
-use Rattle.bt_lines.specs.inside.ReaderState.{ended_at, fault_at, lends_at, open_at, taken_at}
-use Rattle.bt_lines.specs.inside.ReaderState.{told_at}
-use Rattle.bt_lines.specs.inside.Shape.{held_at, is_fed}
-use Rattle.bt_lines.specs.calls.Buffered.{buffered_lines}
+use Rattle.bt_lines.specs.inside.ReadBuffer.{complete, text_in, unread, ended_at, fault_at, lends_at, open_at, taken_at, told_at}
 use Rattle.bt_lines.specs.calls.Device.{ReadsCounted, ReadsFail}
-use Rattle.bt_lines.specs.model.Lines.{TextLine, lines_from, line_feeds, bytes_in, spelled}
 use Rattle.bt_lines.specs.calls.Output.{block_size}
 use Rattle.bt_lines.specs.model.Fault.{FaultValue, read_failed, no_memory}
 use Rattle.bt_lines.specs.calls.Names.{fault_value}
-use Rattle.bt_lines.specs.calls.LentLine.{line_seen, GivesFirst}
 use Rattle.bt_lines.specs.declared.fault.Input.{Input}
 use Rattle.bt_lines.specs.declared.fault.Fault.{Fault}
-use Rattle.bt_lines.specs.declared.reader.buffered_lines.ConsumedLines.{ConsumedLines}
 use Rattle.bt_lines.specs.declared.reader.line.Line.{Line}
 use Rattle.bt_lines.specs.declared.reader.line_reader.LineReader.{LineReader}
+
+-- The lines that are left of those buffered.
+
+-- the lines of bytes after `number` lines, by whether the last byte is a line feed that was added
+abbrev pub buffered_lines : Bool → ℕ → List ℕ → List TextLine
+buffered_lines false lines bytes = whole_lines_from (suc lines) bytes
+buffered_lines true lines bytes = lines_from (suc lines) (take (length bytes - 1) bytes)
+
+-- the bytes of those that are left
+unfoldable pub rest_in : BufferedLines → List ℕ
+rest_in cursor = drop cursor.at cursor.all.now
+
+-- those that are left
+unfoldable pub lines_in : BufferedLines → List TextLine
+lines_in cursor = buffered_lines cursor.is_open cursor.lines (rest_in cursor)
+
+-- those after the first one, whose length in bytes is given
+abbrev pub lines_after : BufferedLines → ℕ → List TextLine
+lines_after cursor size = buffered_lines cursor.is_open (cursor.lines + 1) (drop size (rest_in cursor))
+
+-- the first one
+abbrev pub line_of : BufferedLines → Shown → TextLine
+line_of cursor line = record {
+  number = suc cursor.lines;
+  text = line.text;
+  ending = ending_at cursor.is_open (nat_lt (length line.text + 1) line.size);
+}
+
+-- none of these bytes was consumed
+pub record BeginsLines (bytes : List ℕ) (lines : ℕ) (is_open : Bool) (cursor : BufferedLines) : Type 0 where
+  pub bytes_are : cursor.all.now ≡ bytes
+  pub at : cursor.at ≡ 0
+  pub given : cursor.lines ≡ lines
+  pub open_is : cursor.is_open ≡ is_open
+
+-- a line was consumed
+pub record PassesLine (old : BufferedLines) (line : TextLine) (new : BufferedLines) : Type 0 where
+  pub left_is : lines_in old ≡ line ∷ lines_in new
+  pub all_is : new.all ≡ old.all
+  pub given : new.lines ≡ old.lines + 1
+  pub open_is : new.is_open ≡ old.is_open
+
+-- `count` lines were consumed
+pub record PassesLines (old : BufferedLines) (count : ℕ) (new : BufferedLines) : Type 0 where
+  pub left_is : lines_in new ≡ drop count (lines_in old)
+  pub all_is : new.all ≡ old.all
+  pub rises : old.at ≤ new.at
+  pub fed : is_fed (take (new.at - old.at) (rest_in old)) ≡ true
+  pub feeds : line_feeds (take (new.at - old.at) (rest_in old)) ≡ count
+  pub given : new.lines ≡ old.lines + count
+  pub open_is : new.is_open ≡ old.is_open
+
+-- what was consumed up to here
+pub record IsWhere (cursor : BufferedLines) (consumed : ConsumedLines) : Type 0 where
+  pub bytes : consumed.bytes ≡ cursor.at
+  pub lines : consumed.lines ≡ cursor.lines
+
+-- What a reader of lines holds, and what one call of `next` does.
 
 -- the bytes that come after the lines given: once the end was reported, only those that are held
 abbrev pub left_at : Bool → List ℕ → Option (List ℕ) → Option (List ℕ)

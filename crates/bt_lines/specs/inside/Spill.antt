@@ -1,18 +1,15 @@
 -- What reads do to a source, to what was read after the lines, to a line that is longer than the block, and to the count of
 -- bytes.
-use Rattle.std.specs.Prelude.{◌≡◌, ◌⊎◌, ℕ, suc, ◌+◌, ◌-◌, ◌^◌, ◌<◌, Bool, true, List, [], ◌∷◌, ◌++◌}
-use Rattle.std.specs.Prelude.{length, Option}
+use Rattle.std.specs.Prelude.{◌≡◌, ◌⊎◌, ℕ, suc, ◌+◌, ◌-◌, ◌^◌, ◌<◌, Bool, true, List, [], ◌∷◌, ◌++◌, length, Option}
 use Rattle.std.specs.Io.KnownBytes.{Consumes, IsAtEnd}
 use Rattle.bt_lines.specs.declared.device.Source.{Ghosts as Source}
 use Rattle.bt_lines.specs.calls.Device.{ReadsCounted, ReadsFail}
-use Rattle.bt_lines.specs.calls.LentLine.{NoLineFeed}
+use Rattle.bt_lines.specs.calls.Columns.{NoLineFeed}
 use Rattle.bt_lines.specs.model.Lines.{line_feeds}
 use Rattle.bt_lines.specs.declared.reader.spill.More.{More}
-use Rattle.bt_lines.specs.declared.reader.spill.More.TheVariants.{Bytes, NoBytes, BadRead}
-use Rattle.bt_lines.specs.declared.reader.spill.More.TheVariants.{PastBound}
+use Rattle.bt_lines.specs.declared.reader.spill.More.TheVariants.{Bytes, NoBytes, BadRead, PastBound}
 use Rattle.bt_lines.specs.declared.reader.spill.Stop.{Stop}
-use Rattle.bt_lines.specs.declared.reader.spill.Stop.TheVariants.{LineFeed, End, Failed, TooLong}
-use Rattle.bt_lines.specs.declared.reader.spill.Stop.TheVariants.{NoMemory}
+use Rattle.bt_lines.specs.declared.reader.spill.Stop.TheVariants.{LineFeed, End, Failed, TooLong, NoMemory}
 
 -- the outcome of a request for more bytes, with this many taken before
 abbrev pub MoreComes : More → Option (List ℕ) → Bool → Bool → Bool → List ℕ → List ℕ → List ℕ → ℕ → Type 0

@@ -1,14 +1,7 @@
 -- The texts of faults, and the line that tells one.
-use Rattle.std.specs.Prelude.{ℕ, List, [], ◌++◌, Bool, true, false, Option, Some, None, codes}
-use Rattle.std.specs.Prelude.{decimal}
+use Rattle.std.specs.Prelude.{ℕ, List, [], ◌++◌, Bool, true, false, Option, Some, None, codes, decimal}
 use Rattle.bt_lines.specs.declared.fault.Kind.{Kind}
-use Rattle.bt_lines.specs.declared.fault.Kind.TheVariants.{TooFewColumns, EmptyName, BadStart}
-use Rattle.bt_lines.specs.declared.fault.Kind.TheVariants.{BadStop, EmptyFeature, UnknownChrom}
-use Rattle.bt_lines.specs.declared.fault.Kind.TheVariants.{OutOfOrder, BadLength, RepeatedChrom}
-use Rattle.bt_lines.specs.declared.fault.Kind.TheVariants.{BadFlag, BadPosition, BadQuality}
-use Rattle.bt_lines.specs.declared.fault.Kind.TheVariants.{BadCigar, StopTooLarge, TextBeforeHeader}
-use Rattle.bt_lines.specs.declared.fault.Kind.TheVariants.{NoSequence, TooManyHeld, ReadFailed}
-use Rattle.bt_lines.specs.declared.fault.Kind.TheVariants.{WriteFailed, NoMemory}
+use Rattle.bt_lines.specs.declared.fault.Kind.TheVariants.{TooFewColumns, EmptyName, BadStart, BadStop, EmptyFeature, UnknownChrom, OutOfOrder, BadLength, RepeatedChrom, BadFlag, BadPosition, BadQuality, BadCigar, StopTooLarge, TextBeforeHeader, NoSequence, TooManyHeld, ReadFailed, WriteFailed, NoMemory}
 use Rattle.bt_lines.specs.declared.fault.Input.{Input}
 use Rattle.bt_lines.specs.declared.fault.Input.TheVariants.{Genome, First, Second}
 use Rattle.bt_lines.specs.declared.fault.Place.{Place}

@@ -1,11 +1,16 @@
--- The lines of a text, as the UCSC BED description and the SAM specification have them: one a line
--- feed. A carriage return before the line feed, or at the very end, belongs to the line end.
-use Rattle.std.specs.Prelude.{◌≡◌, ℕ, suc, ⊤, List, [], ◌∷◌, ◌++◌, ◌==◌, count_by, flat_map, length}
-use Rattle.std.specs.Prelude.{if◌then◌else◌}
-use Rattle.std.specs.List.{slice_split}
+-- Texts: their lines, what an input handed over, and numbers.
+use Rattle.std.specs.Prelude.{◌≡◌, ℕ, suc, ⊤, List, [], ◌∷◌, ◌++◌, ◌==◌, count_by, flat_map, length, if◌then◌else◌, Bool, false, Option, Some, None, ◌&&◌, nat_lt, nat_le}
+use Rattle.std.specs.List.{slice_split, list_all}
 use Rattle.std.specs.Io.BufRead.{ends_with_byte, strip_last}
 use Rattle.bt_lines.specs.declared.reader.line.LineEnd.{LineEnd}
 use Rattle.bt_lines.specs.declared.reader.line.LineEnd.TheVariants.{Absent, Lf, CrLf, Cr}
+use Rattle.bt_lines.specs.model.Fault.{FaultValue, read_failed}
+use Rattle.bt_lines.specs.declared.fault.Input.{Input}
+use Rattle.std.specs.Char.{is_ascii_digit}
+use Rattle.std.specs.Str.Parse.{digits_value}
+
+-- The lines of a text, as the UCSC BED description and the SAM specification have them: one a line
+-- feed. A carriage return before the line feed, or at the very end, belongs to the line end.
 
 -- a line: its number, counted from 1, its text without the line end, and how it ended
 pub record TextLine : Type 0 where
@@ -89,3 +94,42 @@ bytes_in lines = length (flat_map spelled lines)
 abbrev pub AreNumbered : ℕ → List TextLine → Type 0
 AreNumbered number [] = ⊤
 AreNumbered number (line ∷ rest) = (line.number ≡ number) × AreNumbered (suc number) rest
+
+-- What an input handed over: its whole text, or what came of it before a read failed.
+
+-- the bytes that were handed over, and whether a failed read cut them off
+pub record Handed : Type 0 where
+  pub text : List ℕ
+  pub is_cut : Bool
+
+-- a text that was handed over whole
+abbrev pub whole_text : List ℕ → Handed
+whole_text text = record { text = text; is_cut = false }
+
+-- its lines; of a text that was cut off the whole ones alone,
+-- since a piece that was cut off is no line
+abbrev pub lines_handed : Handed → List TextLine
+lines_handed handed = if handed.is_cut then whole_lines handed.text else text_lines handed.text
+
+-- the fault after them, if the text was cut off: the failed read,
+-- at the line after the last whole one
+abbrev pub cut_fault : Input → Handed → Option FaultValue
+cut_fault input handed =
+    if handed.is_cut then Some (read_failed input (suc (length (whole_lines handed.text))))
+    else None
+
+-- Numbers in decimal.
+
+-- the greatest number that a text may denote: it has twelve digits
+abbrev pub max_number : ℕ
+max_number = 999999999999
+
+-- one or more decimal digits, leading zeros allowed, of a value of at most the greatest number
+abbrev pub is_number : List ℕ → Bool
+is_number text =
+    nat_lt 0 (length text) && list_all is_ascii_digit text
+    && nat_le (digits_value 10 text) max_number
+
+-- the number that a text denotes, if it denotes one
+unfoldable pub value_of : List ℕ → Option ℕ
+value_of text = if is_number text then Some (digits_value 10 text) else None

@@ -2,8 +2,7 @@
 
 ghost use Rattle.std.specs.Prelude.{◌≡◌, ℕ, ◌≤◌, false, true, IsTrue, IsErr, length, IfOk, OnOk, OnErr};
 ghost use Rattle.std.specs.Io.KnownBytes.{ReadConsumes};
-ghost use Rattle.bt_lines.specs.calls.Device.{TellsEnd, TellsFailure};
-ghost use Rattle.bt_lines.specs.calls.Adapter.{reader_of, read_has_failed, read_end_told};
+ghost use Rattle.bt_lines.specs.calls.Device.{TellsEnd, TellsFailure, reader_of, read_has_failed, read_end_told};
 
 use crate::device::{DeviceFailed, Source};
 use std::io::Read;

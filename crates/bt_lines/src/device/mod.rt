@@ -7,8 +7,7 @@ pub(crate) mod to_write;
 
 ghost use Rattle.std.specs.Prelude.{◌≡◌, ℕ, ◌<◌, ◌≤◌, Bool, true, false, Option, Some, None, List, length, IfNone, IfSome, IfOk, OnOk, OnErr};
 ghost use Rattle.std.specs.Io.KnownBytes.{Keeps, ReadConsumes, WriteAppends};
-ghost use Rattle.bt_lines.specs.calls.Device.{TellsEnd};
-ghost use Rattle.bt_lines.specs.calls.Script.{is_spent, let_through};
+ghost use Rattle.bt_lines.specs.calls.Device.{TellsEnd, is_spent, let_through};
 
 /// A call of a device failed. Which error it was stays with the device.
 #[derive(Clone, Copy, Debug, PartialEq, Eq)]

@@ -2,7 +2,7 @@
 
 ghost use Rattle.std.specs.Prelude.{◌≡◌, ℕ, ◌+◌, ◌<◌, ◌≤◌, ◌++◌, [], IsTrue, IsErr, IsOk, length, IfOk, OnOk, OnErr, Some, true, false, take, min};
 ghost use Rattle.std.specs.Io.KnownBytes.{Keeps, WriteAppends};
-ghost use Rattle.bt_lines.specs.calls.Script.{is_spent, let_through};
+ghost use Rattle.bt_lines.specs.calls.Device.{is_spent, let_through};
 
 use crate::device::{DeviceFailed, Sink, let_through};
 use std::alloc::Global;
@@ -24,7 +24,7 @@ pub struct ScriptSink {
 
 impl Model for ScriptSink {
     ghost use Rattle.std.specs.Prelude.{◌<◌};
-    ghost use Rattle.bt_lines.specs.calls.Script.{Writing};
+    ghost use Rattle.bt_lines.specs.calls.Device.{Writing};
 
     ghost Value = { Writing };
 

@@ -2,8 +2,7 @@
 
 ghost use Rattle.std.specs.Prelude.{◌≡◌, ℕ, ◌<◌, ◌≤◌, ◌↔◌, IsTrue, length, IfNone, IfSome, IfOk, OnOk, OnErr, Some, true, false, drop, take, IsErr, min, ◌+◌, ◌-◌};
 ghost use Rattle.std.specs.Io.KnownBytes.{ReadConsumes};
-ghost use Rattle.bt_lines.specs.calls.Device.{TellsEnd};
-ghost use Rattle.bt_lines.specs.calls.Script.{IsScriptRead, is_spent, let_through};
+ghost use Rattle.bt_lines.specs.calls.Device.{TellsEnd, IsScriptRead, is_spent, let_through};
 
 use crate::device::{DeviceFailed, Source, let_through};
 use std::marker::Model;
@@ -28,7 +27,7 @@ pub struct ScriptSource<'a> {
 
 impl<'a> Model for ScriptSource<'a> {
     ghost use Rattle.std.specs.Prelude.{length, ◌≤◌, ◌<◌};
-    ghost use Rattle.bt_lines.specs.calls.Script.{Reading};
+    ghost use Rattle.bt_lines.specs.calls.Device.{Reading};
 
     ghost Value = { Reading };
 
@@ -84,7 +83,7 @@ fn copy_front(from: &[u8], to: &mut [u8])
     to[..count].copy_from_slice(from);
 }
 
-#[tactic(auto, using(crate::proofs::lemmas::device::ScriptLemmas::handed_on))]
+#[tactic(auto, using(crate::proofs::lemmas::Device::handed_on))]
 impl Source for ScriptSource<'_> {
     ghost left = { λ s. Some (drop s.given s.bytes) };
 

@@ -2,7 +2,7 @@
 
 ghost use Rattle.std.specs.Prelude.{◌≡◌, ℕ, ◌<◌, ◌≤◌, false, true, IsTrue, IsErr, length, IfOk, OnOk, OnErr};
 ghost use Rattle.std.specs.Io.KnownBytes.{Keeps, WriteAppends};
-ghost use Rattle.bt_lines.specs.calls.Adapter.{writer_of, write_has_failed, write_is_flushed};
+ghost use Rattle.bt_lines.specs.calls.Device.{writer_of, write_has_failed, write_is_flushed};
 
 use crate::device::{DeviceFailed, Sink};
 use std::io::Write;

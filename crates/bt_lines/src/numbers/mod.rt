@@ -8,7 +8,7 @@ ghost use Rattle.std.specs.List.{list_all};
 ghost use Rattle.std.specs.Simd.Lanes.{mask_l};
 ghost use Rattle.std.specs.Str.Parse.{digits_value};
 ghost use Rattle.bt_lines.specs.inside.Digits.{AreOnes, is_other};
-ghost use Rattle.bt_lines.specs.model.Number.{value_of};
+ghost use Rattle.bt_lines.specs.model.Lines.{value_of};
 
 use std::simd::prelude::*;
 

@@ -1,8 +1,7 @@
 //! The lines of a source, one after another.
 
 ghost use Rattle.std.specs.Prelude.{◌≡◌, ◌<◌, ◌≤◌, ◌^◌, ◌+◌, [], false, length};
-ghost use Rattle.bt_lines.specs.inside.ReadBuffer.{complete, unread};
-ghost use Rattle.bt_lines.specs.inside.ReaderState.{lends_at, open_at, told_at};
+ghost use Rattle.bt_lines.specs.inside.ReadBuffer.{complete, unread, lends_at, open_at, told_at};
 ghost use Rattle.bt_lines.specs.inside.Shape.{IsLast, held_at};
 
 use crate::device::Source;
@@ -61,9 +60,8 @@ impl<S: Source> LineReader<S> {
     ghost use Rattle.std.specs.Borrow.{sem};
     ghost use Rattle.std.specs.Io.BufRead.{Rests};
     ghost use Rattle.bt_lines.specs.contracts.reader.line_reader.LineReader.{the_row};
-    ghost use Rattle.bt_lines.specs.calls.Reader.{FillsLines, GivesLine, IsKept, IsPrefix, IsTaken, TakesLines, buffered_bytes, buffered_in, is_open, HasRead, IsSound, NextLine, TellsOwnFailure, line_at, feeds_taken, source_of, input_of, lines_given, bytes_taken, held, fault_kept, has_ended, lines_left};
-    ghost use Rattle.bt_lines.specs.calls.Buffered.{BeginsLines, lines_in};
-    ghost use Rattle.bt_lines.specs.calls.LentLine.{line_seen};
+    ghost use Rattle.bt_lines.specs.calls.Reader.{FillsLines, GivesLine, IsKept, IsPrefix, IsTaken, TakesLines, buffered_bytes, buffered_in, is_open, HasRead, IsSound, NextLine, TellsOwnFailure, line_at, feeds_taken, source_of, input_of, lines_given, bytes_taken, held, fault_kept, has_ended, lines_left, BeginsLines, lines_in};
+    ghost use Rattle.bt_lines.specs.calls.Columns.{line_seen};
     ghost use Rattle.bt_lines.specs.model.Lines.{text_lines};
     ghost use Rattle.bt_lines.specs.model.Fault.{read_failed};
     ghost use Rattle.bt_lines.specs.calls.Names.{fault_value};

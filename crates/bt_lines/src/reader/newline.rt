@@ -1,7 +1,7 @@
 //! The first byte of a value among some bytes, as a line feed or a tab.
 
 ghost use Rattle.std.specs.Prelude.{◌≡◌, ◌≤◌, length, take};
-ghost use Rattle.bt_lines.specs.calls.FirstByte.{IsBefore, IsFirstOf, Lacks};
+ghost use Rattle.bt_lines.specs.calls.Columns.{IsBefore, IsFirstOf, Lacks};
 
 use memchr::memchr;
 

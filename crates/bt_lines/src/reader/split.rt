@@ -1,8 +1,7 @@
 //! Cutting a line into its columns.
 
 ghost use Rattle.std.specs.Prelude.{◌≡◌};
-ghost use Rattle.bt_lines.specs.calls.Columns.{CutAt, columns_left};
-ghost use Rattle.bt_lines.specs.calls.FirstByte.{IsFirstOf};
+ghost use Rattle.bt_lines.specs.calls.Columns.{CutAt, columns_left, IsFirstOf};
 ghost use Rattle.bt_lines.specs.model.Lines.{pieces};
 
 use crate::reader::column_iter::Columns;

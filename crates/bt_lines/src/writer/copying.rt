@@ -101,7 +101,7 @@ pub(crate) fn copy_end(to: &mut [u8], piece: &[u8])
 }
 
 // Copies the first byte, the middle one and the last.
-#[tactic(auto, using(crate::proofs::lemmas::writer::CopyLemmas::few_copied))]
+#[tactic(auto, using(crate::proofs::lemmas::Writer::few_copied))]
 fn copy_few(to: &mut [u8], piece: &[u8])
     requires same { length to.old ≡ length piece.now }
     requires some { 1 ≤ length piece.now }
@@ -116,7 +116,7 @@ fn copy_few(to: &mut [u8], piece: &[u8])
 }
 
 // Copies the first bytes and the last ones, `N` of each.
-#[tactic(auto, using(crate::proofs::lemmas::writer::CopyLemmas::both_ends))]
+#[tactic(auto, using(crate::proofs::lemmas::Writer::both_ends))]
 fn copy_ends<const N: usize>(to: &mut [u8], piece: &[u8])
     requires same { length to.old ≡ length piece.now }
     requires covers { (N ≤ length piece.now) × (length piece.now ≤ 2 * N) }

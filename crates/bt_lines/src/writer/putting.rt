@@ -2,7 +2,7 @@
 
 ghost use Rattle.std.specs.Prelude.{◌≡◌, ◌++◌, decimal, false, true};
 ghost use Rattle.bt_lines.specs.model.Fault.{write_failed};
-ghost use Rattle.bt_lines.specs.calls.Putting.{FailsToPut, Puts, PutsAll};
+ghost use Rattle.bt_lines.specs.calls.Output.{FailsToPut, Puts, PutsAll};
 
 use crate::device::Sink;
 use crate::fault::Fault;

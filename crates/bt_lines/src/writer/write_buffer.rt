@@ -2,8 +2,7 @@
 
 ghost use Rattle.std.specs.Prelude.{◌≡◌, ◌+◌, ◌-◌, ◌≤◌, ◌<◌, ◌++◌, ℕ, List, [], ◌∷◌, false, length, take, true};
 ghost use Rattle.bt_lines.specs.inside.Copying.{IsShort};
-ghost use Rattle.bt_lines.specs.calls.Output.{block_size};
-ghost use Rattle.bt_lines.specs.calls.Putting.{span_text};
+ghost use Rattle.bt_lines.specs.calls.Output.{block_size, span_text};
 
 use crate::numbers::number_column::{COLUMN, write_column};
 use crate::reader::read_buffer::BLOCK;

@@ -1,12 +1,11 @@
 -- The rule of a complement as its callers see it.
 use Rattle.std.specs.Prelude.{◌≡◌, ℕ, Bool, List, length, Option}
-use Rattle.bt_bed.specs.model.feature.Feature.{Feature}
-use Rattle.bt_bed.specs.model.order.Genome.{Entry}
-use Rattle.bt_bed.specs.model.feature.IntervalLine.{interval_lines}
-use Rattle.bt_bed.specs.model.order.Locus.{Locus}
+use Rattle.bt_bed.specs.model.Feature.{Feature, interval_lines}
+use Rattle.bt_bed.specs.model.Genome.{Entry}
+use Rattle.bt_bed.specs.model.Sorted.{Locus}
 use Rattle.bt_runs.specs.calls.Engine.{IsQuiet}
 use Rattle.bt_runs.specs.model.Gaps.{AreTaken, complement, kept_place, settled_gaps}
-use Rattle.bt_runs.specs.inside.walk.Walk.{Place, places}
+use Rattle.bt_runs.specs.inside.Walk.{Place, places}
 
 -- The chromosomes, whether those without records are left out, the one that was reached and how far its
 -- gaps are settled. Last, how many bases the chromosome of the records has, of those that are known.

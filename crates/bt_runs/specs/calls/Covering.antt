@@ -1,19 +1,14 @@
 -- A count of depths as its callers see it.
-use Rattle.std.specs.Prelude.{◌≡◌, ℕ, ◌<◌, Bool, true, false, List, [], length, Option, Some, None}
-use Rattle.std.specs.Prelude.{cond, nat_lt}
-use Rattle.bt_bed.specs.model.feature.Feature.{Feature}
-use Rattle.bt_bed.specs.model.order.Genome.{Entry, genome_names}
-use Rattle.bt_bed.specs.model.feature.Interval.{Span}
-use Rattle.bt_bed.specs.model.order.Locus.{Locus}
+use Rattle.std.specs.Prelude.{◌≡◌, ℕ, ◌<◌, Bool, true, false, List, [], length, Option, Some, None, cond, nat_lt}
+use Rattle.bt_bed.specs.model.Feature.{Feature, Span}
+use Rattle.bt_bed.specs.model.Genome.{Entry, genome_names}
+use Rattle.bt_bed.specs.model.Sorted.{Locus}
 use Rattle.bt_bed.specs.declared.record.strand.Strand.{Strand}
-use Rattle.bt_bed.specs.model.order.Rank.{rank_of}
-use Rattle.bt_runs.specs.inside.coverage.Kept.{begun_seen}
-use Rattle.bt_runs.specs.model.Depth.{DepthInterval, coverage, depth_lines, is_counted_by}
-use Rattle.bt_runs.specs.model.Depth.{kept_records, known_place, settled_depths, unfinished}
-use Rattle.bt_runs.specs.inside.coverage.DepthStep.{Known, begun_to, depth_walk, still_open}
+use Rattle.bt_bed.specs.model.Order.{rank_of}
+use Rattle.bt_runs.specs.inside.Coverage.{begun_seen, Known, begun_to, depth_walk, still_open}
+use Rattle.bt_runs.specs.model.Depth.{DepthInterval, coverage, depth_lines, is_counted_by, kept_records, known_place, settled_depths, unfinished, Begun}
 use Rattle.bt_runs.specs.model.Gaps.{AreTaken, length_in}
-use Rattle.bt_runs.specs.model.Levels.{Begun}
-use Rattle.bt_runs.specs.inside.walk.Walk.{AreReached, Place, entry_at, is_on, places, walk_step}
+use Rattle.bt_runs.specs.inside.Walk.{AreReached, Place, entry_at, is_on, places, walk_step}
 use Rattle.bt_runs.specs.declared.coverage.depth_rule.CurrentChrom.{CurrentChrom}
 use Rattle.bt_runs.specs.declared.coverage.depths.OpenInterval.{OpenInterval}
 

@@ -1,13 +1,16 @@
--- What the calls of an engine do: what they write and what the engine has become, after every list
--- of records that it has taken.
-use Rattle.std.specs.Prelude.{◌≡◌, ℕ, ◌≤◌, ◌⊎◌, true, List, [], ◌∷◌, ◌++◌, Option, Some, None}
-use Rattle.std.specs.Prelude.{Result, Ok, Err, IsOk, ⊤}
+-- What the calls of an engine do.
+use Rattle.std.specs.Prelude.{◌≡◌, ℕ, ◌≤◌, ◌⊎◌, true, List, [], ◌∷◌, ◌++◌, Option, Some, None, Result, Ok, Err, IsOk, ⊤, IfErr, IfOk, MatchResult, option_map}
 use Rattle.bt_lines.specs.model.Fault.{FaultValue, no_memory, write_failed}
 use Rattle.bt_lines.specs.calls.Names.{fault_value}
-use Rattle.bt_lines.specs.calls.Output.{Output, Grows}
-use Rattle.bt_lines.specs.calls.Putting.{WorksAsBefore, PutsRest, CutsRest}
+use Rattle.bt_lines.specs.calls.Output.{Output, Grows, WorksAsBefore, PutsRest, CutsRest}
 use Rattle.bt_lines.specs.declared.fault.Fault.{Fault}
-use Rattle.bt_bed.specs.model.feature.Feature.{Feature}
+use Rattle.bt_bed.specs.model.Feature.{Feature}
+use Rattle.bt_runs.specs.declared.engine.failure.Failure.{Failure}
+use Rattle.bt_runs.specs.declared.engine.failure.Failure.TheVariants.{Write, Memory}
+use Rattle.bt_runs.specs.declared.engine.rule.Ruled.{Ruled}
+
+-- What the calls of an engine do: what they write and what the engine has become, after every list
+-- of records that it has taken.
 
 -- if memory runs out for the first time, this holds of the engine and the record
 abbrev pub IsWanted : {E A : Type 0} → (E → Feature → Type 0) → (E → Option FaultValue) → E → Feature → Result A Fault → Type 0
@@ -192,3 +195,97 @@ module _ {E : Type 0} (MayTake : E → List Feature → Type 0)
       -- what the sink took stays, and nothing happens to an output that has failed
       pub grows : Grows out.took grown.took
       pub after_failure : out.has_failed ≡ true → grown ≡ out
+
+-- What a caller of an engine's own `feed` and `finish` knows, each fact separately. Together they say what
+-- `Feeds` and `Finishes` say.
+
+-- an engine that is after some records has returned no fault
+abbrev pub IsFaultless : {E : Type 0} → (E → List Feature → E → Type 0) → (E → Option FaultValue) → E → Type 0
+IsFaultless {E} Stands fault now = (first : E) (past : List Feature) → Stands first past now → fault now ≡ None
+
+-- a fault that was returned before is returned again
+abbrev pub AnswersAgain : {A : Type 0} → Option FaultValue → Result A Fault → Type 0
+AnswersAgain kept result = (before : FaultValue) → kept ≡ Some before
+    → MatchResult result (λ done. ⊥) (λ answer. fault_value answer ≡ before)
+
+-- if a record isn't taken, a write failed or memory ran out, which is kept
+abbrev pub KeepsFault : {E A : Type 0} → (E → Option FaultValue) → Result A Fault → E → Type 0
+KeepsFault fault result new = IfErr result (λ answer.
+    ((fault_value answer ≡ write_failed) ⊎ (fault_value answer ≡ no_memory)) × (fault new ≡ Some (fault_value answer)))
+
+module _ {E : Type 0} (MayTake : E → List Feature → Type 0)
+    (Stands : E → List Feature → E → Type 0) (fault : E → Option FaultValue)
+    (settled : E → List Feature → List ℕ) where
+  -- one more record
+  module _ (old : E) (r : Feature) (out : Output) where
+    -- if it is taken, the lines that it settles were put, and the engine is after it too
+    abbrev pub WritesSettled : {A : Type 0} → Result A Fault → E → Output → Type 0
+    WritesSettled result new grown = IfOk result (λ done. TakesRecord MayTake Stands fault settled old r out new grown)
+
+    -- if a write fails first, the sink failed, and has a prefix of those lines
+    abbrev pub WritesPrefix : {A : Type 0} → Result A Fault → E → Output → Type 0
+    WritesPrefix result new grown = IfErr result (λ answer. fault old ≡ None → fault_value answer ≡ write_failed
+        → FailsToWrite MayTake Stands fault settled old r out (fault_value answer) new grown)
+
+    -- if memory runs out first, all of those lines were put
+    abbrev pub WritesFirst : {A : Type 0} → Result A Fault → E → Output → Type 0
+    WritesFirst result new grown = IfErr result (λ answer. fault old ≡ None → fault_value answer ≡ no_memory
+        → RunsOut MayTake Stands fault settled old r out (fault_value answer) new grown)
+
+    -- a quiet record is taken, and the output stays as it is
+    abbrev pub TakesQuiet : {A : Type 0} → (E → List Feature → Feature → Type 0) → Result A Fault → Output → Type 0
+    TakesQuiet Quiet result grown = AfterEach MayTake Stands old r (λ first past. Quiet first past r → IsOk result × (grown ≡ out))
+
+  -- the end of the input
+  module _ (whole : E → List Feature → List ℕ) (last : E) (out : Output) where
+    -- if it ends well, the lines that were left were put
+    abbrev pub WritesLeft : {A : Type 0} → Result A Fault → Output → Type 0
+    WritesLeft result grown = IfOk result (λ done. PutsLeft MayTake Stands fault settled whole last out grown)
+
+    -- if a write fails first, the sink failed, and has a prefix of those lines
+    abbrev pub WritesLeftPrefix : {A : Type 0} → Result A Fault → Output → Type 0
+    WritesLeftPrefix result grown = IfErr result (λ answer. fault last ≡ None
+        → FailsToPutLeft MayTake Stands fault settled whole last out (fault_value answer) grown)
+
+-- What an engine is that goes by a rule: what the rule is, until it has failed.
+
+-- the fault that a failure is returned as
+abbrev pub fault_of : Failure → FaultValue
+fault_of Write = write_failed
+fault_of Memory = no_memory
+
+-- what is said of the rule is said of the engine
+abbrev pub of_rule {ℓ} : {E : Type 0} {A : Type ℓ} → (E → A) → Ruled E → A
+of_rule word ruled = word ruled.rule
+
+-- the failure that was returned, if one was
+abbrev pub ruled_fault : {E : Type 0} → Ruled E → Option FaultValue
+ruled_fault ruled = option_map fault_of ruled.failure
+
+-- what the engine has become, without a failure
+abbrev pub ruled_stands : {E : Type 0} → (E → List Feature → E → Type 0) → Ruled E → List Feature → Ruled E → Type 0
+ruled_stands stands first past now = stands first.rule past now.rule × (ruled_fault now ≡ None)
+
+-- What holds of every list of which more and more is settled as records come.
+
+-- each next record settles what was settled and more, and what is settled begins the whole
+pub record Settles {T : Type 0} (settled whole : List Feature → List T)
+    (Taken : List Feature → Type 0) : Type 0 where
+  pub prefix : (past more : List Feature) → Taken (past ++ more) → Taken past
+  pub next : (past : List Feature) (r : Feature) → Taken (past ++ r ∷ [])
+      → (lines : List T) × (settled (past ++ r ∷ []) ≡ settled past ++ lines)
+  pub begins : (past : List Feature) → Taken past
+      → (lines : List T) × (whole past ≡ settled past ++ lines)
+
+-- so what is settled begins what is settled later
+abbrev pub SettledStays : {T : Type 0} → (List Feature → List T) → (List Feature → Type 0) → Type 0
+SettledStays {T} settled Taken =
+    (past more : List Feature) → Taken (past ++ more)
+    → (rest : List T) × (settled (past ++ more) ≡ settled past ++ rest)
+
+-- and the whole of every longer list
+abbrev pub SettledBegins : {T : Type 0} → (List Feature → List T) → (List Feature → List T)
+    → (List Feature → Type 0) → Type 0
+SettledBegins {T} settled whole Taken =
+    (past more : List Feature) → Taken (past ++ more)
+    → (rest : List T) × (whole (past ++ more) ≡ settled past ++ rest)

@@ -2,12 +2,11 @@
 -- each strand separately the runs that wait.
 use Rattle.std.specs.Prelude.{◌≡◌, ℕ, List, [], Option, None}
 use Rattle.bt_lines.specs.model.Fault.{FaultValue}
-use Rattle.bt_bed.specs.model.feature.Feature.{Feature}
-use Rattle.bt_bed.specs.model.feature.Interval.{Interval}
-use Rattle.bt_runs.specs.calls.Ruled.{ruled_fault, ruled_stands}
+use Rattle.bt_bed.specs.model.Feature.{Feature, Interval}
+use Rattle.bt_runs.specs.calls.Engine.{ruled_fault, ruled_stands}
 use Rattle.bt_runs.specs.calls.Stranding as strands
-use Rattle.bt_runs.specs.model.StrandRuns.{places_of}
-use Rattle.bt_runs.specs.inside.merge.StrandTaking as strand_step
+use Rattle.bt_runs.specs.model.Merged.{places_of}
+use Rattle.bt_runs.specs.inside.merge.StrandStep as strand_step
 use Rattle.bt_runs.specs.calls.Unstranded as unstranded
 use Rattle.bt_runs.specs.declared.merge.merge_strand.MergeStrand.{MergeStrand}
 use Rattle.bt_runs.specs.declared.merge.merge_strand.MergeStrand.TheVariants.{Each}

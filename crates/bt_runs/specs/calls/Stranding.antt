@@ -1,10 +1,8 @@
 -- What a merge that keeps the strands apart holds after the records of the past.
 use Rattle.std.specs.Prelude.{◌≡◌, ℕ, List, [], ◌∷◌, ◌++◌, length}
-use Rattle.bt_bed.specs.model.feature.Feature.{Feature}
-use Rattle.bt_bed.specs.model.feature.IntervalLine.{interval_lines}
+use Rattle.bt_bed.specs.model.Feature.{Feature, interval_lines}
 use Rattle.bt_runs.specs.calls.Engine.{IsOnLast, IsQuiet}
-use Rattle.bt_runs.specs.model.StrandRuns.{StrandRun, kept_strand_runs, places_of}
-use Rattle.bt_runs.specs.model.StrandRuns.{settled_strand_runs, strand_runs}
+use Rattle.bt_runs.specs.model.Merged.{StrandRun, kept_strand_runs, places_of, settled_strand_runs, strand_runs}
 
 -- the gap that it bridges, the chromosome that it is on, and the runs that it keeps
 pub record Stranding : Type 0 where

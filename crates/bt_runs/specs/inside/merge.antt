@@ -1,4 +1,3 @@
 -- Words of contracts inside of the crate.
 pub mod StrandStep
-pub mod StrandTaking
 pub mod UnstrandedStep

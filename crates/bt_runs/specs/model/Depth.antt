@@ -1,19 +1,76 @@
+-- What `bedtools genomecov` gives, and intervals of equal value.
+use Rattle.std.specs.Prelude.{ℕ, zero, suc, ◌+◌, Bool, true, false, cond, List, [], ◌∷◌, ◌++◌, ◌==◌, Option, Some, None, ◌&&◌, ◌||◌, nat_le, nat_lt, min, length, map, filter, flat_map, codes, decimal}
+use Rattle.std.specs.Option.{option_map_or}
+use Rattle.bt_bed.specs.model.Feature.{Feature, intervals_of, Interval, Span, last_of, spans_on, is_strand}
+use Rattle.bt_bed.specs.model.Genome.{Entry, genome_names}
+use Rattle.bt_bed.specs.model.Sorted.{Locus}
+use Rattle.bt_bed.specs.model.Order.{rank_order}
+use Rattle.bt_bed.specs.declared.record.strand.Strand.{Strand}
+use Rattle.bt_runs.specs.model.Gaps.{is_over_at, length_in}
+
+-- Positions of one chromosome of which some have a value, and the one list of intervals of equal
+-- value that they make up. bt_laws says that no other list is (`AreLevelsOf`), and that a set of
+-- positions is the case of one value (`stretches_are_levels`).
+
+-- an interval of positions that have one value
+pub record Level : Type 0 where
+  pub start : ℕ
+  pub stop : ℕ
+  pub value : ℕ
+
+-- an interval that isn't ended: where it began, and its value
+pub record Begun : Type 0 where
+  pub start : ℕ
+  pub value : ℕ
+
+-- whether a position goes on with what has begun
+abbrev pub goes_on : Option Begun → Option ℕ → Bool
+goes_on None None = true
+goes_on None (Some value) = false
+goes_on (Some begun) None = false
+goes_on (Some begun) (Some value) = begun.value == value
+
+-- what begins at a position
+abbrev pub begun_at : ℕ → Option ℕ → Option Begun
+begun_at p None = None
+begun_at p (Some value) = Some (record { start = p; value = value })
+
+-- what has begun, ended at a position
+abbrev pub ended_at : Option Begun → ℕ → List Level
+ended_at None p = []
+ended_at (Some begun) p = record { start = begun.start; stop = p; value = begun.value } ∷ []
+
+-- one more position: what has begun with it, and what ends there
+abbrev pub next_begun : ℕ → Option ℕ → Option Begun → Option Begun
+next_begun p value begun = cond (goes_on begun value) begun (begun_at p value)
+
+abbrev pub next_ended : ℕ → Option ℕ → Option Begun → List Level
+next_ended p value begun = cond (goes_on begun value) [] (ended_at begun p)
+
+-- what has begun after n positions from the first on, and what ended at one of them
+unfoldable pub begun_after : (ℕ → Option ℕ) → ℕ → ℕ → Option Begun → Option Begun
+begun_after value first zero begun = begun
+begun_after value first (suc n) begun =
+    begun_after value (first + 1) n (next_begun first (value first) begun)
+
+unfoldable pub ended_after : (ℕ → Option ℕ) → ℕ → ℕ → Option Begun → List Level
+ended_after value first zero begun = []
+ended_after value first (suc n) begun =
+    next_ended first (value first) begun
+    ++ ended_after value (first + 1) n (next_begun first (value first) begun)
+
+-- the intervals that end within n positions from the first on, and the one that reaches their end
+abbrev pub levels_from : (ℕ → Option ℕ) → ℕ → ℕ → Option Begun → List Level
+levels_from value first n begun =
+    ended_after value first n begun ++ ended_at (begun_after value first n begun) (first + n)
+
+-- the intervals of equal value of a chromosome of this length
+abbrev pub levels_of : (ℕ → Option ℕ) → ℕ → List Level
+levels_of value size = levels_from value 0 size None
+
 -- What `bedtools genomecov` gives with -bg: the intervals of equal depth above 0 of each
 -- chromosome, in the order of the genome file. With -bga it gives those of depth 0 too (bedtools
 -- manual, genomecov, options -bg, -bga and -strand).
-use Rattle.std.specs.Prelude.{ℕ, Bool, true, ◌&&◌, ◌||◌, nat_le, nat_lt, cond, min, List, [], ◌∷◌}
-use Rattle.std.specs.Prelude.{◌++◌, length, map, filter, flat_map, codes, decimal, Option, Some}
-use Rattle.std.specs.Prelude.{None}
-use Rattle.std.specs.Option.{option_map_or}
-use Rattle.bt_bed.specs.model.feature.Feature.{Feature, intervals_of}
-use Rattle.bt_bed.specs.model.order.Genome.{Entry, genome_names}
-use Rattle.bt_bed.specs.model.feature.Interval.{Interval, Span, last_of, spans_on}
-use Rattle.bt_bed.specs.model.order.Locus.{Locus}
-use Rattle.bt_bed.specs.model.order.Rank.{rank_order}
-use Rattle.bt_bed.specs.model.feature.Strands.{is_strand}
-use Rattle.bt_bed.specs.declared.record.strand.Strand.{Strand}
-use Rattle.bt_runs.specs.model.Gaps.{is_over_at, length_in}
-use Rattle.bt_runs.specs.model.Levels.{Begun, Level, levels_of}
 
 -- whether a span covers a position
 abbrev pub covers : ℕ → Span → Bool

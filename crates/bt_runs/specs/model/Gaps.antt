@@ -1,19 +1,14 @@
 -- What `bedtools complement` gives: the parts of each chromosome that no feature covers, in the
 -- order of the genome file. With -L it gives only those of chromosomes that
 -- have records (bedtools manual, complement).
-use Rattle.std.specs.Prelude.{ℕ, ◌<◌, Bool, true, false, not, ◌||◌, List, [], ◌∷◌, map, filter, flat_map}
-use Rattle.std.specs.Prelude.{cond, min, nat_le, bytes_eq}
+use Rattle.std.specs.Prelude.{ℕ, ◌<◌, Bool, true, false, not, ◌||◌, List, [], ◌∷◌, map, filter, flat_map, cond, min, nat_le, bytes_eq}
 use Rattle.std.specs.Option.{option_map_or}
 use Rattle.std.specs.declared.cmp.Ordering.{Ordering}
 use Rattle.std.specs.declared.cmp.Ordering.TheVariants.{Less, Equal, Greater}
-use Rattle.bt_bed.specs.model.feature.Feature.{Feature, intervals_of}
-use Rattle.bt_bed.specs.model.order.Genome.{Entry, genome_names}
-use Rattle.bt_bed.specs.model.feature.Interval.{Interval, Span, AreNonEmpty, last_of, placed_on}
-use Rattle.bt_bed.specs.model.feature.Interval.{spans_on}
-use Rattle.bt_bed.specs.model.order.Locus.{Locus, ArePlaced}
-use Rattle.bt_bed.specs.model.order.Rank.{AreDistinct, rank_order}
-use Rattle.bt_bed.specs.model.feature.Stretches.{IsCovered, stretches_from}
-use Rattle.bt_bed.specs.model.order.Contiguous.{has_records}
+use Rattle.bt_bed.specs.model.Feature.{Feature, intervals_of, Interval, Span, AreNonEmpty, last_of, placed_on, spans_on, IsCovered, stretches_from}
+use Rattle.bt_bed.specs.model.Genome.{Entry, genome_names}
+use Rattle.bt_bed.specs.model.Sorted.{Locus, ArePlaced, has_records}
+use Rattle.bt_bed.specs.model.Order.{AreDistinct, rank_order}
 use Rattle.bt_runs.specs.model.Merged.{is_covered, end_of}
 
 -- a position of a chromosome of this length that none of the spans covers

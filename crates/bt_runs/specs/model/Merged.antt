@@ -1,9 +1,16 @@
+-- What `bedtools merge` gives, with its options.
+use Rattle.std.specs.Prelude.{ℕ, zero, suc, ◌+◌, ◌-◌, ◌≤◌, Bool, false, not, ◌&&◌, ◌||◌, List, [], ◌∷◌, map, filter, flat_map, max, nat_le, nat_lt, bytes_eq, true, drop, length, Option, Some, None, if◌then◌else◌, ◌++◌}
+use Rattle.bt_bed.specs.model.Feature.{Interval, Span, spans_on, placed_on, IsCovered, stretches_from, Feature, intervals_of, is_strand, AreNonEmpty, last_of}
+use Rattle.bt_bed.specs.declared.record.strand.Strand.{Strand}
+use Rattle.bt_runs.specs.declared.merge.merge_strand.MergeStrand.{MergeStrand}
+use Rattle.bt_runs.specs.declared.merge.merge_strand.MergeStrand.TheVariants.{All, Each, One}
+use Rattle.bt_bed.specs.model.Sorted.{AreContiguous}
+use Rattle.std.specs.Ordering.{is_lt}
+use Rattle.bt_bed.specs.model.Order.{Order}
+use Rattle.std.specs.List.{list_any, take_while}
+
 -- What `bedtools merge` gives: overlapping and touching features become one, and with -d also those
 -- up to a gap apart (bedtools manual, merge).
-use Rattle.std.specs.Prelude.{ℕ, zero, suc, ◌+◌, ◌-◌, ◌≤◌, Bool, false, not, ◌&&◌, ◌||◌, List}
-use Rattle.std.specs.Prelude.{[], ◌∷◌, map, filter, flat_map, max, nat_le, nat_lt, bytes_eq}
-use Rattle.bt_bed.specs.model.feature.Interval.{Interval, Span, spans_on, placed_on}
-use Rattle.bt_bed.specs.model.feature.Stretches.{IsCovered, stretches_from}
 
 -- covered positions lie on both sides, or here, with at most `gap` positions between them
 pub record Bridged (gap : ℕ) (spans : List Span) (p : ℕ) : Type 0 where
@@ -57,3 +64,120 @@ without name names = filter (λ other. not (bytes_eq other name)) names
 abbrev pub chromosomes : List Interval → List (List ℕ)
 chromosomes [] = []
 chromosomes (r ∷ rs) = r.chrom ∷ without r.chrom (chromosomes rs)
+
+-- Which records an engine counts (bedtools manual, merge, option -S).
+
+-- whether a record of this strand is merged
+abbrev pub is_counted : MergeStrand → Strand → Bool
+is_counted All strand = true
+is_counted Each strand = true
+is_counted (One wanted) strand = is_strand wanted strand
+
+-- where the records lie that are merged
+abbrev pub counted : MergeStrand → List Feature → List Interval
+counted strand records = intervals_of (filter (λ r. is_counted strand r.strand) records)
+
+-- What a merge writes, and which of its runs are settled: a later record can't change them.
+
+-- the merged runs of the records, chromosomes in the order in which they come
+abbrev pub merged_runs : ℕ → MergeStrand → List Feature → List Interval
+merged_runs gap strand records =
+    merged (chromosomes (counted strand records)) gap (counted strand records)
+
+-- whether the last record closes a run: the run lies on a chromosome before its own, which is
+-- any other one, or ends more than `gap` below its start
+abbrev pub is_closed : ℕ → Interval → Interval → Bool
+is_closed gap last run = not (bytes_eq run.chrom last.chrom) || nat_lt (run.stop + gap) last.start
+
+-- the runs that the last record, counted or not, closes
+abbrev pub passed_by : ℕ → List Interval → Option Interval → List Interval
+passed_by gap runs None = []
+passed_by gap runs (Some last) = filter (is_closed gap last) runs
+
+-- the runs that are settled after the records
+unfoldable pub settled_runs : ℕ → MergeStrand → List Feature → List Interval
+settled_runs gap strand records =
+    passed_by gap (merged_runs gap strand records) (last_of (intervals_of records))
+
+-- the runs that come after the settled ones
+unfoldable pub kept_runs : ℕ → MergeStrand → List Feature → List Interval
+kept_runs gap strand records =
+    drop (length (settled_runs gap strand records)) (merged_runs gap strand records)
+
+-- records that a merge may take: those of one chromosome are contiguous, their starts don't fall,
+-- and each has a base
+pub record AreTaken (records : List Feature) : Type 0 where
+  pub contiguous : AreContiguous (intervals_of records)
+  pub full : AreNonEmpty (intervals_of records)
+
+-- The merged runs in an order of the chromosomes, as that of a genome file or of the names' bytes.
+
+-- a name among names in order: it is put before the first that comes after it
+abbrev pub put_in_order : Order → List ℕ → List (List ℕ) → List (List ℕ)
+put_in_order order name [] = name ∷ []
+put_in_order order name (n ∷ ns) =
+    if is_lt (order.compare name n) then name ∷ n ∷ ns else n ∷ put_in_order order name ns
+
+-- the names in order
+abbrev pub in_order : Order → List (List ℕ) → List (List ℕ)
+in_order order [] = []
+in_order order (n ∷ ns) = put_in_order order n (in_order order ns)
+
+-- the merged runs of the records, their chromosomes in order
+unfoldable pub ordered_runs : Order → ℕ → MergeStrand → List Feature → List Interval
+ordered_runs order gap strand records =
+    merged (in_order order (chromosomes (counted strand records))) gap (counted strand records)
+
+-- What `bedtools merge -s` gives: the records of each strand are merged separately (bedtools
+-- manual, merge, option -s), and the runs of all strands are listed by their first records.
+
+-- a merged run, with the strand of its records
+pub record StrandRun : Type 0 where
+  pub strand : Strand
+  pub run : Interval
+
+-- the merged runs of the records of one strand
+abbrev pub runs_of_strand : ℕ → List Feature → Strand → List StrandRun
+runs_of_strand gap records strand =
+    map (λ run. record { strand = strand; run = run }) (merged_runs gap (One strand) records)
+
+-- whether a record is one of those of the run: of its strand, and in it
+abbrev pub is_in : StrandRun → Feature → Bool
+is_in item r =
+    is_strand item.strand r.strand
+    && (bytes_eq item.run.chrom r.chrom && (nat_le item.run.start r.start && nat_le r.stop item.run.stop))
+
+-- of the runs the one whose first record this is, if there is one: the record lies in it,
+-- and none of those before does
+abbrev pub begun_by : List StrandRun → List Feature → Feature → List StrandRun
+begun_by runs before r = filter (λ item. is_in item r && not (list_any (is_in item) before)) runs
+
+-- for each record the run that it is the first of, if these come before them
+abbrev pub listed_behind : (Strand → List StrandRun) → List Feature → List Feature → List StrandRun
+listed_behind runs before [] = []
+listed_behind runs before (r ∷ rs) =
+    begun_by (runs r.strand) before r ++ listed_behind runs (before ++ r ∷ []) rs
+
+-- the merged runs of all strands, listed by their first records
+unfoldable pub strand_runs : ℕ → List Feature → List StrandRun
+strand_runs gap records = listed_behind (runs_of_strand gap records) [] records
+
+-- the first of the listed runs, as long as the last record closes them
+abbrev pub closed_prefix : ℕ → List StrandRun → Option Interval → List StrandRun
+closed_prefix gap items None = []
+closed_prefix gap items (Some last) = take_while (λ item. is_closed gap last item.run) items
+
+-- the runs that are settled after the records: a run that is finished isn't settled while one that
+-- is listed before it is open
+unfoldable pub settled_strand_runs : ℕ → List Feature → List StrandRun
+settled_strand_runs gap records =
+    closed_prefix gap (strand_runs gap records) (last_of (intervals_of records))
+
+-- the runs that come after the settled ones
+unfoldable pub kept_strand_runs : ℕ → List Feature → List StrandRun
+kept_strand_runs gap records =
+    drop (length (settled_strand_runs gap records)) (strand_runs gap records)
+
+-- where the runs lie
+abbrev pub places_of : List StrandRun → List Interval
+places_of items = map (λ item. item.run) items

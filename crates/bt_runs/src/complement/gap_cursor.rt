@@ -1,11 +1,10 @@
 //! How far the gaps of a chromosome are settled.
 
 ghost use Rattle.std.specs.Prelude.{◌≡◌, ℕ, Some};
-ghost use Rattle.bt_lines.specs.calls.Putting.{Adds};
+ghost use Rattle.bt_lines.specs.calls.Output.{Adds};
 ghost use Rattle.bt_bed.specs.calls.GenomeTable.{entries};
-ghost use Rattle.bt_bed.specs.model.feature.IntervalLine.{interval_lines};
-ghost use Rattle.bt_runs.specs.inside.walk.GapStep.{gap_between};
-ghost use Rattle.bt_runs.specs.inside.walk.Walk.{IsNamed};
+ghost use Rattle.bt_bed.specs.model.Feature.{interval_lines};
+ghost use Rattle.bt_runs.specs.inside.Walk.{gap_between, IsNamed};
 
 use bt_bed::{Genome, put_interval};
 use bt_lines::{Fault, Out, Sink};
@@ -27,7 +26,7 @@ pub(crate) struct GapCursor<'g> {
 
 impl<'g> GapCursor<'g> {
     ghost use Rattle.std.specs.Prelude.{OnOk, min};
-    ghost use Rattle.bt_runs.specs.inside.walk.GapRule.{Covers};
+    ghost use Rattle.bt_runs.specs.inside.GapRule.{Covers};
 
     // Takes a record on the chromosome out of its gaps, and writes the gap before it.
     #[inline(always)]

@@ -9,10 +9,8 @@ ghost use Rattle.bt_lines.specs.calls.Names.{fault_value};
 ghost use Rattle.bt_lines.specs.calls.Output.{Grows};
 ghost use Rattle.bt_bed.specs.calls.Bed.{feature_lent};
 ghost use Rattle.bt_bed.specs.calls.GenomeTable.{entries};
-ghost use Rattle.bt_runs.specs.calls.Calls.{AnswersAgain, IsFaultless, KeepsFault, TakesQuiet, WritesLeft, WritesLeftPrefix, WritesPrefix, WritesSettled};
+ghost use Rattle.bt_runs.specs.calls.Engine.{AnswersAgain, IsFaultless, KeepsFault, TakesQuiet, WritesLeft, WritesLeftPrefix, WritesPrefix, WritesSettled, KeepsHeld, of_rule, ruled_fault, ruled_stands};
 ghost use Rattle.bt_runs.specs.calls.Complementing.{IsAfter, held_count, is_quiet, kept_in, may_take, settled_lines, whole_output};
-ghost use Rattle.bt_runs.specs.calls.Engine.{KeepsHeld};
-ghost use Rattle.bt_runs.specs.calls.Ruled.{of_rule, ruled_fault, ruled_stands};
 
 use crate::complement::gap_rule::GapRule;
 use crate::engine::Engine;
@@ -54,7 +52,7 @@ impl<'g> Complement<'g> {
 
     /// Takes the next record, and writes the gap that it settles. It fails with `WriteFailed`, only if a write
     /// fails, and returns that from then on.
-    #[tactic(auto, using(crate::proofs::lemmas::engine::CallLemmas::feeds_again, crate::proofs::lemmas::engine::CallLemmas::feeds_fault, crate::proofs::lemmas::engine::CallLemmas::feeds_prefix, crate::proofs::lemmas::engine::CallLemmas::feeds_settled, crate::proofs::lemmas::engine::CallLemmas::only_writes))]
+    #[tactic(auto, using(crate::proofs::lemmas::Engine::feeds_again, crate::proofs::lemmas::Engine::feeds_fault, crate::proofs::lemmas::Engine::feeds_prefix, crate::proofs::lemmas::Engine::feeds_settled, crate::proofs::lemmas::Engine::only_writes))]
     pub fn feed<K: Sink>(&mut self, bed: &BedRef<'_>, out: &mut Out<K>) -> Result<(), Fault>
         ensures going { IsFaultless (ruled_stands IsAfter) ruled_fault self.old }
         ensures written { WritesSettled (of_rule may_take) (ruled_stands IsAfter) ruled_fault (of_rule settled_lines) self.old
@@ -76,7 +74,7 @@ impl<'g> Complement<'g> {
 
     /// Writes the lines that are still unsettled, after the last record. It fails with `WriteFailed`, or with the
     /// fault that was returned before.
-    #[tactic(auto, using(crate::proofs::lemmas::engine::CallLemmas::finishes_again, crate::proofs::lemmas::engine::CallLemmas::finishes_left, crate::proofs::lemmas::engine::CallLemmas::finishes_prefix))]
+    #[tactic(auto, using(crate::proofs::lemmas::Engine::finishes_again, crate::proofs::lemmas::Engine::finishes_left, crate::proofs::lemmas::Engine::finishes_prefix))]
     pub fn finish<K: Sink>(self, out: &mut Out<K>) -> Result<(), Fault>
         ensures going { IsFaultless (ruled_stands IsAfter) ruled_fault self.entry }
         ensures written { WritesLeft (of_rule may_take) (ruled_stands IsAfter) ruled_fault (of_rule settled_lines)

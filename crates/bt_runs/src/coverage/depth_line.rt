@@ -1,9 +1,9 @@
 //! The line of an interval with its depth.
 
 ghost use Rattle.std.specs.Prelude.{◌≡◌, ◌+◌, ◌≤◌, drop};
-ghost use Rattle.bt_lines.specs.calls.Putting.{Puts};
+ghost use Rattle.bt_lines.specs.calls.Output.{Puts};
 ghost use Rattle.bt_runs.specs.model.Depth.{depth_line};
-ghost use Rattle.bt_runs.specs.inside.coverage.DepthStep.{depth_text};
+ghost use Rattle.bt_runs.specs.inside.Coverage.{depth_text};
 
 use bt_lines::{COLUMN, Fault, Out, Sink, put_both, write_column};
 
@@ -12,7 +12,7 @@ const ROOM: usize = 3 * COLUMN + 1;
 
 // Puts the line of an interval: its name, and what follows it in one piece. It doesn't allocate.
 #[inline(always)]
-#[tactic(auto, using(crate::proofs::lemmas::coverage::DepthLines::line_parts))]
+#[tactic(auto, using(crate::proofs::lemmas::coverage::DepthSteps::line_parts))]
 pub(crate) fn put_depth<K: Sink>(
     chrom: &[u8],
     start: u64,

@@ -2,15 +2,13 @@
 
 ghost use Rattle.std.specs.Prelude.{◌≡◌, false, true, ◌<◌, ◌≤◌, [], length, flat_map, max, min, slice_range, IfErr, IfOk, OnOk};
 ghost use Rattle.bt_runs.specs.declared.engine.failure.Failure.TheVariants.{Memory};
-ghost use Rattle.bt_lines.specs.calls.Putting.{Adds};
+ghost use Rattle.bt_lines.specs.calls.Output.{Adds};
 ghost use Rattle.bt_bed.specs.calls.GenomeTable.{entries};
-ghost use Rattle.bt_runs.specs.inside.coverage.Kept.{known_seen, seen};
-ghost use Rattle.bt_runs.specs.inside.coverage.Kept.{CountAnswers};
+ghost use Rattle.bt_runs.specs.inside.Coverage.{known_seen, seen, CountAnswers, bare_of, depths_left, known_by, levels_by, levels_left, levels_on};
 ghost use Rattle.bt_runs.specs.calls.Covering.{CountsRecord, IsAfter, IsOnChrom, held_count, is_quiet, kept_in, may_take, next_lines, settled_known, settled_lines, wants_memory, whole_output, with_chrom};
 ghost use Rattle.bt_runs.specs.model.Depth.{depth_lines, is_counted_by};
-ghost use Rattle.bt_runs.specs.inside.coverage.DepthStep.{bare_of, depths_left, known_by, levels_by, levels_left, levels_on};
 ghost use Rattle.bt_runs.specs.calls.Engine.{KeepsHeld};
-ghost use Rattle.bt_runs.specs.inside.walk.Walk.{AreReached, begun, is_on, left_before, left_of};
+ghost use Rattle.bt_runs.specs.inside.Walk.{AreReached, begun, is_on, left_before, left_of};
 
 use crate::coverage::depth_line::put_depth;
 use crate::coverage::depths::{CoveredChrom, DepthCursor, OpenInterval, go_on, put_ended};
@@ -68,9 +66,9 @@ pub(crate) struct DepthRule<'g> {
 
 impl<'g> Model for DepthRule<'g> {
     ghost use Rattle.bt_bed.specs.calls.GenomeTable.{entries};
-    ghost use Rattle.bt_runs.specs.inside.coverage.Kept.{seen};
+    ghost use Rattle.bt_runs.specs.inside.Coverage.{seen};
     ghost use Rattle.bt_runs.specs.calls.Covering.{Covering};
-    ghost use Rattle.bt_runs.specs.inside.walk.Walk.{AreReached};
+    ghost use Rattle.bt_runs.specs.inside.Walk.{AreReached};
 
     ghost Value = { Covering };
 
@@ -178,7 +176,7 @@ impl<'g> Rule for DepthRule<'g> {
     }
 
     #[inline(always)]
-    #[tactic(auto, using(crate::proofs::lemmas::coverage::DepthCounts::off_here, crate::proofs::lemmas::coverage::DepthCounts::stays_on, crate::proofs::lemmas::coverage::DepthCounts::step_err, crate::proofs::lemmas::coverage::DepthCounts::step_ok, crate::proofs::lemmas::coverage::DepthSteps::counts_none, crate::proofs::lemmas::coverage::DepthSteps::fits))]
+    #[tactic(auto, using(crate::proofs::lemmas::coverage::DepthSteps::off_here, crate::proofs::lemmas::coverage::DepthSteps::stays_on, crate::proofs::lemmas::coverage::DepthSteps::step_err, crate::proofs::lemmas::coverage::DepthSteps::step_ok, crate::proofs::lemmas::coverage::DepthSteps::counts_none, crate::proofs::lemmas::coverage::DepthSteps::fits))]
     fn step<R: Record, K: Sink>(
         &mut self,
         on: &mut CurrentChrom<'g>,
@@ -295,7 +293,7 @@ fn settle<K: Sink>(
 // Writes what is left of a chromosome, and drops its records.
 #[cold]
 #[inline(never)]
-#[tactic(auto, using(crate::proofs::lemmas::coverage::DepthLines::adds_levels, crate::proofs::lemmas::coverage::DepthLines::left_cut))]
+#[tactic(auto, using(crate::proofs::lemmas::coverage::DepthSteps::adds_levels, crate::proofs::lemmas::coverage::DepthSteps::left_cut))]
 fn put_rest<K: Sink>(
     chrom: &CoveredChrom<'_>,
     begun: Option<OpenInterval>,

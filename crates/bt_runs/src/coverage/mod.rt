@@ -11,10 +11,8 @@ ghost use Rattle.bt_lines.specs.model.Fault.{FaultValue};
 ghost use Rattle.bt_lines.specs.calls.Output.{Grows};
 ghost use Rattle.bt_bed.specs.calls.Bed.{feature_lent};
 ghost use Rattle.bt_bed.specs.calls.GenomeTable.{entries};
-ghost use Rattle.bt_runs.specs.calls.Calls.{AnswersAgain, IsFaultless, KeepsFault, TakesQuiet, WritesFirst, WritesLeft, WritesLeftPrefix, WritesPrefix, WritesSettled};
+ghost use Rattle.bt_runs.specs.calls.Engine.{AnswersAgain, IsFaultless, KeepsFault, TakesQuiet, WritesFirst, WritesLeft, WritesLeftPrefix, WritesPrefix, WritesSettled, IsWanted, KeepsHeld, of_rule, ruled_fault, ruled_stands};
 ghost use Rattle.bt_runs.specs.calls.Covering.{IsAfter, held_count, is_quiet, kept_in, may_take, settled_lines, wants_memory, whole_output};
-ghost use Rattle.bt_runs.specs.calls.Engine.{IsWanted, KeepsHeld};
-ghost use Rattle.bt_runs.specs.calls.Ruled.{of_rule, ruled_fault, ruled_stands};
 
 use crate::coverage::depth_rule::DepthRule;
 use crate::engine::Engine;
@@ -63,7 +61,7 @@ impl<'g> Coverage<'g> {
 
     /// Takes the next record, and writes the intervals that it settles. The first fault is returned from then
     /// on: `WriteFailed`, or `NoMemory`, only if the record has to be kept.
-    #[tactic(auto, using(crate::proofs::lemmas::engine::CallLemmas::feeds_again, crate::proofs::lemmas::engine::CallLemmas::feeds_fault, crate::proofs::lemmas::engine::CallLemmas::feeds_first, crate::proofs::lemmas::engine::CallLemmas::feeds_prefix, crate::proofs::lemmas::engine::CallLemmas::feeds_settled))]
+    #[tactic(auto, using(crate::proofs::lemmas::Engine::feeds_again, crate::proofs::lemmas::Engine::feeds_fault, crate::proofs::lemmas::Engine::feeds_first, crate::proofs::lemmas::Engine::feeds_prefix, crate::proofs::lemmas::Engine::feeds_settled))]
     pub fn feed<K: Sink>(&mut self, bed: &BedRef<'_>, out: &mut Out<K>) -> Result<(), Fault>
         ensures going { IsFaultless (ruled_stands IsAfter) ruled_fault self.old }
         ensures written { WritesSettled (of_rule may_take) (ruled_stands IsAfter) ruled_fault (of_rule settled_lines) self.old
@@ -87,7 +85,7 @@ impl<'g> Coverage<'g> {
 
     /// Writes the lines that are still unsettled, after the last record. It fails with `WriteFailed`, or with the
     /// fault that was returned before.
-    #[tactic(auto, using(crate::proofs::lemmas::engine::CallLemmas::finishes_again, crate::proofs::lemmas::engine::CallLemmas::finishes_left, crate::proofs::lemmas::engine::CallLemmas::finishes_prefix))]
+    #[tactic(auto, using(crate::proofs::lemmas::Engine::finishes_again, crate::proofs::lemmas::Engine::finishes_left, crate::proofs::lemmas::Engine::finishes_prefix))]
     pub fn finish<K: Sink>(self, out: &mut Out<K>) -> Result<(), Fault>
         ensures going { IsFaultless (ruled_stands IsAfter) ruled_fault self.entry }
         ensures written { WritesLeft (of_rule may_take) (ruled_stands IsAfter) ruled_fault (of_rule settled_lines) (of_rule whole_output) self.entry

@@ -2,7 +2,7 @@
 
 ghost use Rattle.std.specs.Prelude.{◌≡◌, ◌≤◌, ◌∷◌, [], All, Bool, List, MatchBool, OnErr, OnOk, filter, length, ℕ};
 ghost use Rattle.std.specs.BinaryHeap.{heap_items};
-ghost use Rattle.bt_runs.specs.inside.coverage.Kept.{CountsFrom, IsLeastFirst, StartsBelow, ends_of};
+ghost use Rattle.bt_runs.specs.inside.Coverage.{CountsFrom, IsLeastFirst, StartsBelow, ends_of};
 
 use std::alloc::{AllocError, Global};
 use std::cmp::Reverse;
@@ -19,7 +19,7 @@ pub(crate) struct OpenEnds {
 impl Model for OpenEnds {
     ghost use Rattle.std.specs.Prelude.{ℕ, List};
     ghost use Rattle.std.specs.BinaryHeap.{heap_items};
-    ghost use Rattle.bt_runs.specs.inside.coverage.Kept.{IsLeastFirst, ends_of};
+    ghost use Rattle.bt_runs.specs.inside.Coverage.{IsLeastFirst, ends_of};
 
     ghost Value = { List ℕ };
 

@@ -1,8 +1,7 @@
 //! The counted records that are open at a position of a chromosome.
 
 ghost use Rattle.std.specs.Prelude.{◌≡◌, ◌+◌, ◌≤◌, [], ◌∷◌, ◌++◌, All, OnOk, drop, length, max};
-ghost use Rattle.bt_runs.specs.inside.coverage.DepthStep.{still_open};
-ghost use Rattle.bt_runs.specs.inside.coverage.Kept.{spans_open};
+ghost use Rattle.bt_runs.specs.inside.Coverage.{still_open, spans_open};
 
 use crate::coverage::open_ends::OpenEnds;
 use std::alloc::{AllocError, Global};
@@ -31,7 +30,7 @@ pub(crate) struct OpenRecords {
 }
 
 impl Model for OpenRecords {
-    ghost use Rattle.bt_runs.specs.inside.coverage.Kept.{KeepsOpen, OpenAt, spans_open};
+    ghost use Rattle.bt_runs.specs.inside.Coverage.{KeepsOpen, OpenAt, spans_open};
 
     ghost Value = { OpenAt };
 

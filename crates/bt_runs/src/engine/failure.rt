@@ -3,7 +3,7 @@
 ghost use Rattle.std.specs.Prelude.{◌≡◌, ◌⊎◌};
 ghost use Rattle.bt_lines.specs.model.Fault.{no_memory, write_failed};
 ghost use Rattle.bt_lines.specs.calls.Names.{fault_value};
-ghost use Rattle.bt_runs.specs.calls.Ruled.{fault_of};
+ghost use Rattle.bt_runs.specs.calls.Engine.{fault_of};
 
 use bt_lines::{Fault, Kind};
 

@@ -6,7 +6,7 @@ pub(crate) mod rule;
 ghost use Rattle.std.specs.Prelude.{ℕ, List, Option};
 ghost use Rattle.bt_lines.specs.model.Fault.{FaultValue};
 ghost use Rattle.bt_bed.specs.calls.Bed.{feature_lent};
-ghost use Rattle.bt_bed.specs.model.feature.Feature.{Feature};
+ghost use Rattle.bt_bed.specs.model.Feature.{Feature};
 ghost use Rattle.bt_runs.specs.calls.Engine.{Feeds, FeedsBatch, Finishes, IsWanted, KeepsHeld};
 
 use bt_bed::{BedRef, Cursor, Single};

@@ -1,8 +1,8 @@
 //! The rules by which engines take records, and the loop that all of them share.
 
 ghost use Rattle.std.specs.Prelude.{◌≡◌, ℕ, List, None, Option, Result, Some, OnOk};
-ghost use Rattle.bt_bed.specs.model.feature.Feature.{Feature};
-ghost use Rattle.bt_runs.specs.inside.walk.Rule.{Does, EnterAnswers, FitsPast, Follows, PutsRestAtEnd, Taken};
+ghost use Rattle.bt_bed.specs.model.Feature.{Feature};
+ghost use Rattle.bt_runs.specs.inside.Walk.{Does, EnterAnswers, FitsPast, Follows, PutsRestAtEnd, Taken};
 
 use crate::engine::failure::Failure;
 use bt_bed::{Cursor, Record};
@@ -85,8 +85,7 @@ pub(crate) struct Ruled<E> {
 }
 
 impl<E: Rule + Drop> Ruled<E> {
-    ghost use Rattle.bt_runs.specs.calls.Engine.{FeedsBatch, Finishes};
-    ghost use Rattle.bt_runs.specs.calls.Ruled.{of_rule, ruled_fault, ruled_stands};
+    ghost use Rattle.bt_runs.specs.calls.Engine.{FeedsBatch, Finishes, of_rule, ruled_fault, ruled_stands};
 
     // A rule that has taken no record.
     pub(crate) fn new(rule: E) -> Ruled<E>
@@ -119,7 +118,7 @@ impl<E: Rule + Drop> Ruled<E> {
     }
 
     // Writes the lines that are still unsettled, unless it has failed.
-    #[tactic(auto, using(crate::proofs::lemmas::engine::RuledLemmas::ruled_finishes))]
+    #[tactic(auto, using(crate::proofs::lemmas::Engine::ruled_finishes))]
     pub(crate) fn finish<K: Sink>(self, out: &mut Out<K>) -> Result<(), Fault>
         ensures { Finishes (of_rule E.takes) (ruled_stands E.is_after) ruled_fault (of_rule E.settled) (of_rule E.output)
             self out.old.output result out.new.output }

@@ -10,9 +10,8 @@ ghost use Rattle.std.specs.Prelude.{◌≡◌, ◌≤◌, [], length, true, Some
 ghost use Rattle.bt_lines.specs.calls.Output.{Grows};
 ghost use Rattle.bt_lines.specs.model.Fault.{FaultValue};
 ghost use Rattle.bt_bed.specs.calls.Bed.{feature_lent};
-ghost use Rattle.bt_lines.specs.model.Number.{max_number};
-ghost use Rattle.bt_runs.specs.calls.Calls.{AnswersAgain, IsFaultless, KeepsFault, TakesQuiet, WritesFirst, WritesLeft, WritesLeftPrefix, WritesPrefix, WritesSettled};
-ghost use Rattle.bt_runs.specs.calls.Engine.{IsWanted, KeepsHeld};
+ghost use Rattle.bt_lines.specs.model.Lines.{max_number};
+ghost use Rattle.bt_runs.specs.calls.Engine.{AnswersAgain, IsFaultless, KeepsFault, TakesQuiet, WritesFirst, WritesLeft, WritesLeftPrefix, WritesPrefix, WritesSettled, IsWanted, KeepsHeld};
 ghost use Rattle.bt_runs.specs.calls.Unstranded.{may_take};
 ghost use Rattle.bt_runs.specs.calls.Merging.{IsAfter, held_count, is_quiet, kept_fault, kept_places, merge_begun, settled_lines, wants_memory, whole_output};
 
@@ -77,7 +76,7 @@ impl Merge {
     /// fail if it opens no run, and closes none that can be written. The first fault is returned from
     /// then on: `WriteFailed`, or `NoMemory`, only if the chromosome is
     /// another than that of the record before, and with [`MergeStrand::Each`] if a run has to be opened too.
-    #[tactic(auto, using(crate::proofs::lemmas::engine::CallLemmas::feeds_again, crate::proofs::lemmas::engine::CallLemmas::feeds_fault, crate::proofs::lemmas::engine::CallLemmas::feeds_first, crate::proofs::lemmas::engine::CallLemmas::feeds_prefix, crate::proofs::lemmas::engine::CallLemmas::feeds_settled))]
+    #[tactic(auto, using(crate::proofs::lemmas::Engine::feeds_again, crate::proofs::lemmas::Engine::feeds_fault, crate::proofs::lemmas::Engine::feeds_first, crate::proofs::lemmas::Engine::feeds_prefix, crate::proofs::lemmas::Engine::feeds_settled))]
     pub fn feed<K: Sink>(&mut self, bed: &BedRef<'_>, out: &mut Out<K>) -> Result<(), Fault>
         ensures going { IsFaultless IsAfter kept_fault self.old }
         ensures written { WritesSettled may_take IsAfter kept_fault settled_lines self.old
@@ -101,7 +100,7 @@ impl Merge {
 
     /// Writes the lines that are still unsettled, after the last record. It fails with `WriteFailed`, or with the
     /// fault that was returned before.
-    #[tactic(auto, using(crate::proofs::lemmas::engine::CallLemmas::finishes_again, crate::proofs::lemmas::engine::CallLemmas::finishes_left, crate::proofs::lemmas::engine::CallLemmas::finishes_prefix))]
+    #[tactic(auto, using(crate::proofs::lemmas::Engine::finishes_again, crate::proofs::lemmas::Engine::finishes_left, crate::proofs::lemmas::Engine::finishes_prefix))]
     pub fn finish<K: Sink>(self, out: &mut Out<K>) -> Result<(), Fault>
         ensures going { IsFaultless IsAfter kept_fault self }
         ensures written { WritesLeft may_take IsAfter kept_fault settled_lines whole_output self

@@ -107,7 +107,7 @@ impl PendingRuns {
     }
 
     // Adds a run after the others.
-    #[tactic(auto, using(crate::proofs::lemmas::merge::PendingRunsLemmas::added_counts))]
+    #[tactic(auto, using(crate::proofs::lemmas::merge::StrandSettling::added_counts))]
     pub(crate) fn push(&mut self, strand: Strand, start: u64, stop: u64) -> Result<(), AllocError>
         ensures { OnOk result (self.new ≡ self.old
             ++ record { strand = strand; start = start; stop = stop } ∷ []) }
@@ -138,7 +138,7 @@ fn slot_of(strand: Strand) -> usize
 }
 
 #[inline]
-#[tactic(auto, using(crate::proofs::lemmas::merge::PendingRunsLemmas::joined_not, crate::proofs::lemmas::merge::PendingRunsLemmas::joined_so))]
+#[tactic(auto, using(crate::proofs::lemmas::merge::StrandSettling::joined_not, crate::proofs::lemmas::merge::StrandSettling::joined_so))]
 fn lengthen(runs: &mut VecDeque<PendingRun>, place: usize, stop: u64, reach: u64) -> bool
     requires { place < length runs.old.items }
     ensures { (result, runs.new.items) ≡ with_joined reach stop runs.old.items (Some place) }

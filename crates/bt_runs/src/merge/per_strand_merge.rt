@@ -2,13 +2,12 @@
 //! it are.
 
 ghost use Rattle.std.specs.Prelude.{◌≡◌, ◌∷◌, [], length, true, OnOk};
-ghost use Rattle.bt_lines.specs.calls.Putting.{Adds};
+ghost use Rattle.bt_lines.specs.calls.Output.{Adds};
 ghost use Rattle.bt_runs.specs.calls.Engine.{KeepsHeld};
-ghost use Rattle.bt_runs.specs.inside.merge.StrandStep.{left_runs, passed_runs, placed_runs};
+ghost use Rattle.bt_runs.specs.inside.merge.StrandStep.{left_runs, passed_runs, placed_runs, JoinsAmong, Takes, lines_by, wants_memory};
 ghost use Rattle.bt_runs.specs.calls.Unstranded.{may_take};
 ghost use Rattle.bt_runs.specs.calls.Stranding.{IsAfter, held_count, is_quiet, settled_lines, strand_lines, whole_output};
-ghost use Rattle.bt_runs.specs.inside.merge.StrandTaking.{JoinsAmong, Takes, lines_by, wants_memory};
-ghost use Rattle.bt_runs.specs.inside.walk.Rule.{Does};
+ghost use Rattle.bt_runs.specs.inside.Walk.{Does};
 
 use crate::engine::failure::Failure;
 use crate::engine::rule::Rule;
@@ -49,8 +48,7 @@ pub(crate) struct PerStrandMerge {
 }
 
 impl Model for PerStrandMerge {
-    ghost use Rattle.bt_runs.specs.inside.merge.StrandStep.{placed_runs};
-    ghost use Rattle.bt_runs.specs.inside.merge.StrandTaking.{kept_in};
+    ghost use Rattle.bt_runs.specs.inside.merge.StrandStep.{placed_runs, kept_in};
     ghost use Rattle.bt_runs.specs.calls.Stranding.{Stranding};
 
     ghost Value = { Stranding };
@@ -64,7 +62,7 @@ impl Model for PerStrandMerge {
 }
 
 impl PerStrandMerge {
-    ghost use Rattle.bt_runs.specs.inside.merge.StrandTaking.{with_on};
+    ghost use Rattle.bt_runs.specs.inside.merge.StrandStep.{with_on};
 
     // A merge that has taken no record.
     pub(crate) fn new(alloc: Global, d: u64) -> PerStrandMerge
@@ -141,7 +139,7 @@ impl PerStrandMerge {
 }
 
 impl Rule for PerStrandMerge {
-    ghost use Rattle.bt_runs.specs.inside.merge.StrandTaking.{with_on};
+    ghost use Rattle.bt_runs.specs.inside.merge.StrandStep.{with_on};
 
     type OnChrom = OnlyRun;
 

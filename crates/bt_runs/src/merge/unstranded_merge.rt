@@ -1,13 +1,12 @@
 //! The rule of `bedtools merge` without `-s`: one open run, which each record extends or closes.
 
 ghost use Rattle.std.specs.Prelude.{◌≡◌, ◌<◌, ℕ, List, [], cond, length, true, IfOk};
-ghost use Rattle.bt_lines.specs.calls.Putting.{Adds};
-ghost use Rattle.bt_bed.specs.model.feature.IntervalLine.{interval_lines};
-ghost use Rattle.bt_runs.specs.model.Counted.{is_counted};
+ghost use Rattle.bt_lines.specs.calls.Output.{Adds};
+ghost use Rattle.bt_bed.specs.model.Feature.{interval_lines};
+ghost use Rattle.bt_runs.specs.model.Merged.{is_counted};
 ghost use Rattle.bt_runs.specs.calls.Engine.{KeepsHeld};
 ghost use Rattle.bt_runs.specs.calls.Unstranded.{IsAfter, held_count, is_quiet, may_take, settled_lines, whole_output};
-ghost use Rattle.bt_runs.specs.inside.merge.UnstrandedStep.{left_by, settled_by, with_record};
-ghost use Rattle.bt_runs.specs.inside.merge.UnstrandedStep.{kept_at};
+ghost use Rattle.bt_runs.specs.inside.merge.UnstrandedStep.{left_by, settled_by, with_record, kept_at};
 
 use crate::engine::rule::Rule;
 use crate::merge::merge_strand::MergeStrand;

@@ -1,29 +1,76 @@
 -- What the calls of a masking engine do.
-use Rattle.std.specs.Prelude.{◌≡◌, ◌⊎◌, ◌||◌, ℕ, length, nat_lt, not, Bool, true, false, cond, List}
-use Rattle.std.specs.Prelude.{[], ◌∷◌, ◌++◌, Some, None, is_some, Result, Ok, Err}
-use Rattle.bt_bed.specs.model.feature.Feature.{Feature}
-use Rattle.bt_bed.specs.model.feature.LineKind.{fault_at_line}
+use Rattle.std.specs.Prelude.{◌≡◌, ◌⊎◌, Bool, true, false, List, [], map, Option, Some, None, is_some, option_map, ◌||◌, ℕ, length, nat_lt, not, cond, ◌∷◌, ◌++◌, Result, Ok, Err, ⊤, ◌+◌, ◌*◌}
+use Rattle.std.specs.List.{last_or}
+use Rattle.bt_bed.specs.model.Feature.{Feature, fault_at_line}
+use Rattle.bt_bed.specs.model.Good.{AreInBlocks}
+use Rattle.bt_seq.specs.calls.MaskStage.{extent_of, MaskStage, given, held_by, reached_by, want_at, Masking, Waiting, is_written_at_once, reached, with_bed_ended, with_decided, with_line, with_record, LineBefore, GoesOn, PassesLines, IsNext}
+use Rattle.bt_seq.specs.inside.Masking.{KnowsStage}
+use Rattle.bt_seq.specs.model.Masked.{decided, is_unnamed, left_after, SequenceLine, is_header, held_for, masked_line, line_says}
+use Rattle.bt_seq.specs.declared.mask.mask_how.MaskHow.{MaskHow}
 use Rattle.bt_lines.specs.model.Fault.{FaultValue, no_memory}
 use Rattle.bt_lines.specs.model.Lines.{TextLine}
 use Rattle.bt_lines.specs.calls.Names.{fault_value}
-use Rattle.bt_lines.specs.calls.Output.{Output}
-use Rattle.bt_lines.specs.calls.Putting.{FailsToAdd, Grown}
+use Rattle.bt_lines.specs.calls.Output.{Output, FailsToAdd, Grown}
 use Rattle.bt_lines.specs.declared.fault.Fault.{Fault}
 use Rattle.bt_lines.specs.declared.fault.Input.TheVariants.{First, Second}
 use Rattle.bt_lines.specs.declared.fault.Kind.{Kind}
 use Rattle.bt_lines.specs.declared.fault.Kind.TheVariants.{NoSequence}
-use Rattle.bt_seq.specs.calls.MaskStage.{MaskStage, is_written_at_once, reached, with_bed_ended}
-use Rattle.bt_seq.specs.calls.MaskStage.{with_decided, with_line, with_record}
-use Rattle.bt_seq.specs.calls.MaskStanding.{MaskMovesTo}
-use Rattle.bt_seq.specs.calls.MaskPrefixes.{LineBefore}
-use Rattle.bt_seq.specs.model.Masked.{decided, held_for, masked_line}
-use Rattle.bt_seq.specs.calls.MaskState.{Masking}
-use Rattle.bt_seq.specs.model.Owners.{left_after}
-use Rattle.bt_seq.specs.model.Sequences.{SequenceLine, is_header, line_says}
-use Rattle.bt_seq.specs.declared.mask.mask_how.MaskHow.{MaskHow}
-use Rattle.bt_seq.specs.declared.mask.mask_want.MaskWant.TheVariants.{Nothing}
+use Rattle.bt_seq.specs.declared.mask.mask_want.MaskWant.TheVariants.{Nothing, Line, Bed}
 use Rattle.bt_bed.specs.declared.record.taken.Taken.{Taken}
 use Rattle.bt_bed.specs.declared.record.taken.Taken.TheVariants.{Yes, No}
+use Rattle.bt_lines.specs.calls.Reader.{lines_in}
+use Rattle.bt_lines.specs.declared.reader.buffered_lines.BufferedLines.{BufferedLines}
+use Rattle.bt_seq.specs.declared.mask.mask_want.MaskWant.{MaskWant}
+
+-- The stage of a masking engine.
+
+-- no more records were taken than the lines given need: none,
+-- or the last line isn't decided by them
+abbrev pub IsOpen : Option SequenceLine → List Feature → Type 0
+IsOpen None taken = taken ≡ []
+IsOpen (Some line) taken = (taken ≡ []) ⊎ (decided line taken ≡ false)
+
+-- a line as it is kept
+abbrev pub kept_line : SequenceLine → Waiting
+kept_line line = record { text = line.text; ending = line.ending }
+
+-- a line waits only while neither input has ended, and after a header
+pub record Waits (stage : MaskStage) (line : SequenceLine) : Type 0 where
+  pub lines : stage.lines_ended ≡ false
+  pub bed : stage.bed_ended ≡ false
+  pub named : is_unnamed line.names ≡ false
+  -- a header has no bases before it
+  pub header : is_header line.text ≡ true → line.before ≡ 0
+
+-- The engine is at the stage, if this line was given last: what waits, what is wanted and what is held are
+-- those of the stage.
+pub record IsAtStage (stage : MaskStage) (last : Option SequenceLine) (m : Masking) : Type 0 where
+  pub waiting_is : m.waiting ≡ option_map kept_line stage.waiting
+  pub want_is : m.want ≡ want_at stage
+  pub bed_ended_is : m.bed_ended ≡ stage.bed_ended
+  pub waits : (line : SequenceLine) → stage.waiting ≡ Some line → Waits stage line
+  -- what is held is what the last line needs: after the end of the lines too,
+  -- if the records of each block rise
+  pub holds : (stage.lines_ended ≡ false) ⊎ AreInBlocks stage.taken
+      → m.window.held ≡ map extent_of (held_by last stage.taken)
+  -- no record was taken but those that left the last line undecided
+  pub is_open : stage.lines_ended ≡ false → IsOpen last stage.taken
+  -- each block taken belongs to a sequence
+  pub owned : is_some (left_after (reached_by last).names stage.taken) ≡ true
+  pub inside : KnowsStage stage last m
+
+-- the engine is at the stage
+abbrev pub MaskStandsAt : MaskStage → Masking → Type 0
+MaskStandsAt stage m = IsAtStage stage (last_or None (given stage)) m
+
+-- it is at the stage, and masks and names sequences like this
+pub record MaskMovesTo (how : MaskHow) (full : Bool) (stage : MaskStage)
+    (new : Masking) : Type 0 where
+  pub stands : MaskStandsAt stage new
+  pub how_is : new.how ≡ how
+  pub full_is : new.full ≡ full
+
+-- What the calls of a masking engine do.
 
 -- the bytes that are written when a line is given: its own if it is written at once,
 -- and else none
@@ -144,3 +191,114 @@ abbrev pub EndsCheck : {A : Type 0} → MaskHow → Bool → MaskStage → Outpu
 EndsCheck how full stage out (Ok done) new grown =
     MaskMovesTo how full (with_bed_ended stage) new × (grown ≡ out)
 EndsCheck how full stage out (Err fault) new grown = ⊥
+
+-- What a masking engine does with lines and records that are given together.
+
+-- a line may still be wanted before the next record
+abbrev pub asks_more : MaskWant → ℕ
+asks_more Line = 0
+asks_more Bed = 1
+asks_more Nothing = 0
+
+module _ (how : MaskHow) (full : Bool) where
+  -- Up to a stage lines were given and records taken, and all bytes that are settled were put.
+  pub record HasCome (old : MaskStage) (lines : List TextLine) (records : List Feature) (out : Output)
+      (mask : Masking) (grown : Output) : Type 0 where
+    pub stage : MaskStage
+    pub bytes : List ℕ
+    pub goes_on : GoesOn how full old lines records stage bytes
+    pub stands : MaskMovesTo how full stage mask
+    pub puts : Grown out bytes grown
+
+  -- lines that nothing masks weren't all written
+  pub record FailsToCopy (old : MaskStage) (lines : List TextLine) (out : Output) (fault : FaultValue)
+      (grown : Output) : Type 0 where
+    pub stage : MaskStage
+    pub bytes : List ℕ
+    pub goes_on : GoesOn how full old lines [] stage bytes
+    pub ahead_is : stage.ahead ≡ old.ahead
+    pub fails : FailsToAdd out bytes fault grown
+
+  -- the next line failed, or the next lines that nothing masks
+  abbrev pub FailsAtLines : MaskStage → List TextLine → Output → FaultValue → Output → Type 0
+  FailsAtLines stage lines out fault grown =
+      ((line : TextLine) × (lines ≡ line ∷ [])
+      × (RefusesLine how full stage line out fault grown
+      ⊎ FailsWithLine how full stage line out fault grown))
+      ⊎ FailsToCopy stage lines out fault grown
+
+  -- the next record, which is on this line, failed
+  abbrev pub FailsAtRecord : Option SequenceLine → MaskStage → Feature → ℕ → Output → FaultValue → Output
+      → Type 0
+  FailsAtRecord None stage r number out fault grown =
+      LacksSequence how full stage r number out fault grown
+  FailsAtRecord (Some waiting) stage r number out fault grown =
+      FailsToWriteLine how full stage waiting r out fault grown
+      ⊎ FailsToHoldRecord how full stage waiting r out fault grown
+
+module _ {C : Type 0} (gives : C → List Feature → C → Type 0) (line_at : C → ℕ)
+    (has_ended : C → Type 0) where
+  -- whatever record comes next, it is the one ahead, if one is known to be
+  abbrev pub ComesNext : Option Feature → C → Type 0
+  ComesNext ahead records = (r : Feature) (later : C) → gives records (r ∷ []) later → IsNext ahead r
+
+  -- the record ahead is the one that was, or it comes next after those that were taken
+  abbrev pub ComesAfter : Option Feature → C → List Feature → Option Feature → Type 0
+  ComesAfter was records taken ahead = (r : Feature) → ahead ≡ Some r
+      → ((was ≡ Some r) × (taken ≡ []))
+      ⊎ ((before : C) × (later : C) × gives records taken before × gives before (r ∷ []) later)
+
+  -- what is wanted isn't available
+  abbrev pub StopsAt : MaskWant → BufferedLines → C → Type 0
+  StopsAt Line lines records = lines_in lines ≡ []
+  StopsAt Bed lines records = has_ended records
+  StopsAt Nothing lines records = ⊤
+
+  module _ (how : MaskHow) (full : Bool) (old : MaskStage) (lines : List TextLine)
+      (taken : List Feature) (out : Output) (from : C) where
+    -- what was given last failed, after the lines before it: lines, or the record that comes next
+    pub record FailsAfter (fault : FaultValue) (records : C) (grown : Output) : Type 0 where
+      pub before : List TextLine
+      pub failing : List TextLine
+      pub parts : lines ≡ before ++ failing
+      pub mask : Masking
+      pub through : Output
+      pub comes : HasCome how full old before taken out mask through
+      pub next : ComesNext comes.stage.ahead records
+      pub after : ComesAfter old.ahead from taken comes.stage.ahead
+      pub fails : ((want_at comes.stage ≡ Line)
+          × FailsAtLines how full comes.stage failing through fault grown)
+          ⊎ ((r : Feature) × (later : C) × (failing ≡ []) × (want_at comes.stage ≡ Bed)
+          × gives records (r ∷ []) later
+          × FailsAtRecord how full comes.stage.waiting comes.stage r (line_at later) through fault grown)
+
+    -- what the result says
+    abbrev pub BothCome : {A : Type 0} → Result A Fault → Masking → C → Output → Type 0
+    BothCome (Ok done) new records grown =
+        (comes : HasCome how full old lines taken out new grown)
+        × ComesNext comes.stage.ahead records × ComesAfter old.ahead from taken comes.stage.ahead
+    BothCome (Err fault) new records grown =
+        (new.want ≡ Nothing) × FailsAfter (fault_value fault) records grown
+
+  -- lines and records were given, one after another
+  pub record GivesBoth {A : Type 0} (old : Masking) (lines : BufferedLines) (records : C)
+      (out : Output) (answer : Result A Fault) (new : Masking) (lines_left : BufferedLines)
+      (records_left : C) (grown : Output) : Type 0 where
+    pub texts : List TextLine
+    pub passes : PassesLines lines texts lines_left
+    pub taken : List Feature
+    pub given : gives records taken records_left
+    pub comes : (stage : MaskStage) → MaskStandsAt stage old
+        → ComesNext stage.ahead records
+        → BothCome old.how old.full stage texts taken out records answer new records_left grown
+
+-- nothing is taken and nothing is written
+abbrev pub Stays : {C : Type 0} → Masking → BufferedLines → C → Output → Masking → BufferedLines → C
+    → Output → Type 0
+Stays old lines records out new lines_left records_left grown =
+    (new ≡ old) × (lines_left ≡ lines) × (records_left ≡ records) × (grown ≡ out)
+
+-- how much may be given: it falls with each line and each record
+abbrev pub left_to_give : {C : Type 0} → (C → ℕ) → Masking → BufferedLines → C → ℕ
+left_to_give room mask lines records =
+    2 * (length (lines_in lines) + room records) + asks_more mask.want

@@ -1,13 +1,10 @@
 -- Alignments, columns and blocks that are borrowed, as the definitions see them, and a converter.
-use Rattle.std.specs.Prelude.{◌≡◌, ℕ, Bool, List, [], ◌∷◌, ◌++◌, map, Option, Some, None, Result, Ok}
-use Rattle.std.specs.Prelude.{Err, option_map, option_to_list}
-use Rattle.bt_bed.specs.model.feature.Interval.{Span}
+use Rattle.std.specs.Prelude.{◌≡◌, ℕ, Bool, List, [], ◌∷◌, ◌++◌, map, Option, Some, None, Result, Ok, Err, option_map, option_to_list}
+use Rattle.bt_bed.specs.model.Feature.{Span}
 use Rattle.bt_lines.specs.model.Fault.{FaultValue}
 use Rattle.bt_lines.specs.model.Lines.{pieces}
 use Rattle.bt_lines.specs.declared.fault.Kind.{Kind}
-use Rattle.bt_seq.specs.model.Alignment.{Alignment, Fields}
-use Rattle.bt_seq.specs.model.AlignmentBlocks.{blocks_in}
-use Rattle.bt_seq.specs.model.Cigar.{operations_in}
+use Rattle.bt_seq.specs.model.Alignment.{Alignment, Fields, blocks_in, operations_in}
 use Rattle.bt_seq.specs.declared.sam.block_iter.SamBlocks.{SamBlocks}
 use Rattle.bt_seq.specs.declared.sam.fields.Fields.{Fields as FieldsRef}
 use Rattle.bt_seq.specs.declared.sam.SamRef.{SamRef}

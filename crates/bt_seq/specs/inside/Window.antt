@@ -1,6 +1,5 @@
 -- The bases of the line given last, and the parts of records that reach into them.
-use Rattle.std.specs.Prelude.{ℕ, suc, ◌+◌, ◌&&◌, Bool, List, [], ◌∷◌, filter, min, nat_le, nat_lt}
-use Rattle.std.specs.Prelude.{if◌then◌else◌}
+use Rattle.std.specs.Prelude.{ℕ, suc, ◌+◌, ◌&&◌, Bool, List, [], ◌∷◌, filter, min, nat_le, nat_lt, if◌then◌else◌}
 use Rattle.std.specs.List.{list_any}
 use Rattle.bt_seq.specs.model.Masked.{masked_byte}
 use Rattle.bt_seq.specs.declared.mask.mask_how.MaskHow.{MaskHow}

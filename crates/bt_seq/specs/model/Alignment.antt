@@ -1,15 +1,101 @@
+-- Alignments of a SAM input, their blocks, and their BED lines.
+use Rattle.std.specs.Prelude.{◌≡◌, ℕ, ◌+◌, ◌==◌, ◌||◌, Bool, List, [], ◌∷◌, codes, bytes_eq, min, sum_by, Option, Some, None, option_and_then, option_map, if◌then◌else◌, ◌-◌, true, length, bit_and, nat_le, nat_lt, not, Result, Ok, Err, ◌++◌, flat_map, decimal, ⊤, false}
+use Rattle.bt_lines.specs.model.Lines.{value_of, pieces, max_number, Handed}
+use Rattle.bt_seq.specs.declared.sam.operation.Operation.{Operation}
+use Rattle.bt_lines.specs.declared.fault.Kind.{Kind}
+use Rattle.bt_lines.specs.declared.fault.Kind.TheVariants.{TooFewColumns, EmptyName, BadFlag, BadPosition, BadQuality, BadCigar, StopTooLarge}
+use Rattle.std.specs.List.{take_while, join_with_byte}
+use Rattle.bt_bed.specs.model.Feature.{Span, is_of_line}
+use Rattle.bt_lines.specs.declared.fault.Input.{Input}
+use Rattle.bt_bed.specs.model.Good.{Format, Good, good_handed}
+
+-- CIGAR strings (Sequence Alignment/Map Format Specification, section 1.4, field 6): `*`, or one or
+-- more operations, each a number and a letter. The laws on them are in `sequences` of bt_laws.
+
+-- the letters of operations: M, I, D, N, S, H, P, = and X
+abbrev pub is_letter : ℕ → Bool
+is_letter byte =
+    (byte == 77) || (byte == 73) || (byte == 68) || (byte == 78) || (byte == 83) || (byte == 72)
+    || (byte == 80) || (byte == 61) || (byte == 88)
+
+-- the letters of the operations that consume reference bases: M, D, N, = and X
+abbrev pub consumes_reference : ℕ → Bool
+consumes_reference letter =
+    (letter == 77) || (letter == 68) || (letter == 78) || (letter == 61) || (letter == 88)
+
+-- how many reference bases an operation covers
+abbrev pub covered_by : Operation → ℕ
+covered_by operation = if consumes_reference operation.letter then operation.length else 0
+
+-- how many reference bases operations cover
+abbrev pub reference_length : List Operation → ℕ
+reference_length operations = sum_by covered_by operations
+
+-- a part of a text: some bytes, and the letter after them
+pub record Part : Type 0 where
+  pub digits : List ℕ
+  pub letter : ℕ
+
+-- a part before others
+abbrev pub with_part : Part → Option (List Part) → Option (List Part)
+with_part part parts = option_map (λ others. part ∷ others) parts
+
+-- a byte before the first of the parts, if there is one
+abbrev pub onto_part : ℕ → Option (List Part) → Option (List Part)
+onto_part byte None = None
+onto_part byte (Some []) = None
+onto_part byte (Some (part ∷ parts)) =
+    Some (record { digits = byte ∷ part.digits; letter = part.letter } ∷ parts)
+
+-- the parts of a text that is cut after each letter; there are none if bytes are left after
+-- the last letter
+abbrev pub parts_of : List ℕ → Option (List Part)
+parts_of [] = Some []
+parts_of (byte ∷ bytes) =
+    if is_letter byte then with_part (record { digits = []; letter = byte }) (parts_of bytes)
+    else onto_part byte (parts_of bytes)
+
+-- the operation of a part whose digits denote a number
+abbrev pub operation_of : Part → Option Operation
+operation_of part =
+    option_map (λ length. record { length = length; letter = part.letter }) (value_of part.digits)
+
+-- an operation before others, if all are there
+abbrev pub with_operation : Option Operation → Option (List Operation) → Option (List Operation)
+with_operation operation operations =
+    option_and_then (λ first. option_map (λ others. first ∷ others) operations) operation
+
+-- the operations of parts, if each has one
+abbrev pub each_operation : List Part → Option (List Operation)
+each_operation [] = Some []
+each_operation (part ∷ parts) = with_operation (operation_of part) (each_operation parts)
+
+-- the operations of a text that can be divided into numbers and letters
+unfoldable pub operations_in : List ℕ → Option (List Operation)
+operations_in text = option_and_then each_operation (parts_of text)
+
+-- The operations of a CIGAR, if it is well formed: none for `*`, which says that there is no
+-- information, and else at least one.
+abbrev pub operations_of : List ℕ → Option (List Operation)
+operations_of [] = None
+operations_of (byte ∷ bytes) =
+    if bytes_eq (byte ∷ bytes) (codes "*") then Some [] else operations_in (byte ∷ bytes)
+
+-- the reference length of a CIGAR, if it is well formed
+abbrev pub length_of : List ℕ → Option ℕ
+length_of cigar = option_map reference_length (operations_of cigar)
+
+-- the smaller of a reference length, with `more` bases beside it, and a million million
+abbrev pub span_with : ℕ → Option (List Operation) → Option ℕ
+span_with more operations =
+    option_map (λ os. min (more + reference_length os) 1000000000000) operations
+
+-- the CIGAR is well formed, and the end is the start and its reference length
+abbrev pub EndsAt : List ℕ → ℕ → ℕ → Type 0
+EndsAt cigar start stop = option_map (λ length. start + length) (length_of cigar) ≡ Some stop
+
 -- What a line of a SAM file says: nothing, an alignment, or what is wrong with it (Sequence
 -- Alignment/Map Format Specification, section 1.3 for header lines, 1.4 for the mandatory fields).
-use Rattle.std.specs.Prelude.{ℕ, ◌+◌, ◌-◌, ◌==◌, ◌||◌, Bool, true, List, [], ◌∷◌, codes, length}
-use Rattle.std.specs.Prelude.{bit_and, bytes_eq, nat_le, nat_lt, not, option_and_then, Option, Some}
-use Rattle.std.specs.Prelude.{None, Result, Ok, Err, if◌then◌else◌}
-use Rattle.bt_lines.specs.model.Lines.{pieces}
-use Rattle.bt_lines.specs.model.Number.{max_number, value_of}
-use Rattle.bt_lines.specs.declared.fault.Kind.{Kind}
-use Rattle.bt_lines.specs.declared.fault.Kind.TheVariants.{TooFewColumns, EmptyName, BadFlag}
-use Rattle.bt_lines.specs.declared.fault.Kind.TheVariants.{BadPosition, BadQuality, BadCigar}
-use Rattle.bt_lines.specs.declared.fault.Kind.TheVariants.{StopTooLarge}
-use Rattle.bt_seq.specs.model.Cigar.{length_of}
 
 -- an alignment that gives BED lines
 pub record Alignment : Type 0 where
@@ -118,3 +204,127 @@ is_skipped (byte ∷ bytes) = byte == 64
 -- what a line's text says
 unfoldable pub alignment_of : List ℕ → Result (Option Alignment) Kind
 alignment_of text = if is_skipped text then Ok None else fields_say (fields_of (pieces 9 text))
+
+-- The blocks of an alignment, one for each maximal list of its operations without N. An N is a
+-- region of the reference that the read skips (Sequence Alignment/Map Format Specification, section
+-- 1.4, field 6; bedtools manual, bamtobed, option -split).
+
+-- whether an operation is an N
+abbrev pub is_skip : Operation → Bool
+is_skip operation = operation.letter == 78
+
+-- a place among operations: those before it, and those from it on
+pub record Cut : Type 0 where
+  pub before : List Operation
+  pub behind : List Operation
+
+-- all places among operations, with these before the first of them
+abbrev pub cuts : List Operation → List Operation → List Cut
+cuts before [] = record { before = before; behind = [] } ∷ []
+cuts before (operation ∷ operations) =
+    record { before = before; behind = operation ∷ operations }
+    ∷ cuts (before ++ operation ∷ []) operations
+
+-- whether a block begins after these operations: there are none, or the last of them is an N
+abbrev pub begins_block : List Operation → Bool
+begins_block [] = true
+begins_block (operation ∷ []) = is_skip operation
+begins_block (operation ∷ next ∷ operations) = begins_block (next ∷ operations)
+
+-- the operations up to the next N
+abbrev pub up_to_skip : List Operation → List Operation
+up_to_skip operations = take_while (λ operation. not (is_skip operation)) operations
+
+-- a span of the reference, if it has a base
+abbrev pub with_bases : ℕ → ℕ → List Span
+with_bases start stop = if nat_lt start stop then record { start = start; stop = stop } ∷ [] else []
+
+-- The block that begins at a place, if one does and it has a base. It lies after the reference
+-- bases of all operations before it, and goes on up to the next N.
+abbrev pub block_at : ℕ → Cut → List Span
+block_at start cut =
+    if begins_block cut.before
+    then with_bases (start + reference_length cut.before)
+    (start + reference_length cut.before + reference_length (up_to_skip cut.behind)) else []
+
+-- the blocks of operations that lie from a place of the reference on
+unfoldable pub blocks_of : ℕ → List Operation → List Span
+blocks_of start operations = flat_map (block_at start) (cuts [] operations)
+
+abbrev pub blocks_in : ℕ → Option (List Operation) → List Span
+blocks_in start None = []
+blocks_in start (Some operations) = blocks_of start operations
+
+-- The spans of the reference that are written of an alignment: its blocks if it is cut at each
+-- N, and else all of it from its first base to its last.
+abbrev pub alignment_blocks : Bool → Alignment → List Span
+alignment_blocks split a =
+    if split then blocks_in a.start (operations_of a.cigar)
+    else record { start = a.start; stop = a.stop } ∷ []
+
+-- The BED lines of an alignment (UCSC BED description, fields chrom to strand; bedtools manual,
+-- bamtobed, options -split and -cigar).
+
+-- a text, if it is requested
+abbrev pub text_if : Bool → List ℕ → List ℕ
+text_if asked text = if asked then text else []
+
+-- the name of the read, with `/1` for the first segment of a template, and then `/2` for the last
+abbrev pub read_name : Alignment → List ℕ
+read_name a = a.name ++ (text_if a.first (codes "/1") ++ text_if a.last (codes "/2"))
+
+abbrev pub strand_sign : Bool → List ℕ
+strand_sign reverse = if reverse then codes "-" else codes "+"
+
+-- the columns of a block of an alignment: chromosome, start, end, name, mapping quality and strand,
+-- and the whole CIGAR if it is requested
+abbrev pub bed_columns : Bool → Alignment → Span → List (List ℕ)
+bed_columns with_cigar a block =
+    a.chrom ∷ decimal block.start ∷ decimal block.stop ∷ read_name a ∷ decimal a.quality
+    ∷ strand_sign a.reverse ∷ (if with_cigar then a.cigar ∷ [] else [])
+
+-- its line: the columns with tabs between them, and a line feed
+abbrev pub bed_line : Bool → Alignment → Span → List ℕ
+bed_line with_cigar a block = join_with_byte 9 (bed_columns with_cigar a block) ++ codes "\n"
+
+-- the lines of an alignment, one for each of its blocks
+abbrev pub bed_lines : Bool → Bool → Alignment → List ℕ
+bed_lines split with_cigar a = flat_map (bed_line with_cigar a) (alignment_blocks split a)
+
+-- The good alignments of a SAM input (Sequence Alignment/Map Format Specification, section 1).
+
+-- each line says its alignment independently: the alignments come in any order,
+-- and nothing is known of those before
+abbrev pub sam_format : Format Alignment ⊤
+sam_format = record {
+  begin = tt;
+  says = λ known line. alignment_of line.text;
+  after = λ known a. known;
+}
+
+-- what is good of a SAM input: the alignments before the first line at fault,
+-- and the fault of that line
+abbrev pub sam_good : Input → Handed → Good Alignment
+sam_good input handed = good_handed sam_format input handed
+
+-- Faults of a line of a SAM file.
+
+-- whether a line of a SAM file can be at fault so
+abbrev pub is_sam_kind : Kind → Bool
+is_sam_kind TooFewColumns = true
+is_sam_kind EmptyName = true
+is_sam_kind BadFlag = true
+is_sam_kind BadPosition = true
+is_sam_kind BadQuality = true
+is_sam_kind BadCigar = true
+is_sam_kind StopTooLarge = true
+is_sam_kind _ = false
+
+-- what is wrong with a line is such a kind
+abbrev pub wrong_have_sam_kinds : Type 0
+wrong_have_sam_kinds =
+    (text : List ℕ) (kind : Kind) → alignment_of text ≡ Err kind → is_sam_kind kind ≡ true
+
+-- and lies at a line
+abbrev pub sam_kinds_are_of_lines : Type 0
+sam_kinds_are_of_lines = (kind : Kind) → is_sam_kind kind ≡ true → is_of_line kind ≡ true

@@ -3,8 +3,8 @@
 ghost use Rattle.std.specs.Prelude.{◌≡◌, flat_map, IfErr, IsErr, OnOk, None, Some, true};
 ghost use Rattle.bt_lines.specs.model.Fault.{FaultValue, write_failed};
 ghost use Rattle.bt_lines.specs.calls.Names.{fault_value};
-ghost use Rattle.bt_lines.specs.calls.Putting.{Adds};
-ghost use Rattle.bt_seq.specs.model.BedLines.{bed_lines};
+ghost use Rattle.bt_lines.specs.calls.Output.{Adds};
+ghost use Rattle.bt_seq.specs.model.Alignment.{bed_lines};
 ghost use Rattle.bt_seq.specs.calls.Sam.{alignment_lent};
 
 use crate::bamtobed::bed_line::put_line;
@@ -75,7 +75,7 @@ impl BamToBed {
 }
 
 // Puts the line of each block of an alignment.
-#[tactic(auto, using(crate::proofs::lemmas::bamtobed::LineLemmas::adds_line))]
+#[tactic(auto, using(crate::proofs::lemmas::BamToBed::adds_line))]
 fn put_lines<K: Sink>(
     sam: &SamRef<'_>,
     split: bool,
@@ -91,7 +91,7 @@ fn put_lines<K: Sink>(
 }
 
 // Puts the line of each block of an alignment that is cut at each N.
-#[tactic(auto, using(std::proofs::lemmas::Result::err_from_is_err_and, crate::proofs::lemmas::bamtobed::LineLemmas::cut_line))]
+#[tactic(auto, using(std::proofs::lemmas::Result::err_from_is_err_and, crate::proofs::lemmas::BamToBed::cut_line))]
 #[inline(never)]
 fn put_blocks<K: Sink>(sam: &SamRef<'_>, with_cigar: bool, out: &mut Out<K>) -> Result<(), Fault>
     ensures { Adds out.old.output (bed_lines true with_cigar (alignment_lent sam.now)) result out.new.output }

@@ -2,7 +2,7 @@
 
 ghost use Rattle.std.specs.Prelude.{◌≡◌, ◌++◌};
 ghost use Rattle.bt_lines.specs.model.Lines.{end_bytes};
-ghost use Rattle.bt_lines.specs.calls.Putting.{Adds};
+ghost use Rattle.bt_lines.specs.calls.Output.{Adds};
 
 use bt_lines::{Fault, LineEnd, Out, Sink, put_line};
 
@@ -18,7 +18,7 @@ pub(crate) fn put_text<K: Sink>(text: &[u8], ending: LineEnd, out: &mut Out<K>) 
 }
 
 // The same for any line end.
-#[tactic(auto, using(crate::proofs::lemmas::bamtobed::TextLemmas::some_put))]
+#[tactic(auto, using(crate::proofs::lemmas::BamToBed::some_put))]
 #[cold]
 #[inline(never)]
 fn put_ended<K: Sink>(text: &[u8], ending: LineEnd, out: &mut Out<K>) -> Result<(), Fault>

@@ -22,7 +22,7 @@ pub(crate) struct CopyThrough<'a> {
 impl<'a> CopyThrough<'a> {
     ghost use Rattle.std.specs.Prelude.{◌≡◌, List, true, false};
     ghost use Rattle.bt_lines.specs.model.Lines.{TextLine};
-    ghost use Rattle.bt_seq.specs.inside.CopyThrough.{CopiesLine, CopiesLines};
+    ghost use Rattle.bt_seq.specs.inside.Masking.{CopiesLine, CopiesLines};
 
     // Consumes the lines that are no headers and have their bases up to this one, up to the first that isn't such a line.
     // It is out of line, so that the loop stays small.

@@ -2,7 +2,7 @@
 
 ghost use Rattle.std.specs.Prelude.{◌≡◌, ◌≤◌, length, not, take, true};
 ghost use Rattle.std.specs.List.{take_while};
-ghost use Rattle.bt_seq.specs.model.Sequences.{ends_name, is_header, name_in};
+ghost use Rattle.bt_seq.specs.model.Masked.{ends_name, is_header, name_in};
 
 use bt_lines::length_before;
 
@@ -26,7 +26,7 @@ pub(crate) fn name_in(full: bool, text: &[u8]) -> &[u8]
 }
 
 // How many bytes there are before the first space or tab, or in all.
-#[tactic(auto, using(crate::proofs::lemmas::mask::bases::NameLemmas::name_within))]
+#[tactic(auto, using(crate::proofs::lemmas::mask::bases::MaskingLemmas::name_within))]
 fn name_length(text: &[u8]) -> usize
     ensures within { result ≤ length text.now }
     ensures name { take result text.now ≡ take_while (λ byte. not (ends_name byte)) text.now }

@@ -19,7 +19,7 @@ pub enum MaskHow {
 }
 
 /// Masks bases in place, each byte independently. It doesn't allocate.
-#[tactic(auto, using(crate::proofs::lemmas::mask::bases::LaneLemmas::masked_rest))]
+#[tactic(auto, using(crate::proofs::lemmas::mask::bases::MaskingLemmas::masked_rest))]
 pub fn mask_slice(bases: &mut [u8], how: MaskHow)
     ensures { bases.new ≡ map (masked_byte how) bases.old }
 {
@@ -28,7 +28,7 @@ pub fn mask_slice(bases: &mut [u8], how: MaskHow)
 }
 
 // Masks as many bases as fill whole vectors, and returns how many those are.
-#[tactic(auto, using(crate::proofs::lemmas::mask::bases::LaneLemmas::masked_more))]
+#[tactic(auto, using(crate::proofs::lemmas::mask::bases::MaskingLemmas::masked_more))]
 #[inline(always)]
 fn mask_by_lanes(bases: &mut [u8], how: MaskHow) -> usize
     ensures within { result ≤ length bases.old }

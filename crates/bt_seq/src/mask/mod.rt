@@ -12,14 +12,12 @@ pub(crate) mod window;
 ghost use Rattle.std.specs.Prelude.{◌≡◌, ◌<◌, ◌⊎◌, [], Bool, None, OnErr, OnOk, Some, false, length, true};
 ghost use Rattle.std.specs.List.{last_or};
 ghost use Rattle.bt_bed.specs.calls.Bed.{feature_lent};
-ghost use Rattle.bt_bed.specs.model.input.GoodBlocks.{AreInBlocks};
-ghost use Rattle.bt_lines.specs.calls.LentLine.{line_seen};
+ghost use Rattle.bt_bed.specs.model.Good.{AreInBlocks};
+ghost use Rattle.bt_lines.specs.calls.Columns.{line_seen};
 ghost use Rattle.bt_lines.specs.declared.reader.buffered_lines.BufferedLines.{BufferedLines};
 ghost use Rattle.bt_seq.specs.calls.MaskStage.{IsNext, MaskStage, first_stage, given, held_by, want_at, with_lines_ended};
-ghost use Rattle.bt_seq.specs.calls.MaskStanding.{MaskMovesTo, MaskStandsAt};
-ghost use Rattle.bt_seq.specs.calls.MaskAdvance.{GivesBoth, Stays, StopsAt, left_to_give};
-ghost use Rattle.bt_seq.specs.calls.MaskSteps.{ChecksRecord, EndsCheck, EndsRecords, GivesNextLine, GivesBed};
-ghost use Rattle.bt_seq.specs.model.Sequences.{SequenceLine};
+ghost use Rattle.bt_seq.specs.calls.MaskSteps.{MaskMovesTo, MaskStandsAt, GivesBoth, Stays, StopsAt, left_to_give, ChecksRecord, EndsCheck, EndsRecords, GivesNextLine, GivesBed};
+ghost use Rattle.bt_seq.specs.model.Masked.{SequenceLine};
 
 use crate::mask::mask_how::MaskHow;
 use crate::mask::mask_state::MaskState;
@@ -42,7 +40,7 @@ pub struct Mask {
 }
 
 impl Model for Mask {
-    ghost use Rattle.bt_seq.specs.calls.MaskState.{Masking};
+    ghost use Rattle.bt_seq.specs.calls.MaskStage.{Masking};
 
     ghost Value = { Masking };
 
@@ -84,7 +82,7 @@ impl Mask {
     /// decides it. Else it waits. It fails with `TextBeforeHeader` if it has text before the first
     /// header, and with `WriteFailed` if it can't be written. It fails with `NoMemory` if a header can't
     /// be named, or a line that waits or is to be masked can't be kept.
-    #[tactic(auto, using(crate::proofs::lemmas::mask::steps::LineStepLemmas::gives_line, crate::proofs::lemmas::mask::steps::StandLemmas::stays_at))]
+    #[tactic(auto, using(crate::proofs::lemmas::mask::steps::LineStepLemmas::gives_line, crate::proofs::lemmas::mask::steps::CopyLemmas::stays_at))]
     pub fn give_line<K: Sink>(&mut self, line: &Line<'_>, out: &mut Out<K>) -> Result<(), Fault>
         requires { self.old.want ≡ MaskWant.Line }
         ensures gives { (stage : MaskStage) → MaskStandsAt stage self.old
@@ -209,7 +207,7 @@ impl Mask {
 
     /// Takes the end of the records, and writes the line that waits. It fails with `WriteFailed` if
     /// that can't be written.
-    #[tactic(auto, using(crate::proofs::lemmas::mask::steps::BedStepLemmas::ends_bed, crate::proofs::lemmas::mask::steps::BedStepLemmas::kept_is, crate::proofs::lemmas::mask::steps::StandLemmas::stays_at))]
+    #[tactic(auto, using(crate::proofs::lemmas::mask::steps::BedStepLemmas::ends_bed, crate::proofs::lemmas::mask::steps::BedStepLemmas::kept_is, crate::proofs::lemmas::mask::steps::CopyLemmas::stays_at))]
     pub fn end_bed<K: Sink>(&mut self, out: &mut Out<K>) -> Result<(), Fault>
         requires { self.old.want ≡ MaskWant.Bed }
         ensures waits { (stage : MaskStage) (waiting : SequenceLine)

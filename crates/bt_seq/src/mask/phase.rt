@@ -17,7 +17,7 @@ pub(crate) enum Phase {
 
 impl Phase {
     ghost use Rattle.std.specs.Prelude.{◌≡◌};
-    ghost use Rattle.bt_seq.specs.inside.Phase.{waits_in, want_in};
+    ghost use Rattle.bt_seq.specs.inside.Masking.{waits_in, want_in};
 
     // What is wanted.
     pub(crate) fn want(self) -> MaskWant

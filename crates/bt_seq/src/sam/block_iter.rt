@@ -1,7 +1,7 @@
 //! The blocks of an alignment, one after another.
 
-ghost use Rattle.bt_seq.specs.model.Cigar.{operations_in};
-ghost use Rattle.bt_seq.specs.inside.CigarSteps.{FitBehind};
+ghost use Rattle.bt_seq.specs.model.Alignment.{operations_in};
+ghost use Rattle.bt_seq.specs.inside.Sam.{FitBehind};
 
 use crate::sam::SamRef;
 use crate::sam::first_block::first_block;
@@ -20,11 +20,11 @@ pub struct SamBlocks<'a> {
 
 impl<'a> SamBlocks<'a> {
     ghost use Rattle.std.specs.Prelude.{◌≡◌};
-    ghost use Rattle.bt_seq.specs.model.AlignmentBlocks.{alignment_blocks};
+    ghost use Rattle.bt_seq.specs.model.Alignment.{alignment_blocks};
     ghost use Rattle.bt_seq.specs.calls.Sam.{alignment_lent, blocks_left};
 
     // The blocks of an alignment.
-    #[tactic(auto, using(crate::proofs::lemmas::sam::BlockLemmas::no_blocks, crate::proofs::lemmas::sam::BlockLemmas::nothing_fits))]
+    #[tactic(auto, using(crate::proofs::lemmas::Sam::no_blocks, crate::proofs::lemmas::Sam::nothing_fits))]
     pub(crate) fn new(sam: &SamRef<'a>, split: bool) -> SamBlocks<'a>
         ensures { blocks_left result ≡ alignment_blocks split (alignment_lent sam.now) }
     {
@@ -53,7 +53,7 @@ impl<'a> Iterator for SamBlocks<'a> {
 
     ghost remaining = { item_count blocks_left };
 
-    #[tactic(auto, using(crate::proofs::lemmas::sam::BlockLemmas::no_blocks))]
+    #[tactic(auto, using(crate::proofs::lemmas::Sam::no_blocks))]
     fn next(&mut self) -> Option<(u64, u64)> {
         if let Some(block) = self.whole {
             self.whole = None;

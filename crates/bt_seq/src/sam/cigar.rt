@@ -1,8 +1,8 @@
 //! CIGAR strings: how an alignment goes along the reference.
 
 ghost use Rattle.std.specs.Prelude.{◌≡◌, IfSome, Some, min, option_map};
-ghost use Rattle.bt_seq.specs.model.Cigar.{consumes_reference, covered_by, is_letter, operations_in, operations_of, span_with};
-ghost use Rattle.bt_seq.specs.inside.CigarSteps.{IsFirst, IsWithin};
+ghost use Rattle.bt_seq.specs.model.Alignment.{consumes_reference, covered_by, is_letter, operations_in, operations_of, span_with};
+ghost use Rattle.bt_seq.specs.inside.Sam.{IsFirst, IsWithin};
 
 use crate::sam::operation::Operation;
 use crate::sam::sam_text::number_in;
@@ -58,7 +58,7 @@ fn single_span(text: &[u8]) -> Option<u64>
 }
 
 // The same, one operation after another.
-#[tactic(auto, using(crate::proofs::lemmas::sam::CigarLemmas::covered_within, crate::proofs::lemmas::sam::CigarLemmas::span_end))]
+#[tactic(auto, using(crate::proofs::lemmas::Sam::covered_within, crate::proofs::lemmas::Sam::span_end))]
 #[inline(always)]
 fn operations_span(text: &[u8]) -> Option<u64>
     ensures { result ≡ span_with 0 (operations_in text.now) }
@@ -75,7 +75,7 @@ fn operations_span(text: &[u8]) -> Option<u64>
 
 // The first operation of a text, and what follows it. There is none if the text is empty or
 // doesn't begin with an operation.
-#[tactic(auto, using(bt_lines::proofs::lemmas::numbers::NumberLemmas::digits_more, bt_lines::proofs::lemmas::numbers::NumberLemmas::value_more, crate::proofs::lemmas::sam::CigarLemmas::digits_alone, crate::proofs::lemmas::sam::CigarLemmas::no_operation_at_all, crate::proofs::lemmas::sam::CigarLemmas::other_byte))]
+#[tactic(auto, using(bt_lines::proofs::lemmas::numbers::NumberLemmas::digits_more, bt_lines::proofs::lemmas::numbers::NumberLemmas::value_more, crate::proofs::lemmas::Sam::digits_alone, crate::proofs::lemmas::Sam::no_operation_at_all, crate::proofs::lemmas::Sam::other_byte))]
 pub(crate) fn first_operation(text: &[u8]) -> Option<(Operation, &[u8])>
     ensures first { IsFirst text.now result }
     ensures within { IsWithin text.now result }

@@ -13,7 +13,7 @@ pub(crate) struct Extent {
 }
 
 // Masks those bases that an extent covers. The first base has this position.
-#[tactic(auto, using(crate::proofs::lemmas::sam::ExtentLemmas::none_masked))]
+#[tactic(auto, using(crate::proofs::lemmas::Sam::none_masked))]
 pub(crate) fn mask_extents(bases: &mut [u8], position: u64, extents: &[Extent], how: MaskHow)
     ensures { bases.new ≡ masked_in how extents.now position bases.old }
 {
@@ -23,7 +23,7 @@ pub(crate) fn mask_extents(bases: &mut [u8], position: u64, extents: &[Extent], 
 }
 
 // The same for one.
-#[tactic(auto, using(crate::proofs::lemmas::sam::ExtentLemmas::masked_between, crate::proofs::lemmas::sam::ExtentLemmas::masked_nowhere))]
+#[tactic(auto, using(crate::proofs::lemmas::Sam::masked_between, crate::proofs::lemmas::Sam::masked_nowhere))]
 fn mask_extent(bases: &mut [u8], position: u64, extent: Extent, how: MaskHow)
     ensures { bases.new ≡ masked_in how (extent ∷ []) position bases.old }
 {

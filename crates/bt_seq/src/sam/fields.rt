@@ -75,7 +75,7 @@ fn has_tab(text: &[u8]) -> bool
 }
 
 // The first column of a text, and what follows its tab, if it has one.
-#[tactic(auto, using(std::proofs::lemmas::List::take_rest, bt_lines::proofs::lemmas::reader::lines::PiecesLemmas::before_tab, bt_lines::proofs::lemmas::reader::lines::PiecesLemmas::without_tab))]
+#[tactic(auto, using(std::proofs::lemmas::List::take_rest, bt_lines::proofs::lemmas::reader::lines::TextLemmas::before_tab, bt_lines::proofs::lemmas::reader::lines::TextLemmas::without_tab))]
 #[inline(always)]
 fn cut_column(text: &[u8]) -> Option<(&[u8], &[u8])>
     ensures { IsCut text.now result }

@@ -1,9 +1,8 @@
 //! The first block of a text of operations.
 
 ghost use Rattle.std.specs.Prelude.{◌≡◌, ◌++◌, ◌<◌, length};
-ghost use Rattle.bt_seq.specs.model.AlignmentBlocks.{blocks_in, with_bases};
-ghost use Rattle.bt_seq.specs.model.Cigar.{operations_in};
-ghost use Rattle.bt_seq.specs.inside.CigarSteps.{FitBehind};
+ghost use Rattle.bt_seq.specs.model.Alignment.{blocks_in, with_bases, operations_in};
+ghost use Rattle.bt_seq.specs.inside.Sam.{FitBehind};
 
 use crate::sam::cigar::{covered_by, first_operation};
 
@@ -20,7 +19,7 @@ pub(crate) struct FirstBlock<'a> {
 }
 
 // The first block of a text of operations that lie from `start` on, with a base or without one.
-#[tactic(auto, using(crate::proofs::lemmas::sam::BlockLemmas::blocks_open_in, crate::proofs::lemmas::sam::BlockLemmas::is_skip_by, crate::proofs::lemmas::sam::BlockLemmas::open_in, crate::proofs::lemmas::sam::BlockLemmas::block_ends, crate::proofs::lemmas::sam::BlockLemmas::block_is_last))]
+#[tactic(auto, using(crate::proofs::lemmas::Sam::blocks_open_in, crate::proofs::lemmas::Sam::is_skip_by, crate::proofs::lemmas::Sam::open_in, crate::proofs::lemmas::Sam::block_ends, crate::proofs::lemmas::Sam::block_is_last))]
 pub(crate) fn first_block(text: &[u8], start: u64) -> FirstBlock<'_>
     requires { FitBehind start (operations_in text.now) }
     ensures blocks { blocks_in start (operations_in text.now)

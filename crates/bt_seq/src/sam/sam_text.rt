@@ -1,7 +1,7 @@
 //! What a line of a SAM file says.
 
 ghost use Rattle.std.specs.Prelude.{◌≡◌, ◌≤◌, ◌∷◌, [], Some, length, take};
-ghost use Rattle.bt_lines.specs.model.Number.{value_of};
+ghost use Rattle.bt_lines.specs.model.Lines.{value_of};
 ghost use Rattle.bt_seq.specs.model.Alignment.{alignment_of, fields_say, gives_nothing, has_bit, is_skipped, up_to, value_up_to};
 ghost use Rattle.bt_seq.specs.calls.Sam.{alignment_seen, fields_lent};
 
@@ -110,7 +110,7 @@ pub(crate) fn number_in(text: &[u8]) -> Option<u64>
 }
 
 // The number that a digit denotes.
-#[tactic(auto, unfolding(bt_lines::specs::model::Number::value_of))]
+#[tactic(auto, unfolding(bt_lines::specs::model::Lines::value_of))]
 fn one_digit(ones: u8) -> Option<u64>
     ensures { result ≡ value_of (ones ∷ []) }
 {
@@ -121,7 +121,7 @@ fn one_digit(ones: u8) -> Option<u64>
 }
 
 // The number that two digits denote.
-#[tactic(auto, unfolding(bt_lines::specs::model::Number::value_of))]
+#[tactic(auto, unfolding(bt_lines::specs::model::Lines::value_of))]
 fn two_digits(tens: u8, ones: u8) -> Option<u64>
     ensures { result ≡ value_of (tens ∷ ones ∷ []) }
 {
@@ -135,7 +135,7 @@ fn two_digits(tens: u8, ones: u8) -> Option<u64>
 }
 
 // The number that three digits denote.
-#[tactic(auto, unfolding(bt_lines::specs::model::Number::value_of))]
+#[tactic(auto, unfolding(bt_lines::specs::model::Lines::value_of))]
 fn three_digits(hundreds: u8, tens: u8, ones: u8) -> Option<u64>
     ensures { result ≡ value_of (hundreds ∷ tens ∷ ones ∷ []) }
 {

@@ -1,7 +1,7 @@
 -- Held records.
 use Rattle.std.specs.Prelude.{◌≡◌, ℕ, ◌<◌, ◌≤◌, ⊤, List, [], ◌∷◌, All, Option}
 use Rattle.std.specs.Option.{ForSome}
-use Rattle.bt_bed.specs.model.feature.Feature.{Feature}
+use Rattle.bt_bed.specs.model.Feature.{Feature}
 
 -- the records lie on the chromosome of this name
 abbrev pub AreOn : List ℕ → List Feature → Type 0

@@ -1,6 +1,6 @@
 -- The records in an index of held ones.
 use Rattle.std.specs.Prelude.{List}
-use Rattle.bt_bed.specs.model.feature.Feature.{Feature}
+use Rattle.bt_bed.specs.model.Feature.{Feature}
 use Rattle.bt_sweep.specs.calls.HeldList.{records_in}
 use Rattle.bt_sweep.specs.declared.active.held_index.HeldIndex.{HeldIndex}
 

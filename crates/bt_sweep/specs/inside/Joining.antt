@@ -1,25 +1,29 @@
--- What runs of steps over records of both inputs come to. Callers know them by `Advancing`.
-use Rattle.std.specs.Prelude.{◌≡◌, ◌⊎◌, ℕ, ◌<◌, ◌≤◌, ⊤, Bool, true, All, IfSome, List, [], ◌∷◌, ◌++◌}
-use Rattle.std.specs.Prelude.{Option, None, Some, Result, Ok, Err, length, option_map}
-use Rattle.std.specs.Prelude.{option_to_list}
+-- Steps of a sweep over records of both inputs.
+use Rattle.std.specs.Prelude.{◌≡◌, ◌⊎◌, ℕ, ◌<◌, ◌≤◌, ⊤, Bool, true, All, IfSome, List, [], ◌∷◌, ◌++◌, Option, None, Some, Result, Ok, Err, length, option_map, option_to_list, false, cond, decimal, filter, nat_lt, bytes_eq, drop, take}
 use Rattle.std.specs.Bool.{then_some}
-use Rattle.bt_lines.specs.model.Fault.{FaultValue}
+use Rattle.bt_lines.specs.model.Fault.{FaultValue, no_memory, write_failed}
 use Rattle.bt_lines.specs.calls.Names.{fault_value}
-use Rattle.bt_lines.specs.model.Number.{max_number}
-use Rattle.bt_lines.specs.calls.Output.{Output}
-use Rattle.bt_lines.specs.calls.Putting.{FailsToAdd, Grown}
+use Rattle.bt_lines.specs.model.Lines.{max_number}
+use Rattle.bt_lines.specs.calls.Output.{Output, FailsToAdd, Grown}
 use Rattle.bt_lines.specs.declared.fault.Fault.{Fault}
-use Rattle.bt_bed.specs.model.feature.Feature.{Feature, intervals_of}
-use Rattle.bt_bed.specs.model.order.Locus.{ArePlaced}
-use Rattle.bt_bed.specs.model.order.Order.{Order, IsTotal}
-use Rattle.bt_sweep.specs.calls.Advancing.{Proceeds, SharesBase}
+use Rattle.bt_bed.specs.model.Feature.{Feature, intervals_of, bed_text}
+use Rattle.bt_bed.specs.model.Sorted.{ArePlaced}
+use Rattle.bt_bed.specs.model.Order.{Order, IsTotal}
+use Rattle.bt_sweep.specs.calls.Sweeping.{Proceeds, SharesBase, AreDecided, CannotBeHeld, LeavesLast, TakenEach, HoldsFor, Sweeping, is_held, CannotHold, has_room}
 use Rattle.bt_sweep.specs.calls.Held.{CanHit}
-use Rattle.bt_sweep.specs.calls.Taking.{AreDecided, CannotBeHeld, LeavesLast, TakenEach}
-use Rattle.bt_sweep.specs.model.IntersectLines.{intersect}
-use Rattle.bt_sweep.specs.calls.Standing.{HoldsFor}
-use Rattle.bt_sweep.specs.calls.SweepState.{Sweeping}
+use Rattle.bt_sweep.specs.model.Lines.{intersect, line_with, lines_of}
 use Rattle.bt_sweep.specs.declared.hits.hit_rule.HitRule.{HitRule}
 use Rattle.bt_sweep.specs.declared.output.shape.Shape.{Shape}
+use Rattle.bt_sweep.specs.declared.sweep.phase.Phase.TheVariants.{Over, First}
+use Rattle.bt_sweep.specs.declared.output.unmatched.Unmatched.{Unmatched}
+use Rattle.bt_sweep.specs.declared.output.unmatched.Unmatched.TheVariants.{Nothing, Itself, Counted}
+use Rattle.std.specs.declared.cmp.Ordering.{Ordering}
+use Rattle.std.specs.declared.cmp.Ordering.TheVariants.{Less, Equal, Greater}
+use Rattle.bt_sweep.specs.declared.sweep.phase.Phase.{Phase}
+use Rattle.bt_sweep.specs.declared.sweep.relation.Relation.{Relation}
+use Rattle.bt_sweep.specs.declared.sweep.relation.Relation.TheVariants.{Unknown, Before, Beside, After}
+
+-- What runs of steps over records of both inputs come to. Callers know them by `AdvancesOn`.
 
 -- the sweep keeps what it has to once these records of both inputs were given and taken
 pub record Keeps (order : Order) (shape : Shape) (rule : HitRule) (limit : Option ℕ)
@@ -214,3 +218,95 @@ LeavesOn seconds a =
 abbrev pub AreDecidedOn : List ℕ → List Feature → List Feature → Type 0
 AreDecidedOn name as_given bs =
     (order : Order) → IsTotal order → order.knows name ≡ true → AreDecided order as_given bs
+
+-- What the steps of a sweep do to what it keeps. Callers know them by `GivesA`, `GivesB` and `AdvancesOn`.
+
+-- whether the records lie on the chromosome, if there are any
+abbrev pub are_on : List Feature → List ℕ → Bool
+are_on [] name = false
+are_on (b ∷ held) name = bytes_eq b.chrom name
+
+-- what is held once a is given
+abbrev pub held_with : List Feature → Feature → List Feature
+held_with held a = cond (are_on held a.chrom) (filter (λ b. nat_lt a.start b.stop) held) []
+
+-- a record that nothing hits has no line in this shape
+abbrev pub NeedsHit : Shape → Type 0
+NeedsHit shape = (a : Feature) → lines_of shape a [] ≡ []
+
+-- what is written in this shape of a record that nothing hits
+abbrev pub IsUnmatched : Unmatched → Shape → Type 0
+IsUnmatched Nothing shape = NeedsHit shape
+IsUnmatched Itself shape = (a : Feature) → a.start < a.stop → lines_of shape a [] ≡ line_with (bed_text a ∷ [])
+IsUnmatched Counted shape = (a : Feature) → lines_of shape a [] ≡ line_with (bed_text a ∷ decimal 0 ∷ [])
+
+-- the sweep with b held, if a or a later record can be hit by it
+abbrev pub holding : Sweeping → Feature → Feature → Sweeping
+holding old a b = record old { held = old.held ++ filter (is_held a) (b ∷ []) }
+
+-- the sweep after a fault
+abbrev pub stopped : Sweeping → Sweeping
+stopped old = record old { phase = Over }
+
+-- whether the limit leaves room for one more
+abbrev pub has_room_in : Sweeping → Bool
+has_room_in sweep = has_room sweep.limit (length sweep.held)
+
+-- taking b, at a line, which leaves a undecided
+abbrev pub Takes : {A : Type 0} → Sweeping → Feature → Feature → ℕ → Result A Fault → Sweeping → Type 0
+Takes old a b line (Ok done) new =
+    (new ≡ holding old a b) × (is_held a b ≡ true → has_room_in old ≡ true)
+Takes old a b line (Err fault) new =
+    (new ≡ stopped old) × (is_held a b ≡ true) × CannotHold (has_room_in old) line (fault_value fault)
+
+-- keeping a copy of a, which waits
+abbrev pub KeepsOne : {A : Type 0} → Sweeping → Feature → Result A Fault → Sweeping → Type 0
+KeepsOne old a (Ok done) new = new ≡ record old { current = Some a }
+KeepsOne old a (Err fault) new = (new ≡ stopped old) × (fault_value fault ≡ no_memory)
+
+-- Lines of the first input that are to be copied through together.
+
+-- the bytes between two offsets
+unfoldable pub pending_in : List ℕ → ℕ → ℕ → List ℕ
+pending_in consumed from to = drop from (take to consumed)
+
+-- the line that follows them
+unfoldable pub line_in : List ℕ → ℕ → List ℕ
+line_in consumed to = drop to consumed
+
+-- no line is left pending in a shape that writes none of a record that nothing hits
+abbrev pub IsQuiet : Shape → List ℕ → Type 0
+IsQuiet shape pending = NeedsHit shape → pending ≡ []
+
+-- whether these bytes, which may be none, could be put
+abbrev pub PutsOr : Bool → Output → List ℕ → Output → Type 0
+PutsOr true out bytes grown = Grown out bytes grown
+PutsOr false out bytes grown = FailsToAdd out bytes write_failed grown
+
+-- Where the records of the second input lie beside those of the first.
+
+module _ {B : Type 0} (gives : B → List Feature → B → Type 0) (has_ended : B → Type 0) (name : List ℕ)
+    (order : Order) (phase : Phase) (chrom : List ℕ) (seconds : B) where
+  -- the second input goes on, and the chromosome of these records is known, which is compared so
+  pub record Compares (is : Ordering) : Type 0 where
+    pub going : phase ≡ First → ⊥
+    pub known : order.knows name ≡ true
+    pub compared : order.compare name chrom ≡ is
+
+  -- the next one lies on a later chromosome
+  pub record LiesAfter : Type 0 where
+    pub b : Feature
+    pub after : B
+    pub gives_b : gives seconds (b ∷ []) after
+    pub on : b.chrom ≡ name
+    pub compares : Compares Greater
+
+  abbrev pub Relates : Relation → Type 0
+  Relates Unknown = has_ended seconds × (phase ≡ First → ⊥)
+  Relates Before = Compares Less
+  Relates Beside = Compares Equal
+  Relates After = (phase ≡ First) ⊎ LiesAfter
+
+-- a cursor gives no record, and its input goes on
+abbrev pub EndsWhile : {B : Type 0} → (B → Type 0) → Phase → B → Type 0
+EndsWhile has_ended phase seconds = has_ended seconds × (phase ≡ First → ⊥)

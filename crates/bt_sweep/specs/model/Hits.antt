@@ -1,10 +1,17 @@
+-- Which records hit one another, which decide one, and which are held.
+use Rattle.std.specs.Prelude.{ℕ, ◌*◌, Bool, false, not, ◌&&◌, ◌||◌, List, filter, nat_le, nat_lt, [], ◌∷◌, ◌++◌, Option, None, Some, bytes_eq, if◌then◌else◌, length, map}
+use Rattle.bt_bed.specs.model.Feature.{length_of, shared, Feature, interval_of, is_strand, fault_at_line}
+use Rattle.bt_sweep.specs.declared.hits.hit_rule.HitRule.{HitRule}
+use Rattle.std.specs.List.{list_any, find}
+use Rattle.bt_bed.specs.model.Good.{locus_at, Good, Member}
+use Rattle.bt_bed.specs.model.Sorted.{is_below}
+use Rattle.bt_bed.specs.model.Order.{Order}
+use Rattle.bt_lines.specs.model.Fault.{FaultValue}
+use Rattle.bt_lines.specs.declared.fault.Input.TheVariants.{Second}
+use Rattle.bt_lines.specs.declared.fault.Kind.TheVariants.{TooManyHeld}
+
 -- Which records hit one another: all pairs are compared
 -- (bedtools manual, intersect, options -f, -r and -s).
-use Rattle.std.specs.Prelude.{ℕ, ◌*◌, Bool, false, not, ◌&&◌, ◌||◌, List, filter, nat_le, nat_lt}
-use Rattle.bt_bed.specs.model.feature.Bases.{length_of, shared}
-use Rattle.bt_bed.specs.model.feature.Feature.{Feature, interval_of}
-use Rattle.bt_bed.specs.model.feature.Strands.{is_strand}
-use Rattle.bt_sweep.specs.declared.hits.hit_rule.HitRule.{HitRule}
 
 -- how many bases two records have in common
 abbrev pub shared_bases : Feature → Feature → ℕ
@@ -36,3 +43,58 @@ any_overlap = record { billionths = 0; both = false; same_strand = false }
 -- the records that hit a, in file order
 abbrev pub hits_among : HitRule → Feature → List Feature → List Feature
 hits_among rule a bs = filter (hits rule a) bs
+
+-- Which records of the second input decide one of the first: from there on, in sorted input,
+-- nothing can hit it (bedtools manual, intersect, sorted input).
+
+-- whether the place of b isn't below the end of a
+abbrev pub decides : Order → Feature → Feature → Bool
+decides order a b = not (is_below order (locus_at b) (record { chrom = a.chrom; start = a.stop }))
+
+-- whether one of the records decides a
+abbrev pub decided : Order → Feature → List Feature → Bool
+decided order a bs = list_any (decides order a) bs
+
+-- A limit on how many records of the second input are held at a time, which is this program's own
+-- (option -held of intersect and subtract). If more would have to be held, that line of the
+-- second input is at fault.
+
+-- Whether a or a later record of the first input can be hit by b, as far as a tells. It can if b lies on
+-- the chromosome of a, and ends above its start.
+abbrev pub is_held : Feature → Feature → Bool
+is_held a b = bytes_eq a.chrom b.chrom && nat_lt a.start b.stop
+
+-- which of these records of the second input are held for a record of the first, if there is one
+abbrev pub held_for : Option Feature → List Feature → List Feature
+held_for None taken = []
+held_for (Some a) taken = filter (is_held a) taken
+
+-- the first record that those of the second input leave undecided, if there is one
+abbrev pub first_open : Order → List Feature → List Feature → Option Feature
+first_open order first second = find (λ a. not (decided order a second)) first
+
+-- whether these records of the second input are too many: more than `most` of them are held for
+-- the first record that they leave undecided
+abbrev pub are_too_many : Order → ℕ → List Feature → List Feature → Bool
+are_too_many order most first second =
+    nat_lt most (length (held_for (first_open order first second) second))
+
+-- The members after others, up to the first with which they are too many, where the fault of the
+-- limit lies. If there is none, all of them and their own fault.
+abbrev pub cut_behind : (List Feature → Bool) → List (Member Feature) → List (Member Feature)
+    → Option FaultValue → Good Feature
+cut_behind too_many past [] fault = record { members = past; fault = fault }
+cut_behind too_many past (m ∷ more) fault =
+    if too_many (map (λ m. m.item) (past ++ m ∷ []))
+    then record {
+      members = past ++ m ∷ [];
+      fault = Some (fault_at_line Second m.line TooManyHeld);
+    }
+    else cut_behind too_many (past ++ m ∷ []) more fault
+
+-- The second input as the records of the first meet it, if at most `most` are held: up to
+-- the first record with which they would be too many. Without a limit it is whole.
+abbrev pub limited : Order → Option ℕ → List Feature → Good Feature → Good Feature
+limited order None first second = second
+limited order (Some most) first second =
+    cut_behind (are_too_many order most first) [] second.members second.fault

@@ -1,7 +1,7 @@
 //! What a sweep keeps of the second input.
 
 ghost use Rattle.std.specs.Prelude.{◌≡◌, ℕ, List, [], ◌∷◌, ◌++◌, length, filter, nat_lt, slice_get, option_copied, OnOk, IfErr};
-ghost use Rattle.bt_bed.specs.model.feature.Feature.{Feature};
+ghost use Rattle.bt_bed.specs.model.Feature.{Feature};
 
 use bt_bed::Rec;
 

@@ -3,7 +3,7 @@
 ghost use Rattle.std.specs.Prelude.{◌≡◌, ℕ, ◌+◌, ◌^◌, ◌<◌, ◌≤◌, IsSome, IsTrue, None, Some, cond, false, nat_lt, true, unwrap_or};
 ghost use Rattle.std.specs.BTreeMap.{IsUnchanged, get, is_at};
 ghost use Rattle.std.specs.Ordering.{nat_cmp};
-ghost use Rattle.bt_sweep.specs.inside.Ends.{CountsEnds};
+ghost use Rattle.bt_sweep.specs.inside.Held.{CountsEnds};
 ghost use Rattle.bt_sweep.specs.calls.HeldList.{records_in};
 
 use crate::active::held::Held;

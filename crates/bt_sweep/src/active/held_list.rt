@@ -3,7 +3,7 @@
 ghost use Rattle.std.specs.Prelude.{◌≡◌, ◌<◌, ◌≤◌, ◌++◌, [], ◌∷◌, drop, false, filter, length, nat_le, nat_lt, option_copied, option_to_list, take, true};
 ghost use Rattle.std.specs.List.{list_any, slice_get};
 ghost use Rattle.std.specs.List.Sorted.{IsNonDecreasingBy, IsPartitionPoint};
-ghost use Rattle.bt_bed.specs.model.feature.Feature.{Feature};
+ghost use Rattle.bt_bed.specs.model.Feature.{Feature};
 ghost use Rattle.bt_sweep.specs.calls.Held.{HaveBases};
 
 use crate::active::held::Held;
@@ -26,7 +26,7 @@ pub struct HeldList {
 impl HeldList {
     ghost use Rattle.std.specs.Prelude.{◌≡◌, [], IsTrue, false, filter, nat_lt};
     ghost use Rattle.bt_sweep.specs.calls.HeldList.{records_in};
-    ghost use Rattle.bt_sweep.specs.inside.HeldList.{HasRoom};
+    ghost use Rattle.bt_sweep.specs.inside.Held.{HasRoom};
 
     /// No record. It doesn't allocate.
     pub fn new(alloc: Global) -> HeldList
@@ -119,7 +119,7 @@ impl Held for HeldList {
 
 // How many records there are before the first that starts at the place or after it. Those near the first one
 // are tested first: each index is at most twice as great as the one before it.
-#[tactic(auto, using(crate::proofs::lemmas::active::HeldListLemmas::come_to))]
+#[tactic(auto, using(crate::proofs::lemmas::Active::come_to))]
 fn started_in(records: &VecDeque<Rec>, place: u64) -> usize
     ensures within { result ≤ length records.now.items }
     ensures point { IsNonDecreasingBy (λ r. r.start) records.now.items
@@ -157,7 +157,7 @@ fn record_at(records: &VecDeque<Rec>, index: usize) -> Option<&Rec>
 }
 
 // Whether one of the first `count` records ends at or before the place.
-#[tactic(auto, using(crate::proofs::lemmas::output::HeldLemmas::any_at, crate::proofs::lemmas::output::HeldLemmas::get_took, crate::proofs::lemmas::output::HeldLemmas::none_next))]
+#[tactic(auto, using(crate::proofs::lemmas::Output::any_at, crate::proofs::lemmas::Output::get_took, crate::proofs::lemmas::Output::none_next))]
 fn has_ended(records: &VecDeque<Rec>, count: usize, place: u64) -> bool
     ensures { result ≡ list_any (λ r. nat_le r.stop place) (take count records.now.items) }
 {
@@ -171,7 +171,7 @@ fn has_ended(records: &VecDeque<Rec>, count: usize, place: u64) -> bool
 
 // Drops those of the first `count` records that end at or before the place. The others are moved
 // after those that follow, and then back.
-#[tactic(auto, using(crate::proofs::lemmas::active::HeldListLemmas::kept_next, crate::proofs::lemmas::active::HeldListLemmas::passed_next))]
+#[tactic(auto, using(crate::proofs::lemmas::Active::kept_next, crate::proofs::lemmas::Active::passed_next))]
 #[inline(always)]
 fn drop_ended_of(records: &mut VecDeque<Rec>, count: usize, place: u64)
     requires { count ≤ length records.old.items }

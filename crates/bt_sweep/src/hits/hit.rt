@@ -3,7 +3,7 @@
 ghost use Rattle.std.specs.Prelude.{◌≡◌, ◌≤◌, All, length, option_copied, option_to_list, take};
 ghost use Rattle.std.specs.List.{list_any};
 ghost use Rattle.bt_bed.specs.calls.Bed.{feature_lent};
-ghost use Rattle.bt_bed.specs.model.feature.Strands.{is_strand};
+ghost use Rattle.bt_bed.specs.model.Feature.{is_strand};
 ghost use Rattle.bt_sweep.specs.model.Hits.{has_fraction, hits, hits_among, is_enough, shared_bases, strands_agree};
 ghost use Rattle.bt_sweep.specs.calls.Held.{AreOn, AreRising, CanHit, StartBefore};
 
@@ -24,7 +24,7 @@ pub(crate) fn is_hit(rule: HitRule, a: &BedRef<'_>, b: &BedRef<'_>) -> bool
 
 // Whether two records of one chromosome share as many bases as the rule requires. If it requires no
 // fraction, no length is computed.
-#[tactic(auto, using(crate::proofs::lemmas::definitions::RuleLemmas::enough_of_nothing))]
+#[tactic(auto, using(crate::proofs::lemmas::definitions::HitLemmas::enough_of_nothing))]
 fn shares_enough(rule: HitRule, a: &BedRef<'_>, b: &BedRef<'_>) -> bool
     requires { b.now.chrom.now ≡ a.now.chrom.now }
     ensures { result ≡ is_enough rule (shared_bases (feature_lent a.now) (feature_lent b.now))
@@ -91,7 +91,7 @@ fn is_hit_by(rule: HitRule, a: &BedRef<'_>, b: Option<&Rec>) -> bool
 
 // Whether one of the held records hits the record, if they come by their starts. None is tested after
 // the first one that hits it, nor after the first one that starts at its end or after it.
-#[tactic(auto, using(crate::proofs::lemmas::output::HeldLemmas::any_at, crate::proofs::lemmas::output::HeldLemmas::none_next, crate::proofs::lemmas::definitions::HitLemmas::none_left, crate::proofs::lemmas::hits::StartedLemmas::start_behind))]
+#[tactic(auto, using(crate::proofs::lemmas::Output::any_at, crate::proofs::lemmas::Output::none_next, crate::proofs::lemmas::definitions::HitLemmas::none_left, crate::proofs::lemmas::Output::start_behind))]
 pub(crate) fn is_any_hit<H: Held>(rule: HitRule, a: &BedRef<'_>, held: &H) -> bool
     requires { AreOn a.now.chrom.now (H.records held.now) }
     ensures { AreRising (H.records held.now)
@@ -111,7 +111,7 @@ pub(crate) fn is_any_hit<H: Held>(rule: HitRule, a: &BedRef<'_>, held: &H) -> bo
 
 // How many of the first `count` held records hit the record, if they start before its end. If
 // one shared base is enough, all of them do, since those that ended before it were dropped.
-#[tactic(auto, using(crate::proofs::lemmas::output::OpenLemmas::all_hit, crate::proofs::lemmas::output::OpenLemmas::on_name))]
+#[tactic(auto, using(crate::proofs::lemmas::Output::all_hit, crate::proofs::lemmas::Output::on_name))]
 #[inline(always)]
 pub(crate) fn count_started_hits<H: Held>(
     rule: HitRule,

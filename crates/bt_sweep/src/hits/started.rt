@@ -11,7 +11,7 @@ use bt_bed::Rec;
 // come by their starts. The last record is tested first, since mostly it starts before the place, and
 // then those near the first one. Each index that is tested is at most one more than twice the one
 // before it.
-#[tactic(auto, using(crate::proofs::lemmas::hits::StartedLemmas::start_ahead, crate::proofs::lemmas::hits::StartedLemmas::start_behind))]
+#[tactic(auto, using(crate::proofs::lemmas::Output::start_ahead, crate::proofs::lemmas::Output::start_behind))]
 pub(crate) fn count_started<H: Held>(held: &H, place: u64) -> usize
     ensures within { result ≤ length (H.records held.now) }
     ensures before { AreRising (H.records held.now) → StartBefore place (take result (H.records held.now)) }

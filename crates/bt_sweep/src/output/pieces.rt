@@ -1,13 +1,12 @@
 //! What is left of one record.
 
 ghost use Rattle.std.specs.Prelude.{◌≡◌, IfOk, cond, [], flat_map, max, nat_lt, option_copied, option_to_list, take};
-ghost use Rattle.bt_lines.specs.calls.Putting.{Adds};
+ghost use Rattle.bt_lines.specs.calls.Output.{Adds};
 ghost use Rattle.bt_bed.specs.calls.Bed.{feature_lent};
 ghost use Rattle.bt_sweep.specs.calls.Held.{AreOn, AreRising};
 ghost use Rattle.bt_sweep.specs.model.Hits.{hits_among};
-ghost use Rattle.bt_sweep.specs.model.IntersectLines.{piece_line};
-ghost use Rattle.bt_sweep.specs.model.Pieces.{pieces};
-ghost use Rattle.bt_sweep.specs.inside.Walking.{free_after, gap_lines, lines_before};
+ghost use Rattle.bt_sweep.specs.model.Lines.{piece_line, pieces};
+ghost use Rattle.bt_sweep.specs.inside.Pieces.{free_after, gap_lines, lines_before};
 
 use crate::active::held::Held;
 use crate::hits::hit::is_hit;

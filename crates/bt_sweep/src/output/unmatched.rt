@@ -1,10 +1,10 @@
 //! Records that nothing hits.
 
 ghost use Rattle.std.specs.Prelude.{[], ◌<◌, ◌++◌};
-ghost use Rattle.bt_lines.specs.calls.Putting.{Adds, Puts};
-ghost use Rattle.bt_bed.specs.model.feature.Record.{bed_text};
-ghost use Rattle.bt_sweep.specs.model.IntersectLines.{lines_of};
-ghost use Rattle.bt_sweep.specs.inside.StateSteps.{IsUnmatched};
+ghost use Rattle.bt_lines.specs.calls.Output.{Adds, Puts};
+ghost use Rattle.bt_bed.specs.model.Feature.{bed_text};
+ghost use Rattle.bt_sweep.specs.model.Lines.{lines_of};
+ghost use Rattle.bt_sweep.specs.inside.Joining.{IsUnmatched};
 
 use crate::output::shape::Shape;
 use bt_bed::{Record, put_bed};
@@ -22,7 +22,7 @@ pub(crate) enum Unmatched {
 }
 
 // What is written of it in this shape.
-#[tactic(auto, using(crate::proofs::lemmas::sweep::PendingLemmas::unmatched_itself))]
+#[tactic(auto, using(crate::proofs::lemmas::sweep::KeepLemmas::unmatched_itself))]
 #[inline(always)]
 pub(crate) fn unmatched_in(shape: Shape) -> Unmatched
     ensures { IsUnmatched result shape }
@@ -40,7 +40,7 @@ pub(crate) fn unmatched_in(shape: Shape) -> Unmatched
 }
 
 // Puts what is written of a record that nothing hits.
-#[tactic(auto, using(crate::proofs::lemmas::sweep::PendingLemmas::counted_adds, crate::proofs::lemmas::sweep::PendingLemmas::itself_adds))]
+#[tactic(auto, using(crate::proofs::lemmas::sweep::KeepLemmas::counted_adds, crate::proofs::lemmas::sweep::KeepLemmas::itself_adds))]
 #[inline(always)]
 pub(crate) fn put_unmatched<R: Record, K: Sink>(
     shape: Shape,

@@ -1,13 +1,13 @@
 //! The lines of one record.
 
 ghost use Rattle.std.specs.Prelude.{◌≡◌, ◌∷◌, [], ◌<◌, All, IsTrue, cond, decimal, not, flat_map, option_copied, option_to_list, take};
-ghost use Rattle.bt_lines.specs.calls.Putting.{Adds, Puts};
+ghost use Rattle.bt_lines.specs.calls.Output.{Adds, Puts};
 ghost use Rattle.bt_bed.specs.calls.Bed.{feature_lent};
-ghost use Rattle.bt_bed.specs.model.feature.Record.{bed_text, cut_to};
+ghost use Rattle.bt_bed.specs.model.Feature.{bed_text, cut_to};
 ghost use Rattle.bt_sweep.specs.calls.Held.{AreOn, AreRising, CanHit};
 ghost use Rattle.std.specs.List.{list_any};
 ghost use Rattle.bt_sweep.specs.model.Hits.{hits, hits_among, shared_bases};
-ghost use Rattle.bt_sweep.specs.model.IntersectLines.{hit_line, line_with, lines_for};
+ghost use Rattle.bt_sweep.specs.model.Lines.{hit_line, line_with, lines_for};
 
 use crate::active::held::Held;
 use crate::hits::hit::{count_started_hits, is_any_hit, is_hit};
@@ -21,7 +21,7 @@ use bt_bed::{BedRef, Rec, Record, put_bed, put_cut};
 use bt_lines::{Fault, Out, Sink, put_number};
 
 // Puts the lines of a record against these, which can hit it and come by their starts.
-#[tactic(auto, using(crate::proofs::lemmas::sweep::StateLemmas::none_against))]
+#[tactic(auto, using(crate::proofs::lemmas::sweep::KeepLemmas::none_against))]
 #[inline(always)]
 pub(crate) fn put_against<R: Record, H: Held, K: Sink>(
     shape: Shape,
@@ -43,7 +43,7 @@ pub(crate) fn put_against<R: Record, H: Held, K: Sink>(
 
 // Puts the lines of a record against these, which can hit it and come by their starts. Those that start
 // at its end or after it are skipped. It doesn't allocate.
-#[tactic(auto, using(crate::proofs::lemmas::output::OpenLemmas::on_name))]
+#[tactic(auto, using(crate::proofs::lemmas::Output::on_name))]
 #[inline(always)]
 pub(crate) fn put_lines<H: Held, K: Sink>(
     shape: Shape,
@@ -92,7 +92,7 @@ fn put_hits<H: Held, K: Sink>(
 }
 
 // Puts the line of a held record, if there is one and it hits the record.
-#[tactic(auto, using(crate::proofs::lemmas::definitions::RuleLemmas::hit_overlaps))]
+#[tactic(auto, using(crate::proofs::lemmas::definitions::HitLemmas::hit_overlaps))]
 #[inline(always)]
 fn put_if_hit<K: Sink>(
     shape: Shape,
@@ -151,7 +151,7 @@ fn put_where<K: Sink>(is_put: bool, a: &SourceRecord<'_>, out: &mut Out<K>) -> R
 }
 
 // Puts a part of a record, and another record after it.
-#[tactic(auto, using(std::proofs::lemmas::Result::err_from_is_err_and, bt_lines::proofs::lemmas::writer::PuttingLemmas::fails_before, bt_lines::proofs::lemmas::writer::PuttingLemmas::puts_more))]
+#[tactic(auto, using(std::proofs::lemmas::Result::err_from_is_err_and, bt_lines::proofs::lemmas::Writer::fails_before, bt_lines::proofs::lemmas::Writer::puts_more))]
 fn put_both<K: Sink>(
     a: &BedRef<'_>,
     start: u64,
@@ -167,7 +167,7 @@ fn put_both<K: Sink>(
 }
 
 // Puts a record and a number.
-#[tactic(auto, using(std::proofs::lemmas::Result::err_from_is_err_and, bt_lines::proofs::lemmas::writer::PuttingLemmas::fails_before, bt_lines::proofs::lemmas::writer::PuttingLemmas::puts_more))]
+#[tactic(auto, using(std::proofs::lemmas::Result::err_from_is_err_and, bt_lines::proofs::lemmas::Writer::fails_before, bt_lines::proofs::lemmas::Writer::puts_more))]
 #[inline(never)]
 fn put_counted<K: Sink>(a: &SourceRecord<'_>, count: u64, out: &mut Out<K>) -> Result<(), Fault>
     ensures { Puts out.old.output (line_with (bed_text (feature_lent a.now.bed) ∷ decimal count ∷ [])) result out.new.output }
@@ -177,7 +177,7 @@ fn put_counted<K: Sink>(a: &SourceRecord<'_>, count: u64, out: &mut Out<K>) -> R
 }
 
 // Puts two records.
-#[tactic(auto, using(std::proofs::lemmas::Result::err_from_is_err_and, bt_lines::proofs::lemmas::writer::PuttingLemmas::fails_before, bt_lines::proofs::lemmas::writer::PuttingLemmas::puts_more))]
+#[tactic(auto, using(std::proofs::lemmas::Result::err_from_is_err_and, bt_lines::proofs::lemmas::Writer::fails_before, bt_lines::proofs::lemmas::Writer::puts_more))]
 fn put_beside<K: Sink>(a: &SourceRecord<'_>, b: &BedRef<'_>, out: &mut Out<K>) -> Result<(), Fault>
     ensures { Puts out.old.output (line_with (bed_text (feature_lent a.now.bed)
         ∷ bed_text (feature_lent b.now) ∷ [])) result out.new.output }
@@ -187,7 +187,7 @@ fn put_beside<K: Sink>(a: &SourceRecord<'_>, b: &BedRef<'_>, out: &mut Out<K>) -
 }
 
 // Puts two records and a number.
-#[tactic(auto, using(std::proofs::lemmas::Result::err_from_is_err_and, bt_lines::proofs::lemmas::writer::PuttingLemmas::fails_before, bt_lines::proofs::lemmas::writer::PuttingLemmas::puts_more))]
+#[tactic(auto, using(std::proofs::lemmas::Result::err_from_is_err_and, bt_lines::proofs::lemmas::Writer::fails_before, bt_lines::proofs::lemmas::Writer::puts_more))]
 fn put_overlap<K: Sink>(
     a: &SourceRecord<'_>,
     b: &BedRef<'_>,

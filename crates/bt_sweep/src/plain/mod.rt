@@ -5,10 +5,9 @@ pub(crate) mod plain_pieces;
 
 ghost use Rattle.std.specs.Prelude.{◌≡◌, ◌∷◌, ◌++◌, [], OnOk, IfOk, decimal, filter, flat_map, length};
 ghost use Rattle.bt_bed.specs.calls.Bed.{feature_lent};
-ghost use Rattle.bt_bed.specs.model.feature.Record.{bed_text, cut_to};
+ghost use Rattle.bt_bed.specs.model.Feature.{bed_text, cut_to};
 ghost use Rattle.bt_sweep.specs.model.Hits.{hits, hits_among, shared_bases};
-ghost use Rattle.bt_sweep.specs.model.IntersectLines.{hit_line, intersect, line_with, lines_for, piece_line};
-ghost use Rattle.bt_sweep.specs.model.Pieces.{pieces};
+ghost use Rattle.bt_sweep.specs.model.Lines.{hit_line, intersect, line_with, lines_for, piece_line, pieces};
 
 use crate::hits::hit::{is_enough, strands_agree};
 use crate::hits::hit_rule::HitRule;
@@ -36,7 +35,7 @@ pub(crate) fn plain_intersect(
 }
 
 // Adds what is written of a record against these.
-#[tactic(auto, using(std::proofs::lemmas::Result::on_ok_weaker, crate::proofs::lemmas::plain::PlainLemmas::all_pieces, crate::proofs::lemmas::plain::PlainLemmas::count_all, crate::proofs::lemmas::plain::PlainLemmas::each_hit))]
+#[tactic(auto, using(std::proofs::lemmas::Result::on_ok_weaker, crate::proofs::lemmas::Plain::all_pieces, crate::proofs::lemmas::Plain::count_all, crate::proofs::lemmas::Plain::each_hit))]
 fn write_lines(
     shape: Shape,
     rule: HitRule,
@@ -176,7 +175,7 @@ fn write_pair(
 }
 
 // Adds the line of two records and a number.
-#[tactic(auto, using(std::proofs::lemmas::Result::on_ok_weaker, crate::proofs::lemmas::plain::PlainLemmas::tabbed))]
+#[tactic(auto, using(std::proofs::lemmas::Result::on_ok_weaker, crate::proofs::lemmas::Plain::tabbed))]
 fn write_overlap(
     a: &BedRef<'_>,
     b: &BedRef<'_>,

@@ -3,10 +3,10 @@
 ghost use Rattle.std.specs.Prelude.{◌≡◌, ◌+◌, ◌<◌, ◌^◌, ◌&&◌, IfOk, OnOk};
 ghost use Rattle.std.specs.List.{list_any};
 ghost use Rattle.bt_bed.specs.calls.Bed.{feature_lent};
-ghost use Rattle.bt_bed.specs.model.feature.Stretches.{with_position};
+ghost use Rattle.bt_bed.specs.model.Feature.{with_position};
 ghost use Rattle.bt_sweep.specs.model.Hits.{hits, hits_among};
-ghost use Rattle.bt_sweep.specs.model.Pieces.{has_position, is_left, pieces};
-ghost use Rattle.bt_sweep.specs.inside.PlainPieces.{pieces_in};
+ghost use Rattle.bt_sweep.specs.model.Lines.{has_position, is_left, pieces};
+ghost use Rattle.bt_sweep.specs.inside.Pieces.{pieces_in};
 
 use crate::hits::hit_rule::HitRule;
 use crate::plain::hits;
@@ -21,7 +21,7 @@ pub(crate) struct PlainPiece {
 }
 
 // The pieces of a record without the bases of those that hit it, the last one first.
-#[tactic(auto, using(crate::proofs::lemmas::plain::PlainPieceLemmas::scan_all, crate::proofs::lemmas::plain::PlainPieceLemmas::scan_next, crate::proofs::lemmas::plain::PlainPieceLemmas::scan_none))]
+#[tactic(auto, using(crate::proofs::lemmas::Plain::scan_all, crate::proofs::lemmas::Plain::scan_next, crate::proofs::lemmas::Plain::scan_none))]
 pub(crate) fn find_pieces(
     alloc: Global,
     rule: HitRule,
@@ -64,7 +64,7 @@ fn has_position(b: &Rec, position: u64) -> bool
 }
 
 // Adds the position to the last piece if that begins after it, and else as a piece of its own.
-#[tactic(auto, using(std::proofs::lemmas::List::nil_from_length, crate::proofs::lemmas::plain::PlainPieceLemmas::first_found, crate::proofs::lemmas::plain::PlainPieceLemmas::next_apart, crate::proofs::lemmas::plain::PlainPieceLemmas::next_joined))]
+#[tactic(auto, using(std::proofs::lemmas::List::nil_from_length, crate::proofs::lemmas::Plain::first_found, crate::proofs::lemmas::Plain::next_apart, crate::proofs::lemmas::Plain::next_joined))]
 fn add_position(found: &mut Vec<PlainPiece>, position: u64) -> Result<(), AllocError>
     requires { position + 1 < 2 ^ 64 }
     ensures { OnOk result (pieces_in found.new.items ≡ with_position position (pieces_in found.old.items)) }

@@ -7,7 +7,7 @@ pub(crate) mod state;
 pub(crate) mod want;
 
 ghost use Rattle.std.specs.Prelude.{◌≡◌, IsTrue, Some};
-ghost use Rattle.bt_bed.specs.model.feature.Feature.{Feature};
+ghost use Rattle.bt_bed.specs.model.Feature.{Feature};
 
 use crate::active::held::Held;
 use crate::hits::hit_rule::HitRule;
@@ -40,17 +40,10 @@ pub struct Sweep<'o, H: Held, O: ChromOrder> {
 impl<'o, H: Held, O: ChromOrder> Sweep<'o, H, O> {
     ghost use Rattle.std.specs.Prelude.{◌≡◌, ℕ, All, List, [], IsOk, IsTrue, None, OnErr, OnOk, Option, Some, is_some, ⊤};
     ghost use Rattle.bt_bed.specs.calls.Bed.{feature_lent};
-    ghost use Rattle.bt_bed.specs.model.order.Order.{Order};
-    ghost use Rattle.bt_sweep.specs.calls.Standing.{IsInOrder, MovesTo, Stage, StandsAt, first_stage, given, held_for, last_given, with_a, with_a_ended, with_b};
-    ghost use Rattle.bt_sweep.specs.calls.Steps.{EndsB, GivesA, GivesB};
-    ghost use Rattle.bt_sweep.specs.calls.Advancing.{AdvancesOn, IsThis, NoneGiven, Settles};
+    ghost use Rattle.bt_bed.specs.model.Order.{Order};
+    ghost use Rattle.bt_sweep.specs.calls.Sweeping.{IsInOrder, MovesTo, Stage, StandsAt, first_stage, given, held_for, last_given, with_a, with_a_ended, with_b, EndsB, GivesA, GivesB, AdvancesOn, IsThis, NoneGiven, Settles, GivesKnown, LeavesLast, order_of, state_of, want_in, want_of};
     ghost use Rattle.bt_sweep.specs.calls.Held.{CanHit};
-    ghost use Rattle.bt_sweep.specs.inside.Joining.{Joins};
-    ghost use Rattle.bt_sweep.specs.inside.Pending.{line_in, pending_in};
-    ghost use Rattle.bt_sweep.specs.calls.Taking.{GivesKnown, LeavesLast};
-    ghost use Rattle.bt_sweep.specs.inside.Relating.{EndsWhile};
-    ghost use Rattle.bt_sweep.specs.calls.SweepView.{order_of, state_of};
-    ghost use Rattle.bt_sweep.specs.calls.SweepState.{want_in, want_of};
+    ghost use Rattle.bt_sweep.specs.inside.Joining.{Joins, line_in, pending_in, EndsWhile};
 
     /// A sweep that was given nothing, over an empty list of held records. With a limit no more records
     /// than that are held. It doesn't allocate.
@@ -95,7 +88,7 @@ impl<'o, H: Held, O: ChromOrder> Sweep<'o, H, O> {
     /// Takes records of both inputs, one after another, as [`Sweep::give_a`] and [`Sweep::give_b`] do with each, as long as
     /// the input that it wants has a next one. It may stop too once the record is written that waited before.
     /// If it wants nothing, it takes none. It fails as these calls do.
-    #[tactic(auto, using(crate::proofs::lemmas::sweep::GiveLemmas::lifts_current, crate::proofs::lemmas::sweep::StandLemmas::one_waits))]
+    #[tactic(auto, using(crate::proofs::lemmas::sweep::StandLemmas::lifts_current, crate::proofs::lemmas::sweep::StandLemmas::one_waits))]
     pub fn advance<A: Cursor, B: Cursor, K: Sink>(
         &mut self,
         a: &mut A,
@@ -121,7 +114,7 @@ impl<'o, H: Held, O: ChromOrder> Sweep<'o, H, O> {
     /// Takes the next record of the first input. If the second has ended its lines are written at
     /// once, and else nothing is. It fails with `NoMemory` if the record can't be kept, and with `WriteFailed` if the
     /// lines can't be written.
-    #[tactic(auto, using(crate::proofs::lemmas::sweep::KnownLemmas::known_none, crate::proofs::lemmas::sweep::SingleLemmas::gives_a))]
+    #[tactic(auto, using(crate::proofs::lemmas::sweep::KeepLemmas::known_none, crate::proofs::lemmas::sweep::SingleLemmas::gives_a))]
     pub fn give_a<K: Sink>(&mut self, a: &BedRef<'_>, out: &mut Out<K>) -> Result<(), Fault>
         requires want { want_in (state_of self.old) ≡ Want.A }
         requires known { IsTrue ((order_of self.old).knows a.now.chrom.now) }
@@ -178,7 +171,7 @@ impl<'o, H: Held, O: ChromOrder> Sweep<'o, H, O> {
 
     /// Takes the end of the second input, and writes the lines of the current record of the first. It
     /// fails with `WriteFailed` if they can't be written.
-    #[tactic(auto, using(std::proofs::lemmas::Result::err_from_is_err_and, crate::proofs::lemmas::sweep::KnownLemmas::known_none, crate::proofs::lemmas::sweep::SingleLemmas::same_some, crate::proofs::lemmas::sweep::SingleLemmas::stops_end))]
+    #[tactic(auto, using(std::proofs::lemmas::Result::err_from_is_err_and, crate::proofs::lemmas::sweep::KeepLemmas::known_none, crate::proofs::lemmas::sweep::SingleLemmas::same_some, crate::proofs::lemmas::sweep::SingleLemmas::stops_end))]
     pub fn end_b<K: Sink>(&mut self, out: &mut Out<K>) -> Result<(), Fault>
         requires { want_in (state_of self.old) ≡ Want.B }
         ensures gives { (stage : Stage) (a : Feature)

@@ -1,7 +1,7 @@
 //! Lines that are copied through together.
 
 ghost use Rattle.std.specs.Prelude.{◌≡◌, [], ◌≤◌, length};
-ghost use Rattle.bt_lines.specs.calls.Putting.{Adds};
+ghost use Rattle.bt_lines.specs.calls.Output.{Adds};
 
 use bt_bed::Cursor;
 use bt_lines::{Fault, Out, Sink};
@@ -19,10 +19,10 @@ pub(crate) struct Pending<A: Cursor> {
     ghost within: { to ≤ length (A.consumed cursor) },
 }
 
-#[tactic(auto, unfolding(crate::specs::inside::Pending::pending_in, crate::specs::inside::Pending::line_in))]
+#[tactic(auto, unfolding(crate::specs::inside::Joining::pending_in, crate::specs::inside::Joining::line_in))]
 impl<A: Cursor> Pending<A> {
     ghost use Rattle.std.specs.Prelude.{◌≡◌, ◌∷◌, ◌++◌, ◌<◌, [], IfSome, IfNone, true, false};
-    ghost use Rattle.bt_sweep.specs.inside.Pending.{line_in, pending_in};
+    ghost use Rattle.bt_sweep.specs.inside.Joining.{line_in, pending_in};
 
     // No lines.
     #[inline(always)]

@@ -1,8 +1,8 @@
 //! Where the records of the second input lie beside those of the first.
 
 ghost use Rattle.std.specs.Prelude.{IsTrue};
-ghost use Rattle.bt_sweep.specs.calls.Taking.{GivesKnown};
-ghost use Rattle.bt_sweep.specs.inside.Relating.{Relates};
+ghost use Rattle.bt_sweep.specs.calls.Sweeping.{GivesKnown};
+ghost use Rattle.bt_sweep.specs.inside.Joining.{Relates};
 
 use crate::sweep::phase::Phase;
 use bt_bed::{ChromOrder, Cursor};

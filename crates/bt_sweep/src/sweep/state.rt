@@ -2,16 +2,14 @@
 
 ghost use Rattle.std.specs.Prelude.{◌≡◌, ◌∷◌, ◌++◌, ◌<◌, [], All, IfErr, IfOk, IfSome, IsTrue, None, Some, false, filter, nat_lt, true, OnOk, OnErr};
 ghost use Rattle.bt_lines.specs.calls.Names.{fault_value};
-ghost use Rattle.bt_lines.specs.model.Number.{max_number};
-ghost use Rattle.bt_lines.specs.calls.Putting.{Adds};
-ghost use Rattle.bt_bed.specs.model.feature.LineKind.{fault_at_line};
-ghost use Rattle.bt_bed.specs.model.order.Order.{IsTotal};
+ghost use Rattle.bt_lines.specs.model.Lines.{max_number};
+ghost use Rattle.bt_lines.specs.calls.Output.{Adds};
+ghost use Rattle.bt_bed.specs.model.Feature.{fault_at_line};
+ghost use Rattle.bt_bed.specs.model.Order.{IsTotal};
 ghost use Rattle.bt_sweep.specs.calls.Held.{AreReady, AreRising, CanHit, CanHitAt};
-ghost use Rattle.bt_sweep.specs.model.IntersectLines.{lines_for};
-ghost use Rattle.bt_sweep.specs.inside.Joining.{AddsWith, AreDecidedOn, Joins, LeavesOn, SkipsAll, WritesUpTo, waiting_in};
-ghost use Rattle.bt_sweep.specs.inside.Pending.{IsQuiet, PutsOr, line_in, pending_in};
-ghost use Rattle.bt_sweep.specs.inside.StateSteps.{KeepsOne, Takes, are_on, has_room_in, held_with, stopped};
-ghost use Rattle.bt_sweep.specs.calls.SweepState.{want_in};
+ghost use Rattle.bt_sweep.specs.model.Lines.{lines_for};
+ghost use Rattle.bt_sweep.specs.inside.Joining.{AddsWith, AreDecidedOn, Joins, LeavesOn, SkipsAll, WritesUpTo, waiting_in, IsQuiet, PutsOr, line_in, pending_in, KeepsOne, Takes, are_on, has_room_in, held_with, stopped};
+ghost use Rattle.bt_sweep.specs.calls.Sweeping.{want_in};
 
 use crate::active::held::Held;
 use crate::hits::hit_rule::HitRule;
@@ -47,7 +45,7 @@ pub(crate) struct State<H: Held> {
 
 impl<H: Held> Model for State<H> {
     ghost use Rattle.bt_sweep.specs.calls.Held.{AreReady};
-    ghost use Rattle.bt_sweep.specs.calls.SweepState.{Sweeping};
+    ghost use Rattle.bt_sweep.specs.calls.Sweeping.{Sweeping};
 
     ghost Value = { Sweeping };
 
@@ -131,7 +129,7 @@ impl<H: Held> State<H> {
     }
 
     // Takes out the record that waits.
-    #[tactic(auto, using(crate::proofs::lemmas::sweep::StateLemmas::hits_of))]
+    #[tactic(auto, using(crate::proofs::lemmas::sweep::KeepLemmas::hits_of))]
     pub(crate) fn take_current(&mut self) -> Option<Rec>
         ensures is { result ≡ self.old.current }
         ensures taken { self.new ≡ record self.old { current = None } }
@@ -166,7 +164,7 @@ impl<H: Held> State<H> {
     }
 
     // Drops the held records that can hit neither this one of the first input nor a later one.
-    #[tactic(auto, using(crate::proofs::lemmas::sweep::StateLemmas::ready_none, crate::proofs::lemmas::sweep::StateLemmas::on_one_filter))]
+    #[tactic(auto, using(crate::proofs::lemmas::sweep::KeepLemmas::ready_none, crate::proofs::lemmas::sweep::KeepLemmas::on_one_filter))]
     pub(crate) fn enter<R: Record>(&mut self, a: &R)
         requires { self.old.current ≡ None }
         ensures entered { self.new ≡ record self.old { held = held_with self.old.held (R.feature a.now) } }
@@ -180,7 +178,7 @@ impl<H: Held> State<H> {
     }
 
     // Drops the held records that end at the place or before it.
-    #[tactic(auto, using(crate::proofs::lemmas::sweep::StateLemmas::ready_none, crate::proofs::lemmas::sweep::StateLemmas::on_one_filter))]
+    #[tactic(auto, using(crate::proofs::lemmas::sweep::KeepLemmas::ready_none, crate::proofs::lemmas::sweep::KeepLemmas::on_one_filter))]
     #[inline(always)]
     fn drop_ended(&mut self, place: u64)
         requires { self.old.current ≡ None }
@@ -261,7 +259,7 @@ impl<H: Held> State<H> {
 
     // Puts the lines of a record after those that are pending. Where the line of one that nothing hits is what is written, it
     // is left pending too.
-    #[tactic(auto, using(crate::proofs::lemmas::sweep::PendingLemmas::left_in, crate::proofs::lemmas::sweep::PendingLemmas::nothing_in))]
+    #[tactic(auto, using(crate::proofs::lemmas::sweep::KeepLemmas::left_in, crate::proofs::lemmas::sweep::KeepLemmas::nothing_in))]
     #[inline(always)]
     fn write<A: Cursor, K: Sink>(
         &mut self,
@@ -309,7 +307,7 @@ impl<H: Held> State<H> {
 
     // Puts lines, and then those of a record, and returns true if it could. It is out of line, so that the loops over the
     // records stay small.
-    #[tactic(auto, using(crate::proofs::lemmas::sweep::PendingLemmas::puts_not, crate::proofs::lemmas::sweep::PendingLemmas::puts_then, crate::proofs::lemmas::sweep::PendingLemmas::same_if_put))]
+    #[tactic(auto, using(crate::proofs::lemmas::sweep::KeepLemmas::puts_not, crate::proofs::lemmas::sweep::KeepLemmas::puts_then, crate::proofs::lemmas::sweep::KeepLemmas::same_if_put))]
     #[inline(never)]
     fn put_after<R: Record, K: Sink>(&mut self, lines: &[u8], a: &R, out: &mut Out<K>) -> bool
         requires filled { (R.feature a.now).start < (R.feature a.now).stop }
@@ -339,7 +337,7 @@ impl<H: Held> State<H> {
     // Writes records of the first input, from this one on, as long as they end at the place or before it. It returns true if
     // there is one that doesn't, and puts it here. Lines may be left pending. It is out of line, so that the loop over the
     // second input stays in registers.
-    #[tactic(auto, using(crate::proofs::lemmas::sweep::WriteLemmas::writes_first))]
+    #[tactic(auto, using(crate::proofs::lemmas::sweep::KeepLemmas::writes_first))]
     #[inline(never)]
     fn write_up_to<A: Cursor, K: Sink>(
         &mut self,

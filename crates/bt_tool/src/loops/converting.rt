@@ -1,20 +1,15 @@
 //! The loop over the alignments of a SAM input: each is written as soon as its line was read.
 
 ghost use Rattle.std.specs.Prelude.{◌≡◌, None, option_map};
-ghost use Rattle.bt_lines.specs.calls.LentLine.{line_seen};
+ghost use Rattle.bt_lines.specs.calls.Columns.{line_seen};
 ghost use Rattle.bt_lines.specs.calls.Names.{fault_value};
 ghost use Rattle.bt_lines.specs.calls.Output.{HoldsBlock};
 ghost use Rattle.bt_lines.specs.calls.Reader.{HasRead, fault_kept};
-ghost use Rattle.bt_seq.specs.model.GoodSam.{sam_format};
-ghost use Rattle.bt_seq.specs.model.SamKind.{is_sam_kind};
-ghost use Rattle.bt_tool.specs.model.report.Behaviour.{of_members};
-ghost use Rattle.bt_tool.specs.model.report.RecordReport.{IsOneOf};
-ghost use Rattle.bt_tool.specs.model.report.Written.{alignments_written};
-ghost use Rattle.bt_tool.specs.inside.feed.ConvertSteps.{ConvertsAll, ConvertsLine, sam_reader};
-ghost use Rattle.bt_tool.specs.inside.feed.Feeding.{IsFresh};
-ghost use Rattle.bt_tool.specs.inside.feed.Passed.{IsOwnFault};
-ghost use Rattle.bt_tool.specs.calls.run.OwnReads.{AnswersNoRead};
-ghost use Rattle.bt_tool.specs.calls.run.Writing.{RunsAlone};
+ghost use Rattle.bt_seq.specs.model.Alignment.{sam_format, is_sam_kind};
+ghost use Rattle.bt_tool.specs.model.Report.{of_members};
+ghost use Rattle.bt_tool.specs.model.Written.{IsOneOf, alignments_written};
+ghost use Rattle.bt_tool.specs.inside.Feed.{ConvertsAll, ConvertsLine, sam_reader, IsFresh, IsOwnFault};
+ghost use Rattle.bt_tool.specs.calls.Run.{AnswersNoRead, RunsAlone};
 
 use bt_bed::at_line;
 use bt_lines::{Fault, Input, Line, LineReader, Out, Place, Sink, Source};

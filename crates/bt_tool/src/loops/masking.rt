@@ -3,8 +3,8 @@
 ghost use Rattle.std.specs.Prelude.{Some, option_map};
 ghost use Rattle.bt_lines.specs.calls.Names.{fault_value};
 ghost use Rattle.bt_lines.specs.calls.Output.{HoldsBlock};
-ghost use Rattle.bt_tool.specs.model.report.Behaviour.{of_maskfasta};
-ghost use Rattle.bt_tool.specs.calls.run.Writing.{RunsBy};
+ghost use Rattle.bt_tool.specs.model.Report.{of_maskfasta};
+ghost use Rattle.bt_tool.specs.calls.Run.{RunsBy};
 
 use crate::loops::sources::Sources;
 use crate::loops::two_inputs::{TwoInputEngine, run_two};
@@ -22,7 +22,7 @@ struct MaskRun<A, B> {
 }
 
 impl<A: Source, B: Source> TwoInputEngine for MaskRun<A, B> {
-    ghost use Rattle.bt_tool.specs.inside.pair.MaskLoop.{MaskComes, MaskIsOver, is_mask_ready, left_to_mask, mask_wanted};
+    ghost use Rattle.bt_tool.specs.inside.MaskLoop.{MaskComes, MaskIsOver, is_mask_ready, left_to_mask, mask_wanted};
 
     ghost comes = { MaskComes A.Source B.Source };
 

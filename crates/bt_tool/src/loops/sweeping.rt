@@ -4,19 +4,16 @@ ghost use Rattle.std.specs.Prelude.{◌≡◌, None, Some, option_map};
 ghost use Rattle.bt_lines.specs.calls.Names.{fault_value};
 ghost use Rattle.bt_lines.specs.calls.Output.{HoldsBlock};
 ghost use Rattle.bt_lines.specs.calls.Reader.{HasRead};
-ghost use Rattle.bt_bed.specs.model.feature.LineKind.{IsBedKind};
-ghost use Rattle.bt_bed.specs.model.order.Order.{IsTotal};
+ghost use Rattle.bt_bed.specs.model.Feature.{IsBedKind};
+ghost use Rattle.bt_bed.specs.model.Order.{IsTotal};
 ghost use Rattle.bt_bed.specs.calls.Records.{below, buffered_in, fault_kept, order_in, view_of};
 ghost use Rattle.bt_bed.specs.calls.Batch.{HasEnded, Passes, line_in};
 ghost use Rattle.bt_bed.specs.declared.read.batch.Batch.{Batch};
-ghost use Rattle.bt_sweep.specs.calls.Advancing.{AdvancesOn};
-ghost use Rattle.bt_sweep.specs.calls.SweepView.{order_of as sweep_order, state_of};
-ghost use Rattle.bt_tool.specs.model.report.Behaviour.{of_intersect};
-ghost use Rattle.bt_tool.specs.inside.feed.Feeding.{ConsumesGiven};
-ghost use Rattle.bt_tool.specs.inside.feed.Passed.{HasTaken, KeepsOwnFault};
-ghost use Rattle.bt_tool.specs.inside.pair.SweepLoop.{ReadsRest};
-ghost use Rattle.bt_tool.specs.calls.run.OwnReads.{AnswersNoRead};
-ghost use Rattle.bt_tool.specs.calls.run.Writing.{RunsBy};
+ghost use Rattle.bt_sweep.specs.calls.Sweeping.{AdvancesOn, order_of as sweep_order, state_of};
+ghost use Rattle.bt_tool.specs.model.Report.{of_intersect};
+ghost use Rattle.bt_tool.specs.inside.Feed.{ConsumesGiven, HasTaken, KeepsOwnFault};
+ghost use Rattle.bt_tool.specs.inside.SweepLoop.{ReadsRest};
+ghost use Rattle.bt_tool.specs.calls.Run.{AnswersNoRead, RunsBy};
 
 use crate::loops::sources::Sources;
 use crate::loops::two_inputs::{TwoInputEngine, run_two};
@@ -91,7 +88,7 @@ struct SweepRun<'o, A, B, O: ChromOrder> {
 }
 
 impl<'o, A: Source, B: Source, O: ChromOrder> TwoInputEngine for SweepRun<'o, A, B, O> {
-    ghost use Rattle.bt_tool.specs.inside.pair.SweepLoop.{SweepComes, SweepIsOver, is_sweep_ready, left_to_sweep, wanted_of};
+    ghost use Rattle.bt_tool.specs.inside.SweepLoop.{SweepComes, SweepIsOver, is_sweep_ready, left_to_sweep, wanted_of};
 
     ghost comes = { SweepComes A.Source B.Source };
 

@@ -4,7 +4,7 @@ ghost use Rattle.std.specs.Prelude.{◌≡◌, ◌≤◌, ◌<◌, ◌&&◌, IfS
 ghost use Rattle.std.specs.Char.{is_ascii_digit};
 ghost use Rattle.std.specs.List.{list_all};
 ghost use Rattle.std.specs.Str.Parse.{digits_value};
-ghost use Rattle.bt_tool.specs.model.usage.Fraction.{fraction_in, fraction_of, nine_decimals};
+ghost use Rattle.bt_tool.specs.model.Fraction.{fraction_in, fraction_of, nine_decimals};
 
 use bt_lines::number;
 

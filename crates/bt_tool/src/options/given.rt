@@ -1,9 +1,9 @@
 //! The words of a command line, divided into items.
 
 ghost use Rattle.std.specs.Prelude.{◌≡◌, None, drop};
-ghost use Rattle.bt_tool.specs.model.usage.Options.{word_fault};
-ghost use Rattle.bt_tool.specs.calls.words.Plan.{words_seen};
-ghost use Rattle.bt_tool.specs.calls.words.Lent.{table_lent};
+ghost use Rattle.bt_tool.specs.model.Options.{word_fault};
+ghost use Rattle.bt_tool.specs.calls.Plan.{words_seen};
+ghost use Rattle.bt_tool.specs.calls.Lent.{table_lent};
 
 use crate::options::item::{Item, item_at};
 use crate::options::table::Table;
@@ -20,9 +20,9 @@ pub(crate) struct Given<'a> {
 
 impl<'a> Given<'a> {
     ghost use Rattle.std.specs.Prelude.{MatchResult, Some, option_map};
-    ghost use Rattle.bt_tool.specs.calls.words.Given.{items_in};
-    ghost use Rattle.bt_tool.specs.calls.words.Lent.{item_lent};
-    ghost use Rattle.bt_tool.specs.model.usage.Options.{is_given, last_item, value_of};
+    ghost use Rattle.bt_tool.specs.calls.Given.{items_in};
+    ghost use Rattle.bt_tool.specs.calls.Lent.{item_lent};
+    ghost use Rattle.bt_tool.specs.model.Options.{is_given, last_item, value_of};
 
     /// The words, or the fault of the first that begins no item.
     pub(crate) fn read(table: &'a Table, words: &'a [String]) -> Result<Given<'a>, Usage>

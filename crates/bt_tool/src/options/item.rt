@@ -1,10 +1,10 @@
 //! An option as it is given once, with its value if it takes one.
 
 ghost use Rattle.std.specs.Prelude.{◌≡◌, ◌+◌, ◌<◌, ◌≤◌, ◌++◌, Some, IfOk, IfErr, drop, length};
-ghost use Rattle.bt_tool.specs.calls.words.Lent.{item_lent, table_lent};
-ghost use Rattle.bt_tool.specs.model.usage.Items.{IsItem, words_of};
-ghost use Rattle.bt_tool.specs.model.usage.Options.{word_fault};
-ghost use Rattle.bt_tool.specs.calls.words.Plan.{words_seen};
+ghost use Rattle.bt_tool.specs.calls.Lent.{item_lent, table_lent};
+ghost use Rattle.bt_tool.specs.model.Usage.{IsItem, words_of};
+ghost use Rattle.bt_tool.specs.model.Options.{word_fault};
+ghost use Rattle.bt_tool.specs.calls.Plan.{words_seen};
 
 use crate::options::table::Table;
 use crate::options::usage::{Usage, UsageKind};

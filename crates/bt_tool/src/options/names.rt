@@ -1,9 +1,9 @@
 //! The names of a run's inputs and of its output, as the words have them.
 
 ghost use Rattle.std.specs.Prelude.{◌≡◌, option_map};
-ghost use Rattle.bt_tool.specs.calls.words.Given.{items_in};
-ghost use Rattle.bt_tool.specs.calls.words.Lent.{names_lent, table_lent};
-ghost use Rattle.bt_tool.specs.model.usage.Options.{named_by, output_by, value_if_any};
+ghost use Rattle.bt_tool.specs.calls.Given.{items_in};
+ghost use Rattle.bt_tool.specs.calls.Lent.{names_lent, table_lent};
+ghost use Rattle.bt_tool.specs.model.Options.{named_by, output_by, value_if_any};
 
 use crate::options::given::Given;
 

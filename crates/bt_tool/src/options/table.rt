@@ -304,11 +304,11 @@ pub(crate) const MASK_FASTA: Table = Table {
 
 impl Table {
     ghost use Rattle.std.specs.Prelude.{◌≡◌, bytes_eq, find, option_map};
-    ghost use Rattle.bt_tool.specs.model.usage.Table.{takes};
-    ghost use Rattle.bt_tool.specs.calls.words.Lent.{table_lent};
+    ghost use Rattle.bt_tool.specs.model.Table.{takes};
+    ghost use Rattle.bt_tool.specs.calls.Lent.{table_lent};
 
     /// What the option of this word takes, if there is one.
-    #[tactic(auto, using(crate::proofs::lemmas::planning::TableLemmas::takes_lent))]
+    #[tactic(auto, using(crate::proofs::lemmas::Planning::takes_lent))]
     pub(crate) fn takes(&self, word: &str) -> Option<Takes>
         ensures { result ≡ takes (table_lent self.now) word.now }
     {

@@ -1,7 +1,7 @@
 //! What an option takes after its own word.
 
 ghost use Rattle.std.specs.Prelude.{◌≡◌, None, Some};
-ghost use Rattle.bt_tool.specs.model.usage.Table.{fits};
+ghost use Rattle.bt_tool.specs.model.Table.{fits};
 
 use crate::options::character::character;
 use crate::options::fraction::fraction;

@@ -1,8 +1,8 @@
 //! The faults of a command line, and the line that reports each.
 
 ghost use Rattle.std.specs.Prelude.{◌≡◌, IfOk, length};
-ghost use Rattle.bt_tool.specs.calls.words.Plan.{words_seen};
-ghost use Rattle.bt_tool.specs.model.usage.Usage.{IsTellable, usage_text};
+ghost use Rattle.bt_tool.specs.calls.Plan.{words_seen};
+ghost use Rattle.bt_tool.specs.model.Usage.{IsTellable, usage_text};
 
 use std::alloc::{AllocError, Global};
 
@@ -58,7 +58,7 @@ pub(crate) enum UsageKind {
 
 impl UsageKind {
     ghost use Rattle.std.specs.Prelude.{◌≡◌, ◌≤◌};
-    ghost use Rattle.bt_tool.specs.model.usage.Usage.{names_word, number_of, text_of};
+    ghost use Rattle.bt_tool.specs.model.Usage.{names_word, number_of, text_of};
 
     fn numbered(number: u8) -> UsageKind
         requires at_least { 1 ≤ number }
@@ -103,7 +103,7 @@ impl UsageKind {
 
 impl Usage {
     ghost use Rattle.std.specs.Prelude.{◌≡◌};
-    ghost use Rattle.bt_tool.specs.model.usage.Usage.{number_of};
+    ghost use Rattle.bt_tool.specs.model.Usage.{number_of};
 
     /// A fault of the words as a whole.
     pub(crate) fn new(kind: UsageKind) -> Usage

@@ -3,9 +3,9 @@
 ghost use Rattle.std.specs.Prelude.{◌≡◌, Some, None, false, not, ◌&&◌, ◌||◌, MatchResult, option_map};
 ghost use Rattle.std.specs.List.{list_any};
 ghost use Rattle.std.specs.Option.{option_map_or};
-ghost use Rattle.bt_tool.specs.calls.words.Given.{items_in};
-ghost use Rattle.bt_tool.specs.calls.words.Lent.{names_lent, table_lent};
-ghost use Rattle.bt_tool.specs.model.usage.Options.{fault_together, has_exclusive, is_given, is_standard_input, lacks_option, overwrites, reads_twice};
+ghost use Rattle.bt_tool.specs.calls.Given.{items_in};
+ghost use Rattle.bt_tool.specs.calls.Lent.{names_lent, table_lent};
+ghost use Rattle.bt_tool.specs.model.Options.{fault_together, has_exclusive, is_given, is_standard_input, lacks_option, overwrites, reads_twice};
 
 use crate::options::given::Given;
 use crate::options::names::{NamedFiles, names_of};

@@ -1,7 +1,7 @@
 //! What the words of a command line mean.
 
-ghost use Rattle.bt_tool.specs.calls.words.Limits.{is_within_limits};
-ghost use Rattle.bt_tool.specs.model.usage.Table.{table_of, tool_of, IsNamedBy};
+ghost use Rattle.bt_tool.specs.calls.Lent.{is_within_limits};
+ghost use Rattle.bt_tool.specs.model.Table.{table_of, tool_of, IsNamedBy};
 ghost use Rattle.std.specs.Prelude.{IsTrue};
 
 use crate::planning::tool::Tool;
@@ -60,7 +60,7 @@ pub enum Command {
 
 impl Command {
     ghost use Rattle.std.specs.Prelude.{◌≡◌};
-    ghost use Rattle.bt_tool.specs.model.usage.Table.{tool_name};
+    ghost use Rattle.bt_tool.specs.model.Table.{tool_name};
 
     /// The tool.
     pub(crate) fn tool(self) -> Tool

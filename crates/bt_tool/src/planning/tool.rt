@@ -1,7 +1,7 @@
 //! The tools and their options.
 
-ghost use Rattle.bt_tool.specs.model.usage.Table.{command_named, tool_name, table_of};
-ghost use Rattle.bt_tool.specs.calls.words.Lent.{table_lent};
+ghost use Rattle.bt_tool.specs.model.Table.{command_named, tool_name, table_of};
+ghost use Rattle.bt_tool.specs.calls.Lent.{table_lent};
 ghost use Rattle.std.specs.Prelude.{◌≡◌};
 
 use crate::options::table::{

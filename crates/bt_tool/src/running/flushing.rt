@@ -3,7 +3,7 @@
 ghost use Rattle.std.specs.Prelude.{◌≡◌, ◌⊎◌, true, Some, option_map};
 ghost use Rattle.bt_lines.specs.model.Fault.{write_failed};
 ghost use Rattle.bt_lines.specs.calls.Names.{fault_value};
-ghost use Rattle.bt_tool.specs.inside.feed.Flushing.{Flushes};
+ghost use Rattle.bt_tool.specs.inside.Feed.{Flushes};
 
 use bt_lines::{Fault, Kind, Out, Sink};
 

@@ -2,8 +2,8 @@
 
 ghost use Rattle.std.specs.Prelude.{◌≡◌, [], IfOk, None, Ok, option_map, string_bytes, unwrap_or};
 ghost use Rattle.bt_lines.specs.calls.Names.{fault_value};
-ghost use Rattle.bt_tool.specs.calls.words.Plan.{plan_seen};
-ghost use Rattle.bt_tool.specs.model.report.Report.{fault_text, status_of};
+ghost use Rattle.bt_tool.specs.calls.Plan.{plan_seen};
+ghost use Rattle.bt_tool.specs.model.Report.{fault_text, status_of};
 
 use crate::planning::plan_type::Plan;
 use bt_lines::{Fault, Names, fault_line};

@@ -1,29 +1,192 @@
--- Lemmas on a table of chromosomes and on reading one.
-use Rattle.bt_lines.proofs.Std.{◌≡◌, ℕ, zero, suc, ◌+◌, ◌-◌, Bool, true, false, cond, List, [], ◌∷◌, ◌++◌, map, length, take, Option, Some, None, Result, Ok, Err, refl, sym, ap, ◌∙◌, subst, append_assoc, append-nil, length-append, inl, inr, arith, All-push, All-head, All-tail, ◌⊎◌, ◌<◌, All, IfSome, Vec, bytes_eq, is_some, option_map, position, slice_get, option_to_list, map-append, slice_get-map, take-append_seam, position_from, keys_of, position_from-zero, or_parts}
-use Rattle.bt_lines.specs.model.Fault.{FaultValue, read_failed, no_memory}
-use Rattle.bt_lines.specs.calls.LentLine.{GivesFirst}
-use Rattle.bt_lines.specs.model.Lines.{TextLine}
-use Rattle.bt_lines.specs.calls.Reader.{Hands, IsSound, end_told, GivesLine, GivesEnd, GivesFault, FailsToRead, source_of, input_of, lines_given, fault_kept, lines_left}
+-- Lemmas on the entries of a genome file.
+use Rattle.bt_lines.proofs.Std.{◌≡◌, ℕ, arith, false, List, [], ◌∷◌, ◌++◌, Option, Some, None, Result, Ok, Err, refl, sym, ap, ◌∙◌, append_assoc, append-nil, bytes_eq, or_parts, ◌⊎◌, IsErrAnd, OnOk, OnErr, inl, inr, suc, ◌+◌, ◌-◌, ◌^◌, ◌<◌, ◌≤◌, length, take, drop, IfSome, zero, Bool, true, cond, map, subst, length-append, All-push, All-head, All-tail, All, Vec, is_some, option_map, position, slice_get, option_to_list, map-append, slice_get-map, take-append_seam, position_from, keys_of, position_from-zero}
+use Rattle.bt_lines.specs.model.Fault.{FaultValue, no_memory, read_failed}
+use Rattle.bt_lines.specs.model.Lines.{TextLine, bytes_in}
 use Rattle.bt_lines.specs.declared.fault.Input.{Input}
 use Rattle.bt_lines.specs.declared.fault.Kind.{Kind}
-use Rattle.bt_lines.specs.declared.fault.Kind.TheVariants.{RepeatedChrom}
+use Rattle.bt_bed.specs.model.Order.{is_among, AreDistinct, rank_of}
+use Rattle.bt_bed.specs.model.Genome.{Entry, genome_names, genome_from, genome_with, new_entry, entry_of, with_entry, genome_of}
+use Rattle.bt_bed.proofs.lemmas.parse.NameLemmas.{name_ne-sym, name_eq-sym}
 use Rattle.bt_lines.specs.declared.fault.Place.{Place}
-use Rattle.bt_lines.specs.declared.reader.line_reader.LineReader.{LineReader}
-use Rattle.bt_bed.proofs.lemmas.order.GenomeLemmas.{before_err, before_ok, distinct_push, is_new, says_then}
-use Rattle.bt_bed.proofs.lemmas.order.RankLemmas.{among_ranked}
-use Rattle.bt_bed.proofs.lemmas.order.ResultLemmas.{IsUnkept, IsWrong, lost_parts}
-use Rattle.bt_bed.specs.calls.Reading.{IsLost}
-use Rattle.bt_bed.proofs.lemmas.parse.NameLemmas.{name_eq-sym}
-use Rattle.std.specs.declared.alloc.Global.{Global}
+use Rattle.bt_bed.specs.calls.Reading.{IsLost, LinesPass}
+use Rattle.bt_bed.specs.model.Feature.{fault_at_line, is_genome_kind}
 use Rattle.bt_lines.specs.declared.device.Source.{Ghosts as Source}
-use Rattle.bt_lines.proofs.lemmas.reader.lines.ReaderLemmas.{hands_both, not_told}
+use Rattle.bt_lines.proofs.lemmas.reader.lines.TakingLemmas.{given_drops, hands_none, hands_both, sound_near, taken_below, not_told}
+use Rattle.bt_lines.proofs.lemmas.reader.lines.TextLemmas.{bytes_in-drop, line_feeds-append}
+use Rattle.bt_lines.specs.calls.Output.{block_size}
+use Rattle.bt_lines.specs.calls.Reader.{CutsOff, GivesFault, GivesLine, Hands, IsNear, IsSound, bytes_taken, fault_kept, input_of, lines_given, lines_left, source_of, end_told, GivesEnd, FailsToRead}
+use Rattle.bt_lines.specs.declared.reader.line_reader.LineReader.{LineReader}
+use Rattle.bt_bed.proofs.lemmas.read.good.ReadingLemmas.{front_of_both, near_pass, no_pass, pass_more}
+use Rattle.bt_lines.specs.calls.Columns.{GivesFirst}
+use Rattle.bt_lines.specs.declared.fault.Kind.TheVariants.{RepeatedChrom}
+use Rattle.bt_bed.proofs.lemmas.order.OrderLemmas.{among_ranked}
+use Rattle.std.specs.declared.alloc.Global.{Global}
 use Rattle.indexmap.specs.IndexMap.{insert_entry}
-use Rattle.bt_bed.specs.model.order.Genome.{Entry, genome_names, genome_from, genome_of, new_entry, entry_of}
-use Rattle.bt_bed.specs.model.feature.LineKind.{fault_at_line, is_genome_kind}
-use Rattle.bt_bed.specs.model.order.Rank.{is_among, rank_of, AreDistinct}
-use Rattle.bt_bed.proofs.lemmas.order.HandsLemmas.{Passed, cut_fault, near_fault, near_line, passed_line, passed_none}
 use Rattle.bt_bed.specs.calls.GenomeTable.{entries, names_of, entry_seen, LineAdded, ReadsAll, EntryIsWrong, ReadingStops, StopCause}
 use Rattle.bt_bed.specs.declared.order.genome.Genome.{Genome}
+
+-- a name that isn't among names is none of them
+pub among_push : (names : List (List ℕ)) (n name : List ℕ) → is_among names name ≡ false → bytes_eq n name ≡ false → is_among (names ++ n ∷ []) name ≡ false
+among_push [] n name e d = rw d refl
+among_push (m ∷ ms) n name e d =
+    let parts = or_parts (bytes_eq m name) (is_among ms name) e in
+    rw (parts.0, among_push ms n name parts.1 d) refl
+
+-- a new name keeps the names distinct
+pub distinct_push : (names : List (List ℕ)) (n : List ℕ) → AreDistinct names → is_among names n ≡ false → AreDistinct (names ++ n ∷ [])
+distinct_push [] n d e = (refl, tt)
+distinct_push (m ∷ ms) n d e =
+    let parts = or_parts (bytes_eq m n) (is_among ms n) e in
+    (among_push ms n m d.0 (name_ne-sym m n parts.0), distinct_push ms n d.1 parts.1)
+
+pub ok_entries : (entry : Entry) (rest : Result (List Entry) FaultValue) (entries : List Entry) → with_entry entry rest ≡ Ok entries → (more : List Entry) × (rest ≡ Ok more) × (entries ≡ entry ∷ more)
+ok_entries entry rest entries more = grind arith
+
+-- an entry that is taken has a new name
+pub is_new : (names : List (List ℕ)) (said : Result (Option Entry) Kind) (entry : Entry) → new_entry names said ≡ Ok (Some entry) → is_among names entry.name ≡ false
+is_new names said entry e = grind arith
+
+-- entries before those of a result
+pub before : List Entry → Result (List Entry) FaultValue → Result (List Entry) FaultValue
+before front (Ok more) = Ok (front ++ more)
+before front (Err fault) = Err fault
+
+before_none : (result : Result (List Entry) FaultValue) → before [] result ≡ result
+unfolding before
+before_none result = grind arith
+
+before_more : (entry : Entry) (front : List Entry) (result : Result (List Entry) FaultValue) → with_entry entry (before front result) ≡ before (entry ∷ front) result
+unfolding before
+before_more entry front result = grind arith
+
+pub before_ok : (front more : List Entry) (result : Result (List Entry) FaultValue) → result ≡ Ok more → before front result ≡ Ok (front ++ more)
+unfolding before
+before_ok front more result e = rw e refl
+
+pub before_err : (front : List Entry) (fault : FaultValue) (result : Result (List Entry) FaultValue) → result ≡ Err fault → before front result ≡ Err fault
+unfolding before
+before_err front fault result e = rw e refl
+
+-- what lines without a fault say, and then what the others say
+abbrev SaysThen : Input → List (List ℕ) → List TextLine → List TextLine → Type 0
+SaysThen input names given others = (entries : List Entry) → genome_from input names given ≡ Ok entries → genome_from input names (given ++ others) ≡ before entries (genome_from input (names ++ genome_names entries) others)
+
+said_with : (input : Input) (number : ℕ) (names : List (List ℕ)) (given others : List TextLine) (said : Result (Option Entry) Kind) (entries : List Entry)
+    → ((now : List (List ℕ)) → SaysThen input now given others)
+    → genome_with input number names said (λ now. genome_from input now given) ≡ Ok entries
+    → genome_with input number names said (λ now. genome_from input now (given ++ others)) ≡ before entries (genome_from input (names ++ genome_names entries) others)
+said_with input number names given others (Err kind) entries h e = cc
+said_with input number names given others (Ok None) entries h e = h names entries e
+said_with input number names given others (Ok (Some entry)) entries h e =
+    let parts = ok_entries entry (genome_from input (names ++ entry.name ∷ []) given) entries e in
+    ap (with_entry entry) (h (names ++ entry.name ∷ []) parts.0 parts.1)
+    ∙ before_more entry parts.0 (genome_from input ((names ++ entry.name ∷ []) ++ genome_names parts.0) others)
+    ∙ ap (λ all. before (entry ∷ parts.0) (genome_from input all others)) (append_assoc names (entry.name ∷ []) (genome_names parts.0))
+    ∙ sym (ap (λ all. before all (genome_from input (names ++ genome_names all) others)) parts.2)
+
+pub says_then : (input : Input) (names : List (List ℕ)) (given others : List TextLine) → SaysThen input names given others
+unfolding genome_from
+says_then input names [] others entries e =
+    let none : entries ≡ [] = cc in
+    rw (none, append-nil) (sym (before_none (genome_from input names others)))
+says_then input names (line ∷ given) others entries e =
+    said_with input line.number names given others (new_entry names (entry_of line.text)) entries (λ now. says_then input now given others) e
+
+-- Lemmas on results and options that are passed on.
+
+-- what holds of the error holds of the result that passes it on
+pub passed_on : {T E : Type 0} (P : Result T E → Type 0) (result : Result T E) (error : E) → IsErrAnd result (λ e. e ≡ error) → P (Err error) → P result
+passed_on P result error is p = grind arith
+
+-- what holds if a result is fine and if it isn't, holds
+pub either_way : {T E : Type 0} {X : Type 0} (P : X → Type 0) (result : Result T E) (new fine kept : X) → OnOk result (new ≡ fine) → OnErr result (new ≡ kept) → P fine → P kept → P new
+either_way P result new fine kept p q f k = grind arith
+
+module _ {A : Type 0} (place : Place) where
+  -- a line that wasn't taken is at fault
+  pub record IsWrong (said : Result (Option A) Kind) (fault : FaultValue) : Type 0 where
+    pub kind : Kind
+    pub says : said ≡ Err kind
+    pub is : fault ≡ fault_at_line place.input place.line kind
+
+  -- or memory ran out for its item
+  pub record IsUnkept (said : Result (Option A) Kind) (fault : FaultValue) : Type 0 where
+    pub item : A
+    pub says : said ≡ Ok (Some item)
+    pub is : fault ≡ no_memory
+
+  pub lost_parts : (said : Result (Option A) Kind) (fault : FaultValue) → IsLost place said fault → IsWrong said fault ⊎ IsUnkept said fault
+  lost_parts (Err kind) fault lost = inl (record { kind = kind; says = refl; is = lost })
+  lost_parts (Ok None) fault lost = absurd lost
+  lost_parts (Ok (Some item)) fault lost = inr (record { item = item; says = refl; is = lost })
+
+  pub lost_wrong : (said : Result (Option A) Kind) (fault : FaultValue) (kind : Kind) → said ≡ Err kind → fault ≡ fault_at_line place.input place.line kind → IsLost place said fault
+  lost_wrong said fault kind says is = rw says is
+
+  pub lost_item : (said : Result (Option A) Kind) (fault : FaultValue) (item : A) → said ≡ Ok (Some item) → fault ≡ no_memory → IsLost place said fault
+  lost_item said fault item says is = rw says is
+
+-- Lemmas on lines that were given one after another.
+
+near_fewer : (a : Option (List TextLine)) (rest : Option (List ℕ)) → IfSome a (λ all. IfSome rest (λ bytes. bytes_in all ≤ length bytes + block_size))
+    → IfSome a (λ all. IfSome rest (λ bytes. bytes_in (drop 1 all) ≤ length bytes + block_size))
+near_fewer None rest h = tt
+near_fewer (Some all) None h = tt
+near_fewer (Some all) (Some bytes) h = omega (arith, bytes_in-drop 1 all)
+
+module _ {S : Type 0} (device : Source S) where
+  -- lines were given, in some calls one after another
+  pub record Passed (old now : LineReader S) : Type 0 where
+    pub lines : LinesPass device.left old now
+    pub least : lines_given old ≤ lines_given now
+    pub bytes : (bytes : List ℕ) × Hands device.left old bytes now
+    pub sound : IsSound device old → IsSound device now
+
+  pub passed_none : (reader : LineReader S) → Passed reader reader
+  passed_none reader = record {
+    lines = no_pass (lines_left device.left reader) (lines_given reader);
+    least = omega arith;
+    bytes = ([], hands_none device.left reader);
+    sound = λ sound. sound;
+  }
+
+  module _ (old now new : LineReader S) (p : Passed old now) where
+    pub passed_line : (line : TextLine) → GivesLine device now line new → (IsSound device now → IsSound device new) → Passed old new
+    passed_line line gives sound = record {
+      lines = pass_more (lines_left device.left old) (lines_left device.left now) (lines_left device.left new) (lines_given now - lines_given old) 1 (lines_given new - lines_given old) p.lines (given_drops (lines_left device.left now) line (lines_left device.left new) gives.first) (let one = gives.counted in let least = p.least in omega arith);
+      least = let one = gives.counted in let least = p.least in omega arith;
+      bytes = (p.bytes.0 ++ gives.bytes.0, hands_both device.left old now new p.bytes.0 gives.bytes.0 p.bytes.1 gives.bytes.1);
+      sound = λ was. sound (p.sound was);
+    }
+
+    -- a line couldn't be read: of known bytes, those after it are left
+    pub near_fault : (fault : FaultValue) → GivesFault device now fault new → fault_kept now ≡ None → IsNear device.left old new
+    near_fault fault gives going =
+        near_pass (lines_left device.left old) (lines_left device.left now) (device.left (source_of new)) (lines_given now - lines_given old) (suc (lines_given new) - lines_given now) (suc (lines_given new) - lines_given old) p.lines
+        (let same = gives.counted in let least = p.least in omega arith) (gives.near going)
+
+    -- the line feeds among the bytes taken all end lines that were given
+    pub cut_fault : (fault : FaultValue) → GivesFault device now fault new → fault_kept now ≡ None → fault ≡ read_failed (input_of now) (suc (lines_given now)) → CutsOff device.left old new
+    cut_fault fault gives going is =
+        let cut = gives.cut_off going is in
+        let within : bytes_taken now < 2 ^ 63 = taken_below now going in
+        let fed = p.bytes.1.fed (gives.before_end going) within in
+        let counted = p.bytes.1.counted in
+        let given = cut.given in
+        let front = front_of_both p.bytes.0 cut.bytes (2 ^ 63 - 1 - bytes_taken old) (2 ^ 63 - 1 - bytes_taken now) (omega arith) in
+        record {
+          bytes = p.bytes.0 ++ cut.bytes;
+          hands = hands_both device.left old now new p.bytes.0 cut.bytes p.bytes.1 cut.hands;
+          given = rw front (omega (arith, line_feeds-append p.bytes.0 (take (2 ^ 63 - 1 - bytes_taken now) cut.bytes)));
+        }
+
+  -- of known bytes, those after the lines given are left, and so those after one more
+  pub near_line : (old new : LineReader S) → Passed old new → fault_kept new ≡ None → IsSound device old → IsNear device.left old new
+  near_line old new p going sound =
+      near_pass (lines_left device.left old) (lines_left device.left new) (device.left (source_of new)) (lines_given new - lines_given old) 1 (suc (lines_given new) - lines_given old) p.lines
+      (let least = p.least in omega arith) (near_fewer (lines_left device.left new) (device.left (source_of new)) (sound_near device new (p.sound sound) going))
+
+-- Lemmas on a table of chromosomes and on reading one.
 
 -- a line's entry is new if its name has no rank, and else repeated
 pub says_new : (names : List (List ℕ)) (said : Result (Option Entry) Kind) (entry : Entry) → said ≡ Ok (Some entry) → is_some (rank_of names entry.name) ≡ false → new_entry names said ≡ Ok (Some entry)

@@ -1,15 +1,59 @@
--- Lemmas on the feature that a line says.
-use Rattle.bt_lines.proofs.Std.{◌≡◌, ℕ, ◌+◌, ◌<◌, ◌≤◌, Bool, true, false, ◌&&◌, cond, List, [], ◌∷◌, ◌++◌, length, drop, Option, Some, None, Result, Ok, refl, sym, ap, ◌∙◌, subst, arith, ltb, leb, leb-true, and_parts, AllByRecursion, list_all, is_ascii_digit, digits_value}
-use Rattle.bt_lines.specs.model.Lines.{pieces}
-use Rattle.bt_lines.specs.model.Number.{value_of, is_number}
+-- Lemmas on columns, and on what is kept of them.
+use Rattle.bt_lines.proofs.Std.{◌≡◌, ℕ, ◌+◌, ◌≤◌, Bool, List, [], ◌∷◌, ◌++◌, length, drop, refl, sym, ap, ◌∙◌, eqb, append_assoc, append-nil, arith, length-append, drop_at, slice_split_at, slice_split_none, join_with_byte-slice_split, AllByRecursion, join_with_byte, ◌<◌, true, false, ◌&&◌, cond, Option, Some, None, Result, Ok, subst, ltb, leb, leb-true, and_parts, list_all, is_ascii_digit, digits_value, ◌||◌, bytes_eq, take, get_or, false_from_ne_true, take-append-drop, All-head, All-tail, bytes_eq-Decides, All}
+use Rattle.bt_lines.specs.model.Lines.{pieces, value_of, is_number}
+use Rattle.bt_lines.proofs.lemmas.reader.lines.TextLemmas.{IsColumn}
+use Rattle.bt_bed.specs.model.Feature.{kept_columns, Feature, is_header, IsFeature, IsName, is_kept, record_of, not_skipped, columns_in, columns_say, feature_of, strand_of, ends_word, first_word, is_header_word}
 use Rattle.bt_lines.specs.declared.fault.Kind.{Kind}
 use Rattle.bt_bed.specs.calls.Bed.{feature_between}
-use Rattle.bt_bed.specs.model.feature.Feature.{Feature}
-use Rattle.bt_bed.specs.model.feature.Header.{is_header}
-use Rattle.bt_bed.specs.model.feature.Record.{IsFeature, IsName, is_kept, record_of, not_skipped, columns_in, columns_say, feature_of, kept_columns, strand_of}
 use Rattle.bt_bed.specs.declared.record.strand.Strand.{Strand}
-use Rattle.bt_bed.proofs.lemmas.parse.Kept.{three_columns, kept_is_cut, pieces_are_columns, rest_of_three}
-use Rattle.bt_lines.proofs.lemmas.reader.lines.ColumnLemmas.{IsColumn}
+
+-- a column and those after it, each with a tab before it
+joined : (x : List ℕ) (xs : List (List ℕ)) → join_with_byte 9 (x ∷ xs) ≡ x ++ kept_columns xs
+joined x [] = sym (append-nil x)
+joined x (y ∷ ys) = rw (joined y ys) refl
+
+-- a text is its first column and then the others, each with a tab before it
+pub cut_and_kept : (text : List ℕ) (x : List ℕ) (xs : List (List ℕ)) → pieces 9 text ≡ x ∷ xs → text ≡ x ++ kept_columns xs
+cut_and_kept text x xs e = sym (join_with_byte-slice_split 9 text) ∙ ap (join_with_byte 9) e ∙ joined x xs
+
+columns_more : (byte : ℕ) (bytes : List ℕ) (b : Bool) → eqb byte 9 ≡ b → AllByRecursion IsColumn (pieces 9 bytes) → AllByRecursion IsColumn (pieces 9 (byte ∷ bytes))
+columns_more byte bytes b e h = grind arith
+
+-- the pieces between tabs have no tabs
+pub pieces_are_columns : (text : List ℕ) → AllByRecursion IsColumn (pieces 9 text)
+pieces_are_columns [] = ((λ k d l. absurd (omega arith)), tt)
+pieces_are_columns (byte ∷ bytes) = columns_more byte bytes (eqb byte 9) refl (pieces_are_columns bytes)
+
+-- columns that were kept are cut as they were
+pub kept_is_cut : (x : List ℕ) (xs : List (List ℕ)) → IsColumn x → AllByRecursion IsColumn xs → pieces 9 (x ++ kept_columns xs) ≡ x ∷ xs
+kept_is_cut x [] h hs = rw append-nil (slice_split_none (λ byte. eqb byte 9) x h)
+kept_is_cut x (y ∷ ys) h hs = slice_split_at (λ byte. eqb byte 9) x 9 (y ++ kept_columns ys) h refl ∙ ap (λ l. x ∷ l) (kept_is_cut y ys hs.0 hs.1)
+
+-- a text of three columns at least
+pub three_columns : (text a b c : List ℕ) (rest : List (List ℕ)) → pieces 9 text ≡ a ∷ b ∷ c ∷ rest → text ≡ (a ++ 9 ∷ (b ++ 9 ∷ c)) ++ kept_columns rest
+three_columns text a b c rest e = cut_and_kept text a (b ∷ c ∷ rest) e ∙ simp append_assoc
+
+length_of_three : (a b c : List ℕ) → length (a ++ 9 ∷ (b ++ 9 ∷ c)) ≡ length a + length b + length c + 2
+length_of_three a b c = simp length-append (omega arith)
+
+pub three_are_within : (text a b c : List ℕ) (rest : List (List ℕ)) → pieces 9 text ≡ a ∷ b ∷ c ∷ rest → length a + length b + length c + 2 + length (kept_columns rest) ≡ length text
+three_are_within text a b c rest e = omega (arith, ap length (three_columns text a b c rest e), length_of_three a b c, length-append (a ++ 9 ∷ (b ++ 9 ∷ c)) (kept_columns rest))
+
+pub rest_of_three : (text a b c : List ℕ) (rest : List (List ℕ)) → pieces 9 text ≡ a ∷ b ∷ c ∷ rest → drop (length a + length b + length c + 2) text ≡ kept_columns rest
+rest_of_three text a b c rest e =
+    ap (drop (length a + length b + length c + 2)) (three_columns text a b c rest e) ∙ drop_at (a ++ 9 ∷ (b ++ 9 ∷ c)) (kept_columns rest) (length a + length b + length c + 2) (length_of_three a b c)
+
+-- three columns that were taken one after another
+pub taken_in_turn : (columns left left2 left3 : List (List ℕ)) (text a b c : List ℕ) → left ≡ pieces 9 text → left ≡ a ∷ left2 → left2 ≡ b ∷ left3 → left3 ≡ c ∷ columns
+    → pieces 9 text ≡ a ∷ b ∷ c ∷ columns
+taken_in_turn columns left left2 left3 text a b c e first second third = cc
+
+pub taken_are_within : (columns left left2 left3 : List (List ℕ)) (text a b c : List ℕ) → left ≡ pieces 9 text → left ≡ a ∷ left2 → left2 ≡ b ∷ left3 → left3 ≡ c ∷ columns
+    → length a + length b + length c + 2 ≤ length text
+taken_are_within columns left left2 left3 text a b c e first second third =
+    omega (arith, three_are_within text a b c columns (taken_in_turn columns left left2 left3 text a b c e first second third))
+
+-- Lemmas on the feature that a line says.
 
 some_of : (b : Bool) (v n : ℕ) → (b ≡ true → v ≤ 999999999999) → cond b (Some v) None ≡ Some n → n ≤ 999999999999
 some_of b v n h e = grind arith
@@ -124,3 +168,68 @@ pub made_is_feature : (text a b c : List ℕ) (rest : List (List ℕ)) (bounds :
     → feature_between a (Ok bounds) rest ≡ feature_of a (value_of b) (value_of c) rest → strand ≡ strand_of (columns_in kept) → kept ≡ drop (length a + length b + length c + 2) text
     → IsFeature (record { chrom = a; start = bounds.0; stop = bounds.1; strand = strand; rest = kept })
 made_is_feature text a b c rest bounds strand kept cut found s k = said_is_feature text _ (sym (made_is_said text a b c rest bounds strand kept cut found s k))
+
+-- Lemmas on the first word of a text.
+
+-- the byte doesn't end a word
+abbrev pub IsOfWord : ℕ → Type 0
+IsOfWord byte = ends_word byte ≡ false
+
+pub of_word : (byte : ℕ) (bytes : List ℕ) (b : Bool) → ends_word byte ≡ b → first_word (byte ∷ bytes) ≡ cond b [] (byte ∷ first_word bytes)
+of_word byte bytes b e = grind arith
+
+-- bytes that don't end a word begin the first one
+pub word_first : (word text : List ℕ) → All IsOfWord word → first_word (word ++ text) ≡ word ++ first_word text
+word_first [] text h = refl
+word_first (byte ∷ word) text h =
+    of_word byte (word ++ text) false (All-head IsOfWord byte word h) ∙ ap (λ l. byte ∷ l) (word_first word text (All-tail IsOfWord byte word h))
+
+same_word : (word : List ℕ) → true ≡ bytes_eq (word ++ []) word
+same_word word = sym ((bytes_eq-Decides (word ++ []) word).1 (append-nil word))
+
+longer_word : (word bytes : List ℕ) (byte : ℕ) → false ≡ bytes_eq (word ++ byte ∷ bytes) word
+longer_word word bytes byte =
+    sym (false_from_ne_true (bytes_eq (word ++ byte ∷ bytes) word)
+    (λ yes. let same = ap length ((bytes_eq-Decides (word ++ byte ∷ bytes) word).0 yes) in absurd (omega (arith, length-append word (byte ∷ bytes), same))))
+
+-- a text of which a word was taken off
+stripped : (text word rest : List ℕ) → bytes_eq (take (length word) text) word ≡ true → rest ≡ drop (length word) text → text ≡ word ++ rest
+stripped text word rest same e =
+    let front : take (length word) text ≡ word = (bytes_eq-Decides (take (length word) text) word).0 same in
+    sym (take-append-drop (length word) text) ∙ ap (λ l. l ++ drop (length word) text) front ∙ ap (λ l. word ++ l) (sym e)
+
+alone : (word rest : List ℕ) → All IsOfWord word → length rest < 1 → true ≡ bytes_eq (first_word (word ++ rest)) word
+alone word [] h short = rw (word_first word [] h) (same_word word)
+alone word (byte ∷ bytes) h short = absurd (omega arith)
+
+ended_by : (word bytes : List ℕ) (byte : ℕ) (b : Bool) → ends_word byte ≡ b → b ≡ bytes_eq (word ++ first_word (byte ∷ bytes)) word
+ended_by word bytes byte b e = grind (arith, of_word, same_word, longer_word)
+
+ended : (word rest : List ℕ) → All IsOfWord word → 1 ≤ length rest → ends_word (get_or rest 0 0) ≡ bytes_eq (first_word (word ++ rest)) word
+ended word [] h some = absurd (omega arith)
+ended word (byte ∷ bytes) h some = rw (word_first word (byte ∷ bytes) h) (ended_by word bytes byte (ends_word byte) refl)
+
+-- a text that is a word
+pub word_alone : (text word rest : List ℕ) → All IsOfWord word → bytes_eq (take (length word) text) word ≡ true → rest ≡ drop (length word) text → length rest < 1
+    → true ≡ bytes_eq (first_word text) word
+word_alone text word rest h same e short = rw (stripped text word rest same e) (alone word rest h short)
+
+-- a text that goes on after a word
+pub word_ended : (text word rest : List ℕ) → All IsOfWord word → bytes_eq (take (length word) text) word ≡ true → rest ≡ drop (length word) text → 1 ≤ length rest
+    → ends_word (get_or rest 0 0) ≡ bytes_eq (first_word text) word
+word_ended text word rest h same e some = rw (stripped text word rest same e) (ended word rest h some)
+
+more_of_word : (byte : ℕ) (left right : List ℕ) (b : Bool) → ends_word byte ≡ b → first_word left ≡ first_word right → first_word (byte ∷ left) ≡ first_word (byte ∷ right)
+more_of_word byte left right true e same = of_word byte left true e ∙ sym (of_word byte right true e)
+more_of_word byte left right false e same = of_word byte left false e ∙ ap (λ l. byte ∷ l) same ∙ sym (of_word byte right false e)
+
+-- the first word ends before the first tab
+word_before_tab : (name left right : List ℕ) → first_word (name ++ 9 ∷ left) ≡ first_word (name ++ 9 ∷ right)
+word_before_tab [] left right = of_word 9 left true refl ∙ sym (of_word 9 right true refl)
+word_before_tab (byte ∷ name) left right =
+    more_of_word byte (name ++ 9 ∷ left) (name ++ 9 ∷ right) (ends_word byte) refl (word_before_tab name left right)
+
+-- whether a text is a header depends only on what comes before its first tab
+pub header_before_tab : (name left right : List ℕ) → is_header (name ++ 9 ∷ left) ≡ is_header (name ++ 9 ∷ right)
+header_before_tab [] left right = ap (λ l. eqb 9 35 || is_header_word l) (word_before_tab [] left right)
+header_before_tab (byte ∷ name) left right = ap (λ l. eqb byte 35 || is_header_word l) (word_before_tab (byte ∷ name) left right)

@@ -1,5 +1,11 @@
 -- Names of chromosomes: whether two are one.
-use Rattle.bt_lines.proofs.Std.{◌≡◌, ℕ, ◌⊎◌, ◌+◌, ◌-◌, ◌<◌, ◌≤◌, ◌++◌, inl, inr, List, length, take, drop, get_or, refl, sym, ap, ◌∙◌, arith, true, false, eqb, bytes_eq, length-take, length-drop, cases_Bool, cases_lt, eq-eqb, eqb-true, false_from_ne_true, false≢true, drop-drop, get_or-drop, get_or-take, get_or_past, take-append-drop, le_bytes_4, bytes_eq-Decides, from_le_bytes, w32}
+use Rattle.bt_lines.proofs.Std.{◌≡◌, ℕ, ◌⊎◌, ◌+◌, ◌-◌, ◌<◌, ◌≤◌, ◌++◌, inl, inr, List, length, take, drop, get_or, refl, sym, ap, ◌∙◌, arith, true, false, eqb, bytes_eq, length-take, length-drop, cases_Bool, cases_lt, eq-eqb, eqb-true, false_from_ne_true, false≢true, drop-drop, get_or-drop, get_or-take, get_or_past, take-append-drop, le_bytes_4, bytes_eq-Decides, from_le_bytes, w32, zero, suc, ◌*◌, ◌/◌, ◌%◌, ◌^◌, [], ◌∷◌, append_assoc, add-mul-mod_self_right, eq_of_mul-eq-mul_left, mod-add-div, pow-succ', one_shl, pow-add, length-append, take-take, take-length, w64, Some, subst, drop-take, length-take-le, get_or-append_seam, is_ascii_digit, list_all, digits_value}
+use Rattle.bt_bed.specs.inside.FirstColumns.{BeginsWithName, IsKey, AreBounds, BeginsWith, HasColumns, Leads}
+use Rattle.bt_bed.specs.declared.parse.packed_name.PackedName.{PackedName}
+use Rattle.bt_lines.proofs.lemmas.numbers.NumberLemmas.{digits_denoting, digits_more, value_more, value_short}
+use Rattle.bt_lines.specs.model.Lines.{value_of}
+use Rattle.bt_bed.specs.declared.parse.parsed_number.ParsedNumber.{ParsedNumber}
+use Rattle.bt_bed.proofs.lemmas.read.ColumnLemmas.{begins_below, front_is_name, leads_by, name_in_front}
 
 pub same_name : (a b : List ℕ) → bytes_eq a b ≡ true → a ≡ b
 same_name a b t = (bytes_eq-Decides a b).0 t
@@ -84,3 +90,209 @@ ends_tell a b first last other_first other_last n some short fits other_fits f l
           (λ (xs : List ℕ). from_le_bytes w32 (drop (length xs - 4) xs)) is ∙ sym m in
           false≢true (sym other ∙ eq-eqb last other_last equal)))
     ]
+
+-- Lemmas on the name of a chromosome and the tab after it as one number.
+
+-- bytes as one number, of which the first is the lowest
+abbrev worth : List ℕ → ℕ
+worth [] = 0
+worth (x ∷ xs) = x + 256 * worth xs
+
+worth_is : (bytes : List ℕ) → length bytes ≤ 8 → from_le_bytes w64 bytes ≡ worth bytes
+worth_is [] n = refl
+worth_is (a ∷ []) n = omega arith
+worth_is (a ∷ b ∷ []) n = omega arith
+worth_is (a ∷ b ∷ c ∷ []) n = omega arith
+worth_is (a ∷ b ∷ c ∷ d ∷ []) n = omega arith
+worth_is (a ∷ b ∷ c ∷ d ∷ e ∷ []) n = omega arith
+worth_is (a ∷ b ∷ c ∷ d ∷ e ∷ f ∷ []) n = omega arith
+worth_is (a ∷ b ∷ c ∷ d ∷ e ∷ f ∷ g ∷ []) n = omega arith
+worth_is (a ∷ b ∷ c ∷ d ∷ e ∷ f ∷ g ∷ h ∷ []) n = omega arith
+worth_is (a ∷ b ∷ c ∷ d ∷ e ∷ f ∷ g ∷ h ∷ i ∷ rest) n = absurd (omega arith)
+
+-- what the bytes after an offset add to the number
+worth_parts : (front rest : List ℕ) → worth (front ++ rest) ≡ worth front + worth rest * 256 ^ length front
+worth_parts [] rest = omega arith
+worth_parts (x ∷ front) rest =
+    let before = worth_parts front rest in
+    rw (pow-succ' 256 (length front)) (omega arith)
+
+low_same : (x y a b : ℕ) → x < 256 → y < 256 → x + 256 * a ≡ y + 256 * b → (x ≡ y) × (a ≡ b)
+low_same x y a b small other e = (omega arith, omega arith)
+
+raise_one : (x a p k : ℕ) → x + 256 * a + p * 256 ^ suc k ≡ x + 256 * (a + p * 256 ^ k)
+raise_one x a p k = rw (pow-succ' 256 k) (omega arith)
+
+-- what is moved past the upper end is lost
+lost_rest : (a b f k n : ℕ) → f * k ≡ n → ((a + b * k) * f) % n ≡ (a * f) % n
+lost_rest a b f k n is =
+    let sum : (a + b * k) * f ≡ a * f + b * n = omega (arith, ap (λ (m : ℕ). b * m) is) in
+    ap (λ (m : ℕ). m % n) sum ∙ add-mul-mod_self_right (a * f) b n
+
+-- bytes whose numbers differ by a multiple of 256 ^ k have the same first k bytes
+front_same : (k : ℕ) (a b : List ℕ) (p q : ℕ) → ((i : ℕ) → get_or a i 0 < 256) → ((i : ℕ) → get_or b i 0 < 256)
+    → k ≤ length a → k ≤ length b → worth a + p * 256 ^ k ≡ worth b + q * 256 ^ k → take k a ≡ take k b
+front_same zero a b p q fit other m n e = refl
+front_same (suc k) [] b p q fit other m n e = absurd (omega arith)
+front_same (suc k) (x ∷ a) [] p q fit other m n e = absurd (omega arith)
+front_same (suc k) (x ∷ a) (y ∷ b) p q fit other m n e =
+    let parts = low_same x y (worth a + p * 256 ^ k) (worth b + q * 256 ^ k) (fit 0) (other 0)
+    (sym (raise_one x (worth a) p k) ∙ e ∙ raise_one y (worth b) q k) in
+    let rest = front_same k a b p q (λ i. fit (suc i)) (λ i. other (suc i)) (omega arith) (omega arith) parts.1 in
+    ap (λ (z : ℕ). z ∷ take k a) parts.0 ∙ ap (λ (l : List ℕ). y ∷ l) rest
+
+some_factor : (f k n : ℕ) → f * k ≡ n → 0 < n → 0 < f
+some_factor f k n is some = elim (cases_lt 0 f) [
+  | inl has ↦ has
+  | inr none ↦ let zero : f ≡ 0 = omega arith in let product = ap (λ (g : ℕ). g * k) zero in absurd (omega arith)
+]
+
+-- what is lost of a product is a multiple of the other factor
+lost_parts : (a b f k n : ℕ) → f * k ≡ n → 0 < n → (a * f) % n ≡ (b * f) % n → a + (b * f / n) * k ≡ b + (a * f / n) * k
+lost_parts a b f k n is some same =
+    let whole = mod-add-div (a * f) n in
+    let other = mod-add-div (b * f) n in
+    let product : f * (a + (b * f / n) * k) ≡ f * (b + (a * f / n) * k) = omega (arith, ap (λ (m : ℕ). (b * f / n) * m) is, ap (λ (m : ℕ). (a * f / n) * m) is) in
+    eq_of_mul-eq-mul_left f (some_factor f k n is some) (a + (b * f / n) * k) (b + (a * f / n) * k) product
+
+bytes_and_tab : (name : List ℕ) → ((i : ℕ) → get_or name i 0 < 256) → (i : ℕ) → get_or (name ++ 9 ∷ []) i 0 < 256
+bytes_and_tab [] bytes zero = omega arith
+bytes_and_tab [] bytes (suc i) = omega arith
+bytes_and_tab (x ∷ name) bytes zero = bytes 0
+bytes_and_tab (x ∷ name) bytes (suc i) = bytes_and_tab name (λ k. bytes (suc k)) i
+
+-- bytes of which the first become the key's number begin with the name and a tab
+pub key_tells : (name bytes : List ℕ) (key : PackedName) → IsKey name key → length bytes ≡ 8 → ((i : ℕ) → get_or bytes i 0 < 256)
+    → (from_le_bytes w64 bytes * key.factor) % 2 ^ 64 ≡ key.word → take (length name + 1) bytes ≡ name ++ 9 ∷ []
+key_tells name bytes key is eight fit same =
+    let short = is.short in
+    let size : length (name ++ 9 ∷ []) ≡ length name + 1 = length-append name (9 ∷ []) in
+    let words : (worth bytes * key.factor) % 2 ^ 64 ≡ (worth (name ++ 9 ∷ []) * key.factor) % 2 ^ 64 =
+    ap (λ (w : ℕ). (w * key.factor) % 2 ^ 64) (sym (worth_is bytes (omega arith))) ∙ same ∙ is.word
+    ∙ ap (λ (w : ℕ). (w * key.factor) % 2 ^ 64) (worth_is (name ++ 9 ∷ []) (omega arith)) in
+    let parts = lost_parts (worth bytes) (worth (name ++ 9 ∷ [])) key.factor (256 ^ (length name + 1)) (2 ^ 64) is.factor (omega arith) words in
+    front_same (length name + 1) bytes (name ++ 9 ∷ []) _ _ fit (bytes_and_tab name is.bytes) (omega arith) (omega arith) parts
+    ∙ ap (λ (n : ℕ). take n (name ++ 9 ∷ [])) (sym size) ∙ take-length (name ++ 9 ∷ [])
+
+-- eight bytes that begin with the name and a tab become the key's number
+pub key_made : (name bytes : List ℕ) (factor : ℕ) → length name ≤ 7 → factor * 256 ^ (length name + 1) ≡ 2 ^ 64 → length bytes ≡ 8 → take (length name + 1) bytes ≡ name ++ 9 ∷ []
+    → (from_le_bytes w64 bytes * factor) % 2 ^ 64 ≡ (from_le_bytes w64 (name ++ 9 ∷ []) * factor) % 2 ^ 64
+key_made name bytes factor short is eight front =
+    let size : length (name ++ 9 ∷ []) ≡ length name + 1 = length-append name (9 ∷ []) in
+    let rest = drop (length name + 1) bytes in
+    let parts : bytes ≡ (name ++ 9 ∷ []) ++ rest = sym (take-append-drop (length name + 1) bytes) ∙ ap (λ (l : List ℕ). l ++ rest) front in
+    let number : worth bytes ≡ worth (name ++ 9 ∷ []) + worth rest * 256 ^ (length name + 1) =
+    ap worth parts ∙ worth_parts (name ++ 9 ∷ []) rest ∙ ap (λ (n : ℕ). worth (name ++ 9 ∷ []) + worth rest * 256 ^ n) size in
+    ap (λ (w : ℕ). (w * factor) % 2 ^ 64) (worth_is bytes (omega arith) ∙ number)
+    ∙ lost_rest (worth (name ++ 9 ∷ [])) (worth rest) factor (256 ^ (length name + 1)) (2 ^ 64) is
+    ∙ ap (λ (w : ℕ). (w * factor) % 2 ^ 64) (sym (worth_is (name ++ 9 ∷ []) (omega arith)))
+
+-- a power of 256 as one of 2
+power_is : (m : ℕ) → 256 ^ m ≡ 2 ^ (8 * m)
+power_is zero = refl
+power_is (suc m) =
+    let more : 8 + 8 * m ≡ 8 * suc m = omega arith in
+    pow-succ' 256 m ∙ ap (λ (w : ℕ). 2 ^ 8 * w) (power_is m) ∙ sym (pow-add 2 8 (8 * m)) ∙ ap (λ (k : ℕ). 2 ^ k) more
+
+-- what moves a name of this length and a tab to the upper bytes
+pub factor_is : (n : ℕ) → n ≤ 7 → (1 * 2 ^ (8 * (7 - n))) % 2 ^ 64 * 256 ^ (n + 1) ≡ 2 ^ 64
+factor_is n short =
+    let power : 256 ^ (n + 1) ≡ 2 ^ (8 * (n + 1)) = power_is (n + 1) in
+    let whole : 8 * (7 - n) + 8 * (n + 1) ≡ 64 = omega arith in
+    ap (λ (w : ℕ). w * 256 ^ (n + 1)) (one_shl (8 * (7 - n)) 64 (omega arith)) ∙ ap (λ (w : ℕ). 2 ^ (8 * (7 - n)) * w) power
+    ∙ sym (pow-add 2 (8 * (7 - n)) (8 * (n + 1))) ∙ ap (λ (k : ℕ). 2 ^ k) whole
+
+-- bytes of which the first are a name and a tab begin with these
+pub front_begins : (text bytes name : List ℕ) → bytes ≡ take 8 text → length name ≤ 7 → take (length name + 1) bytes ≡ name ++ 9 ∷ [] → BeginsWithName text name
+front_begins text bytes name are short front =
+    let same : take (length name + 1) text ≡ name ++ 9 ∷ [] =
+    sym (ap (take (length name + 1)) are ∙ take-take (length name + 1) 8 text (omega arith)) ∙ front in
+    sym (take-append-drop (length name + 1) text) ∙ ap (λ (l : List ℕ). l ++ drop (length name + 1) text) same
+    ∙ append_assoc name (9 ∷ []) (drop (length name + 1) text)
+
+-- Lemmas on the first columns of a line that are scanned in the buffer.
+
+-- eight digits that denote a number
+pub eight_begin : (text : List ℕ) (value : ℕ) → 8 ≤ length text → value_of (take 8 text) ≡ Some value → BeginsWith text (record { value = value; end = 8 })
+eight_begin text value room denotes =
+    let is = digits_denoting (take 8 text) value (sym denotes) in
+    record { within = room; short = omega arith; digits = is.0; value = is.1 }
+
+-- the digits that eight bytes begin with
+pub few_begin : (text bytes : List ℕ) (lead : ParsedNumber) → bytes ≡ take 8 text → 8 ≤ length text → BeginsWith bytes lead → BeginsWith text lead
+few_begin text bytes lead are room begins =
+    let within = begins.within in
+    let size : length bytes ≡ 8 = ap length are ∙ length-take-le 8 text room in
+    let same : take lead.end bytes ≡ take lead.end text = ap (take lead.end) are ∙ take-take lead.end 8 text (omega arith) in
+    record {
+      within = omega arith;
+      short = begins.short;
+      digits = ap (list_all is_ascii_digit) (sym same) ∙ begins.digits;
+      value = begins.value ∙ ap (digits_value 10) same;
+    }
+
+-- one digit more
+pub one_more : (text : List ℕ) (lead : ParsedNumber) → BeginsWith text lead → lead.end < 12 → lead.end < length text → is_ascii_digit (get_or text lead.end 0) ≡ true
+    → BeginsWith text (record { value = lead.value * 10 + (get_or text lead.end 0 - 48); end = lead.end + 1 })
+one_more text lead begins short inside digit = record {
+  within = omega arith;
+  short = omega arith;
+  digits = digits_more text lead.end inside begins.digits digit;
+  value = value_more text lead.end lead.value inside begins.value digit;
+}
+
+-- the number of eight digits is small
+pub eight_small : (text : List ℕ) (value : ℕ) → 8 ≤ length text → value_of (take 8 text) ≡ Some value → value ≤ 999999999999
+eight_small text value room denotes =
+    let begins = eight_begin text value room denotes in
+    value_short 8 value (begins_below text (record { value = value; end = 8 }) begins) (omega arith)
+
+module _ (bytes name : List ℕ) (start stop : ParsedNumber) (has : HasColumns bytes name start stop) where
+  name_tab : get_or bytes (length name) 0 ≡ 9
+  name_tab = ap (λ l. get_or l (length name) 0) has.named ∙ get_or-append_seam name 9 (drop (length name + 1) bytes) 0
+
+  -- the text of a line that begins there
+  module _ (text : List ℕ) (past : length name + start.end + stop.end + 2 ≤ length text) (front : take (length text) bytes ≡ text)
+      (last_tab : length name + start.end + stop.end + 2 < length text → get_or text (length name + start.end + stop.end + 2) 0 ≡ 9) where
+    -- a prefix of it
+    front_is : (n : ℕ) → n ≤ length name + start.end + stop.end + 2 → take n text ≡ take n bytes
+    front_is n small = ap (take n) (sym front) ∙ take-take n (length text) bytes (omega arith)
+
+    -- a byte of it
+    byte_is : (k : ℕ) → k < length name + start.end + stop.end + 2 → get_or text k 0 ≡ get_or bytes k 0
+    byte_is k small =
+        sym (get_or-take (k + 1) text k 0 (omega arith)) ∙ ap (λ l. get_or l k 0) (front_is (k + 1) (omega arith))
+        ∙ get_or-take (k + 1) bytes k 0 (omega arith)
+
+    -- a number in it
+    number_in : (at : ℕ) (lead : ParsedNumber) → BeginsWith (drop at bytes) lead → at + lead.end ≤ length name + start.end + stop.end + 2 → take lead.end (drop at text) ≡ take lead.end (drop at bytes)
+    number_in at lead begins small =
+        sym (drop-take at lead.end text) ∙ ap (drop at) (front_is (at + lead.end) small) ∙ drop-take at lead.end bytes
+
+    pub line_named : BeginsWithName text name
+    line_named =
+        name_in_front text name (omega arith) (byte_is (length name) (omega arith) ∙ name_tab)
+        ((bytes_eq-Decides name (take (length name) text)).1 (sym (front_is (length name) (omega arith) ∙ front_is_name bytes name has.named)))
+
+    leads_at : (at : ℕ) (lead : ParsedNumber) → BeginsWith (drop at bytes) lead → 0 < lead.end → at + lead.end ≤ length name + start.end + stop.end + 2 → (at + lead.end < length text → get_or text (at + lead.end) 0 ≡ 9)
+        → Leads (drop at text) lead
+    leads_at at lead begins some small tab =
+        let same = number_in at lead begins small in
+        let size = length-drop at text in
+        leads_by (drop at text) lead.value lead.end some (omega arith) (λ inside. get_or-drop at text lead.end 0 ∙ tab (omega arith))
+        (begins.value ∙ ap (digits_value 10) (sym same)) (ap (list_all is_ascii_digit) same ∙ begins.digits)
+        (value_short lead.end lead.value (begins_below (drop at bytes) lead begins) begins.short)
+
+    pub line_bounds : AreBounds text (length name) start stop
+    line_bounds =
+        let tab : get_or text (length name + start.end + 1) 0 ≡ 9 = byte_is (length name + start.end + 1) (omega arith) ∙ has.tab in
+        let first_end : length name + 1 + start.end ≡ length name + start.end + 1 = omega arith in
+        let second_end : length name + start.end + 2 + stop.end ≡ length name + start.end + stop.end + 2 = omega arith in
+        let second_at : length name + 1 + (start.end + 1) ≡ length name + start.end + 2 = omega arith in
+        record {
+          first = leads_at (length name + 1) start has.first has.some_first (omega arith) (λ inside. ap (λ (i : ℕ). get_or text i 0) first_end ∙ tab);
+          inside = omega (arith, length-drop (length name + 1) text);
+          second = subst (λ (l : List ℕ). Leads l stop) (ap (λ (i : ℕ). drop i text) (sym second_at) ∙ sym (drop-drop (start.end + 1) (length name + 1) text))
+              (leads_at (length name + start.end + 2) stop has.second has.some_second (omega arith) (λ inside. ap (λ (i : ℕ). get_or text i 0) second_end ∙ last_tab (omega arith)));
+          below = has.below;
+        }

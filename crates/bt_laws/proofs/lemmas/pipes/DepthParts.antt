@@ -1,24 +1,19 @@
 -- The intervals of depth 0, and the others.
 use Rattle.bt_lines.proofs.Std.{◌≡◌, ℕ, ◌<◌, Bool, true, false, cond, List, [], ◌∷◌, ◌++◌, map, filter, Option, Some, None, refl, sym, ap, ap₂, ◌∙◌, subst, inl, inr, arith, eqb, flat_map, nat_lt, cases_Bool, eqb-true, lt-ltb, ltb-true, filter-append}
 use Rattle.bt_lines.specs.declared.fault.Input.TheVariants.{First}
-use Rattle.bt_bed.specs.model.feature.Feature.{Feature}
-use Rattle.bt_bed.specs.model.order.Genome.{Entry}
-use Rattle.bt_bed.specs.model.input.Good.{items_in}
-use Rattle.bt_bed.specs.model.input.GoodBed.{bed_good}
-use Rattle.bt_bed.specs.model.feature.Interval.{Span}
+use Rattle.bt_bed.specs.model.Feature.{Feature, Span}
+use Rattle.bt_bed.specs.model.Genome.{Entry}
+use Rattle.bt_bed.specs.model.Good.{items_in, bed_good}
 use Rattle.bt_bed.specs.declared.record.strand.Strand.{Strand}
-use Rattle.bt_laws.specs.runs.CoveredLevels.{interval_at}
-use Rattle.bt_runs.specs.model.Depth.{DepthInterval, counted_on, coverage, depth_at, depth_lines, depth_of, depth_on, depths_on}
+use Rattle.bt_laws.specs.Runs.{interval_at, AreDisjointFrom, DiffersFromNext, HasValue}
+use Rattle.bt_runs.specs.model.Depth.{DepthInterval, counted_on, coverage, depth_at, depth_lines, depth_of, depth_on, depths_on, Level, levels_of}
 use Rattle.bt_runs.specs.model.Gaps.{complement}
-use Rattle.bt_laws.specs.runs.Levels.{AreDisjointFrom, DiffersFromNext, HasValue}
-use Rattle.bt_runs.specs.model.Levels.{Level, levels_of}
-use Rattle.bt_laws.proofs.lemmas.runs.CoveredLevels.{gaps_depth_0}
-use Rattle.bt_laws.proofs.lemmas.runs.LevelLemmas.{are_levels, looser, only_levels}
-use Rattle.bt_tool.specs.model.report.Behaviour.{entries_in, order_of}
-use Rattle.bt_tool.specs.model.report.Written.{complement_written, coverage_written}
+use Rattle.bt_laws.proofs.lemmas.single.LevelLemmas.{gaps_depth_0, are_levels, looser, only_levels}
+use Rattle.bt_tool.specs.model.Report.{entries_in, order_of}
+use Rattle.bt_tool.specs.model.Written.{complement_written, coverage_written}
 use Rattle.bt_tool.specs.declared.planning.plan_type.Command.TheVariants.{Complement, Coverage}
 use Rattle.bt_laws.specs.WholeRuns.{first_records}
-use Rattle.bt_laws.specs.same.SameRuns.{bg_is_bga_above_0, depth_0_is_complement, without_depth}
+use Rattle.bt_laws.specs.Same.{bg_is_bga_above_0, depth_0_is_complement, without_depth}
 use Rattle.bt_laws.proofs.lemmas.pipes.PipeLaws.{complement_whole, genomecov_whole}
 use Rattle.bt_laws.proofs.lemmas.same.SameRuns.{fault_as, told_same}
 

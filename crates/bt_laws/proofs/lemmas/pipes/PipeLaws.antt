@@ -1,60 +1,46 @@
 -- The reports whose outputs go on as inputs.
-use Rattle.bt_lines.proofs.Std.{append-nil, append_assoc, ◌≡◌, ℕ, Bool, true, false, List, [], ◌∷◌, ◌++◌, map, filter, Option, Some, None, Ok, refl, sym, ap, ◌∙◌, subst, ◌≢◌, flat_map, if◌then◌else◌, AllByRecursion, AllPairs, list_all, option_or}
+use Rattle.bt_lines.proofs.Std.{append-nil, append_assoc, ◌≡◌, ℕ, Bool, true, false, List, [], ◌∷◌, ◌++◌, map, filter, Option, Some, None, Ok, refl, sym, ap, ◌∙◌, subst, ◌≢◌, flat_map, if◌then◌else◌, AllByRecursion, AllPairs, list_all, option_or, ◌+◌, ◌<◌, length, inl, inr, arith, length-append, cases_eq, cases_lt, lt-ltb, ltb-true, filter-append}
 use Rattle.bt_lines.specs.model.Fault.{FaultValue}
-use Rattle.bt_lines.specs.model.Handed.{Handed}
+use Rattle.bt_lines.specs.model.Lines.{Handed}
 use Rattle.bt_lines.specs.declared.fault.Input.TheVariants.{First, Genome, Second}
-use Rattle.bt_bed.specs.model.order.ByteOrder.{byte_order, bytes_total}
-use Rattle.bt_bed.specs.model.feature.Feature.{Feature, intervals_of, interval_of}
-use Rattle.bt_bed.specs.model.order.Genome.{Entry, genome_handed, genome_names}
-use Rattle.bt_bed.specs.model.input.Good.{Good, Member, items_in}
-use Rattle.bt_bed.specs.model.input.GoodBed.{bed_good}
-use Rattle.bt_bed.specs.model.feature.Interval.{Interval}
-use Rattle.bt_bed.specs.model.feature.IntervalLine.{interval_lines}
-use Rattle.bt_bed.specs.model.order.Locus.{ArePlaced}
-use Rattle.bt_bed.specs.model.feature.LineKind.{fault_at_line}
+use Rattle.bt_bed.specs.model.Order.{byte_order, bytes_total, Order, IsTotal, AreDistinct}
+use Rattle.bt_bed.specs.model.Feature.{Feature, intervals_of, interval_of, Interval, interval_lines, fault_at_line, Span, IsCovered}
+use Rattle.bt_bed.specs.model.Genome.{Entry, genome_handed, genome_names}
+use Rattle.bt_bed.specs.model.Good.{Good, Member, items_in, bed_good, Met, join_report, written}
+use Rattle.bt_bed.specs.model.Sorted.{ArePlaced}
 use Rattle.bt_lines.specs.declared.fault.Kind.TheVariants.{TooManyHeld}
-use Rattle.bt_bed.specs.model.input.TwoInputReport.{Met, join_report, written}
-use Rattle.bt_bed.specs.model.order.Order.{Order, IsTotal}
-use Rattle.bt_bed.specs.model.order.Rank.{AreDistinct}
 use Rattle.bt_bed.specs.declared.record.strand.Strand.{Strand}
-use Rattle.bt_bed.proofs.lemmas.definitions.GoodBedLemmas.{non_empty_good, placed_good}
-use Rattle.bt_laws.specs.runs.CoveredLevels.{interval_at}
-use Rattle.bt_runs.specs.model.Depth.{coverage, depth_lines, DepthInterval}
-use Rattle.bt_runs.specs.model.Gaps.{complement}
-use Rattle.bt_runs.specs.model.RunOrder.{ordered_runs}
-use Rattle.bt_runs.specs.model.StrandRuns.{places_of, strand_runs}
+use Rattle.bt_bed.proofs.lemmas.Definitions.{non_empty_good, placed_good}
+use Rattle.bt_laws.specs.Runs.{interval_at}
+use Rattle.bt_runs.specs.model.Depth.{coverage, depth_lines, DepthInterval, covers, depth_at, levels_of}
+use Rattle.bt_runs.specs.model.Gaps.{complement, IsBare, gaps_of}
+use Rattle.bt_runs.specs.model.Merged.{ordered_runs, places_of, strand_runs, Bridged, runs_of}
 use Rattle.bt_runs.specs.declared.merge.merge_strand.MergeStrand.{MergeStrand}
 use Rattle.bt_runs.specs.declared.merge.merge_strand.MergeStrand.TheVariants.{All, Each, One}
-use Rattle.bt_laws.proofs.lemmas.runs.StrandOrder.{in_order}
-use Rattle.bt_sweep.specs.model.IntersectLines.{intersect}
-use Rattle.bt_sweep.specs.model.Limit.{are_too_many, cut_behind, limited}
-use Rattle.bt_sweep.specs.model.Subtract.{subtract_shape}
-use Rattle.bt_sweep.specs.model.SweepMeeting.{sweep_rule}
+use Rattle.bt_laws.proofs.lemmas.single.StrandOrder.{in_order}
+use Rattle.bt_sweep.specs.model.Lines.{intersect, subtract_shape, sweep_rule}
+use Rattle.bt_sweep.specs.model.Hits.{are_too_many, cut_behind, limited}
 use Rattle.bt_sweep.specs.declared.hits.hit_rule.HitRule.{HitRule}
 use Rattle.bt_sweep.specs.declared.output.shape.Shape.{Shape}
 use Rattle.bt_sweep.specs.declared.output.shape.Shape.TheVariants.{Pieces, Whole}
-use Rattle.bt_sweep.proofs.lemmas.definitions.SweepsLemmas.{faultless_all}
-use Rattle.bt_tool.specs.model.report.Behaviour.{behaviour_of, entries_in, order_of}
-use Rattle.bt_tool.specs.model.report.Inputs.{Inputs, or_empty}
-use Rattle.bt_tool.specs.model.report.RecordReport.{Report, report_by}
-use Rattle.bt_tool.specs.model.report.Report.{chromosomes_of, report_of, report_on}
-use Rattle.bt_tool.specs.model.report.SweepReport.{met_within}
-use Rattle.bt_tool.specs.model.report.Written.{Written, complement_written, coverage_written, merge_written}
+use Rattle.bt_sweep.proofs.lemmas.definitions.HitLemmas.{faultless_all}
+use Rattle.bt_tool.specs.model.Report.{behaviour_of, entries_in, order_of, Inputs, or_empty, chromosomes_of, report_of, report_on}
+use Rattle.bt_tool.specs.model.Written.{Report, report_by, met_within, Written, complement_written, coverage_written, merge_written}
 use Rattle.bt_tool.specs.declared.planning.plan_type.Command.{Command}
 use Rattle.bt_tool.specs.declared.planning.plan_type.Command.TheVariants.{Complement, Coverage, Intersect, Merge, Subtract}
 use Rattle.bt_laws.specs.WholeRuns.{RunsWithoutFault, first_records, second_records}
-use Rattle.bt_laws.specs.pipes.Pipes.{runs_by, complement_is_input, cut_intersect_is_input, cut_strands_stay, genomecov_is_input, intersect_is_input, kept_places_stay, kept_records_stay, kept_strands_stay, merge_is_input, subtract_is_input, whole_subtract_is_input}
-use Rattle.bt_laws.specs.pipes.SweepLines.{begins_with_a, records_written}
-use Rattle.bt_laws.specs.pipes.Taken.{AreSeparate, AreDisjoint, IsInput, four_columns, is_no_header, three_columns}
+use Rattle.bt_laws.specs.Pipes.{runs_by, complement_is_input, cut_intersect_is_input, cut_strands_stay, genomecov_is_input, intersect_is_input, kept_places_stay, kept_records_stay, kept_strands_stay, merge_is_input, subtract_is_input, whole_subtract_is_input, begins_with_a, records_written, AreSeparate, AreDisjoint, IsInput, four_columns, is_no_header, three_columns, complement_writes_disjoint, genomecov_writes_disjoint, merge_writes_disjoint}
 use Rattle.bt_laws.proofs.lemmas.Lists.{EachPair, pairs_all, pairs_each}
-use Rattle.bt_laws.proofs.lemmas.back.RunsBack.{coverage_back, depths_disjoint, gaps_back, gaps_pairs, intervals_back, merge_apart, merge_back, runs_back, strands_written}
-use Rattle.bt_laws.proofs.lemmas.parts.report.PartShards.{distinct_in, file_is}
-use Rattle.bt_laws.proofs.lemmas.back.SaidWell.{IsChrom, IsSaid, genome_chroms, good_are_said}
-use Rattle.bt_laws.proofs.lemmas.back.SweepBack.{cut_back, kept_back, pieces_back}
-use Rattle.bt_laws.proofs.lemmas.back.SweepRead.{all_read, cut_stay, places_stay, records_stay, strands_stay}
-use Rattle.bt_laws.proofs.lemmas.parts.text.PartTexts.{order_total}
-use Rattle.bt_laws.specs.pipes.PipesApart.{complement_writes_disjoint, genomecov_writes_disjoint, merge_writes_disjoint}
+use Rattle.bt_laws.proofs.lemmas.pipes.RunsBack.{coverage_back, depths_disjoint, gaps_back, gaps_pairs, intervals_back, merge_apart, merge_back, runs_back, strands_written}
+use Rattle.bt_laws.proofs.lemmas.parts.PartShards.{distinct_in, file_is}
+use Rattle.bt_laws.proofs.lemmas.pipes.LinesBack.{IsChrom, IsSaid, genome_chroms, good_are_said}
+use Rattle.bt_laws.proofs.lemmas.pipes.SweepBack.{cut_back, kept_back, pieces_back}
+use Rattle.bt_laws.proofs.lemmas.pipes.SweepRead.{all_read, cut_stay, places_stay, records_stay, strands_stay}
+use Rattle.bt_laws.proofs.lemmas.parts.PartTexts.{order_total}
 use Rattle.bt_laws.proofs.lemmas.pipes.Placing.{apart_disjoint, pairs_filter, pairs_from_map, pairs_map}
+use Rattle.bt_runs.proofs.lemmas.merge.Bridging.{are_runs, bridged_here, is_covered-Decides, only_runs}
+use Rattle.bt_laws.proofs.lemmas.single.LevelLemmas.{covered_depth, are_levels, only_levels}
+use Rattle.bt_runs.proofs.lemmas.complement.Walks.{are_gaps, only_gaps}
 
 -- ---- the order in use
 
@@ -328,3 +314,117 @@ genomecov_disjoint zeros strand inputs chromosomes well =
     let depths = coverage zeros strand (entries_in chromosomes) (first_records chromosomes inputs) in
     subst (λ rs. AllPairs AreDisjoint (intervals_of rs)) (sym (is.1.records_are First))
     (places_apart (filter is_no_header (map four_columns depths)) (pairs_filter (λ (r s : Feature). AreDisjoint (interval_of r) (interval_of s)) is_no_header (map four_columns depths) (of_four depths (pairs_each AreDisjoint (map interval_at depths) is.2))))
+
+-- Spans that cover the same positions: the runs and the gaps are the same.
+
+pub record SameCover (xs ys : List Span) : Type 0 where
+  pub to : (p : ℕ) → IsCovered xs p → IsCovered ys p
+  pub back : (p : ℕ) → IsCovered ys p → IsCovered xs p
+
+pub same_sym : (xs ys : List Span) → SameCover xs ys → SameCover ys xs
+same_sym xs ys h = record { to = h.back; back = h.to }
+
+bridged_to : (gap : ℕ) (xs ys : List Span) (p : ℕ) → SameCover xs ys → Bridged gap xs p → Bridged gap ys p
+bridged_to gap xs ys p same b = record {
+  left = b.left;
+  right = b.right;
+  left_covered = same.to b.left b.left_covered;
+  right_covered = same.to b.right b.right_covered;
+  from_left = b.from_left;
+  to_right = b.to_right;
+  near = b.near;
+}
+
+pub same_runs : (gap : ℕ) (xs ys : List Span) → SameCover xs ys → runs_of gap xs ≡ runs_of gap ys
+same_runs gap xs ys same =
+    let runs = are_runs gap xs in
+    only_runs gap ys (runs_of gap xs) (record {
+      apart = runs.apart;
+      within = λ p c. bridged_to gap xs ys p same (runs.within p c);
+      whole = λ p b. runs.whole p (bridged_to gap ys xs p (same_sym xs ys same) b);
+    })
+
+bare_to : (size : ℕ) (xs ys : List Span) (p : ℕ) → SameCover xs ys → IsBare size xs p → IsBare size ys p
+bare_to size xs ys p same b = record { within = b.within; bare = λ c. b.bare (same.back p c) }
+
+pub same_gaps : (size : ℕ) (xs ys : List Span) → SameCover xs ys → gaps_of size xs ≡ gaps_of size ys
+same_gaps size xs ys same =
+    let gaps = are_gaps size xs in
+    only_gaps size ys (gaps_of size xs) (record {
+      apart = gaps.apart;
+      within = λ p c. bare_to size xs ys p same (gaps.within p c);
+      whole = λ p b. gaps.whole p (bare_to size ys xs p (same_sym xs ys same) b);
+    })
+
+pub same_levels : (u v : ℕ → Option ℕ) (size : ℕ) → ((p : ℕ) → u p ≡ v p) → levels_of u size ≡ levels_of v size
+same_levels u v size same =
+    let levels = are_levels u size in
+    only_levels v size (levels_of u size) (record {
+      disjoint = levels.disjoint;
+      within = λ p n h. let w = levels.within p n h in (w.0, sym (same p) ∙ w.1);
+      whole = λ p n below h. levels.whole p n below (same p ∙ h);
+    })
+
+-- ---- what bridges the runs
+
+-- a position between two runs that are near is bridged by what they cover
+again_by : (gap : ℕ) (spans : List Span) (p : ℕ) (b : Bridged gap (runs_of gap spans) p) (l : Bridged gap spans b.left) (r : Bridged gap spans b.right) → Bridged gap spans p
+again_by gap spans p b l r = elim (cases_lt l.right p) [
+  | inr below ↦ record { left = l.left; right = l.right; left_covered = l.left_covered; right_covered = l.right_covered; from_left = omega (arith, l.from_left, b.from_left); to_right = below; near = l.near }
+  | inl above ↦ elim (cases_lt p r.left) [
+    | inr past ↦ record { left = r.left; right = r.right; left_covered = r.left_covered; right_covered = r.right_covered; from_left = past; to_right = omega (arith, b.to_right, r.to_right); near = r.near }
+    | inl between ↦ record {
+      left = l.right;
+      right = r.left;
+      left_covered = l.right_covered;
+      right_covered = r.left_covered;
+      from_left = omega (arith, above);
+      to_right = omega (arith, between);
+      near = omega (arith, b.near, l.to_right, r.from_left);
+    }
+  ]
+]
+
+pub runs_again : (gap : ℕ) (spans : List Span) → runs_of gap (runs_of gap spans) ≡ runs_of gap spans
+runs_again gap spans =
+    let runs = are_runs gap spans in
+    sym (only_runs gap (runs_of gap spans) (runs_of gap spans) (record {
+      apart = runs.apart;
+      within = λ p c. bridged_here gap (runs_of gap spans) p c;
+      whole = λ p b. runs.whole p (again_by gap spans p b (runs.within b.left b.left_covered) (runs.within b.right b.right_covered));
+    }))
+
+bridged_covered : (spans : List Span) (p : ℕ) → Bridged 0 spans p → IsCovered spans p
+bridged_covered spans p b = elim (cases_eq b.left p) [
+  | inl same ↦ subst (IsCovered spans) same b.left_covered
+  | inr other ↦
+      let low = b.from_left in
+      let high = b.to_right in
+      let near = b.near in
+      let same : b.right ≡ p = omega arith in
+      subst (IsCovered spans) same b.right_covered
+]
+
+-- without a gap the runs cover what the spans cover
+pub runs_cover : (spans : List Span) → SameCover (runs_of 0 spans) spans
+runs_cover spans = record {
+  to = λ p c. bridged_covered spans p ((are_runs 0 spans).within p c);
+  back = λ p c. (are_runs 0 spans).whole p (bridged_here 0 spans p c);
+}
+
+-- ---- depths
+
+pub depth_both : (xs ys : List Span) (p : ℕ) → depth_at (xs ++ ys) p ≡ depth_at xs p + depth_at ys p
+depth_both xs ys p = ap length (filter-append (covers p) xs ys) ∙ length-append (filter (covers p) xs) (filter (covers p) ys)
+
+pub covered_some : (xs : List Span) (p : ℕ) → IsCovered xs p → 0 < depth_at xs p
+covered_some xs p c = ltb-true 0 (depth_at xs p) (sym (covered_depth xs p) ∙ (is_covered-Decides xs p).1 c)
+
+pub some_covered : (xs : List Span) (p : ℕ) → 0 < depth_at xs p → IsCovered xs p
+some_covered xs p some = (is_covered-Decides xs p).0 (covered_depth xs p ∙ lt-ltb 0 (depth_at xs p) some)
+
+pub same_by_depth : (xs ys : List Span) → ((p : ℕ) → 0 < depth_at xs p → 0 < depth_at ys p) → ((p : ℕ) → 0 < depth_at ys p → 0 < depth_at xs p) → SameCover xs ys
+same_by_depth xs ys to back = record {
+  to = λ p c. some_covered ys p (to p (covered_some xs p c));
+  back = λ p c. some_covered xs p (back p (covered_some ys p c));
+}

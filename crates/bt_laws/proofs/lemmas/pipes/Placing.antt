@@ -1,16 +1,14 @@
 -- Intervals chromosome by chromosome: they are in order, and those of different chromosomes have nothing in common.
 use Rattle.bt_lines.proofs.Std.{◌≡◌, ℕ, suc, ◌+◌, ◌<◌, ◌≤◌, Bool, true, false, cond, List, [], ◌∷◌, ◌++◌, map, filter, Option, Some, None, refl, sym, ap, ◌∙◌, subst, inl, inr, arith, IsTrue, flat_map, bytes_eq, is_some, option_map, AllByRecursion, or_parts}
 use Rattle.std.specs.declared.cmp.Ordering.TheVariants.{Less, Equal}
-use Rattle.bt_bed.specs.model.feature.Interval.{Interval, Span, placed_on}
-use Rattle.bt_bed.specs.model.order.Locus.{ArePlaced, IsPlacedBefore}
-use Rattle.bt_bed.specs.model.order.Order.{Order, IsTotal}
-use Rattle.bt_bed.specs.model.order.Rank.{AreDistinct, compare_ranks, is_among, rank_of, rank_order}
-use Rattle.bt_bed.specs.model.feature.Stretches.{AreApartFrom}
+use Rattle.bt_bed.specs.model.Feature.{Interval, Span, placed_on, AreApartFrom}
+use Rattle.bt_bed.specs.model.Sorted.{ArePlaced, IsPlacedBefore}
+use Rattle.bt_bed.specs.model.Order.{Order, IsTotal, AreDistinct, compare_ranks, is_among, rank_of, rank_order}
 use Rattle.bt_bed.proofs.lemmas.parse.NameLemmas.{name_ne-sym}
-use Rattle.bt_laws.specs.runs.RunOrder.{AreAscending, AreKnown}
+use Rattle.bt_laws.specs.Runs.{AreAscending, AreKnown}
 use Rattle.bt_runs.proofs.lemmas.definitions.Standing.{cmp_less, less_cmp}
 use Rattle.bt_runs.proofs.lemmas.order.FileOrder.{rank_of-here, rank_of-later}
-use Rattle.bt_laws.specs.pipes.Taken.{AreSeparate, AreDisjoint}
+use Rattle.bt_laws.specs.Pipes.{AreSeparate, AreDisjoint}
 use Rattle.bt_laws.proofs.lemmas.Lists.{EachPair, all_any, all_both, all_filter, all_flat_map, all_map, all_so, all_unmap, all_zip}
 
 -- ---- pairs

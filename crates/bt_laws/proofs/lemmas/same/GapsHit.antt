@@ -1,43 +1,33 @@
 -- What is left of a record lies in the gaps of the second input.
 use Rattle.bt_lines.proofs.Std.{◌≡◌, ℕ, ◌+◌, ◌<◌, ◌≤◌, true, false, cond, not, List, [], ◌∷◌, ◌++◌, append-nil, map, filter, max, min, Some, None, Ok, refl, sym, ap, ap₂, ◌∙◌, subst, inl, inr, arith, bytes_eq, flat_map, AllByRecursion, cases_Bool, false≢true, or_parts, flat_map-map}
-use Rattle.bt_lines.specs.model.Handed.{whole_text}
+use Rattle.bt_lines.specs.model.Lines.{whole_text}
 use Rattle.bt_lines.specs.declared.fault.Input.TheVariants.{First, Second}
-use Rattle.bt_bed.specs.model.feature.Feature.{Feature, interval_of, intervals_of}
-use Rattle.bt_bed.specs.model.order.Genome.{Entry, genome_names}
-use Rattle.bt_bed.specs.model.input.Good.{items_in}
-use Rattle.bt_bed.specs.model.input.GoodBed.{bed_good}
-use Rattle.bt_bed.specs.model.feature.Header.{is_header}
-use Rattle.bt_bed.specs.model.feature.Interval.{Interval, Span, span_of, spans_on}
-use Rattle.bt_bed.specs.model.feature.IntervalLine.{interval_lines}
-use Rattle.bt_bed.specs.model.order.Order.{Order}
-use Rattle.bt_bed.specs.model.order.Rank.{AreDistinct, is_among}
-use Rattle.bt_bed.specs.model.feature.Stretches.{AreApartFrom, IsCovered, stretches_from}
+use Rattle.bt_bed.specs.model.Feature.{Feature, interval_of, intervals_of, is_header, Interval, Span, span_of, spans_on, interval_lines, AreApartFrom, IsCovered, stretches_from}
+use Rattle.bt_bed.specs.model.Genome.{Entry, genome_names}
+use Rattle.bt_bed.specs.model.Good.{items_in, bed_good}
+use Rattle.bt_bed.specs.model.Order.{Order, AreDistinct, is_among}
 use Rattle.bt_bed.proofs.lemmas.parse.NameLemmas.{cases_name, name_eq}
 use Rattle.bt_runs.specs.model.Gaps.{IsBare, complement, gaps_of, gaps_on, is_asked, length_in}
-use Rattle.bt_runs.proofs.lemmas.order.ChromosomeLemmas.{spans_on-append, spans_on-elsewhere}
-use Rattle.bt_runs.proofs.lemmas.complement.OneGap.{are_gaps}
+use Rattle.bt_runs.proofs.lemmas.order.FileOrder.{spans_on-append, spans_on-elsewhere}
+use Rattle.bt_runs.proofs.lemmas.complement.Walks.{are_gaps}
 use Rattle.bt_sweep.specs.model.Hits.{any_overlap, hits, hits_among}
-use Rattle.bt_sweep.specs.model.IntersectLines.{intersect, lines_for, piece_line}
-use Rattle.bt_sweep.specs.model.Pieces.{pieces, spans_of}
+use Rattle.bt_sweep.specs.model.Lines.{intersect, lines_for, piece_line, pieces, spans_of}
 use Rattle.bt_sweep.specs.declared.output.shape.Shape.TheVariants.{Cut, Pieces}
 use Rattle.bt_sweep.proofs.lemmas.definitions.PieceLemmas.{only_pieces}
-use Rattle.bt_tool.specs.model.report.Behaviour.{order_of}
-use Rattle.bt_tool.specs.model.report.Inputs.{Inputs, or_empty}
-use Rattle.bt_tool.specs.model.report.RecordReport.{Report}
-use Rattle.bt_tool.specs.model.report.Report.{chromosomes_of}
-use Rattle.bt_tool.specs.model.report.Written.{complement_written}
+use Rattle.bt_tool.specs.model.Report.{order_of, Inputs, or_empty, chromosomes_of}
+use Rattle.bt_tool.specs.model.Written.{Report, complement_written}
 use Rattle.bt_tool.specs.declared.planning.plan_type.Command.TheVariants.{Complement, Intersect, Subtract}
 use Rattle.bt_laws.specs.WholeRuns.{first_records, second_records, RunWrites, of_second, with_second}
-use Rattle.bt_laws.specs.same.SameSweeps.{LieWithinLengths, subtract_by_complement}
-use Rattle.bt_laws.specs.pipes.Taken.{AreSeparate, IsInput, is_no_header, three_columns}
+use Rattle.bt_laws.specs.Same.{LieWithinLengths, subtract_by_complement}
+use Rattle.bt_laws.specs.Pipes.{AreSeparate, IsInput, is_no_header, three_columns}
 use Rattle.bt_laws.proofs.lemmas.Lists.{EachPair, all_any, all_map, all_so, filter_all, flat_map_same, all_zip}
-use Rattle.bt_laws.proofs.lemmas.back.RunsBack.{gaps_back, gaps_pairs}
+use Rattle.bt_laws.proofs.lemmas.pipes.RunsBack.{gaps_back, gaps_pairs}
 use Rattle.bt_laws.proofs.lemmas.pipes.PipeLaws.{chroms_of, intersect_whole, subtract_whole, well_there}
 use Rattle.bt_laws.proofs.lemmas.pipes.Placing.{pairs_filter, pairs_map, pairs_so}
 use Rattle.bt_laws.proofs.lemmas.same.SameRuns.{here_all, none_there, report_there}
-use Rattle.bt_laws.proofs.lemmas.back.SaidWell.{IsChrom, IsSaid, good_are_said}
+use Rattle.bt_laws.proofs.lemmas.pipes.LinesBack.{IsChrom, IsSaid, good_are_said}
 use Rattle.bt_laws.proofs.lemmas.same.SameSweeps.{hit_back, hit_to, met_none, nones, other_input, output_by, sweeps_from}
-use Rattle.bt_laws.proofs.lemmas.back.SweepBack.{Hit, all_hits, cut_bounds, same_name as hit_name}
+use Rattle.bt_laws.proofs.lemmas.pipes.SweepBack.{Hit, all_hits, cut_bounds, same_name as hit_name}
 
 -- ---- the gaps of one chromosome
 

@@ -1,51 +1,38 @@
 -- Gaps of gaps, and merged depths.
 use Rattle.bt_lines.proofs.Std.{◌≡◌, ℕ, ◌+◌, ◌<◌, ◌≤◌, true, false, cond, List, [], ◌∷◌, ◌++◌, map, filter, min, Some, None, refl, sym, ap, ap₂, ◌∙◌, subst, inl, inr, arith, append-nil, bytes_eq, flat_map, nat_lt, AllByRecursion, cases_Bool, cases_lt, false≢true, le-ltb, lt-ltb, or_parts, flat_map-append, map-append}
 use Rattle.bt_lines.specs.declared.fault.Input.TheVariants.{First}
-use Rattle.bt_bed.specs.model.feature.Feature.{Feature, intervals_of, interval_of}
-use Rattle.bt_bed.specs.model.order.Genome.{Entry, genome_names}
-use Rattle.bt_bed.specs.model.input.Good.{items_in}
-use Rattle.bt_bed.specs.model.input.GoodBed.{bed_good}
-use Rattle.bt_bed.specs.model.feature.Header.{is_header}
-use Rattle.bt_bed.specs.model.feature.Interval.{Interval, Span, placed_on, spans_on, span_of}
-use Rattle.bt_bed.specs.model.feature.IntervalLine.{interval_lines}
-use Rattle.bt_bed.specs.model.order.Locus.{ArePlaced}
-use Rattle.bt_bed.specs.model.order.Order.{Order}
-use Rattle.bt_bed.specs.model.order.Rank.{AreDistinct, is_among, rank_order}
-use Rattle.bt_bed.specs.model.feature.Stretches.{AreApartFrom, IsCovered}
-use Rattle.bt_bed.proofs.lemmas.definitions.GoodBedLemmas.{placed_good}
+use Rattle.bt_bed.specs.model.Feature.{Feature, intervals_of, interval_of, is_header, Interval, Span, placed_on, spans_on, span_of, interval_lines, AreApartFrom, IsCovered}
+use Rattle.bt_bed.specs.model.Genome.{Entry, genome_names}
+use Rattle.bt_bed.specs.model.Good.{items_in, bed_good}
+use Rattle.bt_bed.specs.model.Sorted.{ArePlaced}
+use Rattle.bt_bed.specs.model.Order.{Order, AreDistinct, is_among, rank_order}
+use Rattle.bt_bed.proofs.lemmas.Definitions.{placed_good}
 use Rattle.bt_bed.proofs.lemmas.parse.NameLemmas.{name_eq, name_ne-sym, cases_name}
 use Rattle.bt_runs.specs.model.Gaps.{complement, gaps_of, gaps_on, is_asked, length_in}
-use Rattle.bt_runs.specs.model.Merged.{is_covered, merged, runs_of, runs_on}
-use Rattle.bt_runs.specs.model.RunOrder.{ordered_runs}
+use Rattle.bt_runs.specs.model.Merged.{is_covered, merged, runs_of, runs_on, ordered_runs}
 use Rattle.bt_runs.specs.declared.merge.merge_strand.MergeStrand.TheVariants.{All}
 use Rattle.bt_runs.proofs.lemmas.merge.Bridging.{are_runs, is_covered-Decides}
-use Rattle.bt_runs.proofs.lemmas.complement.OneGap.{are_gaps, only_gaps}
-use Rattle.bt_laws.proofs.lemmas.runs.NameOrder.{file_ordered}
-use Rattle.bt_tool.specs.model.report.Behaviour.{order_of}
-use Rattle.bt_tool.specs.model.report.Report.{report_of}
-use Rattle.bt_tool.specs.model.report.Written.{complement_written, merge_written, coverage_written}
+use Rattle.bt_runs.proofs.lemmas.complement.Walks.{are_gaps, only_gaps}
+use Rattle.bt_laws.proofs.lemmas.single.StrandOrder.{file_ordered}
+use Rattle.bt_tool.specs.model.Report.{order_of, report_of}
+use Rattle.bt_tool.specs.model.Written.{complement_written, merge_written, coverage_written}
 use Rattle.bt_tool.specs.declared.planning.plan_type.Command.TheVariants.{Complement, Merge, Coverage}
-use Rattle.bt_laws.specs.same.LengthLaws.{complement_of_complement, cut_at_length, merge_of_genomecov}
+use Rattle.bt_laws.specs.Same.{complement_of_complement, cut_at_length, merge_of_genomecov, LieWithinLengths}
 use Rattle.bt_laws.specs.WholeRuns.{first_records, piped}
-use Rattle.bt_laws.specs.pipes.Taken.{IsInput, is_no_header, three_columns, four_columns}
-use Rattle.bt_laws.proofs.lemmas.pipes.Covers.{runs_cover, SameCover, covered_some, some_covered}
-use Rattle.bt_laws.proofs.lemmas.back.RunsBack.{gaps_back, coverage_back}
+use Rattle.bt_laws.specs.Pipes.{IsInput, is_no_header, three_columns, four_columns}
+use Rattle.bt_laws.proofs.lemmas.pipes.PipeLaws.{runs_cover, SameCover, covered_some, some_covered, chroms_of, complement_whole, merge_whole, genomecov_whole}
+use Rattle.bt_laws.proofs.lemmas.pipes.RunsBack.{gaps_back, coverage_back}
 use Rattle.bt_laws.proofs.lemmas.same.GapsHit.{complement_spans, unhidden, hidden_other}
 use Rattle.bt_laws.proofs.lemmas.Lists.{all_any, filter_all, flat_map_same, all_zip}
-use Rattle.bt_laws.proofs.lemmas.pipes.PipeLaws.{chroms_of, complement_whole, merge_whole, genomecov_whole}
-use Rattle.bt_laws.proofs.lemmas.same.AlikeRecords.{alike_merged}
-use Rattle.bt_laws.proofs.lemmas.same.SameRuns.{complement_on, fault_as, told_same, writes_is, here_all, merge_on, none_there, all_counted}
-use Rattle.bt_laws.proofs.lemmas.parts.text.PartTexts.{order_total}
-use Rattle.bt_lines.specs.model.Handed.{whole_text}
-use Rattle.bt_laws.specs.runs.CoveredLevels.{interval_at}
-use Rattle.bt_runs.specs.model.Depth.{DepthInterval, counted_on, coverage, depth_at, depth_of, depth_on, depths_on}
-use Rattle.bt_laws.specs.runs.Levels.{HasValue}
-use Rattle.bt_runs.specs.model.Levels.{Level, begun_after, ended_after, levels_of}
-use Rattle.bt_runs.proofs.lemmas.order.ChromosomeLemmas.{spans_on-append, spans_on-elsewhere}
-use Rattle.bt_laws.proofs.lemmas.runs.LevelLemmas.{are_levels}
-use Rattle.bt_laws.specs.same.SameSweeps.{LieWithinLengths}
+use Rattle.bt_laws.proofs.lemmas.same.SameRuns.{alike_merged, complement_on, fault_as, told_same, writes_is, here_all, merge_on, none_there, all_counted}
+use Rattle.bt_laws.proofs.lemmas.parts.PartTexts.{order_total}
+use Rattle.bt_lines.specs.model.Lines.{whole_text}
+use Rattle.bt_laws.specs.Runs.{interval_at, HasValue}
+use Rattle.bt_runs.specs.model.Depth.{DepthInterval, counted_on, coverage, depth_at, depth_of, depth_on, depths_on, Level, begun_after, ended_after, levels_of}
+use Rattle.bt_runs.proofs.lemmas.order.FileOrder.{spans_on-append, spans_on-elsewhere}
+use Rattle.bt_laws.proofs.lemmas.single.LevelLemmas.{are_levels}
 use Rattle.bt_laws.proofs.lemmas.pipes.DepthParts.{shown}
-use Rattle.bt_laws.proofs.lemmas.back.SaidWell.{IsSaid, good_are_said}
+use Rattle.bt_laws.proofs.lemmas.pipes.LinesBack.{IsSaid, good_are_said}
 
 -- ---- on one chromosome
 

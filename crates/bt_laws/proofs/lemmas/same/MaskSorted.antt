@@ -1,28 +1,25 @@
 -- maskfasta by two BEDs, and by one that has the records of both.
 use Rattle.bt_lines.proofs.Std.{◌≡◌, ◌||◌, ◌&&◌, ℕ, ◌<◌, ◌≤◌, Bool, true, false, cond, List, [], ◌∷◌, ◌++◌, append_assoc, Option, Some, None, inl, inr, refl, sym, ap, ap₂, ◌∙◌, subst, length, filter, arith, ◌⊎◌, bytes_eq, flat_map, is_some, IsPermutation, AllByRecursion, list_any, cases_Bool, or_parts, recursion_from_All, list_any-append, list_any-IsPermutation}
-use Rattle.bt_lines.specs.model.Handed.{lines_handed}
+use Rattle.bt_lines.specs.model.Lines.{lines_handed}
 use Rattle.bt_lines.specs.declared.fault.Input.TheVariants.{First}
-use Rattle.bt_bed.specs.model.feature.Feature.{Feature}
-use Rattle.bt_bed.specs.model.order.Genome.{Entry}
-use Rattle.bt_bed.specs.model.order.Rank.{is_among}
+use Rattle.bt_bed.specs.model.Feature.{Feature}
+use Rattle.bt_bed.specs.model.Genome.{Entry}
+use Rattle.bt_bed.specs.model.Order.{is_among}
 use Rattle.bt_bed.proofs.lemmas.parse.NameLemmas.{cases_name, name_eq, name_ne-sym}
-use Rattle.bt_seq.specs.model.Masked.{covers, names_of, no_sequence}
-use Rattle.bt_laws.specs.sequences.Owners.{AreOfChrom, items_of}
-use Rattle.bt_seq.specs.model.Owners.{Block, Owned, blocks_by, items_if_last, left_at_last, names_behind, own_records, owned_from}
-use Rattle.bt_seq.specs.model.Sequences.{SequenceLine, bases_up_to}
+use Rattle.bt_seq.specs.model.Masked.{covers, names_of, no_sequence, Block, Owned, blocks_by, items_if_last, left_at_last, names_behind, own_records, owned_from, SequenceLine, bases_up_to}
+use Rattle.bt_laws.specs.Sequences.{AreOfChrom, items_of}
 use Rattle.bt_seq.specs.declared.mask.mask_how.MaskHow.{MaskHow}
-use Rattle.bt_seq.proofs.lemmas.definitions.LeftLemmas.{leave, leave_all}
-use Rattle.bt_laws.proofs.lemmas.sequences.OwnerLemmas.{maximal_runs}
-use Rattle.bt_tool.specs.model.report.Inputs.{Inputs}
+use Rattle.bt_seq.proofs.lemmas.definitions.KnowsLemmas.{leave, leave_all}
+use Rattle.bt_laws.proofs.lemmas.single.Sequences.{maximal_runs}
+use Rattle.bt_tool.specs.model.Report.{Inputs}
 use Rattle.bt_tool.specs.declared.planning.plan_type.Command.TheVariants.{MaskFasta}
 use Rattle.bt_laws.specs.WholeRuns.{RunsWithoutFault}
-use Rattle.bt_laws.specs.same.MaskLaws.{NamesOne, bed_records, is_masked, masked_by_sorted, sequence_lines, with_bed}
-use Rattle.bt_laws.proofs.lemmas.parts.order.PartOwners.{off_behind}
-use Rattle.bt_laws.proofs.lemmas.parts.report.PartMasked.{none_owned}
+use Rattle.bt_laws.specs.Same.{NamesOne, bed_records, is_masked, masked_by_sorted, sequence_lines, with_bed}
+use Rattle.bt_laws.proofs.lemmas.parts.PartGenomes.{off_behind}
+use Rattle.bt_laws.proofs.lemmas.parts.PartMasked.{none_owned}
 use Rattle.bt_laws.proofs.lemmas.Lists.{all_so}
-use Rattle.bt_laws.proofs.lemmas.parts.text.PartSequences.{names_begin}
-use Rattle.bt_laws.proofs.lemmas.same.MaskBeds.{bed_of, by_both, or_last}
-use Rattle.bt_laws.proofs.lemmas.same.MaskTwice.{nones}
+use Rattle.bt_laws.proofs.lemmas.parts.PartSequences.{names_begin}
+use Rattle.bt_laws.proofs.lemmas.same.MaskTwice.{bed_of, by_both, or_last, nones}
 
 abbrev Names : Type 0
 Names = List (List ℕ)

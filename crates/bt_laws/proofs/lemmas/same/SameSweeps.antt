@@ -1,62 +1,47 @@
 -- Which runs of intersect and subtract write the same lines.
-use Rattle.bt_lines.proofs.Std.{◌≡◌, ℕ, Bool, true, false, cond, List, [], ◌∷◌, ◌++◌, map, filter, length, Option, Result, Ok, Err, refl, sym, ap, ap₂, ◌∙◌, subst, arith, decimal, ◌&&◌, suc, ◌-◌, ◌<◌, ◌≤◌, max, min, Some, None, inl, inr, ltb, lt-ltb, ne_eqb, cases_Bool, flat_map, if◌then◌else◌, nat_lt, replicate, ◌==◌, bytes_eq, list_all, AllByRecursion, option_or, map-id}
+use Rattle.bt_lines.proofs.Std.{◌≡◌, ℕ, Bool, true, false, cond, List, [], ◌∷◌, ◌++◌, map, filter, length, Option, Result, Ok, Err, refl, sym, ap, ap₂, ◌∙◌, subst, arith, decimal, ◌&&◌, suc, ◌-◌, ◌<◌, ◌≤◌, max, min, Some, None, inl, inr, ltb, lt-ltb, ne_eqb, cases_Bool, flat_map, if◌then◌else◌, nat_lt, replicate, ◌==◌, bytes_eq, list_all, AllByRecursion, option_or, map-id, ◌||◌, not, leb, list_any, or_parts, list_any-append}
 use Rattle.bt_lines.specs.model.Fault.{FaultValue, read_failed}
-use Rattle.bt_lines.specs.model.Handed.{Handed, cut_fault, lines_handed, whole_text}
+use Rattle.bt_lines.specs.model.Lines.{Handed, cut_fault, lines_handed, whole_text, TextLine, whole_lines}
 use Rattle.bt_lines.specs.declared.fault.Input.TheVariants.{First, Second}
-use Rattle.bt_bed.specs.model.feature.Feature.{Feature, interval_of, intervals_of}
-use Rattle.bt_bed.specs.model.order.Genome.{Entry}
-use Rattle.bt_bed.specs.model.input.Good.{Good, items_in, good, good_from, good_with, or_else}
-use Rattle.bt_bed.specs.model.input.GoodBed.{bed_good, bed_format, line_says}
-use Rattle.bt_bed.specs.model.input.TwoInputReport.{Met, Rule, join_report, written}
-use Rattle.bt_bed.specs.model.order.Order.{Order}
-use Rattle.bt_bed.specs.model.feature.Record.{bed_text}
-use Rattle.bt_sweep.specs.model.Hits.{hits_among, any_overlap, hits, shared_bases, strands_agree}
-use Rattle.bt_sweep.specs.model.IntersectLines.{hit_line, intersect, line_with, lines_for, lines_of, piece_line}
-use Rattle.bt_sweep.specs.model.Limit.{limited}
-use Rattle.bt_sweep.specs.model.SweepMeeting.{sweep_rule}
+use Rattle.bt_bed.specs.model.Feature.{Feature, interval_of, intervals_of, bed_text, Interval, span_of, spans_on, interval_lines, IsCovered}
+use Rattle.bt_bed.specs.model.Genome.{Entry}
+use Rattle.bt_bed.specs.model.Good.{Good, items_in, good, good_from, good_with, or_else, bed_good, bed_format, line_says, Met, Rule, join_report, written}
+use Rattle.bt_bed.specs.model.Order.{Order, is_among}
+use Rattle.bt_sweep.specs.model.Hits.{hits_among, any_overlap, hits, shared_bases, strands_agree, limited}
+use Rattle.bt_sweep.specs.model.Lines.{hit_line, intersect, line_with, lines_for, lines_of, piece_line, sweep_rule, IsLeft, pieces, spans_of}
 use Rattle.bt_sweep.specs.declared.hits.hit_rule.HitRule.{HitRule}
 use Rattle.bt_sweep.specs.declared.output.shape.Shape.{Shape}
 use Rattle.bt_sweep.specs.declared.output.shape.Shape.TheVariants.{Count, Missing, Once, OrigA, Whole, Pieces}
-use Rattle.bt_tool.specs.model.report.Behaviour.{order_of, behaviour_of}
-use Rattle.bt_tool.specs.model.report.Inputs.{Inputs, or_empty}
-use Rattle.bt_tool.specs.model.report.Report.{chromosomes_of, report_of, report_on}
-use Rattle.bt_tool.specs.model.report.SweepReport.{met_report, met_within}
+use Rattle.bt_tool.specs.model.Report.{order_of, behaviour_of, Inputs, or_empty, chromosomes_of, report_of, report_on}
+use Rattle.bt_tool.specs.model.Written.{met_report, met_within, Report, report_by, Written, merge_written}
 use Rattle.bt_tool.specs.declared.planning.plan_type.Command.TheVariants.{Intersect, Subtract, Merge}
 use Rattle.bt_laws.specs.WholeRuns.{RunsWithoutFault, first_records, second_records, RunWrites, of_second, with_second}
-use Rattle.bt_laws.specs.same.SameLines.{Counted, counts_say_all, missing_is_whole, own_line}
+use Rattle.bt_laws.specs.Same.{Counted, counts_say_all, missing_is_whole, own_line, merged_second_missing, merged_second_once, merged_second_subtract, one_base}
 use Rattle.bt_laws.proofs.lemmas.Lists.{all_any, flat_map_same, map_map, all_so}
-use Rattle.bt_laws.proofs.lemmas.parts.report.PartSweep.{written_same, all_true}
-use Rattle.bt_laws.proofs.lemmas.pipes.PipeLaws.{intersect_whole, limit_whole, subtract_whole, well_there, either_met, either_fault}
-use Rattle.bt_lines.specs.model.Lines.{TextLine, whole_lines}
+use Rattle.bt_laws.proofs.lemmas.parts.PartSweep.{written_same, all_true}
+use Rattle.bt_laws.proofs.lemmas.pipes.PipeLaws.{intersect_whole, limit_whole, subtract_whole, well_there, either_met, either_fault, SameCover, runs_cover, same_sym}
 use Rattle.bt_lines.specs.declared.fault.Input.{Input}
 use Rattle.bt_lines.specs.declared.fault.Kind.{Kind}
-use Rattle.bt_bed.specs.model.feature.Interval.{Interval, span_of, spans_on}
-use Rattle.bt_bed.specs.model.feature.IntervalLine.{interval_lines}
-use Rattle.bt_bed.specs.model.order.Locus.{Locus}
-use Rattle.bt_bed.specs.model.order.Sorting.{Sorting, sorting_of}
-use Rattle.bt_bed.specs.model.feature.Stretches.{IsCovered}
-use Rattle.bt_bed.proofs.lemmas.definitions.GoodBedLemmas.{placed_good}
-use Rattle.bt_bed.proofs.lemmas.parse.NameLemmas.{cases_name, name_eq}
-use Rattle.bt_runs.specs.model.Counted.{counted}
-use Rattle.bt_runs.specs.model.Merged.{runs_of}
-use Rattle.bt_runs.specs.model.RunOrder.{ordered_runs}
+use Rattle.bt_bed.specs.model.Sorted.{Locus, Sorting, sorting_of, AreContiguous, IsFollowed, has_records}
+use Rattle.bt_bed.proofs.lemmas.Definitions.{placed_good}
+use Rattle.bt_bed.proofs.lemmas.parse.NameLemmas.{cases_name, name_eq, name_ne-sym}
+use Rattle.bt_runs.specs.model.Merged.{counted, runs_of, ordered_runs, chromosomes, is_covered, without}
 use Rattle.bt_runs.specs.declared.merge.merge_strand.MergeStrand.TheVariants.{All}
-use Rattle.bt_runs.proofs.lemmas.order.ChromosomeLemmas.{spans_on-here, spans_on-elsewhere}
-use Rattle.bt_sweep.specs.model.Pieces.{IsLeft, pieces, spans_of}
+use Rattle.bt_runs.proofs.lemmas.order.FileOrder.{spans_on-here, spans_on-elsewhere, among_chromosomes, same_chromosome, without_absent}
 use Rattle.bt_sweep.proofs.lemmas.definitions.PieceLemmas.{are_pieces, only_pieces}
-use Rattle.bt_sweep.proofs.lemmas.definitions.RuleLemmas.{enough_of_nothing}
-use Rattle.bt_laws.proofs.lemmas.sweeps.EarlyLemmas.{of_nothing}
-use Rattle.bt_tool.specs.model.report.RecordReport.{Report, report_by}
-use Rattle.bt_tool.specs.model.report.Written.{Written, merge_written}
+use Rattle.bt_sweep.proofs.lemmas.definitions.HitLemmas.{enough_of_nothing}
+use Rattle.bt_laws.proofs.lemmas.single.Sweeps.{of_nothing}
 use Rattle.bt_tool.specs.declared.planning.plan_type.Command.{Command}
-use Rattle.bt_laws.specs.same.SameSweeps.{merged_second_missing, merged_second_once, merged_second_subtract, one_base}
-use Rattle.bt_laws.specs.pipes.Taken.{IsInput, three_columns}
-use Rattle.bt_laws.proofs.lemmas.pipes.Covers.{SameCover, runs_cover, same_sym}
-use Rattle.bt_laws.proofs.lemmas.same.SameRuns.{back, report_there, run_spans, all_counted}
-use Rattle.bt_laws.proofs.lemmas.back.RunsBack.{merge_back}
-use Rattle.bt_laws.proofs.lemmas.back.SaidWell.{IsSaid, good_are_said}
-use Rattle.bt_laws.proofs.lemmas.back.SweepBack.{Hit, all_hits, cut_bounds, same_name}
-use Rattle.bt_laws.proofs.lemmas.parts.text.PartTexts.{order_total}
+use Rattle.bt_laws.specs.Pipes.{IsInput, three_columns}
+use Rattle.bt_laws.proofs.lemmas.same.SameRuns.{back, report_there, run_spans, all_counted, kept_pass}
+use Rattle.bt_laws.proofs.lemmas.pipes.RunsBack.{merge_back}
+use Rattle.bt_laws.proofs.lemmas.pipes.LinesBack.{IsSaid, good_are_said}
+use Rattle.bt_laws.proofs.lemmas.pipes.SweepBack.{Hit, all_hits, cut_bounds, same_name}
+use Rattle.bt_laws.proofs.lemmas.parts.PartTexts.{order_total}
+use Rattle.bt_runs.proofs.lemmas.merge.Bridging.{is_covered-Decides}
+use Rattle.bt_seq.specs.model.Masked.{covers, Block, Owned, block_with, blocks_by, items_if_last, left_at_last, left_by, own_records, owned_from}
+use Rattle.bt_seq.proofs.lemmas.definitions.KnowsLemmas.{leave, leave_all}
+use Rattle.bt_laws.proofs.lemmas.pipes.Placing.{others}
 
 -- ---- two shapes that write the same lines of each record
 
@@ -82,13 +67,13 @@ missing_met order rule limit first second =
     let seen = limited order limit (items_in first) second in
     meet_same (sweep_rule order Missing rule (items_in seen) seen.fault) (sweep_rule order Whole rule (items_in seen) seen.fault) (items_in first) first.fault refl refl refl (λ a. missing_lines rule a (hits_among rule a (items_in seen)))
 
-same_on : (rule : HitRule) (held : Option ℕ) (found : Result (Option (List Entry)) FaultValue) (first : Handed) (second : Option Handed) → report_on (Intersect Missing rule held) found first second ≡ report_on (Subtract true rule held) found first second
-same_on rule held (Err fault) first second = refl
-same_on rule held (Ok chromosomes) first second = ap met_report (missing_met (order_of chromosomes) rule held (bed_good First (order_of chromosomes) first) (bed_good Second (order_of chromosomes) (or_empty second)))
+same_report_on : (rule : HitRule) (held : Option ℕ) (found : Result (Option (List Entry)) FaultValue) (first : Handed) (second : Option Handed) → report_on (Intersect Missing rule held) found first second ≡ report_on (Subtract true rule held) found first second
+same_report_on rule held (Err fault) first second = refl
+same_report_on rule held (Ok chromosomes) first second = ap met_report (missing_met (order_of chromosomes) rule held (bed_good First (order_of chromosomes) first) (bed_good Second (order_of chromosomes) (or_empty second)))
 
 pub missing_whole : missing_is_whole
 unfolding report_of
-missing_whole rule held inputs = same_on rule held (chromosomes_of inputs.genome) inputs.first inputs.second
+missing_whole rule held inputs = same_report_on rule held (chromosomes_of inputs.genome) inputs.first inputs.second
 
 -- ---- the fault doesn't depend on the shape
 
@@ -459,3 +444,133 @@ subtracts_merged held inputs chromosomes well =
     let none = nones Pieces held inputs chromosomes (well_there (Subtract false any_overlap held) inputs chromosomes well) in
     subst (RunWrites (Subtract false any_overlap None) (with_second (Merge 0 All) inputs)) (sym (subtract_whole false any_overlap held inputs chromosomes well))
     (subtract_merged inputs chromosomes well.genome none.1 none.0)
+
+-- The blocks of records that are contiguous: one for each chromosome.
+
+-- ---- the records of a chromosome
+
+abbrev pub on_name : List ℕ → List Feature → List Feature
+on_name name rs = filter (λ r. bytes_eq r.chrom name) rs
+
+abbrev pub block_of : List Feature → List ℕ → Block Feature
+block_of rs name = record { chrom = name; items = on_name name rs }
+
+abbrev pub blocks : List Feature → List (Block Feature)
+blocks rs = blocks_by (λ r. r.chrom) rs
+
+elsewhere : (r : Feature) (rs : List Feature) (names : List (List ℕ)) → AllByRecursion (λ n. bytes_eq r.chrom n ≡ false) names → map (block_of (r ∷ rs)) names ≡ map (block_of rs) names
+elsewhere r rs [] h = refl
+elsewhere r rs (n ∷ ns) h = ap₂ (λ (b : Bool) more. record { chrom = n; items = cond b (r ∷ on_name n rs) (on_name n rs) } ∷ more) h.0 (elsewhere r rs ns h.1)
+
+none_on : (name : List ℕ) (rs : List Feature) → has_records name (intervals_of rs) ≡ false → on_name name rs ≡ []
+none_on name [] e = refl
+none_on name (r ∷ rs) e =
+    let parts = or_parts (bytes_eq r.chrom name) (has_records name (intervals_of rs)) e in
+    ap (λ (b : Bool). cond b (r ∷ on_name name rs) (on_name name rs)) parts.0 ∙ none_on name rs parts.1
+
+not_false : (b : Bool) → not b ≡ true → b ≡ false
+not_false true e = cc
+not_false false e = refl
+
+without_others : (n : List ℕ) (ns : List (List ℕ)) → AllByRecursion (λ m. bytes_eq n m ≡ false) (without n ns)
+without_others n ns =
+    all_so (λ m. not (bytes_eq m n) ≡ true) (λ m. bytes_eq n m ≡ false) (without n ns) (λ m e. name_ne-sym m n (not_false (bytes_eq m n) e)) (kept_pass (λ m. not (bytes_eq m n)) ns)
+
+-- ---- one block for each chromosome
+
+-- the blocks with one more record before them
+abbrev before_by : Bool → Feature → List Feature → List ℕ → List (Block Feature) → List (Block Feature)
+before_by b r items name more = if b then record { chrom = name; items = r ∷ items } ∷ more else record { chrom = r.chrom; items = r ∷ [] } ∷ record { chrom = name; items = items } ∷ more
+
+followed : (r s : Feature) (ss : List Feature) → IsFollowed (interval_of r) (intervals_of (s ∷ ss)) → blocks (s ∷ ss) ≡ map (block_of (s ∷ ss)) (chromosomes (intervals_of (s ∷ ss)))
+    → blocks (r ∷ s ∷ ss) ≡ map (block_of (r ∷ s ∷ ss)) (chromosomes (intervals_of (r ∷ s ∷ ss)))
+followed r s ss (inl same) e =
+    let later = s ∷ ss in
+    let rest = without s.chrom (chromosomes (intervals_of ss)) in
+    let here = name_eq r.chrom s.chrom (sym same.0) in
+    let apart : AllByRecursion (λ n. bytes_eq r.chrom n ≡ false) rest = subst (λ name. AllByRecursion (λ n. bytes_eq name n ≡ false) rest) same.0 (without_others s.chrom (chromosomes (intervals_of ss))) in
+    ap (block_with r.chrom r) e
+    ∙ ap (λ (b : Bool). before_by b r (on_name s.chrom later) s.chrom (map (block_of later) rest)) here
+    ∙ ap₂ (λ (b : Bool) more. record { chrom = s.chrom; items = cond b (r ∷ on_name s.chrom later) (on_name s.chrom later) } ∷ more) (sym here) (sym (elsewhere r later rest apart))
+    ∙ ap (map (block_of (r ∷ later))) (sym (same_chromosome (interval_of r) (interval_of s) (intervals_of ss) (sym same.0)))
+followed r s ss (inr off) e =
+    let later = s ∷ ss in
+    let rest = without s.chrom (chromosomes (intervals_of ss)) in
+    let names = chromosomes (intervals_of later) in
+    let apart = or_parts (bytes_eq s.chrom r.chrom) (has_records r.chrom (intervals_of ss)) off in
+    let absent : is_among names r.chrom ≡ false = among_chromosomes r.chrom (intervals_of later) ∙ off in
+    let alone : on_name r.chrom (r ∷ later) ≡ r ∷ [] = ap (λ (b : Bool). cond b (r ∷ on_name r.chrom later) (on_name r.chrom later)) (name_eq r.chrom r.chrom refl) ∙ ap (λ l. r ∷ l) (none_on r.chrom later off) in
+    ap (block_with r.chrom r) e
+    ∙ ap (λ (b : Bool). before_by b r (on_name s.chrom later) s.chrom (map (block_of later) rest)) (name_ne-sym s.chrom r.chrom apart.0)
+    ∙ ap₂ (λ items more. record { chrom = r.chrom; items = items } ∷ more) (sym alone) (sym (elsewhere r later names (others r.chrom names absent)))
+    ∙ ap (λ ns. map (block_of (r ∷ later)) (r.chrom ∷ ns)) (sym (without_absent r.chrom names absent))
+
+pub together_blocks : (rs : List Feature) → AreContiguous (intervals_of rs) → blocks rs ≡ map (block_of rs) (chromosomes (intervals_of rs))
+together_blocks [] h = refl
+together_blocks (r ∷ []) h = ap (λ (b : Bool). record { chrom = r.chrom; items = cond b (r ∷ []) [] } ∷ []) (sym (name_eq r.chrom r.chrom refl))
+together_blocks (r ∷ s ∷ ss) h = followed r s ss h.0 (together_blocks (s ∷ ss) h.1)
+
+-- ---- what they cover
+
+covers_on : (p : ℕ) (name : List ℕ) (rs : List Feature) → list_any (covers p) (on_name name rs) ≡ is_covered (spans_on name (intervals_of rs)) p
+covers_on p name [] = refl
+covers_on p name (r ∷ rs) =
+    elim (bytes_eq r.chrom name) as (λ b. list_any (covers p) (cond b (r ∷ on_name name rs) (on_name name rs)) ≡ is_covered (cond b (span_of (interval_of r) ∷ spans_on name (intervals_of rs)) (spans_on name (intervals_of rs))) p) [
+      | true ↦ ap (λ b. (leb r.start p && ltb p r.stop) || b) (covers_on p name rs)
+      | false ↦ covers_on p name rs
+    ]
+
+both_ways : (a b : Bool) → (a ≡ true → b ≡ true) → (b ≡ true → a ≡ true) → a ≡ b
+both_ways true true to back = refl
+both_ways true false to back = sym (to refl)
+both_ways false true to back = back refl
+both_ways false false to back = refl
+
+module _ (rs ss : List Feature) where
+  -- the same positions of a chromosome
+  same_on : (p : ℕ) (name : List ℕ) → SameCover (spans_on name (intervals_of rs)) (spans_on name (intervals_of ss)) → list_any (covers p) (on_name name rs) ≡ list_any (covers p) (on_name name ss)
+  same_on p name same =
+      let one = spans_on name (intervals_of rs) in
+      let other = spans_on name (intervals_of ss) in
+      covers_on p name rs
+      ∙ both_ways (is_covered one p) (is_covered other p) (λ e. (is_covered-Decides other p).1 (same.to p ((is_covered-Decides one p).0 e))) (λ e. (is_covered-Decides one p).1 (same.back p ((is_covered-Decides other p).0 e)))
+      ∙ sym (covers_on p name ss)
+
+  if_last : (p : ℕ) (left : Option (List (List ℕ))) (xs ys : List Feature) → list_any (covers p) xs ≡ list_any (covers p) ys → list_any (covers p) (items_if_last left xs) ≡ list_any (covers p) (items_if_last left ys)
+  if_last p None xs ys e = refl
+  if_last p (Some []) xs ys e = e
+  if_last p (Some (n ∷ ns)) xs ys e = refl
+
+  abbrev own_of : List (Owned Feature) → List Feature
+  own_of os = flat_map (λ (o : Owned Feature). items_if_last o.left o.block.items) os
+
+  own_same : (p : ℕ) (same : (name : List ℕ) → SameCover (spans_on name (intervals_of rs)) (spans_on name (intervals_of ss))) (left : Option (List (List ℕ))) (names : List (List ℕ))
+      → list_any (covers p) (own_of (owned_from left (map (block_of rs) names))) ≡ list_any (covers p) (own_of (owned_from left (map (block_of ss) names)))
+  own_same p same left [] = refl
+  own_same p same left (n ∷ ns) =
+      let next = left_by left n in
+      list_any-append (covers p) (items_if_last next (on_name n rs)) (own_of (owned_from next (map (block_of rs) ns)))
+      ∙ ap₂ (λ a b. a || b) (if_last p next (on_name n rs) (on_name n ss) (same_on p n (same n))) (own_same p same next ns)
+      ∙ sym (list_any-append (covers p) (items_if_last next (on_name n ss)) (own_of (owned_from next (map (block_of ss) ns))))
+
+  left_same : (left : Option (List (List ℕ))) (names : List (List ℕ)) → left_at_last left (owned_from left (map (block_of rs) names)) ≡ left_at_last left (owned_from left (map (block_of ss) names))
+  left_same left [] = refl
+  left_same left (n ∷ ns) = left_same (left_by left n) ns
+
+  module _ (one : AreContiguous (intervals_of rs)) (two : AreContiguous (intervals_of ss)) (chroms : chromosomes (intervals_of ss) ≡ chromosomes (intervals_of rs)) where
+    blocks_two : blocks ss ≡ map (block_of ss) (chromosomes (intervals_of rs))
+    blocks_two = together_blocks ss two ∙ ap (map (block_of ss)) chroms
+
+    -- they mask the same positions of each sequence
+    pub own_alike : ((name : List ℕ) → SameCover (spans_on name (intervals_of rs)) (spans_on name (intervals_of ss))) → (names : List (List ℕ)) (p : ℕ) → list_any (covers p) (own_records names rs) ≡ list_any (covers p) (own_records names ss)
+    own_alike same names p =
+        ap (λ bs. list_any (covers p) (own_of (owned_from (Some names) bs))) (together_blocks rs one)
+        ∙ own_same p same (Some names) (chromosomes (intervals_of rs))
+        ∙ ap (λ bs. list_any (covers p) (own_of (owned_from (Some names) bs))) (sym blocks_two)
+
+    -- and leave the same names
+    pub leave_alike : (names : List (List ℕ)) → leave (Some names) None ss ≡ leave (Some names) None rs
+    leave_alike names =
+        leave_all (Some names) ss ∙ ap (λ bs. left_at_last (Some names) (owned_from (Some names) bs)) blocks_two
+        ∙ sym (left_same (Some names) (chromosomes (intervals_of rs)))
+        ∙ ap (λ bs. left_at_last (Some names) (owned_from (Some names) bs)) (sym (together_blocks rs one)) ∙ sym (leave_all (Some names) rs)

@@ -1,18 +1,12 @@
 use Rattle.bt_lines.proofs.Std.{refl}
 use Rattle.std.specs.Fmt.{digits}
-use Rattle.bt_lines.specs.model.Lines.{lines_from}
-use Rattle.bt_lines.specs.model.Number.{value_of}
-use Rattle.bt_bed.specs.model.input.Good.{good_from}
-use Rattle.bt_bed.specs.model.input.GoodBed.{line_says}
-use Rattle.bt_bed.specs.model.feature.Record.{record_of}
-use Rattle.bt_bed.specs.model.feature.Stretches.{stretches_from, with_position}
-use Rattle.bt_seq.specs.model.Alignment.{alignment_of, fields_say}
-use Rattle.bt_seq.specs.model.AlignmentBlocks.{blocks_of}
-use Rattle.bt_seq.specs.model.Cigar.{operations_in}
+use Rattle.bt_lines.specs.model.Lines.{lines_from, value_of}
+use Rattle.bt_bed.specs.model.Good.{good_from, line_says}
+use Rattle.bt_bed.specs.model.Feature.{record_of, stretches_from, with_position}
+use Rattle.bt_seq.specs.model.Alignment.{alignment_of, fields_say, blocks_of, operations_in}
 use Rattle.bt_sweep.specs.model.Hits.{has_fraction, hits, is_enough, strands_agree}
-use Rattle.bt_sweep.specs.model.IntersectLines.{lines_for}
-use Rattle.bt_sweep.specs.model.Pieces.{pieces}
-use Rattle.bt_tool.specs.model.report.Report.{report_of}
+use Rattle.bt_sweep.specs.model.Lines.{lines_for, pieces}
+use Rattle.bt_tool.specs.model.Report.{report_of}
 use Rattle.bt_laws.proofs.pipes.some_outputs_go_back.Goals as goal
 
 pub returns-clause-cuts : goal.returns-clause-cuts

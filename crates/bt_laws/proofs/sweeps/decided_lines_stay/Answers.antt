@@ -1,4 +1,4 @@
-use Rattle.bt_laws.proofs.lemmas.sweeps.EarlyLemmas.{stays_decided}
+use Rattle.bt_laws.proofs.lemmas.single.Sweeps.{stays_decided}
 use Rattle.bt_sweep.proofs.lemmas.definitions.HitLemmas.{before_lines, stay_lines}
 use Rattle.bt_laws.proofs.sweeps.decided_lines_stay.Goals as goal
 

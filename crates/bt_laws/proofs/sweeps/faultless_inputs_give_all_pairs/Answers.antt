@@ -1,4 +1,4 @@
-use Rattle.bt_sweep.proofs.lemmas.definitions.SweepsLemmas.{faultless_all}
+use Rattle.bt_sweep.proofs.lemmas.definitions.HitLemmas.{faultless_all}
 use Rattle.bt_laws.proofs.sweeps.faultless_inputs_give_all_pairs.Goals as goal
 
 pub returns : goal.returns

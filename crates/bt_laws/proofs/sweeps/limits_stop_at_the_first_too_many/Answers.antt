@@ -1,4 +1,4 @@
-use Rattle.bt_laws.proofs.lemmas.sweeps.LimitLemmas.{limit_kept, limit_stopped}
+use Rattle.bt_laws.proofs.lemmas.single.Sweeps.{limit_kept, limit_stopped}
 use Rattle.bt_laws.proofs.sweeps.limits_stop_at_the_first_too_many.Goals as goal
 
 pub returns-clause-stops : goal.returns-clause-stops

@@ -1,4 +1,4 @@
-use Rattle.bt_laws.proofs.lemmas.sweeps.EarlyLemmas.{written_front}
+use Rattle.bt_laws.proofs.lemmas.single.Sweeps.{written_front}
 use Rattle.bt_laws.proofs.sweeps.prefixes_write_prefixes.Goals as goal
 
 pub returns : goal.returns

@@ -2,7 +2,7 @@
 use Rattle.bt_lines.proofs.Std.{zero, suc, inl, inr, ◌≡◌, ℕ, ◌+◌, ◌-◌, ◌*◌, ◌/◌, ◌%◌, ◌^◌, ◌<◌, ◌≤◌, true, false, List, [], ◌∷◌, ◌++◌, drop, length, get_or, length-take-le, subst, Some, None, refl, sym, ap, ◌∙◌, arith, bit_and, bit_or, bit_xor, take, w64, ltb, leb, cases_Bool, and_parts, nat_tests, and_assoc, and_block, and_comm, and_le_l, and_le_r, and_mask, and_or_apart, and_or_self, mod_below, or_comm, pow-add, shr_split, xor_block, xor_of_8, and_high, mul_assoc, pow-suc, take-append-drop, is_ascii_digit, digit_value, from_le_bytes, and_zero_r, xor_add_and, xor_zero_r, list_all, digits_value}
 use Rattle.bt_lines.proofs.lemmas.numbers.NumberLemmas.{digit_is, refused_second, value_of_digits}
 use Rattle.bt_lines.specs.inside.Digits.{AreOnes}
-use Rattle.bt_lines.specs.model.Number.{value_of}
+use Rattle.bt_lines.specs.model.Lines.{value_of}
 
 -- the number whose bytes these are, the first the lowest
 abbrev pub worth : List ℕ → ℕ

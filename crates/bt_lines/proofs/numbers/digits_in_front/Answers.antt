@@ -1,5 +1,5 @@
 use Rattle.bt_lines.proofs.Std.{arith}
-use Rattle.bt_lines.proofs.lemmas.numbers.DigitLemmas.{front_part, front_whole}
+use Rattle.bt_lines.proofs.lemmas.numbers.NumberLemmas.{front_part, front_whole}
 use Rattle.bt_lines.proofs.numbers.digits_in_front.Goals as goal
 
 pub returns-then-others-eq0-clause-digits : goal.returns-then-others-eq0-clause-digits

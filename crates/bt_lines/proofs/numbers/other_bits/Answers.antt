@@ -1,5 +1,5 @@
 use Rattle.bt_lines.proofs.Std.{◌%◌, ◌^◌, ◌∙◌, ap, arith, ltb, replicate, sym, w8, length-map, mask_l-mod, tops_compared, zip2_splat, mask_l}
-use Rattle.bt_lines.proofs.lemmas.numbers.DigitLemmas.{or_masks, splat_before}
+use Rattle.bt_lines.proofs.lemmas.numbers.NumberLemmas.{or_masks, splat_before}
 use Rattle.bt_lines.proofs.numbers.other_bits.Goals as goal
 use lib.Lanes.{zip2}
 

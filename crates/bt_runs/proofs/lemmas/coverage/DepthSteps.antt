@@ -1,31 +1,145 @@
--- A coverage walks as any engine that goes through a genome file. What it holds is what the definitions keep of the records of the past, and so its exact step writes what they settle.
-use Rattle.bt_lines.proofs.Std.{◌≡◌, List, [], ◌∷◌, ◌++◌, length, Bool, true, false, Option, ℕ, inl, inr, refl, sym, ap, ap₂, ◌∙◌, subst, arith, min, Some, None, Result, Ok, Err, cases_lt, lt-ltb, le-ltb, flat_map-append}
-use Rattle.bt_bed.specs.model.feature.Feature.{Feature, intervals_of}
-use Rattle.bt_bed.specs.model.order.Genome.{Entry, genome_names}
-use Rattle.bt_bed.specs.model.order.Rank.{AreDistinct, rank_of}
+-- What a count of depths says of one chromosome, and what it owes of it. It says which intervals are settled by the last start, and what is known for the rest.
+use Rattle.bt_lines.proofs.Std.{max, ◌≡◌, ℕ, ◌<◌, ◌≤◌, ◌+◌, List, [], ◌∷◌, ◌++◌, refl, sym, ap, ap₂, ◌∙◌, filter, nat_lt, Bool, true, false, append-nil, Option, lt-ltb, le-ltb, map-append, length, inl, inr, subst, arith, min, Some, None, Result, Ok, Err, cases_lt, flat_map-append, append_assoc, codes, decimal, length-append, ◌-◌, All}
+use Rattle.std.specs.Option.{option_map_or}
+use Rattle.std.specs.declared.cmp.Ordering.TheVariants.{Equal}
+use Rattle.bt_bed.specs.model.Feature.{Feature, interval_of, intervals_of, Interval, span_of, Span, last_of}
+use Rattle.bt_bed.specs.model.Genome.{Entry, genome_names}
+use Rattle.bt_bed.specs.model.Order.{rank_order, AreDistinct, rank_of}
+use Rattle.bt_bed.specs.model.Sorted.{has_records}
 use Rattle.bt_bed.specs.declared.record.strand.Strand.{Strand}
-use Rattle.bt_runs.specs.model.Depth.{coverage, settled_depths, DepthInterval, begun_across, counted_on, depth_lines, depth_of, kept_records, known_place, open_at, unfinished, depth_line}
-use Rattle.bt_runs.specs.inside.coverage.DepthStep.{Known, bare_of, depths_left, depth_walk}
-use Rattle.bt_runs.specs.model.Gaps.{AreTaken, length_in}
-use Rattle.bt_runs.specs.calls.Settling.{Settles}
-use Rattle.bt_runs.specs.inside.walk.Walk.{AreReached, Place, is_on, left_before, places, step_from, taking}
-use Rattle.bt_runs.proofs.lemmas.coverage.CoverageForm.{Own, depths, owes, written}
-use Rattle.bt_runs.proofs.lemmas.complement.Walks.{Held, Steps, ends, entered_steps, going_on, going_to, reaches, settles_items, step_goes, steps, rank_entry, same_place, taken_front}
-use Rattle.bt_lines.proofs.lemmas.writer.PuttingLemmas.{grown_none}
-use Rattle.bt_lines.specs.calls.Output.{Output}
-use Rattle.bt_lines.specs.calls.Putting.{Adds, FailsToAdd, Grown}
+use Rattle.bt_runs.specs.model.Depth.{DepthInterval, counted_on, coverage, depth_of, depth_on, depths_on, is_counted_by, is_ended_by, settled_depths, Level, levels_of, begun_across, depth_lines, kept_records, known_place, open_at, unfinished, depth_line, Begun, reported, begun_after, ended_after, next_begun, next_ended}
+use Rattle.bt_runs.specs.inside.Coverage.{Known, depth_walk, known_by, levels_by, levels_left, levels_on, bare_of, depths_left, known_seen, place_seen, seen, CountAnswers, OpenAt, depth_text, still_open}
+use Rattle.bt_runs.proofs.lemmas.order.ByChromosome.{Divides, NoRecords, Owes, Written, picks_by, found_at, name_at, size_there, size_ranked}
+use Rattle.bt_runs.proofs.lemmas.coverage.OpenLemmas.{counted_elsewhere, counted_here, counted_append, counted_none, bare_levels, known_at, known_first, known_next, left_end, settled_and_left, settled_at, settled_end, settled_first, settled_next, start_same, with_counted, across_known, none_open, all_open, walk_depth}
+use Rattle.bt_runs.specs.model.Gaps.{is_over_at, AreTaken, length_in}
+use Rattle.bt_runs.proofs.lemmas.definitions.Standing.{filter_map_all, filter_map_none, compare_same, apart}
+use Rattle.bt_runs.proofs.lemmas.coverage.LevelLemmas.{StopIn, scan_run, scan_split}
+use Rattle.bt_runs.proofs.lemmas.complement.Walks.{Walked, form_of, Held, Steps, ends, entered_steps, going_on, going_to, reaches, settles_items, step_goes, steps, rank_entry, same_place, taken_front}
+use Rattle.bt_runs.specs.calls.Engine.{Settles, fault_of}
+use Rattle.bt_runs.specs.inside.Walk.{AreReached, Place, is_on, left_before, places, step_from, taking, Does, EnterAnswers, FitsPast, PutsRestAtEnd, IsPlaced, entry_at}
+use Rattle.bt_lines.proofs.lemmas.Writer.{grown_none, line_alone, adds_lines, cut_lines}
+use Rattle.bt_lines.specs.calls.Output.{Output, Adds, FailsToAdd, Grown, Puts}
 use Rattle.bt_lines.specs.calls.Names.{fault_value}
 use Rattle.bt_lines.specs.declared.fault.Fault.{Fault}
-use Rattle.bt_bed.specs.model.feature.Interval.{Span, last_of}
-use Rattle.bt_runs.specs.calls.Covering.{CountsRecord, Covering, IsAfter, IsOnBy, begun_of, depth_step, held_of, is_quiet, may_take, next_lines, settled_lines, wants_memory, whole_output}
-use Rattle.bt_runs.specs.inside.walk.Rule.{Does, EnterAnswers, FitsPast, PutsRestAtEnd}
-use Rattle.bt_runs.specs.model.Levels.{Begun, levels_of}
-use Rattle.bt_runs.proofs.lemmas.coverage.OneDepth.{across_known, known_at}
-use Rattle.bt_runs.proofs.lemmas.coverage.DepthLemmas.{none_open}
+use Rattle.bt_runs.specs.calls.Covering.{CountsRecord, Covering, IsAfter, IsOnBy, begun_of, depth_step, held_of, is_quiet, may_take, next_lines, settled_lines, wants_memory, whole_output, IsOnChrom, with_begun, with_chrom}
 use Rattle.bt_runs.proofs.lemmas.complement.GapRuleLemmas.{on_found}
-use Rattle.bt_runs.proofs.lemmas.engine.EnterLemmas.{enters, enters_cut}
-use Rattle.bt_runs.proofs.lemmas.order.GenomeRanks.{found_at, name_at, size_there}
-use Rattle.bt_runs.proofs.lemmas.definitions.Standing.{apart}
+use Rattle.bt_runs.proofs.lemmas.Engine.{enters, enters_cut}
+use Rattle.bt_bed.specs.declared.parse.bounds.Bounds.{Bounds}
+use Rattle.bt_bed.proofs.lemmas.parse.NameLemmas.{same_name}
+use Rattle.bt_runs.specs.declared.coverage.depth_rule.CurrentChrom.{CurrentChrom}
+use Rattle.bt_runs.specs.declared.coverage.depths.OpenInterval.{OpenInterval}
+use Rattle.bt_runs.specs.declared.coverage.depths.DepthCursor.{DepthCursor}
+use Rattle.bt_runs.specs.declared.engine.failure.Failure.{Failure}
+use Rattle.bt_runs.specs.declared.engine.failure.Failure.TheVariants.{Write, Memory}
+
+-- the counted records of a chromosome, with one more on it
+pub counted_next : (strand : Option Strand) (name : List ℕ) (past : List Feature) (r : Feature) → r.chrom ≡ name → counted_on strand name (past ++ r ∷ []) ≡ with_counted (is_counted_by strand r.strand) (counted_on strand name past) r.start r.stop
+counted_next strand name past r is = counted_append strand name past (r ∷ []) ∙ ap (λ l. counted_on strand name past ++ l) (counted_here strand name r is)
+
+-- intervals of which all are over, or none
+module _ (names : List (List ℕ)) (last : Interval) (name : List ℕ) where
+  all_ended : (levels : List Level) → (rank_order names).compare name last.chrom ≡ Equal → StopIn 0 last.start levels → filter (is_ended_by names last) (levels_on name levels) ≡ levels_on name levels
+  all_ended [] equal s = refl
+  all_ended (l ∷ ls) equal s = rw (equal, lt-ltb l.stop last.start s.1, all_ended ls equal s.2) refl
+
+  none_ended : (high : ℕ) (levels : List Level) → (rank_order names).compare name last.chrom ≡ Equal → StopIn last.start high levels → filter (is_ended_by names last) (levels_on name levels) ≡ []
+  none_ended high [] equal s = refl
+  none_ended high (l ∷ ls) equal s = rw (equal, le-ltb l.stop last.start s.0, none_ended high ls equal s.2) refl
+
+module _ (zeros : Bool) (strand : Option Strand) where
+  -- what is settled and known of a chromosome by the last start on it
+  pub record Own (entry : Entry) (past : List Feature) (start : ℕ) (done : List DepthInterval) (known : Known) : Type 0 where
+    pub done_is : done ≡ levels_on entry.name (settled_at zeros entry.length (counted_on strand entry.name past) start)
+    pub known_is : known ≡ known_at zeros entry.length (counted_on strand entry.name past) start
+
+  module _ (entries : List Entry) where
+    abbrev pub depths : Walked DepthInterval Known
+    depths = record {
+      walk = depth_walk zeros strand;
+      part = λ entry past. depths_on zeros strand past entry;
+      pick = λ last depths. filter (is_ended_by (genome_names entries) last) depths;
+      whole = coverage zeros strand entries;
+      settled = settled_depths zeros strand entries;
+    }
+
+    -- a chromosome without records has one depth
+    none_on : (entry : Entry) (past : List Feature) → has_records entry.name (intervals_of past) ≡ false → NoRecords (form_of depths) Own entry past
+    none_on entry past none =
+        let empty = counted_none strand entry.name past none in
+        record {
+          part_is = ap (λ l. levels_on entry.name (levels_of (depth_of zeros l) entry.length)) empty ∙ ap (levels_on entry.name) (bare_levels zeros entry.length);
+          begins = record {
+            done_is = sym (ap (λ l. levels_on entry.name (settled_at zeros entry.length l 0)) empty ∙ ap (levels_on entry.name) (settled_first zeros entry.length));
+            known_is = sym (ap (λ l. known_at zeros entry.length l 0) empty ∙ known_first zeros entry.length);
+          };
+        }
+
+    own_next : (entry : Entry) (past : List Feature) (start : ℕ) (done : List DepthInterval) (known : Known) (r : Feature) → Own entry past start done known → entry.name ≡ r.chrom → start ≤ r.start → r.start < r.stop
+        → Own entry (past ++ r ∷ []) r.start (done ++ levels_on entry.name (levels_by zeros entry.length known (max r.start known.to))) (known_by zeros (is_counted_by strand r.strand) entry.length known (max r.start known.to) r.stop)
+    own_next entry past start done known r own is up full =
+        let spans = counted_on strand entry.name past in
+        let counted = is_counted_by strand r.strand in
+        let s = span_of (interval_of r) in
+        let size = entry.length in
+        let settled = settled_at zeros size spans start in
+        let more = levels_by zeros size (known_at zeros size spans start) r.start in
+        let next = counted_next strand entry.name past r (sym is) in
+        let from = start_same zeros size spans start r.start up in
+        record {
+          done_is =
+              ap₂ (λ (l : List DepthInterval) (k : Known). l ++ levels_on entry.name (levels_by zeros size k (max r.start k.to))) own.done_is own.known_is
+              ∙ ap (λ n. levels_on entry.name settled ++ levels_on entry.name (levels_by zeros size (known_at zeros size spans start) n)) from
+              ∙ sym (map-append (depth_on entry.name) settled more)
+              ∙ ap (levels_on entry.name) (sym (settled_next zeros counted size spans start s up full))
+              ∙ ap (λ l. levels_on entry.name (settled_at zeros size l r.start)) (sym next);
+          known_is =
+              ap (λ k. known_by zeros counted size k (max r.start k.to) r.stop) own.known_is
+              ∙ ap (λ n. known_by zeros counted size (known_at zeros size spans start) n r.stop) from
+              ∙ sym (known_next zeros counted size spans start s up full)
+              ∙ ap (λ l. known_at zeros size l r.start) (sym next);
+        }
+
+    -- the settled intervals end below the last start, and the others don't
+    divides_own : (entry : Entry) (past : List Feature) (last : Interval) (done : List DepthInterval) (known : Known) → Own entry past last.start done known → entry.name ≡ last.chrom → has_records entry.name (intervals_of past) ≡ true → Divides (form_of depths) Own entry past last done known
+    divides_own entry past last done known own is some =
+        let names = genome_names entries in
+        let size = entry.length in
+        let spans = counted_on strand entry.name past in
+        let here : (rank_order names).compare entry.name last.chrom ≡ Equal = compare_same names entry.name last.chrom is in
+        let settled = settled_at zeros size spans last.start in
+        let left = levels_left zeros size (known_at zeros size spans last.start) in
+        rw (own.done_is, own.known_is) (record {
+          all = ap (levels_on entry.name) (settled_and_left zeros size spans last.start) ∙ map-append (depth_on entry.name) settled left;
+          done_over = all_ended names last entry.name settled here (settled_end zeros size spans last.start);
+          left_open = none_ended names last entry.name (size + 1) left here (left_end zeros size spans last.start);
+        })
+
+    nothing_settled : settled_depths zeros strand entries [] ≡ []
+    unfolding settled_depths
+    nothing_settled = refl
+
+    pub owes : Owes (form_of depths) Own (genome_names entries)
+    owes = record {
+      nothing = nothing_settled;
+      picks = λ last. picks_by (is_ended_by (genome_names entries) last);
+      elsewhere = λ entry past r other.
+          ap (λ l. levels_on entry.name (levels_of (depth_of zeros l) entry.length)) (counted_append strand entry.name past (r ∷ []) ∙ ap (λ l. counted_on strand entry.name past ++ l) (counted_elsewhere strand entry.name r other) ∙ append-nil (counted_on strand entry.name past));
+      is_before = λ last entry past less. filter_map_all (depth_on entry.name) (is_ended_by (genome_names entries) last) (levels_of (depth_of zeros (counted_on strand entry.name past)) entry.length) (λ l. ap (λ o. is_over_at o (nat_lt l.stop last.start)) less);
+      is_behind = λ last entry past greater none. filter_map_none (depth_on entry.name) (is_ended_by (genome_names entries) last) (levels_of (depth_of zeros (counted_on strand entry.name past)) entry.length) (λ l. ap (λ o. is_over_at o (nat_lt l.stop last.start)) greater);
+      none = none_on;
+      next = own_next;
+      divides = divides_own;
+    }
+
+    -- the intervals come in the order of the genome file
+    pub written : (past : List Feature) → Written (form_of depths) Own entries past
+    unfolding settled_depths coverage
+    written past = record {
+      whole_is = refl;
+      settled_is = λ last is. ap (λ (o : Option Interval). option_map_or (λ last. filter (is_ended_by (genome_names entries) last) (coverage zeros strand entries past)) o []) is;
+    }
+
+-- A coverage walks as any engine that goes through a genome file. What it holds is what the definitions keep of the records of the past, and so its exact step writes what they settle.
 
 module _ (zeros : Bool) (strand : Option Strand) (entries : List Entry) where
   abbrev pub Reaches : List Feature → Option (Place Known) → Type 0
@@ -227,3 +341,198 @@ module _ (old : Covering) where
         ∙ flat_map-append depth_line (settled_depths old.zeros old.strand old.entries past) (left_before (depths_left old.zeros) (bare_of old.zeros) old.entries old.current (length old.entries)));
     adds = p;
   }
+
+-- What a coverage does with one record on the chromosome that it has reached.
+
+module _ (entries : List Entry) (current : Option (Place Known)) (name : List ℕ) (size : ℕ) (chrom : List ℕ) where
+  -- whether it lies there is known
+  pub on_here : (is_known : Bool) → is_known ≡ true → IsOnBy is_known entries current name size chrom → IsOnBy true entries current name size chrom
+  on_here true is on = on
+  on_here false is on = absurd (cc)
+
+  pub off_here : (is_known : Bool) → is_known ≡ false → IsOnBy is_known entries current name size chrom → IsOnBy false entries current name size chrom
+  off_here true is on = absurd (cc)
+  off_here false is on = on
+
+module _ (old : Covering) (place : Place Known) (reached : old.current ≡ Some place) (placed : IsPlaced old.entries place.rank) (chrom : List ℕ) (size : ℕ)
+    (named : (entry_at old.entries place.rank).name ≡ chrom) (sized : (entry_at old.entries place.rank).length ≡ size)
+    (r : Feature) (on : is_on old.entries old.current r.chrom ≡ true) (bounds : Bounds) (starts : r.start ≡ bounds.start) (stops : r.stop ≡ bounds.stop)
+    (counted : Bool) (counts : is_counted_by old.strand r.strand ≡ counted) (out : Output) where
+  step_is : depth_step old r ≡ (Some (record { rank = place.rank; known = known_by old.zeros counted size place.known (max bounds.start place.known.to) bounds.stop }), levels_on chrom (levels_by old.zeros size place.known (max bounds.start place.known.to)))
+  step_is = step_here old r place reached on ∙ rw (named, sized, counts, starts, stops) refl
+
+  -- it was taken
+  pub counts_ok : (begun : Option OpenInterval) (held : OpenAt) (grown : Output) → CountAnswers chrom (levels_by old.zeros size place.known (max bounds.start place.known.to)) (known_by old.zeros counted size place.known (max bounds.start place.known.to) bounds.stop) (Ok begun) held out grown
+      → Does next_lines CountsRecord wants_memory old r out (Ok tt) (record { entries = old.entries; zeros = old.zeros; strand = old.strand; current = Some (place_seen (record { rank = place.rank; begun = begun }) held); is_known = old.is_known; name = old.name; length = old.length }) grown
+  counts_ok begun held grown c =
+      let current = ap (λ k. Some (record { rank = place.rank; known = k })) c.1 ∙ sym (ap (λ s. s.0) step_is) in
+      (record { same_entries = refl; same_zeros = refl; same_strand = refl; current = current; at = λ at. placed }, rw step_is c.0)
+
+  to_keep : (counted ≡ true) × (bounds.start < size) → wants_memory old r
+  to_keep is =
+      let here = subst (λ (o : Option (Place Known)). is_on old.entries o r.chrom ≡ true) reached on in
+      let ranked : rank_of (genome_names old.entries) r.chrom ≡ Some place.rank = ap (rank_of (genome_names old.entries)) (sym (same_name (entry_at old.entries place.rank).name r.chrom here)) ∙ placed.named in
+      (counts ∙ is.0, rw (starts, size_ranked old.entries r.chrom place.rank ranked, sized) is.1)
+
+  -- it couldn't be
+  pub counts_err : (failure : Failure) (fault : Fault) (new : Covering) (held : OpenAt) (grown : Output) → fault_value fault ≡ fault_of failure → CountAnswers chrom (levels_by old.zeros size place.known (max bounds.start place.known.to)) (known_by old.zeros counted size place.known (max bounds.start place.known.to) bounds.stop) (Err failure) held out grown
+      → (failure ≡ Memory → (counted ≡ true) × (bounds.start < size)) → Does next_lines CountsRecord wants_memory old r out (Err fault) new grown
+  counts_err Write fault new held grown is cut want = inl (rw (step_is, is) cut)
+  counts_err Memory fault new held grown is puts want = inr (is, (to_keep (want refl), rw step_is puts))
+
+-- the same for the place that the code has
+module _ (table : List Entry) (zeros : Bool) (strand : Option Strand) (is_known : Bool) (name : List ℕ) (size : ℕ) (on : CurrentChrom) (here : on.is_known ≡ true)
+    (r : Feature) (bounds : Bounds) (starts : r.start ≡ bounds.start) (stops : r.stop ≡ bounds.stop) (counted : Bool) (counts : is_counted_by strand r.strand ≡ counted) (out grown : Output) where
+  -- a coverage with these open records
+  abbrev pub covering : Option DepthCursor → OpenAt → Covering
+  covering current held = record { entries = table; zeros = zeros; strand = strand; current = seen current held; is_known = is_known; name = name; length = size }
+
+  abbrev pub ended_with : Option OpenInterval → CurrentChrom
+  ended_with begun = record { is_known = on.is_known; name = on.name; length = on.length; begun = begun }
+
+  pub step_ok : (current : Option DepthCursor) (held : OpenAt) → AreReached table (seen current held) → IsOnChrom (with_chrom (covering current held) on) r.chrom → (begun : Option OpenInterval) (now_held : OpenAt)
+      → CountAnswers on.name.now (levels_by zeros on.length (known_seen on.begun held) (max bounds.start held.at)) (known_by zeros counted on.length (known_seen on.begun held) (max bounds.start held.at) bounds.stop) (Ok begun) now_held out grown
+      → Does next_lines CountsRecord wants_memory (with_chrom (covering current held) on) r out (Ok tt) (with_chrom (covering current now_held) (ended_with begun)) grown
+  step_ok None held placed lies begun now_held c = absurd (on_here table None on.name.now on.length r.chrom on.is_known here lies).1
+  step_ok (Some reached) held placed lies begun now_held c =
+      let place = place_seen (record { rank = reached.rank; begun = on.begun }) held in
+      let l = on_here table (Some place) on.name.now on.length r.chrom on.is_known here lies in
+      counts_ok (with_chrom (covering (Some reached) held) on) place refl placed on.name.now on.length l.1.0 l.1.1 r l.0 bounds starts stops counted counts out begun now_held grown c
+
+  pub step_err : (current : Option DepthCursor) (held : OpenAt) → AreReached table (seen current held) → IsOnChrom (with_chrom (covering current held) on) r.chrom → (failure : Failure) (fault : Fault) (new : Covering) (now_held : OpenAt) → fault_value fault ≡ fault_of failure
+      → CountAnswers on.name.now (levels_by zeros on.length (known_seen on.begun held) (max bounds.start held.at)) (known_by zeros counted on.length (known_seen on.begun held) (max bounds.start held.at) bounds.stop) (Err failure) now_held out grown
+      → (failure ≡ Memory → (counted ≡ true) × (bounds.start < on.length)) → Does next_lines CountsRecord wants_memory (with_chrom (covering current held) on) r out (Err fault) new grown
+  step_err None held placed lies failure fault new now_held is c want = absurd (on_here table None on.name.now on.length r.chrom on.is_known here lies).1
+  step_err (Some reached) held placed lies failure fault new now_held is c want =
+      let place = place_seen (record { rank = reached.rank; begun = on.begun }) held in
+      let l = on_here table (Some place) on.name.now on.length r.chrom on.is_known here lies in
+      counts_err (with_chrom (covering (Some reached) held) on) place refl placed on.name.now on.length l.1.0 l.1.1 r l.0 bounds starts stops counted counts out failure fault new now_held grown is c want
+
+-- what is known of a chromosome changes nothing of where it lies
+pub stays_on : (table : List Entry) (current : Option DepthCursor) (held now_held : OpenAt) (begun now_begun : Option OpenInterval) (is_known : Bool) (name : List ℕ) (size : ℕ) (chrom : List ℕ)
+    → IsOnBy is_known table (with_begun begun (seen current held)) name size chrom → IsOnBy is_known table (with_begun now_begun (seen current now_held)) name size chrom
+stays_on table None held now_held begun now_begun is_known name size chrom on = on
+stays_on table (Some reached) held now_held begun now_begun true name size chrom on = on
+stays_on table (Some reached) held now_held begun now_begun false name size chrom on = on
+
+-- The lines of intervals with their depths, and what the private calls of a coverage write of them.
+
+-- the name, and what follows it
+pub line_parts : (r : DepthInterval) → r.chrom ++ depth_text r.start r.stop r.depth ≡ depth_line r
+line_parts r =
+    let tab = codes "\t" in
+    let last = decimal r.depth ++ codes "\n" in
+    let second = decimal r.stop ++ (tab ++ last) in
+    let first = (tab ++ decimal r.start) ++ tab in
+    ap (λ l. r.chrom ++ l) (sym (append_assoc tab (decimal r.start) (tab ++ second))
+    ∙ sym (append_assoc (tab ++ decimal r.start) tab second)
+    ∙ sym (append_assoc first (decimal r.stop) (tab ++ last))
+    ∙ sym (append_assoc (first ++ decimal r.stop) tab last)
+    ∙ sym (append_assoc ((first ++ decimal r.stop) ++ tab) (decimal r.depth) (codes "\n")))
+
+-- no line is empty
+pub line_has_bytes : (r : DepthInterval) → depth_line r ≡ [] → ⊥
+line_has_bytes r e =
+    let behind = codes "\t" ++ decimal r.start ++ codes "\t" ++ decimal r.stop ++ codes "\t" ++ decimal r.depth in
+    let l = length-append r.chrom (behind ++ codes "\n") in
+    let m = length-append behind (codes "\n") in
+    let none : length (depth_line r) ≡ 0 = ap length e in
+    absurd (omega arith)
+
+-- the line of an interval alone
+pub adds_line : {A : Type 0} (r : DepthInterval) (old new : Output) (result : Result A Fault) → Puts old (depth_line r) result new → Adds old (depth_lines (r ∷ [])) result new
+adds_line r old new result p = line_alone depth_line r old new result (line_has_bytes r) p
+
+-- levels on a chromosome, one list after another
+module _ (chrom : List ℕ) (old mid new : Output) (xs ys all : List Level) where
+  pub adds_levels : {A : Type 0} (r : Result A Fault) → all ≡ xs ++ ys → Grown old (depth_lines (levels_on chrom xs)) mid → Adds mid (depth_lines (levels_on chrom ys)) r new → Adds old (depth_lines (levels_on chrom all)) r new
+  adds_levels r is p q = rw (is, map-append (depth_on chrom) xs ys) (adds_lines depth_line old mid new (levels_on chrom xs) (levels_on chrom ys) r p q)
+
+  pub cut_levels : (zs : List Level) (fault : Fault) → all ≡ (xs ++ ys) ++ zs → Grown old (depth_lines (levels_on chrom xs)) mid → FailsToAdd mid (depth_lines (levels_on chrom ys)) (fault_value fault) new → FailsToAdd old (depth_lines (levels_on chrom all)) (fault_value fault) new
+  cut_levels zs fault is p q =
+      rw (is, map-append (depth_on chrom) (xs ++ ys) zs, map-append (depth_on chrom) xs ys)
+      (cut_lines depth_line old new (levels_on chrom xs ++ levels_on chrom ys) (levels_on chrom zs) (fault_value fault) (adds_lines depth_line old mid new (levels_on chrom xs) (levels_on chrom ys) {A = Unit {0}} (Err fault) p q))
+
+pub left_cut : (chrom : List ℕ) (old new : Output) (xs ys : List Level) (fault : Fault) → FailsToAdd old (depth_lines (levels_on chrom xs)) (fault_value fault) new → FailsToAdd old (depth_lines (levels_on chrom (xs ++ ys))) (fault_value fault) new
+left_cut chrom old new xs ys fault p = rw (map-append (depth_on chrom) xs ys) (cut_lines depth_line old new (levels_on chrom xs) (levels_on chrom ys) (fault_value fault) p)
+
+-- one bare chromosome
+pub bare_some : (zeros : Bool) (entries : List Entry) (rank size : ℕ) (name : List ℕ) → (entry_at entries rank).length ≡ size → (entry_at entries rank).name ≡ name → zeros ≡ true → 0 < size
+    → bare_of zeros (entry_at entries rank) ≡ record { chrom = name; start = 0; stop = size; depth = 0 } ∷ []
+bare_some zeros entries rank size name is named t some = rw (is, named, t, lt-ltb 0 size some) refl
+
+-- one that isn't written: depth 0 isn't reported, or it has no base
+pub bare_unasked : (zeros : Bool) (entry : Entry) → zeros ≡ false → bare_of zeros entry ≡ []
+bare_unasked zeros entry f = rw f refl
+
+pub bare_empty : (zeros : Bool) (entry : Entry) (size : ℕ) → entry.length ≡ size → size ≡ 0 → bare_of zeros entry ≡ []
+bare_empty true entry size is none = rw (is, none) refl
+bare_empty false entry size is none = refl
+
+-- The walk over the positions of a chromosome, from one where the depth changes to the next.
+
+-- the depth of the positions from one up to the next at which a record ends
+module _ (zeros : Bool) (at position : ℕ) (first now : List Span) (low : at ≤ position) (same : still_open position now ≡ still_open position first) (started : All (λ s. s.start ≤ at) now) (value : Option ℕ) (is : value ≡ reported zeros (length (still_open (position + 1) now))) where
+  pub run_depth : (next : ℕ) → All (λ s. next ≤ s.stop) (still_open (position + 1) now) → (q : ℕ) → position ≤ q → q < next → depth_of zeros first q ≡ value
+  unfolding depth_of
+  run_depth next ends q lower higher = ap (reported zeros) (walk_depth at position first now low same next q started ends lower higher) ∙ sym is
+
+  pub here_depth : depth_of zeros first position ≡ value
+  here_depth = run_depth (position + 1) (all_open (position + 1) now) position (omega arith) (omega arith)
+
+-- one step of the walk
+module _ (u : ℕ → Option ℕ) (from at next : ℕ) (g : Option Begun) (value : Option ℕ) (low : from ≤ at) (up : at < next) (run : (q : ℕ) → at ≤ q → q < next → u q ≡ value) where
+  run_is : (q : ℕ) → at ≤ q → q < at + (next - at) → u q ≡ value
+  run_is q lower higher = run q lower (omega arith)
+
+  parts_are : next - from ≡ (at - from) + (next - at)
+  parts_are = omega arith
+
+  here_is : from + (at - from) ≡ at
+  here_is = omega arith
+
+  pub turn_ended : ended_after u from (next - from) g ≡ ended_after u from (at - from) g ++ next_ended at value (begun_after u from (at - from) g)
+  turn_ended =
+      let begun = begun_after u from (at - from) g in
+      ap (λ n. ended_after u from n g) parts_are
+      ∙ (scan_split u (at - from) (next - at) from g).1
+      ∙ ap (λ n. ended_after u from (at - from) g ++ ended_after u n (next - at) begun) here_is
+      ∙ ap (λ l. ended_after u from (at - from) g ++ l) (scan_run u value (next - at) at begun (omega arith) run_is).1
+
+  pub turn_begun : begun_after u from (next - from) g ≡ next_begun at value (begun_after u from (at - from) g)
+  turn_begun =
+      let begun = begun_after u from (at - from) g in
+      ap (λ n. begun_after u from n g) parts_are
+      ∙ (scan_split u (at - from) (next - at) from g).0
+      ∙ ap (λ n. begun_after u n (next - at) begun) here_is
+      ∙ (scan_run u value (next - at) at begun (omega arith) run_is).0
+
+-- no step
+pub no_ended : (u : ℕ → Option ℕ) (p n : ℕ) (g : Option Begun) → n ≡ 0 → ended_after u p n g ≡ []
+unfolding ended_after
+no_ended u p n g none = rw none refl
+
+pub no_begun : (u : ℕ → Option ℕ) (p n : ℕ) (g : Option Begun) → n ≡ 0 → begun_after u p n g ≡ g
+unfolding begun_after
+no_begun u p n g none = rw none refl
+
+one_ended : (u : ℕ → Option ℕ) (p : ℕ) (g : Option Begun) → ended_after u p 1 g ≡ next_ended p (u p) g
+unfolding ended_after
+one_ended u p g = append-nil (next_ended p (u p) g)
+
+-- what one step ends, and what comes after it
+pub turn_more : (u : ℕ → Option ℕ) (from at stop : ℕ) (g begun : Option Begun) (value : Option ℕ) → from ≤ at → at < stop → u at ≡ value → begun ≡ begun_after u from (at - from) g
+    → (more : List Level) × (ended_after u from (stop - from) g ≡ (ended_after u from (at - from) g ++ next_ended at value begun) ++ more)
+turn_more u from at stop g begun value low up is same =
+    let parts : stop - from ≡ (at - from) + (1 + (stop - (at + 1))) = omega arith in
+    let here : from + (at - from) ≡ at = omega arith in
+    let behind = begun_after u at 1 begun in
+    let more = ended_after u (at + 1) (stop - (at + 1)) behind in
+    let ended = ended_after u from (at - from) g in (
+      more,
+      ap (λ n. ended_after u from n g) parts
+          ∙ (scan_split u (at - from) (1 + (stop - (at + 1))) from g).1
+          ∙ ap₂ (λ n b. ended ++ ended_after u n (1 + (stop - (at + 1))) b) here (sym same)
+          ∙ ap (λ l. ended ++ l) ((scan_split u 1 (stop - (at + 1)) at begun).1 ∙ ap (λ l. l ++ more) (one_ended u at begun ∙ ap (λ v. next_ended at v begun) is))
+          ∙ sym (append_assoc ended (next_ended at value begun) more),
+    )

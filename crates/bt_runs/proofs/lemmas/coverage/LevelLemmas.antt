@@ -1,6 +1,6 @@
 -- A scan of the positions finds the intervals of equal value, and no other list has them; scans in parts, and scans that see the same values.
 use Rattle.bt_lines.proofs.Std.{◌≡◌, ℕ, zero, suc, ◌+◌, ◌<◌, ◌≤◌, inl, inr, List, [], ◌∷◌, ◌++◌, refl, sym, ap, ◌∙◌, arith, append_assoc, true, ◌==◌, Option, Some, None, append-nil, cases_Bool, eq-eqb, ⊤}
-use Rattle.bt_runs.specs.model.Levels.{Begun, Level, begun_after, ended_after, ended_at, levels_from, next_begun, next_ended, begun_at, goes_on}
+use Rattle.bt_runs.specs.model.Depth.{Begun, Level, begun_after, ended_after, ended_at, levels_from, next_begun, next_ended, begun_at, goes_on}
 
 pub levels_more : (value : ℕ → Option ℕ) (p n : ℕ) (begun : Option Begun) → levels_from value p (suc n) begun ≡ next_ended p (value p) begun ++ levels_from value (p + 1) n (next_begun p (value p) begun)
 unfolding begun_after ended_after

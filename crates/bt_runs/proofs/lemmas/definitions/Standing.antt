@@ -1,13 +1,16 @@
 -- Chromosomes in an order, each once, and where a name is found among them. Records in that order have reached the chromosome of the last record, with none on any after it. The next record goes on there, or to a later chromosome.
-use Rattle.bt_lines.proofs.Std.{◌≡◌, ℕ, suc, ◌+◌, ◌<◌, ◌≤◌, inl, inr, List, [], ◌∷◌, ◌++◌, append_assoc, refl, sym, ap, ◌∙◌, subst, arith, length, length-append, map, true, false, bytes_eq, Option, Some, None, option_map, ◌⊎◌, ◌||◌, ⊤, is_some, nat_cmp, cases_Bool, cases_lt, cond-true, cond-false, lt-ltb, le-ltb, eq-eqb, ne_eqb, or_parts, or_from, or_left, or_right, map-append}
+use Rattle.bt_lines.proofs.Std.{◌≡◌, ℕ, suc, ◌+◌, ◌<◌, ◌≤◌, inl, inr, List, [], ◌∷◌, ◌++◌, append_assoc, refl, sym, ap, ◌∙◌, subst, arith, length, length-append, map, true, false, bytes_eq, Option, Some, None, option_map, ◌⊎◌, ◌||◌, ⊤, is_some, nat_cmp, cases_Bool, cases_lt, cond-true, cond-false, lt-ltb, le-ltb, eq-eqb, ne_eqb, or_parts, or_from, or_left, or_right, map-append, ap₂, filter, cond, Bool, AllByRecursion, list_any, or_cases, not, nat_lt, append-nil, not_from_true, not_from_false, filter-append}
 use Rattle.std.specs.declared.cmp.Ordering.{Ordering}
 use Rattle.std.specs.declared.cmp.Ordering.TheVariants.{Less, Equal, Greater}
-use Rattle.bt_bed.specs.model.order.Rank.{is_among, AreDistinct, compare_ranks, rank_of, rank_order}
+use Rattle.bt_bed.specs.model.Order.{is_among, AreDistinct, compare_ranks, rank_of, rank_order}
 use Rattle.bt_bed.proofs.lemmas.parse.NameLemmas.{same_name, name_eq, name_ne-sym, name_ne}
-use Rattle.bt_bed.specs.model.feature.Interval.{Interval, last_from, last_of}
-use Rattle.bt_bed.specs.model.order.Locus.{ArePlaced, IsUpTo, locus_of}
-use Rattle.bt_bed.specs.model.order.Contiguous.{has_records}
-use Rattle.bt_bed.proofs.lemmas.order.ContiguousLemmas.{last_of-push}
+use Rattle.bt_bed.specs.model.Feature.{Interval, last_from, last_of, Span, placed_on, Feature, interval_of, intervals_of}
+use Rattle.bt_bed.specs.model.Sorted.{ArePlaced, IsUpTo, locus_of, has_records}
+use Rattle.bt_bed.proofs.lemmas.order.OrderLemmas.{last_of-push}
+use Rattle.bt_runs.specs.model.Merged.{is_closed, is_counted, counted}
+use Rattle.bt_runs.proofs.lemmas.merge.Bridging.{AreApartBy}
+use Rattle.bt_runs.specs.declared.merge.merge_strand.MergeStrand.{MergeStrand}
+use Rattle.bt_runs.specs.calls.Engine.{Settles, SettledStays, SettledBegins}
 
 -- ranks compared
 pub cmp_less : (a b : ℕ) → a < b → nat_cmp a b ≡ Less
@@ -300,3 +303,232 @@ module _ {K : Type 0} (name : K → List ℕ) where
           let known = known_rank (rank_of names r.chrom) placed.0 in
           let f = found name keys r.chrom known.0 known.1 in
           (known.0, f, known.1, record { split = f.split; is = f.is; none_after = none_at_first f.after })
+
+-- What holds of each element of a list, or of some.
+
+-- it is so of each
+abbrev pub Each : {A : Type 0} → (A → Type 0) → List A → Type 0
+Each P xs = AllByRecursion P xs
+
+-- and of some one
+abbrev pub Some_of : {A : Type 0} → (A → Type 0) → List A → Type 0
+Some_of P [] = ⊥
+Some_of P (x ∷ xs) = P x ⊎ Some_of P xs
+
+pub each_weaker : {A : Type 0} (P Q : A → Type 0) → ((x : A) → P x → Q x) → (xs : List A) → Each P xs → Each Q xs
+each_weaker P Q h [] e = tt
+each_weaker P Q h (x ∷ xs) e = (h x e.0, each_weaker P Q h xs e.1)
+
+pub each_both : {A : Type 0} (P Q : A → Type 0) (xs : List A) → Each P xs → Each Q xs → Each (λ x. P x × Q x) xs
+each_both P Q [] e d = tt
+each_both P Q (x ∷ xs) e d = ((e.0, d.0), each_both P Q xs e.1 d.1)
+
+pub each_all : {A : Type 0} (P : A → Type 0) → ((x : A) → P x) → (xs : List A) → Each P xs
+each_all P h [] = tt
+each_all P h (x ∷ xs) = (h x, each_all P h xs)
+
+pub each_append : {A : Type 0} (P : A → Type 0) (xs ys : List A) → Each P xs → Each P ys → Each P (xs ++ ys)
+each_append P [] ys e d = d
+each_append P (x ∷ xs) ys e d = (e.0, each_append P xs ys e.1 d)
+
+pub each_front : {A : Type 0} (P : A → Type 0) (xs ys : List A) → Each P (xs ++ ys) → Each P xs
+each_front P [] ys e = tt
+each_front P (x ∷ xs) ys e = (e.0, each_front P xs ys e.1)
+
+pub each_map : {A B : Type 0} (P : B → Type 0) (f : A → B) (xs : List A) → Each (λ x. P (f x)) xs → Each P (map f xs)
+each_map P f [] e = tt
+each_map P f (x ∷ xs) e = (e.0, each_map P f xs e.1)
+
+pub each_unmap : {A B : Type 0} (P : B → Type 0) (f : A → B) (xs : List A) → Each P (map f xs) → Each (λ x. P (f x)) xs
+each_unmap P f [] e = tt
+each_unmap P f (x ∷ xs) e = (e.0, each_unmap P f xs e.1)
+
+pub each_filter : {A : Type 0} (P : A → Type 0) (test : A → Bool) (xs : List A) → Each P xs → Each P (filter test xs)
+each_filter P test [] e = tt
+each_filter {A} P test (x ∷ xs) e =
+    let rest = each_filter P test xs e.1 in
+    elim (test x) as (λ b. Each P (cond b (x ∷ filter test xs) (filter test xs))) [ true ↦ (e.0, rest) | false ↦ rest ]
+
+-- some one of them is such that it is so of it
+pub some_each : {A : Type 0} (P Q R : A → Type 0) → ((x : A) → P x → Q x → R x) → (xs : List A) → Some_of P xs → Each Q xs → Some_of R xs
+some_each P Q R h (x ∷ xs) (inl p) e = inl (h x p e.0)
+some_each P Q R h (x ∷ xs) (inr p) e = inr (some_each P Q R h xs p e.1)
+some_each P Q R h [] p e = absurd p
+
+pub some_weaker : {A : Type 0} (P R : A → Type 0) → ((x : A) → P x → R x) → (xs : List A) → Some_of P xs → Some_of R xs
+some_weaker P R h xs p = some_each P (λ x. Unit {0}) R (λ x q u. h x q) xs p (each_all (λ x. Unit {0}) (λ x. tt) xs)
+
+-- what is so of each one is so, if there is one
+pub some_out : {A : Type 0} (P : A → Type 0) (R : Type 0) → ((x : A) → P x → R) → (xs : List A) → Some_of P xs → R
+some_out P R h [] p = absurd p
+some_out P R h (x ∷ xs) (inl p) = h x p
+some_out P R h (x ∷ xs) (inr p) = some_out P R h xs p
+
+pub some_left : {A : Type 0} (P : A → Type 0) (xs ys : List A) → Some_of P xs → Some_of P (xs ++ ys)
+some_left P (x ∷ xs) ys (inl p) = inl p
+some_left P (x ∷ xs) ys (inr p) = inr (some_left P xs ys p)
+some_left P [] ys p = absurd p
+
+pub some_right : {A : Type 0} (P : A → Type 0) (xs ys : List A) → Some_of P ys → Some_of P (xs ++ ys)
+some_right P [] ys p = p
+some_right P (x ∷ xs) ys p = inr (some_right P xs ys p)
+
+pub some_map : {A B : Type 0} (P : B → Type 0) (f : A → B) (xs : List A) → Some_of (λ x. P (f x)) xs → Some_of P (map f xs)
+some_map P f (x ∷ xs) (inl p) = inl p
+some_map P f (x ∷ xs) (inr p) = inr (some_map P f xs p)
+some_map P f [] p = absurd p
+
+-- a test that some element passes, or none
+pub any_from : {A : Type 0} (test : A → Bool) (xs : List A) → Some_of (λ x. test x ≡ true) xs → list_any test xs ≡ true
+any_from test [] p = absurd p
+any_from test (x ∷ xs) (inl p) = or_left (test x) (list_any test xs) p
+any_from test (x ∷ xs) (inr p) = or_right (test x) (list_any test xs) (any_from test xs p)
+
+pub any_some : {A : Type 0} (test : A → Bool) (xs : List A) → list_any test xs ≡ true → Some_of (λ x. test x ≡ true) xs
+any_some test [] t = cc
+any_some test (x ∷ xs) t = elim (or_cases (test x) (list_any test xs) t) [ inl p ↦ inl p | inr p ↦ inr (any_some test xs p) ]
+
+pub none_from : {A : Type 0} (test : A → Bool) (xs : List A) → Each (λ x. test x ≡ false) xs → list_any test xs ≡ false
+none_from test [] e = refl
+none_from test (x ∷ xs) e = or_from (test x) (list_any test xs) e.0 (none_from test xs e.1)
+
+pub none_each : {A : Type 0} (test : A → Bool) (xs : List A) → list_any test xs ≡ false → Each (λ x. test x ≡ false) xs
+none_each test [] f = tt
+none_each test (x ∷ xs) f = elim (cases_Bool (test x)) [
+  | inl t ↦ let both = or_left (test x) (list_any test xs) t in absurd (cc)
+  | inr n ↦ elim (cases_Bool (list_any test xs)) [
+    | inl t ↦ let both = or_right (test x) (list_any test xs) t in absurd (cc)
+    | inr g ↦ (n, none_each test xs g)
+  ]
+]
+
+-- tests that agree on each element
+pub any_same : {A : Type 0} (test other : A → Bool) (xs : List A) → Each (λ x. test x ≡ other x) xs → list_any test xs ≡ list_any other xs
+any_same test other [] e = refl
+any_same test other (x ∷ xs) e = ap₂ (λ (a b : Bool). a || b) e.0 (any_same test other xs e.1)
+
+-- a filter that drops all, or keeps all
+pub filter_drops : {A : Type 0} (test : A → Bool) (xs : List A) → Each (λ x. test x ≡ false) xs → filter test xs ≡ []
+filter_drops test [] e = refl
+filter_drops test (x ∷ xs) e = cond-false (test x) (x ∷ filter test xs) (filter test xs) e.0 ∙ filter_drops test xs e.1
+
+pub filter_keeps : {A : Type 0} (test : A → Bool) (xs : List A) → Each (λ x. test x ≡ true) xs → filter test xs ≡ xs
+filter_keeps test [] e = refl
+filter_keeps test (x ∷ xs) e = cond-true (test x) (x ∷ filter test xs) (filter test xs) e.0 ∙ ap (λ l. x ∷ l) (filter_keeps test xs e.1)
+
+pub filter_passes : {A : Type 0} (test : A → Bool) (xs : List A) → Each (λ x. test x ≡ true) (filter test xs)
+filter_passes test [] = tt
+filter_passes {A} test (x ∷ xs) =
+    let rest = filter_passes test xs in
+    elim (cases_Bool (test x)) [
+      | inl t ↦ let is = cond-true (test x) (x ∷ filter test xs) (filter test xs) t in rw is (t, rest)
+      | inr f ↦ let is = cond-false (test x) (x ∷ filter test xs) (filter test xs) f in rw is rest
+    ]
+
+-- a filter of mapped elements, which all pass, or none
+pub filter_map_all : {A B : Type 0} (f : A → B) (test : B → Bool) (xs : List A) → ((x : A) → test (f x) ≡ true) → filter test (map f xs) ≡ map f xs
+filter_map_all f test xs all = filter_keeps test (map f xs) (each_map (λ y. test y ≡ true) f xs (each_all (λ x. test (f x) ≡ true) all xs))
+
+pub filter_map_none : {A B : Type 0} (f : A → B) (test : B → Bool) (xs : List A) → ((x : A) → test (f x) ≡ false) → filter test (map f xs) ≡ []
+filter_map_none f test xs all = filter_drops test (map f xs) (each_map (λ y. test y ≡ false) f xs (each_all (λ x. test (f x) ≡ false) all xs))
+
+-- a filter of changed elements, if the change doesn't change the test
+pub filter_changed : {A : Type 0} (f : A → A) (test : A → Bool) (xs : List A) → Each (λ x. test (f x) ≡ test x) xs → filter test (map f xs) ≡ map f (filter test xs)
+filter_changed f test [] e = refl
+filter_changed f test (x ∷ xs) e = elim (cases_Bool (test x)) [
+  | inl t ↦ rw (e.0, t) (ap (λ l. f x ∷ l) (filter_changed f test xs e.1))
+  | inr n ↦ rw (e.0, n) (filter_changed f test xs e.1)
+]
+
+-- a change that leaves each element
+pub map_leaves : {A : Type 0} (f : A → A) (xs : List A) → Each (λ x. f x ≡ x) xs → map f xs ≡ xs
+map_leaves f [] e = refl
+map_leaves f (x ∷ xs) e = ap₂ (λ y ys. y ∷ ys) e.0 (map_leaves f xs e.1)
+
+-- of each of the first and each of the second, or the other way round
+pub each_swap : {A B : Type 0} (R : A → B → Type 0) (xs : List A) (ys : List B) → Each (λ x. Each (R x) ys) xs → Each (λ y. Each (λ x. R x y) xs) ys
+each_swap R xs [] e = tt
+each_swap {A} R xs (y ∷ ys) e = (
+  each_weaker (λ x. R x y × Each (R x) ys) (λ x. R x y) (λ x p. p.0) xs e,
+  each_swap R xs ys (each_weaker (λ x. R x y × Each (R x) ys) (λ x. Each (R x) ys) (λ x p. p.1) xs e),
+)
+
+-- Which runs a record closes, and which records are merged, among others.
+
+pub passed_elsewhere : (gap : ℕ) (last run : Interval) → bytes_eq run.chrom last.chrom ≡ false → is_closed gap last run ≡ true
+passed_elsewhere gap last run other = or_left (not (bytes_eq run.chrom last.chrom)) (nat_lt (run.stop + gap) last.start) (not_from_false (bytes_eq run.chrom last.chrom) other)
+
+pub passed_far : (gap : ℕ) (last run : Interval) → run.stop + gap < last.start → is_closed gap last run ≡ true
+passed_far gap last run far = or_right (not (bytes_eq run.chrom last.chrom)) (nat_lt (run.stop + gap) last.start) (lt-ltb (run.stop + gap) last.start far)
+
+pub not_passed : (gap : ℕ) (last run : Interval) → run.chrom ≡ last.chrom → last.start ≤ run.stop + gap → is_closed gap last run ≡ false
+not_passed gap last run same near = or_from (not (bytes_eq run.chrom last.chrom)) (nat_lt (run.stop + gap) last.start) (not_from_true (bytes_eq run.chrom last.chrom) (name_eq run.chrom last.chrom same)) (le-ltb (run.stop + gap) last.start near)
+
+-- a record closes all runs on other chromosomes than its own
+pub placed_elsewhere : (gap : ℕ) (last : Interval) (name : List ℕ) (spans : List Span) → bytes_eq name last.chrom ≡ false → filter (is_closed gap last) (map (placed_on name) spans) ≡ map (placed_on name) spans
+placed_elsewhere gap last name spans other = filter_map_all (placed_on name) (is_closed gap last) spans (λ s. passed_elsewhere gap last (placed_on name s) other)
+
+first_up_to : (gap first : ℕ) (done : List Span) (run : Span) → AreApartBy gap first (done ++ run ∷ []) → first ≤ run.start
+first_up_to gap first [] run a = a.0
+first_up_to gap first (x ∷ done) run a = let h = first_up_to gap (x.stop + gap + 1) done run a.2 in omega arith
+
+-- a record at or past the start of the last run closes those before that
+pub passed_before : (gap first : ℕ) (last : Interval) (name : List ℕ) (done : List Span) (run : Span) → AreApartBy gap first (done ++ run ∷ []) → run.start ≤ last.start → filter (is_closed gap last) (map (placed_on name) done) ≡ map (placed_on name) done
+passed_before gap first last name [] run apart up = refl
+passed_before gap first last name (x ∷ done) run apart up =
+    let low = first_up_to gap (x.stop + gap + 1) done run apart.2 in
+    let others : List Interval = filter (is_closed gap last) (map (placed_on name) done) in
+    cond-true (is_closed gap last (placed_on name x)) (placed_on name x ∷ others) others (passed_far gap last (placed_on name x) (omega arith))
+    ∙ ap (λ runs. placed_on name x ∷ runs) (passed_before gap (x.stop + gap + 1) last name done run apart.2 up)
+
+module _ (keep : Feature → Bool) where
+  -- a chromosome without records has none of some of them
+  pub some_absent : (name : List ℕ) (records : List Feature) (more : List Interval) → has_records name (intervals_of records ++ more) ≡ false → has_records name (intervals_of (filter keep records) ++ more) ≡ false
+  some_absent name [] more f = f
+  some_absent name (r ∷ rs) more f =
+      let parts = or_parts (bytes_eq r.chrom name) (has_records name (intervals_of rs ++ more)) f in
+      let rest = some_absent name rs more parts.1 in
+      elim (keep r) as (λ b. has_records name (intervals_of (cond b (r ∷ filter keep rs) (filter keep rs)) ++ more) ≡ false) [
+        | true ↦ or_from (bytes_eq r.chrom name) (has_records name (intervals_of (filter keep rs) ++ more)) parts.0 rest
+        | false ↦ rest
+      ]
+
+module _ (strand : MergeStrand) where
+  pub counted_absent : (name : List ℕ) (past : List Feature) → has_records name (intervals_of past) ≡ false → has_records name (counted strand past) ≡ false
+  counted_absent name past f =
+      let all : has_records name (intervals_of past ++ []) ≡ false = ap (λ rs. has_records name rs) (append-nil (intervals_of past)) ∙ f in
+      ap (λ rs. has_records name rs) (sym (append-nil (counted strand past))) ∙ some_absent (λ r. is_counted strand r.strand) name past [] all
+
+  pub counted-append : (xs ys : List Feature) → counted strand (xs ++ ys) ≡ counted strand xs ++ counted strand ys
+  counted-append xs ys =
+      let keep : Feature → Bool = λ r. is_counted strand r.strand in
+      ap intervals_of (filter-append keep xs ys) ∙ map-append interval_of (filter keep xs) (filter keep ys)
+
+  -- one more that is merged, and one that isn't
+  pub counted_next : (past : List Feature) (r : Feature) → is_counted strand r.strand ≡ true → counted strand (past ++ r ∷ []) ≡ counted strand past ++ interval_of r ∷ []
+  counted_next past r t = counted-append past (r ∷ []) ∙ ap (λ rs. counted strand past ++ intervals_of rs) (cond-true (is_counted strand r.strand) (r ∷ []) [] t)
+
+  pub counted_same : (past : List Feature) (r : Feature) → is_counted strand r.strand ≡ false → counted strand (past ++ r ∷ []) ≡ counted strand past
+  counted_same past r f =
+      counted-append past (r ∷ [])
+      ∙ ap (λ rs. counted strand past ++ intervals_of rs) (cond-false (is_counted strand r.strand) (r ∷ []) [] f)
+      ∙ append-nil (counted strand past)
+
+-- What follows of every list of which more and more is settled as records come.
+
+-- what is settled begins what is settled later
+pub stays : {T : Type 0} (settled whole : List Feature → List T) (Taken : List Feature → Type 0) → Settles settled whole Taken → SettledStays settled Taken
+stays settled whole Taken h past [] t = ([], ap settled (append-nil past) ∙ sym (append-nil (settled past)))
+stays {T} settled whole Taken h past (r ∷ rs) t =
+    let grown : (past ++ r ∷ []) ++ rs ≡ past ++ r ∷ rs = append_assoc past (r ∷ []) rs in
+    let t_grown = subst Taken (sym grown) t in
+    let one = h.next past r (h.prefix (past ++ r ∷ []) rs t_grown) in
+    let more = stays {T = T} settled whole Taken h (past ++ r ∷ []) rs t_grown in
+    (one.0 ++ more.0, ap settled (sym grown) ∙ more.1 ∙ ap (λ l. l ++ more.0) one.1 ∙ append_assoc (settled past) one.0 more.0)
+
+-- and the whole of every longer list
+pub begins : {T : Type 0} (settled whole : List Feature → List T) (Taken : List Feature → Type 0) → Settles settled whole Taken → SettledBegins settled whole Taken
+begins {T} settled whole Taken h past more t =
+    let later = stays {T = T} settled whole Taken h past more t in
+    let rest = h.begins (past ++ more) t in
+    (later.0 ++ rest.0, rest.1 ∙ ap (λ l. l ++ rest.0) later.1 ∙ append_assoc (settled past) later.0 rest.0)

@@ -2,10 +2,9 @@
 use Rattle.bt_lines.proofs.Std.{◌≡◌, ℕ, inl, inr, List, [], ◌∷◌, ◌++◌, ap, refl, sym, subst, Option, None, Result, Ok, Err, IsOk}
 use Rattle.bt_lines.specs.model.Fault.{FaultValue}
 use Rattle.bt_lines.specs.calls.Names.{fault_value}
-use Rattle.bt_lines.specs.calls.Output.{Output}
-use Rattle.bt_lines.specs.calls.Putting.{CutsRest, PutsRest}
+use Rattle.bt_lines.specs.calls.Output.{Output, CutsRest, PutsRest}
 use Rattle.bt_lines.specs.declared.fault.Fault.{Fault}
-use Rattle.bt_bed.specs.model.feature.Feature.{Feature}
+use Rattle.bt_bed.specs.model.Feature.{Feature}
 use Rattle.bt_runs.specs.calls.Engine.{AfterEach, AtEnd, FeedAnswers, Feeds, FeedsBatch, FinishAnswers, Finishes, NotTaken, TakesEach, TakesGiven}
 use Rattle.bt_runs.specs.declared.merge.Kind.{Kind}
 use Rattle.bt_runs.specs.declared.merge.Kind.TheVariants.{PerStrand, Unstranded}

@@ -2,34 +2,24 @@
 use Rattle.bt_lines.proofs.Std.{codes, decimal, ◌≡◌, ◌⊎◌, ℕ, ◌+◌, ◌-◌, ◌<◌, ◌≤◌, List, [], ◌∷◌, ◌++◌, append-nil, length, length-append, inl, inr, not, cond, ◌||◌, drop, get_or, map, set, take, Bool, true, false, bytes_eq, nat_lt, lt-ltb, le-ltb, Option, None, Some, Result, Ok, Err, refl, sym, ap, ap₂, ◌∙◌, subst, arith, prefix_len, slice_get, is_err, OnOk, cases_Bool, cases_lt, cond-true, cond-false, false≢true, not_from_true, flat_map-append, drop-map, get_or-map, length-map, map-append, map-set, take-map, get_or_from_slice_get, slice_get-get_or, slice_get_within}
 use Rattle.bt_lines.specs.model.Fault.{no_memory}
 use Rattle.bt_lines.specs.calls.Names.{fault_value}
-use Rattle.bt_lines.specs.calls.Output.{Output}
-use Rattle.bt_lines.specs.calls.Putting.{Adds, FailsToAdd, FailsToPut, Grown}
+use Rattle.bt_lines.specs.calls.Output.{Output, Adds, FailsToAdd, FailsToPut, Grown}
 use Rattle.bt_lines.specs.declared.fault.Fault.{Fault}
-use Rattle.bt_bed.specs.model.feature.Feature.{Feature, interval_of}
-use Rattle.bt_bed.specs.model.feature.Interval.{Interval}
-use Rattle.bt_bed.specs.model.feature.IntervalLine.{interval_line, interval_lines}
-use Rattle.bt_bed.specs.model.feature.Strands.{is_strand}
-use Rattle.bt_bed.proofs.lemmas.write.IntervalLineLemmas.{adds_line}
+use Rattle.bt_bed.specs.model.Feature.{Feature, interval_of, Interval, interval_line, interval_lines, is_strand}
+use Rattle.bt_bed.proofs.lemmas.Writing.{adds_line}
 use Rattle.bt_bed.proofs.lemmas.parse.NameLemmas.{name_eq, name_ne, other_name}
-use Rattle.bt_runs.specs.calls.Engine.{AfterEach}
-use Rattle.bt_runs.specs.calls.Ruled.{fault_of}
-use Rattle.bt_runs.specs.model.MergedRuns.{is_closed}
-use Rattle.bt_runs.specs.inside.merge.StrandStep.{joined_here, left_runs, lengthened, passed_runs, place_of, placed_run, placed_runs, with_joined}
-use Rattle.bt_runs.specs.inside.merge.StrandTaking.{kept_in}
-use Rattle.bt_runs.specs.inside.walk.Rule.{Does, EnterAnswers, FitsPast, PutsRestAtEnd}
-use Rattle.bt_runs.specs.model.StrandRuns.{StrandRun, kept_strand_runs, places_of, settled_strand_runs}
-use Rattle.bt_runs.specs.inside.merge.StrandStep.{added_at, left_unsettled, settled_prefix, last_place, place_among, run_from, run_with, with_added}
-use Rattle.bt_runs.specs.inside.merge.StrandTaking.{JoinsAmong, Takes, joined_among, lines_by, wants_memory}
+use Rattle.bt_runs.specs.calls.Engine.{AfterEach, fault_of}
+use Rattle.bt_runs.specs.model.Merged.{is_closed, StrandRun, kept_strand_runs, places_of, settled_strand_runs}
+use Rattle.bt_runs.specs.inside.merge.StrandStep.{joined_here, left_runs, lengthened, passed_runs, place_of, placed_run, placed_runs, with_joined, kept_in, added_at, left_unsettled, settled_prefix, last_place, place_among, run_from, run_with, with_added, JoinsAmong, Takes, joined_among, lines_by, wants_memory}
+use Rattle.bt_runs.specs.inside.Walk.{Does, EnterAnswers, FitsPast, PutsRestAtEnd}
 use Rattle.bt_runs.specs.calls.Unstranded.{may_take}
 use Rattle.bt_runs.specs.calls.Stranding.{IsAfter, Stranding, held_count, is_quiet, settled_lines, strand_lines, whole_output}
 use Rattle.bt_runs.specs.declared.engine.failure.Failure.{Failure}
 use Rattle.bt_runs.specs.declared.engine.failure.Failure.TheVariants.{Write, Memory}
 use Rattle.bt_runs.specs.declared.merge.pending_runs.PendingRun.{PendingRun}
 use Rattle.bt_runs.specs.declared.merge.per_strand_merge.OnlyRun.{OnlyRun}
-use Rattle.bt_runs.proofs.lemmas.merge.PendingRunsLemmas.{is_over, last_place_within, left_none, over_so, passed_every}
-use Rattle.bt_runs.proofs.lemmas.engine.EnterLemmas.{enters, enters_cut, enters_short, none_more}
+use Rattle.bt_runs.proofs.lemmas.merge.StrandSettling.{is_over, last_place_within, left_none, over_so, passed_every, strand_next, strand_runs_are_all, take_goes}
+use Rattle.bt_runs.proofs.lemmas.Engine.{enters, enters_cut, enters_short, none_more}
 use Rattle.bt_runs.proofs.lemmas.merge.UnstrandedLemmas.{last_is}
-use Rattle.bt_runs.proofs.lemmas.merge.StrandSettling.{strand_next, strand_runs_are_all, take_goes}
 
 -- a record as a run
 abbrev pub pending_from : Feature → PendingRun

@@ -2,20 +2,16 @@
 use Rattle.bt_lines.proofs.Std.{◌≡◌, ◌==◌, ℕ, false, List, [], ◌∷◌, ◌++◌, inl, inr, Result, Ok, Err, refl, sym, ap, ◌∙◌, append-nil, bytes_eq, cases_Bool, flat_map-append}
 use Rattle.bt_lines.specs.model.Fault.{no_memory}
 use Rattle.bt_lines.specs.calls.Names.{fault_value}
-use Rattle.bt_lines.specs.calls.Output.{Output}
-use Rattle.bt_lines.specs.calls.Putting.{Adds, FailsToAdd, Grown}
+use Rattle.bt_lines.specs.calls.Output.{Output, Adds, FailsToAdd, Grown}
 use Rattle.bt_lines.specs.declared.fault.Fault.{Fault}
-use Rattle.bt_bed.specs.model.feature.Feature.{Feature, interval_of}
-use Rattle.bt_bed.specs.model.feature.Interval.{Interval}
-use Rattle.bt_bed.specs.model.feature.IntervalLine.{interval_line, interval_lines}
+use Rattle.bt_bed.specs.model.Feature.{Feature, interval_of, Interval, interval_line, interval_lines}
 use Rattle.bt_runs.specs.calls.Engine.{AfterEach}
-use Rattle.bt_runs.specs.model.MergedRuns.{kept_runs, settled_runs}
-use Rattle.bt_runs.specs.inside.merge.UnstrandedStep.{left_by, settled_by}
-use Rattle.bt_runs.specs.inside.walk.Rule.{EnterAnswers, FitsPast, PutsRestAtEnd}
+use Rattle.bt_runs.specs.model.Merged.{kept_runs, settled_runs}
+use Rattle.bt_runs.specs.inside.merge.UnstrandedStep.{left_by, settled_by, Takes, kept_at, lines_by}
+use Rattle.bt_runs.specs.inside.Walk.{EnterAnswers, FitsPast, PutsRestAtEnd}
 use Rattle.bt_runs.specs.calls.Unstranded.{IsAfter, Unstranded, is_quiet, may_take, settled_lines, whole_output}
-use Rattle.bt_runs.specs.inside.merge.UnstrandedStep.{Takes, kept_at, lines_by}
 use Rattle.bt_runs.specs.declared.merge.unstranded_merge.OpenRun.{OpenRun}
-use Rattle.bt_runs.proofs.lemmas.engine.EnterLemmas.{enters, enters_cut, enters_short, none_more}
+use Rattle.bt_runs.proofs.lemmas.Engine.{enters, enters_cut, enters_short, none_more}
 use Rattle.bt_runs.proofs.lemmas.merge.SettledRuns.{next_taken, whole_taken}
 
 -- the last element of a list is that element

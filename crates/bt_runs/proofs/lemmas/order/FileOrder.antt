@@ -1,22 +1,76 @@
--- Records in the order of a genome file: their chromosomes come in that order, each once.
-use Rattle.bt_lines.proofs.Std.{◌≡◌, ℕ, suc, ◌<◌, ◌≤◌, ◌⊎◌, inl, inr, List, [], ◌∷◌, ◌++◌, refl, sym, ap, subst, ◌∙◌, arith, map, filter, cond, Bool, true, false, ◌||◌, bytes_eq, Option, Some, option_map, IsTrue, ranked, cases_Bool, cond-true, cond-false, or_parts, or_from, or_left}
-use Rattle.std.specs.declared.cmp.Ordering.TheVariants.{Less}
-use Rattle.bt_bed.specs.model.feature.Feature.{Feature, interval_of, intervals_of}
-use Rattle.bt_bed.specs.model.feature.Interval.{Interval, placed_on}
-use Rattle.bt_bed.specs.model.order.Order.{Order, IsTotal}
-use Rattle.bt_bed.specs.model.order.Locus.{locus_of, IsUpTo, IsPlacedBefore, ArePlaced}
-use Rattle.bt_bed.specs.model.order.Rank.{is_among, AreDistinct, rank_of, compare_ranks, rank_order}
+-- The records of one chromosome, and the names of the chromosomes that have some, in a past that grows at its end.
+use Rattle.bt_lines.proofs.Std.{◌≡◌, ℕ, inl, inr, List, [], ◌∷◌, ◌++◌, append-nil, refl, sym, ap, ◌∙◌, map, false, not, ◌||◌, bytes_eq, cond-true, cond-false, or_parts, or_left, not_from_true, not_from_false, suc, ◌<◌, ◌≤◌, ◌⊎◌, subst, arith, filter, cond, Bool, true, Option, Some, option_map, IsTrue, ranked, cases_Bool, or_from, if◌then◌else◌, is_lt, None, is_some}
+use Rattle.bt_bed.specs.model.Feature.{Interval, span_of, placed_on, spans_on, Feature, interval_of, intervals_of, stretches_from}
+use Rattle.bt_bed.specs.model.Order.{is_among, Order, IsTotal, AreDistinct, rank_of, compare_ranks, rank_order}
+use Rattle.bt_bed.specs.model.Sorted.{has_records, locus_of, IsUpTo, IsPlacedBefore, ArePlaced, AreContiguous}
+use Rattle.bt_bed.proofs.lemmas.parse.NameLemmas.{name_eq, name_ne, other_name, cases_name, name_ne-sym}
+use Rattle.bt_runs.specs.model.Merged.{runs_of, runs_on, without, chromosomes, is_counted, counted, merged, merged_runs, in_order, ordered_runs, put_in_order}
+use Rattle.std.specs.declared.cmp.Ordering.TheVariants.{Less, Equal}
 use Rattle.bt_bed.specs.inside.RankTotal.{ranks_total}
-use Rattle.bt_bed.specs.model.feature.Stretches.{stretches_from}
-use Rattle.bt_bed.specs.model.order.Contiguous.{has_records}
-use Rattle.bt_bed.proofs.lemmas.parse.NameLemmas.{name_eq, name_ne, name_ne-sym, cases_name}
-use Rattle.bt_runs.specs.model.Counted.{is_counted, counted}
-use Rattle.bt_runs.specs.model.Merged.{runs_of, runs_on, merged, without, chromosomes}
-use Rattle.bt_runs.specs.model.MergedRuns.{merged_runs}
 use Rattle.bt_runs.specs.declared.merge.merge_strand.MergeStrand.{MergeStrand}
-use Rattle.bt_runs.proofs.lemmas.definitions.EachLemmas.{each_all, filter_drops}
-use Rattle.bt_runs.proofs.lemmas.definitions.Standing.{known_rank, later_rank}
-use Rattle.bt_runs.proofs.lemmas.order.ChromosomeLemmas.{spans_on-none, among_chromosomes, without-here, without-other}
+use Rattle.bt_runs.proofs.lemmas.definitions.Standing.{each_all, filter_drops, known_rank, later_rank, cmp_less, less_cmp}
+use Rattle.bt_bed.proofs.lemmas.order.OrderLemmas.{placed_contiguous}
+
+-- the records of one chromosome
+pub spans_on-here : (name : List ℕ) (r : Interval) (rs : List Interval) → r.chrom ≡ name → spans_on name (r ∷ rs) ≡ span_of r ∷ spans_on name rs
+spans_on-here name r rs e = cond-true (bytes_eq r.chrom name) (span_of r ∷ spans_on name rs) (spans_on name rs) (name_eq r.chrom name e)
+
+pub spans_on-elsewhere : (name : List ℕ) (r : Interval) (rs : List Interval) → bytes_eq r.chrom name ≡ false → spans_on name (r ∷ rs) ≡ spans_on name rs
+spans_on-elsewhere name r rs f = cond-false (bytes_eq r.chrom name) (span_of r ∷ spans_on name rs) (spans_on name rs) f
+
+pub spans_on-append : (name : List ℕ) (xs ys : List Interval) → spans_on name (xs ++ ys) ≡ spans_on name xs ++ spans_on name ys
+spans_on-append name [] ys = refl
+spans_on-append name (x ∷ xs) ys =
+    let rest = spans_on-append name xs ys in
+    elim (cases_name x.chrom name) [
+      | inl e ↦ spans_on-here name x (xs ++ ys) e ∙ ap (λ zs. span_of x ∷ zs) rest ∙ ap (λ zs. zs ++ spans_on name ys) (sym (spans_on-here name x xs e))
+      | inr f ↦ spans_on-elsewhere name x (xs ++ ys) f ∙ rest ∙ ap (λ zs. zs ++ spans_on name ys) (sym (spans_on-elsewhere name x xs f))
+    ]
+
+pub spans_on-push_here : (name : List ℕ) (past : List Interval) (r : Interval) → r.chrom ≡ name → spans_on name (past ++ r ∷ []) ≡ spans_on name past ++ span_of r ∷ []
+spans_on-push_here name past r e = spans_on-append name past (r ∷ []) ∙ ap (λ zs. spans_on name past ++ zs) (spans_on-here name r [] e)
+
+pub spans_on-push_elsewhere : (name : List ℕ) (past : List Interval) (r : Interval) → bytes_eq r.chrom name ≡ false → spans_on name (past ++ r ∷ []) ≡ spans_on name past
+spans_on-push_elsewhere name past r f = spans_on-append name past (r ∷ []) ∙ ap (λ zs. spans_on name past ++ zs) (spans_on-elsewhere name r [] f) ∙ append-nil (spans_on name past)
+
+pub spans_on-none : (name : List ℕ) (records : List Interval) → has_records name records ≡ false → spans_on name records ≡ []
+spans_on-none name [] f = refl
+spans_on-none name (r ∷ rs) f =
+    let parts = or_parts (bytes_eq r.chrom name) (has_records name rs) f in
+    spans_on-elsewhere name r rs parts.0 ∙ spans_on-none name rs parts.1
+
+-- the names of the chromosomes that have records
+pub without-here : (name : List ℕ) (n : List ℕ) (ns : List (List ℕ)) → n ≡ name → without name (n ∷ ns) ≡ without name ns
+without-here name n ns e = cond-false (not (bytes_eq n name)) (n ∷ without name ns) (without name ns) (not_from_true (bytes_eq n name) (name_eq n name e))
+
+pub without-other : (name : List ℕ) (n : List ℕ) (ns : List (List ℕ)) → bytes_eq n name ≡ false → without name (n ∷ ns) ≡ n ∷ without name ns
+without-other name n ns f = cond-true (not (bytes_eq n name)) (n ∷ without name ns) (without name ns) (not_from_false (bytes_eq n name) f)
+
+pub among_without : (name other : List ℕ) (names : List (List ℕ)) → bytes_eq other name ≡ false → is_among (without other names) name ≡ is_among names name
+among_without name other [] f = refl
+among_without name other (n ∷ ns) f =
+    let rest = among_without name other ns f in
+    elim (cases_name n other) [
+      | inl e ↦
+          let out = without-here other n ns e in
+          let miss : bytes_eq n name ≡ false = name_ne n name (λ h. other_name other name f (sym e ∙ h)) in
+          ap (λ ms. is_among ms name) out ∙ rest ∙ ap (λ b. b || is_among ns name) (sym miss)
+      | inr g ↦ ap (λ ms. is_among ms name) (without-other other n ns g) ∙ ap (λ b. bytes_eq n name || b) rest
+    ]
+
+pub among_chromosomes : (name : List ℕ) (past : List Interval) → is_among (chromosomes past) name ≡ has_records name past
+among_chromosomes name [] = refl
+among_chromosomes name (q ∷ qs) =
+    elim (cases_name q.chrom name) [
+      | inl e ↦ or_left (bytes_eq q.chrom name) (is_among (without q.chrom (chromosomes qs)) name) (name_eq q.chrom name e) ∙ sym (or_left (bytes_eq q.chrom name) (has_records name qs) (name_eq q.chrom name e))
+      | inr f ↦ ap (λ b. bytes_eq q.chrom name || b) (among_without name q.chrom (chromosomes qs) f ∙ among_chromosomes name qs)
+    ]
+
+-- records elsewhere change no run
+pub runs_on-push_elsewhere : (name : List ℕ) (gap : ℕ) (past : List Interval) (r : Interval) → bytes_eq r.chrom name ≡ false → runs_on name gap (past ++ r ∷ []) ≡ runs_on name gap past
+runs_on-push_elsewhere name gap past r f = ap (λ spans. map (placed_on name) (runs_of gap spans)) (spans_on-push_elsewhere name past r f)
+
+-- Records in the order of a genome file: their chromosomes come in that order, each once.
 
 -- a record up to the next one but one
 up_to_later : (order : Order) (p q x : Interval) → IsTotal order → IsTrue (order.knows p.chrom) → IsTrue (order.knows q.chrom) → IsTrue (order.knows x.chrom) → IsUpTo order (locus_of p) (locus_of q) → IsUpTo order (locus_of q) (locus_of x) → IsUpTo order (locus_of p) (locus_of x)
@@ -207,3 +261,124 @@ pub in_file_order : (names : List (List ℕ)) (gap : ℕ) (strand : MergeStrand)
     → merged names gap (counted strand records) ≡ merged_runs gap strand records
 in_file_order names gap strand records distinct placed =
     by_chromosomes names gap (counted strand records) distinct (some_placed (rank_order names) (ranks_total names) (λ r. is_counted strand r.strand) records placed)
+
+-- Records in a total order: the names of their chromosomes come in that order.
+
+module _ (order : Order) (total : IsTotal order) where
+  stands_first : (name n : List ℕ) (ns : List (List ℕ)) → order.compare name n ≡ Less
+      → put_in_order order name (n ∷ ns) ≡ name ∷ n ∷ ns
+  stands_first name n ns less =
+      ap (λ o. if is_lt o then name ∷ n ∷ ns else n ∷ put_in_order order name ns) less
+
+  -- a chromosome doesn't come again after a later one
+  gone : (r s : Interval) (ss : List Interval) → ArePlaced order (r ∷ s ∷ ss)
+      → order.compare r.chrom s.chrom ≡ Less → has_records r.chrom (s ∷ ss) ≡ false
+  gone r s ss placed less =
+      elim (placed_contiguous order (r ∷ s ∷ ss) total placed).0 [
+        | inl same ↦
+            let equal : order.compare r.chrom s.chrom ≡ Equal
+            = rw same.0 (total.same r.chrom placed.0) in
+            absurd (let apart : Less ≡ Equal = sym less ∙ equal in cc)
+        | inr absent ↦ absent
+      ]
+
+  names_placed : (records : List Interval) → ArePlaced order records
+      → in_order order (chromosomes records) ≡ chromosomes records
+  names_placed [] placed = refl
+  names_placed (r ∷ []) placed = refl
+  names_placed (r ∷ s ∷ ss) placed =
+      let rest = names_placed (s ∷ ss) placed.2 in
+      elim placed.1 [
+        | inl less ↦
+            let names = chromosomes (s ∷ ss) in
+            let front : chromosomes (r ∷ s ∷ ss) ≡ r.chrom ∷ names
+            = ap (λ ns. r.chrom ∷ ns) (without_absent r.chrom names
+            (among_chromosomes r.chrom (s ∷ ss) ∙ gone r s ss placed less)) in
+            ap (in_order order) front ∙ ap (put_in_order order r.chrom) rest
+            ∙ stands_first r.chrom s.chrom (without s.chrom (chromosomes ss)) less ∙ sym front
+        | inr same ↦
+            let one = same_chromosome r s ss same.0 in
+            ap (in_order order) one ∙ rest ∙ sym one
+      ]
+
+pub ordered_come : (order : Order) (gap : ℕ) (strand : MergeStrand) (records : List Feature) → IsTotal order → ArePlaced order (intervals_of records)
+    → ordered_runs order gap strand records ≡ merged_runs gap strand records
+unfolding ordered_runs
+ordered_come order gap strand records total placed =
+    ap (λ names. merged names gap (counted strand records))
+    (names_placed order total (counted strand records)
+    (some_placed order total (λ r. is_counted strand r.strand) records placed))
+
+-- Contiguous records are in the order in which their chromosomes come.
+
+-- a name that was left out isn't among the others
+absent_without : (name : List ℕ) (names : List (List ℕ)) → is_among (without name names) name ≡ false
+absent_without name [] = refl
+absent_without name (n ∷ ns) = elim (cases_name n name) [
+  | inl e ↦ ap (λ ms. is_among ms name) (without-here name n ns e) ∙ absent_without name ns
+  | inr f ↦ ap (λ ms. is_among ms name) (without-other name n ns f) ∙ or_from (bytes_eq n name) (is_among (without name ns) name) f (absent_without name ns)
+]
+
+distinct_without : (name : List ℕ) (names : List (List ℕ)) → AreDistinct names → AreDistinct (without name names)
+distinct_without name [] d = tt
+distinct_without name (n ∷ ns) d = elim (cases_name n name) [
+  | inl e ↦ subst AreDistinct (sym (without-here name n ns e)) (distinct_without name ns d.1)
+  | inr f ↦ subst AreDistinct (sym (without-other name n ns f)) (among_without n name ns (name_ne-sym n name f) ∙ d.0, distinct_without name ns d.1)
+]
+
+pub distinct_chromosomes : (records : List Interval) → AreDistinct (chromosomes records)
+distinct_chromosomes [] = tt
+distinct_chromosomes (r ∷ rs) = (absent_without r.chrom (chromosomes rs), distinct_without r.chrom (chromosomes rs) (distinct_chromosomes rs))
+
+-- one more name before the others
+known_shift : (o : Option ℕ) → is_some o ≡ true → is_some (option_map (λ rank. suc rank) o) ≡ true
+known_shift None e = e
+known_shift (Some k) e = refl
+
+less_shift : (o p : Option ℕ) → compare_ranks o p ≡ Less → compare_ranks (option_map (λ rank. suc rank) o) (option_map (λ rank. suc rank) p) ≡ Less
+less_shift None p e = e
+less_shift (Some i) None e = e
+less_shift (Some i) (Some j) e = let h = less_cmp i j e in cmp_less (suc i) (suc j) (omega arith)
+
+less_first : (o : Option ℕ) → is_some o ≡ true → compare_ranks (Some 0) (option_map (λ rank. suc rank) o) ≡ Less
+less_first None e = let apart : false ≡ true = e in cc
+less_first (Some k) e = cmp_less 0 (suc k) (omega arith)
+
+shift : (name : List ℕ) (names : List (List ℕ)) (records : List Interval) → has_records name records ≡ false → ArePlaced (rank_order names) records → ArePlaced (rank_order (name ∷ names)) records
+shift name names [] f p = tt
+shift name names (r ∷ []) f p =
+    let here = rank_of-later name r.chrom names (name_ne-sym r.chrom name (or_parts (bytes_eq r.chrom name) false f).0) in
+    (ap is_some here ∙ known_shift (rank_of names r.chrom) p.0, tt, tt)
+shift name names (r ∷ s ∷ ss) f p =
+    let parts = or_parts (bytes_eq r.chrom name) (has_records name (s ∷ ss)) f in
+    let next = or_parts (bytes_eq s.chrom name) (has_records name ss) parts.1 in
+    let here = rank_of-later name r.chrom names (name_ne-sym r.chrom name parts.0) in
+    let there = rank_of-later name s.chrom names (name_ne-sym s.chrom name next.0) in
+    let rest = shift name names (s ∷ ss) parts.1 p.2 in (
+      ap is_some here ∙ known_shift (rank_of names r.chrom) p.0,
+      elim p.1 [
+        | inl less ↦ inl (ap (λ o. compare_ranks o (rank_of (name ∷ names) s.chrom)) here ∙ ap (λ o. compare_ranks (option_map (λ rank. suc rank) (rank_of names r.chrom)) o) there ∙ less_shift (rank_of names r.chrom) (rank_of names s.chrom) less)
+        | inr same ↦ inr same
+      ],
+      rest,
+    )
+
+pub placed_own : (records : List Interval) → AreContiguous records → ArePlaced (rank_order (chromosomes records)) records
+placed_own [] t = tt
+placed_own (r ∷ []) t = (ap is_some (rank_of-here r.chrom r.chrom [] refl), tt, tt)
+placed_own (r ∷ s ∷ ss) t =
+    let rest = placed_own (s ∷ ss) t.1 in
+    let Placed : List (List ℕ) → Type 0 = λ names. ArePlaced (rank_order names) (r ∷ s ∷ ss) in
+    elim t.0 [
+      | inl same ↦
+          let known = subst (λ (c : List ℕ). is_some (rank_of (chromosomes (s ∷ ss)) c) ≡ true) same.0 rest.0 in
+          subst Placed (sym (same_chromosome r s ss (sym same.0))) (known, inr (sym same.0, same.1), rest)
+      | inr gone ↦
+          let names = chromosomes (s ∷ ss) in
+          let front : chromosomes (r ∷ s ∷ ss) ≡ r.chrom ∷ names = ap (λ ns. r.chrom ∷ ns) (without_absent r.chrom names (among_chromosomes r.chrom (s ∷ ss) ∙ gone)) in
+          let here = rank_of-here r.chrom r.chrom names refl in
+          let next = or_parts (bytes_eq s.chrom r.chrom) (has_records r.chrom ss) gone in
+          let there = rank_of-later r.chrom s.chrom names (name_ne-sym s.chrom r.chrom next.0) in
+          let less = ap (λ o. compare_ranks o (rank_of (r.chrom ∷ names) s.chrom)) here ∙ ap (λ o. compare_ranks (Some 0) o) there ∙ less_first (rank_of names s.chrom) rest.0 in
+          subst Placed (sym front) (ap is_some here, inl less, shift r.chrom names (s ∷ ss) gone rest)
+    ]

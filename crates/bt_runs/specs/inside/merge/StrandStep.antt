@@ -1,16 +1,21 @@
--- What one more record does to the runs of several strands that a merge keeps, and to those that wait without their
--- chromosome: the place of the last one of each strand, how the record is joined to it, and which of them are closed.
-use Rattle.std.specs.Prelude.{ℕ, suc, Bool, cond, List, [], ◌∷◌, ◌++◌, drop, get_or, length, set, Option}
-use Rattle.std.specs.Prelude.{Some, None, true, false, not, ◌||◌, map, max, nat_lt}
+-- The steps of a merge that keeps the strands apart.
+use Rattle.std.specs.Prelude.{ℕ, suc, Bool, cond, List, [], ◌∷◌, ◌++◌, drop, get_or, length, set, Option, Some, None, true, false, not, ◌||◌, map, max, nat_lt, ◌≡◌, ◌⊎◌, Result, Ok, Err}
 use Rattle.std.specs.List.{slice_get, take_while}
-use Rattle.bt_bed.specs.model.feature.Feature.{Feature, interval_of}
-use Rattle.bt_bed.specs.model.feature.Strands.{is_strand}
+use Rattle.bt_bed.specs.model.Feature.{Feature, interval_of, is_strand}
 use Rattle.bt_bed.specs.declared.record.strand.Strand.{Strand}
 use Rattle.bt_bed.specs.declared.record.strand.Strand.TheVariants.{Plus, Minus, Dot}
-use Rattle.bt_runs.specs.model.MergedRuns.{is_closed}
+use Rattle.bt_runs.specs.model.Merged.{is_closed, StrandRun, closed_prefix}
 use Rattle.bt_runs.specs.inside.merge.UnstrandedStep.{joined_run}
-use Rattle.bt_runs.specs.model.StrandRuns.{StrandRun, closed_prefix}
 use Rattle.bt_runs.specs.declared.merge.pending_runs.PendingRun.{PendingRun}
+use Rattle.bt_lines.specs.model.Fault.{write_failed}
+use Rattle.bt_lines.specs.calls.Output.{Output, FailsToAdd, Grown}
+use Rattle.bt_runs.specs.calls.Stranding.{Stranding, strand_lines}
+use Rattle.bt_runs.specs.declared.engine.failure.Failure.{Failure}
+use Rattle.bt_runs.specs.declared.engine.failure.Failure.TheVariants.{Write, Memory}
+use Rattle.bt_runs.specs.declared.merge.per_strand_merge.OnlyRun.{OnlyRun}
+
+-- What one more record does to the runs of several strands that a merge keeps, and to those that wait without their
+-- chromosome: the place of the last one of each strand, how the record is joined to it, and which of them are closed.
 
 -- the runs that the record settles: those up to the first that it doesn't close
 abbrev pub settled_prefix : ℕ → List StrandRun → Feature → List StrandRun
@@ -107,3 +112,52 @@ passed_runs here reach runs = take_while (λ (w : PendingRun). not here || nat_l
 -- and those after them
 abbrev pub left_runs : Bool → ℕ → List PendingRun → List PendingRun
 left_runs here reach runs = drop (length (passed_runs here reach runs)) runs
+
+-- What a merge that keeps the strands apart does with one more record, exactly, and the run that it has in a local.
+
+-- the runs that are kept: the one in a local, or else those of the list
+abbrev pub kept_in : List ℕ → OnlyRun → List StrandRun → List StrandRun
+kept_in chrom only listed = cond only.is_any (placed_run chrom only.run ∷ []) listed
+
+-- the merge with this run in a local
+abbrev pub with_on : Stranding → OnlyRun → Stranding
+with_on merge only = record merge { kept = kept_in merge.chrom only merge.listed }
+
+-- the line of each run that the record settles
+abbrev pub lines_by : Stranding → Feature → List ℕ
+lines_by merge r = strand_lines (settled_prefix merge.gap merge.kept r)
+
+-- what needs memory: the record is joined to none of the runs that stay, so that one has to be opened, or the name of
+-- another chromosome
+abbrev pub wants_memory : Stranding → Feature → Type 0
+wants_memory old r =
+    (with_added old.gap (left_unsettled old.gap old.kept r) r
+    ≡ left_unsettled old.gap old.kept r ++ run_from r ∷ []) ⊎ (old.chrom ≡ r.chrom → ⊥)
+
+-- the record was taken
+pub record Takes (old : Stranding) (r : Feature) (new : Stranding) : Type 0 where
+  pub gap : new.gap ≡ old.gap
+  pub chrom : new.chrom ≡ r.chrom
+  pub kept : new.kept ≡ with_added old.gap (left_unsettled old.gap old.kept r) r
+
+-- a record whose start less the gap is `reach`, as a run, among runs on its chromosome
+module _ (chrom : List ℕ) (reach : ℕ) (runs : List PendingRun) (run : PendingRun) (out : Output) where
+  -- whether it is joined to one of the runs that it doesn't close, and those with it if it is
+  abbrev pub joined_among : Bool × List PendingRun
+  joined_among =
+      with_joined reach run.stop (left_runs true reach runs)
+      (place_of run.strand (left_runs true reach runs))
+
+  -- those that it closes were written, and nothing more
+  abbrev pub PutsPassed : Output → Type 0
+  PutsPassed grown = Grown out (strand_lines (placed_runs chrom (passed_runs true reach runs))) grown
+
+  -- it returns true if none is left, and else it was joined to one of those that are left, or is one more; or it had to
+  -- be one more, and couldn't be kept
+  abbrev pub JoinsAmong : Result Bool Failure → List PendingRun → Output → Type 0
+  JoinsAmong (Ok true) new grown = (left_runs true reach runs ≡ []) × ((new ≡ []) × PutsPassed grown)
+  JoinsAmong (Ok false) new grown =
+      (new ≡ cond joined_among.0 joined_among.1 (left_runs true reach runs ++ run ∷ [])) × PutsPassed grown
+  JoinsAmong (Err Write) new grown =
+      FailsToAdd out (strand_lines (placed_runs chrom (passed_runs true reach runs))) write_failed grown
+  JoinsAmong (Err Memory) new grown = (joined_among.0 ≡ false) × PutsPassed grown

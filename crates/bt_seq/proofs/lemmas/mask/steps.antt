@@ -2,8 +2,4 @@
 pub mod AdvanceLemmas
 pub mod BedStepLemmas
 pub mod CopyLemmas
-pub mod CountLemmas
 pub mod LineStepLemmas
-pub mod NextLemmas
-pub mod SettleLemmas
-pub mod StandLemmas

@@ -1,18 +1,148 @@
--- Lemmas on hits: what decides a record doesn't hit it.
-use Rattle.bt_lines.proofs.Std.{◌≡◌, ℕ, ◌-◌, ◌≤◌, inl, inr, Bool, true, false, cond, List, [], ◌∷◌, ◌++◌, refl, sym, ap, ◌∙◌, subst, ltb, arith, filter, max, min, bytes_eq, append-nil, take, drop, IsTrue, AllByRecursion, list_all, list_any, and_from, and_parts, or_from, take-append-drop, filter-append, recursion_from_All, list_any-append}
-use Rattle.std.specs.declared.cmp.Ordering.TheVariants.{Equal, Greater}
-use Rattle.bt_bed.specs.model.feature.Feature.{Feature, intervals_of}
-use Rattle.bt_bed.specs.model.order.Order.{Order, IsTotal}
-use Rattle.bt_bed.specs.model.order.Locus.{ArePlaced}
-use Rattle.bt_bed.proofs.lemmas.parse.NameLemmas.{same_name}
-use Rattle.bt_sweep.specs.model.Deciding.{decides}
-use Rattle.bt_sweep.specs.calls.Held.{StartFrom}
-use Rattle.bt_sweep.specs.model.Hits.{hits, hits_among}
-use Rattle.bt_sweep.specs.model.IntersectLines.{lines_of, lines_for, lines_stay, lines_are_before}
+-- Lemmas on the rule of what hits a record.
+use Rattle.bt_lines.proofs.Std.{◌≡◌, ℕ, ◌-◌, ◌*◌, ◌<◌, Bool, true, false, not, ◌&&◌, ◌||◌, le-leb, cond, refl, ap, ◌∙◌, ltb, arith, max, min, bytes_eq, false≢true, and_from, and_parts, ltb-true, or_right, ◌≤◌, ◌⊎◌, inl, inr, List, [], ◌∷◌, ◌++◌, sym, subst, IsTrue, list_all, ltb-false, le-ltb, or_from, list_any-append, list_all-append, ordering_reverse, filter, append-nil, take, drop, AllByRecursion, list_any, take-append-drop, filter-append, recursion_from_All, Some, map-append, suc, Option, None, append_assoc, length, length-append, map, IfSome, if◌then◌else◌, nat_lt, find, ap₂}
+use Rattle.bt_bed.specs.model.Feature.{Feature, interval_of, length_of, intervals_of, Interval, last_from, fault_at_line}
+use Rattle.bt_sweep.specs.model.Hits.{has_fraction, hits, is_enough, shared_bases, strands_agree, decides, decided, hits_among, are_too_many, cut_behind, first_open, held_for, is_held}
 use Rattle.bt_sweep.specs.declared.hits.hit_rule.HitRule.{HitRule}
+use Rattle.std.specs.declared.cmp.Ordering.{Ordering}
+use Rattle.std.specs.declared.cmp.Ordering.TheVariants.{Less, Equal, Greater}
+use Rattle.bt_bed.specs.model.Order.{Order, IsTotal}
+use Rattle.bt_bed.specs.model.Good.{locus_at, Good, Member}
+use Rattle.bt_bed.specs.model.Sorted.{is_below_at, IsUpTo, ArePlaced, has_records}
+use Rattle.bt_bed.proofs.lemmas.parse.NameLemmas.{same_name}
+use Rattle.bt_sweep.specs.calls.Held.{StartFrom}
+use Rattle.bt_sweep.specs.model.Lines.{lines_of, lines_for, lines_stay, lines_are_before, intersect, left_are_lines, left_lines, subtract, subtract_is_met, subtract_shape, faultless_are_all, sweep_rule}
 use Rattle.bt_sweep.specs.declared.output.shape.Shape.{Shape}
-use Rattle.bt_sweep.proofs.lemmas.definitions.RuleLemmas.{apart_misses}
-use Rattle.bt_sweep.proofs.lemmas.definitions.DecidingLemmas.{IsPast, past_from, later_decide, placed_back, all_decide}
+use Rattle.bt_bed.proofs.lemmas.order.OrderLemmas.{has_records-last, next_place, placed_prefix, placed_contiguous}
+use Rattle.bt_sweep.specs.calls.Sweeping.{last_after, last_given, has_room}
+use Rattle.bt_lines.specs.model.Fault.{FaultValue}
+use Rattle.bt_lines.specs.declared.fault.Input.TheVariants.{Second}
+use Rattle.bt_lines.specs.declared.fault.Kind.TheVariants.{TooManyHeld}
+use Rattle.bt_sweep.specs.inside.Joining.{are_on, held_with}
+use Rattle.bt_bed.proofs.lemmas.Definitions.{all_written, met_lines}
+use Rattle.bt_sweep.specs.declared.output.shape.Shape.TheVariants.{Whole}
+
+-- what hits a record shares a base with it
+pub hit_overlaps : (rule : HitRule) (a b : Feature) → hits rule a b ≡ true → ltb 0 (shared_bases a b) ≡ true
+unfolding hits
+hit_overlaps rule a b e = (and_parts (ltb 0 (shared_bases a b)) (strands_agree rule a b && is_enough rule (shared_bases a b) a b) e).0
+
+-- what shares none doesn't hit it
+pub apart_misses : (rule : HitRule) (a b : Feature) → ltb 0 (shared_bases a b) ≡ false → hits rule a b ≡ false
+unfolding hits
+apart_misses rule a b e = ap (λ c. c && (strands_agree rule a b && is_enough rule (shared_bases a b) a b)) e
+
+parts_of : (c : Bool) (n : ℕ) → ltb 0 (cond c n 0) ≡ true → (c ≡ true) × (0 < n)
+parts_of true n e = (refl, ltb-true 0 n e)
+parts_of false n e = absurd (false≢true e)
+
+-- where the shared bases lie
+pub overlap_parts : (a b : Feature) → ltb 0 (shared_bases a b) ≡ true → (bytes_eq a.chrom b.chrom ≡ true) × (0 < min a.stop b.stop - max a.start b.start)
+overlap_parts a b e = parts_of (bytes_eq a.chrom b.chrom) (min a.stop b.stop - max a.start b.start) e
+
+none_asked : (bases : ℕ) (r : Feature) → has_fraction 0 bases r ≡ true
+unfolding has_fraction
+none_asked bases r = le-leb (0 * length_of (interval_of r)) (bases * 1000000000) (omega arith)
+
+-- without a fraction any number of bases is enough
+pub enough_of_nothing : (rule : HitRule) (bases : ℕ) (a b : Feature) → rule.billionths ≡ 0 → is_enough rule bases a b ≡ true
+unfolding is_enough
+enough_of_nothing rule bases a b e =
+    let any : (r : Feature) → has_fraction rule.billionths bases r ≡ true = λ r. ap (λ n. has_fraction n bases r) e ∙ none_asked bases r in
+    and_from (has_fraction rule.billionths bases a) (not rule.both || has_fraction rule.billionths bases b) (any a)
+    (or_right (not rule.both) (has_fraction rule.billionths bases b) (any b))
+
+-- Lemmas on what decides a record.
+
+-- b lies on a later chromosome than a, or on its own at or past its end
+abbrev pub IsPast : Order → Feature → Feature → Type 0
+IsPast order a b = (order.compare b.chrom a.chrom ≡ Greater) ⊎ ((b.chrom ≡ a.chrom) × (a.stop ≤ b.start))
+
+past_at : (c : Ordering) (start stop : ℕ) → not (is_below_at c start stop) ≡ true → (c ≡ Greater) ⊎ ((c ≡ Equal) × (stop ≤ start))
+past_at Less start stop e = absurd (false≢true e)
+past_at Equal start stop e = inr (refl, grind (arith, ltb-false, e))
+past_at Greater start stop e = inl refl
+
+pub past_from : (order : Order) (a b : Feature) → IsTotal order → IsTrue (order.knows a.chrom) → IsTrue (order.knows b.chrom) → decides order a b ≡ true → IsPast order a b
+past_from order a b total ka kb e =
+    elim (past_at (order.compare b.chrom a.chrom) b.start a.stop e) [
+      | inl later ↦ inl later
+      | inr here ↦ inr (total.equal b.chrom a.chrom kb ka here.0, here.1)
+    ]
+
+here_at : (c : Ordering) (start stop : ℕ) → c ≡ Equal → stop ≤ start → not (is_below_at c start stop) ≡ true
+here_at Less start stop e h = cc
+here_at Equal start stop e h = ap not (le-ltb start stop h)
+here_at Greater start stop e h = cc
+
+pub later_at : (c : Ordering) (start stop : ℕ) → c ≡ Greater → not (is_below_at c start stop) ≡ true
+later_at Less start stop e = cc
+later_at Equal start stop e = cc
+later_at Greater start stop e = refl
+
+pub decides_from : (order : Order) (a b : Feature) → IsTotal order → IsTrue (order.knows a.chrom) → IsPast order a b → decides order a b ≡ true
+decides_from order a b total ka past =
+    elim past [
+      | inl later ↦ later_at _ b.start a.stop later
+      | inr here ↦ here_at (order.compare b.chrom a.chrom) b.start a.stop (ap (λ (c : List ℕ). order.compare c a.chrom) here.0 ∙ total.same a.chrom ka) here.1
+    ]
+
+-- what comes later in the order is later still
+further : (order : Order) (a b m : List ℕ) → IsTotal order → IsTrue (order.knows a) → IsTrue (order.knows b) → IsTrue (order.knows m) → order.compare b a ≡ Greater → order.compare b m ≡ Less → order.compare m a ≡ Greater
+further order a b m total ka kb km later next =
+    let up : order.compare a b ≡ Less = total.swapped b a kb ka ∙ ap ordering_reverse later in
+    total.swapped a m ka km ∙ ap ordering_reverse (total.ascends a b m ka kb km up next)
+
+pub past_moves : (order : Order) (a b m : Feature) → IsTotal order → IsTrue (order.knows a.chrom) → IsTrue (order.knows b.chrom) → IsTrue (order.knows m.chrom) → IsUpTo order (locus_at b) (locus_at m) → IsPast order a b → IsPast order a m
+past_moves order a b m total ka kb km up past =
+    elim up [
+      | inl less ↦ elim past [
+        | inl later ↦ inl (further order a.chrom b.chrom m.chrom total ka kb km later less)
+        | inr here ↦ inl (total.swapped a.chrom m.chrom ka km ∙ ap ordering_reverse (subst (λ (c : List ℕ). order.compare c m.chrom ≡ Less) here.0 less))
+      ]
+      | inr same ↦ elim past [
+        | inl later ↦ inl (subst (λ (c : List ℕ). order.compare c a.chrom ≡ Greater) same.0 later)
+        | inr here ↦ inr (sym same.0 ∙ here.0, omega (arith, same.1, here.1))
+      ]
+    ]
+
+pub decides_next : (order : Order) (a b m : Feature) → IsTotal order → IsTrue (order.knows a.chrom) → IsTrue (order.knows b.chrom) → IsTrue (order.knows m.chrom) → IsUpTo order (locus_at b) (locus_at m) → decides order a b ≡ true → decides order a m ≡ true
+decides_next order a b m total ka kb km up e = decides_from order a m total ka (past_moves order a b m total ka kb km up (past_from order a b total ka kb e))
+
+-- all that follows what decides a decides it
+pub all_decide : (order : Order) (a b : Feature) (xs : List Feature) → IsTotal order → IsTrue (order.knows a.chrom) → ArePlaced order (intervals_of (b ∷ xs)) → decides order a b ≡ true → list_all (decides order a) xs ≡ true
+all_decide order a b [] total ka placed e = refl
+all_decide order a b (x ∷ xs) total ka placed e =
+    let here = decides_next order a b x total ka placed.0 placed.2.0 placed.1 e in
+    and_from (decides order a x) (list_all (decides order a) xs) here (all_decide order a x xs total ka placed.2 here)
+
+pub placed_back : (order : Order) (xs ys : List Feature) → ArePlaced order (intervals_of (xs ++ ys)) → ArePlaced order (intervals_of ys)
+placed_back order [] ys placed = placed
+placed_back order (x ∷ xs) ys placed = placed_back order xs ys placed.2
+
+back_of_all : (p : Feature → Bool) (xs ys : List Feature) → list_all p (xs ++ ys) ≡ true → list_all p ys ≡ true
+back_of_all p xs ys e = (and_parts (list_all p xs) (list_all p ys) (sym (list_all-append p xs ys) ∙ e)).1
+
+decide_from : (order : Order) (a b : Feature) (bs more : List Feature) → IsTotal order → IsTrue (order.knows a.chrom) → ArePlaced order (intervals_of (b ∷ bs ++ more))
+    → (d : Bool) → decides order a b ≡ d → (d || decided order a bs) ≡ true → (decided order a bs ≡ true → list_all (decides order a) more ≡ true) → list_all (decides order a) more ≡ true
+decide_from order a b bs more total ka placed true e some rest = back_of_all (decides order a) bs more (all_decide order a b (bs ++ more) total ka placed e)
+decide_from order a b bs more total ka placed false e some rest = rest some
+
+-- once a is decided, all that follows decides it
+pub later_decide : (order : Order) (a : Feature) (bs more : List Feature) → IsTotal order → IsTrue (order.knows a.chrom) → ArePlaced order (intervals_of (bs ++ more)) → decided order a bs ≡ true → list_all (decides order a) more ≡ true
+later_decide order a [] more total ka placed e = absurd (false≢true e)
+later_decide order a (b ∷ bs) more total ka placed e =
+    decide_from order a b bs more total ka placed (decides order a b) refl e (later_decide order a bs more total ka placed.2)
+
+none_by : (order : Order) (a : Feature) (bs : List Feature) (b : Feature) → decides order a b ≡ false → (d : Bool) → decided order a bs ≡ d → (d ≡ true → ⊥) → decided order a (bs ++ b ∷ []) ≡ false
+none_by order a bs b e true f h = absurd (h refl)
+none_by order a bs b e false f h = list_any-append (decides order a) bs (b ∷ []) ∙ or_from (decided order a bs) (decides order a b || false) f (or_from (decides order a b) false e refl)
+
+-- if the next record doesn't decide a, none before it did
+pub none_before : (order : Order) (a : Feature) (bs : List Feature) (b : Feature) → IsTotal order → IsTrue (order.knows a.chrom) → ArePlaced order (intervals_of (bs ++ b ∷ [])) → decides order a b ≡ false → decided order a (bs ++ b ∷ []) ≡ false
+none_before order a bs b total ka placed e =
+    none_by order a bs b e (decided order a bs) refl (λ some. false≢true (sym e ∙ (and_parts (decides order a b) true (later_decide order a bs (b ∷ []) total ka placed some)).0))
+
+-- Lemmas on hits: what decides a record doesn't hit it.
 
 nothing_shared : (c : Bool) (n : ℕ) → (c ≡ true → n ≡ 0) → ltb 0 (cond c n 0) ≡ false
 nothing_shared true n h = ap (ltb 0) (h refl)
@@ -90,3 +220,188 @@ module _ (rule : HitRule) (a : Feature) where
   pub took_lines : (shape : Shape) (bs : List Feature) (n : ℕ) → StartFrom a.stop (drop n bs) → lines_for shape rule a (take n bs) ≡ lines_for shape rule a bs
   unfolding lines_for
   took_lines shape bs n behind = ap (lines_of shape a) (took_hits bs n behind)
+
+-- Lemmas on where records lie.
+
+-- the first of records in order are in order
+pub front_placed : (order : Order) (front rest : List Feature) → ArePlaced order (intervals_of (front ++ rest)) → ArePlaced order (intervals_of front)
+front_placed order front rest placed =
+    placed_prefix order (intervals_of front) (intervals_of rest) (subst (ArePlaced order) (map-append interval_of front rest) placed)
+
+-- the last of records lies where the last of their intervals does
+pub last_lies : (a : Feature) (more : List Feature) → last_from (interval_of a) (intervals_of more) ≡ interval_of (last_after a more)
+last_lies a [] = refl
+last_lies a (next ∷ more) = last_lies next more
+
+last_after-push : (a : Feature) (more : List Feature) (b : Feature) → last_after a (more ++ b ∷ []) ≡ b
+last_after-push a [] b = refl
+last_after-push a (next ∷ more) b = last_after-push next more b
+
+pub last_given-push : (past : List Feature) (a : Feature) → last_given (past ++ a ∷ []) ≡ Some a
+last_given-push [] a = refl
+last_given-push (p ∷ past) a = ap (λ (x : Feature). last_given (x ∷ [])) (last_after-push p past a)
+
+-- the next record is on the chromosome of the last, or on one that comes anew
+pub next_lies : (order : Order) (q : Feature) (qs : List Feature) (a : Feature) → IsTotal order → ArePlaced order (intervals_of (q ∷ qs ++ a ∷ []))
+    → ((a.chrom ≡ (last_after q qs).chrom) × ((last_after q qs).start ≤ a.start)) ⊎ (has_records a.chrom (intervals_of (q ∷ qs)) ≡ false)
+next_lies order q qs a total placed =
+    let apart : ArePlaced order (intervals_of (q ∷ qs) ++ interval_of a ∷ []) = subst (ArePlaced order) (map-append interval_of (q ∷ qs) (a ∷ [])) placed in
+    subst (λ (i : Interval). ((a.chrom ≡ i.chrom) × (i.start ≤ a.start)) ⊎ (has_records a.chrom (intervals_of (q ∷ qs)) ≡ false)) (last_lies q qs)
+    (next_place (interval_of q) (intervals_of qs) (interval_of a) (placed_contiguous order (intervals_of (q ∷ qs) ++ interval_of a ∷ []) total apart))
+
+-- the last record is one of them
+pub last_is_there : (q : Feature) (qs : List Feature) → has_records (last_after q qs).chrom (intervals_of (q ∷ qs)) ≡ true
+last_is_there q qs =
+    subst (λ (i : Interval). has_records i.chrom (intervals_of (q ∷ qs)) ≡ true) (last_lies q qs) (has_records-last (interval_of q) (intervals_of qs))
+
+-- Lemmas on a limit on how many records are held.
+
+-- fewer than are allowed
+pub within_less : (limit : Option ℕ) (more less : ℕ) → less ≤ more → IfSome limit (λ most. more ≤ most) → IfSome limit (λ most. less ≤ most)
+within_less None more less h within = tt
+within_less (Some most) more less h within = omega arith
+
+passed_less : (c : Bool) (x : Feature) (xs : List Feature) (count : ℕ) → length xs ≤ count → length (cond c (x ∷ xs) xs) ≤ suc count
+passed_less true x xs count h = omega arith
+passed_less false x xs count h = omega arith
+
+pub filter_less : (test : Feature → Bool) (xs : List Feature) → length (filter test xs) ≤ length xs
+filter_less test [] = omega arith
+filter_less test (x ∷ xs) = passed_less (test x) x (filter test xs) (length xs) (filter_less test xs)
+
+cond_less : (c : Bool) (xs : List Feature) (count : ℕ) → length xs ≤ count → length (cond c xs []) ≤ count
+cond_less true xs count h = h
+cond_less false xs count h = omega arith
+
+-- a record of the first input makes no more be held
+pub held_less : (held : List Feature) (a : Feature) → length (held_with held a) ≤ length held
+held_less held a = cond_less (are_on held a.chrom) (filter (λ b. ltb a.start b.stop) held) (length held) (filter_less (λ b. ltb a.start b.stop) held)
+
+within_at : (limit : Option ℕ) (b : Feature) (held : List Feature) (c : Bool) → (c ≡ true → has_room limit (length held) ≡ true) → IfSome limit (λ most. length held ≤ most)
+    → IfSome limit (λ most. length (held ++ cond c (b ∷ []) []) ≤ most)
+within_at None b held c room within = tt
+within_at (Some most) b held true room within = omega (arith, ltb-true (length held) most (room refl), length-append held (b ∷ []))
+within_at (Some most) b held false room within = omega (arith, ap length (append-nil held), within)
+
+-- with one more, for which there is room if it has to be held
+pub within_more : (limit : Option ℕ) (a b : Feature) (held : List Feature) → (is_held a b ≡ true → has_room limit (length held) ≡ true) → IfSome limit (λ most. length held ≤ most)
+    → IfSome limit (λ most. length (held ++ filter (is_held a) (b ∷ [])) ≤ most)
+within_more limit a b held room within = within_at limit b held (is_held a b) room within
+
+-- after prefixes that aren't too many
+pub cut_past : (too_many : List Feature → Bool) (before past more : List (Member Feature)) (fault : Option FaultValue)
+    → ((front : List (Member Feature)) (m : Member Feature) (rest : List (Member Feature)) → past ≡ front ++ m ∷ rest → too_many (map (λ m. m.item) (before ++ (front ++ m ∷ []))) ≡ false)
+    → cut_behind too_many before (past ++ more) fault ≡ cut_behind too_many (before ++ past) more fault
+cut_past too_many before [] more fault few = ap (λ l. cut_behind too_many l more fault) (sym (append-nil before))
+cut_past too_many before (m ∷ past) more fault few =
+    let here : too_many (map (λ m. m.item) (before ++ m ∷ [])) ≡ false = few [] m past refl in
+    ap (λ b. if b then record { members = before ++ m ∷ []; fault = Some (fault_at_line Second m.line TooManyHeld) } else cut_behind too_many (before ++ m ∷ []) (past ++ more) fault) here
+    ∙ cut_past too_many (before ++ m ∷ []) past more fault
+    (λ front n rest e. ap (λ l. too_many (map (λ m. m.item) l)) (append_assoc before (m ∷ []) (front ++ n ∷ [])) ∙ few (m ∷ front) n rest (ap (λ l. m ∷ l) e))
+    ∙ ap (λ l. cut_behind too_many l more fault) (append_assoc before (m ∷ []) past)
+
+-- at the first with which they are
+pub cut_here : (too_many : List Feature → Bool) (past more : List (Member Feature)) (m : Member Feature) (fault : Option FaultValue) → too_many (map (λ m. m.item) (past ++ m ∷ [])) ≡ true
+    → cut_behind too_many past (m ∷ more) fault ≡ record { members = past ++ m ∷ []; fault = Some (fault_at_line Second m.line TooManyHeld) }
+cut_here too_many past more m fault many =
+    ap (λ b. if b then record { members = past ++ m ∷ []; fault = Some (fault_at_line Second m.line TooManyHeld) } else cut_behind too_many (past ++ m ∷ []) more fault) many
+
+keeps_by : (c : Bool) (cut on : Good Feature) (past : List (Member Feature)) (m : Member Feature) → cut.members ≡ past ++ m ∷ [] → (rest : List (Member Feature)) × (on.members ≡ (past ++ m ∷ []) ++ rest)
+    → (rest : List (Member Feature)) × ((if c then cut else on).members ≡ (past ++ m ∷ []) ++ rest)
+keeps_by true cut on past m e f = ([], e ∙ sym (append-nil (past ++ m ∷ [])))
+keeps_by false cut on past m e f = f
+
+-- past one with which they aren't
+pub cut_on : (too_many : List Feature → Bool) (past more : List (Member Feature)) (m : Member Feature) (fault : Option FaultValue) → too_many (map (λ m. m.item) (past ++ m ∷ [])) ≡ false
+    → cut_behind too_many past (m ∷ more) fault ≡ cut_behind too_many (past ++ m ∷ []) more fault
+cut_on too_many past more m fault few =
+    ap (λ b. if b then record { members = past ++ m ∷ []; fault = Some (fault_at_line Second m.line TooManyHeld) } else cut_behind too_many (past ++ m ∷ []) more fault) few
+
+front_by : (c : Bool) (cut on : Good Feature) (past more : List (Member Feature)) (m : Member Feature) → cut.members ≡ past ++ m ∷ [] → (rest : List (Member Feature)) × ((past ++ m ∷ []) ++ more ≡ on.members ++ rest)
+    → (rest : List (Member Feature)) × (past ++ m ∷ more ≡ (if c then cut else on).members ++ rest)
+front_by true cut on past more m e f = (more, sym (append_assoc past (m ∷ []) more) ∙ ap (λ l. l ++ more) (sym e))
+front_by false cut on past more m e f = (f.0, sym (append_assoc past (m ∷ []) more) ∙ f.1)
+
+-- what is left comes first
+pub cut_front : (too_many : List Feature → Bool) (past more : List (Member Feature)) (fault : Option FaultValue) → (rest : List (Member Feature)) × (past ++ more ≡ (cut_behind too_many past more fault).members ++ rest)
+cut_front too_many past [] fault = ([], refl)
+cut_front too_many past (m ∷ more) fault =
+    front_by (too_many (map (λ m. m.item) (past ++ m ∷ []))) (record { members = past ++ m ∷ []; fault = Some (fault_at_line Second m.line TooManyHeld) }) (cut_behind too_many (past ++ m ∷ []) more fault) past more m refl
+    (cut_front too_many (past ++ m ∷ []) more fault)
+
+-- whatever comes after them, members stay
+pub cut_keeps : (too_many : List Feature → Bool) (past more : List (Member Feature)) (fault : Option FaultValue) → (rest : List (Member Feature)) × ((cut_behind too_many past more fault).members ≡ past ++ rest)
+cut_keeps too_many past [] fault = ([], sym (append-nil past))
+cut_keeps too_many past (m ∷ more) fault =
+    let keeps = keeps_by (too_many (map (λ m. m.item) (past ++ m ∷ []))) (record { members = past ++ m ∷ []; fault = Some (fault_at_line Second m.line TooManyHeld) }) (cut_behind too_many (past ++ m ∷ []) more fault) past m refl
+    (cut_keeps too_many (past ++ m ∷ []) more fault) in
+    (m ∷ keeps.0, keeps.1 ∙ append_assoc past (m ∷ []) keeps.0)
+
+-- and so does the next of them
+pub cut_next : (too_many : List Feature → Bool) (past more : List (Member Feature)) (m : Member Feature) (fault : Option FaultValue) → (rest : List (Member Feature)) × ((cut_behind too_many past (m ∷ more) fault).members ≡ (past ++ m ∷ []) ++ rest)
+cut_next too_many past more m fault =
+    keeps_by (too_many (map (λ m. m.item) (past ++ m ∷ []))) (record { members = past ++ m ∷ []; fault = Some (fault_at_line Second m.line TooManyHeld) }) (cut_behind too_many (past ++ m ∷ []) more fault) past m refl
+    (cut_keeps too_many (past ++ m ∷ []) more fault)
+
+-- if none is too many, nothing is cut
+pub cut_none : (too_many : List Feature → Bool) (past more : List (Member Feature)) (fault : Option FaultValue)
+    → ((front : List (Member Feature)) (m : Member Feature) (rest : List (Member Feature)) → more ≡ front ++ m ∷ rest → too_many (map (λ m. m.item) (past ++ (front ++ m ∷ []))) ≡ false)
+    → cut_behind too_many past more fault ≡ record { members = past ++ more; fault = fault }
+cut_none too_many past more fault few = ap (λ l. cut_behind too_many past l fault) (sym (append-nil more)) ∙ cut_past too_many past more [] fault few
+
+-- nothing is held for no record
+pub none_many : (most : ℕ) → nat_lt most 0 ≡ false
+none_many most = le-ltb most 0 (omega arith)
+
+module _ (order : Order) (most : ℕ) (second : List Feature) where
+  abbrev opens : Feature → Bool
+  opens x = not (decided order x second)
+
+  -- the first that is undecided
+  pub open_here : (before after : List Feature) (a : Feature) → list_all (λ x. decided order x second) before ≡ true → decided order a second ≡ false → first_open order (before ++ a ∷ after) second ≡ Some a
+  open_here [] after a all undecided = ap (λ b. cond (not b) (Some a) (find opens after)) undecided
+  open_here (x ∷ before) after a all undecided =
+      let parts = and_parts (decided order x second) (list_all (λ x. decided order x second) before) all in
+      ap (λ b. cond (not b) (Some x) (find opens (before ++ a ∷ after))) parts.0 ∙ open_here before after a parts.1 undecided
+
+  -- if all are decided, there is none
+  pub open_none : (first : List Feature) → list_all (λ x. decided order x second) first ≡ true → first_open order first second ≡ None
+  open_none [] all = refl
+  open_none (x ∷ first) all =
+      let parts = and_parts (decided order x second) (list_all (λ x. decided order x second) first) all in
+      ap (λ b. cond (not b) (Some x) (find opens first)) parts.0 ∙ open_none first parts.1
+
+  -- how many are held for it says whether they are too many
+  pub many_by : (before after : List Feature) (a : Feature) → list_all (λ x. decided order x second) before ≡ true → decided order a second ≡ false
+      → are_too_many order most (before ++ a ∷ after) second ≡ nat_lt most (length (filter (is_held a) second))
+  many_by before after a all undecided = ap (λ o. nat_lt most (length (held_for o second))) (open_here before after a all undecided)
+
+  pub few_decided : (first : List Feature) → list_all (λ x. decided order x second) first ≡ true → are_too_many order most first second ≡ false
+  few_decided first all = ap (λ o. nat_lt most (length (held_for o second))) (open_none first all) ∙ none_many most
+
+-- Lemmas on intersect as a meeting.
+
+all_decided : (order : Order) (shape : Shape) (rule : HitRule) (first second : List Feature) → list_all (sweep_rule order shape rule second None).decided first ≡ true
+all_decided order shape rule [] second = refl
+all_decided order shape rule (a ∷ first) second = all_decided order shape rule first second
+
+pub faultless_all : faultless_are_all
+faultless_all order shape rule first second fault =
+    met_lines (sweep_rule order shape rule second None) first fault
+    ∙ sym (all_written (sweep_rule order shape rule second None) first (all_decided order shape rule first second))
+
+whole_left : (a : Feature) (found : List Feature) → lines_of Whole a found ≡ left_lines true a found
+whole_left a [] = refl
+whole_left a (b ∷ found) = refl
+
+pub left_at : left_are_lines
+unfolding lines_for
+left_at false rule a second = refl
+left_at true rule a second = whole_left a (hits_among rule a second)
+
+left_of_all : (whole : Bool) (rule : HitRule) (first second : List Feature) → intersect (subtract_shape whole) rule first second ≡ subtract whole rule first second
+left_of_all whole rule [] second = refl
+left_of_all whole rule (a ∷ first) second = ap₂ (λ x y. x ++ y) (left_at whole rule a second) (left_of_all whole rule first second)
+
+pub subtract_met : subtract_is_met
+subtract_met order whole rule first second fault = faultless_all order (subtract_shape whole) rule first second fault ∙ left_of_all whole rule first second

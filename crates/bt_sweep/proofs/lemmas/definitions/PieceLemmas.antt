@@ -1,19 +1,74 @@
+-- Lemmas on records whose starts don't fall.
+use Rattle.bt_lines.proofs.Std.{◌≡◌, ℕ, ◌≤◌, inl, inr, Bool, true, false, cond, List, [], ◌∷◌, refl, sym, ◌∙◌, subst, ltb, arith, filter, bytes_eq, IsTrue, and_parts, ◌+◌, ◌<◌, not, ◌&&◌, ◌++◌, ap, append_assoc, append-nil, flat_map, max, Decides, nat_le, nat_lt, leb-true, le-leb, list_any, cases_lt, false≢true, ltb-true, ltb-false, Decides-and, Decides-or, Decides-ltb, Decides-not}
+use Rattle.std.specs.declared.cmp.Ordering.TheVariants.{Less, Equal}
+use Rattle.bt_bed.specs.model.Feature.{Feature, intervals_of, Span, AreApartFrom, IsCovered}
+use Rattle.bt_bed.specs.model.Good.{locus_at}
+use Rattle.bt_bed.specs.model.Sorted.{ArePlaced, IsUpTo}
+use Rattle.bt_bed.specs.model.Order.{Order, IsTotal}
+use Rattle.bt_bed.proofs.lemmas.parse.NameLemmas.{same_name}
+use Rattle.bt_sweep.specs.calls.Held.{AreRising, AreRisingFrom}
+use Rattle.bt_sweep.specs.calls.Sweeping.{is_held}
+use Rattle.bt_sweep.proofs.lemmas.sweep.HoldLemmas.{up_trans}
+use Rattle.bt_bed.proofs.lemmas.Definitions.{stretches_are_same, scan_finds}
+use Rattle.bt_sweep.specs.model.Hits.{hits, hits_among}
+use Rattle.bt_sweep.specs.model.Lines.{piece_line, IsLeft, has_position, is_left, pieces, pieces_are, pieces_only, spans_of}
+use Rattle.bt_sweep.specs.inside.Pieces.{free_after, gap_lines, lines_before}
+use Rattle.bt_sweep.specs.declared.hits.hit_rule.HitRule.{HitRule}
+use Rattle.bt_sweep.proofs.lemmas.definitions.HitLemmas.{hit_overlaps, overlap_parts}
+
+-- they rise from any position up to the first of them
+rising_from : (low high : ℕ) (bs : List Feature) → low ≤ high → AreRisingFrom high bs → AreRisingFrom low bs
+rising_from low high [] h rises = tt
+rising_from low high (b ∷ bs) h rises = (omega (arith, rises.0), rises.1)
+
+module _ (p : Feature → Bool) where
+  filter_at : (low : ℕ) (b : Feature) (bs : List Feature) (c : Bool) → low ≤ b.start → AreRisingFrom b.start (filter p bs) → AreRisingFrom low (cond c (b ∷ filter p bs) (filter p bs))
+  filter_at low b bs true h rises = (h, rises)
+  filter_at low b bs false h rises = rising_from low b.start (filter p bs) h rises
+
+  -- some of them rise too
+  pub rising_filter : (low : ℕ) (bs : List Feature) → AreRisingFrom low bs → AreRisingFrom low (filter p bs)
+  rising_filter low [] rises = tt
+  rising_filter low (b ∷ bs) rises = filter_at low b bs (p b) rises.0 (rising_filter b.start bs rises.1)
+
+module _ (order : Order) (total : IsTotal order) (p : Feature → Bool) (name : List ℕ) (on : (b : Feature) → p b ≡ true → b.chrom ≡ name) where
+  up_start : (x y : Feature) → IsTrue (order.knows x.chrom) → x.chrom ≡ name → y.chrom ≡ name → IsUpTo order (locus_at x) (locus_at y) → x.start ≤ y.start
+  up_start x y known ex ey up =
+      elim up [
+        | inl less ↦
+            let it : order.compare x.chrom x.chrom ≡ Less = subst (λ (c : List ℕ). order.compare x.chrom c ≡ Less) (ey ∙ sym ex) less in
+            absurd (let apart : Less ≡ Equal = sym it ∙ total.same x.chrom known in cc)
+        | inr here ↦ here.1
+      ]
+
+  skip_second : (x y : Feature) (zs : List Feature) → ArePlaced order (intervals_of (x ∷ y ∷ zs)) → ArePlaced order (intervals_of (x ∷ zs))
+  skip_second x y [] placed = (placed.0, tt, tt)
+  skip_second x y (z ∷ zs) placed = (placed.0, up_trans order x y z total placed.0 placed.2.0 placed.2.2.0 placed.1 placed.2.1, placed.2.2)
+
+  next_rises : (x y : Feature) (ys : List Feature) (c : Bool) → p y ≡ c → x.chrom ≡ name → ArePlaced order (intervals_of (x ∷ y ∷ ys))
+      → (y.chrom ≡ name → AreRisingFrom y.start (filter p ys)) → AreRisingFrom x.start (filter p ys) → AreRisingFrom x.start (cond c (y ∷ filter p ys) (filter p ys))
+  next_rises x y ys true e ex placed taken skipped = let ey = on y e in (up_start x y placed.0 ex ey placed.1, taken ey)
+  next_rises x y ys false e ex placed taken skipped = skipped
+
+  rising_by : (x : Feature) (ys : List Feature) → x.chrom ≡ name → ArePlaced order (intervals_of (x ∷ ys)) → AreRisingFrom x.start (filter p ys)
+  rising_by x [] ex placed = tt
+  rising_by x (y ∷ ys) ex placed = next_rises x y ys (p y) refl ex placed (λ ey. rising_by y ys ey placed.2) (rising_by x ys ex (skip_second x y ys placed))
+
+  first_rises : (x : Feature) (xs : List Feature) (c : Bool) → p x ≡ c → (x.chrom ≡ name → AreRisingFrom x.start (filter p xs)) → AreRising (filter p xs) → AreRising (cond c (x ∷ filter p xs) (filter p xs))
+  first_rises x xs true e taken skipped = (omega arith, taken (on x e))
+  first_rises x xs false e taken skipped = skipped
+
+  rising_all : (xs : List Feature) → ArePlaced order (intervals_of xs) → AreRising (filter p xs)
+  rising_all [] placed = tt
+  rising_all (x ∷ xs) placed = first_rises x xs (p x) refl (λ ex. rising_by x xs ex placed) (rising_all xs placed.2)
+
+-- what is held of records in order
+pub rising_held : (order : Order) (a : Feature) (taken : List Feature) → IsTotal order → ArePlaced order (intervals_of taken) → AreRising (filter (is_held a) taken)
+rising_held order a taken total placed =
+    rising_all order total (is_held a) a.chrom (λ b e. sym (same_name a.chrom b.chrom (and_parts (bytes_eq a.chrom b.chrom) (ltb a.start b.stop) e).0)) taken placed
+
 -- The pieces of a record are the stretches of the positions that are left of it, and the only list that
 -- is. A walk over those that hit it by their starts meets them in order.
-use Rattle.bt_lines.proofs.Std.{◌≡◌, ℕ, ◌+◌, ◌<◌, ◌≤◌, inl, inr, Bool, true, false, not, ◌&&◌, cond, List, [], ◌∷◌, ◌++◌, refl, sym, ap, ◌∙◌, ltb, arith, append_assoc, append-nil, flat_map, max, Decides, nat_le, nat_lt, leb-true, le-leb, list_any, cases_lt, false≢true, ltb-true, ltb-false, Decides-and, Decides-or, Decides-ltb, Decides-not}
-use Rattle.bt_bed.specs.model.feature.Feature.{Feature}
-use Rattle.bt_bed.specs.model.feature.Interval.{Span}
-use Rattle.bt_bed.specs.model.feature.Stretches.{AreApartFrom, IsCovered}
-use Rattle.bt_bed.proofs.lemmas.definitions.Apart.{stretches_are_same}
-use Rattle.bt_bed.proofs.lemmas.definitions.Scan.{scan_finds}
-use Rattle.bt_sweep.specs.calls.Held.{AreRising, AreRisingFrom}
-use Rattle.bt_sweep.specs.model.Hits.{hits, hits_among}
-use Rattle.bt_sweep.specs.model.IntersectLines.{piece_line}
-use Rattle.bt_sweep.specs.model.Pieces.{IsLeft, has_position, is_left, pieces, pieces_are, pieces_only, spans_of}
-use Rattle.bt_sweep.specs.inside.Walking.{free_after, gap_lines, lines_before}
-use Rattle.bt_sweep.specs.declared.hits.hit_rule.HitRule.{HitRule}
-use Rattle.bt_sweep.proofs.lemmas.definitions.RisingLemmas.{rising_filter}
-use Rattle.bt_sweep.proofs.lemmas.definitions.RuleLemmas.{hit_overlaps, overlap_parts}
 
 Decides-le : (a b : ℕ) → Decides (nat_le a b) (a ≤ b)
 Decides-le a b = (leb-true a b, le-leb a b)

@@ -2,17 +2,16 @@
 use Rattle.bt_lines.proofs.Std.{◌≡◌, ℕ, ◌≤◌, inl, inr, Bool, true, false, not, ◌&&◌, ◌||◌, cond, List, [], ◌∷◌, ◌++◌, Option, None, Some, refl, sym, ap, ◌∙◌, subst, ltb, arith, filter, bytes_eq, IsTrue, list_all, ordering_reverse, false≢true, and_from, and_parts, or_parts, or_left, or_right, cases_Bool, filter-append, list_any-append, list_all-append}
 use Rattle.std.specs.declared.cmp.Ordering.{Ordering}
 use Rattle.std.specs.declared.cmp.Ordering.TheVariants.{Less, Greater}
-use Rattle.bt_bed.specs.model.feature.Feature.{Feature, intervals_of}
-use Rattle.bt_bed.specs.model.order.Order.{Order, IsTotal}
-use Rattle.bt_bed.specs.model.input.GoodBed.{locus_at}
-use Rattle.bt_bed.specs.model.order.Locus.{is_below_at, IsUpTo, ArePlaced}
-use Rattle.bt_bed.specs.model.order.Contiguous.{has_records}
+use Rattle.bt_bed.specs.model.Feature.{Feature, intervals_of}
+use Rattle.bt_bed.specs.model.Order.{Order, IsTotal}
+use Rattle.bt_bed.specs.model.Good.{locus_at}
+use Rattle.bt_bed.specs.model.Sorted.{is_below_at, IsUpTo, ArePlaced, has_records}
 use Rattle.bt_bed.proofs.lemmas.parse.NameLemmas.{name_eq, name_ne, other_name, same_name}
-use Rattle.bt_sweep.specs.model.Deciding.{decides}
-use Rattle.bt_sweep.specs.calls.Standing.{is_held, held_for, last_after, last_given, leaves_some, HoldsFor}
-use Rattle.bt_sweep.specs.inside.StateSteps.{held_with}
-use Rattle.bt_sweep.proofs.lemmas.active.FilterLemmas.{filter-both}
-use Rattle.bt_sweep.proofs.lemmas.definitions.PlacedLemmas.{last_given-push, last_is_there, next_lies}
+use Rattle.bt_sweep.specs.model.Hits.{decides}
+use Rattle.bt_sweep.specs.calls.Sweeping.{is_held, held_for, last_after, last_given, leaves_some, HoldsFor}
+use Rattle.bt_sweep.specs.inside.Joining.{held_with}
+use Rattle.bt_sweep.proofs.lemmas.Active.{filter-both}
+use Rattle.bt_sweep.proofs.lemmas.definitions.HitLemmas.{last_given-push, last_is_there, next_lies}
 
 -- what is held once a is given, after the one that was given last
 abbrev pub held_behind : Option Feature → List Feature → Feature → List Feature

@@ -2,27 +2,20 @@
 use Rattle.bt_lines.proofs.Std.{◌≡◌, ◌<◌, ◌≤◌, ◌⊎◌, inl, inr, ℕ, true, false, List, [], ◌∷◌, ◌++◌, Option, Some, None, Ok, Err, Result, option_map, refl, sym, ap, ◌∙◌, subst, append-nil, append_assoc, option_to_list, bytes_eq, length, ltb, arith, All, IfSome, list_all, and_from, and_parts, ltb-true, or_left, or_right, list_any-append}
 use Rattle.bt_lines.specs.model.Fault.{FaultValue}
 use Rattle.bt_lines.specs.calls.Names.{fault_value}
-use Rattle.bt_lines.specs.calls.Output.{Output}
-use Rattle.bt_lines.specs.calls.Putting.{FailsToAdd, Grown}
+use Rattle.bt_lines.specs.calls.Output.{Output, FailsToAdd, Grown}
 use Rattle.bt_lines.specs.declared.fault.Fault.{Fault}
-use Rattle.bt_bed.specs.model.feature.Feature.{Feature, intervals_of}
-use Rattle.bt_bed.specs.model.order.Locus.{ArePlaced}
-use Rattle.bt_bed.specs.model.order.Order.{Order, IsTotal}
-use Rattle.bt_sweep.specs.model.Deciding.{decided, decides}
+use Rattle.bt_bed.specs.model.Feature.{Feature, intervals_of}
+use Rattle.bt_bed.specs.model.Sorted.{ArePlaced}
+use Rattle.bt_bed.specs.model.Order.{Order, IsTotal}
+use Rattle.bt_sweep.specs.model.Hits.{decided, decides}
 use Rattle.bt_sweep.specs.calls.Held.{CanHit}
-use Rattle.bt_sweep.specs.model.IntersectLines.{intersect}
-use Rattle.bt_sweep.specs.calls.Taking.{AreDecided, CannotBeHeld, CannotHold, GivesKnown, LeavesLast, TakenEach, TakenFor, has_room}
-use Rattle.bt_sweep.specs.inside.Joining.{AreDecidedOn, BehindFor, Breaks, CutsFor, CutsOff, EndUpTo, GoesToFor, GrownWith, Joins, JoinsSo, Keeps, LeavesOn, LieOn, Proceeded, WaitsOn, WritesFor, WritesSo}
-use Rattle.bt_sweep.specs.calls.Standing.{held_for, is_held, last_given}
-use Rattle.bt_sweep.specs.inside.StateSteps.{has_room_in, holding}
-use Rattle.bt_sweep.specs.calls.SweepState.{Sweeping}
+use Rattle.bt_sweep.specs.model.Lines.{intersect}
+use Rattle.bt_sweep.specs.calls.Sweeping.{AreDecided, CannotBeHeld, CannotHold, GivesKnown, LeavesLast, TakenEach, TakenFor, has_room, held_for, is_held, last_given, Sweeping}
+use Rattle.bt_sweep.specs.inside.Joining.{AreDecidedOn, BehindFor, Breaks, CutsFor, CutsOff, EndUpTo, GoesToFor, GrownWith, Joins, JoinsSo, Keeps, LeavesOn, LieOn, Proceeded, WaitsOn, WritesFor, WritesSo, has_room_in, holding}
 use Rattle.bt_sweep.specs.declared.hits.hit_rule.HitRule.{HitRule}
 use Rattle.bt_sweep.specs.declared.output.shape.Shape.{Shape}
-use Rattle.bt_sweep.proofs.lemmas.definitions.DecidingLemmas.{placed_back}
-use Rattle.bt_sweep.proofs.lemmas.sweep.KeepLemmas.{cut_both, decided_before, decided_behind, decided_both, decides_beside, keeps_held, keeps_taken, lines_both, lines_stay_so, undecided_beside}
-use Rattle.bt_sweep.proofs.lemmas.sweep.PendingLemmas.{fails_again, with_none, with_rest, with_rest_cut}
-use Rattle.bt_sweep.proofs.lemmas.definitions.PlacedLemmas.{front_placed, last_given-push}
-use Rattle.bt_sweep.proofs.lemmas.sweep.WriteLemmas.{front_of, split_last, split_more, writes_first}
+use Rattle.bt_sweep.proofs.lemmas.definitions.HitLemmas.{placed_back, front_placed, last_given-push}
+use Rattle.bt_sweep.proofs.lemmas.sweep.KeepLemmas.{cut_both, decided_before, decided_behind, decided_both, decides_beside, keeps_held, keeps_taken, lines_both, lines_stay_so, undecided_beside, fails_again, with_none, with_rest, with_rest_cut, front_of, split_last, split_more, writes_first}
 
 -- the chromosome of the next record is known
 pub known_head : {B : Type 0} (order : Order) (gives : B → List Feature → B → Type 0) (from : B) (b : Feature) (after : B) (name : List ℕ) → GivesKnown gives order from → gives from (b ∷ []) after → b.chrom ≡ name → order.knows name ≡ true

@@ -1,32 +1,212 @@
--- Lemmas on what a sweep keeps as records are given and taken.
-use Rattle.bt_lines.proofs.Std.{◌≡◌, ◌≤◌, ◌<◌, inl, inr, ℕ, Bool, true, false, not, ◌||◌, cond, List, [], ◌∷◌, ◌++◌, Option, refl, sym, ap, ◌∙◌, subst, filter, append-nil, length, ltb, IsTrue, list_all, lt-ltb, and_parts, and_from, or_left, or_right, cases_Bool, flat_map-append, list_any-append, list_all-append}
-use Rattle.std.specs.declared.cmp.Ordering.{Ordering}
-use Rattle.std.specs.declared.cmp.Ordering.TheVariants.{Equal}
-use Rattle.bt_lines.specs.model.Fault.{FaultValue}
-use Rattle.bt_lines.specs.calls.Output.{Output}
-use Rattle.bt_lines.specs.calls.Putting.{FailsToAdd}
-use Rattle.bt_bed.specs.model.feature.Feature.{Feature, intervals_of}
-use Rattle.bt_bed.specs.model.order.Locus.{ArePlaced, is_below_at}
-use Rattle.bt_bed.specs.model.order.Order.{Order, IsTotal}
-use Rattle.bt_bed.proofs.lemmas.parse.NameLemmas.{name_eq}
-use Rattle.bt_sweep.specs.model.Deciding.{decided, decides}
-use Rattle.bt_sweep.specs.calls.Held.{AreRising}
-use Rattle.bt_sweep.specs.model.IntersectLines.{intersect, lines_for}
-use Rattle.bt_sweep.specs.calls.Taking.{AreDecided, has_room}
-use Rattle.bt_sweep.specs.inside.Joining.{GrownWith, Keeps}
-use Rattle.bt_sweep.specs.calls.Standing.{HoldsFor, held_for, is_held, last_given}
-use Rattle.bt_sweep.specs.inside.StateSteps.{has_room_in, held_with, holding}
-use Rattle.bt_sweep.specs.calls.SweepState.{Sweeping}
+-- What is held is all that the lines of a record come from.
+use Rattle.bt_lines.proofs.Std.{◌≡◌, true, List, ap, ltb, arith, filter, bytes_eq, lt-ltb, and_from, ◌<◌, ℕ, Bool, cond, [], ◌∷◌, length, Option, Some, None, refl, sym, ◌∙◌, All, IfSome, slice_index_or, AllByRecursion, false≢true, All-filter, All-from_recursion, recursion_from_All, ◌⊎◌, inl, inr, false, ◌++◌, Ok, Err, Result, subst, append-nil, append_assoc, decimal, OnOk, is_ok, decimal_digit, ◌≤◌, not, ◌||◌, IsTrue, list_all, and_parts, or_left, or_right, cases_Bool, flat_map-append, list_any-append, list_all-append, ◌&&◌}
+use Rattle.bt_bed.specs.model.Feature.{Feature, bed_text, intervals_of}
+use Rattle.bt_sweep.specs.model.Hits.{hits, decided, decides}
+use Rattle.bt_sweep.specs.model.Lines.{lines_of, lines_for, line_with, piece_line, intersect}
+use Rattle.bt_sweep.specs.calls.Sweeping.{is_held, Sweeping, AreDecided, has_room, HoldsFor, held_for, last_given, GivesKnown}
 use Rattle.bt_sweep.specs.declared.hits.hit_rule.HitRule.{HitRule}
 use Rattle.bt_sweep.specs.declared.output.shape.Shape.{Shape}
-use Rattle.bt_sweep.proofs.lemmas.definitions.DecidingLemmas.{decides_from}
-use Rattle.bt_sweep.proofs.lemmas.sweep.HeldLines.{held_lines}
-use Rattle.bt_sweep.proofs.lemmas.definitions.HitLemmas.{before_lines, stay_lines}
+use Rattle.bt_sweep.proofs.lemmas.Active.{filter-wider}
+use Rattle.bt_sweep.proofs.lemmas.definitions.HitLemmas.{hit_overlaps, overlap_parts, decides_from, before_lines, stay_lines, filter_less, held_less, within_less, within_more, last_given-push, front_placed}
+use Rattle.bt_bed.proofs.lemmas.parse.NameLemmas.{same_name, name_eq}
+use Rattle.bt_sweep.specs.calls.Held.{AreReady, AreOnOne, CanHit, CanHitAt, AreRising}
+use Rattle.bt_sweep.specs.inside.Joining.{are_on, GrownWith, PutsOr, NeedsHit, Keeps, has_room_in, held_with, holding, CutsOff, EndUpTo, WritesFor, WritesSo}
+use Rattle.bt_lines.specs.model.Fault.{FaultValue, write_failed}
+use Rattle.bt_lines.specs.calls.Names.{fault_value}
+use Rattle.bt_lines.specs.calls.Output.{Output, Adds, FailsToAdd, Grown, Puts}
+use Rattle.bt_lines.specs.declared.fault.Fault.{Fault}
+use Rattle.bt_lines.proofs.lemmas.Writer.{cut_off, fails_then, grown_more, grown_none}
+use Rattle.bt_sweep.specs.declared.output.shape.Shape.TheVariants.{Missing, Pieces, Whole}
+use Rattle.bt_sweep.proofs.lemmas.definitions.PieceLemmas.{walked_alone, rising_held}
+use Rattle.bt_sweep.proofs.lemmas.Output.{line_adds, open_kept}
+use Rattle.std.specs.declared.cmp.Ordering.{Ordering}
+use Rattle.std.specs.declared.cmp.Ordering.TheVariants.{Equal}
+use Rattle.bt_bed.specs.model.Sorted.{ArePlaced, is_below_at, Locus, Sorting, falls_in, sorting_of}
+use Rattle.bt_bed.specs.model.Order.{Order, IsTotal}
 use Rattle.bt_sweep.proofs.lemmas.sweep.HoldLemmas.{held_behind, held_is_behind, holds_a, holds_b}
-use Rattle.bt_sweep.proofs.lemmas.definitions.LimitLemmas.{filter_less, held_less, within_less, within_more}
-use Rattle.bt_sweep.proofs.lemmas.sweep.PendingLemmas.{with_cut, with_more}
-use Rattle.bt_sweep.proofs.lemmas.definitions.PlacedLemmas.{last_given-push}
-use Rattle.bt_sweep.proofs.lemmas.definitions.RisingLemmas.{rising_held}
+use Rattle.bt_bed.specs.calls.Batch.{Passes, left as records_left, are_in_order, view_with}
+use Rattle.bt_bed.specs.model.Good.{locus_at}
+use Rattle.bt_bed.specs.calls.Records.{Lends, buffered_in, order_in, view_of}
+use Rattle.bt_bed.specs.calls.Bed.{GivesSingle, single_left}
+use Rattle.bt_bed.specs.declared.read.batch.Batch.{Batch}
+use Rattle.bt_bed.specs.declared.read.cursor.Single.{Single}
+use Rattle.bt_bed.specs.declared.order.ChromOrder.{Ghosts}
+use Rattle.bt_bed.specs.declared.read.records.Records.{Records}
+
+hit_is_held : (rule : HitRule) (a b : Feature) → hits rule a b ≡ true → is_held a b ≡ true
+hit_is_held rule a b e =
+    let parts = overlap_parts a b (hit_overlaps rule a b e) in
+    and_from (bytes_eq a.chrom b.chrom) (ltb a.start b.stop) parts.0 (lt-ltb a.start b.stop (omega (arith, parts.1)))
+
+pub held_lines : (shape : Shape) (rule : HitRule) (a : Feature) (taken : List Feature) → lines_for shape rule a (filter (is_held a) taken) ≡ lines_for shape rule a taken
+unfolding lines_for
+held_lines shape rule a taken = ap (lines_of shape a) (filter-wider (hits rule a) (is_held a) (hit_is_held rule a) taken)
+
+-- Lemmas on what a sweep keeps.
+
+-- if none waits
+pub ready_none : (current : Option Feature) (held : List Feature) → current ≡ None → AreOnOne held → AreReady current held
+ready_none current held none on_one = record { on_one = on_one; hits = λ x e. absurd (let apart : None ≡ Some x = sym none ∙ e in cc) }
+
+pub hits_of : (current : Option Feature) (held : List Feature) → AreReady current held → IfSome current (λ a. All (CanHit a) held)
+hits_of None held ready = tt
+hits_of (Some a) held ready = ready.hits a refl
+
+pub on_one_filter : (p : Feature → Bool) (held : List Feature) → AreOnOne held → AreOnOne (filter p held)
+on_one_filter p held on =
+    All-filter p (λ (b : Feature). (b.start < b.stop) × All (λ (r : Feature). r.chrom ≡ b.chrom) (filter p held)) held
+    (λ k d h. ((on k d h).0, All-filter p (λ (r : Feature). r.chrom ≡ (slice_index_or held k d).chrom) held (on k d h).1))
+
+module _ (name : List ℕ) (start : ℕ) where
+  kept_at : (b : Feature) (bs : List Feature) (c : Bool) → ltb start b.stop ≡ c → (b.chrom ≡ name) × (b.start < b.stop) → AllByRecursion (CanHitAt name start) (filter (λ b. ltb start b.stop) bs)
+      → AllByRecursion (CanHitAt name start) (cond c (b ∷ filter (λ b. ltb start b.stop) bs) (filter (λ b. ltb start b.stop) bs))
+  kept_at b bs c e one rest = grind arith
+
+  kept_rec : (bs : List Feature) → AllByRecursion (λ b. (b.chrom ≡ name) × (b.start < b.stop)) bs → AllByRecursion (CanHitAt name start) (filter (λ b. ltb start b.stop) bs)
+  kept_rec [] all = tt
+  kept_rec (b ∷ bs) all = kept_at b bs (ltb start b.stop) refl all.0 (kept_rec bs all.1)
+
+  -- those that end after the start, if the first lies on the chromosome
+  pub hits_kept : (held : List Feature) → AreOnOne held → are_on held name ≡ true → All (CanHitAt name start) (filter (λ b. ltb start b.stop) held)
+  hits_kept [] on e = absurd (false≢true e)
+  hits_kept (b ∷ more) on e =
+      let first = (on 0 b (let some : 0 < length (b ∷ more) = omega arith in some)).1 in
+      All-from_recursion (CanHitAt name start) (filter (λ r. ltb start r.stop) (b ∷ more))
+      (kept_rec (b ∷ more) (recursion_from_All (λ (r : Feature). (r.chrom ≡ name) × (r.start < r.stop)) (b ∷ more)
+      (λ k d h. ((first k d h) ∙ same_name b.chrom name e, (on k d h).0))))
+
+-- a record beside which nothing is held is one that nothing hits
+pub none_against : (shape : Shape) (rule : HitRule) (a : Feature) (held : List Feature) → length held ≡ 0 → lines_of shape a [] ≡ lines_for shape rule a held
+unfolding lines_for
+none_against shape rule a [] none = refl
+none_against shape rule a (b ∷ held) none = absurd (omega arith)
+
+-- Lemmas on lines that are pending.
+
+-- ---- a record that nothing hits
+
+pub unmatched_itself : (shape : Shape) (a : Feature) → (shape ≡ Missing) ⊎ ((shape ≡ Pieces) ⊎ (shape ≡ Whole)) → a.start < a.stop → lines_of shape a [] ≡ line_with (bed_text a ∷ [])
+unmatched_itself shape a is filled =
+    elim is [
+      | inl missing ↦ ap (λ (s : Shape). lines_of s a []) missing
+      | inr rest ↦ elim rest [
+        | inl pieces ↦ ap (λ (s : Shape). lines_of s a []) pieces
+            ∙ sym (walked_alone a) ∙ ap (λ (c : Bool). cond c (piece_line a (record { start = a.start; stop = a.stop })) []) (lt-ltb a.start a.stop filled)
+        | inr whole ↦ ap (λ (s : Shape). lines_of s a []) whole
+      ]
+    ]
+
+module _ {T : Type 0} (a : Feature) (lines : List ℕ) (out grown : Output) (r : Result T Fault) where
+  pub itself_adds : lines ≡ line_with (bed_text a ∷ []) → Puts out (bed_text a ++ 10 ∷ []) r grown → Adds out lines r grown
+  itself_adds is puts = subst (λ (l : List ℕ). Adds out l r grown) (sym is) (line_adds (bed_text a ∷ []) out grown r puts)
+
+  pub counted_adds : lines ≡ line_with (bed_text a ∷ decimal 0 ∷ []) → Puts out (bed_text a ++ 9 ∷ 48 ∷ 10 ∷ []) r grown → Adds out lines r grown
+  counted_adds is puts =
+      let digit : decimal 0 ≡ 48 ∷ [] = decimal_digit 0 (omega arith) in
+      subst (λ (l : List ℕ). Adds out l r grown) (sym is)
+      (line_adds (bed_text a ∷ decimal 0 ∷ []) out grown r
+      (subst (λ (d : List ℕ). Puts out (line_with (bed_text a ∷ d ∷ [])) r grown) (sym digit)
+      (subst (λ (l : List ℕ). Puts out l r grown) (sym (append_assoc (bed_text a) (9 ∷ []) (48 ∷ 10 ∷ []))) puts)))
+
+-- ---- lines after lines that are pending
+
+pub with_none : (pending : List ℕ) (out : Output) → GrownWith pending out [] pending out
+with_none pending out = record { bytes = []; parts = append-nil pending; puts = grown_none out }
+
+-- none was pending, and none is
+pub with_no_pending : (out grown : Output) (lines : List ℕ) → GrownWith [] out lines [] grown → Grown out lines grown
+with_no_pending out grown lines w = subst (λ (l : List ℕ). Grown out l grown) (sym (w.parts ∙ append-nil w.bytes)) w.puts
+
+module _ (pending xs left : List ℕ) (out mid : Output) (first : GrownWith pending out xs left mid) where
+  parts_more : (ys : List ℕ) → pending ++ (xs ++ ys) ≡ first.bytes ++ (left ++ ys)
+  parts_more ys = sym (append_assoc pending xs ys) ∙ ap (λ (l : List ℕ). l ++ ys) first.parts ∙ append_assoc first.bytes left ys
+
+  pub with_more : (ys rest : List ℕ) (grown : Output) → GrownWith left mid ys rest grown → GrownWith pending out (xs ++ ys) rest grown
+  with_more ys rest grown second = record {
+    bytes = first.bytes ++ second.bytes;
+    parts = parts_more ys ∙ ap (λ (l : List ℕ). first.bytes ++ l) second.parts ∙ sym (append_assoc first.bytes second.bytes rest);
+    puts = grown_more out mid grown first.bytes second.bytes first.puts second.puts;
+  }
+
+  pub with_cut : (ys : List ℕ) (fault : FaultValue) (grown : Output) → FailsToAdd mid (left ++ ys) fault grown → FailsToAdd out (pending ++ (xs ++ ys)) fault grown
+  with_cut ys fault grown fails =
+      subst (λ (l : List ℕ). FailsToAdd out l fault grown) (sym (parts_more ys)) (fails_then out mid grown first.bytes (left ++ ys) fault first.puts fails)
+
+  -- those that were left pending were put, or couldn't all be
+  pub with_rest : (grown : Output) → Grown mid left grown → GrownWith pending out xs [] grown
+  with_rest grown puts = record {
+    bytes = first.bytes ++ left;
+    parts = first.parts ∙ sym (append-nil (first.bytes ++ left));
+    puts = grown_more out mid grown first.bytes left first.puts puts;
+  }
+
+  pub with_rest_cut : (fault : FaultValue) (grown : Output) → FailsToAdd mid left fault grown → FailsToAdd out (pending ++ xs) fault grown
+  with_rest_cut fault grown fails =
+      subst (λ (l : List ℕ). FailsToAdd out l fault grown) (sym first.parts) (fails_then out mid grown first.bytes left fault first.puts fails)
+
+-- an output that failed stays as it is, whatever is put then
+pub fails_again : {T : Type 0} (mid now : Output) (lines left : List ℕ) (fault : FaultValue) (out : Output) (r : Result T Fault) → FailsToAdd out lines fault mid → Adds mid left r now → FailsToAdd out lines fault now
+fails_again mid now lines left fault out r fails adds = grind arith
+
+-- ---- lines and then those of a record
+
+module _ {T : Type 0} (out half : Output) (xs : List ℕ) (r : Result T Fault) (adds : Adds out xs r half) where
+  could_put : (r : Result T Fault) → is_ok r ≡ true → Adds out xs r half → Grown out xs half
+  could_put r e adds = grind arith
+
+  not_put : (ys : List ℕ) (r : Result T Fault) → is_ok r ≡ false → Adds out xs r half → FailsToAdd out (xs ++ ys) write_failed half
+  not_put ys (Ok t) e adds = absurd (false≢true (sym e))
+  not_put ys (Err f) e adds = subst (λ (f : FaultValue). FailsToAdd out (xs ++ ys) f half) adds.puts.is (cut_off out half xs ys (fault_value f) adds)
+
+  pub puts_not : (ys : List ℕ) (b : Bool) → b ≡ is_ok r → b ≡ false → PutsOr b out (xs ++ ys) half
+  puts_not ys b is none = subst (λ (c : Bool). PutsOr c out (xs ++ ys) half) (sym none) (not_put ys r (sym is ∙ none) adds)
+
+  puts_second : {U : Type 0} (ys : List ℕ) (now : Output) (p : Result U Fault) → Grown out xs half → Adds half ys p now → PutsOr (is_ok p) out (xs ++ ys) now
+  puts_second ys now (Ok u) first second = grown_more out half now xs ys first second
+  puts_second ys now (Err f) first second = subst (λ (f : FaultValue). FailsToAdd out (xs ++ ys) f now) second.puts.is (fails_then out half now xs ys (fault_value f) first second)
+
+  pub puts_then : {U : Type 0} (ys : List ℕ) (now : Output) (p : Result U Fault) (b : Bool) → is_ok r ≡ true → b ≡ is_ok p → Adds half ys p now → PutsOr b out (xs ++ ys) now
+  puts_then ys now p b could is second = subst (λ (c : Bool). PutsOr c out (xs ++ ys) now) (sym is) (puts_second ys now p (could_put r could adds) second)
+
+pub same_if_put : {T : Type 0} {P : Type 0} (r : Result T Fault) → is_ok r ≡ true → OnOk r P → P
+same_if_put r e h = grind arith
+
+-- ---- a record whose lines are put or left pending
+
+module _ (shape : Shape) (rule : HitRule) (a : Feature) (held : List Feature) (pending left : List ℕ) (out : Output) where
+  pub nothing_with : pending ≡ [] → left ≡ [] → NeedsHit shape → length held ≡ 0 → GrownWith pending out (lines_for shape rule a held) left out
+  nothing_with none same needs empty = record {
+    bytes = [];
+    parts = ap (λ (l : List ℕ). l ++ lines_for shape rule a held) none ∙ sym (none_against shape rule a held empty) ∙ needs a ∙ sym same;
+    puts = grown_none out;
+  }
+
+  pub left_with : (line raw : List ℕ) → left ≡ pending ++ line → line ≡ raw → raw ≡ bed_text a ++ 10 ∷ [] → lines_of shape a [] ≡ line_with (bed_text a ∷ []) → length held ≡ 0 → GrownWith pending out (lines_for shape rule a held) left out
+  left_with line raw is on canonical alone empty = record {
+    bytes = [];
+    parts = ap (λ (l : List ℕ). pending ++ l) (sym (none_against shape rule a held empty) ∙ alone ∙ sym (on ∙ canonical)) ∙ sym is;
+    puts = grown_none out;
+  }
+
+  pub all_with : (lines : List ℕ) (now : Output) → lines ≡ pending → left ≡ [] → Grown out (lines ++ lines_for shape rule a held) now → GrownWith pending out (lines_for shape rule a held) left now
+  all_with lines now is same puts = record {
+    bytes = lines ++ lines_for shape rule a held;
+    parts = ap (λ (l : List ℕ). l ++ lines_for shape rule a held) (sym is) ∙ sym (append-nil (lines ++ lines_for shape rule a held)) ∙ ap (λ (l : List ℕ). (lines ++ lines_for shape rule a held) ++ l) (sym same);
+    puts = puts;
+  }
+
+module _ (inside now : Sweeping) (same : inside ≡ now) (a : Feature) (pending left : List ℕ) (out : Output) where
+  pub nothing_in : (NeedsHit now.shape → pending ≡ []) → left ≡ [] → NeedsHit inside.shape → length inside.held ≡ 0 → GrownWith pending out (lines_for now.shape now.rule a now.held) left out
+  nothing_in quiet none needs empty =
+      subst (λ (n : Sweeping). (NeedsHit n.shape → pending ≡ []) → GrownWith pending out (lines_for n.shape n.rule a n.held) left out) same
+      (λ q. nothing_with inside.shape inside.rule a inside.held pending left out (q needs) none needs empty) quiet
+
+  pub left_in : (line raw : List ℕ) → left ≡ pending ++ line → line ≡ raw → raw ≡ bed_text a ++ 10 ∷ [] → lines_of inside.shape a [] ≡ line_with (bed_text a ∷ []) → length inside.held ≡ 0 → GrownWith pending out (lines_for now.shape now.rule a now.held) left out
+  left_in line raw is on canonical alone empty =
+      subst (λ (n : Sweeping). GrownWith pending out (lines_for n.shape n.rule a n.held) left out) same
+      (left_with inside.shape inside.rule a inside.held pending left out line raw is on canonical alone empty)
+
+-- Lemmas on what a sweep keeps as records are given and taken.
 
 module _ (order : Order) (shape : Shape) (rule : HitRule) (limit : Option ℕ) where
   module _ (gs : List Feature) (a : Feature) (taken : List Feature) (s : Sweeping) (kept : Keeps order shape rule limit (gs ++ a ∷ []) taken s) where
@@ -154,3 +334,177 @@ module _ (shape : Shape) (rule : HitRule) (taken : List Feature) (pending left :
 
   pub cut_then : (a : Feature) (fault : FaultValue) (new : Output) → FailsToAdd mid (left ++ lines_for shape rule a taken) fault new → FailsToAdd old (pending ++ intersect shape rule (xs ++ a ∷ []) taken) fault new
   cut_then a fault new fails = cut_both (a ∷ []) fault new (subst (λ (l : List ℕ). FailsToAdd mid (left ++ l) fault new) (sym (append-nil (lines_for shape rule a taken))) fails)
+
+-- Lemmas on records of the first input that are written one after another.
+
+-- ---- lists, after others
+
+module _ (before : List Feature) (first : Feature) (firsts newly : List Feature) (cur : Feature) (are : first ∷ firsts ≡ newly ++ cur ∷ []) where
+  pub split_last : before ++ first ∷ firsts ≡ (before ++ newly) ++ cur ∷ []
+  split_last = ap (λ (l : List Feature). before ++ l) are ∙ sym (append_assoc before newly (cur ∷ []))
+
+  pub split_more : (firsts2 : List Feature) → before ++ first ∷ (firsts ++ firsts2) ≡ (before ++ newly) ++ cur ∷ firsts2
+  split_more firsts2 =
+      sym (append_assoc before (first ∷ firsts) firsts2) ∙ ap (λ (l : List Feature). l ++ firsts2) split_last ∙ append_assoc (before ++ newly) (cur ∷ []) firsts2
+
+pub front_of : (order : Order) (before : List Feature) (first : Feature) (firsts more : List Feature) → ArePlaced order (intervals_of (before ++ first ∷ (firsts ++ more))) → ArePlaced order (intervals_of (before ++ first ∷ firsts))
+front_of order before first firsts more placed =
+    front_placed order (before ++ first ∷ firsts) more (subst (λ (l : List Feature). ArePlaced order (intervals_of l)) (sym (append_assoc before (first ∷ firsts) more)) placed)
+
+pub end_more : (name : List ℕ) (place : ℕ) (newly : List Feature) (a : Feature) → EndUpTo name place newly → a.chrom ≡ name → a.stop ≤ place → EndUpTo name place (newly ++ a ∷ [])
+end_more name place [] a end on up = (on, up, tt)
+end_more name place (x ∷ newly) a end on up = (end.0, end.1, end_more name place newly a end.2 on up)
+
+module _ {A : Type 0} (gives : A → List Feature → A → Type 0) (has_ended : A → Type 0) (gives_none : (x : A) → gives x [] x)
+    (gives_more : (old mid new : A) (xs ys : List Feature) → gives old xs mid → gives mid ys new → gives old (xs ++ ys) new)
+    (place : ℕ) (old : Sweeping) (first : Feature) (from : A) (pending : List ℕ) (out : Output) where
+  abbrev So : Option Feature → Sweeping → A → List ℕ → Output → Type 0
+  So = WritesSo gives has_ended place old first from pending out
+
+  pub writes_first : All (CanHit first) old.held → So (Some first) old from pending out
+  writes_first hits = record {
+    firsts = [];
+    newly = [];
+    given = gives_none from;
+    are = refl;
+    end = tt;
+    waits = (refl, hits);
+    goes = λ order shape rule limit before taken total kept pg pt. subst (λ (t : List Feature). Keeps order shape rule limit (before ++ first ∷ []) t old) (sym (append-nil taken)) kept;
+    writes = λ order shape rule limit before taken total kept pg pt. with_none pending out;
+  }
+
+  -- those that are left pending were put too
+  pub writes_rest : (waiting : Option Feature) (s : Sweeping) (to : A) (left : List ℕ) (grown now : Output) → So waiting s to left grown → Grown grown left now → So waiting s to [] now
+  writes_rest waiting s to left grown now so puts = record {
+    firsts = so.firsts;
+    newly = so.newly;
+    given = so.given;
+    are = so.are;
+    end = so.end;
+    waits = so.waits;
+    goes = so.goes;
+    writes = λ order shape rule limit before taken total kept pg pt. with_rest pending (intersect shape rule so.newly (taken ++ [])) left out grown (so.writes order shape rule limit before taken total kept pg pt) now puts;
+  }
+
+  -- or couldn't all be
+  pub cuts_rest : (waiting : Option Feature) (s : Sweeping) (to : A) (left : List ℕ) (grown now : Output) (fault : FaultValue) → So waiting s to left grown → FailsToAdd grown left fault now → CutsOff gives has_ended place old first from pending out fault to now
+  cuts_rest waiting s to left grown now fault so fails = record {
+    firsts = so.firsts;
+    newly = so.newly;
+    waiting = waiting;
+    given = so.given;
+    are = so.are;
+    end = so.end;
+    cuts = λ order shape rule limit before taken total kept pg pt. with_rest_cut pending (intersect shape rule so.newly (taken ++ [])) left out grown (so.writes order shape rule limit before taken total kept pg pt) fault now fails;
+  }
+
+  module _ (cur : Feature) (s : Sweeping) (to : A) (left : List ℕ) (grown : Output) (so : So (Some cur) s to left grown) where
+    -- what is kept, by the one that waits
+    kept_so : (order : Order) (shape : Shape) (rule : HitRule) (limit : Option ℕ) (before taken : List Feature) → IsTotal order → Keeps order shape rule limit (before ++ first ∷ []) taken old
+        → ArePlaced order (intervals_of (before ++ first ∷ so.firsts)) → ArePlaced order (intervals_of (taken ++ [])) → Keeps order shape rule limit ((before ++ so.newly) ++ cur ∷ []) (taken ++ []) s
+    kept_so order shape rule limit before taken total kept pg pt =
+        subst (λ (g : List Feature). Keeps order shape rule limit g (taken ++ []) s) (split_last before first so.firsts so.newly cur so.are)
+        (so.goes order shape rule limit before taken total kept pg pt)
+
+    module _ (rest : List ℕ) (now : Output) (adds : AreRising s.held → GrownWith left grown (lines_for s.shape s.rule cur s.held) rest now) where
+      written_one : WritesFor IsTotal first so.firsts [] old (so.newly ++ cur ∷ []) pending out rest now
+      written_one order shape rule limit before taken total kept pg pt =
+          let k = kept_so order shape rule limit before taken total kept pg pt in
+          lines_then shape rule (taken ++ []) pending left out grown so.newly (so.writes order shape rule limit before taken total kept pg pt) cur rest now
+          (subst (λ (l : List ℕ). GrownWith left grown l rest now) (keeps_lines order shape rule limit (before ++ so.newly) cur (taken ++ []) s k)
+          (adds (keeps_rising order shape rule limit (before ++ so.newly) cur (taken ++ []) s k total pt)))
+
+      -- its lines were written, and there is no other
+      pub writes_last : cur.stop ≤ place → So None s to rest now
+      writes_last up = record {
+        firsts = so.firsts;
+        newly = so.newly ++ cur ∷ [];
+        given = so.given;
+        are = so.are ∙ sym (append-nil (so.newly ++ cur ∷ []));
+        end = end_more first.chrom place so.newly cur so.end so.waits.0 up;
+        waits = tt;
+        goes = so.goes;
+        writes = written_one;
+      }
+
+      -- its lines were written, and the next one waits
+      pub writes_more : (r : Feature) (new : Sweeping) (to' : A) → cur.stop ≤ place → gives to (r ∷ []) to' → r.chrom ≡ first.chrom → new ≡ record s { held = filter (λ b. ltb r.start b.stop) s.held }
+          → So (Some r) new to' rest now
+      writes_more r new to' up given on is = record {
+        firsts = so.firsts ++ r ∷ [];
+        newly = so.newly ++ cur ∷ [];
+        given = gives_more from to to' so.firsts (r ∷ []) so.given given;
+        are = ap (λ (l : List Feature). l ++ r ∷ []) so.are;
+        end = end_more first.chrom place so.newly cur so.end so.waits.0 up;
+        waits = (on, subst (λ (n : Sweeping). All (CanHit r) n.held) (sym is) (open_kept cur r s.held (so.waits.0 ∙ sym on) so.waits.1));
+        goes = λ order shape rule limit before taken total kept pg pt.
+            let k = kept_so order shape rule limit before taken total kept (front_of order before first so.firsts (r ∷ []) pg) pt in
+            let whole : before ++ first ∷ (so.firsts ++ r ∷ []) ≡ ((before ++ so.newly) ++ cur ∷ []) ++ r ∷ [] =
+            split_more before first so.firsts so.newly cur so.are (r ∷ []) ∙ sym (append_assoc (before ++ so.newly) (cur ∷ []) (r ∷ [])) in
+            let next = keeps_next order shape rule limit (before ++ so.newly) cur (taken ++ []) s k r total (subst (λ (l : List Feature). ArePlaced order (intervals_of l)) whole pg) (so.waits.0 ∙ sym on) in
+            subst (λ (g : List Feature). Keeps order shape rule limit g (taken ++ []) new) (sym whole)
+            (subst (λ (n : Sweeping). Keeps order shape rule limit (((before ++ so.newly) ++ cur ∷ []) ++ r ∷ []) (taken ++ []) n) (sym is) next);
+        writes = λ order shape rule limit before taken total kept pg pt. written_one order shape rule limit before taken total kept (front_of order before first so.firsts (r ∷ []) pg) pt;
+      }
+
+    -- its lines couldn't be written
+    pub cuts_off : (fault : FaultValue) (now : Output) → cur.stop ≤ place → (AreRising s.held → FailsToAdd grown (left ++ lines_for s.shape s.rule cur s.held) fault now) → CutsOff gives has_ended place old first from pending out fault to now
+    cuts_off fault now up fails = record {
+      firsts = so.firsts;
+      newly = so.newly ++ cur ∷ [];
+      waiting = None;
+      given = so.given;
+      are = so.are ∙ sym (append-nil (so.newly ++ cur ∷ []));
+      end = end_more first.chrom place so.newly cur so.end so.waits.0 up;
+      cuts = λ order shape rule limit before taken total kept pg pt.
+          let k = kept_so order shape rule limit before taken total kept pg pt in
+          cut_then shape rule (taken ++ []) pending left out grown so.newly (so.writes order shape rule limit before taken total kept pg pt) cur fault now
+          (subst (λ (l : List ℕ). FailsToAdd grown (left ++ l) fault now) (keeps_lines order shape rule limit (before ++ so.newly) cur (taken ++ []) s k)
+          (fails (keeps_rising order shape rule limit (before ++ so.newly) cur (taken ++ []) s k total pt)));
+    }
+
+-- Lemmas on cursors that give records on known chromosomes.
+
+-- after some of them
+pub known_later : {A : Type 0} (gives : A → List Feature → A → Type 0) (gives_more : (old mid new : A) (xs ys : List Feature) → gives old xs mid → gives mid ys new → gives old (xs ++ ys) new)
+    (order now : Order) (from mid : A) (fs : List Feature) → now ≡ order → GivesKnown gives order from → gives from fs mid → GivesKnown gives now mid
+known_later gives gives_more order now from mid fs same known given records to more =
+    subst (λ (o : Order). list_all (λ (r : Feature). o.knows r.chrom) records ≡ true) (sym same)
+    ((and_parts (list_all (λ (r : Feature). order.knows r.chrom) fs) (list_all (λ (r : Feature). order.knows r.chrom) records)
+    (sym (list_all-append (λ (r : Feature). order.knows r.chrom) fs records) ∙ known (fs ++ records) to (gives_more from mid to fs records given more))).1)
+
+known_front : (order : Order) (r : Feature) (records left : List Feature) → order.knows r.chrom ≡ true → r ∷ [] ≡ records ++ left → list_all (λ (x : Feature). order.knows x.chrom) records ≡ true
+known_front order r [] left known e = refl
+known_front order r (x ∷ []) left known e = let same : r ≡ x = cc in and_from (order.knows x.chrom) true (subst (λ (f : Feature). order.knows f.chrom ≡ true) same known) refl
+known_front order r (x ∷ y ∷ records) left known e = absurd (let apart : [] ≡ y ∷ (records ++ left) = cc in cc)
+
+pub known_single : (order : Order) (one : Single) (r : Feature) → single_left one ≡ r ∷ [] → order.knows r.chrom ≡ true → GivesKnown GivesSingle order one
+known_single order one r is known records to gives = known_front order r records (single_left to) known (sym is ∙ gives.left)
+
+pub known_none : (order : Order) (one : Single) → single_left one ≡ [] → GivesKnown GivesSingle order one
+known_none order one empty [] to gives = refl
+known_none order one empty (r ∷ records) to gives = absurd (let apart : [] ≡ r ∷ (records ++ single_left to) = sym empty ∙ gives.left in cc)
+
+-- records in order lie on known chromosomes
+known_in : (sorting : Sorting) (last : Option Locus) (records more : List Feature) → are_in_order sorting last (records ++ more) ≡ true → list_all (λ r. sorting.knows r.chrom) records ≡ true
+known_in sorting last [] more e = refl
+known_in sorting last (r ∷ records) more e =
+    let all = and_parts (sorting.knows r.chrom && not (falls_in sorting last (locus_at r))) (are_in_order sorting (Some (locus_at r)) (records ++ more)) e in
+    let here = and_parts (sorting.knows r.chrom) (not (falls_in sorting last (locus_at r))) all.0 in
+    and_from (sorting.knows r.chrom) (list_all (λ r. sorting.knows r.chrom) records) here.0 (known_in sorting (Some (locus_at r)) records more all.1)
+
+module _ {S O : Type 0} {g : Ghosts O} (now : Records S O g) (batch : Batch) (lends : Lends now batch) where
+  lent_is : records_left batch ≡ buffered_in now
+  unfolding view_of view_with
+  lent_is = lends.left_is
+
+  in_order : are_in_order (sorting_of (order_in now)) (view_of now).state (buffered_in now) ≡ true
+  unfolding view_of order_in
+  in_order = now.placed.in_order
+
+  -- those that a reader gives do
+  pub known_batch : (order : Order) → order ≡ order_in now → GivesKnown Passes order batch
+  known_batch order same records to passes =
+      subst (λ (o : Order). list_all (λ r. o.knows r.chrom) records ≡ true) (sym same)
+      (known_in (sorting_of (order_in now)) (view_of now).state records (records_left to)
+      (ap (are_in_order (sorting_of (order_in now)) (view_of now).state) (sym passes.left_is ∙ lent_is) ∙ in_order))

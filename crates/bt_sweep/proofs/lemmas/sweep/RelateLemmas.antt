@@ -3,32 +3,26 @@ use Rattle.bt_lines.proofs.Std.{◌≡◌, inl, inr, ℕ, Bool, true, false, not
 use Rattle.std.specs.declared.cmp.Ordering.{Ordering}
 use Rattle.std.specs.declared.cmp.Ordering.TheVariants.{Less, Equal, Greater}
 use Rattle.bt_lines.specs.calls.Names.{fault_value}
-use Rattle.bt_lines.specs.model.Number.{max_number}
-use Rattle.bt_lines.specs.calls.Output.{Output}
-use Rattle.bt_lines.specs.calls.Putting.{FailsToAdd}
+use Rattle.bt_lines.specs.model.Lines.{max_number}
+use Rattle.bt_lines.specs.calls.Output.{Output, FailsToAdd}
 use Rattle.bt_lines.specs.declared.fault.Fault.{Fault}
-use Rattle.bt_bed.specs.model.feature.Feature.{Feature}
-use Rattle.bt_bed.specs.model.order.Locus.{is_below_at}
-use Rattle.bt_bed.specs.model.order.Order.{Order, IsTotal}
+use Rattle.bt_bed.specs.model.Feature.{Feature}
+use Rattle.bt_bed.specs.model.Sorted.{is_below_at}
+use Rattle.bt_bed.specs.model.Order.{Order, IsTotal}
 use Rattle.bt_bed.proofs.lemmas.parse.NameLemmas.{name_ne}
-use Rattle.bt_sweep.specs.calls.Advancing.{IsThis, Settles}
-use Rattle.bt_sweep.specs.model.Deciding.{decided, decides}
+use Rattle.bt_sweep.specs.calls.Sweeping.{IsThis, Settles, AreDecided, CannotBeHeld, ComesNext, LeavesLast, TakenEach, HoldsFor, is_held, Sweeping}
+use Rattle.bt_sweep.specs.model.Hits.{decided, decides}
 use Rattle.bt_sweep.specs.calls.Held.{CanHit}
-use Rattle.bt_sweep.specs.model.IntersectLines.{intersect}
-use Rattle.bt_sweep.specs.calls.Taking.{AreDecided, CannotBeHeld, ComesNext, LeavesLast, TakenEach}
-use Rattle.bt_sweep.specs.inside.Joining.{AreDecidedOn, BehindFor, GrownWith, StopsAt, EndUpTo, Joins, Keeps, LeavesOn, LieOn, Proceeded, WaitsOn, SkipsAll, WritesUpTo}
-use Rattle.bt_sweep.specs.inside.Relating.{Compares, EndsWhile, Relates}
-use Rattle.bt_sweep.specs.calls.Standing.{HoldsFor, is_held}
-use Rattle.bt_sweep.specs.calls.SweepState.{Sweeping}
+use Rattle.bt_sweep.specs.model.Lines.{intersect}
+use Rattle.bt_sweep.specs.inside.Joining.{AreDecidedOn, BehindFor, GrownWith, StopsAt, EndUpTo, Joins, Keeps, LeavesOn, LieOn, Proceeded, WaitsOn, SkipsAll, WritesUpTo, Compares, EndsWhile, Relates}
 use Rattle.bt_sweep.specs.declared.hits.hit_rule.HitRule.{HitRule}
 use Rattle.bt_sweep.specs.declared.sweep.phase.Phase.TheVariants.{First}
 use Rattle.bt_sweep.specs.declared.sweep.relation.Relation.TheVariants.{After}
 use Rattle.bt_sweep.specs.declared.output.shape.Shape.{Shape}
-use Rattle.bt_sweep.proofs.lemmas.definitions.DecidingLemmas.{decides_from}
+use Rattle.bt_sweep.proofs.lemmas.definitions.HitLemmas.{decides_from}
 use Rattle.bt_sweep.proofs.lemmas.sweep.HoldLemmas.{holds_b}
 use Rattle.bt_sweep.proofs.lemmas.sweep.JoinLemmas.{joins_first, leaves_none}
-use Rattle.bt_sweep.proofs.lemmas.sweep.KeepLemmas.{keeps_held}
-use Rattle.bt_sweep.proofs.lemmas.sweep.PendingLemmas.{with_none}
+use Rattle.bt_sweep.proofs.lemmas.sweep.KeepLemmas.{keeps_held, with_none}
 
 lie_last : (name : List ℕ) (before : List Feature) (b : Feature) → LieOn name (before ++ b ∷ []) → b.chrom ≡ name
 lie_last name [] b on = on.0

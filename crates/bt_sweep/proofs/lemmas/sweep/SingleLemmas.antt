@@ -2,35 +2,27 @@
 use Rattle.bt_lines.proofs.Std.{◌≡◌, ◌⊎◌, inl, inr, ℕ, Bool, true, false, cond, ◌&&◌, ◌||◌, List, [], ◌∷◌, ◌++◌, Option, Some, None, Ok, Err, Result, refl, sym, ap, ◌∙◌, subst, append-nil, length, option_to_list, bytes_eq, ltb, ◌<◌, ◌≤◌, arith, OnErr, IfSome, is_some, and_from, false≢true, lt-ltb}
 use Rattle.bt_lines.specs.model.Fault.{FaultValue}
 use Rattle.bt_lines.specs.calls.Names.{fault_value}
-use Rattle.bt_lines.specs.calls.Output.{Output}
-use Rattle.bt_lines.specs.calls.Putting.{FailsToAdd, Grown}
+use Rattle.bt_lines.specs.calls.Output.{Output, FailsToAdd, Grown}
 use Rattle.bt_lines.specs.declared.fault.Fault.{Fault}
-use Rattle.bt_bed.specs.model.feature.Feature.{Feature, intervals_of}
-use Rattle.bt_bed.specs.model.order.Locus.{ArePlaced}
-use Rattle.bt_bed.specs.model.order.Order.{Order, IsTotal}
-use Rattle.bt_bed.specs.calls.Single.{GivesSingle, HasNone, single_left, single_line}
+use Rattle.bt_bed.specs.model.Feature.{Feature, intervals_of}
+use Rattle.bt_bed.specs.model.Sorted.{ArePlaced}
+use Rattle.bt_bed.specs.model.Order.{Order, IsTotal}
+use Rattle.bt_bed.specs.calls.Bed.{GivesSingle, HasNone, single_left, single_line}
 use Rattle.bt_bed.specs.declared.read.cursor.Single.{Single}
 use Rattle.bt_bed.specs.declared.record.taken.Taken.TheVariants.{Yes, No}
 use Rattle.bt_bed.proofs.lemmas.parse.NameLemmas.{name_eq}
-use Rattle.bt_sweep.specs.calls.Advancing.{AdvancesOn, AdvancesSo, FailsAt, FailsToTake, HasWritten, IsThis, Settles, StopsFor, stage_after}
-use Rattle.bt_sweep.specs.calls.Taking.{AreDecided, ComesNext, TakenEach, CannotBeHeld}
-use Rattle.bt_sweep.specs.model.Deciding.{decides}
-use Rattle.bt_sweep.specs.model.IntersectLines.{intersect, lines_for}
-use Rattle.bt_sweep.specs.inside.Joining.{Breaks, JoinsSo, Keeps, StopsAt}
-use Rattle.bt_sweep.specs.inside.Relating.{EndsWhile}
-use Rattle.bt_sweep.specs.calls.Standing.{HoldsFor, IsInOrder, MovesTo, Stage, StandsAt, given, is_held, phase_of, with_a, with_b, with_b_ended, with_lines}
-use Rattle.bt_sweep.specs.calls.Steps.{EndsB, FailsToHold, FailsToKeepA, FailsToWriteA, GivesA, GivesB}
-use Rattle.bt_sweep.specs.calls.SweepState.{Sweeping, want_in}
+use Rattle.bt_sweep.specs.calls.Sweeping.{AdvancesOn, AdvancesSo, FailsAt, FailsToTake, HasWritten, IsThis, Settles, StopsFor, stage_after, AreDecided, ComesNext, TakenEach, CannotBeHeld, HoldsFor, IsInOrder, MovesTo, Stage, StandsAt, given, is_held, phase_of, with_a, with_b, with_b_ended, with_lines, EndsB, FailsToHold, FailsToKeepA, FailsToWriteA, GivesA, GivesB, Sweeping, want_in}
+use Rattle.bt_sweep.specs.model.Hits.{decides}
+use Rattle.bt_sweep.specs.model.Lines.{intersect, lines_for}
+use Rattle.bt_sweep.specs.inside.Joining.{Breaks, JoinsSo, Keeps, StopsAt, EndsWhile}
 use Rattle.bt_sweep.specs.declared.hits.hit_rule.HitRule.{HitRule}
 use Rattle.bt_sweep.specs.declared.sweep.phase.Phase.{Phase}
 use Rattle.bt_sweep.specs.declared.sweep.phase.Phase.TheVariants.{Both, First, Over}
 use Rattle.bt_sweep.specs.declared.output.shape.Shape.{Shape}
 use Rattle.bt_sweep.specs.declared.sweep.want.Want.{Want}
 use Rattle.bt_sweep.specs.declared.sweep.want.Want.TheVariants.{A as WantA, B as WantB, Nothing}
-use Rattle.bt_sweep.proofs.lemmas.definitions.HitLemmas.{before_lines}
-use Rattle.bt_sweep.proofs.lemmas.definitions.PlacedLemmas.{front_placed}
-use Rattle.bt_sweep.proofs.lemmas.sweep.KeepLemmas.{undecided_beside}
-use Rattle.bt_sweep.proofs.lemmas.sweep.PendingLemmas.{with_no_pending}
+use Rattle.bt_sweep.proofs.lemmas.definitions.HitLemmas.{before_lines, front_placed}
+use Rattle.bt_sweep.proofs.lemmas.sweep.KeepLemmas.{undecided_beside, with_no_pending}
 use Rattle.bt_sweep.proofs.lemmas.sweep.StandLemmas.{keeps_of, none_waits, not_over, single_none, want_a, want_b}
 
 -- ---- what such a cursor gives

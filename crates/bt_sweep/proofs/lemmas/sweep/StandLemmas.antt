@@ -1,23 +1,18 @@
 -- Lemmas on where a sweep is once records of both inputs were given and taken.
-use Rattle.bt_lines.proofs.Std.{◌≡◌, inl, inr, ℕ, Bool, true, false, List, [], ◌∷◌, ◌++◌, Option, Some, None, Ok, Err, Result, refl, sym, ap, ◌∙◌, subst, append-nil, append_assoc, option_to_list, length, ◌≤◌, arith, IfSome, is_some}
+use Rattle.bt_lines.proofs.Std.{◌≡◌, inl, inr, ℕ, Bool, true, false, List, [], ◌∷◌, ◌++◌, Option, Some, None, Ok, Err, Result, refl, sym, ap, ◌∙◌, subst, append-nil, append_assoc, option_to_list, length, ◌≤◌, arith, IfSome, is_some, ◌⊎◌, ⊤}
 use Rattle.bt_lines.specs.model.Fault.{FaultValue, no_memory}
 use Rattle.bt_lines.specs.calls.Names.{fault_value}
 use Rattle.bt_lines.specs.declared.fault.Fault.{Fault}
-use Rattle.bt_lines.specs.calls.Output.{Output}
-use Rattle.bt_lines.specs.calls.Putting.{FailsToAdd, Grown}
-use Rattle.bt_lines.proofs.lemmas.writer.PuttingLemmas.{grown_none}
-use Rattle.bt_bed.specs.model.feature.Feature.{Feature, intervals_of}
-use Rattle.bt_bed.specs.model.order.Locus.{ArePlaced}
-use Rattle.bt_bed.specs.model.order.Order.{Order, IsTotal}
-use Rattle.bt_bed.specs.calls.Single.{GivesSingle, single_left}
+use Rattle.bt_lines.specs.calls.Output.{Output, FailsToAdd, Grown}
+use Rattle.bt_lines.proofs.lemmas.Writer.{grown_none}
+use Rattle.bt_bed.specs.model.Feature.{Feature, intervals_of}
+use Rattle.bt_bed.specs.model.Sorted.{ArePlaced}
+use Rattle.bt_bed.specs.model.Order.{Order, IsTotal}
+use Rattle.bt_bed.specs.calls.Bed.{GivesSingle, single_left}
 use Rattle.bt_bed.specs.declared.read.cursor.Single.{Single}
-use Rattle.bt_sweep.specs.calls.Advancing.{AdvancesOn, AdvancesSo, AtEach, FailsAt, IsThis, Proceeded, PutsEach, Settles, StopsFor, stage_after}
-use Rattle.bt_sweep.specs.model.IntersectLines.{intersect}
-use Rattle.bt_sweep.specs.calls.Taking.{CannotBeHeld, LeavesLast, TakenEach}
-use Rattle.bt_sweep.specs.inside.Joining.{BehindFor, Breaks, JoinsSo, Keeps, Proceeded as Joined, TakesEachFor, WritesFor}
-use Rattle.bt_sweep.specs.calls.Standing.{HoldsFor, MovesTo, Stage, StandsAt, given, phase_of}
-use Rattle.bt_sweep.specs.inside.StateSteps.{KeepsOne, held_with}
-use Rattle.bt_sweep.specs.calls.SweepState.{Sweeping, is_over, want_in, want_of}
+use Rattle.bt_sweep.specs.calls.Sweeping.{AdvancesOn, AdvancesSo, AtEach, FailsAt, IsThis, Proceeded, PutsEach, Settles, StopsFor, stage_after, CannotBeHeld, LeavesLast, TakenEach, HoldsFor, MovesTo, Stage, StandsAt, given, phase_of, Sweeping, is_over, want_in, want_of, NoneGiven}
+use Rattle.bt_sweep.specs.model.Lines.{intersect}
+use Rattle.bt_sweep.specs.inside.Joining.{BehindFor, Breaks, JoinsSo, Keeps, Proceeded as Joined, TakesEachFor, WritesFor, KeepsOne, held_with}
 use Rattle.bt_sweep.specs.declared.hits.hit_rule.HitRule.{HitRule}
 use Rattle.bt_sweep.specs.declared.sweep.phase.Phase.{Phase}
 use Rattle.bt_sweep.specs.declared.sweep.phase.Phase.TheVariants.{Both, First, Over}
@@ -25,9 +20,8 @@ use Rattle.bt_sweep.specs.declared.output.shape.Shape.{Shape}
 use Rattle.bt_sweep.specs.declared.sweep.want.Want.{Want}
 use Rattle.bt_sweep.specs.declared.sweep.want.Want.TheVariants.{A as WantA, B as WantB, Nothing}
 use Rattle.bt_sweep.proofs.lemmas.sweep.JoinLemmas.{leaves_none}
-use Rattle.bt_sweep.proofs.lemmas.sweep.KeepLemmas.{keeps_first}
-use Rattle.bt_sweep.proofs.lemmas.sweep.PendingLemmas.{with_no_pending}
-use Rattle.bt_sweep.proofs.lemmas.definitions.PlacedLemmas.{front_placed}
+use Rattle.bt_sweep.proofs.lemmas.sweep.KeepLemmas.{keeps_first, with_no_pending}
+use Rattle.bt_sweep.proofs.lemmas.definitions.HitLemmas.{front_placed}
 
 pub keeps_of : (order : Order) (stage : Stage) (s : Sweeping) → StandsAt order stage s → Keeps order s.shape s.rule s.limit (given stage) stage.taken s
 keeps_of order stage s st = record { shape_is = refl; rule_is = refl; limit_is = refl; holds = st.holds; within = st.within }
@@ -283,3 +277,49 @@ some_more (x ∷ newly) w e = cc
 pub only_first : (first w : Feature) (newly : List Feature) → first ∷ [] ≡ newly ++ w ∷ [] → first ≡ w
 only_first first w [] e = (same_heads first w [] [] e).0
 only_first first w (x ∷ newly) e = absurd (some_more newly w (same_heads first x [] (newly ++ w ∷ []) e).1)
+
+-- Lemmas on what an advance is where one waits, and where none does.
+
+module _ {A V : Type 0} (a_gives : A → List Feature → A → Type 0) (a_ended : A → Type 0) (v_gives : V → List Feature → V → Type 0) (v_ended : V → Type 0) (v_line : V → ℕ) (order : Order) (old : Sweeping) (from_a : A) (from_v to_v : V) (out grown : Output) (a_none : a_gives from_a [] from_a) where
+  abbrev lifts_so : (waiting : Option Feature) → Proceeded NoneGiven (λ u. ⊤) v_gives v_ended v_line order old tt from_v out waiting tt to_v → Proceeded a_gives a_ended v_gives v_ended v_line order old from_a from_v out waiting from_a to_v
+  lifts_so waiting p = record {
+    firsts = p.firsts;
+    seconds = p.seconds;
+    newly = p.newly;
+    gives_firsts = subst (λ (fs : List Feature). a_gives from_a fs from_a) (sym p.gives_firsts) a_none;
+    gives_seconds = p.gives_seconds;
+    are = p.are;
+    next = p.next;
+    comes = p.comes;
+    settles = p.settles;
+    each = p.each;
+  }
+
+  -- it still waits, and there is none of the second input, or none waits
+  stops_so : (current : Option Feature) (over : Bool) → StopsFor NoneGiven (λ u. ⊤) v_gives v_ended v_line order old tt from_v out (want_of (is_some current) over) tt to_v
+      → StopsFor a_gives a_ended v_gives v_ended v_line order old from_a from_v out (want_of (is_some current) over) from_a to_v ⊎ (current ≡ None)
+  stops_so None over stops = inr refl
+  stops_so (Some a) over stops = inl stops
+
+  pub lifts_current : {T : Type 0} (result : Result T Fault) (new : Sweeping) → is_some old.current ≡ true → AdvancesOn NoneGiven (λ u. ⊤) v_gives v_ended v_line order old tt from_v out result new tt to_v grown
+      → AdvancesOn a_gives a_ended v_gives v_ended v_line order old from_a from_v out result new from_a to_v grown
+  lifts_current (Ok t) new some d = (
+    record { proceeds = lifts_so new.current d.0.proceeds; leaves = d.0.leaves; stands = d.0.stands; puts = d.0.puts },
+    elim d.1 [
+      | inl stops ↦ elim (stops_so new.current (is_over new.phase) stops) [
+        | inl ended ↦ inl ended
+        | inr none ↦ inr (some, none)
+      ]
+      | inr written ↦ inr written
+    ],
+  )
+  lifts_current (Err fault) new some b = record { proceeds = lifts_so b.waiting b.proceeds; waiting = b.waiting; cause = b.cause }
+
+-- while none waits, an end isn't asked for that could still come
+module _ {V : Type 0} (v_gives : V → List Feature → V → Type 0) (v_ended : V → Type 0) (v_line : V → ℕ) (order : Order) (old : Sweeping) (from_v : V) (out : Output) where
+  stops_over : (over : Bool) (to_v : V) → StopsFor NoneGiven (λ u. ⊤) v_gives v_ended v_line order old tt from_v out (want_of false over) tt to_v
+  stops_over true to_v = tt
+  stops_over false to_v = tt
+
+  pub stops_none : (new : Sweeping) (to_v : V) → new.current ≡ None → StopsFor NoneGiven (λ u. ⊤) v_gives v_ended v_line order old tt from_v out (want_in new) tt to_v
+  stops_none new to_v none = rw none (stops_over (is_over new.phase) to_v)

@@ -1,5 +1,5 @@
 use Rattle.bt_lines.proofs.Std.{◌≡◌, take}
-use Rattle.bt_sweep.specs.model.IntersectLines.{intersect}
+use Rattle.bt_sweep.specs.model.Lines.{intersect}
 use Rattle.bt_sweep.proofs.plain.plain_intersect.Given as goal
 
 abbrev pub invariant-loop-a : goal.invariant-loop-a

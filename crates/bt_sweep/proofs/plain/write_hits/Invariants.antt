@@ -1,7 +1,7 @@
 use Rattle.bt_lines.proofs.Std.{◌≡◌, ◌++◌, flat_map, take}
 use Rattle.bt_bed.specs.calls.Bed.{feature_lent}
 use Rattle.bt_sweep.specs.model.Hits.{hits_among}
-use Rattle.bt_sweep.specs.model.IntersectLines.{hit_line}
+use Rattle.bt_sweep.specs.model.Lines.{hit_line}
 use Rattle.bt_sweep.proofs.plain.write_hits.Given as goal
 
 abbrev pub invariant-loop-b : goal.invariant-loop-b

@@ -1,7 +1,7 @@
 use Rattle.bt_lines.proofs.Std.{◌≡◌, ◌++◌, flat_map, length}
 use Rattle.bt_bed.specs.calls.Bed.{feature_lent}
-use Rattle.bt_sweep.specs.model.IntersectLines.{piece_line}
-use Rattle.bt_sweep.specs.inside.PlainPieces.{pieces_in}
+use Rattle.bt_sweep.specs.model.Lines.{piece_line}
+use Rattle.bt_sweep.specs.inside.Pieces.{pieces_in}
 use Rattle.bt_sweep.proofs.plain.write_pieces.Given as goal
 
 -- what is written, with those pieces that aren't yet

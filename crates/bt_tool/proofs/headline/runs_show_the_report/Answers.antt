@@ -1,4 +1,4 @@
-use Rattle.bt_tool.proofs.lemmas.running.whole.HeadlineLemmas.{shows_report, usage_reported}
+use Rattle.bt_tool.proofs.lemmas.running.whole.RunningLemmas.{shows_report, usage_reported}
 use Rattle.bt_tool.proofs.headline.runs_show_the_report.Goals as goal
 
 pub returns-clause-usage : goal.returns-clause-usage

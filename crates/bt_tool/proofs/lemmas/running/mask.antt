@@ -2,7 +2,5 @@
 pub mod MaskAdvanced
 pub mod MaskBoth
 pub mod MaskFacts
-pub mod MaskGiven
 pub mod MaskRounds
-pub mod MaskSteps
 pub mod MaskedLemmas

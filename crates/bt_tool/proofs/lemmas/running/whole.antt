@@ -1,5 +1,3 @@
 -- Lemmas on running, whole.
-pub mod ChromosomeLemmas
-pub mod HeadlineLemmas
 pub mod OwnFailureLemmas
 pub mod RunningLemmas

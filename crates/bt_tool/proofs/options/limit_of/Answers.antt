@@ -1,6 +1,6 @@
 use Rattle.bt_lines.proofs.Std.{sym, subst, IsTrue}
-use Rattle.bt_tool.specs.calls.words.Limits.{is_limit}
-use Rattle.bt_tool.proofs.lemmas.options.GivenLemmas.{number-is_limit}
+use Rattle.bt_tool.specs.calls.Lent.{is_limit}
+use Rattle.bt_tool.proofs.lemmas.Options.{number-is_limit}
 use Rattle.bt_tool.proofs.options.limit_of.Goals as goal
 
 pub returns-in-Some-clause-limit : goal.returns-in-Some-clause-limit

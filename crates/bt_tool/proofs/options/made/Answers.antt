@@ -1,8 +1,8 @@
 use Rattle.bt_lines.proofs.Std.{◌≡◌, ◌∙◌, ap}
-use Rattle.bt_tool.specs.calls.words.Given.{items_in}
-use Rattle.bt_tool.specs.model.usage.Options.{Named, named_by}
-use Rattle.bt_tool.specs.model.usage.Table.{table_of, tool_of}
-use Rattle.bt_tool.proofs.lemmas.options.NamedLemmas.{genome-file, named, named-output, second-file, tool-by}
+use Rattle.bt_tool.specs.calls.Given.{items_in}
+use Rattle.bt_tool.specs.model.Options.{Named, named_by}
+use Rattle.bt_tool.specs.model.Table.{table_of, tool_of}
+use Rattle.bt_tool.proofs.lemmas.Options.{genome-file, named, named-output, second-file, tool-by}
 use Rattle.bt_tool.proofs.options.made.Goals as goal
 
 pub invariant_of-result : goal.invariant_of-result

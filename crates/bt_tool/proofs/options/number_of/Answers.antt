@@ -1,6 +1,6 @@
 use Rattle.bt_lines.proofs.Std.{sym, ap, ◌∙◌, ◌≤◌, subst, unwrap_or}
-use Rattle.bt_lines.specs.model.Number.{max_number}
-use Rattle.bt_tool.proofs.lemmas.options.GivenLemmas.{number-limit-or}
+use Rattle.bt_lines.specs.model.Lines.{max_number}
+use Rattle.bt_tool.proofs.lemmas.Options.{number-limit-or}
 use Rattle.bt_tool.proofs.options.number_of.Goals as goal
 
 pub returns-in-Some-clause-limit : goal.returns-in-Some-clause-limit

@@ -1,5 +1,5 @@
-use Rattle.bt_tool.specs.calls.words.Plan.{words_seen}
-use Rattle.bt_tool.proofs.lemmas.options.Asked.{reports_plan, reports_refusal}
+use Rattle.bt_tool.specs.calls.Plan.{words_seen}
+use Rattle.bt_tool.proofs.lemmas.Options.{reports_plan, reports_refusal}
 use Rattle.bt_tool.proofs.options.plan.Goals as goal
 
 pub returns-clause-reported : goal.returns-clause-reported

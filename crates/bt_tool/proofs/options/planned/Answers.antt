@@ -1,9 +1,8 @@
 use Rattle.bt_lines.proofs.Std.{Ok, Err, ◌∙◌, ap, sym, is_ok, err_from_is_err_and}
-use Rattle.bt_tool.specs.calls.words.Plan.{words_seen}
-use Rattle.bt_tool.specs.model.usage.Table.{table_of}
-use Rattle.bt_tool.proofs.lemmas.options.Asked.{options-no_command}
-use Rattle.bt_tool.proofs.lemmas.options.GivenLemmas.{fault-items, fault-tellable, fault-word, plan-items, same_table, together_at}
-use Rattle.bt_tool.specs.calls.words.Given.{items_in}
+use Rattle.bt_tool.specs.calls.Plan.{words_seen}
+use Rattle.bt_tool.specs.model.Table.{table_of}
+use Rattle.bt_tool.proofs.lemmas.Options.{options-no_command, fault-items, fault-tellable, fault-word, plan-items, same_table, together_at}
+use Rattle.bt_tool.specs.calls.Given.{items_in}
 use Rattle.bt_tool.proofs.options.planned.Goals as goal
 
 pub returns-in_err-tool-clause-refused : goal.returns-in_err-tool-clause-refused

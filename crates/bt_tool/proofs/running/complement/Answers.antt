@@ -1,7 +1,7 @@
 use Rattle.bt_runs.specs.model.Gaps.{AreTaken, complement as whole_gaps, settled_gaps}
-use Rattle.bt_runs.proofs.lemmas.complement.GapSteps.{settles_gaps}
-use Rattle.bt_runs.proofs.lemmas.definitions.SettlingLemmas.{begins, stays}
-use Rattle.bt_tool.proofs.lemmas.running.feed.WriteLemmas.{complement_begins, lines_begin, lines_stay}
+use Rattle.bt_runs.proofs.lemmas.complement.GapRuleLemmas.{settles_gaps}
+use Rattle.bt_runs.proofs.lemmas.definitions.Standing.{begins, stays}
+use Rattle.bt_tool.proofs.lemmas.running.feed.DrivingLemmas.{complement_begins, lines_begin, lines_stay}
 use Rattle.bt_tool.proofs.running.complement.Goals as goal
 
 pub drive-requires-clause-nothing : goal.drive-requires-clause-nothing

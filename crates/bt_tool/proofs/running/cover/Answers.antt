@@ -1,4 +1,4 @@
-use Rattle.bt_tool.proofs.lemmas.running.feed.WriteLemmas.{coverage_begins, depths_begin, depths_stay}
+use Rattle.bt_tool.proofs.lemmas.running.feed.DrivingLemmas.{coverage_begins, depths_begin, depths_stay}
 use Rattle.bt_tool.proofs.running.cover.Goals as goal
 
 pub drive-requires-clause-nothing : goal.drive-requires-clause-nothing

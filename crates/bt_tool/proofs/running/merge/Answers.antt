@@ -1,12 +1,11 @@
 use Rattle.bt_lines.proofs.Std.{option_map}
 use Rattle.bt_lines.specs.calls.Names.{fault_value}
-use Rattle.bt_bed.specs.model.order.ByteOrder.{byte_order, bytes_total}
-use Rattle.bt_bed.specs.model.feature.Feature.{intervals_of}
+use Rattle.bt_bed.specs.model.Order.{byte_order, bytes_total, rank_order}
+use Rattle.bt_bed.specs.model.Feature.{intervals_of}
 use Rattle.bt_bed.specs.calls.GenomeTable.{names_of}
-use Rattle.bt_bed.specs.model.order.Rank.{rank_order}
 use Rattle.bt_bed.specs.inside.RankTotal.{ranks_total}
-use Rattle.bt_bed.proofs.lemmas.order.ContiguousLemmas.{placed_contiguous}
-use Rattle.bt_tool.proofs.lemmas.running.feed.WriteLemmas.{merge_begins, merge_begins_whole, merge_stays, merge_runs}
+use Rattle.bt_bed.proofs.lemmas.order.OrderLemmas.{placed_contiguous}
+use Rattle.bt_tool.proofs.lemmas.running.feed.DrivingLemmas.{merge_begins, merge_begins_whole, merge_stays, merge_runs}
 use Rattle.bt_tool.proofs.running.merge.Goals as goal
 
 pub drive-requires-clause-nothing : goal.drive-requires-clause-nothing

@@ -1,9 +1,7 @@
 use Rattle.bt_lines.proofs.Std.{Some, ap, subst, sym}
 use Rattle.bt_lines.specs.calls.Names.{fault_value}
-use Rattle.bt_tool.specs.calls.run.Chromosomes.{KnowsChromosomes, LacksChromosomes}
-use Rattle.bt_tool.specs.calls.run.OwnReads.{IsOwnFailureIf, TellsOwnReads}
-use Rattle.bt_tool.proofs.lemmas.running.whole.ChromosomeLemmas.{knows_read, lacks_own, lacks_read}
-use Rattle.bt_tool.proofs.lemmas.running.whole.OwnFailureLemmas.{served_of}
+use Rattle.bt_tool.specs.calls.Run.{KnowsChromosomes, LacksChromosomes, IsOwnFailureIf, TellsOwnReads}
+use Rattle.bt_tool.proofs.lemmas.running.whole.OwnFailureLemmas.{knows_read, lacks_own, lacks_read, served_of}
 use Rattle.bt_tool.proofs.running.read_genome.Goals as goal
 
 pub returns-in-Ok-clause-read : goal.returns-in-Ok-clause-read

@@ -2,18 +2,15 @@
 use Rattle.bt_lines.proofs.Std.{ℕ, Bool, true, false, Ok, Err, take, Result, IfSome}
 use Rattle.bt_lines.specs.declared.device.Source.{Ghosts as Source}
 use Rattle.bt_lines.specs.declared.fault.Fault.{Fault}
-use Rattle.bt_bed.proofs.lemmas.definitions.GoodBedLemmas.{line_said}
-use Rattle.bt_bed.proofs.lemmas.definitions.GoodBlocksLemmas.{block_up_to}
+use Rattle.bt_bed.proofs.lemmas.Definitions.{line_said, block_up_to}
 use Rattle.bt_bed.proofs.lemmas.read.good.SaidLemmas.{said_features}
 use Rattle.bt_bed.proofs.lemmas.read.batch.RecordsLemmas.{ahead_is, none_ahead}
 use Rattle.bt_bed.specs.calls.Blocks.{FillsBlocks, IsNext, TakesBlocks, view_of}
-use Rattle.bt_bed.specs.calls.SortedReader.{buffered_in as records_in, view_in, view_with}
-use Rattle.bt_bed.specs.model.feature.Feature.{Feature}
-use Rattle.bt_bed.specs.model.input.Good.{Member}
-use Rattle.bt_bed.specs.model.input.GoodBed.{locus_at}
+use Rattle.bt_bed.specs.calls.Batch.{buffered_in as records_in, view_in, view_with}
+use Rattle.bt_bed.specs.model.Feature.{Feature, IsFeature}
+use Rattle.bt_bed.specs.model.Good.{Member, locus_at}
 use Rattle.bt_bed.specs.calls.Reading.{Fills, FillAnswers, GivesMember, Takes, TellsOwnFailure, ahead_in}
-use Rattle.bt_bed.specs.model.feature.Record.{IsFeature}
-use Rattle.bt_bed.specs.model.order.Sorting.{block_sorting}
+use Rattle.bt_bed.specs.model.Sorted.{block_sorting}
 use Rattle.bt_bed.specs.declared.read.blocks.Blocks.{Blocks}
 
 module _ {S : Type 0} (device : Source S) where

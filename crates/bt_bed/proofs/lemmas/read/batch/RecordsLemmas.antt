@@ -1,29 +1,33 @@
 -- Lemmas on the reader of records.
-use Rattle.bt_lines.proofs.Std.{arith, ◌≡◌, ℕ, suc, Bool, true, false, List, [], ◌∷◌, Option, Some, None, Ok, Err, take, refl, sym, ap, ◌∙◌, subst, IfSome, IsSome, IsTrue, Result, option_map, ForSome, false≢true}
+use Rattle.bt_lines.proofs.Std.{arith, ◌≡◌, ℕ, suc, Bool, true, false, List, [], ◌∷◌, Option, Some, None, Ok, Err, take, refl, sym, ap, ◌∙◌, subst, IfSome, IsSome, IsTrue, Result, option_map, ForSome, false≢true, ◌≤◌, cond, bytes_eq, ◌&&◌, is_some, nat_lt, unwrap_or, nat_tests, bytes_eq-Decides, ◌+◌, ◌<◌, ◌++◌, drop, length, length-append, IfNone, strip_last, take-append-add, take-append_seam, take-nil, ◌-◌, slice_range, take-add, take-append-drop, take-append-le, length-take-le}
 use Rattle.bt_lines.specs.declared.device.Source.{Ghosts as Source}
-use Rattle.bt_lines.specs.calls.Reader.{input_of, lines_given, lines_left, fault_kept as line_fault}
+use Rattle.bt_lines.specs.calls.Reader.{input_of, lines_given, lines_left, fault_kept as line_fault, lines_in, lines_after, line_of, rest_in}
 use Rattle.bt_lines.specs.declared.fault.Fault.{Fault}
 use Rattle.bt_lines.specs.declared.reader.line_reader.LineReader.{LineReader}
-use Rattle.bt_bed.proofs.lemmas.definitions.GoodBedLemmas.{line_said}
+use Rattle.bt_bed.proofs.lemmas.Definitions.{line_said}
 use Rattle.bt_bed.proofs.lemmas.read.good.ReadingLemmas.{good_at_first}
-use Rattle.bt_bed.proofs.lemmas.read.good.SaidLemmas.{said_features}
-use Rattle.bt_bed.proofs.lemmas.order.SortingLemmas.{sorted_up_to}
-use Rattle.bt_bed.specs.calls.SortedReader.{IsPlaced, buffered_in as records_in, view_in, view_with}
-use Rattle.bt_bed.specs.model.feature.Feature.{Feature}
-use Rattle.bt_bed.specs.model.input.Good.{Member, good}
-use Rattle.bt_bed.specs.model.input.GoodBed.{bed_format, line_says, locus_at}
-use Rattle.bt_bed.specs.inside.OrderedLookahead.{last_in}
-use Rattle.bt_bed.specs.model.order.Order.{Order, IsTotal}
-use Rattle.bt_bed.specs.model.order.Locus.{Locus, IsUpTo}
+use Rattle.bt_bed.proofs.lemmas.read.good.SaidLemmas.{said_features, wrong_is_of_line, wrong_is_of_record}
+use Rattle.bt_bed.proofs.lemmas.order.OrderLemmas.{sorted_up_to}
+use Rattle.bt_bed.specs.calls.Batch.{IsPlaced, buffered_in as records_in, view_in, view_with, StandsFirst, chrom_in, cursor_in, left, left_after, start_in}
+use Rattle.bt_bed.specs.model.Feature.{Feature, IsFeature, is_bed_kind, is_record_kind, record_of}
+use Rattle.bt_bed.specs.model.Good.{Member, good, bed_format, line_says, locus_at, said_after, in_order, wrong_lines_are_of_bed}
+use Rattle.bt_bed.specs.inside.OrderedLookahead.{last_in, start_after}
+use Rattle.bt_bed.specs.model.Order.{Order, IsTotal}
+use Rattle.bt_bed.specs.model.Sorted.{Locus, IsUpTo, Sorting, sorting_of, falls_in}
 use Rattle.bt_bed.specs.calls.Reading.{Fills, FillAnswers, GivesMember, MemberReader, Takes, TellsOwnFailure, ahead_in, first_from, good_coming}
-use Rattle.bt_bed.specs.model.feature.Record.{IsFeature}
 use Rattle.bt_bed.specs.calls.Records.{FillsRecords, IsNext, TakesRecords, order_in, view_of}
-use Rattle.bt_bed.specs.calls.Run.{is_some_left}
-use Rattle.bt_bed.specs.model.order.Sorting.{Sorting, sorting_of}
+use Rattle.bt_bed.specs.calls.Bed.{is_some_left, is_on, placed_on, record_on, run_of, run_then, IsOnLine, raw_in, record_in, text_in}
 use Rattle.bt_bed.specs.declared.read.sorted_reader.SortedReader.{SortedReader}
 use Rattle.bt_bed.specs.declared.read.sorted.ByOrder.{ByOrder}
 use Rattle.bt_bed.specs.declared.order.ChromOrder.{Ghosts}
 use Rattle.bt_bed.specs.declared.read.records.Records.{Records}
+use Rattle.bt_lines.specs.declared.fault.Kind.{Kind}
+use Rattle.bt_lines.specs.declared.fault.Kind.TheVariants.{UnknownChrom, OutOfOrder}
+use Rattle.bt_lines.specs.model.Lines.{TextLine}
+use Rattle.bt_lines.specs.calls.Columns.{Cut, shown_of}
+use Rattle.bt_bed.proofs.lemmas.read.ColumnLemmas.{name_within}
+use Rattle.bt_bed.specs.declared.read.batch.Batch.{Batch}
+use Rattle.bt_bed.specs.declared.record.raw_record.RawRecord.{RawRecord}
 
 for_if : {A : Type 0} (o : Option A) (P : A → Type 0) → ForSome o P → IfSome o P
 for_if o P h = grind arith
@@ -133,3 +137,188 @@ module _ {S O : Type 0} {g : Ghosts O} (device : Source S) (old new : Records S 
   pub takes_records : (count : ℕ) → Takes device (view_in (sorting_at g old.sorted) old.sorted) (take count (records_in old.sorted)) (view_in (sorting_at g old.sorted) new.sorted) → TakesRecords device old count new
   unfolding view_of view_with
   takes_records count takes = record { takes = rw (← same_view) at takes; order = same_order }
+
+-- Lemmas on what a line says after the last place, and on the chromosome of the record ahead.
+
+module _ (sorting : Sorting) (last : Option Locus) (text : List ℕ) where
+  pub says_nothing : Ok None ≡ record_of text → line_says sorting last text ≡ Ok None
+  unfolding line_says
+  says_nothing e = ap (said_after sorting last) (sym e)
+
+  pub says_wrong : (kind : Kind) → Err kind ≡ record_of text → line_says sorting last text ≡ Err kind
+  unfolding line_says
+  says_wrong kind e = ap (said_after sorting last) (sym e)
+
+  pub says_misplaced : (r : Feature) (kind : Kind) → Ok (Some r) ≡ record_of text → in_order sorting last r ≡ Err kind → line_says sorting last text ≡ Err kind
+  unfolding line_says
+  says_misplaced r kind e wrong = ap (said_after sorting last) (sym e) ∙ wrong
+
+  pub says_record : (r : Feature) → Ok (Some r) ≡ record_of text → in_order sorting last r ≡ Ok (Some r) → line_says sorting last text ≡ Ok (Some r)
+  unfolding line_says
+  says_record r e fits = ap (said_after sorting last) (sym e) ∙ fits
+
+said_is_of_line : (sorting : Sorting) (last : Option Locus) (said : Result (Option Feature) Kind) (kind : Kind) → said_after sorting last said ≡ Err kind → ((k : Kind) → said ≡ Err k → is_bed_kind k ≡ true) → is_bed_kind kind ≡ true
+said_is_of_line sorting last said kind e h = grind arith
+
+-- so is what a line says wrong
+pub says_of_line : (sorting : Sorting) (last : Option Locus) (text : List ℕ) (kind : Kind) → line_says sorting last text ≡ Err kind → is_bed_kind kind ≡ true
+unfolding line_says
+says_of_line sorting last text kind e = said_is_of_line sorting last (record_of text) kind e (λ k h. wrong_is_of_line text k (sym h))
+
+-- an unknown chromosome is one that the order doesn't know
+unknown_by : (b : Bool) (name : List ℕ) (known falls : Bool) (r : Feature) → b ≡ known → cond known (cond falls (Err OutOfOrder) (Ok (Some r))) (Err UnknownChrom) ≡ Err UnknownChrom → b ≡ false
+unknown_by b name known falls r is e = grind arith
+
+unknown_said : (order : Order) (last : Option Locus) (said : Result (Option Feature) Kind) → said_after (sorting_of order) last said ≡ Err UnknownChrom → ((k : Kind) → said ≡ Err k → is_record_kind k ≡ true) → (name : List ℕ) × (order.knows name ≡ false)
+unknown_said order last (Ok None) e h = cc
+unknown_said order last (Ok (Some r)) e h = (r.chrom, unknown_by (order.knows r.chrom) r.chrom (order.knows r.chrom) (falls_in (sorting_of order) last (locus_at r)) r refl e)
+unknown_said order last (Err k) e h =
+    let is : k ≡ UnknownChrom = cc in
+    absurd (false≢true (subst (λ (kind : Kind). is_record_kind kind ≡ true) is (h k refl)))
+
+pub wrong_of_bed : wrong_lines_are_of_bed
+unfolding line_says
+wrong_of_bed order last text kind e = grind (arith, says_of_line, unknown_said, wrong_is_of_record)
+
+-- ---- the chromosome of the record ahead
+
+-- a start on the chromosome of this name
+abbrev start_at : List ℕ → Option ℕ → Option Locus
+start_at name start = option_map (λ s. record { chrom = name; start = s }) start
+
+-- if it is that of the last record
+pub held_same : (name chrom : List ℕ) (last : Option ℕ) → is_some last && bytes_eq name chrom ≡ true → (name ≡ chrom) × (unwrap_or last 0 ≡ start_after (start_at name last) chrom)
+held_same name chrom last e = grind (arith, bytes_eq-Decides)
+
+-- if it is another
+pub held_other : (name chrom : List ℕ) (last : Option ℕ) → is_some last && bytes_eq name chrom ≡ false → 0 ≡ start_after (start_at name last) chrom
+held_other name chrom last e = grind arith
+
+-- a record that fits after the last one doesn't start below
+pub fits_above : (sorting : Sorting) (last : Option Locus) (r : Feature) → falls_in sorting last (locus_at r) ≡ false → start_after last r.chrom ≤ r.start
+fits_above sorting None r e = omega arith
+fits_above sorting (Some place) r e = by (bytes_eq place.chrom r.chrom) e
+  where
+    by : (b : Bool) → cond b (nat_lt r.start place.start) (sorting.comes_before r.chrom place.chrom) ≡ false → cond b place.start 0 ≤ r.start
+    by true e = grind (arith, nat_tests)
+    by false e = omega arith
+
+-- Lemmas on the records on one chromosome that lines begin with.
+
+-- a record on the chromosome that doesn't start below
+pub placed_there : (name : List ℕ) (start : ℕ) (text : List ℕ) (r : Feature) → record_of text ≡ Ok (Some r) → r.chrom ≡ name → start ≤ r.start → record_on name start text ≡ Some r
+unfolding record_on
+placed_there name start text r says on above = grind (arith, bytes_eq-Decides, nat_tests)
+
+-- one that starts below
+pub placed_below : (name : List ℕ) (start : ℕ) (text : List ℕ) (r : Feature) → record_of text ≡ Ok (Some r) → nat_lt r.start start ≡ true → record_on name start text ≡ None
+unfolding record_on
+placed_below name start text r says below = ap (placed_on name start) says ∙ by (bytes_eq r.chrom name)
+  where
+    by : (b : Bool) → cond b (cond (nat_lt r.start start) None (Some r)) None ≡ None
+    by true = rw below refl
+    by false = refl
+
+not_placed_by : (name : List ℕ) (start : ℕ) (said : Result (Option Feature) Kind) → is_on name said ≡ false → placed_on name start said ≡ None
+not_placed_by name start said e = grind arith
+
+-- no record on the chromosome
+pub placed_elsewhere : (name : List ℕ) (start : ℕ) (text : List ℕ) → is_on name (record_of text) ≡ false → record_on name start text ≡ None
+unfolding record_on
+placed_elsewhere name start text e = not_placed_by name start (record_of text) e
+
+-- the records that lines begin with, by their first one
+pub run_some : (name : List ℕ) (start : ℕ) (line : TextLine) (lines : List TextLine) (r : Feature) → record_on name start line.text ≡ Some r → run_of name start (line ∷ lines) ≡ r ∷ run_of name r.start lines
+unfolding run_of
+run_some name start line lines r e = ap (λ o. run_then o (λ next. run_of name next lines)) e
+
+pub run_none : (name : List ℕ) (start : ℕ) (line : TextLine) (lines : List TextLine) → record_on name start line.text ≡ None → run_of name start (line ∷ lines) ≡ []
+unfolding run_of
+run_none name start line lines e = ap (λ o. run_then o (λ next. run_of name next lines)) e
+
+pub run_nil : (name : List ℕ) (start : ℕ) (lines : List TextLine) → lines ≡ [] → run_of name start lines ≡ []
+unfolding run_of
+run_nil name start lines e = ap (run_of name start) e
+
+-- Lemmas on the next record of a batch.
+
+pub none_holds : {A : Type 0} (o : Option A) (P : Type 0) → P → IfNone o P
+none_holds o P p = grind arith
+
+-- the bytes of a line are those before its line feed, and that
+line_there : (line bytes : List ℕ) → take (length line) bytes ≡ line → Cut bytes (shown_of line) → take (length line + 1) bytes ≡ line ++ 10 ∷ []
+line_there line bytes front cut = grind (arith, take-append_seam, take-append-add)
+
+-- bytes that a record's line begins aren't empty
+pub some_bytes : (raw : RawRecord) (line bytes : List ℕ) → raw.line.now ≡ line → take (length line) bytes ≡ line → 0 < length bytes
+some_bytes raw line bytes is front = grind (arith, take-nil, name_within)
+
+-- none is left without a line, and else where the next one says so
+pub none_either : (batch : Batch) (bytes : List ℕ) → rest_in (cursor_in batch) ≡ bytes → (rest_in (cursor_in batch) ≡ [] → lines_in (cursor_in batch) ≡ [])
+    → (0 < length (rest_in (cursor_in batch)) → left batch ≡ []) → left batch ≡ []
+unfolding left cursor_in
+none_either batch [] e none some = run_nil batch.name.now batch.start _ (none e)
+none_either batch (byte ∷ bytes) e none some = some (omega (arith, ap length e))
+
+module _ (batch : Batch) (line : List ℕ) (front : take (length line) (rest_in (cursor_in batch)) ≡ line) (cut : Cut (rest_in (cursor_in batch)) (shown_of line))
+    (first : lines_in (cursor_in batch) ≡ line_of (cursor_in batch) (shown_of line) ∷ lines_after (cursor_in batch) (length line + 1)) where
+  -- the record of the next line, which doesn't start below, comes next
+  pub stands_first : (raw : RawRecord) → IsOnLine line (chrom_in batch) raw → start_in batch ≤ (record_in raw).start → StandsFirst batch raw
+  unfolding left left_after chrom_in start_in cursor_in text_in raw_in rest_in
+  stands_first raw is above = record {
+    left_is =
+        ap (λ l. left_of l) first
+        ∙ run_some (chrom_in batch) (start_in batch) (line_of (cursor_in batch) (shown_of line)) (lines_after (cursor_in batch) (length line + 1)) (record_in raw)
+        (placed_there (chrom_in batch) (start_in batch) (strip_last 13 line) (record_in raw) is.says is.chrom above)
+        ∙ ap (λ l. record_in raw ∷ behind (drop 1 l)) (sym first);
+    line = shown_of line;
+    cut = cut;
+    text_is = ap (strip_last 13) is.line_is;
+    size_is = sym (length-append line (10 ∷ [])) ∙ ap (λ l. length (l ++ 10 ∷ [])) (sym is.line_is);
+    bytes_are = line_there line (rest_in (cursor_in batch)) front cut ∙ ap (λ l. l ++ 10 ∷ []) (sym is.line_is);
+  }
+    where
+      left_of : List TextLine → List Feature
+      left_of l = run_of batch.name.now batch.start l
+
+      behind : List TextLine → List Feature
+      behind l = run_of batch.name.now (record_in raw).start l
+
+  -- none is left if it starts below
+  pub none_below : (raw : RawRecord) → IsOnLine line (chrom_in batch) raw → (record_in raw).start < start_in batch → left batch ≡ []
+  unfolding left chrom_in start_in cursor_in
+  none_below raw is below =
+      let test : nat_lt (record_in raw).start batch.start ≡ true = grind (arith, nat_tests) in
+      ap (run_of batch.name.now batch.start) first
+      ∙ run_none batch.name.now batch.start (line_of batch.lines (shown_of line)) (lines_after batch.lines (length line + 1))
+      (placed_below batch.name.now batch.start (strip_last 13 line) (record_in raw) is.says test)
+
+  -- or the line says none on the chromosome
+  pub none_elsewhere : is_on (chrom_in batch) (record_of (strip_last 13 line)) ≡ false → left batch ≡ []
+  unfolding left chrom_in start_in cursor_in
+  none_elsewhere other =
+      ap (run_of batch.name.now batch.start) first
+      ∙ run_none batch.name.now batch.start (line_of batch.lines (shown_of line)) (lines_after batch.lines (length line + 1))
+      (placed_elsewhere batch.name.now batch.start (strip_last 13 line) other)
+
+-- Lemmas on the bytes of lines that were consumed.
+
+-- one more line was consumed
+pub one_more : (at size : ℕ) (bytes line : List ℕ) → take size (drop at bytes) ≡ line → take (at + size) bytes ≡ take at bytes ++ line
+one_more at size bytes line is = take-add at size bytes ∙ ap (λ l. take at bytes ++ l) is
+
+-- a prefix of a prefix
+take_less : (n m : ℕ) (bytes : List ℕ) → n ≤ m → m ≤ length bytes → take n (take m bytes) ≡ take n bytes
+take_less n m bytes less within =
+    sym (take-append-le n (take m bytes) (drop m bytes) (omega (arith, less, length-take-le m bytes within)))
+    ∙ ap (take n) (take-append-drop m bytes)
+
+-- the bytes between two offsets
+pub bytes_between : (from to at : ℕ) (bytes : List ℕ) → from ≤ to → to ≤ at → at ≤ length bytes
+    → take to (take at bytes) ≡ take from (take at bytes) ++ slice_range bytes from to
+bytes_between from to at bytes ordered within inside =
+    let same : to ≡ from + (to - from) = omega (arith, ordered) in
+    take_less to at bytes within inside
+    ∙ ap (λ n. take n bytes) same
+    ∙ take-add from (to - from) bytes
+    ∙ ap (λ l. l ++ slice_range bytes from to) (sym (take_less from at bytes (omega (arith, ordered, within)) inside))

@@ -1,5 +1,5 @@
 use Rattle.bt_lines.proofs.Std.{◌≤◌, arith, drop, length, length-drop}
-use Rattle.bt_bed.proofs.lemmas.parse.ColumnsLemmas.{few_begin}
+use Rattle.bt_bed.proofs.lemmas.parse.NameLemmas.{few_begin}
 use Rattle.bt_bed.proofs.parse.columns.number_at.Goals as goal
 
 pub returns-in-None-clause-begins : goal.returns-in-None-clause-begins

@@ -1,6 +1,6 @@
 use Rattle.bt_lines.proofs.Std.{◌≡◌, ◌+◌, ◌≤◌, ◌<◌, ◌∙◌, ap, arith, drop, get_or, length, length-drop, sym, true, get_or-drop, is_ascii_digit}
-use Rattle.bt_bed.proofs.lemmas.parse.ColumnsLemmas.{eight_begin, eight_small, one_more}
-use Rattle.bt_bed.proofs.lemmas.read.FirstColumnLemmas.{digit_bound}
+use Rattle.bt_bed.proofs.lemmas.parse.NameLemmas.{eight_begin, eight_small, one_more}
+use Rattle.bt_bed.proofs.lemmas.read.ColumnLemmas.{digit_bound}
 use Rattle.bt_bed.proofs.parse.columns.number_of_eight.Goals as goal
 
 pub returns-then-not-is_ascii_digit-clause-begins : goal.returns-then-not-is_ascii_digit-clause-begins

@@ -1,7 +1,7 @@
 use Rattle.bt_lines.proofs.Std.{◌∙◌, ◌∷◌, ◌++◌, [], ap, sym}
-use Rattle.bt_lines.proofs.lemmas.reader.lines.LinesLemmas.{strip_last-other}
-use Rattle.bt_bed.specs.calls.RawRecord.{raw_in, text_in}
-use Rattle.bt_bed.proofs.lemmas.records.RawRecordLemmas.{text_written}
+use Rattle.bt_lines.proofs.lemmas.reader.lines.TextLemmas.{strip_last-other}
+use Rattle.bt_bed.specs.calls.Bed.{raw_in, text_in}
+use Rattle.bt_bed.proofs.lemmas.read.ColumnLemmas.{text_written}
 use Rattle.bt_bed.proofs.record.RawRecordRecord.is_canonical_line.Goals as goal
 
 pub returns-then-not-ends_with_return : goal.returns-then-not-ends_with_return

@@ -1,4 +1,4 @@
-use Rattle.bt_bed.proofs.lemmas.records.RawRecordLemmas.{raw_is_feature}
+use Rattle.bt_bed.proofs.lemmas.read.ColumnLemmas.{raw_is_feature}
 use Rattle.bt_bed.proofs.record.RawRecordRecord.stop.Goals as goal
 
 pub returns-clause-said : goal.returns-clause-said

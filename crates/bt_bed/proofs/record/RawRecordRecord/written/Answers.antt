@@ -1,5 +1,5 @@
 use Rattle.bt_lines.proofs.Std.{◌∙◌}
-use Rattle.bt_bed.proofs.lemmas.records.RawRecordLemmas.{text_written}
+use Rattle.bt_bed.proofs.lemmas.read.ColumnLemmas.{text_written}
 use Rattle.bt_bed.proofs.record.RawRecordRecord.written.Goals as goal
 
 pub returns-then-is_canonical : goal.returns-then-is_canonical

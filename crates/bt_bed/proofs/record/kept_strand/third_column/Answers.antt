@@ -1,5 +1,5 @@
 use Rattle.bt_lines.proofs.Std.{arith, refl, take}
-use Rattle.bt_lines.proofs.lemmas.reader.lines.PiecesLemmas.{before_tab, without_tab}
+use Rattle.bt_lines.proofs.lemmas.reader.lines.TextLemmas.{before_tab, without_tab}
 use Rattle.bt_bed.proofs.record.kept_strand.third_column.Goals as goal
 
 pub returns-then-first-text : goal.returns-then-first-text

@@ -1,4 +1,4 @@
-use Rattle.bt_laws.proofs.lemmas.counts.DepthSum.{sum_depths}
+use Rattle.bt_laws.proofs.lemmas.Counts.{sum_depths}
 use Rattle.bt_laws.proofs.counts.depth_sum.depths_add_up_to_bases.Goals as goal
 
 pub returns : goal.returns

@@ -1,4 +1,4 @@
-use Rattle.bt_laws.proofs.lemmas.counts.PartBases.{parts_of_first}
+use Rattle.bt_laws.proofs.lemmas.Counts.{parts_of_first}
 use Rattle.bt_laws.proofs.counts.part_bases.intersect_and_subtract_part.Goals as goal
 
 pub returns : goal.returns

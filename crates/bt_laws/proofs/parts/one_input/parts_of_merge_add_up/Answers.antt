@@ -1,5 +1,5 @@
-use Rattle.bt_laws.proofs.lemmas.parts.report.PartShards.{merge_genome_parts}
-use Rattle.bt_laws.proofs.lemmas.parts.text.PartTexts.{merge_parts}
+use Rattle.bt_laws.proofs.lemmas.parts.PartShards.{merge_genome_parts}
+use Rattle.bt_laws.proofs.lemmas.parts.PartTexts.{merge_parts}
 use Rattle.bt_laws.proofs.parts.one_input.parts_of_merge_add_up.Goals as goal
 
 pub returns-clause-order : goal.returns-clause-order

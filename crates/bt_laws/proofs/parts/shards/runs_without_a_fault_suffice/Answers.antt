@@ -1,4 +1,4 @@
-use Rattle.bt_laws.proofs.lemmas.parts.order.PartOwnGenomes.{complement_suffice, genomecov_suffice, intersect_suffice, merge_suffice, subtract_suffice}
+use Rattle.bt_laws.proofs.lemmas.parts.PartOwnGenomes.{complement_suffice, genomecov_suffice, intersect_suffice, merge_suffice, subtract_suffice}
 use Rattle.bt_laws.proofs.parts.shards.runs_without_a_fault_suffice.Goals as goal
 
 pub returns-clause-merge : goal.returns-clause-merge

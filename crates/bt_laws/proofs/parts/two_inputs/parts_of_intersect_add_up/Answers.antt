@@ -1,5 +1,5 @@
-use Rattle.bt_laws.proofs.lemmas.parts.order.PartOwnGenomes.{intersect_genome_parts}
-use Rattle.bt_laws.proofs.lemmas.parts.text.PartTexts.{intersect_parts}
+use Rattle.bt_laws.proofs.lemmas.parts.PartOwnGenomes.{intersect_genome_parts}
+use Rattle.bt_laws.proofs.lemmas.parts.PartTexts.{intersect_parts}
 use Rattle.bt_laws.proofs.parts.two_inputs.parts_of_intersect_add_up.Goals as goal
 
 pub returns-clause-order : goal.returns-clause-order

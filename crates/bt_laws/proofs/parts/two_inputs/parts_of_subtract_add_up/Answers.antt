@@ -1,5 +1,5 @@
-use Rattle.bt_laws.proofs.lemmas.parts.order.PartOwnGenomes.{subtract_genome_parts}
-use Rattle.bt_laws.proofs.lemmas.parts.text.PartTexts.{subtract_parts}
+use Rattle.bt_laws.proofs.lemmas.parts.PartOwnGenomes.{subtract_genome_parts}
+use Rattle.bt_laws.proofs.lemmas.parts.PartTexts.{subtract_parts}
 use Rattle.bt_laws.proofs.parts.two_inputs.parts_of_subtract_add_up.Goals as goal
 
 pub returns-clause-order : goal.returns-clause-order

@@ -1,6 +1,6 @@
 use Rattle.bt_lines.proofs.Std.{recursion_from_All}
-use Rattle.bt_laws.specs.records.Inputs.{StaysDecided}
-use Rattle.bt_laws.proofs.lemmas.records.MeetingLemmas.{written_begins}
+use Rattle.bt_laws.specs.Records.{StaysDecided}
+use Rattle.bt_laws.proofs.lemmas.single.Records.{written_begins}
 use Rattle.bt_laws.proofs.records.features.early_lines_begin_the_whole.Goals as goal
 
 pub returns : goal.returns

@@ -1,4 +1,4 @@
-use Rattle.bt_laws.proofs.lemmas.records.GoodLemmas.{first_have_first, good_on_lines}
+use Rattle.bt_laws.proofs.lemmas.single.Records.{first_have_first, good_on_lines}
 use Rattle.bt_laws.proofs.records.features.first_lines_have_the_first_records.Goals as goal
 
 pub returns-clause-lines : goal.returns-clause-lines

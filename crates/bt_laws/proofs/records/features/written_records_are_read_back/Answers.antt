@@ -1,4 +1,4 @@
-use Rattle.bt_laws.proofs.lemmas.records.RoundTrip.{rewritten_feature, said_feature, written_feature}
+use Rattle.bt_laws.proofs.lemmas.single.Records.{rewritten_feature, said_feature, written_feature}
 use Rattle.bt_laws.proofs.records.features.written_records_are_read_back.Goals as goal
 
 pub returns-clause-read_back : goal.returns-clause-read_back

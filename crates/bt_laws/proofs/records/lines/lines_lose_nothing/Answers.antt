@@ -1,4 +1,4 @@
-use Rattle.bt_lines.proofs.lemmas.reader.lines.LinesLemmas.{lines_lose_nothing}
+use Rattle.bt_lines.proofs.lemmas.reader.lines.TextLemmas.{lines_lose_nothing}
 use Rattle.bt_laws.proofs.records.lines.lines_lose_nothing.Goals as goal
 
 pub returns : goal.returns

@@ -1,4 +1,4 @@
-use Rattle.bt_laws.proofs.lemmas.records.GenomeLemmas.{distinct_genome, first_make_entries}
+use Rattle.bt_laws.proofs.lemmas.single.Records.{distinct_genome, first_make_entries}
 use Rattle.bt_laws.proofs.records.orders.chromosomes_come_once.Goals as goal
 
 pub returns-clause-distinct : goal.returns-clause-distinct

@@ -1,7 +1,5 @@
-use Rattle.bt_bed.proofs.lemmas.definitions.GoodBedLemmas.{placed_good, non_empty_good}
-use Rattle.bt_laws.proofs.lemmas.records.GoodLemmas.{good_blocks_non_empty, good_blocks_on_lines}
-use Rattle.bt_bed.proofs.lemmas.definitions.GoodBlocksLemmas.{good_in_blocks}
-use Rattle.bt_laws.proofs.lemmas.records.KnownChromLemmas.{each_known}
+use Rattle.bt_bed.proofs.lemmas.Definitions.{placed_good, non_empty_good, good_in_blocks}
+use Rattle.bt_laws.proofs.lemmas.single.Records.{good_blocks_non_empty, good_blocks_on_lines, each_known}
 use Rattle.bt_laws.proofs.records.orders.good_records_are_in_order.Goals as goal
 
 pub returns-clause-placed : goal.returns-clause-placed

@@ -1,6 +1,6 @@
 use Rattle.bt_bed.specs.inside.RankTotal.{ranks_total}
-use Rattle.bt_bed.specs.model.order.ByteOrder.{bytes_total}
-use Rattle.bt_laws.proofs.lemmas.records.ByteOrderLemmas.{difference_decides, know_each, prefix_first}
+use Rattle.bt_bed.specs.model.Order.{bytes_total}
+use Rattle.bt_laws.proofs.lemmas.single.Records.{difference_decides, know_each, prefix_first}
 use Rattle.bt_laws.proofs.records.orders.names_are_ordered.Goals as goal
 
 pub returns-clause-total : goal.returns-clause-total

@@ -1,6 +1,5 @@
-use Rattle.bt_laws.proofs.lemmas.records.ContiguousLemmas.{grows_contiguous}
-use Rattle.bt_bed.proofs.lemmas.order.ContiguousLemmas.{contiguous_prefix, grows_placed, placed_contiguous, placed_prefix}
-use Rattle.bt_bed.proofs.lemmas.order.SortingLemmas.{places_sorted}
+use Rattle.bt_laws.proofs.lemmas.single.Records.{grows_contiguous}
+use Rattle.bt_bed.proofs.lemmas.order.OrderLemmas.{contiguous_prefix, grows_placed, placed_contiguous, placed_prefix, places_sorted}
 use Rattle.bt_laws.proofs.records.orders.records_are_ordered.Goals as goal
 
 pub returns-clause-placed : goal.returns-clause-placed

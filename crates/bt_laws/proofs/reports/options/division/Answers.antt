@@ -1,5 +1,5 @@
-use Rattle.bt_tool.proofs.lemmas.options.Asked.{options-tellable}
-use Rattle.bt_laws.proofs.lemmas.reports.Division.{answer-unique, division-unique, fault-of_left, last_item-counts}
+use Rattle.bt_tool.proofs.lemmas.Options.{options-tellable}
+use Rattle.bt_laws.proofs.lemmas.single.Reports.{answer-unique, division-unique, fault-of_left, last_item-counts}
 use Rattle.bt_laws.proofs.reports.options.division.Goals as goal
 
 pub returns-clause-unique : goal.returns-clause-unique

@@ -1,4 +1,4 @@
-use Rattle.bt_laws.proofs.lemmas.runs.LevelLemmas.{are_levels, only_levels, levels_of_stretches}
+use Rattle.bt_laws.proofs.lemmas.single.LevelLemmas.{are_levels, only_levels, levels_of_stretches}
 use Rattle.bt_laws.proofs.runs.depths.levels_are_determined.Goals as goal
 
 pub returns : goal.returns

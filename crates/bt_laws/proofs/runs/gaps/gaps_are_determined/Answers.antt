@@ -1,4 +1,4 @@
-use Rattle.bt_runs.proofs.lemmas.complement.OneGap.{are_gaps, only_gaps}
+use Rattle.bt_runs.proofs.lemmas.complement.Walks.{are_gaps, only_gaps}
 use Rattle.bt_laws.proofs.runs.gaps.gaps_are_determined.Goals as goal
 
 pub returns : goal.returns

@@ -1,7 +1,7 @@
 use Rattle.bt_runs.specs.model.Gaps.{AreTaken, complement, settled_gaps}
-use Rattle.bt_laws.proofs.lemmas.runs.KeptLemmas.{one_kept}
-use Rattle.bt_runs.proofs.lemmas.complement.GapSteps.{settles_gaps}
-use Rattle.bt_runs.proofs.lemmas.definitions.SettlingLemmas.{begins, stays}
+use Rattle.bt_laws.proofs.lemmas.single.LevelLemmas.{one_kept}
+use Rattle.bt_runs.proofs.lemmas.complement.GapRuleLemmas.{settles_gaps}
+use Rattle.bt_runs.proofs.lemmas.definitions.Standing.{begins, stays}
 use Rattle.bt_laws.proofs.runs.gaps.settled_gaps_are_a_prefix.Goals as goal
 
 pub returns : goal.returns

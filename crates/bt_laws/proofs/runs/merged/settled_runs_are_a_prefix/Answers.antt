@@ -1,5 +1,5 @@
 use Rattle.bt_runs.proofs.lemmas.merge.SettledRuns.{runs_stay, runs_begin}
-use Rattle.bt_laws.proofs.lemmas.runs.KeptLemmas.{one_is_kept}
+use Rattle.bt_laws.proofs.lemmas.single.LevelLemmas.{one_is_kept}
 use Rattle.bt_laws.proofs.runs.merged.settled_runs_are_a_prefix.Goals as goal
 
 pub returns : goal.returns

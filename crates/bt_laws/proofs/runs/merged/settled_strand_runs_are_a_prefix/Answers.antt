@@ -1,5 +1,5 @@
 use Rattle.bt_runs.proofs.lemmas.merge.StrandSettling.{begin, stay}
-use Rattle.bt_laws.proofs.lemmas.runs.KeptLemmas.{divide, in_order}
+use Rattle.bt_laws.proofs.lemmas.single.LevelLemmas.{divide, in_order}
 use Rattle.bt_laws.proofs.runs.merged.settled_strand_runs_are_a_prefix.Goals as goal
 
 pub returns : goal.returns

@@ -1,4 +1,4 @@
-use Rattle.bt_laws.proofs.lemmas.runs.StrandOrder.{in_order, in_turn, start_with_records}
+use Rattle.bt_laws.proofs.lemmas.single.StrandOrder.{in_order, in_turn, start_with_records}
 use Rattle.bt_laws.proofs.runs.strands.strand_runs_follow_the_order.Goals as goal
 
 pub returns : goal.returns

@@ -1,4 +1,4 @@
-use Rattle.bt_laws.proofs.lemmas.same.MaskBeds.{by_merged}
+use Rattle.bt_laws.proofs.lemmas.same.MaskTwice.{by_merged}
 use Rattle.bt_laws.proofs.same.mask_laws.a_bed_may_be_merged.Goals as goal
 
 pub returns : goal.returns

@@ -1,4 +1,4 @@
-use Rattle.bt_laws.proofs.lemmas.same.MaskBeds.{by_both, by_positions}
+use Rattle.bt_laws.proofs.lemmas.same.MaskTwice.{by_both, by_positions}
 use Rattle.bt_laws.proofs.same.mask_laws.masked_positions_are_all.Goals as goal
 
 pub returns-clause-alike : goal.returns-clause-alike

@@ -1,5 +1,4 @@
-use Rattle.bt_laws.proofs.lemmas.same.MaskBeds.{goes_on}
-use Rattle.bt_laws.proofs.lemmas.same.MaskTwice.{layout_kept}
+use Rattle.bt_laws.proofs.lemmas.same.MaskTwice.{goes_on, layout_kept}
 use Rattle.bt_laws.proofs.same.mask_laws.masked_sequences_keep_their_lines.Goals as goal
 
 pub returns-clause-layout : goal.returns-clause-layout

@@ -1,4 +1,4 @@
-use Rattle.bt_laws.proofs.lemmas.same.AlikeRecords.{complement_repeated, merge_repeated}
+use Rattle.bt_laws.proofs.lemmas.same.SameRuns.{complement_repeated, merge_repeated}
 use Rattle.bt_laws.proofs.same.same_runs.a_record_may_come_twice.Goals as goal
 
 pub returns-clause-merge : goal.returns-clause-merge

@@ -1,4 +1,4 @@
-use Rattle.bt_laws.proofs.lemmas.same.AlikeRecords.{complement_exchanged, genomecov_exchanged, merge_exchanged}
+use Rattle.bt_laws.proofs.lemmas.same.SameRuns.{complement_exchanged, genomecov_exchanged, merge_exchanged}
 use Rattle.bt_laws.proofs.same.same_runs.equal_starts_may_be_exchanged.Goals as goal
 
 pub returns-clause-merge : goal.returns-clause-merge

@@ -1,4 +1,4 @@
-use Rattle.bt_laws.proofs.lemmas.sequences.DivisionLemmas.{divided, division_found, one_division}
+use Rattle.bt_laws.proofs.lemmas.single.Sequences.{divided, division_found, one_division}
 use Rattle.bt_laws.proofs.sequences.alignments.cigars_are_divided_in_one_way.Goals as goal
 
 pub returns-clause-one : goal.returns-clause-one

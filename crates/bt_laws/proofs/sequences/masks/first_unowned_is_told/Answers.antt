@@ -1,4 +1,4 @@
-use Rattle.bt_seq.proofs.lemmas.definitions.MaskMetLemmas.{first_is_told, lack_none}
+use Rattle.bt_seq.proofs.lemmas.definitions.MaskPrefixLemmas.{first_is_told, lack_none}
 use Rattle.bt_laws.proofs.sequences.masks.first_unowned_is_told.Goals as goal
 
 pub returns-clause-none : goal.returns-clause-none

@@ -1,4 +1,4 @@
-use Rattle.bt_laws.proofs.lemmas.sequences.MaskMetLemmas.{faultless_masked, masked_front}
+use Rattle.bt_laws.proofs.lemmas.single.Sequences.{faultless_masked, masked_front}
 use Rattle.bt_laws.proofs.sequences.masks.masked_prefixes_begin.Goals as goal
 
 pub returns-clause-prefix : goal.returns-clause-prefix

@@ -1,4 +1,4 @@
-use Rattle.bt_laws.proofs.lemmas.sequences.AgreeLemmas.{owners_stay_so, owners_were_so}
+use Rattle.bt_laws.proofs.lemmas.single.Sequences.{owners_stay_so, owners_were_so}
 use Rattle.bt_laws.proofs.sequences.masks.owners_agree_among_more_names.Goals as goal
 
 pub returns-clause-stay : goal.returns-clause-stay

@@ -1,4 +1,4 @@
-use Rattle.bt_laws.proofs.lemmas.sequences.OwnerLemmas.{first_owners, lacking_names}
+use Rattle.bt_laws.proofs.lemmas.single.Sequences.{first_owners, lacking_names}
 use Rattle.bt_laws.proofs.sequences.masks.owners_are_the_first_of_their_name.Goals as goal
 
 pub returns-clause-first : goal.returns-clause-first

@@ -1,13 +1,39 @@
--- Lemmas on what a reader has buffered.
-use Rattle.bt_lines.proofs.Std.{◌≡◌, ℕ, zero, suc, ◌+◌, ◌-◌, ◌<◌, ◌≤◌, ◌⊎◌, inl, inr, Bool, true, false, cond, List, [], ◌∷◌, ◌++◌, length, take, drop, get_or, set, slice_range, Some, None, refl, sym, ap, ◌∙◌, subst, append_assoc, length-append, eqb, arith, paste, take-add, eqb-true, false_from_ne_true, false≢true, take-append-drop, take-append-le, take-take, drop-append-le, take_at, drop-take, drop-drop, take_more, take_more_set, length-take, length-take-le, length-drop, get_or-drop, get_or_default, All-append, All-nil}
-use Rattle.memchr.specs.Find.{IsLastByte, is_byte}
-use Rattle.bt_lines.proofs.lemmas.reader.block.BlockLemmas.{consumed}
-use Rattle.bt_lines.proofs.lemmas.reader.lines.TextLemmas.{line_feeds-append, line_feeds-none}
-use Rattle.bt_lines.specs.calls.LentLine.{NoLineFeed}
-use Rattle.bt_lines.specs.model.Lines.{line_feeds}
-use Rattle.bt_lines.specs.calls.FirstByte.{IsBefore}
+-- Lemmas on the bytes of a block.
+use Rattle.bt_lines.proofs.Std.{◌≡◌, ℕ, ◌+◌, ◌-◌, ◌≤◌, List, length, take, drop, slice_range, sym, ap, ◌∙◌, arith, length-take, drop-take, drop-drop, zero, suc, ◌<◌, ◌⊎◌, inl, inr, Bool, true, false, cond, [], ◌∷◌, ◌++◌, get_or, set, Some, None, refl, subst, append_assoc, length-append, eqb, paste, take-add, eqb-true, false_from_ne_true, false≢true, take-append-drop, take-append-le, take-take, drop-append-le, take_at, take_more, take_more_set, length-take-le, length-drop, get_or-drop, get_or_default, All-append, All-nil, nat_eq, ◌^◌, Option, append-nil, add-zero, Consumes-nil, Consumes-trans, nat_tests, Consumes, Result, Ok, Err}
+use Rattle.bt_lines.specs.inside.ReadBuffer.{unread, MovesPiece}
+use Rattle.bt_lines.specs.declared.reader.read_buffer.ReadBuffer.{ReadBuffer}
 use Rattle.bt_lines.specs.calls.Output.{block_size}
+use Rattle.memchr.specs.Find.{IsLastByte, is_byte}
+use Rattle.bt_lines.proofs.lemmas.reader.lines.TextLemmas.{line_feeds-append, line_feeds-none}
+use Rattle.bt_lines.specs.calls.Columns.{NoLineFeed, IsBefore}
+use Rattle.bt_lines.specs.model.Lines.{line_feeds}
 use Rattle.bt_lines.specs.inside.Shape.{AreComplete, IsSearched, is_fed}
+use Rattle.bt_lines.specs.declared.device.Source.{Ghosts as Source}
+use Rattle.bt_lines.proofs.lemmas.reader.block.ReadsLemmas.{counts_then, fails_then}
+use Rattle.bt_lines.specs.calls.Device.{ReadsCounted}
+use Rattle.bt_lines.specs.inside.Spill.{AreCounted, AsksMore, Buffers, StopsWith, closed, uncounted, uncounted_more}
+use Rattle.bt_lines.specs.declared.reader.spill.More.TheVariants.{Bytes, NoBytes, BadRead, PastBound}
+use Rattle.bt_lines.specs.declared.reader.spill.Stop.{Stop}
+use Rattle.bt_lines.specs.declared.reader.spill.Stop.TheVariants.{LineFeed, End, Failed, TooLong, NoMemory}
+use Rattle.bt_lines.specs.declared.reader.spill.More.{More}
+
+-- what is unread after some bytes were consumed
+pub consumed : (xs : List ℕ) (start end count : ℕ) → start + count ≤ end → slice_range xs (start + count) end ≡ drop count (slice_range xs start end)
+consumed xs start end count inside =
+    let parts : end - start ≡ count + (end - (start + count)) = omega arith in
+    sym (ap (λ j. drop count (take j (drop start xs))) parts ∙ drop-take count _ (drop start xs)
+    ∙ ap (take (end - (start + count))) (drop-drop count start xs))
+
+-- a part of a list is at most as long as its ends are apart
+pub length-range-le : (xs : List ℕ) (start end : ℕ) → length (slice_range xs start end) ≤ end - start
+length-range-le xs start end = omega (arith, length-take (end - start) (drop start xs))
+
+-- the unread bytes fit into a block
+pub unread_fits : (buffer : ReadBuffer) → length (unread buffer) ≤ block_size
+unfolding unread
+unread_fits buffer = omega (arith, length-range-le buffer.bytes buffer.whole buffer.end, buffer.within)
+
+-- Lemmas on what a reader has buffered.
 
 -- ---- parts of a list
 
@@ -34,13 +60,13 @@ range_drop xs a b h =
     let all : a + (b - a) ≡ b = omega arith in
     sym (drop-take a (b - a) xs) ∙ ap (λ (n : ℕ). drop a (take n xs)) all
 
-shorter : (l : List ℕ) (b c : ℕ) → b ≤ c → take b l ≡ take b (take c l)
-shorter l b c h = sym (take-take b c l h)
+shorter_front : (l : List ℕ) (b c : ℕ) → b ≤ c → take b l ≡ take b (take c l)
+shorter_front l b c h = sym (take-take b c l h)
 
 -- a part whose bytes are the same in both
 pub range_same : (xs ys : List ℕ) (a b c : ℕ) → take c ys ≡ take c xs → a ≤ b → b ≤ c → slice_range ys a b ≡ slice_range xs a b
 range_same xs ys a b c e h k =
-    let front : (l : List ℕ) → take b l ≡ take b (take c l) = λ l. shorter l b c k in
+    let front : (l : List ℕ) → take b l ≡ take b (take c l) = λ l. shorter_front l b c k in
     range_drop ys a b h ∙ ap (drop a) (front ys ∙ ap (take b) e ∙ sym (front xs)) ∙ sym (range_drop xs a b h)
 
 -- ---- bytes that end with a line feed
@@ -131,7 +157,7 @@ last_feed bytes from end last h k is =
     let byte : get_or hay last 0 ≡ 10 = eqb-true (get_or hay last 0) 10 is.1 in
     let count : from + last + 1 - from ≡ last + 1 = omega arith in
     let front : slice_range bytes from (from + last + 1) ≡ take last hay ++ 10 ∷ [] =
-    ap (λ (n : ℕ). take n (drop from bytes)) count ∙ shorter (drop from bytes) (last + 1) (end - from) (omega (arith, inside))
+    ap (λ (n : ℕ). take n (drop from bytes)) count ∙ shorter_front (drop from bytes) (last + 1) (end - from) (omega (arith, inside))
     ∙ take_more hay last 0 below ∙ ap (λ (b : ℕ). take last hay ++ b ∷ []) byte in
     record {
       inside = inside;
@@ -147,7 +173,7 @@ pub line_text : (is_spilled : Bool) (spilled bytes : List ℕ) (start whole text
 line_text true spilled bytes start whole text line h k = let e : start + text - start ≡ text = omega arith in ap (λ (n : ℕ). take n (drop start spilled)) e
 line_text false spilled bytes start whole text line h k =
     let e : start + text - start ≡ text = omega arith in
-    ap (λ (n : ℕ). take n (drop start bytes)) e ∙ shorter (drop start bytes) text (whole - start) (omega (arith, h, k, length-take (whole - start) (drop start bytes)))
+    ap (λ (n : ℕ). take n (drop start bytes)) e ∙ shorter_front (drop start bytes) text (whole - start) (omega (arith, h, k, length-take (whole - start) (drop start bytes)))
 
 pub text_fits : (is_spilled : Bool) (spilled bytes : List ℕ) (start whole end text line : ℕ) → start ≤ cond is_spilled (length spilled) whole → whole ≤ end → end ≤ block_size
     → text ≤ line → line ≤ length (cond is_spilled (drop start spilled) (slice_range bytes start whole)) → start + text ≤ cond is_spilled (length spilled) block_size
@@ -202,7 +228,7 @@ front_moved bytes from end n h k b =
     let size : length (take (end - from) (drop from bytes)) ≡ end - from = length-take-le (end - from) (drop from bytes) (omega (arith, length-drop from bytes, h, k)) in
     ap (λ (m : ℕ). take m (paste bytes 0 (drop from bytes) (end - from))) none
     ∙ take-append-le n (take (end - from) (drop from bytes)) (drop (0 + (end - from)) bytes) (omega (arith, size, b))
-    ∙ sym (shorter (drop from bytes) n (end - from) b)
+    ∙ sym (shorter_front (drop from bytes) n (end - from) b)
     ∙ ap (λ (m : ℕ). take m (drop from bytes)) (sym parts)
 
 -- ---- a line feed that was added
@@ -253,7 +279,280 @@ piece bytes whole end size is below =
     let whole_is : all ≡ (take size all ++ 10 ∷ []) ++ drop (size + 1) all = is.cut below ∙ sym (append_assoc (take size all) (10 ∷ []) (drop (size + 1) all)) in
     let count : length (take size all ++ 10 ∷ []) ≡ size + 1 = omega (arith, below, length-append (take size all) (10 ∷ []), length-take-le size all is.within) in
     record {
-      moved = ap (λ (n : ℕ). take n (drop whole bytes)) parts ∙ shorter (drop whole bytes) (size + 1) (end - whole) (omega (arith, fits))
+      moved = ap (λ (n : ℕ). take n (drop whole bytes)) parts ∙ shorter_front (drop whole bytes) (size + 1) (end - whole) (omega (arith, fits))
           ∙ ap (take (size + 1)) whole_is ∙ take_at (take size all ++ 10 ∷ []) (drop (size + 1) all) (size + 1) count;
       cut = is.cut below ∙ ap (λ (l : List ℕ). take size all ++ 10 ∷ l) (sym (consumed bytes whole end (size + 1) fits) ∙ ap (λ (n : ℕ). slice_range bytes n end) (sum whole size));
     }
+
+-- Lemmas on reads that buffer lines.
+
+pub closed_some : (xs : List ℕ) → 0 < length xs → closed xs ≡ xs ++ 10 ∷ []
+closed_some [] h = absurd (omega arith)
+closed_some (x ∷ xs) h = refl
+
+pub not_full : (n : ℕ) → false ≡ nat_eq n 8192 → n ≤ 8192 → n < 8192
+not_full n e h = grind (arith, nat_tests)
+
+pub some_full : (n : ℕ) → true ≡ nat_eq n 8192 → 0 < n
+some_full n e = grind (arith, nat_tests)
+
+pub then_counted : {S : Type 0} (IsRead : S → Option ℕ → S → Type 0) (a b c : S) (m n k : ℕ) (stop : Stop) → ReadsCounted IsRead a m b n → AreCounted IsRead stop b n c k → AreCounted IsRead stop a m c k
+then_counted IsRead a b c m n k LineFeed one two = counts_then IsRead a b c m n k one two
+then_counted IsRead a b c m n k End one two = counts_then IsRead a b c m n k one two
+then_counted IsRead a b c m n k Failed one two = fails_then IsRead a b c m n one two
+then_counted IsRead a b c m n k TooLong one two = counts_then IsRead a b c m n (suc k) one two
+then_counted IsRead a b c m n k NoMemory one two = counts_then IsRead a b c m n k one two
+
+pub zero_of : (n : ℕ) → (0 < n → ⊥) → n ≡ 0
+zero_of zero h = refl
+zero_of (suc n) h = absurd (h (omega arith))
+
+-- if bytes have no line feed, neither has a prefix of them
+none_in_front : (xs ys all : List ℕ) → all ≡ xs ++ ys → NoLineFeed all → 0 < line_feeds xs → ⊥
+none_in_front xs ys all e clear h = omega (arith, h, line_feeds-none all clear, ap line_feeds e, line_feeds-append xs ys)
+
+-- a line with its line feed
+pub fed_line : (text line : List ℕ) → text ≡ line ++ 10 ∷ [] → is_fed text ≡ true
+fed_line text line e = rw e (fed_push line)
+
+pub one_line : (text line : List ℕ) → NoLineFeed line → text ≡ line ++ 10 ∷ [] → line_feeds text ≤ 1
+one_line text line clear e =
+    let one : line_feeds (10 ∷ []) ≡ 1 = refl in
+    omega (arith, ap line_feeds e, line_feeds-append line (10 ∷ []), line_feeds-none line clear, one)
+
+-- reads before them that served change nothing of where they stopped
+then_stopped : (stop : Stop) (left : Option (List ℕ)) (first mid last told : Bool) (all same complete rest : List ℕ) (taken : ℕ) → all ≡ same → mid ≡ first
+    → StopsWith stop left mid last told same complete rest taken → StopsWith stop left first last told all complete rest taken
+then_stopped stop left first mid last told all same complete rest taken e f h = rw (e, ← f) h
+
+module _ {S : Type 0} (device : Source S) where
+  -- the bytes read so far follow those that were held
+  pub record ReadSoFar (old : S) (old_unread : List ℕ) (old_taken : ℕ) (new : S) (unread : List ℕ) (taken : ℕ) : Type 0 where
+    pub bytes : List ℕ
+    pub consumed : Consumes (device.left old) (device.left new) bytes
+    pub counted : taken ≡ old_taken + length bytes
+    pub within : taken < 2 ^ 63
+    pub joined : unread ≡ old_unread ++ bytes
+    pub served : device.has_failed new ≡ device.has_failed old
+    pub ready : 0 < line_feeds old_unread → new ≡ old
+
+  pub none_yet : (old : S) (unread : List ℕ) (taken : ℕ) → taken < 2 ^ 63 → ReadSoFar old unread taken old unread taken
+  none_yet old unread taken within = record {
+    bytes = [];
+    consumed = Consumes-nil (device.left old);
+    counted = sym (add-zero taken);
+    within = within;
+    joined = sym (append-nil unread);
+    served = refl;
+    ready = λ h. refl;
+  }
+
+  module _ (old : S) (old_unread : List ℕ) (old_taken : ℕ) (mid : S) (unread : List ℕ) (taken : ℕ) (so_far : ReadSoFar old old_unread old_taken mid unread taken) where
+    -- none does
+    module _ (same : List ℕ) (is : same ≡ unread) (clear : NoLineFeed same) where
+      never : 0 < line_feeds old_unread → ⊥
+      never h = none_in_front old_unread so_far.bytes same (is ∙ so_far.joined) clear h
+
+      both : (new : S) (next : List ℕ) → Consumes (device.left mid) (device.left new) next → Consumes (device.left old) (device.left new) (so_far.bytes ++ next)
+      both new next c = Consumes-trans (device.left old) (device.left mid) (device.left new) so_far.bytes next so_far.consumed c
+
+      all : (next : List ℕ) → old_unread ++ (so_far.bytes ++ next) ≡ same ++ next
+      all next = sym (append_assoc old_unread so_far.bytes next) ∙ ap (λ l. l ++ next) (sym so_far.joined ∙ sym is)
+
+      counts : (next : List ℕ) → length (so_far.bytes ++ next) ≡ length so_far.bytes + length next
+      counts next = length-append so_far.bytes next
+
+      pub more_read : (new : S) (next_unread : List ℕ) (next_taken : ℕ) → AsksMore device mid same taken Bytes new next_unread next_taken
+          → ReadSoFar old old_unread old_taken new next_unread next_taken
+      more_read new next_unread next_taken asks = record {
+        bytes = so_far.bytes ++ asks.bytes;
+        consumed = both new asks.bytes asks.consumed;
+        counted = omega (arith, so_far.counted, asks.counted, counts asks.bytes);
+        within = asks.within;
+        joined = asks.came.1 ∙ sym (all asks.bytes);
+        served = asks.came.2 ∙ so_far.served;
+        ready = λ h. absurd (never h);
+      }
+
+      pub shorter : (new : S) (next_unread : List ℕ) (next_taken : ℕ) → AsksMore device mid same taken Bytes new next_unread next_taken → 2 ^ 63 - next_taken < 2 ^ 63 - taken
+      shorter new next_unread next_taken asks = omega (arith, asks.counted, asks.came.0, asks.within, so_far.within)
+
+      -- where the reading stopped, after more reads
+      stops_by : (stop : Stop) (new : S) (next complete rest : List ℕ) (next_taken : ℕ) → Consumes (device.left mid) (device.left new) next → next_taken + uncounted stop ≡ taken + length next → next_taken < 2 ^ 63
+          → StopsWith stop (device.left new) (device.has_failed old) (device.has_failed new) (device.end_told new) (old_unread ++ (so_far.bytes ++ next)) complete rest next_taken
+          → Buffers device old old_unread old_taken stop new complete rest next_taken
+      stops_by stop new next complete rest next_taken consumed counted within stopped = record {
+        bytes = so_far.bytes ++ next;
+        consumed = both new next consumed;
+        counted = omega (arith, so_far.counted, counted, counts next);
+        within = within;
+        ready = λ h. absurd (never h);
+        first = inl (zero_of _ never);
+        stopped = stopped;
+      }
+
+      pub text_ended : (new : S) (next_unread : List ℕ) (next_taken : ℕ) (complete rest : List ℕ) → AsksMore device mid same taken NoBytes new next_unread next_taken
+          → complete ≡ closed next_unread → rest ≡ [] → Buffers device old old_unread old_taken End new complete rest next_taken
+      text_ended new next_unread next_taken complete rest asks lines none =
+          let whole : old_unread ++ (so_far.bytes ++ asks.bytes) ≡ same = all asks.bytes ∙ ap (λ l. same ++ l) asks.came.0 ∙ append-nil same in
+          stops_by End new asks.bytes complete rest next_taken asks.consumed asks.counted asks.within
+          (rw whole clear, rw whole (lines ∙ ap closed asks.came.1), none, asks.came.2 ∙ so_far.served, asks.came.3, asks.came.4)
+
+      pub source_failed : (new : S) (next_unread : List ℕ) (next_taken : ℕ) (complete : List ℕ) → AsksMore device mid same taken BadRead new next_unread next_taken
+          → complete ≡ [] → Buffers device old old_unread old_taken Failed new complete next_unread next_taken
+      source_failed new next_unread next_taken complete asks none =
+          let whole : old_unread ++ (so_far.bytes ++ asks.bytes) ≡ same = all asks.bytes ∙ ap (λ l. same ++ l) asks.came.0 ∙ append-nil same in
+          stops_by Failed new asks.bytes complete next_unread next_taken asks.consumed asks.counted asks.within
+          (rw whole clear, none, rw asks.came.1 clear, asks.came.2, ([], whole ∙ sym asks.came.1))
+
+      pub text_too_long : (new : S) (next_unread : List ℕ) (next_taken : ℕ) (complete : List ℕ) → AsksMore device mid same taken PastBound new next_unread next_taken
+          → complete ≡ [] → Buffers device old old_unread old_taken TooLong new complete next_unread next_taken
+      text_too_long new next_unread next_taken complete asks none =
+          stops_by TooLong new asks.bytes complete next_unread next_taken asks.consumed asks.counted asks.within
+          ((same, asks.bytes, clear, all asks.bytes, asks.came.0), none, asks.came.1, asks.came.2)
+
+      -- the line is longer than a block
+      pub then_long : (stop : Stop) (new : S) (complete rest : List ℕ) (next_taken : ℕ) → Buffers device mid same taken stop new complete rest next_taken
+          → Buffers device old old_unread old_taken stop new complete rest next_taken
+      then_long stop new complete rest next_taken long =
+          stops_by stop new long.bytes complete rest next_taken long.consumed long.counted long.within
+          (then_stopped stop (device.left new) (device.has_failed old) (device.has_failed mid) (device.has_failed new) (device.end_told new) (old_unread ++ (so_far.bytes ++ long.bytes)) (same ++ long.bytes) complete rest next_taken (all long.bytes) so_far.served long.stopped)
+
+-- Lemmas on a line that is longer than a block.
+
+module _ {S : Type 0} (device : Source S) where
+  -- the bytes so far are in the line and in the block, and none in the line is a line feed
+  pub record SoFar (old : S) (old_block : List ℕ) (old_taken : ℕ) (new : S) (block text : List ℕ) (taken : ℕ) : Type 0 where
+    pub bytes : List ℕ
+    pub consumed : Consumes (device.left old) (device.left new) bytes
+    pub counted : taken ≡ old_taken + length bytes
+    pub within : taken < 2 ^ 63
+    pub joined : old_block ++ bytes ≡ text ++ block
+    pub clear : NoLineFeed text
+    pub served : device.has_failed new ≡ device.has_failed old
+
+  -- before the first read
+  pub at_first : (old : S) (block text : List ℕ) (taken : ℕ) → text ≡ [] → taken < 2 ^ 63 → SoFar old block taken old block text taken
+  at_first old block text taken empty within = record {
+    bytes = [];
+    consumed = Consumes-nil (device.left old);
+    counted = sym (add-zero taken);
+    within = within;
+    joined = rw empty (append-nil block);
+    clear = rw empty (All-nil (λ b. eqb b 10 ≡ false));
+    served = refl;
+  }
+
+  module _ (old : S) (old_block : List ℕ) (old_taken : ℕ) (some : 0 < length old_block) (clear : NoLineFeed old_block) where
+    -- the line is buffered, or a fault ends it
+    long_by : (stop : Stop) (new : S) (bytes complete unread : List ℕ) (taken : ℕ) → Consumes (device.left old) (device.left new) bytes → taken + uncounted stop ≡ old_taken + length bytes → taken < 2 ^ 63
+        → StopsWith stop (device.left new) (device.has_failed old) (device.has_failed new) (device.end_told new) (old_block ++ bytes) complete unread taken
+        → Buffers device old old_block old_taken stop new complete unread taken
+    long_by stop new bytes complete unread taken consumed counted within stopped = record {
+      bytes = bytes;
+      consumed = consumed;
+      counted = counted;
+      within = within;
+      ready = λ h. absurd (omega (arith, h, line_feeds-none old_block clear));
+      first = inl (line_feeds-none old_block clear);
+      stopped = stopped;
+    }
+
+    module _ (mid : S) (block text : List ℕ) (taken : ℕ) (so_far : SoFar old old_block old_taken mid block text taken)
+        {E : Type 0} (moved : Result Bool E) (new_block new_text : List ℕ) (moves : MovesPiece block text moved new_block new_text) where
+      -- the line feed was found
+      pub at_feed : (complete rest : List ℕ) → moved ≡ Ok true → complete ≡ new_text → rest ≡ new_block → Buffers device old old_block old_taken LineFeed mid complete rest taken
+      at_feed complete rest is lines same =
+          let moves = rw is at moves in
+          long_by LineFeed mid so_far.bytes complete rest taken so_far.consumed (add-zero taken ∙ so_far.counted) so_far.within (
+            rw (lines, same) (so_far.joined ∙ ap (λ l. text ++ l) (moves.2 ∙ sym (append_assoc moves.0 (10 ∷ []) new_block)) ∙ sym (append_assoc text (moves.0 ++ 10 ∷ []) new_block) ∙ ap (λ l. l ++ new_block) (sym moves.3)),
+            rw (lines, moves.3) (omega (arith, length-append text (moves.0 ++ 10 ∷ []), length-append moves.0 (10 ∷ []))),
+            so_far.served,
+          )
+
+      -- what is found is one line
+      pub feed_fed : moved ≡ Ok true → is_fed new_text ≡ true
+      feed_fed is =
+          let moves = rw is at moves in
+          fed_line new_text (text ++ moves.0) (moves.3 ∙ sym (append_assoc text moves.0 (10 ∷ [])))
+
+      pub feed_one : moved ≡ Ok true → line_feeds new_text ≤ 1
+      feed_one is =
+          let moves = rw is at moves in
+          one_line new_text (text ++ moves.0) (All-append (λ b. eqb b 10 ≡ false) text moves.0 so_far.clear moves.1) (moves.3 ∙ sym (append_assoc text moves.0 (10 ∷ [])))
+
+      -- the line couldn't grow
+      pub at_refusal : (e : E) (complete : List ℕ) → moved ≡ Err e → complete ≡ [] → Buffers device old old_block old_taken NoMemory mid complete new_block taken
+      at_refusal e complete is none =
+          let moves = rw is at moves in
+          long_by NoMemory mid so_far.bytes complete new_block taken so_far.consumed (add-zero taken ∙ so_far.counted) so_far.within
+          ((new_text, rw moves.1 so_far.clear, rw (moves.0, moves.1) so_far.joined), none, so_far.served)
+
+      module _ (is : moved ≡ Ok false) where
+        whole : old_block ++ so_far.bytes ≡ new_text
+        whole = let moves = rw is at moves in so_far.joined ∙ sym moves.2
+
+        empty : new_block ≡ []
+        empty = let moves = rw is at moves in moves.1
+
+        more : (next : List ℕ) → old_block ++ (so_far.bytes ++ next) ≡ new_text ++ next
+        more next = sym (append_assoc old_block so_far.bytes next) ∙ ap (λ l. l ++ next) whole
+
+        pub no_feed : NoLineFeed new_text
+        no_feed = let moves = rw is at moves in rw moves.2 (All-append (λ b. eqb b 10 ≡ false) text block so_far.clear moves.0)
+
+        all_read : (next : List ℕ) → next ≡ [] → old_block ++ (so_far.bytes ++ next) ≡ new_text
+        all_read next none = more next ∙ ap (λ l. new_text ++ l) none ∙ append-nil new_text
+
+        some_text : 0 < length new_text
+        some_text = omega (arith, some, ap length whole, length-append old_block so_far.bytes)
+
+        module _ (new : S) (next_block : List ℕ) (next_taken : ℕ) where
+          module _ (next : List ℕ) (consumed : Consumes (device.left mid) (device.left new) next) where
+            both_consumed : Consumes (device.left old) (device.left new) (so_far.bytes ++ next)
+            both_consumed = Consumes-trans (device.left old) (device.left mid) (device.left new) so_far.bytes next so_far.consumed consumed
+
+            count : length (so_far.bytes ++ next) ≡ length so_far.bytes + length next
+            count = length-append so_far.bytes next
+
+          pub more_came : (same : List ℕ) → same ≡ new_text → AsksMore device mid new_block taken Bytes new next_block next_taken → SoFar old old_block old_taken new next_block same next_taken
+          more_came same e asks = rw e (record {
+            bytes = so_far.bytes ++ asks.bytes;
+            consumed = both_consumed asks.bytes asks.consumed;
+            counted = omega (arith, so_far.counted, asks.counted, count asks.bytes asks.consumed);
+            within = asks.within;
+            joined = more asks.bytes ∙ ap (λ l. new_text ++ l) (sym (asks.came.1 ∙ ap (λ l. l ++ asks.bytes) empty));
+            clear = no_feed;
+            served = asks.came.2 ∙ so_far.served;
+          })
+
+          -- bytes came, if any, and where the reading stopped
+          more_by : (stop : Stop) (more : More) (complete rest : List ℕ) (asks : AsksMore device mid new_block taken more new next_block next_taken) → uncounted stop ≡ uncounted_more more
+              → StopsWith stop (device.left new) (device.has_failed old) (device.has_failed new) (device.end_told new) (old_block ++ (so_far.bytes ++ asks.bytes)) complete rest next_taken
+              → Buffers device old old_block old_taken stop new complete rest next_taken
+          more_by stop more complete rest asks same stopped =
+              long_by stop new (so_far.bytes ++ asks.bytes) complete rest next_taken (both_consumed asks.bytes asks.consumed) (omega (arith, same, so_far.counted, asks.counted, count asks.bytes asks.consumed)) asks.within stopped
+
+          -- the text has ended
+          pub none_came : (complete rest : List ℕ) → AsksMore device mid new_block taken NoBytes new next_block next_taken → complete ≡ new_text ++ 10 ∷ [] → rest ≡ next_block
+              → Buffers device old old_block old_taken End new complete rest next_taken
+          none_came complete rest asks lines same =
+              let is = all_read asks.bytes asks.came.0 in
+              more_by End NoBytes complete rest asks refl (rw is no_feed, rw is (lines ∙ sym (closed_some new_text some_text)), same ∙ asks.came.1 ∙ empty, asks.came.2 ∙ so_far.served, asks.came.3, asks.came.4)
+
+          -- it has, and the line couldn't take its line feed
+          pub none_refused : (complete rest : List ℕ) → AsksMore device mid new_block taken NoBytes new next_block next_taken → complete ≡ [] → rest ≡ next_block
+              → Buffers device old old_block old_taken NoMemory new complete rest next_taken
+          none_refused complete rest asks none same =
+              more_by NoMemory NoBytes complete rest asks refl
+              ((new_text, no_feed, more asks.bytes ∙ ap (λ l. new_text ++ l) (asks.came.0 ∙ sym (same ∙ asks.came.1 ∙ empty))), none, asks.came.2 ∙ so_far.served)
+
+          pub read_failed : (complete : List ℕ) → AsksMore device mid new_block taken BadRead new next_block next_taken → complete ≡ [] → Buffers device old old_block old_taken Failed new complete next_block next_taken
+          read_failed complete asks none =
+              let gone : next_block ≡ [] = asks.came.1 ∙ empty in
+              more_by Failed BadRead complete next_block asks refl
+              (rw (all_read asks.bytes asks.came.0) no_feed, none, rw gone (All-nil (λ b. eqb b 10 ≡ false)), asks.came.2, (new_text, more asks.bytes ∙ ap (λ l. new_text ++ l) (asks.came.0 ∙ sym gone)))
+
+          pub past_bound : (complete : List ℕ) → AsksMore device mid new_block taken PastBound new next_block next_taken → complete ≡ [] → Buffers device old old_block old_taken TooLong new complete next_block next_taken
+          past_bound complete asks none =
+              more_by TooLong PastBound complete next_block asks refl ((new_text, asks.bytes, no_feed, more asks.bytes, asks.came.0), none, asks.came.1, asks.came.2)

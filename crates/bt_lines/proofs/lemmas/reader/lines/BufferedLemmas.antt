@@ -1,17 +1,190 @@
--- Lemmas on the lines that are left of those buffered.
-use Rattle.bt_lines.proofs.Std.{◌≡◌, ℕ, suc, ◌+◌, ◌-◌, ◌^◌, ◌<◌, ◌≤◌, Bool, true, false, List, [], ◌∷◌, ◌++◌, length, take, drop, Option, refl, sym, ap, ◌∙◌, length-append, append_assoc, append-nil, subst, inl, inr, arith, nat_lt, ends_with_byte, strip_last, cases_lt, nat_tests, take-append_seam, drop-drop, length-drop, take-append-drop, take_all}
-use Rattle.bt_lines.proofs.lemmas.reader.block.BufferLemmas.{fed_clear, fed_drop}
-use Rattle.bt_lines.proofs.lemmas.reader.lines.CutLemmas.{alone, some_size}
-use Rattle.bt_lines.proofs.lemmas.reader.lines.LinesLemmas.{lines_from-last, lines_from-nil, strip_last-other, strip_last-push}
-use Rattle.bt_lines.proofs.lemmas.reader.lines.StepLemmas.{last_line-some}
-use Rattle.bt_lines.proofs.lemmas.reader.lines.TextLemmas.{whole_lines_from-fed, whole_lines_from-last}
-use Rattle.bt_lines.specs.calls.Buffered.{BeginsLines, buffered_lines, line_of, lines_after, lines_in, rest_in}
-use Rattle.bt_lines.specs.calls.FirstByte.{IsBefore}
-use Rattle.bt_lines.specs.calls.FirstLine.{Cut, IsFirst, Shown, ending_at, shown_of}
-use Rattle.bt_lines.specs.calls.LentLine.{NoLineFeed}
-use Rattle.bt_lines.specs.model.Lines.{TextLine, fed_line, lines_from, whole_lines_from}
-use Rattle.bt_lines.specs.inside.Shape.{IsLast, is_fed}
+-- Lemmas on a line that is taken of those that are buffered.
+use Rattle.bt_lines.proofs.Std.{◌≡◌, ◌⊎◌, inl, inr, ℕ, suc, ◌+◌, ◌-◌, ◌<◌, ◌≤◌, Bool, true, false, cond, nat_eq, List, [], ◌∷◌, ◌++◌, length, take, drop, slice_range, Option, Some, refl, sym, ap, ◌∙◌, subst, append_assoc, append-nil, length-append, add-zero, arith, IsSome, nat_lt, ends_with_byte, strip_last, take-append_seam, false≢true, nat_tests, length-take, Consumes-nil, Consumes, ◌^◌, cases_lt, drop-drop, length-drop, take-append-drop, take_all, zero, take-add}
+use Rattle.bt_lines.specs.declared.device.Source.{Ghosts as Source}
+use Rattle.bt_lines.proofs.lemmas.reader.block.BufferLemmas.{unread_fits, fed_none, fed_clear, fed_drop, fed_after, fed_push}
+use Rattle.bt_lines.proofs.lemmas.reader.lines.StepLemmas.{some_state, goes, told_last, gives_fed, sound_fed, gives_last, sound_last, last_line-some}
+use Rattle.bt_lines.proofs.lemmas.reader.lines.TextLemmas.{line_feeds-fed, lines_from-last, lines_from-nil, strip_last-other, strip_last-push, whole_lines_from-fed, whole_lines_from-last, line_feeds-append}
+use Rattle.bt_lines.specs.calls.Columns.{Cut, Shown, ending_at, NoLineFeed, line_seen, IsBefore, IsFirst, shown_of}
+use Rattle.bt_lines.specs.model.Lines.{TextLine, fed_line, line_feeds, lines_from, whole_lines_from}
+use Rattle.bt_lines.specs.calls.Output.{block_size}
+use Rattle.bt_lines.specs.inside.ReadBuffer.{complete, text_in, unread, lends_at, open_at, told_at}
+use Rattle.bt_lines.specs.calls.Reader.{GivesLine, IsKept, IsSound, has_ended, held, input_of, line_at, lines_given, source_of, BeginsLines, buffered_lines, line_of, lines_after, lines_in, rest_in, IsWhere, PassesLines, TakenLines, buffered_bytes, is_open}
+use Rattle.bt_lines.specs.inside.Shape.{AreComplete, IsLast, held_at, is_fed}
+use Rattle.bt_lines.specs.declared.reader.line.LineEnd.TheVariants.{Absent, Lf, CrLf, Cr}
+use Rattle.bt_lines.specs.declared.reader.line_reader.LineReader.{LineReader}
+use Rattle.bt_lines.specs.declared.reader.line.Line.{Line}
+use Rattle.bt_lines.specs.declared.reader.line_reader.State.{State}
+use Rattle.bt_lines.specs.declared.reader.line_reader.State.TheVariants.{Reading, LastLine}
+use Rattle.bt_lines.specs.declared.reader.read_buffer.ReadBuffer.{ReadBuffer}
 use Rattle.bt_lines.specs.declared.reader.buffered_lines.BufferedLines.{BufferedLines}
+use Rattle.bt_lines.specs.declared.reader.buffered_lines.ConsumedLines.{ConsumedLines}
+
+-- the first line that is buffered was given
+pub record CutsFirst {S : Type 0} (device : Source S) (old new : LineReader S) : Type 0 where
+  pub line : TextLine
+  pub at : line_at new ≡ Some line
+  pub gives : GivesLine device old line new
+  pub sound : IsKept device old → IsSound device new
+
+same_line : (a b : TextLine) → Some a ≡ Some b → a ≡ b
+same_line a b e = cc
+
+-- the line that the reader is at then is this one
+pub cut_gives : {S : Type 0} (device : Source S) (old new : LineReader S) → CutsFirst device old new → (line : Line) → Some (line_seen line) ≡ line_at new → GivesLine device old (line_seen line) new
+cut_gives device old new cuts line at = subst (λ l. GivesLine device old l new) (same_line cuts.line (line_seen line) (sym cuts.at ∙ sym at)) cuts.gives
+
+pub are_fed : (buffer : ReadBuffer) → AreComplete buffer.is_spilled (complete buffer)
+unfolding complete
+are_fed buffer = buffer.are_complete
+
+-- a line that was cut is within the bytes
+pub cut_within : (bytes : List ℕ) (line : Shown) → Cut bytes line → line.size ≤ length bytes
+cut_within bytes line cut = omega (arith, cut.size_is, ap length cut.cut, length-append cut.piece (10 ∷ drop line.size bytes))
+
+lines_fit_by : (is_spilled : Bool) (spilled bytes : List ℕ) (start whole end : ℕ) → is_spilled ≡ false → start ≤ cond is_spilled (length spilled) whole → whole ≤ end → end ≤ block_size
+    → length (cond is_spilled (drop start spilled) (slice_range bytes start whole) ++ slice_range bytes whole end) ≤ block_size
+lines_fit_by true spilled bytes start whole end e o w b = absurd (false≢true (sym e))
+lines_fit_by false spilled bytes start whole end e o w b =
+    omega (arith, o, w, b, length-append (slice_range bytes start whole) (slice_range bytes whole end), length-take (whole - start) (drop start bytes), length-take (end - whole) (drop whole bytes))
+
+-- what the block has room for
+pub lines_fit : (buffer : ReadBuffer) → buffer.is_spilled ≡ false → length (complete buffer ++ unread buffer) ≤ block_size
+unfolding complete unread
+lines_fit buffer e = lines_fit_by buffer.is_spilled buffer.spilled.items buffer.bytes buffer.start buffer.whole buffer.end e buffer.ordered (omega (arith, buffer.whole_searched, buffer.searched_within)) buffer.within
+
+-- if only one line is complete, it is all of the lines
+pub alone : (lines piece rest : List ℕ) → lines ≡ piece ++ 10 ∷ rest → NoLineFeed piece → line_feeds lines ≤ 1 → is_fed rest ≡ true → rest ≡ []
+alone lines piece rest e clear one fed = fed_none rest fed (omega (arith, one, ap line_feeds e, line_feeds-fed piece rest clear))
+
+near_by : (is_spilled : Bool) (buffer : ReadBuffer) (lines piece : List ℕ) → buffer.is_spilled ≡ is_spilled → AreComplete is_spilled lines → lines ≡ piece ++ 10 ∷ complete buffer → NoLineFeed piece
+    → length (complete buffer ++ unread buffer) ≤ block_size
+near_by false buffer lines piece same are e clear = lines_fit buffer same
+near_by true buffer lines piece same are e clear =
+    let none : complete buffer ≡ [] = alone lines piece (complete buffer) e clear (are.one refl) (are_fed buffer).fed in
+    rw none (unread_fits buffer)
+
+fed_ending : (b : Bool) (piece : List ℕ) → b ≡ ends_with_byte 13 piece → ending_at false b ≡ cond (ends_with_byte 13 piece) CrLf Lf
+fed_ending b piece e = rw e refl
+
+last_ending : (b : Bool) (piece : List ℕ) → b ≡ ends_with_byte 13 piece → ending_at true b ≡ cond (ends_with_byte 13 piece) Cr Absent
+last_ending b piece e = rw e refl
+
+pub some_size : (n : ℕ) (piece : List ℕ) → n ≡ length piece + 1 → nat_eq n 1 ≡ false → 0 < length piece
+some_size n piece e one = grind (arith, nat_tests)
+
+module _ {S : Type 0} (device : Source S) (old new : LineReader S) (line : Shown)
+    (same_state : new.state ≡ old.state) (same : new.input ≡ old.input) (same_source : new.source ≡ old.source) (same_taken : new.taken ≡ old.taken) (more : new.lines ≡ old.lines + 1)
+    (cut : Cut (complete old.buffer) line) (lines : complete new.buffer ≡ drop line.size (complete old.buffer)) (behind : unread new.buffer ≡ unread old.buffer)
+    (text : text_in new.buffer ≡ take (length line.text) (complete old.buffer)) (spilled : new.buffer.is_spilled ≡ old.buffer.is_spilled)
+    (ending : new.ending ≡ ending_at (open_at old.state) (nat_lt (length line.text + 1) line.size)) where
+  parts : complete old.buffer ≡ cut.piece ++ 10 ∷ complete new.buffer
+  parts = cut.cut ∙ ap (λ l. cut.piece ++ 10 ∷ l) (sym lines)
+
+  near : length (complete new.buffer ++ unread new.buffer) ≤ block_size
+  near = near_by old.buffer.is_spilled new.buffer (complete old.buffer) cut.piece spilled (are_fed old.buffer) parts cut.clear
+
+  text_is : text_in new.buffer ≡ strip_last 13 cut.piece
+  text_is = text ∙ cut.front ∙ cut.stripped
+
+  number : new.lines ≡ suc old.lines
+  number = omega (arith, more)
+
+  counts_some : nat_lt 0 (suc old.lines) ≡ true
+  counts_some = grind (arith, nat_tests)
+
+  cut_fed : old.state ≡ Reading → CutsFirst device old new
+  unfolding source_of input_of lines_given line_at
+  cut_fed is =
+      let state : new.state ≡ Reading = same_state ∙ is in
+      let was = goes old (rw is refl) in
+      let now = goes new (rw state refl) in
+      let holds : held old ++ [] ≡ cut.piece ++ 10 ∷ held new =
+      append-nil (held old) ∙ was.holds ∙ ap (λ l. l ++ unread old.buffer) parts ∙ append_assoc cut.piece (10 ∷ complete new.buffer) (unread old.buffer)
+      ∙ ap (λ l. cut.piece ++ 10 ∷ (complete new.buffer ++ l)) (sym behind) ∙ ap (λ l. cut.piece ++ 10 ∷ l) (sym now.holds) in
+      let end_is : new.ending ≡ cond (ends_with_byte 13 cut.piece) CrLf Lf = ending ∙ rw is (fed_ending _ cut.piece cut.returned) in
+      let at : line_at new ≡ Some (fed_line (suc old.lines) cut.piece) = rw (state, number, end_is, text_is, counts_some) refl in
+      let short : length (held new) ≤ block_size = rw now.holds near in
+      let none : Consumes (device.left old.source) (device.left new.source) [] = rw same_source (Consumes-nil (device.left old.source)) in
+      record {
+        line = fed_line (suc old.lines) cut.piece;
+        at = at;
+        gives = gives_fed device old new [] cut.piece was now same number none (same_taken ∙ sym (add-zero old.taken)) holds cut.clear at short (λ h. same_source) (ap device.has_failed same_source);
+        sound = sound_fed device old new [] cut.piece was now same number none (same_taken ∙ sym (add-zero old.taken)) holds cut.clear at short (λ h. same_source) (ap device.has_failed same_source);
+      }
+
+  cut_last : old.state ≡ LastLine → CutsFirst device old new
+  unfolding source_of input_of lines_given line_at held has_ended
+  cut_last is =
+      let state : new.state ≡ LastLine = same_state ∙ is in
+      let opened : open_at old.state ≡ true = rw is refl in
+      let gone : complete new.buffer ≡ [] = alone (complete old.buffer) cut.piece (complete new.buffer) parts cut.clear (old.last.one opened) (are_fed new.buffer).fed in
+      let whole : complete old.buffer ≡ cut.piece ++ 10 ∷ [] = parts ∙ ap (λ l. cut.piece ++ 10 ∷ l) gone in
+      let size : length (complete old.buffer) ≡ length cut.piece + 1 = omega (arith, ap length whole, length-append cut.piece (10 ∷ [])) in
+      let less : length (complete old.buffer) - 1 ≡ length cut.piece = omega (arith, size) in
+      let holds : held old ≡ cut.piece = rw is (ap (λ n. take n (complete old.buffer)) less ∙ ap (take (length cut.piece)) whole ∙ take-append_seam cut.piece (10 ∷ [])) in
+      let left_none : held new ≡ [] = rw state (ap (λ l. take (length l - 1) l) gone) in
+      let some : 0 < length cut.piece = some_size (length (complete old.buffer)) cut.piece size (old.last.some opened) in
+      let end_is : new.ending ≡ cond (ends_with_byte 13 cut.piece) Cr Absent = ending ∙ rw is (last_ending _ cut.piece cut.returned) in
+      let last : TextLine = record { number = suc old.lines; text = strip_last 13 cut.piece; ending = cond (ends_with_byte 13 cut.piece) Cr Absent } in
+      let at : line_at new ≡ Some last = rw (state, number, end_is, text_is, counts_some) refl in
+      record {
+        line = last;
+        at = at;
+        gives = gives_last device old new cut.piece (told_last old is) (told_last new state) (rw is refl) same same_source same_taken holds left_none cut.clear number some at;
+        sound = sound_last device old new cut.piece (told_last old is) (told_last new state) (rw is refl) same same_source same_taken holds left_none cut.clear number some at;
+      }
+
+  by_state : (old.state ≡ Reading) ⊎ (old.state ≡ LastLine) → CutsFirst device old new
+  by_state (inl is) = cut_fed is
+  by_state (inr is) = cut_last is
+
+  -- the first line that is buffered was taken
+  pub cuts_first : CutsFirst device old new
+  cuts_first = by_state (some_state old.state (λ e. absurd (omega (arith, ap length (old.quiet e), ap length parts, length-append cut.piece (10 ∷ complete new.buffer)))))
+
+-- what a reader keeps while a line is taken
+module _ (state : State) (old_lines old_unread lines unread_now : List ℕ) (given taken : ℕ) (piece : List ℕ) (clear : NoLineFeed piece) (parts : old_lines ≡ piece ++ 10 ∷ lines) (behind : unread_now ≡ old_unread)
+    (fed : is_fed lines ≡ true) (last : IsLast (told_at state) (open_at state) old_lines old_unread) (quiet : lends_at state ≡ false → old_lines ≡ []) (before : given + length (held_at (open_at state) old_lines old_unread) ≤ taken) where
+  some_lends : lends_at state ≡ false → ⊥
+  some_lends e = omega (arith, ap length (quiet e), ap length parts, length-append piece (10 ∷ lines))
+
+  gone_by : open_at state ≡ true → lines ≡ []
+  gone_by e = alone old_lines piece lines parts clear (last.one e) fed
+
+  spaced_reading : open_at state ≡ false → given + 1 + length (held_at (open_at state) lines unread_now) ≤ taken
+  spaced_reading e =
+      let now : given + length (held_at false old_lines old_unread) ≤ taken = rw e at before in
+      rw e (omega (arith, now, ap length parts, ap length behind, length-append old_lines old_unread, length-append lines unread_now, length-append piece (10 ∷ lines)))
+
+  spaced_open : open_at state ≡ true → given + 1 + length (held_at (open_at state) lines unread_now) ≤ taken
+  spaced_open e =
+      let now : given + length (take (length old_lines - 1) old_lines) ≤ taken = rw e at before in
+      let gone = gone_by e in
+      let size : length old_lines ≡ length piece + 1 = omega (arith, ap length parts, ap length gone, length-append piece (10 ∷ lines)) in
+      let some : 0 < length piece = some_size (length old_lines) piece size (last.some e) in
+      rw (e, gone) (omega (arith, now, size, some, length-take (length old_lines - 1) old_lines))
+
+  spaced_by : (state ≡ Reading) ⊎ (state ≡ LastLine) → given + 1 + length (held_at (open_at state) lines unread_now) ≤ taken
+  spaced_by (inl is) = spaced_reading (rw is refl)
+  spaced_by (inr is) = spaced_open (rw is refl)
+
+  pub spaced_cut : given + 1 + length (held_at (open_at state) lines unread_now) ≤ taken
+  spaced_cut = spaced_by (some_state state some_lends)
+
+  pub quiet_cut : lends_at state ≡ false → lines ≡ []
+  quiet_cut e = absurd (some_lends e)
+
+  pub last_cut : IsLast (told_at state) (open_at state) lines unread_now
+  last_cut = record {
+    none_behind = λ e. behind ∙ last.none_behind e;
+    one = λ e. rw (gone_by e) (omega arith);
+    some = λ e. rw (gone_by e) refl;
+  }
+
+pub some_at : {A : Type 0} (o : Option A) (x : A) → o ≡ Some x → IsSome o
+some_at o x e = rw e refl
+
+-- Lemmas on the lines that are left of those buffered.
 
 abbrev pub shown_line : Bool → ℕ → Shown → TextLine
 shown_line is_open lines line = record { number = suc lines; text = line.text; ending = ending_at is_open (nat_lt (length line.text + 1) line.size) }
@@ -144,3 +317,132 @@ begins_lines cursor bytes lines is_open b =
 -- none is left of no bytes
 pub none_left : (lines : ℕ) (bytes : List ℕ) → bytes ≡ [] → buffered_lines false lines bytes ≡ []
 none_left lines bytes e = ap (buffered_lines false lines) e ∙ whole_lines_from-last (suc lines) [] (λ k d below. absurd (omega (arith, below)))
+
+-- Lemmas on lines that were consumed, one after another.
+
+-- complete lines after others
+fed_both : (xs ys : List ℕ) → is_fed xs ≡ true → is_fed ys ≡ true → is_fed (xs ++ ys) ≡ true
+fed_both xs [] fed more = rw (append-nil xs) fed
+fed_both xs (y ∷ ys) fed more = fed_after xs (y ∷ ys) (omega arith) more
+
+pub passes_none : (cursor : BufferedLines) → PassesLines cursor 0 cursor
+passes_none cursor =
+    let none : cursor.at - cursor.at ≡ 0 = omega arith in
+    record {
+      left_is = refl;
+      all_is = refl;
+      rises = omega arith;
+      fed = ap (λ n. is_fed (take n (rest_in cursor))) none;
+      feeds = ap (λ n. line_feeds (take n (rest_in cursor))) none;
+      given = omega arith;
+      open_is = refl;
+    }
+
+module _ (old mid new : BufferedLines) (n m : ℕ) (first : PassesLines old n mid) (more : PassesLines mid m new) where
+  rest_mid : rest_in mid ≡ drop (mid.at - old.at) (rest_in old)
+  unfolding rest_in
+  rest_mid =
+      let whole : old.at + (mid.at - old.at) ≡ mid.at = omega (arith, first.rises) in
+      ap (λ a. drop mid.at a.now) first.all_is ∙ ap (λ k. drop k old.all.now) (sym whole) ∙ sym (drop-drop (mid.at - old.at) old.at old.all.now)
+
+  both : take (new.at - old.at) (rest_in old) ≡ take (mid.at - old.at) (rest_in old) ++ take (new.at - mid.at) (rest_in mid)
+  both =
+      let whole : new.at - old.at ≡ (mid.at - old.at) + (new.at - mid.at) = omega (arith, first.rises, more.rises) in
+      ap (λ k. take k (rest_in old)) whole ∙ take-add (mid.at - old.at) (new.at - mid.at) (rest_in old)
+      ∙ ap (λ l. take (mid.at - old.at) (rest_in old) ++ take (new.at - mid.at) l) (sym rest_mid)
+
+  pub passes_more : PassesLines old (n + m) new
+  passes_more =
+      let a = take (mid.at - old.at) (rest_in old) in
+      let b = take (new.at - mid.at) (rest_in mid) in
+      record {
+        left_is = more.left_is ∙ ap (drop m) first.left_is ∙ drop-drop m n (lines_in old);
+        all_is = more.all_is ∙ first.all_is;
+        rises = omega (arith, first.rises, more.rises);
+        fed = ap is_fed both ∙ fed_both a b first.fed more.fed;
+        feeds = ap line_feeds both ∙ line_feeds-append a b ∙ ap (λ k. k + line_feeds b) first.feeds ∙ ap (λ k. n + k) more.feeds;
+        given = omega (arith, first.given, more.given);
+        open_is = more.open_is ∙ first.open_is;
+      }
+
+-- the first line was consumed
+module _ (old new : BufferedLines) (line : Shown) (cut : Cut (rest_in old) line) (at : new.at ≡ old.at + line.size) (lines : new.lines ≡ old.lines + 1) (all_is : new.all ≡ old.all) (open_is : new.is_open ≡ old.is_open) where
+  front_is : take (new.at - old.at) (rest_in old) ≡ cut.piece ++ 10 ∷ []
+  front_is =
+      let size : new.at - old.at ≡ length cut.piece + 1 = omega (arith, at, cut.size_is) in
+      ap (λ k. take k (rest_in old)) size ∙ ap (take (length cut.piece + 1)) cut.cut ∙ take_line cut.piece (drop line.size (rest_in old))
+    where
+      take_line : (xs ys : List ℕ) → take (length xs + 1) (xs ++ 10 ∷ ys) ≡ xs ++ 10 ∷ []
+      take_line xs ys =
+          let size : length xs + 1 ≡ length (xs ++ 10 ∷ []) = omega (arith, length-append xs (10 ∷ [])) in
+          ap (λ k. take k (xs ++ 10 ∷ ys)) size ∙ ap (take (length (xs ++ 10 ∷ []))) (sym (append_assoc xs (10 ∷ []) ys)) ∙ take-append_seam (xs ++ 10 ∷ []) ys
+
+  left_after : lines_in new ≡ drop 1 (lines_in old)
+  unfolding lines_in rest_in
+  left_after =
+      let rest : drop new.at new.all.now ≡ drop line.size (drop old.at old.all.now) =
+      ap (λ a. drop new.at a.now) all_is ∙ ap (λ k. drop k old.all.now) at ∙ sym (drop-drop line.size old.at old.all.now) in
+      ap (λ o. buffered_lines o new.lines (drop new.at new.all.now)) open_is ∙ ap (λ n. buffered_lines old.is_open n (drop new.at new.all.now)) lines
+      ∙ ap (buffered_lines old.is_open (old.lines + 1)) rest
+      ∙ sym (ap (drop 1) (lines_first old.is_open old.lines (drop old.at old.all.now) line cut old.fed old.last))
+
+  pub passes_one : PassesLines old 1 new
+  passes_one = record {
+    left_is = left_after;
+    all_is = all_is;
+    rises = omega (arith, at);
+    fed = ap is_fed front_is ∙ fed_push cut.piece;
+    feeds = ap line_feeds front_is ∙ line_feeds-fed cut.piece [] cut.clear;
+    given = lines;
+    open_is = open_is;
+  }
+
+-- what was consumed of what a reader gave
+module _ {S : Type 0} (reader : LineReader S) (first last : BufferedLines) (consumed : ConsumedLines) (count : ℕ)
+    (begins : BeginsLines (buffered_bytes reader) (lines_given reader) (is_open reader) first) (passes : PassesLines first count last) (is : IsWhere last consumed) where
+  rest_first : rest_in first ≡ buffered_bytes reader
+  unfolding rest_in
+  rest_first = ap (λ n. drop n first.all.now) begins.at ∙ begins.bytes_are
+
+  front_first : take (last.at - first.at) (rest_in first) ≡ take consumed.bytes (buffered_bytes reader)
+  front_first =
+      let size : last.at - first.at ≡ consumed.bytes = omega (arith, is.bytes, begins.at) in
+      ap (λ k. take k (rest_in first)) size ∙ ap (take consumed.bytes) rest_first
+
+  pub lines_taken : TakenLines reader consumed count
+  unfolding lines_in rest_in
+  lines_taken =
+      let feeds : line_feeds (take consumed.bytes (buffered_bytes reader)) ≡ count = sym (ap line_feeds front_first) ∙ passes.feeds in
+      let given : consumed.lines ≡ lines_given reader + count = is.lines ∙ passes.given ∙ ap (λ k. k + count) begins.given in
+      let same : last.all.now ≡ buffered_bytes reader = ap (λ a. a.now) passes.all_is ∙ begins.bytes_are in
+      record {
+        taken = record {
+          within = omega (arith, is.bytes, last.within, ap length same);
+          fed = sym (ap is_fed front_first) ∙ passes.fed;
+          lines = given ∙ ap (λ k. lines_given reader + k) (sym feeds);
+        };
+        feeds = feeds;
+        given = given;
+        left_is =
+            ap (λ o. buffered_lines o consumed.lines (drop consumed.bytes (buffered_bytes reader))) (sym (passes.open_is ∙ begins.open_is))
+            ∙ ap (λ n. buffered_lines last.is_open n (drop consumed.bytes (buffered_bytes reader))) is.lines
+            ∙ ap (buffered_lines last.is_open last.lines) (ap (drop consumed.bytes) (sym same) ∙ ap (λ k. drop k last.all.now) is.bytes)
+            ∙ passes.left_is
+            ∙ ap (drop count) (ap (λ l. buffered_lines first.is_open first.lines l) (ap (λ n. drop n first.all.now) begins.at ∙ begins.bytes_are)
+            ∙ ap (λ n. buffered_lines first.is_open n (buffered_bytes reader)) begins.given ∙ ap (λ o. buffered_lines o (lines_given reader) (buffered_bytes reader)) begins.open_is);
+      }
+
+count_by : (n : ℕ) → (n ≡ 0 → ⊥) → 0 < n
+count_by zero none = absurd (none refl)
+count_by (suc n) none = omega arith
+
+-- if bytes were consumed, lines were
+pub some_lines : {S : Type 0} (reader : LineReader S) (consumed : ConsumedLines) (count : ℕ) → TakenLines reader consumed count → (consumed.bytes ≡ 0 → ⊥) → 0 < count
+some_lines reader consumed count are some =
+    count_by count (λ none.
+    let gone : take consumed.bytes (buffered_bytes reader) ≡ [] = fed_none (take consumed.bytes (buffered_bytes reader)) are.taken.fed (are.feeds ∙ none) in
+    some (omega (arith, ap length gone, length-take consumed.bytes (buffered_bytes reader), are.taken.within)))
+
+-- and if none were, none were
+pub no_lines : {S : Type 0} (reader : LineReader S) (consumed : ConsumedLines) (count : ℕ) → TakenLines reader consumed count → consumed.bytes ≡ 0 → count ≡ 0
+no_lines reader consumed count are none = sym are.feeds ∙ ap (λ n. line_feeds (take n (buffered_bytes reader))) none

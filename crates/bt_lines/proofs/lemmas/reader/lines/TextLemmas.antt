@@ -1,8 +1,79 @@
+-- Lemmas on the lines of a text.
+use Rattle.bt_lines.proofs.Std.{◌≡◌, ℕ, suc, ◌+◌, ◌-◌, ◌<◌, Bool, true, false, cond, List, [], ◌∷◌, ◌++◌, length, take, drop, get_or, refl, sym, ap, ◌∙◌, append_assoc, append-nil, eqb, arith, flat_map, nat_lt, join_with_byte, ends_with_byte, strip_last, take-append-drop, drop_more, drop_all, slice_split_at, slice_split_none, length-slice_split, join_with_byte-slice_split, eqb-true, ltb-true, and_parts, zero, ◌≤◌, subst, length-append, All-push, All-nil, All-head, All-tail, sum_by-append, false≢true, All, Option, Some, None, get_or-take, get_or_default, length-take-le, take_all, false_from_ne_true, slice_index, eq-eqb}
+use Rattle.bt_lines.specs.model.Lines.{pieces, fed_line, last_line, numbered, lines_from, spelled, end_bytes, TextLine, whole_lines_from, numbered_whole, line_feeds, bytes_in, AreNumbered}
+use Rattle.bt_lines.specs.calls.Columns.{NoLineFeed, IsBefore, IsFirstOf, Lacks, CutAt}
+use Rattle.bt_lines.specs.declared.reader.line.LineEnd.TheVariants.{Absent, Lf, CrLf, Cr}
+use Rattle.memchr.specs.Find.{FindsNeedle, IsFirstByte, OccursAt, Passes, is_byte}
+
+-- a piece is followed by others
+numbered-more : (n : ℕ) (piece : List ℕ) (rest : List (List ℕ)) → 0 < length rest → numbered n (piece ∷ rest) ≡ fed_line n piece ∷ numbered (suc n) rest
+numbered-more n piece [] h = absurd (omega arith)
+numbered-more n piece (next ∷ rest) h = refl
+
+-- the first line of a text that has a line feed
+pub lines_from-fed : (n : ℕ) (piece rest : List ℕ) → NoLineFeed piece → lines_from n (piece ++ 10 ∷ rest) ≡ fed_line n piece ∷ lines_from (suc n) rest
+unfolding lines_from
+lines_from-fed n piece rest clear =
+    ap (numbered n) (slice_split_at (λ b. eqb b 10) piece 10 rest clear refl)
+    ∙ numbered-more n piece (pieces 10 rest) (omega (arith, length-slice_split (λ b. eqb b 10) rest))
+
+-- a text without a line feed is its last line
+pub lines_from-last : (n : ℕ) (piece : List ℕ) → NoLineFeed piece → lines_from n piece ≡ last_line n piece
+unfolding lines_from
+lines_from-last n piece clear = ap (numbered n) (slice_split_none (λ b. eqb b 10) piece clear)
+
+pub lines_from-nil : (n : ℕ) → lines_from n [] ≡ []
+unfolding lines_from
+lines_from-nil n = refl
+
+-- a byte that ends a text, and the text before it
+pub strip_last-push : (byte : ℕ) (xs : List ℕ) → ends_with_byte byte xs ≡ true → strip_last byte xs ++ byte ∷ [] ≡ xs
+strip_last-push byte xs e =
+    let tests = and_parts (nat_lt 0 (length xs)) (eqb (get_or xs (length xs - 1) 0) byte) e in
+    let some : 0 < length xs = ltb-true 0 (length xs) tests.0 in
+    let i = length xs - 1 in
+    let is : get_or xs i 0 ≡ byte = eqb-true (get_or xs i 0) byte tests.1 in
+    let end : drop i xs ≡ byte ∷ [] =
+    drop_more xs i 0 (omega arith) ∙ ap (λ b. b ∷ drop (i + 1) xs) is ∙ ap (λ l. byte ∷ l) (drop_all (i + 1) xs (omega arith)) in
+    rw e (ap (λ l. take i xs ++ l) (sym end) ∙ take-append-drop i xs)
+
+pub strip_last-other : (byte : ℕ) (xs : List ℕ) → ends_with_byte byte xs ≡ false → strip_last byte xs ≡ xs
+strip_last-other byte xs e = rw e refl
+
+fed_end : (b : Bool) (piece stripped : List ℕ) → (b ≡ true → stripped ++ 13 ∷ [] ≡ piece) → (b ≡ false → stripped ≡ piece) → stripped ++ end_bytes (cond b CrLf Lf) ≡ piece ++ 10 ∷ []
+fed_end true piece stripped with without = sym (append_assoc stripped (13 ∷ []) (10 ∷ [])) ∙ ap (λ l. l ++ 10 ∷ []) (with refl)
+fed_end false piece stripped with without = ap (λ l. l ++ 10 ∷ []) (without refl)
+
+last_end : (b : Bool) (piece stripped : List ℕ) → (b ≡ true → stripped ++ 13 ∷ [] ≡ piece) → (b ≡ false → stripped ≡ piece) → stripped ++ end_bytes (cond b Cr Absent) ≡ piece
+last_end true piece stripped with without = with refl
+last_end false piece stripped with without = append-nil stripped ∙ without refl
+
+-- a line with a line feed, as the text has it
+pub spelled-fed : (n : ℕ) (piece : List ℕ) → spelled (fed_line n piece) ≡ piece ++ 10 ∷ []
+spelled-fed n piece = fed_end (ends_with_byte 13 piece) piece (strip_last 13 piece) (strip_last-push 13 piece) (strip_last-other 13 piece)
+
+-- a last line, as the text has it
+pub spelled-last : (n : ℕ) (piece : List ℕ) → flat_map spelled (last_line n piece) ≡ piece
+spelled-last n [] = refl
+spelled-last n (byte ∷ bytes) =
+    let piece = byte ∷ bytes in
+    append-nil (spelled (record { number = n; text = strip_last 13 piece; ending = cond (ends_with_byte 13 piece) Cr Absent }))
+    ∙ last_end (ends_with_byte 13 piece) piece (strip_last 13 piece) (strip_last-push 13 piece) (strip_last-other 13 piece)
+
+joined : (n : ℕ) (parts : List (List ℕ)) → flat_map spelled (numbered n parts) ≡ join_with_byte 10 parts
+joined n [] = refl
+joined n (piece ∷ []) = spelled-last n piece
+joined n (piece ∷ next ∷ rest) =
+    ap (λ l. l ++ flat_map spelled (numbered (suc n) (next ∷ rest))) (spelled-fed n piece)
+    ∙ append_assoc piece (10 ∷ []) (flat_map spelled (numbered (suc n) (next ∷ rest)))
+    ∙ ap (λ l. piece ++ 10 ∷ l) (joined (suc n) (next ∷ rest))
+
+-- the lines with their line ends are the text
+pub lines_lose_nothing : (n : ℕ) (bytes : List ℕ) → flat_map spelled (lines_from n bytes) ≡ bytes
+unfolding lines_from
+lines_lose_nothing n bytes = joined n (pieces 10 bytes) ∙ join_with_byte-slice_split 10 bytes
+
 -- Lemmas on texts that are cut into lines, for callers too: how many lines, how many bytes, which numbers.
-use Rattle.bt_lines.proofs.Std.{◌≡◌, ℕ, zero, suc, ◌+◌, ◌<◌, ◌≤◌, Bool, true, false, List, [], ◌∷◌, ◌++◌, length, take, drop, refl, sym, ap, ◌∙◌, subst, append_assoc, append-nil, length-append, eqb, arith, flat_map, All-push, All-nil, All-head, All-tail, sum_by-append, slice_split_at, slice_split_none, length-slice_split, false≢true, eqb-true}
-use Rattle.bt_lines.proofs.lemmas.reader.lines.LinesLemmas.{lines_from-fed, lines_from-last, lines_lose_nothing}
-use Rattle.bt_lines.specs.model.Lines.{TextLine, pieces, fed_line, last_line, lines_from, whole_lines_from, numbered_whole, line_feeds, bytes_in, spelled, AreNumbered}
-use Rattle.bt_lines.specs.calls.LentLine.{NoLineFeed}
 
 -- a text is a last piece, or a piece, its line feed and the rest: what holds of both, holds of each text
 module _ (P : ℕ → List ℕ → Type 0) (last : (n : ℕ) (piece : List ℕ) → NoLineFeed piece → P n piece)
@@ -130,3 +201,83 @@ bytes_behind_first n front back clear = by_lines (λ n bytes. front ++ back ≡ 
     none : (n : ℕ) (piece : List ℕ) → bytes_in (drop 1 (last_line n piece)) ≤ length back
     none n [] = omega arith
     none n (byte ∷ bytes) = omega arith
+
+-- Lemmas on the first column of a text.
+
+-- not a tab
+abbrev pub IsInside : ℕ → Type 0
+IsInside byte = eqb byte 9 ≡ false
+
+-- a column has no tab
+abbrev pub IsColumn : List ℕ → Type 0
+IsColumn column = All IsInside column
+
+-- a column that a tab follows is the first
+pub cut_at : (text : List ℕ) (n : ℕ) → n < length text → get_or text n 0 ≡ 9 → IsColumn (take n text) → pieces 9 text ≡ take n text ∷ pieces 9 (drop (n + 1) text)
+cut_at text n within tab column =
+    let there : drop n text ≡ 9 ∷ drop (n + 1) text = drop_more text n 0 within ∙ ap (λ b. b ∷ drop (n + 1) text) tab in
+    let whole : text ≡ take n text ++ 9 ∷ drop (n + 1) text = sym (take-append-drop n text) ∙ ap (λ l. take n text ++ l) there in
+    ap (pieces 9) whole ∙ slice_split_at (λ byte. eqb byte 9) (take n text) 9 (drop (n + 1) text) column refl
+
+-- Lemmas on the pieces of a text between separators.
+
+-- none comes before the first separator
+clear_before : (s : ℕ) (bytes : List ℕ) (i : ℕ) → IsFirstByte (is_byte s) bytes (Some i) → All (λ x. eqb x s ≡ false) (take i bytes)
+clear_before s bytes i first = λ k d h.
+    let below : i < length bytes = first.0.high in
+    let size : length (take i bytes) ≡ i = length-take-le i bytes (omega arith) in
+    let small : k < i = omega (arith, size, h) in
+    rw (get_or-take i bytes k d small, get_or_default bytes k d 0 (omega arith)) (false_from_ne_true _ (first.0.before k (omega arith) small))
+
+-- a text that is cut at its first separator
+pub pieces_cut : (s : ℕ) (bytes : List ℕ) (i : ℕ) → IsFirstByte (is_byte s) bytes (Some i) → pieces s bytes ≡ take i bytes ∷ pieces s (drop (i + 1) bytes)
+pieces_cut s bytes i first =
+    let below : i < length bytes = first.0.high in
+    let cut = slice_split_at (λ x. eqb x s) (take i bytes) (get_or bytes i 0) (drop (i + 1) bytes) (clear_before s bytes i first) first.1 in
+    ap (pieces s) (sym (take-append-drop i bytes) ∙ ap (λ l. take i bytes ++ l) (drop_more bytes i 0 below)) ∙ cut
+
+-- a text without a separator is one piece
+pub pieces_whole : (s : ℕ) (bytes : List ℕ) → IsFirstByte (is_byte s) bytes None → pieces s bytes ≡ bytes ∷ []
+pieces_whole s bytes nowhere =
+    slice_split_none (λ x. eqb x s) bytes (λ k d h. rw (get_or_default bytes k d 0 h) (false_from_ne_true _ (nowhere k (omega arith) h)))
+
+-- the first tab divides the first column from the others
+pub tab_divides : (text : List ℕ) (found : Option ℕ) → IsFirstByte (is_byte 9) text found → IsFirstOf 9 text found × CutAt text found
+tab_divides text None nowhere = (λ k d h. rw (get_or_default text k d 0 h) (false_from_ne_true _ (nowhere k (omega arith) h)), pieces_whole 9 text nowhere)
+tab_divides text (Some i) first = (
+  (first.0.high, sym (take-append-drop i text) ∙ ap (λ l. take i text ++ l) (drop_more text i 0 first.0.high ∙ ap (λ byte. byte ∷ drop (i + 1) text) (eqb-true (get_or text i 0) 9 first.1)), clear_before 9 text i first),
+  pieces_cut 9 text i first,
+)
+
+-- the first column ends before the first tab
+pub before_tab : (text : List ℕ) (end : ℕ) → IsBefore 9 text end → end < length text → pieces 9 text ≡ take end text ∷ pieces 9 (drop (end + 1) text)
+before_tab text end is below = ap (pieces 9) (is.cut below) ∙ slice_split_at (λ x. eqb x 9) (take end text) 9 (drop (end + 1) text) is.clear refl
+
+-- a text without a tab is one column
+pub without_tab : (text : List ℕ) (end : ℕ) → IsBefore 9 text end → end ≡ length text → pieces 9 text ≡ text ∷ []
+without_tab text end is all = slice_split_none (λ x. eqb x 9) text (subst (Lacks 9) (take_all end text (omega (arith, all))) is.clear)
+
+-- a needle of one byte
+module _ (hay : List ℕ) (b : ℕ) where
+  byte_occurs : (k : ℕ) → k < length hay → Passes (is_byte b) hay k → OccursAt hay (b ∷ []) k
+  byte_occurs k h e = record {
+    fits = omega (arith, h);
+    reads = λ j below.
+        let none : j ≡ zero = omega (arith, below) in
+        let at : k + zero ≡ k = omega arith in
+        rw (none, at) (eqb-true (slice_index hay k) b e);
+  }
+
+  occurs_byte : (k : ℕ) → OccursAt hay (b ∷ []) k → Passes (is_byte b) hay k
+  occurs_byte k o =
+      let at : k + zero ≡ k = omega arith in
+      eq-eqb (slice_index hay k) b (ap (slice_index hay) (sym at) ∙ o.reads zero (omega arith))
+
+  -- the needle's first match is the first such byte
+  pub finds_byte : (found : Option ℕ) → FindsNeedle hay (b ∷ []) 0 found → IsFirstByte (is_byte b) hay found
+  finds_byte None none = λ k low high e. none k low (omega (arith, high)) (byte_occurs k high e)
+  finds_byte (Some at) first =
+      let fits = first.1.fits in (
+        record { low = first.0.low; high = omega (arith, fits); before = λ k low high e. first.0.before k low high (byte_occurs k (omega (arith, high, fits)) e) },
+        occurs_byte at first.1,
+      )

@@ -1,5 +1,5 @@
 use Rattle.bt_lines.proofs.Std.{◌≡◌, ◌+◌, ◌-◌, arith, drop-set}
-use Rattle.bt_lines.proofs.lemmas.writer.SpanLemmas.{twenty_digits}
+use Rattle.bt_lines.proofs.lemmas.Writer.{twenty_digits}
 use Rattle.bt_lines.proofs.numbers.number_column.write_column.Goals as goal
 
 pub write_digits-first-requires : goal.write_digits-first-requires

@@ -1,5 +1,5 @@
 use Rattle.bt_lines.proofs.Std.{◌-◌, ◌≤◌, length, take}
-use Rattle.bt_lines.specs.calls.FirstByte.{Lacks}
+use Rattle.bt_lines.specs.calls.Columns.{Lacks}
 use Rattle.bt_lines.proofs.reader.newline.late_length.Given as goal
 
 -- it isn't in what was searched

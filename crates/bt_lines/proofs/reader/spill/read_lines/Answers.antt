@@ -1,6 +1,5 @@
 use Rattle.bt_lines.proofs.Std.{refl}
-use Rattle.bt_lines.proofs.lemmas.reader.block.BlockLemmas.{unread_fits}
-use Rattle.bt_lines.proofs.lemmas.reader.block.BuffersLemmas.{more_read, none_yet, not_full, some_full, source_failed, text_ended, text_too_long, then_counted, then_long}
+use Rattle.bt_lines.proofs.lemmas.reader.block.BufferLemmas.{unread_fits, more_read, none_yet, not_full, some_full, source_failed, text_ended, text_too_long, then_counted, then_long}
 use Rattle.bt_lines.proofs.lemmas.reader.block.ReadsLemmas.{counts_none, counts_then, fails_then}
 use Rattle.bt_lines.proofs.reader.spill.read_lines.Goals as goal
 

@@ -1,7 +1,7 @@
 use Rattle.bt_lines.proofs.Std.{◌≡◌, ◌-◌, ◌^◌, []}
 use Rattle.bt_lines.specs.inside.ReadBuffer.{complete, unread}
 use Rattle.bt_lines.specs.calls.Device.{ReadsCounted}
-use Rattle.bt_lines.proofs.lemmas.reader.block.BuffersLemmas.{ReadSoFar}
+use Rattle.bt_lines.proofs.lemmas.reader.block.BufferLemmas.{ReadSoFar}
 use Rattle.bt_lines.proofs.reader.spill.read_lines.Given as goal
 
 abbrev pub invariant-loop-buffer : goal.invariant-loop-buffer

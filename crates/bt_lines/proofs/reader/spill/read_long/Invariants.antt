@@ -1,7 +1,7 @@
 use Rattle.bt_lines.proofs.Std.{◌≡◌, ◌-◌, ◌^◌, [], false}
 use Rattle.bt_lines.specs.inside.ReadBuffer.{complete, unread}
 use Rattle.bt_lines.specs.calls.Device.{ReadsCounted}
-use Rattle.bt_lines.proofs.lemmas.reader.block.SpillLemmas.{SoFar}
+use Rattle.bt_lines.proofs.lemmas.reader.block.BufferLemmas.{SoFar}
 use Rattle.bt_lines.proofs.reader.spill.read_long.Given as goal
 
 abbrev pub invariant-reads : goal.invariant-reads

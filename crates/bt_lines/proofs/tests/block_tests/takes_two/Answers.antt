@@ -1,6 +1,6 @@
 use Rattle.bt_lines.proofs.Std.{◌≡◌, ℕ, ◌+◌, Option, Some, None, subst, sym, IfNone, IfSome}
-use Rattle.bt_lines.proofs.lemmas.reader.lines.PassingLemmas.{lines_taken, passes_more, passes_none}
-use Rattle.bt_lines.specs.calls.Buffered.{PassesLines}
+use Rattle.bt_lines.proofs.lemmas.reader.lines.BufferedLemmas.{lines_taken, passes_more, passes_none}
+use Rattle.bt_lines.specs.calls.Reader.{PassesLines}
 use Rattle.bt_lines.specs.declared.reader.buffered_lines.BufferedLines.{BufferedLines}
 use Rattle.bt_lines.specs.declared.reader.line.Line.{Line}
 use Rattle.bt_lines.proofs.tests.block_tests.takes_two.Goals as goal

@@ -1,6 +1,5 @@
 use Rattle.bt_lines.proofs.Std.{take_rest}
-use Rattle.bt_lines.proofs.lemmas.writer.OutputLemmas.{front_filled, front_over, grows_both, put_over}
-use Rattle.bt_lines.proofs.lemmas.writer.ResultLemmas.{always_err}
+use Rattle.bt_lines.proofs.lemmas.Writer.{front_filled, front_over, grows_both, put_over, always_err}
 use Rattle.bt_lines.proofs.writer.output.put_across.Goals as goal
 
 pub returns-in_err-send-clause-front : goal.returns-in_err-send-clause-front

@@ -1,6 +1,5 @@
 use Rattle.bt_lines.proofs.Std.{◌∙◌, ◌++◌, take, take_rest}
-use Rattle.bt_lines.proofs.lemmas.writer.OutputLemmas.{front_part, more_taken}
-use Rattle.bt_lines.proofs.lemmas.writer.ResultLemmas.{always_err}
+use Rattle.bt_lines.proofs.lemmas.Writer.{front_part, more_taken, always_err}
 use Rattle.bt_lines.proofs.writer.output.write_whole.Goals as goal
 
 pub returns-in_err-count-clause-front : goal.returns-in_err-count-clause-front

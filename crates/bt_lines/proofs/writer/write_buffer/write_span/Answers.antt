@@ -1,5 +1,5 @@
 use Rattle.bt_lines.proofs.Std.{arith, length-set}
-use Rattle.bt_lines.proofs.lemmas.writer.SpanLemmas.{span_moved, span_written}
+use Rattle.bt_lines.proofs.lemmas.Writer.{span_moved, span_written}
 use Rattle.bt_lines.proofs.writer.write_buffer.write_span.Goals as goal
 
 pub returns-clause-written : goal.returns-clause-written

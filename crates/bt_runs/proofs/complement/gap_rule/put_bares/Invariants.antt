@@ -1,8 +1,8 @@
 use Rattle.bt_lines.proofs.Std.{false, flat_map, slice_range}
 use Rattle.bt_bed.specs.calls.GenomeTable.{entries}
-use Rattle.bt_runs.specs.inside.walk.GapStep.{bare_gap}
-use Rattle.bt_bed.specs.model.feature.IntervalLine.{interval_lines}
-use Rattle.bt_lines.specs.calls.Putting.{Grown}
+use Rattle.bt_runs.specs.inside.Walk.{bare_gap}
+use Rattle.bt_bed.specs.model.Feature.{interval_lines}
+use Rattle.bt_lines.specs.calls.Output.{Grown}
 use Rattle.bt_runs.proofs.complement.gap_rule.put_bares.Given as goal
 
 -- the chromosomes so far were written

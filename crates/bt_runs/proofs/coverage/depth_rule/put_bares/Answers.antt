@@ -1,12 +1,12 @@
 use Rattle.bt_lines.proofs.Std.{Err, Ok, arith, err_from_is_err_and}
-use Rattle.bt_lines.specs.calls.Putting.{Adds, Grown}
-use Rattle.bt_lines.proofs.lemmas.writer.PuttingLemmas.{grown_none}
+use Rattle.bt_lines.specs.calls.Output.{Adds, Grown}
+use Rattle.bt_lines.proofs.lemmas.Writer.{grown_none}
 use Rattle.bt_bed.specs.calls.GenomeTable.{entries}
 use Rattle.bt_runs.specs.model.Depth.{DepthInterval, depth_line, depth_lines}
-use Rattle.bt_runs.specs.inside.coverage.DepthStep.{bare_of}
-use Rattle.bt_runs.specs.inside.walk.Walk.{entry_at}
-use Rattle.bt_runs.proofs.lemmas.coverage.DepthLines.{adds_line, bare_empty, bare_some, bare_unasked}
-use Rattle.bt_runs.proofs.lemmas.order.GenomeRanks.{bare_cut, length_read, name_read, one_bare}
+use Rattle.bt_runs.specs.inside.Coverage.{bare_of}
+use Rattle.bt_runs.specs.inside.Walk.{entry_at}
+use Rattle.bt_runs.proofs.lemmas.coverage.DepthSteps.{adds_line, bare_empty, bare_some, bare_unasked}
+use Rattle.bt_runs.proofs.lemmas.order.ByChromosome.{bare_cut, length_read, name_read, one_bare}
 use Rattle.bt_runs.proofs.coverage.depth_rule.put_bares.Goals as goal
 use Rattle.bt_runs.proofs.coverage.depth_rule.put_bares.Goals.{then-chroms+then-length-gt0+in_ok-put_depth, else-chroms, else-chroms-via-then-chroms+else-length-gt0, else-chroms-via-else-chroms}
 

@@ -1,8 +1,8 @@
 use Rattle.bt_lines.proofs.Std.{flat_map, slice_range}
 use Rattle.bt_bed.specs.calls.GenomeTable.{entries}
-use Rattle.bt_lines.specs.calls.Putting.{Grown}
+use Rattle.bt_lines.specs.calls.Output.{Grown}
 use Rattle.bt_runs.specs.model.Depth.{depth_lines}
-use Rattle.bt_runs.specs.inside.coverage.DepthStep.{bare_of}
+use Rattle.bt_runs.specs.inside.Coverage.{bare_of}
 use Rattle.bt_runs.proofs.coverage.depth_rule.put_bares.Given as goal
 
 -- the chromosomes so far were written

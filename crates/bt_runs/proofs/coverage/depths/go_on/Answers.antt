@@ -1,13 +1,9 @@
 use Rattle.bt_lines.proofs.Std.{ℕ, refl, ◌≡◌, ◌-◌, ◌+◌, ◌<◌, ◌≤◌, ◌++◌, List, Ok, All, arith, length, max, sym, subst, ap, ◌∙◌, err_from_is_err_and}
-use Rattle.bt_lines.proofs.lemmas.writer.PuttingLemmas.{grown_none}
-use Rattle.bt_bed.specs.model.feature.Interval.{Span}
-use Rattle.bt_runs.specs.inside.coverage.Kept.{begun_seen}
-use Rattle.bt_runs.specs.model.Depth.{depth_of, reported}
-use Rattle.bt_runs.specs.inside.coverage.DepthStep.{still_open}
-use Rattle.bt_runs.specs.model.Levels.{ended_after, next_begun, next_ended}
-use Rattle.bt_runs.specs.inside.coverage.Kept.{OpenAt}
-use Rattle.bt_runs.proofs.lemmas.coverage.DepthLines.{adds_levels, cut_levels}
-use Rattle.bt_runs.proofs.lemmas.coverage.DepthWalk.{here_depth, no_begun, no_ended, run_depth, turn_begun, turn_ended, turn_more}
+use Rattle.bt_lines.proofs.lemmas.Writer.{grown_none}
+use Rattle.bt_bed.specs.model.Feature.{Span}
+use Rattle.bt_runs.specs.inside.Coverage.{begun_seen, still_open, OpenAt}
+use Rattle.bt_runs.specs.model.Depth.{depth_of, reported, ended_after, next_begun, next_ended}
+use Rattle.bt_runs.proofs.lemmas.coverage.DepthSteps.{adds_levels, cut_levels, here_depth, no_begun, no_ended, run_depth, turn_begun, turn_ended, turn_more}
 use Rattle.bt_runs.proofs.lemmas.coverage.OpenLemmas.{all_open}
 use Rattle.bt_runs.proofs.coverage.depths.go_on.Goals as goal
 

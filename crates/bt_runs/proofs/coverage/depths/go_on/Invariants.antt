@@ -1,9 +1,7 @@
 use Rattle.bt_lines.proofs.Std.{◌≡◌, ◌-◌, ◌≤◌, All}
-use Rattle.bt_lines.specs.calls.Putting.{Grown}
-use Rattle.bt_runs.specs.inside.coverage.Kept.{begun_seen}
-use Rattle.bt_runs.specs.model.Depth.{depth_lines, depth_of}
-use Rattle.bt_runs.specs.inside.coverage.DepthStep.{levels_on, still_open}
-use Rattle.bt_runs.specs.model.Levels.{begun_after, ended_after}
+use Rattle.bt_lines.specs.calls.Output.{Grown}
+use Rattle.bt_runs.specs.inside.Coverage.{begun_seen, levels_on, still_open}
+use Rattle.bt_runs.specs.model.Depth.{depth_lines, depth_of, begun_after, ended_after}
 use Rattle.bt_runs.proofs.coverage.depths.go_on.Given as goal
 
 -- the intervals so far were written, and none that is open ends before

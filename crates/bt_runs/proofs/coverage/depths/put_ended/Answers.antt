@@ -1,5 +1,5 @@
 use Rattle.bt_runs.specs.model.Depth.{DepthInterval}
-use Rattle.bt_runs.proofs.lemmas.coverage.DepthLines.{adds_line}
+use Rattle.bt_runs.proofs.lemmas.coverage.DepthSteps.{adds_line}
 use Rattle.bt_runs.proofs.coverage.depths.put_ended.Goals as goal
 
 pub returns-in-Some : goal.returns-in-Some

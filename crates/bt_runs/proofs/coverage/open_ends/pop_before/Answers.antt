@@ -1,5 +1,5 @@
 use Rattle.bt_lines.proofs.Std.{arith, heap_items}
-use Rattle.bt_runs.specs.inside.coverage.Kept.{ends_of}
+use Rattle.bt_runs.specs.inside.Coverage.{ends_of}
 use Rattle.bt_runs.proofs.lemmas.coverage.OpenLemmas.{popped_counts, popped_order, some_before}
 use Rattle.bt_runs.proofs.coverage.open_ends.pop_before.Goals as goal
 

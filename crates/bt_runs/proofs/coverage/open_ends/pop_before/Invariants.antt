@@ -1,5 +1,5 @@
 use Rattle.bt_lines.proofs.Std.{heap_items, heap_len}
-use Rattle.bt_runs.specs.inside.coverage.Kept.{CountsFrom, IsLeastFirst, ends_of}
+use Rattle.bt_runs.specs.inside.Coverage.{CountsFrom, IsLeastFirst, ends_of}
 use Rattle.bt_runs.proofs.coverage.open_ends.pop_before.Given as goal
 
 -- only ends before the position were taken out so far

@@ -1,6 +1,5 @@
 use Rattle.bt_lines.proofs.Std.{◌≡◌, deque_len}
-use Rattle.bt_runs.specs.inside.coverage.DepthStep.{still_open}
-use Rattle.bt_runs.specs.inside.coverage.Kept.{spans_open}
+use Rattle.bt_runs.specs.inside.Coverage.{still_open, spans_open}
 use Rattle.bt_runs.proofs.coverage.open_records.drop_ended.Given as goal
 
 -- no record that is still open was dropped

@@ -1,6 +1,5 @@
 use Rattle.bt_lines.proofs.Std.{◌≡◌, ◌+◌, ◌-◌, ◌≤◌, ◌++◌, drop, length, take}
-use Rattle.bt_runs.specs.inside.coverage.DepthStep.{still_open}
-use Rattle.bt_runs.specs.inside.coverage.Kept.{spans_open}
+use Rattle.bt_runs.specs.inside.Coverage.{still_open, spans_open}
 use Rattle.bt_runs.proofs.coverage.open_records.drop_from.Given as goal
 
 -- the ones that are kept so far, and those that are still to be looked at

@@ -1,6 +1,5 @@
 use Rattle.bt_lines.proofs.Std.{◌≡◌, ◌+◌, ◌≤◌, drop, length}
-use Rattle.bt_runs.specs.inside.coverage.DepthStep.{still_open}
-use Rattle.bt_runs.specs.inside.coverage.Kept.{spans_open}
+use Rattle.bt_runs.specs.inside.Coverage.{still_open, spans_open}
 use Rattle.bt_runs.proofs.coverage.open_records.first_ended.Given as goal
 
 -- those before the index that are listed, and those past it that are open

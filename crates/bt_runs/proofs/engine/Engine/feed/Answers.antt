@@ -1,5 +1,5 @@
 use Rattle.bt_bed.specs.calls.Bed.{feature_lent}
-use Rattle.bt_runs.proofs.lemmas.engine.SingleLemmas.{single_fed, single_wants}
+use Rattle.bt_runs.proofs.lemmas.Engine.{single_fed, single_wants}
 use Rattle.bt_runs.proofs.engine.Engine.feed.Goals as goal
 
 pub returns-clause-feeds : goal.returns-clause-feeds

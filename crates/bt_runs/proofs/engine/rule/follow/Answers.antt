@@ -1,5 +1,5 @@
 use Rattle.bt_lines.proofs.Std.{◌∙◌, refl, subst, sym}
-use Rattle.bt_runs.proofs.lemmas.engine.RuleLemmas.{follows_all, follows_on, follows_up_to}
+use Rattle.bt_runs.proofs.lemmas.Engine.{follows_all, follows_on, follows_up_to}
 use Rattle.bt_runs.proofs.engine.rule.follow.Goals as goal
 
 pub returns-in-Err : goal.returns-in-Err

@@ -1,6 +1,6 @@
 use Rattle.bt_lines.proofs.Std.{◌≡◌}
-use Rattle.bt_runs.proofs.lemmas.engine.RuleLemmas.{Following}
-use Rattle.bt_runs.specs.inside.walk.Rule.{Taken}
+use Rattle.bt_runs.proofs.lemmas.Engine.{Following}
+use Rattle.bt_runs.specs.inside.Walk.{Taken}
 use Rattle.bt_runs.proofs.engine.rule.follow.Given as goal
 
 abbrev pub invariant-loop-fault : goal.invariant-loop-fault

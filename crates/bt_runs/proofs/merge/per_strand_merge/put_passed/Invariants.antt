@@ -1,8 +1,8 @@
 use Rattle.bt_lines.proofs.Std.{length}
-use Rattle.bt_lines.specs.calls.Putting.{Grown}
+use Rattle.bt_lines.specs.calls.Output.{Grown}
 use Rattle.bt_runs.specs.calls.Stranding.{strand_lines}
 use Rattle.bt_runs.specs.inside.merge.StrandStep.{placed_runs}
-use Rattle.bt_runs.proofs.lemmas.merge.PendingRunsLemmas.{Written}
+use Rattle.bt_runs.proofs.lemmas.merge.StrandSettling.{Written}
 use Rattle.bt_runs.proofs.merge.per_strand_merge.put_passed.Given as goal
 
 -- the runs that were taken off were written

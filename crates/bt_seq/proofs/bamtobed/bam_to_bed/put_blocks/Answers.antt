@@ -1,7 +1,7 @@
 use Rattle.bt_lines.proofs.Std.{true}
-use Rattle.bt_seq.specs.model.AlignmentBlocks.{alignment_blocks}
+use Rattle.bt_seq.specs.model.Alignment.{alignment_blocks}
 use Rattle.bt_seq.specs.calls.Sam.{alignment_lent, blocks_left}
-use Rattle.bt_seq.proofs.lemmas.bamtobed.LineLemmas.{grown_block, left_more}
+use Rattle.bt_seq.proofs.lemmas.BamToBed.{grown_block, left_more}
 use Rattle.bt_seq.proofs.bamtobed.bam_to_bed.put_blocks.Goals as goal
 
 pub loop-start-preserved : goal.loop-start-preserved

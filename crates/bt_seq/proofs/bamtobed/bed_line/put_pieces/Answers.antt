@@ -1,6 +1,6 @@
 use Rattle.bt_lines.proofs.Std.{err_from_is_err_and}
 use Rattle.bt_seq.specs.calls.Sam.{alignment_lent}
-use Rattle.bt_seq.proofs.lemmas.bamtobed.LineLemmas.{cut_place, puts_line}
+use Rattle.bt_seq.proofs.lemmas.BamToBed.{cut_place, puts_line}
 use Rattle.bt_seq.proofs.bamtobed.bed_line.put_pieces.Goals as goal
 
 pub returns-in_err-put_place : goal.returns-in_err-put_place

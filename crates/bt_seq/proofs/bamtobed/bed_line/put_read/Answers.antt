@@ -1,7 +1,7 @@
 use Rattle.bt_lines.proofs.Std.{◌≡◌, ◌∙◌, ◌++◌, ◌-◌, List, ℕ, ap, append-nil, arith, length, replicate, take, drop, drop_all, length-drop, take_all, err_from_is_err_and}
-use Rattle.bt_seq.specs.inside.LineEnds.{marks, quality_text}
+use Rattle.bt_seq.specs.inside.Sam.{marks, quality_text}
 use Rattle.bt_seq.specs.calls.Sam.{alignment_lent}
-use Rattle.bt_seq.proofs.lemmas.bamtobed.LineLemmas.{read_alone, read_cut, read_puts}
+use Rattle.bt_seq.proofs.lemmas.BamToBed.{read_alone, read_cut, read_puts}
 use Rattle.bt_seq.proofs.bamtobed.bed_line.put_read.Goals as goal
 
 -- the piece is what was written

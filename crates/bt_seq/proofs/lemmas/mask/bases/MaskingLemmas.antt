@@ -1,20 +1,19 @@
 -- Lemmas on the steps of a masking engine.
-use Rattle.bt_lines.proofs.Std.{◌≡◌, ℕ, nat_eq, Bool, true, false, cond, not, ◌||◌, ◌&&◌, filter, if◌then◌else◌, is_none, is_some, nat_le, Option, nat_lt, length, List, [], ◌∷◌, ◌++◌, arith, Some, None, Result, Ok, Err, refl, sym, ap, ◌∙◌, subst, inl, inr, nat_tests, IsErr, IsOk}
-use Rattle.bt_bed.specs.model.feature.Feature.{Feature}
+use Rattle.bt_lines.proofs.Std.{◌≡◌, ℕ, nat_eq, Bool, true, false, cond, not, ◌||◌, ◌&&◌, filter, if◌then◌else◌, is_none, is_some, nat_le, Option, nat_lt, length, List, [], ◌∷◌, ◌++◌, arith, Some, None, Result, Ok, Err, refl, sym, ap, ◌∙◌, subst, inl, inr, nat_tests, IsErr, IsOk, ◌+◌, ◌<◌, zero, suc, map, take, drop, slice_index_or, slice_set, ◌-◌, ◌≤◌, eqb, Fits, w8, ap₂, append-nil, append_assoc, length-append, Each1, chunk, put_chunk, sel_l, top, agree_below, agree_below_at, eqb_yes, T, drop-drop, drop_all, drop_at, length-drop, length-map, length-take-le, map-append, take-append-drop, take_at, take_rest, put_chunk_is, take-add, ◌==◌, take_while, take_all, All-head, All-tail, All-take, take_while-cons}
+use Rattle.bt_bed.specs.model.Feature.{Feature}
 use Rattle.bt_lines.specs.calls.Names.{fault_value}
-use Rattle.bt_lines.specs.calls.Output.{Output}
-use Rattle.bt_lines.proofs.lemmas.writer.PuttingLemmas.{grown_none}
+use Rattle.bt_lines.specs.calls.Output.{Output, Adds, FailsToAdd, Grown}
+use Rattle.bt_lines.proofs.lemmas.Writer.{grown_none}
 use Rattle.bt_lines.specs.model.Lines.{end_bytes}
-use Rattle.bt_lines.specs.calls.Putting.{Adds, FailsToAdd, Grown}
 use Rattle.bt_lines.specs.declared.fault.Fault.{Fault}
-use Rattle.bt_seq.proofs.lemmas.sam.ExtentLemmas.{none_masked}
-use Rattle.bt_seq.specs.calls.MaskState.{Keeps, Masking, TakesLine, Waiting, Writes, WritesGiven, decides, decides_by, decides_up_to, is_stray, line_bytes, moved_to, passed, stays_as_given, with_owner, writes_at_once}
-use Rattle.bt_seq.specs.calls.Matching.{Matched, matched_with, named, owner_of}
-use Rattle.bt_seq.specs.model.Sequences.{is_header, name_in}
+use Rattle.bt_seq.proofs.lemmas.Sam.{none_masked}
+use Rattle.bt_seq.specs.calls.MaskStage.{Keeps, Masking, TakesLine, Waiting, Writes, WritesGiven, decides, decides_by, decides_up_to, is_stray, line_bytes, moved_to, passed, stays_as_given, with_owner, writes_at_once, Matched, matched_with, named, owner_of}
+use Rattle.bt_seq.specs.model.Masked.{is_header, name_in, ends_name}
 use Rattle.bt_seq.specs.inside.Window.{gone_on, no_bases, masked_in}
 use Rattle.bt_seq.specs.declared.mask.mask_want.MaskWant.TheVariants.{Line, Bed, Nothing}
 use Rattle.bt_seq.specs.declared.mask.matching.Owner.{Owner}
 use Rattle.bt_seq.specs.declared.sam.extent.Extent.{Extent}
+use Rattle.bt_lines.specs.calls.Columns.{IsBefore, Lacks}
 
 -- what is put of a line into which nothing reaches
 plain_bytes : (old : Masking) (line : Waiting) → old.window.held ≡ []
@@ -135,3 +134,158 @@ wrote_line old inside known new r owner matched line out grown k e o m d w = (
       ∙ ap (λ (s : Masking). record (with_owner s r.chrom) { waiting = None; want = Line; decided_to = decides_up_to (owner_of s.matched r.chrom) r.start }) e,
   subst (λ (s : Masking). Grown out (line_bytes s line) grown) (k ∙ ap (λ (s : Masking). record s { matched = matched; decided_to = decides_up_to owner r.start }) e) w.1,
 )
+
+-- Lemmas on masked bases.
+
+-- a byte is mapped after those that were
+pub one_mapped : (f : ℕ → ℕ) (bytes : List ℕ) (i : ℕ) → i < length bytes
+    → slice_set (map f (take i bytes) ++ drop i bytes) i (f (slice_index_or (map f (take i bytes) ++ drop i bytes) i 0)) ≡ map f (take (i + 1) bytes) ++ drop (i + 1) bytes
+one_mapped f [] i low = absurd (omega arith)
+one_mapped f (byte ∷ bytes) zero low = refl
+one_mapped f (byte ∷ bytes) (suc i) low = let next : suc i + 1 ≡ suc (i + 1) = omega arith in rw next (ap (λ bs. f byte ∷ bs) (one_mapped f bytes i (omega arith)))
+
+-- Lemmas on bases that are masked by lanes.
+
+module _ (f : ℕ → ℕ) (old : List ℕ) (at : ℕ) (within : at + 32 ≤ length old) where
+  -- as many were masked as come before these lanes
+  as_many : length (map f (take at old)) ≡ at
+  as_many = length-map (take at old) f ∙ length-take-le at old (omega (arith, within))
+
+  -- the lanes are still as they were
+  same_lanes : (bases : List ℕ) → bases ≡ map f (take at old) ++ drop at old → chunk at 32 bases ≡ take 32 (drop at old)
+  same_lanes bases is = ap (λ l. take 32 (drop at l)) is ∙ ap (take 32) (drop_at (map f (take at old)) (drop at old) at as_many)
+
+  so_many : length (map f (take 32 (drop at old))) ≡ 32
+  so_many = length-map (take 32 (drop at old)) f ∙ length-take-le 32 (drop at old) (omega (arith, within, length-drop at old))
+
+  so_long : (bases : List ℕ) → bases ≡ map f (take at old) ++ drop at old → length bases ≡ length old
+  so_long bases is = omega (arith, within, ap length is, length-append (map f (take at old)) (drop at old), as_many, length-drop at old)
+
+  -- once the lanes are masked, the ones before the next lanes are
+  pub masked_more : (bases lanes : List ℕ) → bases ≡ map f (take at old) ++ drop at old → lanes ≡ map f (chunk at 32 bases)
+      → put_chunk at bases lanes ≡ map f (take (at + 32) old) ++ drop (at + 32) old
+  masked_more bases lanes is masked =
+      let here : lanes ≡ map f (take 32 (drop at old)) = masked ∙ ap (map f) (same_lanes bases is) in
+      let many : length lanes ≡ 32 = ap length here ∙ so_many in
+      let left : take at bases ≡ map f (take at old) = ap (take at) is ∙ take_at (map f (take at old)) (drop at old) at as_many in
+      let right : drop at bases ≡ drop at old = ap (drop at) is ∙ drop_at (map f (take at old)) (drop at old) at as_many in
+      let behind : drop (length lanes) (drop at bases) ≡ drop (at + 32) old = ap (λ n. drop n (drop at bases)) many ∙ ap (drop 32) right ∙ drop-drop 32 at old in
+      put_chunk_is at bases lanes (omega (arith, within, many, so_long bases is))
+      ∙ ap (λ l. l ++ (lanes ++ drop (length lanes) (drop at bases))) left
+      ∙ ap (λ l. map f (take at old) ++ (lanes ++ l)) behind
+      ∙ ap (λ l. map f (take at old) ++ (l ++ drop (at + 32) old)) here
+      ∙ sym (append_assoc (map f (take at old)) (map f (take 32 (drop at old))) (drop (at + 32) old))
+      ∙ ap (λ l. l ++ drop (at + 32) old) (sym (map-append f (take at old) (take 32 (drop at old))) ∙ ap (map f) (sym (take-add at 32 old)))
+
+-- once the rest is masked too, all are
+module _ (f : ℕ → ℕ) (old bases : List ℕ) (at : ℕ) (within : at ≤ length old) (is : bases ≡ map f (take at old) ++ drop at old) where
+  so_far : length (map f (take at old)) ≡ at
+  so_far = length-map (take at old) f ∙ length-take-le at old within
+
+  front_masked : take at bases ≡ map f (take at old)
+  front_masked = ap (take at) is ∙ take_at (map f (take at old)) (drop at old) at so_far
+
+  back : drop at bases ≡ drop at old
+  back = ap (drop at) is ∙ drop_at (map f (take at old)) (drop at old) at so_far
+
+  pub masked_rest : (rest : List ℕ) → rest ≡ map f (take (length bases - at) (drop at bases)) → take at bases ++ (rest ++ drop (length bases - at) (drop at bases)) ≡ map f old
+  masked_rest rest masked =
+      let whole : rest ≡ map f (drop at old) = masked ∙ ap (map f) (take_rest bases at) ∙ ap (map f) back in
+      let none : drop (length bases - at) (drop at bases) ≡ [] = drop_all (length bases - at) (drop at bases) (omega (arith, length-drop at bases)) in
+      ap₂ (λ l r. l ++ r) front_masked (ap₂ (λ l r. l ++ r) whole none ∙ append-nil (map f (drop at old)))
+      ∙ sym (map-append f (take at old) (drop at old)) ∙ ap (map f) (take-append-drop at old)
+
+-- two functions that agree on each byte
+same_at : (f g : ℕ → ℕ) (byte : ℕ) → agree_below (λ b. eqb (f b) (g b)) (λ b. true) 256 ≡ true → Fits w8 byte → f byte ≡ g byte
+same_at f g byte agrees fits = eqb_yes (subst T (sym (agree_below_at (λ b. eqb (f b) (g b)) (λ b. true) 256 byte agrees fits.fits)) tt)
+
+same_on_bytes : (f g : ℕ → ℕ) (bytes : List ℕ) → agree_below (λ b. eqb (f b) (g b)) (λ b. true) 256 ≡ true → Each1 (Fits w8) bytes → map f bytes ≡ map g bytes
+same_on_bytes f g [] agrees fits = refl
+same_on_bytes f g (byte ∷ bytes) agrees fits = ap₂ (λ b bs. b ∷ bs) (same_at f g byte agrees fits.0) (same_on_bytes f g bytes agrees fits.1)
+
+-- a choice between lanes that were computed from a vector and that vector
+chosen : (f g : ℕ → ℕ) (bytes : List ℕ) → sel_l (map (top 7) (map f bytes)) (map g bytes) bytes ≡ map (λ b. cond (top 7 (f b)) (g b) b) bytes
+chosen f g [] = refl
+chosen f g (byte ∷ bytes) = ap (λ bs. cond (top 7 (f byte)) (g byte) byte ∷ bs) (chosen f g bytes)
+
+pub chosen_lanes : (f g h : ℕ → ℕ) (bytes : List ℕ) {tests lanes : List ℕ} → Each1 (Fits w8) bytes → tests ≡ map f bytes → lanes ≡ map g bytes
+    → agree_below (λ b. eqb (cond (top 7 (f b)) (g b) b) (h b)) (λ b. true) 256 ≡ true
+    → sel_l (map (top 7) tests) lanes bytes ≡ map h bytes
+chosen_lanes f g h bytes fits tests lanes agrees =
+    ap₂ (λ ts ls. sel_l (map (top 7) ts) ls bytes) tests lanes ∙ chosen f g bytes ∙ same_on_bytes (λ b. cond (top 7 (f b)) (g b) b) h bytes agrees fits
+
+-- Lemmas on the names that headers give.
+
+abbrev in_name : ℕ → Bool
+in_name byte = not (ends_name byte)
+
+goes_on : (byte : ℕ) → (byte == 32) ≡ false → (byte == 9) ≡ false → in_name byte ≡ true
+goes_on byte space tab = rw (space, tab) refl
+
+-- bytes up to one that ends the name
+before_end : (xs ys : List ℕ) (last : ℕ) → Lacks 32 xs → Lacks 9 xs → ends_name last ≡ true → take_while in_name (xs ++ last ∷ ys) ≡ xs
+before_end [] ys last space tab ends = take_while-cons in_name last ys ∙ ap (λ b. cond (not b) (last ∷ take_while in_name ys) []) ends
+before_end (x ∷ xs) ys last space tab ends =
+    take_while-cons in_name x (xs ++ last ∷ ys)
+    ∙ ap (λ b. cond b (x ∷ take_while in_name (xs ++ last ∷ ys)) [])
+    (goes_on x (All-head (λ byte. (byte == 32) ≡ false) x xs space) (All-head (λ byte. (byte == 9) ≡ false) x xs tab))
+    ∙ ap (λ l. x ∷ l) (before_end xs ys last (All-tail (λ byte. (byte == 32) ≡ false) x xs space) (All-tail (λ byte. (byte == 9) ≡ false) x xs tab) ends)
+
+-- all bytes
+all_named : (xs : List ℕ) → Lacks 32 xs → Lacks 9 xs → take_while in_name xs ≡ xs
+all_named [] space tab = refl
+all_named (x ∷ xs) space tab =
+    take_while-cons in_name x xs
+    ∙ ap (λ b. cond b (x ∷ take_while in_name xs) [])
+    (goes_on x (All-head (λ byte. (byte == 32) ≡ false) x xs space) (All-head (λ byte. (byte == 9) ≡ false) x xs tab))
+    ∙ ap (λ l. x ∷ l) (all_named xs (All-tail (λ byte. (byte == 32) ≡ false) x xs space) (All-tail (λ byte. (byte == 9) ≡ false) x xs tab))
+
+module _ (text : List ℕ) (end n : ℕ) (space : IsBefore 32 text end) (tab : IsBefore 9 (take end text) n) where
+  abbrev front : List ℕ
+  front = take end text
+
+  size : length front ≡ end
+  size = length-take-le end text space.within
+
+  pub name_within : n ≤ length text
+  name_within = omega (arith, size, tab.within, space.within)
+
+  -- a tab ends it
+  by_tab : n < length front → take n text ≡ take_while in_name text
+  by_tab below =
+      let name = take n front in
+      let rest = drop (n + 1) front ++ drop end text in
+      let whole : text ≡ name ++ 9 ∷ rest =
+      sym (take-append-drop end text) ∙ ap (λ l. l ++ drop end text) (tab.cut below) ∙ append_assoc name (9 ∷ drop (n + 1) front) (drop end text) in
+      let is : take n text ≡ name = ap (take n) whole ∙ take_at name (9 ∷ rest) n (length-take-le n front tab.within) in
+      is ∙ sym (ap (take_while in_name) whole ∙ before_end name rest 9 (All-take (λ byte. (byte == 32) ≡ false) n front space.clear) tab.clear refl)
+
+  -- else a space does, or the end of the text
+  module _ (none : n ≡ length front) where
+    clear : Lacks 9 front
+    clear = subst (Lacks 9) (take_all n front (omega (arith, none))) tab.clear
+
+    by_space : end < length text → take n text ≡ take_while in_name text
+    by_space below =
+        let whole : text ≡ front ++ 32 ∷ drop (end + 1) text = space.cut below in
+        let is : take n text ≡ front = ap (λ k. take k text) (none ∙ size) in
+        is ∙ sym (ap (take_while in_name) whole ∙ before_end front (drop (end + 1) text) 32 space.clear clear refl)
+
+    by_end : length text ≤ end → take n text ≡ take_while in_name text
+    by_end over =
+        let all : front ≡ text = take_all end text over in
+        ap (λ k. take k text) (none ∙ size) ∙ all ∙ sym (ap (take_while in_name) (sym all) ∙ all_named front space.clear clear ∙ all)
+
+    by_rest : (b : Bool) → nat_lt end (length text) ≡ b → take n text ≡ take_while in_name text
+    by_rest true e = by_space (let below : end < length text = grind (arith, nat_tests) in below)
+    by_rest false e = by_end (let over : length text ≤ end = grind (arith, nat_tests) in over)
+
+  by_front : (b : Bool) → nat_lt n (length front) ≡ b → take n text ≡ take_while in_name text
+  by_front true e = by_tab (let below : n < length front = grind (arith, nat_tests) in below)
+  by_front false e =
+      let over : length front ≤ n = grind (arith, nat_tests) in
+      let all : n ≡ length front = omega (arith, over, tab.within) in
+      by_rest all (nat_lt end (length text)) refl
+
+  pub name_is : take n text ≡ take_while in_name text
+  name_is = by_front (nat_lt n (length front)) refl

@@ -1,30 +1,23 @@
 -- Lemmas on lines and records that are given to a masking engine together.
 use Rattle.bt_lines.proofs.Std.{◌≡◌, ◌⊎◌, inl, inr, ℕ, ◌<◌, ◌≤◌, Bool, true, false, cond, List, [], ◌∷◌, ◌++◌, length, append-nil, append_assoc, Option, None, Some, Result, Ok, Err, refl, sym, ap, ◌∙◌, subst, arith, flat_map, is_some, false≢true}
-use Rattle.bt_bed.specs.model.feature.Feature.{Feature}
+use Rattle.bt_bed.specs.model.Feature.{Feature}
 use Rattle.bt_bed.specs.declared.record.taken.Taken.{Taken}
 use Rattle.bt_bed.specs.declared.record.taken.Taken.TheVariants.{Yes, No}
-use Rattle.bt_lines.proofs.lemmas.writer.PuttingLemmas.{grown_more, grown_none}
-use Rattle.bt_lines.specs.calls.Buffered.{PassesLine, lines_in}
+use Rattle.bt_lines.proofs.lemmas.Writer.{grown_more, grown_none}
+use Rattle.bt_lines.specs.calls.Reader.{PassesLine, lines_in}
 use Rattle.bt_lines.specs.model.Lines.{TextLine, spelled}
 use Rattle.bt_lines.specs.calls.Names.{fault_value}
-use Rattle.bt_lines.specs.calls.Output.{Output}
-use Rattle.bt_lines.specs.calls.Putting.{Grown}
+use Rattle.bt_lines.specs.calls.Output.{Output, Grown}
 use Rattle.bt_lines.specs.declared.reader.buffered_lines.BufferedLines.{BufferedLines}
 use Rattle.bt_lines.specs.declared.fault.Fault.{Fault}
-use Rattle.bt_seq.proofs.lemmas.mask.steps.CopyLemmas.{none_pass, pass_more, pass_one}
+use Rattle.bt_seq.proofs.lemmas.mask.steps.CopyLemmas.{none_pass, pass_more, pass_one, stays_at, wants_bed, wants_line}
 use Rattle.bt_seq.proofs.lemmas.mask.steps.LineStepLemmas.{gives_line}
 use Rattle.bt_seq.proofs.lemmas.mask.bases.MaskingLemmas.{passes_line}
-use Rattle.bt_seq.proofs.lemmas.mask.steps.SettleLemmas.{decided_goes, goes_more, goes_nowhere, line_goes, record_goes}
-use Rattle.bt_seq.proofs.lemmas.mask.steps.StandLemmas.{stays_at, wants_bed, wants_line}
-use Rattle.bt_seq.specs.inside.CopyThrough.{CopiesThrough, StayEach, passed_all}
-use Rattle.bt_seq.specs.calls.MaskSettles.{PassesLines, GoesOn}
-use Rattle.bt_seq.specs.calls.MaskAdvance.{BothCome, ComesAfter, ComesNext, FailsAtRecord, GivesBoth, HasCome, asks_more, left_to_give}
-use Rattle.bt_seq.specs.calls.MaskStage.{IsNext, MaskStage, is_written_at_once, reached, want_of, with_decided, with_line, with_record}
-use Rattle.bt_seq.specs.calls.MaskStanding.{MaskMovesTo, MaskStandsAt}
-use Rattle.bt_seq.specs.calls.MaskState.{Masking, TakesLine, passed, stays_as_given}
-use Rattle.bt_seq.specs.calls.MaskSteps.{ChecksRecord, GivesBed, GivesNextLine, TakesNextLine, bytes_with}
-use Rattle.bt_seq.specs.model.Masked.{masked_line}
-use Rattle.bt_seq.specs.model.Sequences.{SequenceLine, line_says}
+use Rattle.bt_seq.proofs.lemmas.mask.steps.BedStepLemmas.{decided_goes, goes_more, goes_nowhere, line_goes, record_goes}
+use Rattle.bt_seq.specs.inside.Masking.{CopiesThrough, StayEach, passed_all}
+use Rattle.bt_seq.specs.calls.MaskStage.{PassesLines, GoesOn, IsNext, MaskStage, is_written_at_once, reached, want_of, with_decided, with_line, with_record, Masking, TakesLine, passed, stays_as_given}
+use Rattle.bt_seq.specs.calls.MaskSteps.{BothCome, ComesAfter, ComesNext, FailsAtRecord, GivesBoth, HasCome, asks_more, left_to_give, MaskMovesTo, MaskStandsAt, ChecksRecord, GivesBed, GivesNextLine, TakesNextLine, bytes_with}
+use Rattle.bt_seq.specs.model.Masked.{masked_line, SequenceLine, line_says}
 use Rattle.bt_seq.specs.declared.mask.mask_how.MaskHow.{MaskHow}
 use Rattle.bt_seq.specs.declared.mask.mask_want.MaskWant.{MaskWant}
 use Rattle.bt_seq.specs.declared.mask.mask_want.MaskWant.TheVariants.{Line, Bed, Nothing}

@@ -1,5 +1,5 @@
 use Rattle.bt_lines.proofs.Std.{◌≡◌, true, Bool, Ok}
-use Rattle.bt_seq.specs.calls.MaskAdvance.{GivesBoth, Stays, left_to_give}
+use Rattle.bt_seq.specs.calls.MaskSteps.{GivesBoth, Stays, left_to_give}
 use Rattle.bt_seq.specs.declared.mask.mask_want.MaskWant.TheVariants.{Nothing}
 use Rattle.bt_seq.proofs.mask.Mask.advance.Given as goal
 

@@ -1,10 +1,10 @@
 use Rattle.bt_lines.proofs.Std.{◌∙◌, ap, subst, sym, err_from_is_err_and}
 use Rattle.bt_bed.specs.calls.Bed.{feature_lent}
 use Rattle.bt_seq.proofs.lemmas.mask.steps.BedStepLemmas.{checks_bed, lacks_sequence}
-use Rattle.bt_seq.proofs.lemmas.mask.steps.StandLemmas.{stays_at}
+use Rattle.bt_seq.proofs.lemmas.mask.steps.CopyLemmas.{stays_at}
 use Rattle.bt_seq.proofs.mask.Mask.give_bed.Goals as goal
-use Rattle.bt_seq.specs.calls.MaskStanding.{MaskMovesTo}
-use Rattle.bt_seq.specs.calls.MaskState.{Masking}
+use Rattle.bt_seq.specs.calls.MaskSteps.{MaskMovesTo}
+use Rattle.bt_seq.specs.calls.MaskStage.{Masking}
 
 pub returns-in_err-check_bed-clause-none_waits : goal.returns-in_err-check_bed-clause-none_waits
 returns-in_err-check_bed-clause-none_waits g c = λ stage stands none next.

@@ -1,6 +1,6 @@
 use Rattle.bt_lines.proofs.Std.{◌∷◌, [], sym, subst, err_from_is_err_and}
 use Rattle.bt_bed.specs.calls.Bed.{feature_lent}
-use Rattle.bt_bed.specs.model.feature.Feature.{Feature}
+use Rattle.bt_bed.specs.model.Feature.{Feature}
 use Rattle.bt_seq.proofs.lemmas.mask.steps.AdvanceLemmas.{failed_record, gave_left, gave_taken}
 use Rattle.bt_seq.proofs.mask.Mask.give_record.Goals as goal
 

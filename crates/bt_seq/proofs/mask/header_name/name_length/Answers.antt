@@ -1,4 +1,4 @@
-use Rattle.bt_seq.proofs.lemmas.mask.bases.NameLemmas.{name_is}
+use Rattle.bt_seq.proofs.lemmas.mask.bases.MaskingLemmas.{name_is}
 use Rattle.bt_seq.proofs.mask.header_name.name_length.Goals as goal
 
 pub returns-clause-name : goal.returns-clause-name

@@ -1,7 +1,7 @@
 use Rattle.bt_lines.proofs.Std.{ltb, cond, refl, splat_is_map, zip2_of_maps, zip2_splat}
 use Rattle.bt_seq.specs.model.Masked.{masked_byte}
 use Rattle.bt_seq.specs.declared.mask.mask_how.MaskHow.TheVariants.{Soft}
-use Rattle.bt_seq.proofs.lemmas.mask.bases.LaneLemmas.{chosen_lanes}
+use Rattle.bt_seq.proofs.lemmas.mask.bases.MaskingLemmas.{chosen_lanes}
 use Rattle.bt_seq.proofs.mask.mask_how.lower_lanes.Goals as goal
 
 pub returns : goal.returns

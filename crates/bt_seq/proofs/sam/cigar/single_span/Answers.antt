@@ -1,5 +1,5 @@
 use Rattle.bt_lines.proofs.Std.{◌-◌, arith, length}
-use Rattle.bt_seq.proofs.lemmas.sam.CigarLemmas.{single_span_is}
+use Rattle.bt_seq.proofs.lemmas.Sam.{single_span_is}
 use Rattle.bt_seq.proofs.sam.cigar.single_span.Goals as goal
 
 pub returns : goal.returns

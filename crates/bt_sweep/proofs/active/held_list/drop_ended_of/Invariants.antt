@@ -1,5 +1,5 @@
 use Rattle.bt_lines.proofs.Std.{◌≡◌, ◌++◌, drop, filter, length, nat_lt, take}
-use Rattle.bt_bed.specs.model.feature.Feature.{Feature}
+use Rattle.bt_bed.specs.model.Feature.{Feature}
 use Rattle.bt_sweep.proofs.active.held_list.drop_ended_of.Given as goal
 
 -- those that were visited and haven't ended come after the others

@@ -1,5 +1,5 @@
 use Rattle.bt_lines.proofs.Std.{◌≡◌, false, nat_le, take, list_any}
-use Rattle.bt_bed.specs.model.feature.Feature.{Feature}
+use Rattle.bt_bed.specs.model.Feature.{Feature}
 use Rattle.bt_sweep.proofs.active.held_list.has_ended.Given as goal
 
 abbrev pub invariant-loop-index : goal.invariant-loop-index

@@ -1,6 +1,6 @@
 use Rattle.bt_lines.proofs.Std.{◌∙◌, ◌+◌, ap, arith, nat_lt, option_to_list, sym, list_any}
-use Rattle.bt_bed.specs.model.feature.Feature.{Feature}
-use Rattle.bt_sweep.proofs.lemmas.active.HeldListLemmas.{come_before, come_from}
+use Rattle.bt_bed.specs.model.Feature.{Feature}
+use Rattle.bt_sweep.proofs.lemmas.Active.{come_before, come_from}
 use Rattle.bt_sweep.proofs.active.held_list.started_in.Goals as goal
 
 pub loop-low-preserved-then-starts_before : goal.loop-low-preserved-then-starts_before

@@ -1,5 +1,5 @@
 use Rattle.bt_lines.proofs.Std.{◌-◌, ◌≤◌, length, IsNonDecreasingBy}
-use Rattle.bt_sweep.proofs.lemmas.active.HeldListLemmas.{ComeBefore, ComeFrom}
+use Rattle.bt_sweep.proofs.lemmas.Active.{ComeBefore, ComeFrom}
 use Rattle.bt_sweep.proofs.active.held_list.started_in.Given as goal
 
 -- those before `low` start before the place, and those from `high` on there or after it

@@ -1,7 +1,7 @@
 use Rattle.bt_lines.proofs.Std.{◌∙◌, true, false, arith, ap, sym, option_to_list, take, list_any}
 use Rattle.bt_bed.specs.calls.Bed.{feature_lent}
 use Rattle.bt_sweep.specs.model.Hits.{hits}
-use Rattle.bt_sweep.proofs.lemmas.output.HeldLemmas.{count_next, get_took}
+use Rattle.bt_sweep.proofs.lemmas.Output.{count_next, get_took}
 use Rattle.bt_sweep.proofs.hits.hit.count_hits.Goals as goal
 use Rattle.bt_sweep.proofs.hits.hit.count_hits.Goals.{then-is_hit_by, else-is_hit_by}
 

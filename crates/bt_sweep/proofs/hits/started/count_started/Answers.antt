@@ -1,6 +1,6 @@
 use Rattle.bt_lines.proofs.Std.{◌∙◌, ◌≡◌, ◌+◌, ◌-◌, ◌<◌, ap, arith, length, nat_le, option_to_list, sym, list_any}
-use Rattle.bt_bed.specs.model.feature.Feature.{Feature}
-use Rattle.bt_sweep.proofs.lemmas.hits.StartedLemmas.{start_ahead}
+use Rattle.bt_bed.specs.model.Feature.{Feature}
+use Rattle.bt_sweep.proofs.lemmas.Output.{start_ahead}
 use Rattle.bt_sweep.proofs.hits.started.count_started.Goals as goal
 
 pub returns-then-not-starts_from-clause-before : goal.returns-then-not-starts_from-clause-before

@@ -1,12 +1,10 @@
 use Rattle.bt_lines.proofs.Std.{ℕ, Err, Ok, Option, arith, ap, subst, ◌∙◌, option_to_list, sym, take, err_from_is_err_and}
-use Rattle.bt_lines.specs.calls.Putting.{Adds}
+use Rattle.bt_lines.specs.calls.Output.{Adds}
 use Rattle.bt_bed.specs.calls.Bed.{feature_lent}
-use Rattle.bt_bed.specs.model.feature.Feature.{Feature}
+use Rattle.bt_bed.specs.model.Feature.{Feature}
 use Rattle.bt_sweep.specs.model.Hits.{hits_among}
-use Rattle.bt_sweep.specs.inside.Walking.{free_after, lines_before}
-use Rattle.bt_sweep.proofs.lemmas.output.HeldLemmas.{get_took, took_few}
-use Rattle.bt_sweep.proofs.lemmas.hits.StartedLemmas.{rising_took}
-use Rattle.bt_sweep.proofs.lemmas.output.WalkLemmas.{free_next, pieces_cut, pieces_end, pieces_next}
+use Rattle.bt_sweep.specs.inside.Pieces.{free_after, lines_before}
+use Rattle.bt_sweep.proofs.lemmas.Output.{get_took, took_few, rising_took, free_next, pieces_cut, pieces_end, pieces_next}
 use Rattle.bt_sweep.proofs.output.pieces.put_pieces.Goals as goal
 
 pub returns-in_err-free : goal.returns-in_err-free

@@ -1,8 +1,8 @@
 use Rattle.bt_lines.proofs.Std.{◌≡◌, take}
-use Rattle.bt_lines.specs.calls.Putting.{Grown}
+use Rattle.bt_lines.specs.calls.Output.{Grown}
 use Rattle.bt_bed.specs.calls.Bed.{feature_lent}
 use Rattle.bt_sweep.specs.model.Hits.{hits_among}
-use Rattle.bt_sweep.specs.inside.Walking.{free_after, lines_before}
+use Rattle.bt_sweep.specs.inside.Pieces.{free_after, lines_before}
 use Rattle.bt_sweep.proofs.output.pieces.put_pieces.Given as goal
 
 -- the pieces before those so far were put

@@ -1,11 +1,11 @@
 use Rattle.bt_lines.proofs.Std.{List, Ok, Err, Option, arith, ap, subst, flat_map, option_to_list, sym, take, ◌∙◌, err_from_is_err_and}
-use Rattle.bt_lines.specs.calls.Putting.{Adds, Grown}
+use Rattle.bt_lines.specs.calls.Output.{Adds, Grown}
 use Rattle.bt_bed.specs.calls.Bed.{feature_lent}
-use Rattle.bt_bed.specs.model.feature.Feature.{Feature}
+use Rattle.bt_bed.specs.model.Feature.{Feature}
 use Rattle.bt_sweep.specs.model.Hits.{hits, hits_among}
-use Rattle.bt_sweep.specs.model.IntersectLines.{hit_line}
+use Rattle.bt_sweep.specs.model.Lines.{hit_line}
 use Rattle.bt_sweep.proofs.lemmas.definitions.HitLemmas.{took_hits}
-use Rattle.bt_sweep.proofs.lemmas.output.HeldLemmas.{get_took, lines_cut, lines_next, take_whole, took_few}
+use Rattle.bt_sweep.proofs.lemmas.Output.{get_took, lines_cut, lines_next, take_whole, took_few}
 use Rattle.bt_sweep.proofs.output.writing.put_hits.Goals as goal
 
 pub returns-in_err-put_if_hit : goal.returns-in_err-put_if_hit

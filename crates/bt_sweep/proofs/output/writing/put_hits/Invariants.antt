@@ -1,8 +1,8 @@
 use Rattle.bt_lines.proofs.Std.{flat_map, take}
-use Rattle.bt_lines.specs.calls.Putting.{Grown}
+use Rattle.bt_lines.specs.calls.Output.{Grown}
 use Rattle.bt_bed.specs.calls.Bed.{feature_lent}
 use Rattle.bt_sweep.specs.model.Hits.{hits_among}
-use Rattle.bt_sweep.specs.model.IntersectLines.{hit_line}
+use Rattle.bt_sweep.specs.model.Lines.{hit_line}
 use Rattle.bt_sweep.proofs.output.writing.put_hits.Given as goal
 
 -- the lines of those so far were put

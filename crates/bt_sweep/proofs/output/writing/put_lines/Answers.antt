@@ -1,7 +1,7 @@
 use Rattle.bt_lines.proofs.Std.{ap, not, take}
 use Rattle.bt_bed.specs.calls.Bed.{feature_lent}
 use Rattle.bt_sweep.proofs.lemmas.definitions.HitLemmas.{took_lines}
-use Rattle.bt_sweep.proofs.lemmas.output.WritingLemmas.{count_adds, hits_adds, once_adds, pieces_add, unmatched_adds}
+use Rattle.bt_sweep.proofs.lemmas.Output.{count_adds, hits_adds, once_adds, pieces_add, unmatched_adds}
 use Rattle.bt_sweep.proofs.output.writing.put_lines.Goals as goal
 
 pub returns-in-Count : goal.returns-in-Count

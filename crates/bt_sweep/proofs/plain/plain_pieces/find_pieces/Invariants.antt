@@ -1,9 +1,9 @@
 use Rattle.bt_lines.proofs.Std.{◌≡◌, ◌-◌}
 use Rattle.bt_bed.specs.calls.Bed.{feature_lent}
-use Rattle.bt_bed.specs.model.feature.Stretches.{stretches_from}
+use Rattle.bt_bed.specs.model.Feature.{stretches_from}
 use Rattle.bt_sweep.specs.model.Hits.{hits_among}
-use Rattle.bt_sweep.specs.model.Pieces.{is_left}
-use Rattle.bt_sweep.specs.inside.PlainPieces.{pieces_in}
+use Rattle.bt_sweep.specs.model.Lines.{is_left}
+use Rattle.bt_sweep.specs.inside.Pieces.{pieces_in}
 use Rattle.bt_sweep.proofs.plain.plain_pieces.find_pieces.Given as goal
 
 -- the pieces of the positions so far, from the last one on

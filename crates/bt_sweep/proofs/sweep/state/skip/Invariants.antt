@@ -1,5 +1,5 @@
 use Rattle.bt_lines.proofs.Std.{◌≡◌, List}
-use Rattle.bt_bed.specs.model.feature.Feature.{Feature}
+use Rattle.bt_bed.specs.model.Feature.{Feature}
 use Rattle.bt_sweep.specs.inside.Joining.{LieOn}
 use Rattle.bt_sweep.proofs.sweep.state.skip.Given as goal
 

@@ -1,49 +1,62 @@
 -- Lemmas on driving an engine, from the records that it takes to the report on what its input hands over.
-use Rattle.bt_lines.proofs.Std.{◌≡◌, ℕ, suc, ◌-◌, true, List, [], ◌++◌, take, Option, None, Some, Ok, Err, refl, sym, ap, ◌∙◌, subst, append-nil, append_assoc, arith, inl, inr, ◌⊎◌, ◌≢◌, ⊤, IfSome, map-append, Appends, Consumes}
+use Rattle.bt_lines.proofs.Std.{◌≡◌, ℕ, suc, ◌-◌, true, List, [], ◌++◌, take, Option, None, Some, Ok, Err, refl, sym, ap, ◌∙◌, subst, append-nil, append_assoc, arith, inl, inr, ◌⊎◌, ◌≢◌, ⊤, IfSome, map-append, Appends, Consumes, Bool, ◌∷◌, option_map, flat_map-append, Appends-nil, false≢true}
 use Rattle.bt_lines.specs.declared.device.Source.{Ghosts as Source}
 use Rattle.bt_lines.proofs.lemmas.reader.block.ReadsLemmas.{some_is}
-use Rattle.bt_lines.proofs.lemmas.writer.OutputLemmas.{grows_both}
-use Rattle.bt_lines.specs.model.Fault.{FaultValue, write_failed, no_memory}
-use Rattle.bt_lines.specs.model.Handed.{Handed, whole_text}
-use Rattle.bt_lines.specs.model.Lines.{text_lines}
-use Rattle.bt_lines.specs.calls.Output.{Output, IsPrefixOf}
-use Rattle.bt_lines.specs.calls.Reader.{Hands, source_of, input_of, lines_given}
+use Rattle.bt_lines.proofs.lemmas.Writer.{grows_both}
+use Rattle.bt_lines.specs.model.Fault.{FaultValue, write_failed, no_memory, read_failed}
+use Rattle.bt_lines.specs.model.Lines.{Handed, whole_text, text_lines, TextLine}
+use Rattle.bt_lines.specs.calls.Output.{Output, IsPrefixOf, CutsRest, PutsRest, HoldsBlock, FailsToAdd, Grown}
+use Rattle.bt_lines.specs.calls.Reader.{Hands, source_of, input_of, lines_given, GivesEnd, GivesFault, GivesLine, IsKept, IsSound, bytes_taken, fault_kept, feeds_taken, lines_left}
 use Rattle.bt_lines.specs.declared.fault.Input.TheVariants.{First}
 use Rattle.bt_lines.specs.declared.fault.Kind.{Kind}
 use Rattle.bt_lines.specs.declared.fault.Kind.TheVariants.{ReadFailed}
-use Rattle.bt_bed.specs.model.feature.Feature.{Feature, intervals_of}
-use Rattle.bt_bed.specs.model.input.Good.{Format, Good, Member, good, good_handed, items_in}
-use Rattle.bt_bed.proofs.lemmas.read.good.GoodLemmas.{first_from}
+use Rattle.bt_bed.specs.model.Feature.{Feature, intervals_of, AreNonEmpty, fault_at_line, Interval, last_of, interval_line, interval_lines}
+use Rattle.bt_bed.specs.model.Good.{Format, Good, Member, good, good_handed, items_in, bed_format, bed_good}
+use Rattle.bt_bed.proofs.lemmas.read.good.SaidLemmas.{first_from}
 use Rattle.bt_lines.proofs.lemmas.reader.lines.TextLemmas.{lines_are_numbered}
-use Rattle.bt_bed.specs.model.input.GoodBed.{bed_format}
 use Rattle.bt_bed.specs.calls.Reading.{IsBeyond, MemberReader, good_coming}
-use Rattle.bt_bed.specs.model.feature.Interval.{AreNonEmpty}
-use Rattle.bt_bed.specs.model.order.Order.{Order, IsTotal}
-use Rattle.bt_bed.specs.model.order.Locus.{ArePlaced}
-use Rattle.bt_bed.specs.calls.SortedReader.{view_with}
+use Rattle.bt_bed.specs.model.Order.{Order, IsTotal}
+use Rattle.bt_bed.specs.model.Sorted.{ArePlaced, sorting_of}
+use Rattle.bt_bed.specs.calls.Batch.{view_with}
 use Rattle.bt_bed.specs.calls.Records.{order_in, view_of}
 use Rattle.bt_lines.specs.calls.Names.{fault_value}
-use Rattle.bt_lines.specs.calls.Putting.{CutsRest, PutsRest}
 use Rattle.bt_lines.specs.declared.fault.Fault.{Fault}
-use Rattle.bt_runs.specs.calls.Engine.{FailsToPutLeft, Finishes, RepeatsAtEnd}
-use Rattle.bt_bed.specs.model.order.Sorting.{sorting_of}
+use Rattle.bt_runs.specs.calls.Engine.{FailsToPutLeft, Finishes, RepeatsAtEnd, SettledBegins, SettledStays}
 use Rattle.bt_bed.specs.declared.order.ChromOrder.{Ghosts}
 use Rattle.bt_bed.specs.declared.read.records.Records.{Records}
-use Rattle.bt_bed.proofs.lemmas.definitions.GoodBedLemmas.{placed_good, non_empty_good}
-use Rattle.bt_tool.specs.calls.run.FaultSource.{IsFaultButWrite, IsReported, IsWithin, ReadsNoFurther, TellsDevice, TellsInput}
-use Rattle.bt_tool.specs.model.report.Behaviour.{of_members}
-use Rattle.bt_tool.specs.model.report.Inputs.{Holds, OfBoth}
-use Rattle.bt_tool.specs.calls.run.Writing.{WritesBy}
-use Rattle.bt_tool.proofs.lemmas.running.members.Coming.{Came}
-use Rattle.bt_tool.specs.inside.feed.Feeding.{StopCause, CutsLines, PutsLines, FeedsAll, FeedsUpTo, TookButBlock}
-use Rattle.bt_tool.specs.inside.feed.Passed.{IsReadFor, member_items}
-use Rattle.bt_tool.specs.model.report.RecordReport.{Report, members_report, members_settle, report_by}
-use Rattle.bt_tool.specs.model.report.Written.{Written}
-use Rattle.bt_tool.proofs.lemmas.running.feed.FeedLemmas.{GoesOn, front_all, goes_works, text_grows, took_later}
-use Rattle.bt_tool.proofs.lemmas.running.feed.FaultLemmas.{memory_no_write, placed_no_write}
-use Rattle.bt_tool.proofs.lemmas.running.members.CameMembers.{BeginsAt, at_whole, came_whole, good_whole, handed_to, says_fault, tells_fault}
+use Rattle.bt_bed.proofs.lemmas.Definitions.{placed_good, non_empty_good, placed_lines}
+use Rattle.bt_tool.specs.calls.Run.{IsFaultButWrite, IsReported, IsWithin, ReadsNoFurther, TellsDevice, TellsInput, WritesBy, IsOwnFailure, TellsOwnReads, RunsAlone}
+use Rattle.bt_tool.specs.model.Report.{of_members, Holds, OfBoth, of_records}
+use Rattle.bt_tool.proofs.lemmas.running.members.CursorLemmas.{Came, BeginsAt, at_whole, came_whole, good_whole, handed_to, says_fault, tells_fault, begins_over}
+use Rattle.bt_tool.specs.inside.Feed.{StopCause, CutsLines, PutsLines, FeedsAll, FeedsUpTo, TookButBlock, IsReadFor, member_items, LineRefused, sam_reader, IsFresh, KeepsOwnFault, Passes}
+use Rattle.bt_tool.specs.model.Written.{Report, members_report, members_settle, report_by, Written, IsOneOf, alignment_lines, alignments_written, merge_written, pooled_written, coverage_written}
+use Rattle.bt_tool.proofs.lemmas.running.feed.FeedLemmas.{GoesOn, front_all, goes_works, text_grows, took_later, Fed, fails_writing, fed_all, fed_none, fed_up_to, goes_same, put_more}
+use Rattle.bt_tool.proofs.lemmas.running.feed.WritingLemmas.{memory_no_write, placed_no_write, is_whole, named_alone, line_no_read, alone_writes}
 use Rattle.bt_tool.proofs.lemmas.running.members.SeenLemmas.{PutsFront, puts_front}
-use Rattle.bt_tool.proofs.lemmas.running.feed.WritingLemmas.{is_whole, named_alone}
+use Rattle.std.specs.Option.{option_map_or}
+use Rattle.bt_lines.specs.declared.fault.Input.{Input}
+use Rattle.bt_lines.specs.declared.reader.line_reader.LineReader.{LineReader}
+use Rattle.bt_seq.specs.model.Alignment.{Alignment, alignment_of, bed_lines, sam_format, is_sam_kind}
+use Rattle.bt_seq.specs.calls.Sam.{Converting}
+use Rattle.bt_seq.proofs.lemmas.Sam.{kinds_of_lines, wrong_kinds}
+use Rattle.bt_tool.proofs.lemmas.running.members.MemberLemmas.{IsStopped, came, passes_none, passes_some, read_line}
+use Rattle.bt_bed.proofs.lemmas.read.good.ReadingLemmas.{Going as Steps, going_end, going_start as steps_start, going_unread, going_wrong, good_at_first}
+use Rattle.bt_tool.proofs.lemmas.running.whole.OwnFailureLemmas.{feeds_own}
+use Rattle.bt_bed.specs.model.Genome.{Entry}
+use Rattle.bt_runs.specs.model.Gaps.{settled_gaps, AreTaken as AreTakenBy}
+use Rattle.bt_runs.specs.model.Merged.{AreTaken, merged_runs, passed_by, settled_runs, places_of, settled_strand_runs, strand_runs}
+use Rattle.bt_runs.specs.calls.Merging.{merge_begun, settled_lines, whole_output}
+use Rattle.bt_runs.specs.declared.merge.Kind.{Kind as MergeKind}
+use Rattle.bt_runs.specs.declared.merge.Kind.TheVariants.{PerStrand, Unstranded}
+use Rattle.bt_runs.specs.declared.merge.merge_strand.MergeStrand.{MergeStrand}
+use Rattle.bt_runs.specs.declared.merge.merge_strand.MergeStrand.TheVariants.{All, Each, One}
+use Rattle.bt_runs.proofs.lemmas.order.FileOrder.{ordered_come}
+use Rattle.bt_runs.proofs.lemmas.merge.SettledRuns.{runs_begin, runs_stay}
+use Rattle.bt_runs.proofs.lemmas.merge.StrandSettling.{begin, no_strand_settled, stay}
+use Rattle.bt_bed.specs.declared.record.strand.Strand.{Strand}
+use Rattle.bt_runs.specs.model.Depth.{coverage, depth_line, depth_lines, settled_depths}
+use Rattle.bt_runs.proofs.lemmas.coverage.DepthSteps.{settles_depths}
+use Rattle.bt_runs.proofs.lemmas.definitions.Standing.{begins, stays}
 
 items_both : {A : Type 0} (past rest : List (Member A)) → member_items (past ++ rest) ≡ member_items past ++ member_items rest
 items_both past rest = map-append (λ m. m.item) past rest
@@ -261,3 +274,277 @@ module _ {S A State : Type 0} (written : Written A) (kinds : Kind → Type 0) (S
       near = near_end (Some fault) (λ stops. stops.1 (ap Some is));
       named = λ told e. inr (inl (sym (some_is fault told e) ∙ is, sink));
     }
+
+-- Lemmas on writing the alignments of an input, line by line.
+
+-- an alignment on its line
+abbrev member_on : TextLine → Alignment → Member Alignment
+member_on line a = record { line = line.number; item = a }
+
+kept_of : {S : Type 0} (device : Source S) (reader : LineReader S) → IsSound device reader → IsKept device reader
+kept_of device reader sound = record { end = sound.end; within = sound.within }
+
+module _ {S : Type 0} (split cigar : Bool) (device : Source S) where
+  abbrev lines_of : List Alignment → List ℕ
+  lines_of = alignment_lines split cigar
+
+  abbrev Any : List Alignment → Type 0
+  Any past = ⊤
+
+  -- the lines so far were read, and their alignments written
+  pub record Going (old : LineReader S) (out : Output) (now : LineReader S) (grown : Output) : Type 0 where
+    pub past : List (Member Alignment)
+    pub fed : Fed lines_of device (sam_reader old) out past (sam_reader now) grown
+    pub sound : IsSound device now
+
+  module _ (old : LineReader S) (out : Output) where
+    pub going_start : IsFresh device (sam_reader old) → HoldsBlock out.took out.put → Going old out old out
+    going_start fresh block = record { past = []; fed = fed_none lines_of device (sam_reader old) out fresh fresh.going refl block; sound = fresh.sound }
+
+    module _ (now : LineReader S) (grown : Output) (g : Going old out now grown) where
+      abbrev UpTo : FaultValue → MemberReader S Alignment ⊤ → Output → Type 0
+      UpTo fault new later = FeedsUpTo lines_of (IsOneOf is_sam_kind) Any device (sam_reader old) out fault new later
+
+      abbrev steps : Steps device (sam_reader now) (sam_reader now)
+      steps = steps_start device (sam_reader now) refl refl
+
+      -- after the last line
+      pub converts_all : (new : LineReader S) → GivesEnd device now new → (IsSound device now → IsSound device new)
+          → FeedsAll lines_of (IsOneOf is_sam_kind) Any device Any (sam_reader old) out (sam_reader new) grown
+      converts_all new ends sound =
+          fed_all lines_of (IsOneOf is_sam_kind) Any device (sam_reader old) out g.past (sam_reader now) grown g.fed Any (sam_reader new)
+          (record {
+            ends = going_end device (sam_reader now) (sam_reader now) (sam_reader new) steps ends refl refl (record { state = refl; format = refl }) (λ same fault. ap sam_reader same);
+            kept = λ was. kept_of device new (sound g.sound);
+            clear = λ e. e;
+          }) tt tt
+
+      up_to : (new : MemberReader S Alignment ⊤) (fault : FaultValue) → IsStopped device (sam_reader now) fault new → UpTo fault new grown
+      up_to new fault stopped =
+          fed_up_to lines_of (IsOneOf is_sam_kind) Any device (sam_reader old) out g.past (sam_reader now) grown g.fed (λ state line kind says. wrong_kinds line.text kind says) new fault stopped tt
+
+      -- the reader reported a fault
+      pub stops_reading : (new : LineReader S) (fault : FaultValue) → GivesFault device now fault new → (IsSound device now → IsSound device new) → UpTo fault (sam_reader new) grown
+      stops_reading new fault gives sound =
+          up_to (sam_reader new) fault (record {
+            answers = going_unread device (sam_reader now) (sam_reader now) (sam_reader new) fault steps gives gives.kept refl (record { state = refl; format = refl }) (λ same fault. ap sam_reader same);
+            kept = λ was. kept_of device new (sound g.sound);
+          })
+
+      -- a line was given
+      module _ (new : LineReader S) (line : TextLine) (gives : GivesLine device now line new) (sound : IsSound device now → IsSound device new) where
+        kept : IsKept device now → IsKept device new
+        kept was = kept_of device new (sound g.sound)
+
+        abbrev pub stopped_at : FaultValue → MemberReader S Alignment ⊤
+        stopped_at fault = record { format = sam_format; below = new; state = tt; buffered = []; fault = Some fault }
+
+        -- it is at fault
+        pub stops_at_line : (fault : FaultValue) (later : Output) → LineRefused (input_of old) line grown fault later → UpTo fault (stopped_at fault) later
+        stops_at_line fault later refused =
+            let of_sam = wrong_kinds line.text refused.kind refused.says in
+            subst (λ o. UpTo fault (stopped_at fault) o) (sym refused.unchanged)
+            (up_to (stopped_at fault) fault (record {
+              answers = going_wrong device (sam_reader now) (sam_reader now) (stopped_at fault) line fault refused.kind steps (came device now new line gives) refl refl (record { state = refl; format = refl }) kept refused.says
+                  (kinds_of_lines refused.kind of_sam) (refused.is ∙ ap (λ i. fault_at_line i line.number refused.kind) (sym g.fed.passes.bytes.1.same_input));
+              kept = kept;
+            }))
+
+        pushed : (a : Alignment) → lines_of (member_items g.past ++ a ∷ []) ≡ lines_of (member_items g.past) ++ bed_lines split cigar a
+        pushed a = flat_map-append (bed_lines split cigar) (member_items g.past) (a ∷ []) ∙ ap (λ l. lines_of (member_items g.past) ++ l) (append-nil (bed_lines split cigar a))
+
+        with_it : (a : Alignment) → alignment_of line.text ≡ Ok (Some a) → Passes device (sam_reader old) (g.past ++ member_on line a ∷ []) (sam_reader new)
+        with_it a says = passes_some device (sam_reader old) (sam_reader now) g.past g.fed.passes (sam_reader new) line gives kept refl refl gives.goes a says refl
+
+        -- the lines of its alignment couldn't be written
+        pub stops_writing : (converting : Converting) → converting.split ≡ split → converting.with_cigar ≡ cigar → (fault : FaultValue) (later : Output) → ((said : Alignment) × (alignment_of line.text ≡ Ok (Some said)) × FailsToAdd grown (bed_lines converting.split converting.with_cigar said) fault later)
+            → UpTo fault (sam_reader new) later
+        stops_writing converting same same_cigar fault later unwritten =
+            let a = unwritten.0 in
+            let fails = unwritten.2.puts in
+            let lines = bed_lines converting.split converting.with_cigar a in
+            let is : lines ≡ bed_lines split cigar a = ap (λ s. bed_lines s converting.with_cigar a) same ∙ ap (λ c. bed_lines split c a) same_cigar in
+            fails_writing lines_of (IsOneOf is_sam_kind) Any device (sam_reader old) out g.past (g.past ++ member_on line a ∷ []) a (map-append (λ m. m.item) g.past (member_on line a ∷ [])) (sam_reader new) (with_it a unwritten.1)
+            (read_line device (sam_reader old) (sam_reader now) g.past g.fed.passes (sam_reader new) line gives kept refl refl gives.goes a unwritten.1 refl)
+            grown g.fed.put tt fault later lines
+            (pushed a ∙ ap (λ l. lines_of (member_items g.past) ++ l) (sym is)) fails.is fails.front fails.failed fails.sink_failed fails.grows
+
+        -- what is settled with these members was put
+        goes_with : (past : List (Member Alignment)) (bytes : List ℕ) (later : Output) → Passes device (sam_reader old) past (sam_reader new) → lines_of (member_items past) ≡ lines_of (member_items g.past) ++ bytes → Grown grown bytes later
+            → Going old out new later
+        goes_with past bytes later passes more writes = record {
+          past = past;
+          fed = record { passes = passes; put = rw more (put_more out grown later (lines_of (member_items g.past)) bytes g.fed.put writes) };
+          sound = sound g.sound;
+        }
+
+        goes_by : (said : Option Alignment) (later : Output) → alignment_of line.text ≡ Ok said → Grown grown (option_map_or (bed_lines split cigar) said []) later → Going old out new later
+        goes_by None later says writes =
+            goes_with g.past [] later (passes_none device (sam_reader old) (sam_reader now) g.past g.fed.passes (sam_reader new) line gives kept refl refl gives.goes says refl) (sym (append-nil (lines_of (member_items g.past)))) writes
+        goes_by (Some a) later says writes =
+            goes_with (g.past ++ member_on line a ∷ []) (bed_lines split cigar a) later (with_it a says) (ap lines_of (map-append (λ m. m.item) g.past (member_on line a ∷ [])) ∙ pushed a) writes
+
+        -- what it says was written
+        pub going_line : (converting after : Converting) → converting.split ≡ split → converting.with_cigar ≡ cigar → (later : Output) → ((said : Option Alignment) × (alignment_of line.text ≡ Ok said) × Grown grown (option_map_or (bed_lines converting.split converting.with_cigar) said []) later × (after ≡ converting)) → Going old out new later
+        going_line converting after same same_cigar later written =
+            goes_by written.0 later written.1
+            (subst (λ s. Grown grown (option_map_or (bed_lines s cigar) written.0 []) later) same (subst (λ c. Grown grown (option_map_or (bed_lines converting.split c) written.0 []) later) same_cigar written.2))
+
+-- a line that was refused is no failed read
+pub refused_no_read : (input : Input) (line : TextLine) (out : Output) (fault : FaultValue) (grown : Output) → LineRefused input line out fault grown → (other : Input) (at : ℕ) → Some fault ≡ Some (read_failed other at) → ⊥
+refused_no_read input line out fault grown refused other at e =
+    line_no_read input line.number refused.kind other at (kinds_of_lines refused.kind (wrong_kinds line.text refused.kind refused.says)) (sym refused.is ∙ some_is fault (read_failed other at) e)
+
+-- a reader that has given nothing yet, over the input of a run
+module _ {S : Type 0} (split cigar : Bool) (device : Source S) (first : S) (reader : LineReader S) (source : source_of reader ≡ first) (input : input_of reader ≡ First)
+    (taken : bytes_taken reader ≡ 0) (fed : feeds_taken reader ≡ 0) (given : lines_given reader ≡ 0) (going : fault_kept reader ≡ None) (lines : lines_left device.left reader ≡ option_map text_lines (device.left first)) (sound : IsSound device reader) where
+  starts_reader : BeginsAt device.left sam_format First first (sam_reader reader)
+  starts_reader = begins_over device reader (sam_reader reader) refl taken fed sam_format First first source input going lines (λ going. good_at_first device (sam_reader reader) going refl)
+
+  more_lines : (past more : List Alignment) → ⊤ → (rest : List ℕ) × (alignment_lines split cigar (past ++ more) ≡ alignment_lines split cigar past ++ rest)
+  more_lines past more h = (alignment_lines split cigar more, flat_map-append (bed_lines split cigar) past more)
+
+  module _ (converting : Converting) (same : converting ≡ record { split = split; with_cigar = cigar; fault = None }) (out : Output) (new : MemberReader S Alignment ⊤) (last : S) (ended : source_of new.below ≡ last) (grown : Output) where
+    abbrev Writes : Option FaultValue → Type 0
+    Writes fault = WritesBy device device (of_members (IsOneOf is_sam_kind) (alignments_written split cigar) sam_format) first None out fault last None grown
+
+    -- all of the input was read
+    pub writes_all : FeedsAll (alignment_lines converting.split converting.with_cigar) (IsOneOf is_sam_kind) (λ past. ⊤) device (λ past. ⊤) (sam_reader reader) out new grown → Writes None
+    writes_all fed =
+        let is = subst (λ (m : Converting). FeedsAll (alignment_lines m.split m.with_cigar) (IsOneOf is_sam_kind) (λ past. ⊤) device (λ past. ⊤) (sam_reader reader) out new grown) same fed in
+        drives_all (alignments_written split cigar) (IsOneOf is_sam_kind) (λ past. ⊤) (λ past. ⊤) more_lines more_lines device sam_format (λ text. tt) (sam_reader reader) first out starts_reader new last ended
+        (λ past. ⊤) grown is grown (goes_same grown) [] (sym (append-nil _)) (Appends-nil grown.put) refl
+
+    -- or it was read up to a fault
+    pub writes_up_to : (fault : FaultValue) → FeedsUpTo (alignment_lines converting.split converting.with_cigar) (IsOneOf is_sam_kind) (λ past. ⊤) device (sam_reader reader) out fault new grown → Writes (Some fault)
+    writes_up_to fault fed =
+        drives_fault (alignments_written split cigar) (IsOneOf is_sam_kind) (λ past. ⊤) (λ past. ⊤) more_lines more_lines device sam_format (λ text. tt) (sam_reader reader) first out starts_reader new last ended
+        fault grown (subst (λ (m : Converting). FeedsUpTo (alignment_lines m.split m.with_cigar) (IsOneOf is_sam_kind) (λ past. ⊤) device (sam_reader reader) out fault new grown) same fed)
+
+    -- a failed read that is reported is of a read that failed then
+    pub own_up_to : KeepsOwnFault device.is_read reader new → (fault : FaultValue) → FeedsUpTo (alignment_lines converting.split converting.with_cigar) (IsOneOf is_sam_kind) (λ past. ⊤) device (sam_reader reader) out fault new grown
+        → TellsOwnReads ⊥ (IsOwnFailure device.is_read first last) ⊥ (Some fault)
+    own_up_to own fault fed =
+        feeds_own device sam_format first (sam_reader reader) starts_reader new last ended own (alignment_lines converting.split converting.with_cigar) (IsOneOf is_sam_kind) (λ kind. false≢true kind) (λ past. ⊤) out fault grown fed
+
+-- Lemmas on the lines that an engine writes, from its intervals, and on the report that they make.
+
+-- intervals that stay give lines that stay
+pub lines_stay : (settled : List Feature → List Interval) (Taken : List Feature → Type 0) → SettledStays settled Taken → SettledStays (λ records. interval_lines (settled records)) Taken
+lines_stay settled Taken stays past more taken =
+    let s = stays past more taken in
+    (interval_lines s.0, ap interval_lines s.1 ∙ flat_map-append interval_line (settled past) s.0)
+
+-- and intervals that begin a whole, lines that begin its lines
+pub lines_begin : (settled whole : List Feature → List Interval) (Taken : List Feature → Type 0) → SettledBegins settled whole Taken → SettledBegins (λ records. interval_lines (settled records)) (λ records. interval_lines (whole records)) Taken
+lines_begin settled whole Taken begins past more taken =
+    let s = begins past more taken in
+    (interval_lines s.0, ap interval_lines s.1 ∙ flat_map-append interval_line (settled past) s.0)
+
+-- what a merge writes, chromosomes as they come
+abbrev pub merge_as_they_come : MergeKind → Written Feature
+merge_as_they_come merge = record { whole = whole_output merge; settled = settled_lines merge }
+
+-- a merge that has taken no record has settled nothing
+pub merge_begins : (merge : MergeKind) → settled_lines merge [] ≡ []
+unfolding settled_runs
+merge_begins (Unstranded merge) = refl
+merge_begins (PerStrand merge) = ap (λ items. interval_lines (places_of items)) (no_strand_settled merge.rule.gap)
+
+-- nor does it write any of no records
+pub merge_settles_none : (order : Order) (d : ℕ) (strand : MergeStrand) → (merge_written order d strand).settled [] ≡ []
+merge_settles_none order d All = refl
+merge_settles_none order d Each = ap (λ items. interval_lines (places_of items)) (no_strand_settled d)
+merge_settles_none order d (One strand) = refl
+
+-- what it has settled stays, and begins the whole
+pub merge_stays : (merge : MergeKind) → SettledStays (settled_lines merge) AreTaken
+merge_stays (Unstranded merge) = lines_stay (settled_runs merge.rule.gap merge.rule.strand) AreTaken (runs_stay merge.rule.gap merge.rule.strand)
+merge_stays (PerStrand merge) = lines_stay (λ records. places_of (settled_strand_runs merge.rule.gap records)) AreTaken (λ past more taken.
+    let s = stay merge.rule.gap past more taken in
+    (places_of s.0, ap places_of s.1 ∙ map-append (λ item. item.run) (settled_strand_runs merge.rule.gap past) s.0))
+
+pub merge_begins_whole : (merge : MergeKind) → SettledBegins (settled_lines merge) (whole_output merge) AreTaken
+merge_begins_whole (Unstranded merge) = lines_begin (settled_runs merge.rule.gap merge.rule.strand) (merged_runs merge.rule.gap merge.rule.strand) AreTaken (runs_begin merge.rule.gap merge.rule.strand)
+merge_begins_whole (PerStrand merge) = lines_begin (λ records. places_of (settled_strand_runs merge.rule.gap records)) (λ records. places_of (strand_runs merge.rule.gap records)) AreTaken (λ past more taken.
+    let s = begin merge.rule.gap past more taken in
+    (places_of s.0, ap places_of s.1 ∙ map-append (λ item. item.run) (settled_strand_runs merge.rule.gap past) s.0))
+
+-- a complement that has taken no record has settled nothing
+pub complement_begins : (limit : Bool) (entries : List Entry) → interval_lines (settled_gaps limit entries []) ≡ []
+unfolding settled_gaps
+complement_begins limit entries = refl
+
+-- the records of a report are in order
+module _ (order : Order) (total : IsTotal order) where
+  -- merged runs come in that order
+  pooled_same : (d : ℕ) (strand : MergeStrand) (records : List Feature) → ArePlaced order (intervals_of records)
+      → interval_lines (merged_runs d strand records) ≡ (pooled_written order d strand).whole records
+  pooled_same d strand records placed = ap interval_lines (sym (ordered_come order d strand records total placed))
+
+  pooled_settled : (d : ℕ) (strand : MergeStrand) (records : List Feature) → ArePlaced order (intervals_of records)
+      → interval_lines (settled_runs d strand records) ≡ (pooled_written order d strand).settled records
+  unfolding settled_runs
+  pooled_settled d strand records placed =
+      ap (λ runs. interval_lines (passed_by d runs (last_of (intervals_of records)))) (sym (ordered_come order d strand records total placed))
+
+  merged_same : (d : ℕ) (strand : MergeStrand) (records : List Feature) → ArePlaced order (intervals_of records)
+      → whole_output (merge_begun d strand) records ≡ (merge_written order d strand).whole records
+  merged_same d All records placed = pooled_same d All records placed
+  merged_same d Each records placed = refl
+  merged_same d (One strand) records placed = pooled_same d (One strand) records placed
+
+  settled_same : (d : ℕ) (strand : MergeStrand) (records : List Feature) → ArePlaced order (intervals_of records)
+      → settled_lines (merge_begun d strand) records ≡ (merge_written order d strand).settled records
+  settled_same d All records placed = pooled_settled d All records placed
+  settled_same d Each records placed = refl
+  settled_same d (One strand) records placed = pooled_settled d (One strand) records placed
+
+  report_same : (d : ℕ) (strand : MergeStrand) (records : List Feature) (fault : Option FaultValue) → ArePlaced order (intervals_of records)
+      → report_by (merge_as_they_come (merge_begun d strand)) records fault ≡ report_by (merge_written order d strand) records fault
+  report_same d strand records None placed = ap (λ l. record { output = l; fault = None }) (merged_same d strand records placed)
+  report_same d strand records (Some fault) placed = ap (λ l. record { output = l; fault = Some fault }) (settled_same d strand records placed)
+
+  -- so what a merge writes, chromosomes as they come, is the report
+  merge_reports : (d : ℕ) (strand : MergeStrand) (handed : Handed)
+      → members_report (merge_as_they_come (merge_begun d strand)) (bed_format (sorting_of order)) handed ≡ members_report (merge_written order d strand) (bed_format (sorting_of order)) handed
+  merge_reports d strand handed =
+      let good = bed_good First order handed in
+      report_same d strand (items_in good) good.fault (placed_good First order handed total)
+
+  merge_settles : (d : ℕ) (strand : MergeStrand) (lines : List TextLine)
+      → members_settle (merge_as_they_come (merge_begun d strand)) (bed_format (sorting_of order)) lines ≡ members_settle (merge_written order d strand) (bed_format (sorting_of order)) lines
+  merge_settles d strand lines =
+      settled_same d strand (items_in (good (bed_format (sorting_of order)) First lines)) (placed_lines First order lines total)
+
+  -- a merge ran as the command says
+  pub merge_runs : {A : Type 0} (device : Source A) (d : ℕ) (strand : MergeStrand) (merge : MergeKind) → merge ≡ merge_begun d strand
+      → (first : A) (out : Output) (fault : Option FaultValue) (new : A) (grown : Output)
+      → RunsAlone device (of_records order (merge_as_they_come merge)) first out fault new grown
+      → RunsAlone device (of_records order (merge_written order d strand)) first out fault new grown
+  merge_runs device d strand merge begun first out fault new grown runs = record {
+    written = alone_writes device device (of_records order (merge_as_they_come merge)) (of_records order (merge_written order d strand))
+        (λ one two. ap (λ m. members_report (merge_as_they_come m) (bed_format (sorting_of order)) one) begun ∙ merge_reports d strand one)
+        (λ two lines. ap (λ m. members_settle (merge_as_they_come m) (bed_format (sorting_of order)) lines) begun ∙ merge_settles d strand lines)
+        first None out fault new grown (λ t tells. tells) runs.written;
+    reads = runs.reads;
+    own_failure = runs.own_failure;
+  }
+
+module _ (entries : List Entry) (zeros : Bool) (strand : Option Strand) where
+  -- a coverage that has taken no record has settled nothing
+  pub coverage_begins : (coverage_written entries zeros strand).settled [] ≡ []
+  unfolding settled_depths
+  coverage_begins = refl
+
+  -- the lines of settled intervals stay
+  pub depths_stay : SettledStays (coverage_written entries zeros strand).settled (AreTakenBy entries)
+  depths_stay past more taken =
+      let s = stays (settled_depths zeros strand entries) (coverage zeros strand entries) (AreTakenBy entries) (settles_depths zeros strand entries) past more taken in
+      (depth_lines s.0, ap depth_lines s.1 ∙ flat_map-append depth_line (settled_depths zeros strand entries past) s.0)
+
+  -- and begin the lines of all
+  pub depths_begin : SettledBegins (coverage_written entries zeros strand).settled (coverage_written entries zeros strand).whole (AreTakenBy entries)
+  depths_begin past more taken =
+      let s = begins (settled_depths zeros strand entries) (coverage zeros strand entries) (AreTakenBy entries) (settles_depths zeros strand entries) past more taken in
+      (depth_lines s.0, ap depth_lines s.1 ∙ flat_map-append depth_line (settled_depths zeros strand entries past) s.0)

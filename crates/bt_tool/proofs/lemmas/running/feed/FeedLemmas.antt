@@ -1,26 +1,20 @@
 -- What was taken of a reader's members and written of them so far, whatever they are, and what is so when the reading stops. By it, feeding an engine with the records of a reader.
 use Rattle.bt_lines.proofs.Std.{◌≡◌, ℕ, suc, ◌+◌, ◌<◌, ◌≤◌, true, List, [], ◌∷◌, ◌++◌, length, Option, None, Some, Err, refl, sym, ap, ◌∙◌, subst, append-nil, append_assoc, length-append, arith, inl, inr, ◌⊎◌, IfSome, map-append, All-cons, All-head, All-nil, All-tail, Appends}
 use Rattle.bt_lines.specs.declared.device.Source.{Ghosts as Source}
-use Rattle.bt_lines.proofs.lemmas.writer.PuttingLemmas.{grown_works, grows_nothing}
-use Rattle.bt_lines.proofs.lemmas.writer.OutputLemmas.{grows_both}
+use Rattle.bt_lines.proofs.lemmas.Writer.{grown_works, grows_nothing, grows_both}
 use Rattle.bt_lines.specs.model.Fault.{FaultValue, write_failed, no_memory}
 use Rattle.bt_lines.specs.model.Lines.{TextLine}
-use Rattle.bt_lines.specs.calls.Output.{Output, HoldsBlock, IsPrefixOf, Grows, block_size}
-use Rattle.bt_lines.specs.calls.Putting.{Grown, WorksAsBefore}
+use Rattle.bt_lines.specs.calls.Output.{Output, HoldsBlock, IsPrefixOf, Grows, block_size, Grown, WorksAsBefore}
 use Rattle.bt_lines.specs.calls.Reader.{Hands, fault_kept as line_fault, lines_given}
 use Rattle.bt_lines.specs.declared.fault.Kind.{Kind}
 use Rattle.bt_lines.specs.declared.fault.Fault.{Fault}
 use Rattle.bt_lines.specs.calls.Names.{fault_value}
-use Rattle.bt_bed.specs.model.feature.Feature.{Feature, interval_of, intervals_of}
-use Rattle.bt_bed.specs.model.input.Good.{Format, Member}
-use Rattle.bt_bed.specs.model.input.GoodBed.{bed_format}
-use Rattle.bt_bed.specs.model.order.Sorting.{sorting_of}
-use Rattle.bt_bed.proofs.lemmas.read.batch.NeighbourLemmas.{wrong_of_bed}
-use Rattle.bt_bed.proofs.lemmas.order.ContiguousLemmas.{placed_prefix}
-use Rattle.bt_bed.specs.model.feature.LineKind.{IsBedKind}
-use Rattle.bt_bed.specs.model.feature.Interval.{AreNonEmpty, Interval}
-use Rattle.bt_bed.specs.model.order.Order.{IsTotal, Order}
-use Rattle.bt_bed.specs.model.order.Locus.{ArePlaced, Locus}
+use Rattle.bt_bed.specs.model.Feature.{Feature, interval_of, intervals_of, IsBedKind, AreNonEmpty, Interval}
+use Rattle.bt_bed.specs.model.Good.{Format, Member, bed_format}
+use Rattle.bt_bed.specs.model.Sorted.{sorting_of, ArePlaced, Locus}
+use Rattle.bt_bed.proofs.lemmas.read.batch.RecordsLemmas.{wrong_of_bed}
+use Rattle.bt_bed.proofs.lemmas.order.OrderLemmas.{placed_prefix}
+use Rattle.bt_bed.specs.model.Order.{IsTotal, Order}
 use Rattle.bt_bed.specs.calls.Reading.{AreSaid, MemberReader, good_coming, members_from}
 use Rattle.bt_bed.specs.calls.Records.{below, last_locus, order_in, view_of}
 use Rattle.bt_bed.specs.declared.order.ChromOrder.{Ghosts}
@@ -29,13 +23,10 @@ use Rattle.bt_bed.specs.calls.Batch.{HasEnded, Passes as PassesBatch}
 use Rattle.bt_bed.specs.calls.CursorLaws.{batch_gives_more}
 use Rattle.bt_bed.specs.declared.read.batch.Batch.{Batch}
 use Rattle.bt_runs.specs.calls.Engine.{FailsAtGiven, FeedsBatch, NotTaken, TakesEach}
-use Rattle.bt_tool.specs.calls.run.FaultSource.{IsPutTo}
-use Rattle.bt_tool.specs.inside.feed.Feeding.{HasPut, AreInOrder, IsFresh, Took, TookButBlock, FeedsAll, FeedsUpTo}
-use Rattle.bt_tool.specs.inside.feed.Feeding.{ConsumesGiven}
-use Rattle.bt_tool.specs.inside.feed.Passed.{HasTaken, IsReadFor, Passes, member_items}
-use Rattle.bt_tool.proofs.lemmas.running.members.Filled.{IsFilled, IsOver, IsStopped}
-use Rattle.bt_tool.proofs.lemmas.running.feed.ComeLemmas.{begins_with}
-use Rattle.bt_tool.proofs.lemmas.running.members.MemberLemmas.{bytes_more, items_take, passes_all, passes_end, passes_fill, passes_start, passes_stop, passes_take, read_alone, read_at_stop, read_before, read_here}
+use Rattle.bt_tool.specs.calls.Run.{IsPutTo}
+use Rattle.bt_tool.specs.inside.Feed.{HasPut, AreInOrder, IsFresh, Took, TookButBlock, FeedsAll, FeedsUpTo, ConsumesGiven, HasTaken, IsReadFor, Passes, member_items}
+use Rattle.bt_tool.proofs.lemmas.running.members.MemberLemmas.{IsFilled, IsOver, IsStopped, bytes_more, items_take, passes_all, passes_end, passes_fill, passes_start, passes_stop, passes_take, read_alone, read_at_stop, read_before, read_here}
+use Rattle.bt_tool.proofs.lemmas.running.feed.WritingLemmas.{begins_with}
 use Rattle.bt_tool.proofs.lemmas.running.members.PassedLemmas.{line_going, said_in_order}
 
 -- a sink that took a prefix of the lines took a prefix of all

@@ -3,8 +3,7 @@ use Rattle.bt_lines.proofs.Std.{◌≡◌, ℕ, suc, Bool, true, false, List, []
 use Rattle.bt_lines.specs.declared.device.Source.{Ghosts as Source}
 use Rattle.bt_lines.specs.model.Fault.{FaultValue, no_memory, read_failed}
 use Rattle.bt_lines.specs.model.Lines.{AreNumbered, TextLine}
-use Rattle.bt_lines.specs.calls.Output.{Output}
-use Rattle.bt_lines.specs.calls.Putting.{FailsToAdd, Grown}
+use Rattle.bt_lines.specs.calls.Output.{Output, FailsToAdd, Grown}
 use Rattle.bt_lines.specs.calls.Reader.{TakenLines, TakesLines, buffered_in, has_ended, input_of, lines_given}
 use Rattle.bt_lines.specs.declared.reader.buffered_lines.ConsumedLines.{ConsumedLines}
 use Rattle.bt_lines.specs.declared.fault.Input.{Input}
@@ -12,32 +11,24 @@ use Rattle.bt_lines.specs.declared.fault.Input.TheVariants.{First}
 use Rattle.bt_lines.specs.declared.fault.Kind.{Kind}
 use Rattle.bt_lines.specs.declared.reader.line_reader.LineReader.{LineReader}
 use Rattle.bt_bed.specs.calls.Blocks.{view_of}
-use Rattle.bt_bed.specs.model.feature.Feature.{Feature}
-use Rattle.bt_bed.specs.model.input.Good.{Member}
-use Rattle.bt_bed.specs.model.feature.LineKind.{fault_at_line, is_of_line}
-use Rattle.bt_bed.specs.model.order.Locus.{Locus}
+use Rattle.bt_bed.specs.model.Feature.{Feature, fault_at_line, is_of_line}
+use Rattle.bt_bed.specs.model.Good.{Member}
+use Rattle.bt_bed.specs.model.Sorted.{Locus}
 use Rattle.bt_bed.specs.calls.Reading.{MemberReader, members_from, state_behind}
-use Rattle.bt_seq.specs.calls.MaskSettles.{SayEach, GoesOn}
-use Rattle.bt_seq.specs.calls.MaskStanding.{MaskMovesTo}
-use Rattle.bt_seq.specs.calls.MaskStage.{MaskStage, given, reached}
-use Rattle.bt_seq.specs.calls.MaskState.{Masking}
-use Rattle.bt_seq.specs.model.Sequences.{Reached, SequenceLine, line_says, sequence_format}
-use Rattle.bt_tool.specs.inside.feed.Feeding.{member_items}
-use Rattle.bt_tool.specs.model.report.MaskReport.{is_fasta_kind}
+use Rattle.bt_seq.specs.calls.MaskStage.{SayEach, GoesOn, MaskStage, given, reached, Masking}
+use Rattle.bt_seq.specs.calls.MaskSteps.{MaskMovesTo}
+use Rattle.bt_seq.specs.model.Masked.{Reached, SequenceLine, line_says, sequence_format}
+use Rattle.bt_tool.specs.inside.Feed.{member_items, HasTaken}
+use Rattle.bt_tool.specs.model.Written.{is_fasta_kind}
 use Rattle.bt_tool.specs.declared.loops.masking.MaskRun.{MaskRun}
-use Rattle.bt_tool.specs.inside.pair.MaskLoop.{Masks, leaves_some, line_members, nothing_reached, stage_of}
-use Rattle.bt_tool.proofs.lemmas.running.mask.MaskSteps.{MaskEnds}
-use Rattle.bt_tool.specs.inside.pair.Pair.{IsKnown, JoinDef, Pair, SettlesPair, item_ahead}
-use Rattle.bt_tool.proofs.lemmas.running.pair.Following.{Follows, TakesFurther}
-use Rattle.bt_tool.specs.inside.pair.Pair.{PairStage}
-use Rattle.bt_tool.specs.inside.pair.Endings.{AsksFor}
-use Rattle.bt_tool.specs.inside.feed.Passed.{HasTaken}
-use Rattle.bt_tool.proofs.lemmas.running.feed.FaultLemmas.{line_no_read}
-use Rattle.bt_tool.proofs.lemmas.running.members.LineMembers.{has_taken, known_members, passes_known, refused, refuses, refuses_read, say_count, wrong_is_text}
-use Rattle.bt_tool.proofs.lemmas.running.mask.MaskFacts.{asked_of}
-use Rattle.bt_tool.proofs.lemmas.running.mask.MaskGiven.{ahead_first, first_of, settles_given}
+use Rattle.bt_tool.specs.inside.MaskLoop.{Masks, leaves_some, line_members, nothing_reached, stage_of}
+use Rattle.bt_tool.proofs.lemmas.running.mask.MaskedLemmas.{MaskEnds, asked, asks_for, come_so_far, join, pair, reached_behind}
+use Rattle.bt_tool.specs.inside.Pair.{IsKnown, JoinDef, Pair, SettlesPair, item_ahead, PairStage, AsksFor}
+use Rattle.bt_tool.proofs.lemmas.running.pair.PairTurns.{Follows, TakesFurther}
+use Rattle.bt_tool.proofs.lemmas.running.feed.WritingLemmas.{line_no_read}
+use Rattle.bt_tool.proofs.lemmas.running.members.BlockMembers.{has_taken, known_members, passes_known, refused, refuses, refuses_read, say_count, wrong_is_text}
+use Rattle.bt_tool.proofs.lemmas.running.mask.MaskFacts.{asked_of, ahead_first, first_of, settles_given}
 use Rattle.bt_tool.proofs.lemmas.running.members.MemberLemmas.{items_from, state_more}
-use Rattle.bt_tool.proofs.lemmas.running.mask.MaskedLemmas.{asked, asks_for, come_so_far, join, pair, reached_behind}
 use Rattle.bt_tool.proofs.lemmas.running.pair.PairStops as stop
 use Rattle.bt_tool.proofs.lemmas.running.pair.PairTurns as turned
 use Rattle.bt_lines.proofs.lemmas.reader.block.ReadsLemmas.{some_is}

@@ -3,46 +3,38 @@ use Rattle.bt_lines.proofs.Std.{◌≡◌, ℕ, zero, suc, ◌-◌, drop, length
 use Rattle.bt_lines.specs.declared.device.Source.{Ghosts as Source}
 use Rattle.bt_lines.proofs.lemmas.reader.block.BufferLemmas.{fed_none}
 use Rattle.bt_lines.proofs.lemmas.reader.lines.TextLemmas.{bytes_in-lines, whole_count}
-use Rattle.bt_lines.specs.calls.Buffered.{BeginsLines, buffered_lines, lines_in}
+use Rattle.bt_lines.specs.calls.Reader.{BeginsLines, buffered_lines, lines_in, TakenLines, TakesLines, buffered_bytes, buffered_in, has_ended, is_open, lines_given, room as line_room}
 use Rattle.bt_lines.specs.model.Fault.{FaultValue, no_memory}
 use Rattle.bt_lines.specs.model.Lines.{AreNumbered, TextLine, bytes_in}
 use Rattle.bt_lines.specs.calls.Names.{fault_value}
-use Rattle.bt_lines.specs.calls.Output.{Output}
-use Rattle.bt_lines.specs.calls.Putting.{FailsToAdd}
-use Rattle.bt_lines.specs.calls.Reader.{TakenLines, TakesLines, buffered_bytes, buffered_in, has_ended, is_open, lines_given, room as line_room}
+use Rattle.bt_lines.specs.calls.Output.{Output, FailsToAdd}
 use Rattle.bt_lines.specs.inside.Shape.{IsLast, is_fed}
 use Rattle.bt_lines.specs.declared.reader.buffered_lines.BufferedLines.{BufferedLines}
 use Rattle.bt_lines.specs.declared.reader.buffered_lines.ConsumedLines.{ConsumedLines}
 use Rattle.bt_lines.specs.declared.fault.Fault.{Fault}
 use Rattle.bt_lines.specs.declared.reader.line_reader.LineReader.{LineReader}
 use Rattle.bt_bed.specs.calls.Batch.{HasEnded, Passes, cursor_in, left, line_in}
-use Rattle.bt_bed.specs.model.feature.Feature.{Feature}
-use Rattle.bt_bed.specs.model.order.Locus.{Locus}
+use Rattle.bt_bed.specs.model.Feature.{Feature}
+use Rattle.bt_bed.specs.model.Sorted.{Locus}
 use Rattle.bt_bed.specs.calls.Reading.{MemberReader, state_behind}
 use Rattle.bt_bed.specs.declared.read.batch.Batch.{Batch}
-use Rattle.bt_seq.proofs.lemmas.mask.steps.SettleLemmas.{goes_more, line_goes}
-use Rattle.bt_seq.proofs.lemmas.mask.steps.StandLemmas.{wants_line}
-use Rattle.bt_seq.specs.calls.MaskSettles.{SayEach, GoesOn}
-use Rattle.bt_seq.specs.calls.MaskAdvance.{BothCome, ComesAfter, ComesNext, FailsAfter, FailsAtLines, FailsAtRecord, HasCome, StopsAt}
-use Rattle.bt_seq.specs.calls.MaskStage.{IsNext, MaskStage, given, is_written_at_once, reached, want_at, want_of, with_line}
-use Rattle.bt_seq.specs.calls.MaskStanding.{MaskStandsAt, kept_line}
-use Rattle.bt_seq.specs.calls.MaskSteps.{FailsWithLine, RefusesLine, bytes_with}
-use Rattle.bt_seq.specs.calls.MaskState.{Masking}
-use Rattle.bt_seq.specs.model.Sequences.{Reached, SequenceLine, sequence_format}
+use Rattle.bt_seq.proofs.lemmas.mask.steps.BedStepLemmas.{goes_more, line_goes}
+use Rattle.bt_seq.proofs.lemmas.mask.steps.CopyLemmas.{wants_line}
+use Rattle.bt_seq.specs.calls.MaskStage.{SayEach, GoesOn, IsNext, MaskStage, given, is_written_at_once, reached, want_at, want_of, with_line, Masking}
+use Rattle.bt_seq.specs.calls.MaskSteps.{BothCome, ComesAfter, ComesNext, FailsAfter, FailsAtLines, FailsAtRecord, HasCome, StopsAt, MaskStandsAt, kept_line, FailsWithLine, RefusesLine, bytes_with}
+use Rattle.bt_seq.specs.model.Masked.{Reached, SequenceLine, sequence_format}
 use Rattle.bt_seq.specs.declared.mask.mask_how.MaskHow.{MaskHow}
 use Rattle.bt_seq.specs.declared.mask.mask_want.MaskWant.{MaskWant}
 use Rattle.bt_seq.specs.declared.mask.mask_want.MaskWant.TheVariants.{Line as WantLine, Bed as WantBed, Nothing}
 use Rattle.bt_tool.specs.declared.loops.masking.MaskRun.{MaskRun}
-use Rattle.bt_tool.specs.inside.pair.MaskLoop.{Masks, mask_join, mask_rounds}
-use Rattle.bt_tool.proofs.lemmas.running.mask.MaskSteps.{AdvancesMask, IsMaskReady, MaskEnds, mask_left}
-use Rattle.bt_tool.specs.inside.pair.Pair.{SettlesPair, item_ahead}
-use Rattle.bt_tool.specs.inside.pair.Pair.{PairStage}
-use Rattle.bt_tool.specs.inside.feed.Passed.{HasTaken}
+use Rattle.bt_tool.specs.inside.MaskLoop.{Masks, mask_join, mask_rounds}
+use Rattle.bt_tool.proofs.lemmas.running.mask.MaskedLemmas.{AdvancesMask, IsMaskReady, MaskEnds, mask_left, fails_record}
+use Rattle.bt_tool.specs.inside.Pair.{SettlesPair, item_ahead, PairStage}
+use Rattle.bt_tool.specs.inside.Feed.{HasTaken}
 use Rattle.bt_tool.proofs.lemmas.running.members.MemberLemmas.{items_from, some_map}
 use Rattle.bt_tool.proofs.lemmas.running.mask.MaskAdvanced.{come_on, fails_write, lacks_room, refuses_line, settled}
 use Rattle.bt_tool.proofs.lemmas.running.pair.PairTurns.{none_new}
-use Rattle.bt_tool.proofs.lemmas.running.mask.MaskGiven.{ahead_first, first_of}
-use Rattle.bt_tool.proofs.lemmas.running.mask.MaskedLemmas.{fails_record}
+use Rattle.bt_tool.proofs.lemmas.running.mask.MaskFacts.{ahead_first, first_of}
 
 -- ---- the record ahead
 

@@ -10,40 +10,33 @@ use Rattle.bt_lines.specs.declared.fault.Fault.{Fault}
 use Rattle.bt_lines.specs.declared.reader.line_reader.LineReader.{LineReader}
 use Rattle.bt_bed.specs.calls.Blocks.{FillsBlocks, below, fault_kept, view_of}
 use Rattle.bt_bed.specs.declared.read.blocks.Blocks.{Blocks}
-use Rattle.bt_bed.proofs.lemmas.order.ResultLemmas.{passed_on}
-use Rattle.bt_seq.specs.calls.MaskStage.{MaskStage, with_lines_ended, want_of, first_stage}
-use Rattle.bt_seq.specs.calls.MaskStanding.{MaskMovesTo, MaskStandsAt}
-use Rattle.bt_seq.specs.calls.MaskState.{Masking}
-use Rattle.bt_seq.specs.calls.MaskSteps.{EndsCheck, EndsRecords}
-use Rattle.bt_seq.specs.model.Sequences.{SequenceLine, Reached}
+use Rattle.bt_bed.proofs.lemmas.order.TableLemmas.{passed_on}
+use Rattle.bt_seq.specs.calls.MaskStage.{MaskStage, with_lines_ended, want_of, first_stage, Masking}
+use Rattle.bt_seq.specs.calls.MaskSteps.{MaskMovesTo, MaskStandsAt, EndsCheck, EndsRecords}
+use Rattle.bt_seq.specs.model.Masked.{SequenceLine, Reached}
 use Rattle.bt_seq.specs.declared.mask.mask_want.MaskWant.{MaskWant}
 use Rattle.bt_seq.specs.declared.mask.mask_want.MaskWant.TheVariants.{Nothing, Line as WantLine, Bed as WantBed}
 use Rattle.bt_sweep.specs.declared.sweep.want.Want.{Want}
 use Rattle.bt_sweep.specs.declared.sweep.want.Want.TheVariants.{A as WantA, B as WantB, Nothing as WantNothing}
 use Rattle.bt_tool.specs.declared.loops.masking.MaskRun.{MaskRun}
-use Rattle.bt_tool.specs.calls.run.OwnReads.{TellsNoRead}
-use Rattle.bt_tool.specs.inside.feed.Passed.{IsOwnFault, KeepsOwnFault}
-use Rattle.bt_tool.proofs.lemmas.running.members.Filled.{IsFilled, IsOver}
-use Rattle.bt_tool.specs.inside.pair.MaskLoop.{GoesOn, MaskComes, MaskIsOver, is_mask_ready, left_to_mask, wanted_by, Masks, mask_rounds, line_members, mask_join, mask_pair, nothing_reached}
-use Rattle.bt_tool.proofs.lemmas.running.mask.MaskSteps.{AdvancesMask, MaskEnds, IsMaskReady, mask_left}
-use Rattle.bt_tool.specs.inside.pair.Rounds.{IsLessOrReady, IsLessIfReady, LeadsTo}
-use Rattle.bt_tool.proofs.lemmas.running.members.BlockMembers.{block_filled, block_over, block_stopped, blocks_going}
-use Rattle.bt_tool.proofs.lemmas.running.mask.MaskedLemmas.{finishes, stops_lines, stops_records, ends_alone, ends_lines, ends_waiting, fails_at_end, line_made, lines_done, none_waits, record_made}
+use Rattle.bt_tool.specs.calls.Run.{TellsNoRead}
+use Rattle.bt_tool.specs.inside.Feed.{IsOwnFault, KeepsOwnFault, IsFresh}
+use Rattle.bt_tool.proofs.lemmas.running.members.MemberLemmas.{IsFilled, IsOver, passes_start}
+use Rattle.bt_tool.specs.inside.MaskLoop.{GoesOn, MaskComes, MaskIsOver, is_mask_ready, left_to_mask, wanted_by, Masks, mask_rounds, line_members, mask_join, mask_pair, nothing_reached}
+use Rattle.bt_tool.proofs.lemmas.running.mask.MaskedLemmas.{AdvancesMask, MaskEnds, IsMaskReady, mask_left, finishes, stops_lines, stops_records, ends_alone, ends_lines, ends_waiting, fails_at_end, line_made, lines_done, none_waits, record_made}
+use Rattle.bt_tool.specs.inside.Rounds.{IsLessOrReady, IsLessIfReady, LeadsTo}
+use Rattle.bt_tool.proofs.lemmas.running.members.BlockMembers.{block_filled, block_over, block_stopped, blocks_going, gives_over}
 use Rattle.bt_tool.proofs.lemmas.running.whole.OwnFailureLemmas.{kept_below, line_told_kept, none_kept, own_then, told_kept}
-use Rattle.bt_bed.proofs.lemmas.read.good.CameLemmas.{same_room}
-use Rattle.bt_bed.specs.model.feature.Feature.{Feature}
-use Rattle.bt_bed.specs.model.input.Good.{Member}
-use Rattle.bt_bed.specs.model.order.Locus.{Locus}
+use Rattle.bt_bed.proofs.lemmas.read.good.ReadingLemmas.{same_room}
+use Rattle.bt_bed.specs.model.Feature.{Feature}
+use Rattle.bt_bed.specs.model.Good.{Member, block_format}
+use Rattle.bt_bed.specs.model.Sorted.{Locus}
 use Rattle.bt_bed.specs.calls.Reading.{MemberReader, first_from}
-use Rattle.bt_tool.proofs.lemmas.running.members.LineMembers.{gives_over}
 use Rattle.bt_tool.proofs.lemmas.running.mask.MaskBoth.{rounds_few, waits_is}
 use Rattle.bt_lines.specs.declared.fault.Input.TheVariants.{First}
-use Rattle.bt_bed.specs.calls.SortedReader.{view_with}
-use Rattle.bt_bed.specs.model.input.GoodBlocks.{block_format}
+use Rattle.bt_bed.specs.calls.Batch.{view_with}
 use Rattle.bt_seq.specs.declared.mask.mask_how.MaskHow.{MaskHow}
-use Rattle.bt_tool.specs.inside.feed.Feeding.{IsFresh}
-use Rattle.bt_tool.specs.inside.pair.Endings.{IsOverWith}
-use Rattle.bt_tool.proofs.lemmas.running.members.MemberLemmas.{passes_start}
+use Rattle.bt_tool.specs.inside.Pair.{IsOverWith}
 use Rattle.bt_tool.proofs.lemmas.running.pair.PairTurns.{comes_start}
 
 -- what is wanted at some points

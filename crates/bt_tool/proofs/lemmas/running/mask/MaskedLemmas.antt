@@ -1,50 +1,66 @@
--- Lemmas on how far a masking engine over two readers has come: what it wants, and what its inputs still have then.
-use Rattle.bt_lines.proofs.Std.{◌≡◌, ℕ, suc, Bool, true, false, not, ◌||◌, List, [], ◌∷◌, ◌++◌, Option, None, Some, Err, refl, sym, ap, ◌∙◌, subst, append-nil, append_assoc, option_to_list, inl, inr, ◌⊎◌, IfSome, IsSome, IsTrue, is_some, option_map, false≢true, or_left, or_right, map-append, IfSome_then}
-use Rattle.std.specs.List.{last_or}
+-- What giving an engine that masks does, by the parts of a run.
+use Rattle.bt_lines.proofs.Std.{◌≡◌, ℕ, ◌+◌, ◌*◌, ◌<◌, ◌≤◌, Option, Some, Result, Ok, Err, is_some, length, suc, Bool, true, false, not, ◌||◌, List, [], ◌∷◌, ◌++◌, None, refl, sym, ap, ◌∙◌, subst, append-nil, append_assoc, option_to_list, inl, inr, ◌⊎◌, IfSome, IsSome, IsTrue, option_map, false≢true, or_left, or_right, map-append, IfSome_then}
 use Rattle.bt_lines.specs.declared.device.Source.{Ghosts as Source}
 use Rattle.bt_lines.specs.model.Fault.{FaultValue}
+use Rattle.bt_lines.specs.calls.Names.{fault_value}
+use Rattle.bt_lines.specs.calls.Output.{Output, FailsToAdd, Grown}
+use Rattle.bt_lines.specs.calls.Reader.{buffered_bytes, room as line_room, GivesEnd, GivesFault, IsKept, MakesLine, has_ended, lines_given}
+use Rattle.bt_lines.specs.declared.fault.Fault.{Fault}
+use Rattle.bt_lines.specs.declared.reader.line_reader.LineReader.{LineReader}
+use Rattle.bt_bed.specs.model.Feature.{Feature, fault_at_line}
+use Rattle.bt_bed.specs.model.Sorted.{Locus}
+use Rattle.bt_bed.specs.calls.Reading.{MemberReader, room, ahead_in, first_from, good_coming, state_behind}
+use Rattle.bt_seq.specs.calls.MaskStage.{Masking, MaskStage, given, reached, reached_by, want_of, with_bed_ended, with_lines_ended}
+use Rattle.bt_seq.specs.model.Masked.{Reached, SequenceLine, decided, is_unnamed, masked_line, names_of, no_sequence, left_after, line_says, sequence_format}
+use Rattle.bt_seq.specs.declared.mask.mask_want.MaskWant.{MaskWant}
+use Rattle.bt_tool.specs.declared.loops.masking.MaskRun.{MaskRun}
+use Rattle.bt_tool.specs.inside.Feed.{IsKeptBelow, member_items}
+use Rattle.bt_tool.specs.inside.Pair.{PairEnds, IsKnown, JoinDef, Pair, SettlesPair, item_ahead, AsksFor, Comes}
+use Rattle.bt_tool.specs.inside.MaskLoop.{GoesOn, begun_pair, mask_join, mask_rounds, wanted_by, AreOwned, Masks, leaves_some, line_members, nothing_reached, stage_of}
+use Rattle.bt_tool.specs.inside.Rounds.{IsBuffered}
+use Rattle.std.specs.List.{last_or}
 use Rattle.bt_lines.specs.model.Lines.{TextLine}
-use Rattle.bt_lines.specs.calls.Output.{Output}
-use Rattle.bt_lines.specs.calls.Putting.{FailsToAdd, Grown}
-use Rattle.bt_lines.specs.calls.Reader.{GivesEnd, GivesFault, IsKept, MakesLine, has_ended, lines_given}
 use Rattle.bt_lines.specs.declared.fault.Input.TheVariants.{Second}
 use Rattle.bt_lines.specs.declared.fault.Kind.{Kind}
 use Rattle.bt_lines.specs.declared.fault.Kind.TheVariants.{NoSequence}
-use Rattle.bt_lines.specs.declared.reader.line_reader.LineReader.{LineReader}
 use Rattle.bt_bed.specs.calls.Blocks.{view_of}
-use Rattle.bt_bed.specs.model.feature.Feature.{Feature}
-use Rattle.bt_bed.specs.model.input.Good.{Format, Good, Member}
-use Rattle.bt_bed.specs.model.input.GoodBlocks.{AreInBlocks}
-use Rattle.bt_bed.specs.model.feature.LineKind.{fault_at_line}
-use Rattle.bt_bed.specs.model.order.Locus.{Locus}
-use Rattle.bt_bed.specs.calls.Reading.{MemberReader, ahead_in, first_from, good_coming, state_behind}
-use Rattle.bt_seq.proofs.lemmas.definitions.MaskPrefixLemmas.{decided_stays, masked_before}
-use Rattle.bt_seq.specs.calls.MaskAdvance.{FailsAtRecord}
-use Rattle.bt_seq.proofs.lemmas.mask.steps.StandLemmas.{last_more}
-use Rattle.bt_seq.proofs.lemmas.definitions.MaskMetLemmas.{first_is_told, lack_none}
-use Rattle.bt_seq.specs.calls.MaskStage.{MaskStage, given, reached, reached_by, want_of, with_bed_ended, with_lines_ended}
-use Rattle.bt_seq.specs.calls.MaskStanding.{IsOpen, MaskMovesTo}
-use Rattle.bt_seq.specs.model.Masked.{decided, is_unnamed, masked_line, names_of, no_sequence}
-use Rattle.bt_seq.specs.calls.MaskState.{Masking}
-use Rattle.bt_seq.specs.model.Owners.{left_after}
-use Rattle.bt_seq.specs.model.Sequences.{Reached, SequenceLine, line_says, sequence_format}
+use Rattle.bt_bed.specs.model.Good.{Format, Good, Member, AreInBlocks}
+use Rattle.bt_seq.proofs.lemmas.definitions.MaskPrefixLemmas.{decided_stays, masked_before, first_is_told, lack_none}
+use Rattle.bt_seq.specs.calls.MaskSteps.{FailsAtRecord, IsOpen, MaskMovesTo}
+use Rattle.bt_seq.proofs.lemmas.mask.steps.CopyLemmas.{last_more}
 use Rattle.bt_seq.specs.declared.mask.mask_how.MaskHow.{MaskHow}
 use Rattle.bt_seq.specs.declared.mask.mask_want.MaskWant.TheVariants.{Line as WantLine, Bed as WantBed, Nothing}
-use Rattle.bt_tool.specs.inside.feed.Feeding.{member_items}
-use Rattle.bt_tool.specs.model.report.MaskReport.{is_fasta_kind, is_mask_kind}
-use Rattle.bt_tool.specs.declared.loops.masking.MaskRun.{MaskRun}
-use Rattle.bt_tool.specs.inside.pair.MaskLoop.{AreOwned, Masks, begun_pair, leaves_some, line_members, mask_join, nothing_reached, stage_of}
-use Rattle.bt_tool.proofs.lemmas.running.mask.MaskSteps.{MaskEnds}
-use Rattle.bt_tool.specs.inside.pair.Pair.{IsKnown, JoinDef, Pair, SettlesPair, item_ahead}
-use Rattle.bt_tool.specs.inside.pair.Endings.{AsksFor}
-use Rattle.bt_tool.specs.inside.pair.Pair.{Comes}
-use Rattle.bt_tool.proofs.lemmas.running.members.Filled.{IsFilled, IsOver, IsStopped}
-use Rattle.bt_tool.proofs.lemmas.running.members.LineMembers.{gives_over, gives_unread, passes_made, wrong_is_text}
-use Rattle.bt_tool.proofs.lemmas.running.mask.MaskGiven.{ahead_first, first_of}
-use Rattle.bt_tool.proofs.lemmas.running.mask.MaskFacts.{says_of_blocks}
-use Rattle.bt_tool.proofs.lemmas.running.pair.PairSettles.{settles_with}
+use Rattle.bt_tool.specs.model.Written.{is_fasta_kind, is_mask_kind}
+use Rattle.bt_tool.proofs.lemmas.running.members.MemberLemmas.{IsFilled, IsOver, IsStopped}
+use Rattle.bt_tool.proofs.lemmas.running.members.BlockMembers.{gives_over, gives_unread, passes_made, wrong_is_text}
+use Rattle.bt_tool.proofs.lemmas.running.mask.MaskFacts.{ahead_first, first_of, says_of_blocks}
+use Rattle.bt_tool.proofs.lemmas.running.pair.PairTurns.{settles_with}
 use Rattle.bt_tool.proofs.lemmas.running.pair.PairStops as stop
 use Rattle.bt_tool.proofs.lemmas.running.pair.PairTurns as turned
+
+module _ {A B : Type 0} (lines : LineReader A) (second : MemberReader B Feature (Option Locus)) where
+  abbrev pub mask_left : Masking → ℕ
+  mask_left mask = 4 * (line_room lines + room second) + mask_rounds (is_some mask.waiting) mask.want
+
+  -- what is wanted is buffered
+  abbrev pub IsMaskReady : MaskWant → Type 0
+  IsMaskReady want = IsBuffered (wanted_by want) (length (buffered_bytes lines)) (length second.buffered)
+
+module _ {A B : Type 0} (source_a : Source A) (source_b : Source B) (start : MaskRun A B) (out : Output) where
+  -- masking has ended
+  abbrev pub MaskEnds : Option FaultValue → LineReader A → MemberReader B Feature (Option Locus) → Output → Type 0
+  MaskEnds fault lines second grown = (members : MemberReader A SequenceLine Reached) × (members.below ≡ lines)
+      × PairEnds (mask_join start.mask.how) (begun_pair source_a source_b start out) out fault members second grown
+      × IsKeptBelow members lines
+
+  -- what is buffered was given, as far as it is wanted
+  abbrev pub AdvancesMask : {T : Type 0} → LineReader A → MemberReader B Feature (Option Locus) → Masking → Result T Fault → LineReader A → MemberReader B Feature (Option Locus) → Masking → Output → Type 0
+  AdvancesMask old old_second old_mask (Ok done) lines second mask grown =
+      GoesOn source_a source_b start out lines second mask grown × (mask_left lines second mask ≤ mask_left old old_second old_mask)
+      × (IsMaskReady old old_second old_mask.want → mask_left lines second mask < mask_left old old_second old_mask)
+  AdvancesMask old old_second old_mask (Err fault) lines second mask grown = MaskEnds (Some (fault_value fault)) lines second grown
+
+-- Lemmas on how far a masking engine over two readers has come: what it wants, and what its inputs still have then.
 
 -- what is wanted shows what waits
 never_line : (waits lines_ended bed_ended : Bool) → want_of waits lines_ended bed_ended ≡ WantLine → (waits ≡ false) × (lines_ended ≡ false)

@@ -1,27 +1,38 @@
 -- Lemmas on a reader of records in blocks as one of members, and on a reader of lines at its end.
-use Rattle.bt_lines.proofs.Std.{◌≡◌, ℕ, Bool, true, false, List, [], take, None, Ok, Err, refl, ap, ◌∙◌, subst, option_map, false≢true}
+use Rattle.bt_lines.proofs.Std.{◌≡◌, ℕ, Bool, true, false, List, [], take, None, Ok, Err, refl, ap, ◌∙◌, subst, option_map, false≢true, IfSome_then, suc, ◌+◌, ◌-◌, ◌<◌, ◌≤◌, cond, ◌∷◌, ◌++◌, length, drop, Option, Some, sym, append_assoc, append-nil, length-append, arith, inl, All, IfSome, drop-append_seam, All-append, All-nil}
 use Rattle.bt_lines.specs.declared.device.Source.{Ghosts as Source}
 use Rattle.bt_lines.proofs.lemmas.reader.lines.BufferedLemmas.{none_left}
-use Rattle.bt_lines.specs.calls.Buffered.{buffered_lines}
+use Rattle.bt_lines.specs.calls.Reader.{buffered_lines, buffered_bytes, buffered_in, fault_kept as line_fault, has_ended, is_open, lines_given, DropsLines, GivesEnd, GivesFault, Hands, IsKept, MakesLine, TakenLines, TakesLines, bytes_left, end_told, held, input_of, left_at, lines_left, source_of}
 use Rattle.bt_lines.specs.calls.Names.{fault_value}
-use Rattle.bt_lines.specs.calls.Reader.{buffered_bytes, buffered_in, fault_kept as line_fault, has_ended, is_open, lines_given}
-use Rattle.bt_lines.specs.inside.ReaderState.{ended_at, lends_at, open_at}
+use Rattle.bt_lines.specs.inside.ReadBuffer.{ended_at, lends_at, open_at}
 use Rattle.bt_lines.specs.declared.fault.Fault.{Fault}
 use Rattle.bt_lines.specs.declared.reader.line_reader.LineReader.{LineReader}
 use Rattle.bt_lines.specs.declared.reader.line_reader.State.{State}
 use Rattle.bt_lines.specs.declared.reader.line_reader.State.TheVariants.{Reading, LastLine, Ended, ReadFailed, TooLong, NoMemory}
-use Rattle.bt_bed.proofs.lemmas.read.good.TokenLemmas.{taken_are}
-use Rattle.bt_bed.specs.calls.Batch.{IsWhere, Passes, cursor_in, left}
+use Rattle.bt_bed.proofs.lemmas.read.good.SaidRuns.{taken_are, LinesSay, good_said, say_front}
+use Rattle.bt_bed.specs.calls.Batch.{IsWhere, Passes as PassesBatch, cursor_in, left, view_with}
 use Rattle.bt_bed.specs.declared.read.batch.Consumed.{Consumed}
 use Rattle.bt_bed.specs.calls.Blocks.{FillsBlocks, count_in, Lends, TakesBlocks, below, buffered_in as records_in, fault_kept, view_of}
-use Rattle.bt_bed.specs.model.feature.Feature.{Feature}
-use Rattle.bt_bed.specs.calls.Reading.{BeginsComing, Takes}
-use Rattle.bt_bed.specs.calls.SortedReader.{view_with}
+use Rattle.bt_bed.specs.model.Feature.{Feature, fault_at_line}
+use Rattle.bt_bed.specs.calls.Reading.{BeginsComing, Takes, IsBeyond, IsFaultBeyond, AreSaid, MemberReader, first_from, good_behind, good_coming, members_from, state_behind, with_members}
 use Rattle.bt_bed.specs.declared.read.batch.Batch.{Batch}
 use Rattle.bt_bed.specs.declared.read.blocks.Blocks.{Blocks}
-use Rattle.bt_tool.specs.inside.feed.Passed.{HasTaken}
-use Rattle.bt_tool.proofs.lemmas.running.members.Filled.{IsFilled, IsOver, IsStopped}
+use Rattle.bt_tool.specs.inside.Feed.{HasTaken, ComeFirst, IsReadFor, Passes, StopsAfter}
+use Rattle.bt_tool.proofs.lemmas.running.members.MemberLemmas.{IsFilled, IsOver, IsStopped, members_low}
 use Rattle.bt_tool.proofs.lemmas.running.members.PassedLemmas.{consumed_of, or_none}
+use Rattle.bt_lines.proofs.lemmas.reader.lines.TakingLemmas.{hands_both, sound_near, is_prefix, near_next}
+use Rattle.bt_lines.specs.model.Fault.{FaultValue}
+use Rattle.bt_lines.specs.model.Lines.{AreNumbered, TextLine, lines_from}
+use Rattle.bt_lines.specs.calls.Output.{block_size}
+use Rattle.bt_lines.specs.declared.reader.buffered_lines.ConsumedLines.{ConsumedLines}
+use Rattle.bt_lines.specs.declared.fault.Kind.{Kind}
+use Rattle.bt_lines.specs.declared.fault.Kind.TheVariants.{TextBeforeHeader}
+use Rattle.bt_bed.proofs.lemmas.read.good.ReadingLemmas.{near_pass, pass_more, drops_pass, left_numbered, some_bytes, Going, going_end, going_start, going_unread}
+use Rattle.bt_bed.specs.model.Good.{Good, Member, good_from}
+use Rattle.bt_seq.specs.calls.MaskStage.{SayEach}
+use Rattle.bt_seq.specs.model.Masked.{Reached, SequenceLine, is_header, line_says, may_stand, sequence_format}
+use Rattle.bt_tool.specs.inside.MaskLoop.{line_members}
+use Rattle.bt_tool.proofs.lemmas.running.feed.WritingLemmas.{lines_on, up_to}
 
 over_at : (state : State) → ended_at state ≡ true → (lends_at state ≡ false) × (open_at state ≡ false)
 over_at Reading e = absurd (false≢true e)
@@ -44,7 +55,7 @@ unfolding view_of view_with
 blocks_going records e = or_none (option_map fault_value records.sorted.fault) (line_fault records.sorted.reader) e
 
 -- what was consumed of a batch is what was taken
-pub blocks_given : {S : Type 0} (records : Blocks S) (first last : Batch) (taken : List Feature) (consumed : Consumed) → Lends records first → Passes first taken last → IsWhere last consumed → take (count_in records consumed) (records_in records) ≡ taken
+pub blocks_given : {S : Type 0} (records : Blocks S) (first last : Batch) (taken : List Feature) (consumed : Consumed) → Lends records first → PassesBatch first taken last → IsWhere last consumed → take (count_in records consumed) (records_in records) ≡ taken
 unfolding view_of view_with
 blocks_given records first last taken consumed lends passes is = taken_are records.sorted first last taken consumed lends passes is
 
@@ -72,3 +83,341 @@ pub blocks_taken : {S : Type 0} (device : Source S) (now new : Blocks S) (count 
     → BeginsComing device.left (view_of now) → TakesBlocks device now count new → HasTaken device (view_of now) records (view_of new)
 blocks_taken device now new count records are comes takes =
     consumed_of device (view_of now) (view_of new) records (blocks_going new) comes (subst (λ (l : List Feature). Takes device (view_of now) l (view_of new)) are takes.takes)
+
+-- Lemmas on a reader of lines as one of lines of sequences.
+
+-- what is wrong with a line is the text before the first header
+wrong_by : (header stands : Bool) (one two : SequenceLine) (kind : Kind) → cond header (Ok (Some one)) (cond stands (Ok (Some two)) (Err TextBeforeHeader)) ≡ Err kind → kind ≡ TextBeforeHeader
+wrong_by true stands one two kind e = cc
+wrong_by false true one two kind e = cc
+wrong_by false false one two kind e = let is : TextBeforeHeader ≡ kind = cc in sym is
+
+pub wrong_is_text : (full : Bool) (reached : Reached) (line : TextLine) (kind : Kind) → line_says full reached line ≡ Err kind → kind ≡ TextBeforeHeader
+wrong_is_text full reached line kind e = wrong_by (is_header line.text) (may_stand reached.names line.text) _ _ kind e
+
+-- ---- lines that each say a line of a sequence
+
+module _ (full : Bool) where
+  pub say_count : (reached : Reached) (texts : List TextLine) (items : List SequenceLine) → SayEach full reached texts items → length texts ≡ length items
+  say_count reached [] items say = sym (ap length say)
+  say_count reached (line ∷ texts) [] say = absurd say
+  say_count reached (line ∷ texts) (item ∷ items) say = ap suc (say_count ((sequence_format full).after reached item) texts items say.1)
+
+  say_said : (reached : Reached) (texts : List TextLine) (items : List SequenceLine) → SayEach full reached texts items → AreSaid (sequence_format full) reached items
+  say_said reached [] items say = subst (AreSaid (sequence_format full) reached) (sym say) tt
+  say_said reached (line ∷ texts) [] say = absurd say
+  say_said reached (line ∷ texts) (item ∷ items) say = ((line, say.0), say_said ((sequence_format full).after reached item) texts items say.1)
+
+  say_lines : (reached : Reached) (texts more : List TextLine) (items : List SequenceLine) → SayEach full reached texts items → LinesSay (sequence_format full) reached (texts ++ more) items
+  say_lines reached [] more items say = subst (LinesSay (sequence_format full) reached more) (sym say) tt
+  say_lines reached (line ∷ texts) more [] say = absurd say
+  say_lines reached (line ∷ texts) more (item ∷ items) say = (say.0, say_lines ((sequence_format full).after reached item) texts more items say.1)
+
+-- ---- known lines
+
+front_of : (front more all : List TextLine) → take (length (front ++ more)) all ≡ front ++ more → (rest : List TextLine) × (all ≡ front ++ rest)
+front_of [] more all e = (all, refl)
+front_of (x ∷ front) more [] e = cc
+front_of (x ∷ front) more (y ∷ all) e =
+    let same : y ≡ x = cc in
+    let rest : take (length (front ++ more)) all ≡ front ++ more = cc in
+    let further = front_of front more all rest in
+    (further.0, ap (λ l. l ∷ all) same ∙ ap (λ l. x ∷ l) further.1)
+
+lines_same : (start now new : Option (List TextLine)) (given later : ℕ) → later ≡ given → IfSome start (λ lines. now ≡ Some (drop given lines)) → DropsLines now 0 new → IfSome start (λ lines. new ≡ Some (drop later lines))
+lines_same start now new given later e p s = pass_more start now new given 0 later p (same_drop now s) (omega (arith, e))
+  where
+    same_drop : (now : Option (List TextLine)) → DropsLines now 0 new → IfSome now (λ lines. new ≡ Some (drop 0 lines))
+    same_drop None s = tt
+    same_drop (Some lines) s = s
+
+none_by : (told : Bool) (held : List ℕ) (number : ℕ) → option_map (lines_from number) (left_at told held None) ≡ None
+none_by true held number = refl
+none_by false held number = refl
+
+some_by : (told : Bool) (held : List ℕ) (number : ℕ) (rest : List ℕ) → option_map (lines_from number) (left_at told held (Some rest)) ≡ None → ⊥
+some_by true held number rest e = cc
+some_by false held number rest e = cc
+
+unknown_by : (a b : Option (List ℕ)) (t u : Bool) (h k : List ℕ) (n m : ℕ) → b ≡ a → option_map (lines_from n) (left_at t h a) ≡ None → option_map (lines_from m) (left_at u k b) ≡ None
+unknown_by None b t u h k n m e none = ap (λ o. option_map (lines_from m) (left_at u k o)) e ∙ none_by u k m
+unknown_by (Some rest) b t u h k n m e none = absurd (some_by t h n rest none)
+
+-- if no lines are known, none are once some were taken
+still_unknown : {S : Type 0} (left : S → Option (List ℕ)) (old new : LineReader S) → source_of new ≡ source_of old → lines_left left old ≡ None → lines_left left new ≡ None
+unfolding bytes_left
+still_unknown left old new same none =
+    unknown_by (left (source_of old)) (left (source_of new)) (end_told old) (end_told new) (held old) (held new) (suc (lines_given old)) (suc (lines_given new)) (ap left same) none
+
+come_same : {A : Type 0} (old : Option (Good A)) (f g : List TextLine → Good A) (now new : Option (List TextLine)) (past : List (Member A)) → ((l : List TextLine) → f l ≡ g l) → DropsLines now 0 new
+    → ComeFirst old past (option_map f now) → ComeFirst old past (option_map g new)
+come_same None f g now new past e s c = tt
+come_same (Some good) f g None new past e s c = absurd c
+come_same (Some good) f g (Some lines) new past e s c = rw (s, ← e lines) c
+
+module _ {S : Type 0} (device : Source S) (full : Bool) where
+  -- lines of which these are known to be lines of sequences
+  abbrev pub known_members : Reached → List SequenceLine → LineReader S → MemberReader S SequenceLine Reached
+  known_members reached items lines = record {
+    format = sequence_format full;
+    below = lines;
+    state = reached;
+    buffered = items;
+    fault = line_fault lines;
+  }
+
+  good_lines : (reached : Reached) (items : List SequenceLine) (lines : LineReader S) → line_fault lines ≡ None
+      → good_coming device.left (known_members reached items lines) ≡ option_map (good_from (sequence_format full) (input_of lines) reached) (lines_left device.left lines)
+  unfolding good_coming
+  good_lines reached items lines none = ap (λ fault. option_map (good_behind (sequence_format full) (input_of lines) fault reached) (lines_left device.left lines)) none
+
+  -- a line was made buffered
+  module _ (old : MemberReader S SequenceLine Reached) (past : List (Member SequenceLine)) (reached : Reached) (lines new : LineReader S) (g : Passes device old past (line_members full reached lines)) where
+    pub passes_made : MakesLine device lines new → (IsKept device lines → IsKept device new) → Passes device old past (line_members full reached new)
+    passes_made makes kept =
+        let lines_now = lines_same (lines_left device.left old.below) (lines_left device.left lines) (lines_left device.left new) (lines_given lines) (lines_given new) makes.counted g.lines makes.same in
+        record {
+          format = g.format;
+          bytes = (g.bytes.0 ++ makes.bytes.0, hands_both device.left old.below lines new g.bytes.0 makes.bytes.0 g.bytes.1 makes.bytes.1);
+          said = g.said;
+          state = g.state;
+          come = subst (ComeFirst (good_coming device.left old) past) (sym (good_lines reached [] new makes.goes))
+              (come_same (good_coming device.left old) (good_from (sequence_format full) (input_of lines) reached) (good_from (sequence_format full) (input_of new) reached) (lines_left device.left lines) (lines_left device.left new) past
+              (λ l. ap (λ input. good_from (sequence_format full) input reached l) (sym makes.bytes.1.same_input)) makes.same
+              (subst (ComeFirst (good_coming device.left old) past) (good_lines reached [] lines g.clear) g.come));
+          behind = up_to (lines_given lines) (lines_given new) past (omega (arith, makes.counted)) g.behind;
+          lines = lines_now;
+          going = makes.goes;
+          clear = makes.goes;
+          kept = kept g.kept;
+          served = makes.served ∙ g.served;
+          ahead = λ known m is. absurd (let apart : None ≡ Some m = is in cc);
+          near = near_pass (lines_left device.left old.below) (lines_left device.left new) (device.left (source_of new)) (lines_given new) 1 (suc (lines_given new)) lines_now (omega arith) (near_next device.left new);
+        }
+
+  -- the lines have ended
+  module _ (reached : Reached) (lines new : LineReader S) (kept : IsKept device lines → IsKept device new) where
+    start : Going device (line_members full reached lines) (line_members full reached lines)
+    start = going_start device (line_members full reached lines) refl refl
+
+    pub gives_over : GivesEnd device lines new → IsOver device (line_members full reached lines) (line_members full reached new)
+    gives_over ends = record {
+      ends = going_end device (line_members full reached lines) (line_members full reached lines) (line_members full reached new) start ends refl refl (record { state = refl; format = refl })
+          (λ same was. ap (line_members full reached) same);
+      kept = kept;
+      clear = λ e. e;
+    }
+
+    -- or couldn't be read
+    pub gives_unread : (fault : FaultValue) → GivesFault device lines fault new → IsStopped device (line_members full reached lines) fault (line_members full reached new)
+    gives_unread fault gives = record {
+      answers = going_unread device (line_members full reached lines) (line_members full reached lines) (line_members full reached new) fault start gives gives.kept refl (record { state = refl; format = refl })
+          (λ same was. ap (line_members full reached) same);
+      kept = kept;
+    }
+
+  -- lines were taken
+  module _ (reached : Reached) (lines new : LineReader S) (going : line_fault lines ≡ None) (texts more : List TextLine) (items : List SequenceLine) (say : SayEach full reached texts items)
+      (parts : buffered_in lines ≡ texts ++ more) (numbered : AreNumbered (suc (lines_given lines)) texts) (consumed : ConsumedLines) (count : ℕ) (are : TakenLines lines consumed count) (takes : TakesLines device lines consumed new) where
+    abbrev pub reached_then : Reached
+    reached_then = state_behind (sequence_format full) reached items
+
+    goes : line_fault new ≡ None
+    goes = takes.fault_is ∙ going
+
+    say_known : IfSome (lines_left device.left lines) (λ all. LinesSay (sequence_format full) reached all items)
+    say_known = say_by (lines_left device.left lines) (is_prefix device.left lines)
+      where
+        say_by : (all : Option (List TextLine)) → IfSome all (λ all. take (length (buffered_in lines)) all ≡ buffered_in lines) → IfSome all (λ all. LinesSay (sequence_format full) reached all items)
+        say_by None e = tt
+        say_by (Some all) e = say_front (sequence_format full) reached (buffered_in lines) all items e (subst (λ l. LinesSay (sequence_format full) reached l items) (sym parts) (say_lines full reached texts more items say))
+
+    -- no more than those
+    module _ (all : count ≡ length items) where
+      good_by : (a b : Option (List TextLine)) → IfSome a (AreNumbered (suc (lines_given lines))) → IfSome a (λ all. LinesSay (sequence_format full) reached all items) → (a ≡ None → b ≡ None) → DropsLines a (length items) b
+          → option_map (with_members (members_from (suc (lines_given lines)) items)) (option_map (good_from (sequence_format full) (input_of lines) reached_then) b) ≡ option_map (good_from (sequence_format full) (input_of lines) reached) a
+      good_by None b n s none drops =
+          ap (λ o. option_map (with_members (members_from (suc (lines_given lines)) items)) (option_map (good_from (sequence_format full) (input_of lines) reached_then) o)) (none refl)
+      good_by (Some all) b n s none drops =
+          ap (λ o. option_map (with_members (members_from (suc (lines_given lines)) items)) (option_map (good_from (sequence_format full) (input_of lines) reached_then) o)) drops
+          ∙ ap Some (good_said (sequence_format full) (input_of lines) (suc (lines_given lines)) reached all items n s)
+
+      good_then : option_map (with_members (members_from (suc (lines_given lines)) items)) (good_coming device.left (line_members full reached_then new)) ≡ good_coming device.left (known_members reached items lines)
+      good_then =
+          ap (option_map (with_members (members_from (suc (lines_given lines)) items)))
+          (good_lines reached_then [] new goes ∙ ap (λ input. option_map (good_from (sequence_format full) input reached_then) (lines_left device.left new)) takes.input_is)
+          ∙ good_by (lines_left device.left lines) (lines_left device.left new) (left_numbered device lines) say_known (still_unknown device.left lines new takes.source_is)
+          (subst (λ k. DropsLines (lines_left device.left lines) k (lines_left device.left new)) (are.feeds ∙ all) takes.left_is)
+          ∙ sym (good_lines reached items lines going)
+
+      pub has_taken : HasTaken device (known_members reached items lines) items (line_members full reached_then new)
+      has_taken = record {
+        takes = record {
+          buffered = sym (append-nil items);
+          said = say_said full reached texts items say;
+          state = refl;
+          good = good_then;
+          goes = takes.fault_is;
+          format = refl;
+          given = takes.given ∙ are.given ∙ ap (λ k. lines_given lines + k) all;
+          below = takes.below;
+          hands = takes.hands;
+          source = takes.source_is;
+          lines = drops_pass (lines_left device.left lines) (lines_left device.left new) _ (lines_given new - lines_given lines) takes.left_is (omega (arith, takes.given, are.given, are.feeds));
+          kept = takes.kept;
+          near = λ some. takes.near (some_bytes consumed.bytes (buffered_bytes lines) (omega (arith, are.feeds, all, some)));
+          shrinks = omega (arith, takes.taken_is, takes.shrinks, are.feeds, all);
+        };
+        clear = λ e. e;
+        ahead = λ m is. absurd (let apart : None ≡ Some m = is in cc);
+      }
+
+      first_by : (number : ℕ) (items : List SequenceLine) (m : Member SequenceLine) (good then : Option (Good SequenceLine)) → option_map (with_members (members_from number items)) then ≡ good → first_from number items ≡ Some m
+          → IfSome good (λ good. (rest : List (Member SequenceLine)) × (good.members ≡ m ∷ rest))
+      first_by number [] m good then e is = absurd (let apart : None ≡ Some m = is in cc)
+      first_by number (item ∷ items) m None then e is = tt
+      first_by number (item ∷ items) m (Some good) None e is = absurd (let apart : None ≡ Some good = e in cc)
+      first_by number (item ∷ items) m (Some good) (Some then) e is =
+          let same : record { line = number; item = item } ≡ m = cc in
+          let whole : with_members (members_from number (item ∷ items)) then ≡ good = cc in
+          (members_from (suc number) items ++ then.members, ap (λ g. g.members) (sym whole) ∙ ap (λ x. x ∷ (members_from (suc number) items ++ then.members)) same)
+
+      -- they were known to come
+      pub passes_known : (old : MemberReader S SequenceLine Reached) (past : List (Member SequenceLine)) → Passes device old past (line_members full reached lines) → Passes device old past (known_members reached items lines)
+      passes_known old past g = record {
+        format = g.format;
+        bytes = g.bytes;
+        said = g.said;
+        state = g.state;
+        come = subst (ComeFirst (good_coming device.left old) past) (good_lines reached [] lines going ∙ sym (good_lines reached items lines going)) g.come;
+        behind = g.behind;
+        lines = g.lines;
+        going = g.going;
+        clear = g.clear;
+        kept = g.kept;
+        served = g.served;
+        ahead = λ known m is. first_by (suc (lines_given lines)) items m (good_coming device.left (known_members reached items lines)) (good_coming device.left (line_members full reached_then new)) good_then is;
+        near = g.near;
+      }
+
+  -- lines were taken, of which the last one is at fault
+  module _ (old : MemberReader S SequenceLine Reached) (past : List (Member SequenceLine)) (reached : Reached) (lines new : LineReader S) (g : Passes device old past (line_members full reached lines))
+      (before : List TextLine) (line : TextLine) (more : List TextLine) (items : List SequenceLine) (say : SayEach full reached before items) (kind : Kind) (says : line_says full (state_behind (sequence_format full) reached items) line ≡ Err kind)
+      (parts : buffered_in lines ≡ (before ++ line ∷ []) ++ more) (numbered : AreNumbered (suc (lines_given lines)) (before ++ line ∷ [])) (consumed : ConsumedLines) (are : TakenLines lines consumed (length (before ++ line ∷ [])))
+      (takes : TakesLines device lines consumed new) (fault : FaultValue) (is : fault ≡ fault_at_line (input_of old.below) line.number kind) where
+    abbrev pub refused : MemberReader S SequenceLine Reached
+    refused = record {
+      format = sequence_format full;
+      below = new;
+      state = state_behind (sequence_format full) reached items;
+      buffered = [];
+      fault = Some fault;
+    }
+
+    abbrev members : List (Member SequenceLine)
+    members = members_from (suc (lines_given lines)) items
+
+    number_by : (number : ℕ) (front : List TextLine) → AreNumbered number (front ++ line ∷ []) → line.number ≡ number + length front
+    number_by number [] n = omega (arith, n.0)
+    number_by number (x ∷ front) n = omega (arith, number_by (suc number) front n.1)
+
+    abbrev count : ℕ
+    count = lines_given lines + length items
+
+    number_is : line.number ≡ suc count
+    number_is = omega (arith, number_by (suc (lines_given lines)) before numbered, say_count full reached before items say)
+
+    given_is : lines_given new ≡ suc count
+    given_is = omega (arith, takes.given, are.given, length-append before (line ∷ []), say_count full reached before items say)
+
+    same_input : input_of lines ≡ input_of old.below
+    same_input = g.bytes.1.same_input
+
+    good_stops : (rest : List TextLine) → good_from (sequence_format full) (input_of lines) (state_behind (sequence_format full) reached items) (line ∷ rest) ≡ record { members = []; fault = Some fault }
+    unfolding good_from
+    good_stops rest =
+        let same : fault_at_line (input_of lines) line.number kind ≡ fault = ap (λ input. fault_at_line input line.number kind) same_input ∙ sym is in
+        rw (says, same) refl
+
+    good_known : (all : List TextLine) → take (length (buffered_in lines)) all ≡ buffered_in lines → AreNumbered (suc (lines_given lines)) all
+        → good_from (sequence_format full) (input_of lines) reached all ≡ with_members members (record { members = []; fault = Some fault })
+    good_known all e n =
+        let front = front_of (before ++ line ∷ []) more all (subst (λ l. take (length l) all ≡ l) parts e) in
+        let whole : all ≡ before ++ line ∷ front.0 = front.1 ∙ append_assoc before (line ∷ []) front.0 in
+        let size : length items ≡ length before = sym (say_count full reached before items say) in
+        let left_is : drop (length items) all ≡ line ∷ front.0 = ap (λ k. drop k all) size ∙ ap (drop (length before)) whole ∙ drop-append_seam before (line ∷ front.0) in
+        sym (good_said (sequence_format full) (input_of lines) (suc (lines_given lines)) reached all items n (subst (λ l. LinesSay (sequence_format full) reached l items) (sym whole) (say_lines full reached before (line ∷ front.0) items say)))
+        ∙ ap (λ l. with_members members (good_from (sequence_format full) (input_of lines) (state_behind (sequence_format full) reached items) l)) left_is
+        ∙ ap (with_members members) (good_stops front.0)
+
+    whole_by : (good : Option (Good SequenceLine)) (all : Option (List TextLine)) → IfSome all (λ all. take (length (buffered_in lines)) all ≡ buffered_in lines) → IfSome all (AreNumbered (suc (lines_given lines)))
+        → ComeFirst good past (option_map (good_from (sequence_format full) (input_of lines) reached) all) → IfSome good (λ good. (good.members ≡ past ++ members) × (good.fault ≡ Some fault))
+    whole_by None all e n c = tt
+    whole_by (Some good) None e n c = absurd c
+    whole_by (Some good) (Some all) e n c =
+        let known = good_known all e n in (
+          c.0 ∙ ap (λ (g : Good SequenceLine). past ++ g.members) known ∙ ap (λ l. past ++ l) (append-nil members),
+          c.1 ∙ ap (λ (g : Good SequenceLine). g.fault) known,
+        )
+
+    whole : IfSome (good_coming device.left old) (λ good. (good.members ≡ past ++ members) × (good.fault ≡ Some fault))
+    whole =
+        whole_by (good_coming device.left old) (lines_left device.left lines) (is_prefix device.left lines) (left_numbered device lines)
+        (subst (ComeFirst (good_coming device.left old) past) (good_lines reached [] lines g.clear) g.come)
+
+    clear : line_fault new ≡ None
+    clear = takes.fault_is ∙ g.clear
+
+    bytes_then : (bytes : List ℕ) × Hands device.left old.below bytes new
+    bytes_then = (g.bytes.0 ++ [], hands_both device.left old.below lines new g.bytes.0 [] g.bytes.1 takes.hands)
+
+    -- so it stops there
+    pub refuses : (Kinds : Kind → Type 0) → Kinds kind → StopsAfter device old Kinds (past ++ members) fault refused
+    refuses Kinds of_kind = record {
+      bytes = bytes_then;
+      cause = inl (inl (record {
+        whole = whole;
+        line = line.number;
+        kind = kind;
+        is = is;
+        of_kind = of_kind;
+        served = ap device.has_failed takes.source_is ∙ g.served;
+        within = (takes.kept g.kept).within clear;
+      }));
+    }
+
+    lines_then : IfSome (lines_left device.left old.below) (λ all. lines_left device.left new ≡ Some (drop (lines_given new) all))
+    lines_then =
+        lines_on (lines_left device.left old.below) (lines_left device.left lines) (lines_left device.left new) (lines_given lines) (lines_given new) (omega (arith, given_is)) g.lines
+        (drops_pass (lines_left device.left lines) (lines_left device.left new) _ (lines_given new - lines_given lines) takes.left_is (omega (arith, takes.given, are.given, are.feeds)))
+
+    held_block : length (held new) ≤ block_size
+    held_block = takes.near (some_bytes consumed.bytes (buffered_bytes lines) (omega (arith, are.feeds, length-append before (line ∷ []))))
+
+    behind_by : (good : Option (Good SequenceLine)) → IfSome good (λ good. (good.members ≡ past ++ members) × (good.fault ≡ Some fault))
+        → IfSome good (λ good. (rest : List (Member SequenceLine)) × (good.members ≡ (past ++ members) ++ rest) × IsBeyond count (record { members = rest; fault = good.fault }))
+    behind_by good w = IfSome_then good w (λ good w. (
+      [],
+      w.0 ∙ sym (append-nil (past ++ members)),
+      record {
+        members = All-nil (λ (m : Member SequenceLine). count < m.line);
+        fault = subst (λ o. IfSome o (IsFaultBeyond count)) (sym w.1) (subst (IsFaultBeyond count) (sym is) (let low : count < line.number = omega (arith, number_is) in low));
+      },
+    ))
+
+    low_then : All (λ m. m.line ≤ count) (past ++ members)
+    low_then =
+        All-append (λ (m : Member SequenceLine). m.line ≤ count) past members (up_to (lines_given lines) count past (omega arith) g.behind) (members_low (lines_given lines) items)
+
+    pub refuses_read : IsReadFor device old (past ++ members) (past ++ members) refused
+    refuses_read = record {
+      to = record {
+        count = count;
+        near = near_pass (lines_left device.left old.below) (lines_left device.left new) (device.left (source_of new)) (lines_given new) 0 (suc count) lines_then (omega (arith, given_is))
+            (sound_near device new (record { end = (takes.kept g.kept).end; within = (takes.kept g.kept).within; near = λ none. held_block }) clear);
+        behind = behind_by (good_coming device.left old) whole;
+      };
+      low = low_then;
+      high = up_to count (suc count) (past ++ members) (omega arith) low_then;
+      begins = IfSome_then (good_coming device.left old) whole (λ good w. ([], w.0 ∙ sym (append-nil (past ++ members))));
+    }

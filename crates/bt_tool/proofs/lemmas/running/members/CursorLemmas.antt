@@ -1,16 +1,26 @@
 -- Lemmas on lines that were consumed of those buffered: the lines that are left tell how many bytes they had.
-use Rattle.bt_lines.proofs.Std.{◌≡◌, ℕ, zero, suc, ◌+◌, ◌-◌, ◌≤◌, Bool, true, false, nat_eq, List, [], ◌∷◌, ◌++◌, length, take, drop, refl, sym, ap, ◌∙◌, subst, append_assoc, append-nil, length-append, length-take, length-drop, arith, inl, inr, ◌⊎◌, All, flat_map, drop-append_seam, take-append_seam, take-length, take-append-drop, All-cons, All-head, All-nil, All-tail}
+use Rattle.bt_lines.proofs.Std.{◌≡◌, ℕ, zero, suc, ◌+◌, ◌-◌, ◌≤◌, Bool, true, false, nat_eq, List, [], ◌∷◌, ◌++◌, length, take, drop, refl, sym, ap, ◌∙◌, subst, append_assoc, append-nil, length-append, length-take, length-drop, arith, inl, inr, ◌⊎◌, All, flat_map, drop-append_seam, take-append_seam, take-length, take-append-drop, All-cons, All-head, All-nil, All-tail, ◌≢◌, Option, Some, ◌^◌, None, ◌<◌, nat_le, nat_tests, append_cancel_right, Consumes, ⊎_elim, IfSome, IsSome, option_map}
 use Rattle.bt_lines.proofs.lemmas.reader.block.BufferLemmas.{fed_clear, fed_drop, fed_last, fed_none, fed_push}
-use Rattle.bt_lines.proofs.lemmas.reader.lines.LinesLemmas.{lines_from-fed, lines_from-last, lines_from-nil, spelled-fed}
-use Rattle.bt_lines.proofs.lemmas.reader.lines.PassingLemmas.{lines_taken}
-use Rattle.bt_lines.proofs.lemmas.reader.lines.TextLemmas.{by_lines, lines_are_numbered, whole_lines_are_numbered, bytes_in-lines, line_feeds-append, line_feeds-fed, whole_count, whole_lines_from-fed, whole_lines_from-last}
-use Rattle.bt_lines.specs.calls.Buffered.{BeginsLines, IsWhere, PassesLines, buffered_lines, lines_in, rest_in}
-use Rattle.bt_lines.specs.model.Lines.{AreNumbered, TextLine, bytes_in, fed_line, last_line, line_feeds, lines_from, spelled, whole_lines_from}
-use Rattle.bt_lines.specs.calls.Reader.{TakenLines, buffered_bytes, is_open, lines_given}
+use Rattle.bt_lines.proofs.lemmas.reader.lines.TextLemmas.{lines_from-fed, lines_from-last, lines_from-nil, spelled-fed, by_lines, lines_are_numbered, whole_lines_are_numbered, bytes_in-lines, line_feeds-append, line_feeds-fed, whole_count, whole_lines_from-fed, whole_lines_from-last, bytes_in-append, whole_front}
+use Rattle.bt_lines.proofs.lemmas.reader.lines.BufferedLemmas.{lines_taken}
+use Rattle.bt_lines.specs.calls.Reader.{BeginsLines, IsWhere, PassesLines, buffered_lines, lines_in, rest_in, TakenLines, buffered_bytes, is_open, lines_given, CutsOff, Hands, source_of, bytes_taken, feeds_taken, IsSound, fault_kept, input_of, lines_left}
+use Rattle.bt_lines.specs.model.Lines.{AreNumbered, TextLine, bytes_in, fed_line, last_line, line_feeds, lines_from, spelled, whole_lines_from, Handed, whole_text, text_lines, whole_lines}
 use Rattle.bt_lines.specs.inside.Shape.{IsLast, is_fed}
 use Rattle.bt_lines.specs.declared.reader.buffered_lines.BufferedLines.{BufferedLines}
 use Rattle.bt_lines.specs.declared.reader.buffered_lines.ConsumedLines.{ConsumedLines}
 use Rattle.bt_lines.specs.declared.reader.line_reader.LineReader.{LineReader}
+use Rattle.bt_lines.specs.declared.device.Source.{Ghosts as Source}
+use Rattle.bt_lines.specs.model.Fault.{FaultValue, read_failed}
+use Rattle.bt_lines.specs.declared.fault.Input.{Input}
+use Rattle.bt_tool.specs.model.Report.{Reads, handed_by}
+use Rattle.bt_lines.specs.calls.Output.{block_size}
+use Rattle.bt_bed.specs.model.Good.{Format, Member, good, good_from, good_handed, Good, or_else}
+use Rattle.bt_bed.specs.calls.Reading.{IsBeyond, MemberReader, good_coming}
+use Rattle.bt_bed.proofs.lemmas.read.good.SaidLemmas.{first_from}
+use Rattle.bt_tool.specs.calls.Run.{PassesBound, TellsInput}
+use Rattle.bt_lines.specs.declared.fault.Kind.{Kind}
+use Rattle.bt_bed.specs.model.Feature.{fault_at_line}
+use Rattle.bt_tool.specs.inside.Feed.{IsFresh, HasFaultBehind, IsUnreadBehind}
 
 -- after a piece and its line feed complete lines go on
 fed_behind : (piece rest : List ℕ) → is_fed (piece ++ 10 ∷ rest) ≡ true → is_fed rest ≡ true
@@ -74,8 +84,8 @@ module _ (n m at : ℕ) (bytes : List ℕ) (texts : List TextLine) (fed : is_fed
       ∙ ap (λ l. flat_map spelled texts ++ l) (whole_spelled m (drop at bytes) (fed_drop at bytes fed)) in
       ap (λ k. take k bytes) whole_at ∙ ap (take (length (flat_map spelled texts))) parts ∙ take-append_seam (flat_map spelled texts) (drop at bytes)
 
-  whole_front : Front bytes at (length texts)
-  whole_front = record {
+  front_whole : Front bytes at (length texts)
+  front_whole = record {
     fed = ap is_fed whole_bytes ∙ front_fed texts (whole_lines_from m (drop at bytes)) (subst (All IsFed) left (whole_fed n bytes));
     feeds = omega (
       arith,
@@ -179,7 +189,7 @@ module _ (n m at : ℕ) (bytes : List ℕ) (fed : is_fed bytes ≡ true) (within
 
 front_by : (is_open : Bool) (n m at : ℕ) (bytes : List ℕ) (texts : List TextLine) → is_fed bytes ≡ true → at ≤ length bytes → IsLast is_open is_open bytes [] → IsLast is_open is_open (drop at bytes) []
     → buffered_lines is_open n bytes ≡ texts ++ buffered_lines is_open m (drop at bytes) → Front bytes at (length texts)
-front_by false n m at bytes texts fed within last last_left left = whole_front (suc n) (suc m) at bytes texts fed within left
+front_by false n m at bytes texts fed within last last_left left = front_whole (suc n) (suc m) at bytes texts fed within left
 front_by true n m at bytes texts fed within last last_left left = open_front (suc n) (suc m) at bytes fed within (last.one refl) (last.some refl) (last_left.some refl) texts left
 
 numbered_by : (is_open : Bool) (lines : ℕ) (bytes : List ℕ) → AreNumbered (suc lines) (buffered_lines is_open lines bytes)
@@ -244,3 +254,271 @@ module _ {S : Type 0} (reader : LineReader S) (first last : BufferedLines) (text
   lines_numbered =
       subst (λ n. AreNumbered (suc n) texts) begins.given
       (numbered_front (suc first.lines) texts (lines_in last) (subst (AreNumbered (suc first.lines)) left_is (numbered_by first.is_open first.lines (rest_in first))))
+
+-- What is known of the text of an input, once it was read.
+
+module _ {S : Type 0} (device : Source S) (first last : S) (fault : Option FaultValue) where
+  -- it is the whole text, and no failed read is reported
+  pub record IsWhole (handed : Handed) : Type 0 where
+    pub text : List ℕ
+    pub known : device.left first ≡ Some text
+    pub is : handed ≡ whole_text text
+    pub no_read : (input : Input) (line : ℕ) → fault ≢ Some (read_failed input line)
+
+  -- this came of it, or is all of it if no failed read is reported
+  abbrev pub Came : Handed → Type 0
+  Came handed = Reads device first last handed ⊎ IsWhole handed
+
+-- Lemmas on what an input handed over: its first lines, and the piece that a failed read cut off.
+
+-- if all but a block of what follows some lines is left, at most these lines and a block were handed over
+pub handed_near : (count : ℕ) (text handed rest : List ℕ) → handed ++ rest ≡ text
+    → bytes_in (drop count (text_lines text)) ≤ length rest + block_size
+    → length handed ≤ bytes_in (take count (text_lines text)) + block_size
+handed_near count text handed rest parts near =
+    let lines = text_lines text in
+    let both = bytes_in-append (take count lines) (drop count lines) in
+    let whole = ap bytes_in (take-append-drop count lines) in
+    let all = bytes_in-lines 1 text in
+    let long = ap length parts in
+    let two = length-append handed rest in
+    omega arith
+
+module _ {A State : Type 0} (format : Format A State) (input : Input) where
+  -- what is good of a text that was cut off after these lines: the members of the lines, and then
+  -- the failed read
+  pub cut_good : (cut more : List ℕ) (past rest : List (Member A)) (fault : Option FaultValue)
+      → (good format input (text_lines (cut ++ more))).members ≡ past ++ rest
+      → (good format input (text_lines (cut ++ more))).fault ≡ fault
+      → All (λ m. m.line ≤ line_feeds cut) past
+      → IsBeyond (line_feeds cut) (record { members = rest; fault = fault })
+      → good_handed format input (record { text = cut; is_cut = true })
+      ≡ record { members = past; fault = Some (read_failed input (suc (line_feeds cut))) }
+  cut_good cut more past rest fault members at up beyond =
+      let count = line_feeds cut in
+      let front : good_from format input format.begin (take count (text_lines (cut ++ more))) ≡ record { members = past; fault = None } =
+      first_from format input count count 1 format.begin (text_lines (cut ++ more)) past rest fault (omega arith)
+      (lines_are_numbered 1 (cut ++ more)) members at up beyond in
+      let lines : good format input (whole_lines cut) ≡ record { members = past; fault = None } =
+      ap (good format input) (sym (whole_front 1 cut more)) ∙ front in
+      rw (lines, whole_count 1 cut) refl
+
+-- what a source handed over is its whole text, if it worked and passed no bound
+pub handed_whole : (failed passed : Bool) (text bytes : List ℕ) → failed ≡ false → passed ≡ false
+    → handed_by failed passed text bytes ≡ whole_text text
+handed_whole false false text bytes f p = refl
+handed_whole true passed text bytes f p = cc
+handed_whole false true text bytes f p = cc
+
+-- if it failed, it's what was handed over before
+pub handed_cut : (failed passed : Bool) (text bytes : List ℕ) → failed ≡ true
+    → handed_by failed passed text bytes ≡ record { text = take (2 ^ 63 - 1) bytes; is_cut = true }
+handed_cut true passed text bytes f = refl
+handed_cut false passed text bytes f = cc
+
+-- and if it passed the bound
+pub handed_past : (failed passed : Bool) (text bytes : List ℕ) → passed ≡ true
+    → handed_by failed passed text bytes ≡ record { text = take (2 ^ 63 - 1) bytes; is_cut = true }
+handed_past true passed text bytes p = refl
+handed_past false true text bytes p = refl
+handed_past false false text bytes p = cc
+
+-- what was consumed of known bytes is determined
+pub consumes_same : (a b : Option (List ℕ)) (bytes other text : List ℕ) → a ≡ Some text → Consumes a b bytes → Consumes a b other → bytes ≡ other
+consumes_same None b bytes other text e c d = cc
+consumes_same (Some x) None bytes other text e c d = absurd c
+consumes_same (Some x) (Some y) bytes other text e c d = append_cancel_right bytes other y (sym c ∙ d)
+
+-- a text is what was consumed of it and what is left
+pub consumes_parts : (a b : Option (List ℕ)) (bytes text : List ℕ) → a ≡ Some text → Consumes a b bytes
+    → (rest : List ℕ) × (b ≡ Some rest) × (bytes ++ rest ≡ text)
+consumes_parts None b bytes text e c = cc
+consumes_parts (Some x) None bytes text e c = absurd c
+consumes_parts (Some x) (Some y) bytes text e c = (y, refl, let same : x ≡ text = cc in sym c ∙ same)
+
+below_bound : (n : ℕ) → n < 2 ^ 63 → nat_le (2 ^ 63) n ≡ false
+below_bound n h = grind (arith, nat_tests)
+
+past_bound : (n : ℕ) → 2 ^ 63 ≤ n → nat_le (2 ^ 63) n ≡ true
+past_bound n h = grind (arith, nat_tests)
+
+-- a reader that had taken nothing, and what it has become; its source before and after
+module _ {S : Type 0} (device : Source S) (first last : S) (old new : LineReader S) (source : source_of old ≡ first) (ended : source_of new ≡ last) (fresh : bytes_taken old ≡ 0) where
+  pub consumed_by : (bytes : List ℕ) → Hands device.left old bytes new → Consumes (device.left first) (device.left last) bytes
+  consumed_by bytes hands = subst (λ s. Consumes (device.left first) (device.left s) bytes) ended (subst (λ s. Consumes (device.left s) (device.left (source_of new)) bytes) source hands.left_over)
+
+  pub passes_by : (bytes : List ℕ) × Hands device.left old bytes new → 2 ^ 63 ≤ bytes_taken new → PassesBound (device.left first) (device.left last)
+  passes_by hands past = (hands.0, consumed_by hands.0 hands.1, omega (arith, past, hands.1.counted, fresh))
+
+  -- the bytes that a run was handed are those that the reader took
+  pub taken_by : (handed : Handed) (reads : Reads device first last handed) (bytes : List ℕ) → Hands device.left old bytes new → (reads.bytes ≡ bytes) × (length reads.bytes ≡ bytes_taken new)
+  taken_by handed reads bytes hands =
+      let same = consumes_same (device.left first) (device.left last) reads.bytes bytes reads.text reads.known reads.consumed (consumed_by bytes hands) in
+      (same, omega (arith, ap length same, hands.counted, fresh))
+
+  -- an input that worked and passed no bound was handed over completely
+  pub handed_all : (handed : Handed) (reads : Reads device first last handed) → (bytes : List ℕ) × Hands device.left old bytes new
+      → device.has_failed (source_of new) ≡ device.has_failed (source_of old) → bytes_taken new < 2 ^ 63 → handed ≡ whole_text reads.text
+  handed_all handed reads hands served within =
+      let taken = taken_by handed reads hands.0 hands.1 in
+      let works : device.has_failed last ≡ false = ap device.has_failed (sym ended) ∙ served ∙ ap device.has_failed source ∙ reads.worked in
+      reads.is ∙ handed_whole (device.has_failed last) (nat_le (2 ^ 63) (length reads.bytes)) reads.text reads.bytes works
+      (below_bound (length reads.bytes) (omega (arith, taken.1, within)))
+
+  -- one that failed or passed the bound was cut off
+  pub handed_part : (handed : Handed) (reads : Reads device first last handed) → (bytes : List ℕ) × Hands device.left old bytes new
+      → (device.has_failed (source_of new) ≡ true) ⊎ (2 ^ 63 ≤ bytes_taken new)
+      → handed ≡ record { text = take (2 ^ 63 - 1) reads.bytes; is_cut = true }
+  handed_part handed reads hands (inl fails) =
+      reads.is ∙ handed_cut (device.has_failed last) (nat_le (2 ^ 63) (length reads.bytes)) reads.text reads.bytes (ap device.has_failed (sym ended) ∙ fails)
+  handed_part handed reads hands (inr past) =
+      let taken = taken_by handed reads hands.0 hands.1 in
+      reads.is ∙ handed_past (device.has_failed last) (nat_le (2 ^ 63) (length reads.bytes)) reads.text reads.bytes
+      (past_bound (length reads.bytes) (omega (arith, taken.1, past)))
+
+  -- the rest of the text comes after what was cut off, and the lines given are as many as its line feeds
+  pub record CutText (handed : Handed) (reads : Reads device first last handed) : Type 0 where
+    pub more : List ℕ
+    pub text : take (2 ^ 63 - 1) reads.bytes ++ more ≡ reads.text
+    pub given : lines_given new ≡ line_feeds (take (2 ^ 63 - 1) reads.bytes)
+
+  pub cut_text : (handed : Handed) (reads : Reads device first last handed) → feeds_taken old ≡ 0 → CutsOff device.left old new → CutText handed reads
+  cut_text handed reads fed cut =
+      let taken = taken_by handed reads cut.bytes cut.hands in
+      let parts = consumes_parts (device.left first) (device.left last) reads.bytes reads.text reads.known reads.consumed in
+      let front = take (2 ^ 63 - 1) reads.bytes in
+      let same : line_feeds (take (2 ^ 63 - 1 - bytes_taken old) cut.bytes) ≡ line_feeds front =
+      ap (λ n. line_feeds (take (2 ^ 63 - 1 - n) cut.bytes)) fresh ∙ ap (λ l. line_feeds (take (2 ^ 63 - 1) l)) (sym taken.0) in
+      record {
+        more = drop (2 ^ 63 - 1) reads.bytes ++ parts.0;
+        text = sym (append_assoc front (drop (2 ^ 63 - 1) reads.bytes) parts.0) ∙ ap (λ l. l ++ parts.0) (take-append-drop (2 ^ 63 - 1) reads.bytes) ∙ parts.2;
+        given = omega (arith, cut.given, fed, same);
+      }
+
+-- Lemmas on what is good of an input that a reader of members took.
+
+-- what holds of a known value
+pub some_of : {A : Type 0} (a : Option A) (value : A) (P : A → Type 0) → a ≡ Some value → IfSome a P → P value
+some_of None value P e h = cc
+some_of (Some x) value P e h = let same : x ≡ value = cc in subst P same h
+
+pub or_else_none : (fault : Option FaultValue) → or_else fault None ≡ fault
+or_else_none None = refl
+or_else_none (Some fault) = refl
+
+-- what is good of a whole text
+pub good_whole : {A State : Type 0} (format : Format A State) (input : Input) (text : List ℕ) → good_handed format input (whole_text text) ≡ good format input (text_lines text)
+good_whole format input text =
+    let all = good format input (text_lines text) in
+    ap (λ f. record { members = all.members; fault = f }) (or_else_none all.fault)
+
+-- a reader at its beginning
+pub record BeginsAt {S A State : Type 0} (left : S → Option (List ℕ)) (format : Format A State) (input : Input) (first : S) (old : MemberReader S A State) : Type 0 where
+  pub source : source_of old.below ≡ first
+  pub input_is : input_of old.below ≡ input
+  pub bytes : bytes_taken old.below ≡ 0
+  pub feeds : feeds_taken old.below ≡ 0
+  pub lines : lines_left left old.below ≡ option_map text_lines (left first)
+  pub good : good_coming left old ≡ option_map (good format input) (option_map text_lines (left first))
+
+-- a reader of members over a reader of lines that has given nothing
+module _ {S A State : Type 0} (device : Source S) (reader : LineReader S) (members : MemberReader S A State)
+    (is : members.below ≡ reader) (taken : bytes_taken reader ≡ 0) (fed : feeds_taken reader ≡ 0) where
+  pub fresh_over : lines_given reader ≡ 0 → members.fault ≡ None → members.buffered ≡ [] → IsSound device reader → IsFresh device members
+  fresh_over given going none sound = record {
+    none_given = (ap lines_given is ∙ given, ap bytes_taken is ∙ taken, ap feeds_taken is ∙ fed);
+    none_buffered = none;
+    going = going;
+    sound = subst (IsSound device) (sym is) sound;
+  }
+
+  pub begins_over : (format : Format A State) (input : Input) (first : S) → source_of reader ≡ first → input_of reader ≡ input → fault_kept reader ≡ None
+      → lines_left device.left reader ≡ option_map text_lines (device.left first)
+      → (fault_kept reader ≡ None → good_coming device.left members ≡ option_map (good format (input_of reader)) (lines_left device.left reader)) → BeginsAt device.left format input first members
+  begins_over format input first source same going lines known = record {
+    source = ap source_of is ∙ source;
+    input_is = ap input_of is ∙ same;
+    bytes = ap bytes_taken is ∙ taken;
+    feeds = ap feeds_taken is ∙ fed;
+    lines = ap (lines_left device.left) is ∙ lines;
+    good = known going ∙ ap (λ i. option_map (good format i) (lines_left device.left reader)) same ∙ ap (option_map (good format input)) lines;
+  }
+
+module _ {S A State : Type 0} (device : Source S) (format : Format A State) (input : Input) (first : S) (old : MemberReader S A State) (begins : BeginsAt device.left format input first old)
+    (new : MemberReader S A State) (last : S) (ended : source_of new.below ≡ last) where
+  good_known : (text : List ℕ) → device.left first ≡ Some text → good_coming device.left old ≡ Some (good format input (text_lines text))
+  good_known text e = begins.good ∙ ap (λ o. option_map (good format input) (option_map text_lines o)) e
+
+  pub is_known : (text : List ℕ) → device.left first ≡ Some text → IsSome (good_coming device.left old)
+  is_known text e = subst IsSome (sym (good_known text e)) refl
+
+  -- what is so of the good records of the text
+  pub at_whole : (text : List ℕ) → device.left first ≡ Some text → (P : Good A → Type 0) → IfSome (good_coming device.left old) P → P (good_handed format input (whole_text text))
+  at_whole text e P h = subst P (sym (good_whole format input text)) (some_of (good_coming device.left old) (good format input (text_lines text)) P (good_known text e) h)
+
+  pub text_known : (fault : Option FaultValue) (handed : Handed) → Came device first last fault handed → (text : List ℕ) × (device.left first ≡ Some text)
+  text_known fault handed (inl reads) = (reads.text, reads.known)
+  text_known fault handed (inr whole) = (whole.text, whole.known)
+
+  -- an input that worked
+  pub came_whole : (fault : Option FaultValue) (handed : Handed) → Came device first last fault handed → (bytes : List ℕ) × Hands device.left old.below bytes new.below
+      → device.has_failed (source_of new.below) ≡ device.has_failed (source_of old.below) → bytes_taken new.below < 2 ^ 63
+      → (P : Good A → Type 0) → IfSome (good_coming device.left old) P → P (good_handed format input handed)
+  came_whole fault handed (inl reads) hands served within P h =
+      subst (λ t. P (good_handed format input t)) (sym (handed_all device first last old.below new.below begins.source ended begins.bytes handed reads hands served within)) (at_whole reads.text reads.known P h)
+  came_whole fault handed (inr whole) hands served within P h = subst (λ t. P (good_handed format input t)) (sym whole.is) (at_whole whole.text whole.known P h)
+
+  -- one that failed to be read
+  pub came_cut : (past : List (Member A)) (fault : FaultValue) (handed : Handed) → Came device first last (Some fault) handed → IsUnreadBehind device old past fault new
+      → good_handed format input handed ≡ record { members = past; fault = Some fault }
+  came_cut past fault handed (inr whole) unread = absurd (whole.no_read (input_of old.below) (suc (lines_given new.below)) (ap Some unread.is))
+  came_cut past fault handed (inl reads) unread =
+      let cut = unread.cut in
+      let texts = cut_text device first last old.below new.below begins.source ended begins.bytes handed reads begins.feeds cut in
+      let front = take (2 ^ 63 - 1) reads.bytes in
+      let more = texts.more in
+      let text = texts.text in
+      let given = texts.given in
+      let members = some_of (good_coming device.left old) (good format input (text_lines reads.text)) (λ g. (rest : List (Member A)) × (g.members ≡ past ++ rest) × IsBeyond (lines_given new.below) (record { members = rest; fault = g.fault }))
+      (good_known reads.text reads.known) unread.members in
+      let told : Some (read_failed input (suc (line_feeds front))) ≡ Some fault =
+      ap Some (sym (unread.is ∙ ap (λ i. read_failed i (suc (lines_given new.below))) begins.input_is ∙ ap (λ n. read_failed input (suc n)) given)) in
+      ap (good_handed format input) (handed_part device first last old.below new.below begins.source ended begins.bytes handed reads (cut.bytes, cut.hands) unread.cause)
+      ∙ cut_good format input front more past members.0 (good format input (text_lines (front ++ more))).fault
+      (subst (λ t. (good format input (text_lines t)).members ≡ past ++ members.0) (sym text) members.1) refl
+      (subst (λ n. All (λ m. m.line ≤ n) past) given unread.behind)
+      (rw text (subst (λ n. IsBeyond n (record { members = members.0; fault = (good format input (text_lines reads.text)).fault })) given members.2))
+      ∙ ap (λ f. record { members = past; fault = f }) told
+
+  -- one with a fault
+  pub says_fault : (Kinds : Kind → Type 0) (past : List (Member A)) (fault : FaultValue) (handed : Handed) → Came device first last (Some fault) handed → (bytes : List ℕ) × Hands device.left old.below bytes new.below
+      → HasFaultBehind device old Kinds past fault new → ((good_handed format input handed).members ≡ past) × ((good_handed format input handed).fault ≡ Some fault)
+  says_fault Kinds past fault handed came hands (inl wrong) =
+      came_whole (Some fault) handed came hands wrong.served wrong.within (λ good. (good.members ≡ past) × (good.fault ≡ Some fault)) wrong.whole
+  says_fault Kinds past fault handed came hands (inr unread) =
+      let is = came_cut past fault handed came unread in
+      (ap (λ (g : Good A). g.members) is, ap (λ (g : Good A). g.fault) is)
+
+  -- what the fault tells
+  pub tells_fault : (Kinds : Kind → Type 0) (past : List (Member A)) (fault : FaultValue) → (bytes : List ℕ) × Hands device.left old.below bytes new.below
+      → HasFaultBehind device old Kinds past fault new → TellsInput device Kinds input first last fault
+  tells_fault Kinds past fault hands (inl wrong) = inl (record { line = wrong.line; kind = wrong.kind; of_kind = wrong.of_kind; is = wrong.is ∙ ap (λ i. fault_at_line i wrong.line wrong.kind) begins.input_is })
+  tells_fault Kinds past fault hands (inr unread) = inr (record {
+    line = suc (lines_given new.below);
+    is = unread.is ∙ ap (λ i. read_failed i (suc (lines_given new.below))) begins.input_is;
+    cause = ⊎_elim (λ fails. inl (ap device.has_failed (sym ended) ∙ fails)) (λ bound. inr (passes_by device first last old.below new.below begins.source ended begins.bytes hands bound)) unread.cause;
+  })
+
+  -- what was handed over, by how many lines were read
+  pub handed_to : (count : ℕ) (text : List ℕ) → device.left first ≡ Some text
+      → IfSome (lines_left device.left old.below) (λ lines. IfSome (device.left (source_of new.below)) (λ rest. bytes_in (drop (suc count) lines) ≤ length rest + block_size))
+      → (bytes : List ℕ) × Hands device.left old.below bytes new.below
+      → (handed : List ℕ) × Consumes (device.left first) (device.left last) handed × (length handed ≤ bytes_in (take (suc count) (text_lines text)) + block_size)
+  handed_to count text e near hands =
+      let handed = consumed_by device first last old.below new.below begins.source ended begins.bytes hands.0 hands.1 in
+      let parts = consumes_parts (device.left first) (device.left last) hands.0 text e handed in
+      let rest : device.left (source_of new.below) ≡ Some parts.0 = ap device.left ended ∙ parts.1 in
+      let lines : lines_left device.left old.below ≡ Some (text_lines text) = begins.lines ∙ ap (option_map text_lines) e in
+      let here = some_of (device.left (source_of new.below)) parts.0 (λ rest. bytes_in (drop (suc count) (text_lines text)) ≤ length rest + block_size) rest
+      (some_of (lines_left device.left old.below) (text_lines text) (λ lines. IfSome (device.left (source_of new.below)) (λ rest. bytes_in (drop (suc count) lines) ≤ length rest + block_size)) lines near) in
+      (hands.0, handed, handed_near (suc count) text hands.0 parts.0 parts.2 here)

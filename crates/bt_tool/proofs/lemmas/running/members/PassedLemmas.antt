@@ -6,23 +6,19 @@ use Rattle.bt_lines.specs.calls.Names.{fault_value}
 use Rattle.bt_lines.specs.calls.Reader.{HasRead, bytes_taken, fault_kept as line_fault, lines_given, source_of}
 use Rattle.bt_lines.proofs.lemmas.reader.block.ReadsLemmas.{counts_none}
 use Rattle.bt_lines.specs.declared.fault.Fault.{Fault}
-use Rattle.bt_bed.specs.model.feature.Feature.{Feature, interval_of, intervals_of}
-use Rattle.bt_bed.specs.calls.SortedReader.{view_with}
-use Rattle.bt_bed.specs.model.input.Good.{Good, Member, or_else}
-use Rattle.bt_bed.specs.model.input.GoodBed.{bed_format, locus_at}
-use Rattle.bt_bed.specs.model.feature.Interval.{Interval, last_of}
-use Rattle.bt_bed.specs.model.order.Locus.{IsUpTo, Locus, locus_of}
-use Rattle.bt_bed.specs.model.order.Order.{IsTotal, Order}
+use Rattle.bt_bed.specs.model.Feature.{Feature, interval_of, intervals_of, Interval, last_of}
+use Rattle.bt_bed.specs.calls.Batch.{view_with}
+use Rattle.bt_bed.specs.model.Good.{Good, Member, or_else, bed_format, locus_at}
+use Rattle.bt_bed.specs.model.Sorted.{IsUpTo, Locus, locus_of, sorting_of}
+use Rattle.bt_bed.specs.model.Order.{IsTotal, Order}
 use Rattle.bt_bed.specs.calls.Reading.{AreSaid, BeginsComing, MemberReader, Takes, first_from, good_coming, members_from, with_members}
 use Rattle.bt_bed.specs.calls.Records.{FillsRecords, TakesRecords, below, buffered_in, fault_kept, view_of}
-use Rattle.bt_bed.specs.model.order.Sorting.{sorting_of}
 use Rattle.bt_bed.specs.declared.order.ChromOrder.{Ghosts}
 use Rattle.bt_bed.specs.declared.read.records.Records.{Records}
 use Rattle.bt_bed.proofs.lemmas.read.batch.RecordsLemmas.{said_behind}
-use Rattle.bt_bed.proofs.lemmas.order.ContiguousLemmas.{last_of-push, grows_placed}
-use Rattle.bt_tool.specs.inside.feed.Feeding.{AreInOrder}
-use Rattle.bt_tool.specs.inside.feed.Passed.{HasTaken}
-use Rattle.bt_tool.proofs.lemmas.running.members.Filled.{IsFilled, IsOver, IsStopped}
+use Rattle.bt_bed.proofs.lemmas.order.OrderLemmas.{last_of-push, grows_placed}
+use Rattle.bt_tool.specs.inside.Feed.{AreInOrder, HasTaken}
+use Rattle.bt_tool.proofs.lemmas.running.members.MemberLemmas.{IsFilled, IsOver, IsStopped}
 
 pub or_none : (a b : Option FaultValue) → or_else a b ≡ None → b ≡ None
 or_none None b e = e

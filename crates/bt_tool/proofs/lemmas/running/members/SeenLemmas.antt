@@ -1,10 +1,9 @@
 -- Lemmas on the members that were seen and on the lines that were put, when a run stops.
 use Rattle.bt_lines.proofs.Std.{◌≡◌, ℕ, List, [], ◌∷◌, ◌++◌, Option, None, Some, refl, sym, ap, ◌∙◌, append-nil, append_assoc, option_to_list, IfSome, IsSome, option_map, map-append, IfSome_then}
 use Rattle.bt_lines.specs.model.Fault.{FaultValue}
-use Rattle.bt_lines.specs.calls.Output.{Output}
-use Rattle.bt_lines.specs.calls.Putting.{FailsToAdd}
-use Rattle.bt_bed.specs.model.input.Good.{Good, Member, items_in}
-use Rattle.bt_tool.specs.inside.feed.Feeding.{CutsLines, PutsLines, member_items}
+use Rattle.bt_lines.specs.calls.Output.{Output, FailsToAdd}
+use Rattle.bt_bed.specs.model.Good.{Good, Member, items_in}
+use Rattle.bt_tool.specs.inside.Feed.{CutsLines, PutsLines, member_items}
 use Rattle.bt_tool.proofs.lemmas.running.feed.FeedLemmas.{front_all}
 
 -- the members before some others, by their items

@@ -1,32 +1,43 @@
--- Lemmas from how a run over two readers of members ends to the report on how the inputs meet.
-use Rattle.bt_lines.proofs.Std.{◌≡◌, ℕ, suc, ◌+◌, ◌≤◌, ◌<◌, Bool, true, false, List, [], ◌∷◌, ◌++◌, Option, None, Some, refl, sym, ap, ◌∙◌, subst, append_assoc, append-nil, arith, flat_map, inl, inr, ◌⊎◌, ◌≢◌, ◌||◌, All, IfSome, IsSome, is_none, option_to_list, take, list_all, option_or, false≢true, or_from, map-append, All-head, All-tail}
+-- What all members of two inputs give.
+use Rattle.bt_lines.proofs.Std.{ℕ, ◌||◌, List, is_none, ◌≡◌, suc, ◌+◌, ◌≤◌, ◌<◌, Bool, true, false, [], ◌∷◌, ◌++◌, Option, None, Some, refl, sym, ap, ◌∙◌, subst, append_assoc, append-nil, arith, flat_map, inl, inr, ◌⊎◌, ◌≢◌, All, IfSome, IsSome, option_to_list, take, list_all, option_or, false≢true, or_from, map-append, All-head, All-tail}
+use Rattle.bt_lines.specs.model.Fault.{FaultValue, no_memory, write_failed}
+use Rattle.bt_bed.specs.model.Good.{Good, items_in, or_else, Met, Rule, join_report, Format, Member, good_handed, written}
+use Rattle.bt_tool.specs.inside.Pair.{JoinDef, MayCome, Pair, Serves, PairEnds, FirstStops, InputsEnd, LimitStops, RestStops, SecondFails, SecondStops, Why}
 use Rattle.bt_lines.specs.declared.device.Source.{Ghosts as Source}
 use Rattle.bt_lines.proofs.lemmas.reader.block.ReadsLemmas.{some_is}
-use Rattle.bt_lines.specs.model.Fault.{FaultValue, no_memory, write_failed}
-use Rattle.bt_lines.specs.model.Handed.{Handed, whole_text}
-use Rattle.bt_lines.specs.model.Lines.{TextLine, text_lines}
+use Rattle.bt_lines.specs.model.Lines.{Handed, whole_text, TextLine, text_lines}
 use Rattle.bt_lines.specs.calls.Output.{Output, IsPrefixOf, block_size}
 use Rattle.bt_lines.specs.calls.Reader.{input_of, lines_given, source_of}
 use Rattle.bt_lines.specs.declared.fault.Input.TheVariants.{First, Second}
-use Rattle.bt_bed.specs.model.input.Good.{Format, Good, Member, good_handed, items_in, or_else}
 use Rattle.bt_bed.specs.calls.Reading.{IsBeyond, MemberReader, good_coming}
-use Rattle.bt_bed.specs.model.input.TwoInputReport.{written}
-use Rattle.bt_bed.proofs.lemmas.definitions.MeetingLemmas.{all_stop, all_written, met_fault_all, met_fault_stop, met_lines, written_past, written_stop}
-use Rattle.bt_tool.specs.model.report.Behaviour.{Behaviour}
-use Rattle.bt_tool.specs.model.report.SweepReport.{met_report}
-use Rattle.bt_tool.specs.calls.run.Writing.{WritesBy}
-use Rattle.bt_tool.proofs.lemmas.running.members.Coming.{Came}
-use Rattle.bt_tool.specs.calls.run.FaultSource.{IsFaultButWrite, IsReported, IsWithin, ReadsNoFurther, TellsDevice, TellsInput}
-use Rattle.bt_tool.specs.inside.feed.Feeding.{PutsLines, member_items}
-use Rattle.bt_tool.specs.model.report.Inputs.{HandsUpTo, Holds, OfBoth, Reads, ReadsIf, or_empty}
-use Rattle.bt_tool.specs.inside.pair.Pair.{JoinDef, MayCome, Pair, Serves}
-use Rattle.bt_tool.proofs.lemmas.running.pair.Met.{met_by, met_whole, rule_of}
-use Rattle.bt_tool.specs.inside.feed.Passed.{HasFaultBehind}
-use Rattle.bt_tool.specs.inside.pair.Endings.{PairEnds, FirstStops, InputsEnd, LimitStops, RestStops, SecondFails, SecondStops, Why}
-use Rattle.bt_tool.proofs.lemmas.running.members.CameMembers.{BeginsAt, at_whole, came_cut, came_whole, is_known, says_fault, tells_fault, text_known}
-use Rattle.bt_tool.proofs.lemmas.running.feed.FaultLemmas.{memory_no_write, tells_no_write}
+use Rattle.bt_bed.proofs.lemmas.Definitions.{all_stop, all_written, met_fault_all, met_fault_stop, met_lines, written_past, written_stop}
+use Rattle.bt_tool.specs.model.Report.{Behaviour, HandsUpTo, Holds, OfBoth, Reads, ReadsIf, or_empty}
+use Rattle.bt_tool.specs.model.Written.{met_report}
+use Rattle.bt_tool.specs.calls.Run.{WritesBy, IsFaultButWrite, IsReported, IsWithin, ReadsNoFurther, TellsDevice, TellsInput}
+use Rattle.bt_tool.proofs.lemmas.running.members.CursorLemmas.{Came, BeginsAt, at_whole, came_cut, came_whole, is_known, says_fault, tells_fault, text_known}
+use Rattle.bt_tool.specs.inside.Feed.{PutsLines, member_items, HasFaultBehind}
+use Rattle.bt_tool.proofs.lemmas.running.feed.WritingLemmas.{memory_no_write, tells_no_write, is_whole}
 use Rattle.bt_tool.proofs.lemmas.running.members.SeenLemmas.{PutsFront, puts_front}
-use Rattle.bt_tool.proofs.lemmas.running.feed.WritingLemmas.{is_whole}
+
+module _ {X Y : Type 0} (join : JoinDef X Y) where
+  -- what the good members of the second input, and its fault, make of the members of the first
+  abbrev pub rule_of : List X → Good Y → Rule X ℕ FaultValue
+  rule_of all second = record {
+    decided = λ x. is_none second.fault || join.decided x (items_in second);
+    lines = λ x. join.bytes x (items_in second);
+    fault = second.fault;
+    last = or_else (join.last all second.members) second.fault;
+  }
+
+  -- what is written of two inputs, and the fault that is reported
+  abbrev pub met_whole : Good X → Good Y → Met ℕ FaultValue
+  met_whole first second = join_report (rule_of (items_in first) second) (items_in first) first.fault
+
+  -- the same, by what the first meets of the second
+  abbrev pub met_by : Good X → Good Y → Met ℕ FaultValue
+  met_by first second = met_whole first (join.limited (items_in first) second)
+
+-- Lemmas from how a run over two readers of members ends to the report on how the inputs meet.
 
 pub record AreLimits {X Y : Type 0} (join : JoinDef X Y) : Type 0 where
   -- what fits, fits with more of the first input

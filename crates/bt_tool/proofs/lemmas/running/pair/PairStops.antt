@@ -1,31 +1,23 @@
 -- Lemmas on how a run over two readers of members stops.
 use Rattle.bt_lines.proofs.Std.{◌≡◌, ℕ, suc, ◌+◌, ◌≤◌, Bool, true, false, List, [], ◌∷◌, ◌++◌, Option, None, Some, Err, refl, sym, ap, ◌∙◌, subst, append-nil, append_assoc, option_to_list, inl, inr, drop, length, ◌⊎◌, All, IfSome, IsSome, is_some, false≢true, map-append}
 use Rattle.bt_lines.specs.declared.device.Source.{Ghosts as Source}
-use Rattle.bt_lines.proofs.lemmas.writer.OutputLemmas.{grows_both}
-use Rattle.bt_lines.proofs.lemmas.writer.PuttingLemmas.{grown_none}
+use Rattle.bt_lines.proofs.lemmas.Writer.{grows_both, grown_none}
 use Rattle.bt_lines.specs.model.Fault.{FaultValue, no_memory, read_failed}
 use Rattle.bt_lines.specs.model.Lines.{TextLine, bytes_in}
-use Rattle.bt_lines.specs.calls.Output.{Output, Grows, block_size}
-use Rattle.bt_lines.specs.calls.Putting.{FailsToAdd, Grown}
+use Rattle.bt_lines.specs.calls.Output.{Output, Grows, block_size, FailsToAdd, Grown}
 use Rattle.bt_lines.specs.calls.Reader.{Hands, lines_given, lines_left, source_of}
 use Rattle.bt_lines.specs.declared.fault.Input.{Input}
 use Rattle.bt_lines.specs.declared.fault.Input.TheVariants.{Second}
 use Rattle.bt_lines.specs.declared.fault.Kind.{Kind}
-use Rattle.bt_bed.specs.model.input.Good.{Good, Member, items_in}
-use Rattle.bt_bed.specs.model.feature.LineKind.{fault_at_line}
+use Rattle.bt_bed.specs.model.Good.{Good, Member, items_in}
+use Rattle.bt_bed.specs.model.Feature.{fault_at_line}
 use Rattle.bt_bed.specs.calls.Reading.{MemberReader, ahead_in, first_from, good_coming}
-use Rattle.bt_tool.specs.inside.feed.Feeding.{ComeFirst, CutsLines, HasPut, member_items}
-use Rattle.bt_tool.specs.inside.pair.Pair.{IsKnown, JoinDef, Pair, Serves, SettlesPair, item_ahead}
-use Rattle.bt_tool.specs.inside.pair.Pair.{Comes, PairStage, firsts_given}
-use Rattle.bt_tool.proofs.lemmas.running.pair.Following.{TakesFurther}
-use Rattle.bt_tool.specs.inside.pair.Endings.{AsksFor, PairEnds, LastTold, SecondFails, StaysNear, Why, Wrote}
-use Rattle.bt_tool.specs.inside.feed.Passed.{AreAll, IsReadFor, IsReadTo, Passes, StopsAfter}
-use Rattle.bt_tool.proofs.lemmas.running.members.Filled.{IsOver, IsStopped}
-use Rattle.bt_tool.proofs.lemmas.running.feed.ComeLemmas.{begins_with, up_to}
+use Rattle.bt_tool.specs.inside.Feed.{ComeFirst, CutsLines, HasPut, member_items, AreAll, IsReadFor, IsReadTo, Passes, StopsAfter}
+use Rattle.bt_tool.specs.inside.Pair.{IsKnown, JoinDef, Pair, Serves, SettlesPair, item_ahead, Comes, PairStage, firsts_given, AsksFor, PairEnds, LastTold, SecondFails, StaysNear, Why, Wrote}
+use Rattle.bt_tool.proofs.lemmas.running.pair.PairTurns.{TakesFurther, settles_end, all_written, none_pushed, read_same, seen_alone, settles_ended}
+use Rattle.bt_tool.proofs.lemmas.running.members.MemberLemmas.{IsOver, IsStopped, passes_all, passes_end, passes_stop, read_at_stop, read_here}
+use Rattle.bt_tool.proofs.lemmas.running.feed.WritingLemmas.{begins_with, up_to}
 use Rattle.bt_tool.proofs.lemmas.running.feed.FeedLemmas.{GoesOn, goes_failed, goes_same, put_more, took_later, took_lines}
-use Rattle.bt_tool.proofs.lemmas.running.members.MemberLemmas.{passes_all, passes_end, passes_stop, read_at_stop, read_here}
-use Rattle.bt_tool.proofs.lemmas.running.pair.PairSettles.{settles_end}
-use Rattle.bt_tool.proofs.lemmas.running.pair.PairTurns.{all_written, none_pushed, read_same, seen_alone, settles_ended}
 use Rattle.bt_tool.proofs.lemmas.running.members.SeenLemmas.{cuts_more, if_known, items_begin, items_first, seen_items}
 
 begins_more : {A : Type 0} (old : Good A) (now : Option (Good A)) (past : List (Member A)) (m : Member A) → ComeFirst (Some old) past now → IfSome now (λ good. (rest : List (Member A)) × (good.members ≡ m ∷ rest))

@@ -1,21 +1,129 @@
--- Lemmas on how a run over two readers of members goes on: as members are buffered and taken, and at the ends.
-use Rattle.bt_lines.proofs.Std.{◌≡◌, ℕ, suc, Bool, true, false, List, [], ◌∷◌, ◌++◌, ◌≤◌, length, Option, None, Some, refl, sym, ap, ◌∙◌, subst, append-nil, append_assoc, option_to_list, drop, ◌+◌, inl, inr, ◌⊎◌, All, IfSome, option_map, false≢true, append_cancel_left, map-append, same_from_push}
+-- How one stage of two inputs follows another.
+use Rattle.bt_lines.proofs.Std.{◌≡◌, true, List, [], ◌∷◌, ◌++◌, ℕ, Bool, false, ◌&&◌, ◌||◌, Option, None, Some, refl, sym, ap, ◌∙◌, subst, append-nil, append_assoc, flat_map, option_to_list, IsSome, is_none, option_map, list_all, false≢true, and_from, or_left, or_right, flat_map-append, list_all-append, suc, ◌≤◌, length, drop, ◌+◌, inl, inr, ◌⊎◌, All, IfSome, append_cancel_left, map-append, same_from_push, ◌<◌, Err, arith, All-push}
 use Rattle.bt_lines.specs.declared.device.Source.{Ghosts as Source}
-use Rattle.bt_lines.specs.model.Lines.{bytes_in}
-use Rattle.bt_lines.specs.calls.Reader.{end_told, lines_given, lines_left, source_of}
-use Rattle.bt_lines.specs.calls.Output.{Output, HoldsBlock, block_size}
-use Rattle.bt_lines.specs.calls.Putting.{Grown}
-use Rattle.bt_bed.specs.model.input.Good.{Member}
-use Rattle.bt_bed.specs.calls.Reading.{MemberReader, first_from, good_coming, members_from}
-use Rattle.bt_tool.specs.inside.feed.Feeding.{HasPut, member_items}
-use Rattle.bt_tool.specs.inside.pair.Pair.{HasNoMore, IsKnown, JoinDef, Pair, SettlesPair, item_ahead}
-use Rattle.bt_tool.specs.inside.pair.Pair.{Comes, PairStage, firsts_given}
-use Rattle.bt_tool.proofs.lemmas.running.pair.Following.{Follows, TakesFurther}
-use Rattle.bt_tool.specs.inside.feed.Passed.{AreAll, HasTaken, IsReadFor, Passes}
-use Rattle.bt_tool.proofs.lemmas.running.members.Filled.{IsFilled, IsOver}
+use Rattle.bt_lines.specs.calls.Reader.{end_told, source_of, lines_given, lines_left, Hands, HasRead, bytes_taken}
+use Rattle.bt_bed.specs.model.Good.{Member}
+use Rattle.bt_bed.specs.calls.Reading.{MemberReader, GivesMember, ahead_in, first_from, good_coming, members_from}
+use Rattle.bt_tool.specs.inside.Feed.{IsReadFor, Passes, HasPut, member_items, AreAll, HasTaken}
+use Rattle.bt_tool.specs.inside.Pair.{PairStage, firsts_given, JoinDef, MayCome, SettlesPair, HasNoMore, IsKnown, Pair, item_ahead, Comes}
+use Rattle.bt_lines.specs.model.Fault.{FaultValue}
+use Rattle.bt_lines.specs.model.Lines.{bytes_in, TextLine}
+use Rattle.bt_lines.specs.calls.Output.{Output, HoldsBlock, block_size, Grown}
+use Rattle.bt_tool.proofs.lemmas.running.members.MemberLemmas.{IsFilled, IsOver, ended_after_all, items_from, passes_all, passes_end, passes_fill, passes_take, read_before, read_here, IsStopped, fails_before_end, passes_stop}
 use Rattle.bt_tool.proofs.lemmas.running.feed.FeedLemmas.{put_more, put_none}
-use Rattle.bt_tool.proofs.lemmas.running.members.MemberLemmas.{ended_after_all, items_from, passes_all, passes_end, passes_fill, passes_take, read_before, read_here}
-use Rattle.bt_tool.proofs.lemmas.running.pair.PairSettles.{seen_by, settles_close, settles_end, settles_nothing}
+use Rattle.bt_lines.specs.calls.Device.{ReadsCounted}
+use Rattle.bt_lines.specs.declared.reader.line_reader.LineReader.{LineReader}
+use Rattle.bt_lines.specs.declared.fault.Kind.{Kind}
+use Rattle.bt_lines.proofs.lemmas.reader.lines.TakingLemmas.{hands_none, hands_both}
+use Rattle.bt_tool.specs.inside.SweepLoop.{ChecksUpTo}
+use Rattle.bt_tool.proofs.lemmas.running.feed.WritingLemmas.{up_to}
+
+-- from one stage on more members of the first input were given, some of those given were written,
+-- and more members of the second were taken
+pub record Follows {X Y : Type 0} (old : PairStage X Y) (firsts newly : List X) (seconds : List Y)
+    (new : PairStage X Y) : Type 0 where
+  pub given_is : firsts_given new ≡ firsts_given old ++ firsts
+  pub written_is : new.written ≡ old.written ++ newly
+  pub taken_is : new.taken ≡ old.taken ++ seconds
+  pub first_is : new.first_ended ≡ old.first_ended
+  pub second_is : new.second_ended ≡ old.second_ended
+
+-- a reader that had consumed some members consumed more of them, and read nothing
+pub record TakesFurther {S A State : Type 0} (device : Source S)
+    (old : MemberReader S A State) (past more : List (Member A))
+    (now new : MemberReader S A State) : Type 0 where
+  pub passes : Passes device old (past ++ more) new
+  -- the last of them is on the last line that was given
+  pub last : (before : List (Member A)) (m : Member A) → more ≡ before ++ m ∷ []
+      → IsReadFor device old (past ++ before) (past ++ more) new
+  pub source : source_of new.below ≡ source_of now.below
+  pub told : end_told now.below ≡ true → end_told new.below ≡ true
+
+-- Lemmas on what some members of a second input settle.
+
+-- one more member is decided and has these bytes
+one_more : {X : Type 0} (test : X → Bool) (write : X → List ℕ) (written : List X) (a : X) (bytes more : List ℕ) → (list_all test written ≡ true) × (flat_map write written ≡ bytes)
+    → test a ≡ true → write a ≡ more → (list_all test (written ++ a ∷ []) ≡ true) × (flat_map write (written ++ a ∷ []) ≡ bytes ++ more)
+one_more test write written a bytes more was here is = (
+  list_all-append test written (a ∷ []) ∙ and_from (list_all test written) (test a && true) was.0 (and_from (test a) true here refl),
+  flat_map-append write written (a ∷ []) ∙ ap (λ l. l ++ flat_map write (a ∷ [])) was.1 ∙ ap (λ l. bytes ++ l) (append-nil (write a) ∙ is),
+)
+
+-- if something is so, or a test holds of each, either is so of each
+pub all_or : {X : Type 0} (test : X → Bool) (b : Bool) (xs : List X) → (b || list_all test xs) ≡ true → list_all (λ x. b || test x) xs ≡ true
+all_or test b [] e = refl
+all_or test true (x ∷ xs) e = all_or test true xs refl
+all_or test false (x ∷ xs) e = e
+
+module _ {X Y : Type 0} (join : JoinDef X Y) where
+  pub settles_nothing : (seen : List Y) (ended : Bool) → SettlesPair join [] [] seen ended
+  settles_nothing seen ended = record { whatever = λ second fault ordered may. (refl, refl) }
+
+  -- one more member of the second input is seen
+  pub settles_seen : (written : List X) (bytes : List ℕ) (seen more : List Y) → SettlesPair join written bytes seen false → SettlesPair join written bytes (seen ++ more) false
+  settles_seen written bytes seen more s = record {
+    whatever = λ second fault ordered may. s.whatever second fault ordered
+        (record { begins = (more ++ may.begins.0, may.begins.1 ∙ append_assoc seen more may.begins.0); all = λ e. absurd (false≢true e) });
+  }
+
+  -- none comes after those seen
+  pub settles_close : (written : List X) (bytes : List ℕ) (seen : List Y) → SettlesPair join written bytes seen false → SettlesPair join written bytes seen true
+  settles_close written bytes seen s = record {
+    whatever = λ second fault ordered may. s.whatever second fault ordered (record { begins = may.begins; all = λ e. absurd (false≢true e) });
+  }
+
+  -- one more member of the first is decided by those seen, and its bytes stay whatever follows them in order
+  pub settles_with : (written : List X) (bytes : List ℕ) (seen : List Y) (ended : Bool) (a : X) (more : List ℕ) → SettlesPair join written bytes seen ended
+      → ((rest : List Y) → join.InOrder (seen ++ rest) → (join.decided a (seen ++ rest) ≡ true) × (join.bytes a (seen ++ rest) ≡ more))
+      → SettlesPair join (written ++ a ∷ []) (bytes ++ more) seen ended
+  settles_with written bytes seen ended a more s stays = record {
+    whatever = λ second fault ordered may.
+        let here = stays may.begins.0 (subst join.InOrder may.begins.1 ordered) in
+        one_more (λ x. is_none fault || join.decided x second) (λ x. join.bytes x second) written a bytes more (s.whatever second fault ordered may)
+        (or_right (is_none fault) (join.decided a second) (ap (join.decided a) may.begins.1 ∙ here.0))
+        (ap (join.bytes a) may.begins.1 ∙ here.1);
+  }
+
+  -- more members of the first are decided and have these bytes, whatever the second still has
+  pub settles_list : (written newly : List X) (bytes more : List ℕ) (seen : List Y) (ended : Bool) → SettlesPair join written bytes seen ended
+      → ((second : List Y) (fault : Option FaultValue) → join.InOrder second → MayCome seen ended second fault
+      → (list_all (λ x. is_none fault || join.decided x second) newly ≡ true) × (flat_map (λ x. join.bytes x second) newly ≡ more))
+      → SettlesPair join (written ++ newly) (bytes ++ more) seen ended
+  settles_list written newly bytes more seen ended s now = record {
+    whatever = λ second fault ordered may.
+        let was = s.whatever second fault ordered may in
+        let here = now second fault ordered may in (
+          list_all-append (λ x. is_none fault || join.decided x second) written newly
+              ∙ and_from (list_all (λ x. is_none fault || join.decided x second) written) (list_all (λ x. is_none fault || join.decided x second) newly) was.0 here.0,
+          flat_map-append (λ x. join.bytes x second) written newly ∙ ap (λ l. l ++ flat_map (λ x. join.bytes x second) newly) was.1 ∙ ap (λ l. bytes ++ l) here.1,
+        );
+  }
+
+  -- the second input has ended
+  pub settles_end : (written : List X) (bytes : List ℕ) (taken : List Y) (ended : Bool) (a : X) → SettlesPair join written bytes taken ended
+      → SettlesPair join (written ++ a ∷ []) (bytes ++ join.bytes a taken) taken true
+  settles_end written bytes taken ended a s = record {
+    whatever = λ second fault ordered may.
+        let all = may.all refl in
+        one_more (λ x. is_none fault || join.decided x second) (λ x. join.bytes x second) written a bytes (join.bytes a taken)
+        (s.whatever second fault ordered (record { begins = may.begins; all = λ e. all }))
+        (or_left (is_none fault) (join.decided a second) (ap is_none all.1))
+        (ap (join.bytes a) all.0);
+  }
+
+  -- the member ahead is seen
+  pub seen_by : {S State : Type 0} (device : Source S) (now new : MemberReader S Y State) (m : Member Y) (o : Option (Member Y)) → ahead_in now ≡ o → GivesMember device now m new
+      → (written : List X) (bytes : List ℕ) (taken : List Y) → SettlesPair join written bytes (taken ++ option_to_list (option_map (λ m. m.item) o)) false
+      → SettlesPair join written bytes (taken ++ m.item ∷ []) false
+  seen_by device now new m None e gives written bytes taken s =
+      settles_seen written bytes taken (m.item ∷ []) (subst (λ (l : List Y). SettlesPair join written bytes l false) (append-nil taken) s)
+  seen_by {S} {State} device now new m (Some x) e gives written bytes taken s =
+      let same : new ≡ now = gives.again (subst IsSome (sym e) refl) in
+      let is : Some x ≡ Some m = sym e ∙ ap (λ (r : MemberReader S Y State). ahead_in r) (sym same) ∙ gives.ahead in
+      let eq : x ≡ m = cc in
+      subst (λ (y : Member Y). SettlesPair join written bytes (taken ++ y.item ∷ []) false) eq s
+
+-- Lemmas on how a run over two readers of members goes on: as members are buffered and taken, and at the ends.
 
 pub none_pushed : {A : Type 0} (front : List A) (x : A) → [] ≡ front ++ x ∷ [] → ⊥
 none_pushed [] x e = cc
@@ -327,3 +435,95 @@ module _ {A B X Y U V : Type 0} (join : JoinDef X Y) (pair : Pair A B X Y U V) (
           ends_by grown s.bytes
           (λ known. subst (λ (w : List X). SettlesPair join w s.bytes stage.taken true) all (settles_close join stage.written s.bytes stage.taken (settles_ended known)))
           s.put (near.0, near.1 ∙ all, near.2, near.3)
+
+-- Lemmas on reading an input to its end, from wherever its reader is.
+
+-- something is buffered if a member is ahead
+pub some_buffered : {A : Type 0} (line : ℕ) (items : List A) (m : Member A) → first_from line items ≡ Some m → 0 < length items
+some_buffered line [] m e = cc
+some_buffered line (x ∷ items) m e = omega arith
+
+-- and it is on the line after those given
+first_line : {A : Type 0} (line : ℕ) (items : List A) (m : Member A) → first_from line items ≡ Some m → m.line ≡ line
+first_line line [] m e = cc
+first_line {A} line (x ∷ items) m e = let same : record { line = line; item = x } ≡ m = cc in ap (λ (m : Member A). m.line) (sym same)
+
+-- taking what is buffered reads nothing
+pub reads_taken : {S A State : Type 0} (device : Source S) (old : LineReader S) (taken : List A) (now new : MemberReader S A State) → HasTaken device now taken new
+    → HasRead device.is_read old now.below → HasRead device.is_read old new.below
+reads_taken {S} device old taken now new has read =
+    let bytes : bytes_taken now.below ≡ bytes_taken new.below = omega (arith, has.takes.hands.counted) in
+    subst (λ (n : ℕ). ReadsCounted device.is_read (source_of old) (bytes_taken old) (source_of new.below) n) bytes
+    (subst (λ (s : S). ReadsCounted device.is_read (source_of old) (bytes_taken old) s (bytes_taken now.below)) (sym has.takes.source) read)
+
+-- how far a reader has come
+pub record IsReadOn {S A State : Type 0} (device : Source S) (before now : MemberReader S A State) : Type 0 where
+  pub bytes : (bytes : List ℕ) × Hands device.left before.below bytes now.below
+  pub rises : lines_given before.below ≤ lines_given now.below
+  -- the member that was ahead is consumed, if any is
+  pub moves : (now ≡ before) ⊎ (lines_given before.below < lines_given now.below)
+  pub going : before.fault ≡ None → now.fault ≡ None
+  pub passes : (old : MemberReader S A State) (past : List (Member A)) → Passes device old past before → (more : List (Member A)) × Passes device old (past ++ more) now
+
+module _ {S A State : Type 0} (device : Source S) (before : MemberReader S A State) where
+  pub reads_start : IsReadOn device before before
+  reads_start = record {
+    bytes = ([], hands_none device.left before.below);
+    rises = omega arith;
+    moves = inl refl;
+    going = λ none. none;
+    passes = λ old past p. ([], subst (λ l. Passes device old l before) (sym (append-nil past)) p);
+  }
+
+  module _ (now : MemberReader S A State) (on : IsReadOn device before now) where
+    -- what was made buffered was taken
+    pub reads_more : (filled next : MemberReader S A State) → IsFilled device now filled → HasTaken device filled filled.buffered next → IsReadOn device before next
+    reads_more filled next fills has =
+        let gives = fills.gives in
+        let hands = gives.stays.bytes in
+        let more = members_from (suc (lines_given filled.below)) filled.buffered in
+        let some = some_buffered (suc (lines_given filled.below)) filled.buffered fills.m gives.ahead in
+        let less : lines_given before.below < lines_given next.below = omega (arith, on.rises, gives.rises, has.takes.given, some) in
+        record {
+          bytes = (
+            (on.bytes.0 ++ hands.0) ++ [],
+            hands_both device.left before.below filled.below next.below (on.bytes.0 ++ hands.0) [] (hands_both device.left before.below now.below filled.below on.bytes.0 hands.0 on.bytes.1 hands.1) has.takes.hands,
+          );
+          rises = omega (arith, less);
+          moves = inr less;
+          going = λ none. has.takes.goes ∙ gives.goes ∙ on.going none;
+          passes = λ old past p.
+              let was = on.passes old past p in (
+                was.0 ++ more,
+                rw (← append_assoc past was.0 more) (passes_take device old (past ++ was.0) filled (passes_fill device old (past ++ was.0) now was.1 filled fills) filled.buffered next has),
+              );
+        }
+
+    pub reads_end : (new : MemberReader S A State) → IsOver device now new → (old : MemberReader S A State) (past : List (Member A))
+        → Passes device old past before → (more : List (Member A)) × Passes device old (past ++ more) new × AreAll device old (past ++ more)
+    reads_end new over old past p =
+        let was = on.passes old past p in
+        (was.0, passes_end device old (past ++ was.0) now was.1 new over, passes_all device old (past ++ was.0) now was.1 new over)
+
+    -- the member that was ahead at first was consumed
+    low_ahead : (new : MemberReader S A State) → lines_given now.below ≤ lines_given new.below → now.buffered ≡ [] → (o : Option (Member A)) → ahead_in before ≡ o → (past : List (Member A)) → All (λ m. m.line ≤ lines_given new.below) past
+        → All (λ m. m.line ≤ lines_given new.below) (past ++ option_to_list o)
+    low_ahead new up none None e past low = subst (λ (l : List (Member A)). All (λ m. m.line ≤ lines_given new.below) l) (sym (append-nil past)) low
+    low_ahead new up none (Some m) e past low =
+        elim on.moves [
+          | inl same ↦ absurd (let gone : Some m ≡ None = sym e ∙ ap (λ (r : MemberReader S A State). first_from (suc (lines_given before.below)) r.buffered) (sym same) ∙ ap (first_from (suc (lines_given before.below))) none in cc)
+          | inr less ↦ All-push (λ (m : Member A). m.line ≤ lines_given new.below) past m low (omega (arith, less, up, first_line (suc (lines_given before.below)) before.buffered m e))
+        ]
+
+    pub reads_stop : (kinds : Kind → Type 0) (new : MemberReader S A State) (fault : FaultValue) → IsStopped device now fault new → (old : MemberReader S A State) (past : List (Member A))
+        → Passes device old past before → ((state : State) (line : TextLine) (kind : Kind) → old.format.says state line ≡ Err kind → kinds kind)
+        → ChecksUpTo device old past before kinds fault new
+    reads_stop kinds new fault stopped old past p wrong =
+        let was = on.passes old past p in
+        record {
+          more = was.0;
+          stops = passes_stop device old (past ++ was.0) now was.1 kinds wrong new fault stopped;
+          low = low_ahead new stopped.answers.rises stopped.answers.was_none (ahead_in before) refl past
+              (up_to (lines_given before.below) (lines_given new.below) past (omega (arith, on.rises, stopped.answers.rises)) p.behind);
+          before_end = λ told input line e. false≢true (sym (fails_before_end device old (past ++ was.0) now was.1 new fault stopped input line e) ∙ on.bytes.1.told_stays told);
+        }

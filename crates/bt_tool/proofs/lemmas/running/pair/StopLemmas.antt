@@ -8,13 +8,13 @@ use Rattle.bt_lines.specs.calls.Reader.{IsKept, held, input_of, lines_given, lin
 use Rattle.bt_lines.specs.declared.fault.Input.{Input}
 use Rattle.bt_lines.specs.declared.fault.Kind.{Kind}
 use Rattle.bt_lines.specs.declared.reader.line_reader.LineReader.{LineReader}
-use Rattle.bt_lines.proofs.lemmas.reader.lines.ReaderLemmas.{sound_near}
+use Rattle.bt_lines.proofs.lemmas.reader.lines.TakingLemmas.{sound_near}
 use Rattle.bt_lines.proofs.lemmas.reader.lines.TextLemmas.{lines_are_numbered}
-use Rattle.bt_bed.specs.model.input.Good.{Format, Good, Member, ends_with, good_from, good_with}
+use Rattle.bt_bed.specs.model.Good.{Format, Good, Member, ends_with, good_from, good_with}
 use Rattle.bt_bed.specs.calls.Reading.{AreAscending, IsBeyond, IsFaultBeyond, AnswersFault, Cause, LastUnkept, LineIsWrong, LinesPass, MemberReader, SaidNothing, good_behind, good_coming}
-use Rattle.bt_bed.specs.model.feature.LineKind.{fault_at_line}
-use Rattle.bt_bed.proofs.lemmas.read.good.CameLemmas.{near_pass}
-use Rattle.bt_bed.proofs.lemmas.read.good.GoodLemmas.{ascend_from, beyond_from}
+use Rattle.bt_bed.specs.model.Feature.{fault_at_line}
+use Rattle.bt_bed.proofs.lemmas.read.good.ReadingLemmas.{near_pass}
+use Rattle.bt_bed.proofs.lemmas.read.good.SaidLemmas.{ascend_from, beyond_from}
 
 -- The first `count` lines have none of the members still to come and no fault. Of known bytes those
 -- after one more line are left, except at most a block.

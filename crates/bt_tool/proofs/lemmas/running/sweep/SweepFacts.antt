@@ -1,38 +1,31 @@
 -- The facts of a sweep that its report and its reading rest on.
 use Rattle.bt_lines.proofs.Std.{◌≡◌, ap, ℕ, Option, suc, ◌<◌, ◌≤◌, not, List, [], ◌∷◌, ◌++◌, take, refl, sym, ◌∙◌, subst, ◌+◌, Bool, true, false, cond, Some, None, arith, append_assoc, append-nil, filter, length, length-append, option_to_list, ◌||◌, inl, inr, All, IsTrue, IfSome, is_some, is_none, list_all, list_any, and_from, or_left, and_parts, false≢true, le-ltb, lt-ltb, ltb-false, or_right, cases_Bool, All-head, All-tail, filter-append, list_any-append, list_all-append, map-append}
 use Rattle.bt_lines.specs.model.Lines.{TextLine, bytes_in}
-use Rattle.bt_bed.specs.model.feature.Feature.{Feature, intervals_of}
-use Rattle.bt_bed.specs.model.input.Good.{Member, Good, items_in}
-use Rattle.bt_bed.specs.model.order.Order.{Order, IsTotal}
-use Rattle.bt_sweep.specs.model.Deciding.{decides, decided}
-use Rattle.bt_sweep.specs.calls.Standing.{leaves_some}
-use Rattle.bt_sweep.specs.calls.SweepState.{SameConfig, Sweeping}
+use Rattle.bt_bed.specs.model.Feature.{Feature, intervals_of, fault_at_line}
+use Rattle.bt_bed.specs.model.Good.{Member, Good, items_in}
+use Rattle.bt_bed.specs.model.Order.{Order, IsTotal}
+use Rattle.bt_sweep.specs.model.Hits.{decides, decided, are_too_many, cut_behind, is_held, limited}
+use Rattle.bt_sweep.specs.calls.Sweeping.{leaves_some, SameConfig, Sweeping, Settles, AreDecided, TakenEach, has_room}
 use Rattle.bt_sweep.specs.declared.hits.hit_rule.HitRule.{HitRule}
 use Rattle.bt_sweep.specs.declared.output.shape.Shape.{Shape}
 use Rattle.bt_tool.specs.declared.loops.sweeping.SweepConfig.{SweepConfig}
-use Rattle.bt_tool.specs.model.report.SweepReport.{bytes_up_to, decider}
-use Rattle.bt_tool.specs.inside.feed.Feeding.{member_items}
-use Rattle.bt_tool.specs.inside.pair.SweepLoop.{config_of, sweep_join, AreWithin}
+use Rattle.bt_tool.specs.model.Written.{bytes_up_to, decider}
+use Rattle.bt_tool.specs.inside.Feed.{member_items}
+use Rattle.bt_tool.specs.inside.SweepLoop.{config_of, sweep_join, AreWithin}
 use Rattle.bt_tool.proofs.lemmas.running.pair.PairNear.{AreNeeded, least_by, not_all, skip_by, take_whole}
 use Rattle.bt_lines.specs.model.Fault.{FaultValue}
 use Rattle.bt_lines.specs.declared.fault.Input.TheVariants.{Second}
 use Rattle.bt_lines.specs.declared.fault.Kind.TheVariants.{TooManyHeld}
-use Rattle.bt_bed.specs.model.feature.LineKind.{fault_at_line}
-use Rattle.bt_bed.specs.model.order.Locus.{ArePlaced}
-use Rattle.bt_sweep.specs.model.Limit.{are_too_many, cut_behind, is_held, limited}
-use Rattle.bt_sweep.proofs.lemmas.definitions.LimitLemmas.{cut_front, cut_here, cut_keeps, cut_next, cut_none, cut_on, few_decided, many_by}
+use Rattle.bt_bed.specs.model.Sorted.{ArePlaced}
+use Rattle.bt_sweep.proofs.lemmas.definitions.HitLemmas.{cut_front, cut_here, cut_keeps, cut_next, cut_none, cut_on, few_decided, many_by, none_before, placed_back, front_placed}
 use Rattle.bt_tool.proofs.lemmas.running.pair.PairMet.{AreLimits}
 use Rattle.bt_bed.specs.calls.Reading.{members_from}
-use Rattle.bt_sweep.specs.calls.Advancing.{Settles}
-use Rattle.bt_sweep.specs.model.IntersectLines.{intersect}
-use Rattle.bt_sweep.specs.calls.Taking.{AreDecided, TakenEach, has_room}
+use Rattle.bt_sweep.specs.model.Lines.{intersect}
 use Rattle.bt_sweep.specs.declared.sweep.phase.Phase.{Phase}
 use Rattle.bt_sweep.specs.declared.sweep.phase.Phase.TheVariants.{First}
-use Rattle.bt_sweep.proofs.lemmas.definitions.DecidingLemmas.{none_before, placed_back}
 use Rattle.bt_sweep.proofs.lemmas.sweep.KeepLemmas.{decided_before, decided_behind, decided_both, lines_stay_so}
-use Rattle.bt_sweep.proofs.lemmas.definitions.PlacedLemmas.{front_placed}
-use Rattle.bt_tool.specs.inside.pair.Pair.{JoinDef, SettlesPair}
-use Rattle.bt_tool.proofs.lemmas.running.pair.PairSettles.{all_or, settles_list}
+use Rattle.bt_tool.specs.inside.Pair.{JoinDef, SettlesPair}
+use Rattle.bt_tool.proofs.lemmas.running.pair.PairTurns.{all_or, settles_list}
 use Rattle.bt_tool.proofs.lemmas.running.pair.PairTurns as turned
 
 -- it goes by the same shape, rule and limit

@@ -1,12 +1,12 @@
 -- Lemmas on the rounds of a sweep over two readers: how far each comes, what it reads, and how much is still wanted.
 use Rattle.bt_lines.proofs.Std.{◌≡◌, ℕ, zero, suc, ◌+◌, ◌*◌, ◌≤◌, ◌<◌, Bool, true, false, List, length, length-append, Option, None, Some, Ok, Err, refl, sym, ap, ◌∙◌, subst, arith, inl, inr, option_to_list, [], ◌⊎◌, IsErrAnd, Result, is_some, false≢true}
 use Rattle.bt_lines.specs.calls.Output.{HoldsBlock, Output}
-use Rattle.bt_sweep.specs.calls.Standing.{first_stage, IsInOrder, MovesTo, Stage, StandsAt, with_a_ended}
-use Rattle.bt_tool.specs.inside.feed.Feeding.{IsFresh}
+use Rattle.bt_sweep.specs.calls.Sweeping.{first_stage, IsInOrder, MovesTo, Stage, StandsAt, with_a_ended, AdvancesOn, AdvancesSo, HasWritten, StopsFor, EndsB, Sweeping, is_over as is_done, want_in, order_of as sweep_order, state_of}
+use Rattle.bt_tool.specs.inside.Feed.{IsFresh, KeepsOwnFault, ConsumesGiven}
 use Rattle.bt_tool.specs.declared.loops.sweeping.SweepConfig.{SweepConfig}
-use Rattle.bt_tool.specs.inside.pair.SweepLoop.{sweep_join, ReadsRest, SweepComes, SweepIsOver, Sweeps, config_of, is_sweep_ready, left_to_sweep, records_pair, sweep_rounds}
+use Rattle.bt_tool.specs.inside.SweepLoop.{sweep_join, ReadsRest, SweepComes, SweepIsOver, Sweeps, config_of, is_sweep_ready, left_to_sweep, records_pair, sweep_rounds}
 use Rattle.bt_tool.proofs.lemmas.running.members.MemberLemmas.{passes_start}
-use Rattle.bt_tool.proofs.lemmas.running.pair.PairTurns.{comes_start}
+use Rattle.bt_tool.proofs.lemmas.running.pair.PairTurns.{comes_start, some_buffered}
 use Rattle.bt_tool.proofs.lemmas.running.members.PassedLemmas.{line_going, taken_reads}
 use Rattle.bt_tool.proofs.lemmas.running.sweep.SweepFacts.{within_start}
 use Rattle.bt_lines.specs.declared.device.Source.{Ghosts as Source}
@@ -14,32 +14,22 @@ use Rattle.bt_lines.proofs.lemmas.reader.block.ReadsLemmas.{has_read_then, reads
 use Rattle.bt_lines.specs.calls.Names.{fault_value}
 use Rattle.bt_lines.specs.calls.Reader.{HasRead}
 use Rattle.bt_lines.specs.declared.fault.Fault.{Fault}
-use Rattle.bt_bed.specs.calls.Batch.{HasEnded, Passes, line_in}
+use Rattle.bt_bed.specs.calls.Batch.{HasEnded, Passes, line_in, fault_in}
 use Rattle.bt_bed.specs.declared.read.batch.Batch.{Batch}
-use Rattle.bt_bed.specs.model.feature.Feature.{Feature}
-use Rattle.bt_bed.specs.model.feature.LineKind.{IsBedKind}
-use Rattle.bt_bed.specs.model.order.Order.{Order}
+use Rattle.bt_bed.specs.model.Feature.{Feature, IsBedKind}
+use Rattle.bt_bed.specs.model.Order.{Order}
 use Rattle.bt_bed.specs.calls.Records.{FillsRecords, below, fault_kept, order_in, room, view_of}
-use Rattle.bt_bed.proofs.lemmas.order.ResultLemmas.{passed_on}
+use Rattle.bt_bed.proofs.lemmas.order.TableLemmas.{passed_on}
 use Rattle.bt_bed.specs.declared.order.ChromOrder.{Ghosts}
 use Rattle.bt_bed.specs.declared.read.records.Records.{Records}
-use Rattle.bt_sweep.specs.calls.Advancing.{AdvancesOn, AdvancesSo, HasWritten, StopsFor}
-use Rattle.bt_sweep.specs.calls.Steps.{EndsB}
-use Rattle.bt_sweep.specs.calls.SweepState.{Sweeping, is_over as is_done, want_in}
-use Rattle.bt_sweep.specs.calls.SweepView.{order_of as sweep_order, state_of}
 use Rattle.bt_sweep.specs.declared.sweep.want.Want.{Want}
 use Rattle.bt_sweep.specs.declared.sweep.want.Want.TheVariants.{A as WantA, B as WantB, Nothing}
 use Rattle.bt_tool.specs.declared.loops.sweeping.SweepRun.{SweepRun}
-use Rattle.bt_tool.specs.calls.run.OwnReads.{AnswersNoRead, TellsNoRead}
-use Rattle.bt_tool.specs.inside.feed.Passed.{KeepsOwnFault}
-use Rattle.bt_tool.specs.inside.pair.Endings.{HaveRead, PairEnds}
-use Rattle.bt_tool.specs.inside.pair.Rounds.{IsBuffered, IsLessIfReady, IsLessOrReady, LeadsTo}
-use Rattle.bt_bed.specs.calls.SortedReader.{fault_in}
-use Rattle.bt_tool.specs.inside.feed.Feeding.{ConsumesGiven}
-use Rattle.bt_tool.proofs.lemmas.running.sweep.AdvanceLemmas.{TakesBoth}
+use Rattle.bt_tool.specs.calls.Run.{AnswersNoRead, TellsNoRead}
+use Rattle.bt_tool.specs.inside.Pair.{HaveRead, PairEnds}
+use Rattle.bt_tool.specs.inside.Rounds.{IsBuffered, IsLessIfReady, IsLessOrReady, LeadsTo}
+use Rattle.bt_tool.proofs.lemmas.running.sweep.SweptLemmas.{TakesBoth, ends_first, ends_second, fails_at_end, fails_both, fills_first, fills_second, finishes_both, goes_both, none_waits, over_is, placed_first, placed_second, in_order, stops_first, stops_second, takes_both, waiting, wants_first, wants_nothing, wants_second}
 use Rattle.bt_tool.proofs.lemmas.running.whole.OwnFailureLemmas.{none_kept, own_then, told_kept}
-use Rattle.bt_tool.proofs.lemmas.running.pair.RestLemmas.{some_buffered}
-use Rattle.bt_tool.proofs.lemmas.running.sweep.SweptLemmas.{ends_first, ends_second, fails_at_end, fails_both, fills_first, fills_second, finishes_both, goes_both, none_waits, over_is, placed_first, placed_second, in_order, stops_first, stops_second, takes_both, waiting, wants_first, wants_nothing, wants_second}
 
 module _ {A B O : Type 0} {g : Ghosts O} (source_a : Source A) (source_b : Source B)
     (config : SweepConfig) (first : Records A O g) (second : Records B O g) (out : Output) where

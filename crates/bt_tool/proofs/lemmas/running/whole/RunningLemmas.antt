@@ -4,10 +4,9 @@ use Rattle.bt_lines.specs.declared.device.Sink.{Ghosts as Sink}
 use Rattle.bt_lines.specs.declared.device.Source.{Ghosts as Source}
 use Rattle.bt_lines.proofs.lemmas.reader.block.ReadsLemmas.{some_is}
 use Rattle.bt_tool.proofs.lemmas.running.feed.FeedLemmas.{took_more_than}
-use Rattle.bt_lines.proofs.lemmas.writer.OutputLemmas.{grows_both}
+use Rattle.bt_lines.proofs.lemmas.Writer.{grows_both}
 use Rattle.bt_lines.specs.model.Fault.{FaultValue, write_failed, no_memory}
-use Rattle.bt_lines.specs.model.Handed.{Handed}
-use Rattle.bt_lines.specs.model.Lines.{text_lines}
+use Rattle.bt_lines.specs.model.Lines.{Handed, text_lines}
 use Rattle.bt_lines.specs.calls.Names.{fault_value}
 use Rattle.bt_lines.specs.calls.Output.{Output, IsPrefixOf, Grows, block_size}
 use Rattle.bt_lines.specs.declared.fault.Fault.{Fault}
@@ -15,30 +14,26 @@ use Rattle.bt_lines.specs.declared.fault.Input.{Input}
 use Rattle.bt_lines.specs.declared.fault.Input.TheVariants.{First, Second, Genome as FromGenome}
 use Rattle.bt_lines.specs.declared.fault.Kind.{Kind}
 use Rattle.bt_lines.specs.declared.fault.Place.{Place}
-use Rattle.bt_bed.specs.model.order.Genome.{Entry}
+use Rattle.bt_bed.specs.model.Genome.{Entry}
 use Rattle.bt_bed.specs.calls.GenomeTable.{entries}
-use Rattle.bt_bed.specs.model.input.Good.{good_from}
-use Rattle.bt_bed.specs.model.feature.LineKind.{is_genome_kind}
+use Rattle.bt_bed.specs.model.Good.{good_from}
+use Rattle.bt_bed.specs.model.Feature.{is_genome_kind}
 use Rattle.bt_bed.specs.declared.order.genome.Genome.{Genome}
 use Rattle.bt_runs.specs.model.Depth.{settled_depths}
 use Rattle.bt_runs.specs.model.Gaps.{settled_gaps}
-use Rattle.bt_tool.specs.model.report.RecordReport.{IsOneOf}
-use Rattle.bt_tool.specs.calls.run.Chromosomes.{KnowsChromosomes, LacksChromosomes, ReadsChromosomes}
-use Rattle.bt_tool.specs.calls.run.FaultSource.{IsFaultButWrite, IsOfInput, IsPutTo, IsWithin, ReadsNoFurther, TellsDevice, TellsInput, TellsInputIf}
-use Rattle.bt_tool.specs.calls.run.Writing.{WritesBy}
-use Rattle.bt_tool.specs.inside.feed.Flushing.{Flushes, FlushesAll, FlushFails, StaysFailed}
-use Rattle.bt_tool.specs.calls.run.RunContract.{Runs, TellsOther}
-use Rattle.bt_tool.specs.model.report.Inputs.{HandsUpTo, Inputs, OfBoth}
-use Rattle.bt_tool.specs.model.report.RecordReport.{Report}
-use Rattle.bt_tool.specs.model.report.Behaviour.{behaviour_of, order_of}
-use Rattle.bt_tool.specs.model.report.Report.{behaviour_on, chromosomes_of, report_of, report_on}
+use Rattle.bt_tool.specs.model.Written.{IsOneOf, Report}
+use Rattle.bt_tool.specs.calls.Run.{KnowsChromosomes, LacksChromosomes, ReadsChromosomes, IsFaultButWrite, IsOfInput, IsPutTo, IsWithin, ReadsNoFurther, TellsDevice, TellsInput, TellsInputIf, WritesBy, Runs, TellsOther, ShowsReport}
+use Rattle.bt_tool.specs.inside.Feed.{Flushes, FlushesAll, FlushFails, StaysFailed}
+use Rattle.bt_tool.specs.model.Report.{HandsUpTo, Inputs, OfBoth, behaviour_of, order_of, behaviour_on, chromosomes_of, report_of, report_on, ReportsAnswer, answer_of, report, seen_of, texts_of}
 use Rattle.bt_tool.specs.declared.planning.plan_type.Command.{Command}
 use Rattle.bt_tool.specs.declared.planning.plan_type.Command.TheVariants.{Merge, Complement, Intersect, Subtract, Coverage, BamToBed, MaskFasta}
 use Rattle.bt_tool.proofs.lemmas.running.whole.OwnFailureLemmas.{WritesOutput}
-use Rattle.bt_tool.proofs.lemmas.running.feed.WriteLemmas.{merge_settles_none}
-use Rattle.bt_tool.proofs.lemmas.running.feed.WritingLemmas.{hands_none, near_as}
+use Rattle.bt_tool.proofs.lemmas.running.feed.DrivingLemmas.{merge_settles_none}
+use Rattle.bt_tool.proofs.lemmas.running.feed.WritingLemmas.{hands_none, near_as, memory_no_write, tells_no_write}
 use Rattle.bt_tool.proofs.lemmas.running.members.MemberLemmas.{some_map}
-use Rattle.bt_tool.proofs.lemmas.running.feed.FaultLemmas.{memory_no_write, tells_no_write}
+use Rattle.bt_tool.specs.model.Options.{options}
+use Rattle.bt_tool.specs.model.Table.{Word}
+use Rattle.bt_tool.specs.declared.options.usage.Usage.{Usage}
 
 -- whether a fault lies in the genome file
 abbrev is_of_genome : Input → Bool
@@ -354,3 +349,24 @@ module _ {G A B K : Type 0} (source_g : Source G) (source_a : Source A) (source_
   pub runs_by : (chromosomes : Result (Option Genome) Fault) → ReadsChromosomes source_g genome chromosomes genome_after → WritesOutput source_a source_b command first second begun fault first_after second_after mid chromosomes → RunsSo
   runs_by (Ok table) knows writes = runs_written table knows writes.written
   runs_by (Err wrong) lacks stops = runs_wrong (fault_value wrong) lacks stops
+
+-- What a user sees of a run is the report.
+
+some_bytes : (a b : List ℕ) → Some a ≡ Some b → a ≡ b
+some_bytes a b e = cc
+
+pub usage_reported : (words : List Word) (usage : Usage) → options words ≡ Err usage → ReportsAnswer words (Err usage)
+unfolding report
+usage_reported words usage e = λ genome first second. ap (λ answer. answer_of words answer genome first second) e
+
+module _ {G A B K : Type 0} (source_g : Source G) (source_a : Source A) (source_b : Source B) (sink : Sink K) where
+  pub shows_report : ShowsReport source_g source_a source_b sink
+  unfolding report
+  shows_report words plan genome first second out fault genome_after first_after second_after out_after genome_text first_text second_text bytes asked runs read empty served memory took =
+      let inputs = texts_of plan genome_text first_text second_text in
+      let gives = runs.whole inputs [] read empty served memory in
+      let rep = report_of plan.command inputs in
+      let output : bytes ≡ rep.output = some_bytes bytes rep.output (sym took ∙ gives.1) in
+      let plan_seen : seen_of plan rep ≡ seen_of plan (record { output = bytes; fault = fault }) =
+      ap (λ o. seen_of plan (record { output = o; fault = rep.fault })) (sym output) ∙ ap (λ f. seen_of plan (record { output = bytes; fault = f })) (sym gives.0) in
+      ap (λ answer. answer_of words answer genome_text first_text second_text) asked ∙ plan_seen

@@ -1,7 +1,7 @@
 use Rattle.bt_lines.proofs.Std.{None, refl, sym, ap, ◌∙◌}
 use Rattle.bt_lines.specs.calls.Reader.{source_of}
 use Rattle.bt_lines.specs.calls.Names.{fault_value}
-use Rattle.bt_tool.proofs.lemmas.running.feed.ConvertLemmas.{own_up_to, writes_all, writes_up_to}
+use Rattle.bt_tool.proofs.lemmas.running.feed.DrivingLemmas.{own_up_to, writes_all, writes_up_to}
 use Rattle.bt_tool.proofs.lemmas.running.whole.OwnFailureLemmas.{kept_below, served_of, tells_nothing}
 use Rattle.bt_tool.proofs.loops.converting.convert.Goals as goal
 

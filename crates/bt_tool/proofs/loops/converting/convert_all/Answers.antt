@@ -1,14 +1,14 @@
 use Rattle.bt_lines.proofs.Std.{◌∙◌, ap, arith, refl, subst, ⊎_elim}
 use Rattle.bt_lines.proofs.lemmas.reader.block.ReadsLemmas.{has_read_then, reads_same}
-use Rattle.bt_lines.specs.calls.LentLine.{line_seen}
+use Rattle.bt_lines.specs.calls.Columns.{line_seen}
 use Rattle.bt_lines.specs.calls.Names.{fault_value}
 use Rattle.bt_lines.specs.declared.fault.Input.{Input}
 use Rattle.bt_lines.specs.calls.Reader.{HasRead}
-use Rattle.bt_bed.proofs.lemmas.order.ResultLemmas.{passed_on}
+use Rattle.bt_bed.proofs.lemmas.order.TableLemmas.{passed_on}
 use Rattle.bt_seq.specs.calls.Sam.{Converting}
-use Rattle.bt_tool.specs.inside.feed.ConvertSteps.{ConvertsAll, LineRefused, sam_reader}
-use Rattle.bt_tool.specs.calls.run.OwnReads.{AnswersNoRead}
-use Rattle.bt_tool.proofs.lemmas.running.feed.ConvertLemmas.{converts_all, going_line, going_start, refused_no_read, stops_at_line, stops_reading, stops_writing}
+use Rattle.bt_tool.specs.inside.Feed.{ConvertsAll, LineRefused, sam_reader}
+use Rattle.bt_tool.specs.calls.Run.{AnswersNoRead}
+use Rattle.bt_tool.proofs.lemmas.running.feed.DrivingLemmas.{converts_all, going_line, going_start, refused_no_read, stops_at_line, stops_reading, stops_writing}
 use Rattle.bt_tool.proofs.lemmas.running.whole.OwnFailureLemmas.{line_told_kept, own_then}
 use Rattle.bt_tool.proofs.loops.converting.convert_all.Goals as goal
 

@@ -1,6 +1,6 @@
 use Rattle.bt_lines.proofs.Std.{◌≡◌}
 use Rattle.bt_lines.specs.calls.Reader.{HasRead, input_of, room}
-use Rattle.bt_tool.proofs.lemmas.running.feed.ConvertLemmas.{Going}
+use Rattle.bt_tool.proofs.lemmas.running.feed.DrivingLemmas.{Going}
 use Rattle.bt_tool.proofs.loops.converting.convert_all.Given as goal
 
 -- the alignments of the lines so far were written

@@ -1,5 +1,5 @@
 use Rattle.bt_lines.proofs.Std.{sym}
-use Rattle.bt_seq.proofs.lemmas.sam.SamKindLemmas.{kinds_of_lines, wrong_kinds}
+use Rattle.bt_seq.proofs.lemmas.Sam.{kinds_of_lines, wrong_kinds}
 use Rattle.bt_tool.proofs.loops.converting.convert_line.Goals as goal
 
 pub at_line-requires : goal.at_line-requires

@@ -2,17 +2,15 @@ use Rattle.bt_lines.proofs.Std.{◌∙◌, ap, refl, sym, subst, None}
 use Rattle.bt_lines.specs.calls.Names.{fault_value}
 use Rattle.bt_lines.specs.calls.Reader.{source_of}
 use Rattle.bt_lines.specs.declared.fault.Input.TheVariants.{First}
-use Rattle.bt_bed.specs.model.feature.Feature.{Feature, intervals_of}
-use Rattle.bt_bed.specs.model.input.GoodBed.{bed_format}
-use Rattle.bt_bed.specs.model.feature.LineKind.{IsBedKind}
-use Rattle.bt_bed.specs.model.order.Locus.{ArePlaced}
+use Rattle.bt_bed.specs.model.Feature.{Feature, intervals_of, IsBedKind}
+use Rattle.bt_bed.specs.model.Good.{bed_format}
+use Rattle.bt_bed.specs.model.Sorted.{ArePlaced, sorting_of}
 use Rattle.bt_bed.specs.calls.Records.{below, order_in, view_of}
-use Rattle.bt_bed.specs.model.order.Sorting.{sorting_of}
-use Rattle.bt_tool.specs.inside.feed.Feeding.{AreInOrder, member_items}
-use Rattle.bt_tool.specs.model.report.Written.{Written}
+use Rattle.bt_tool.specs.inside.Feed.{AreInOrder, member_items}
+use Rattle.bt_tool.specs.model.Written.{Written}
 use Rattle.bt_tool.proofs.lemmas.running.feed.FeedLemmas.{goes_failed}
 use Rattle.bt_tool.proofs.lemmas.running.feed.DrivingLemmas.{drives_all, drives_cut, drives_fault, finish_cut, finish_goes, finish_put, finish_serves, records_sorted, sorted_start}
-use Rattle.bt_tool.proofs.lemmas.running.members.CameMembers.{begins_over, fresh_over}
+use Rattle.bt_tool.proofs.lemmas.running.members.CursorLemmas.{begins_over, fresh_over}
 use Rattle.bt_tool.proofs.lemmas.running.whole.OwnFailureLemmas.{bed_no_read, feeds_own, served_of, tells_nothing, tells_write}
 use Rattle.bt_tool.proofs.loops.driving.drive.Goals as goal
 

@@ -3,13 +3,13 @@ use Rattle.bt_lines.proofs.lemmas.reader.block.ReadsLemmas.{has_read_then, reads
 use Rattle.bt_lines.specs.calls.Names.{fault_value}
 use Rattle.bt_lines.specs.calls.Reader.{HasRead}
 use Rattle.bt_bed.specs.calls.Records.{below, order_in, view_of}
-use Rattle.bt_bed.specs.model.feature.LineKind.{IsBedKind}
-use Rattle.bt_bed.proofs.lemmas.order.ResultLemmas.{passed_on}
-use Rattle.bt_tool.specs.inside.feed.Feeding.{AreInOrder, FeedsMembers}
-use Rattle.bt_tool.specs.calls.run.OwnReads.{AnswersNoRead}
+use Rattle.bt_bed.specs.model.Feature.{IsBedKind}
+use Rattle.bt_bed.proofs.lemmas.order.TableLemmas.{passed_on}
+use Rattle.bt_tool.specs.inside.Feed.{AreInOrder, FeedsMembers}
+use Rattle.bt_tool.specs.calls.Run.{AnswersNoRead}
 use Rattle.bt_tool.proofs.lemmas.running.feed.FeedLemmas.{failed_at, feeds_all, going_fill, going_start, going_taken, stops_feeding, stops_reading}
-use Rattle.bt_tool.proofs.lemmas.running.pair.BufferedLemmas.{given_by}
-use Rattle.bt_tool.proofs.lemmas.running.pair.RestLemmas.{some_buffered}
+use Rattle.bt_tool.proofs.lemmas.running.pair.PairNear.{given_by}
+use Rattle.bt_tool.proofs.lemmas.running.pair.PairTurns.{some_buffered}
 use Rattle.bt_tool.proofs.lemmas.running.whole.OwnFailureLemmas.{none_kept, own_then, told_kept}
 use Rattle.bt_tool.proofs.lemmas.running.members.PassedLemmas.{is_filled, is_over, is_stopped, taken_reads}
 use Rattle.bt_tool.proofs.loops.driving.feed_all.Goals as goal

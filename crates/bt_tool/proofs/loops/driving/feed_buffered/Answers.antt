@@ -1,4 +1,4 @@
-use Rattle.bt_tool.proofs.lemmas.running.pair.BufferedLemmas.{batch_taken, consumes_given, given_by}
+use Rattle.bt_tool.proofs.lemmas.running.pair.PairNear.{batch_taken, consumes_given, given_by}
 use Rattle.bt_tool.proofs.loops.driving.feed_buffered.Goals as goal
 
 pub consume-requires : goal.consume-requires

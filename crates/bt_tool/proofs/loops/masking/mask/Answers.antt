@@ -3,15 +3,15 @@ use Rattle.bt_lines.specs.calls.Names.{fault_value}
 use Rattle.bt_lines.specs.calls.Reader.{source_of}
 use Rattle.bt_lines.specs.declared.fault.Input.TheVariants.{First, Second}
 use Rattle.bt_bed.specs.calls.Blocks.{below, view_of}
-use Rattle.bt_bed.specs.model.input.GoodBlocks.{block_format}
-use Rattle.bt_bed.proofs.lemmas.definitions.GoodBlocksLemmas.{good_in_blocks}
-use Rattle.bt_seq.specs.model.Sequences.{sequence_format}
-use Rattle.bt_tool.specs.model.report.MaskReport.{mask_reaches, mask_settles}
-use Rattle.bt_tool.specs.inside.pair.MaskLoop.{line_members, mask_join, mask_pair, nothing_reached}
+use Rattle.bt_bed.specs.model.Good.{block_format}
+use Rattle.bt_bed.proofs.lemmas.Definitions.{good_in_blocks}
+use Rattle.bt_seq.specs.model.Masked.{sequence_format}
+use Rattle.bt_tool.specs.model.Written.{mask_reaches, mask_settles}
+use Rattle.bt_tool.specs.inside.MaskLoop.{line_members, mask_join, mask_pair, nothing_reached}
 use Rattle.bt_tool.proofs.lemmas.running.mask.MaskFacts.{mask_limits, mask_needs}
 use Rattle.bt_tool.proofs.lemmas.running.mask.MaskRounds.{as_asked, masks_start}
 use Rattle.bt_bed.proofs.lemmas.read.good.ReadingLemmas.{good_at_first}
-use Rattle.bt_tool.proofs.lemmas.running.members.CameMembers.{begins_over, fresh_over}
+use Rattle.bt_tool.proofs.lemmas.running.members.CursorLemmas.{begins_over, fresh_over}
 use Rattle.bt_tool.proofs.lemmas.running.pair.PairMet.{writes_both}
 use Rattle.bt_tool.proofs.lemmas.running.pair.PairNear.{near_both}
 use Rattle.bt_tool.proofs.lemmas.running.whole.OwnFailureLemmas.{both_own, served_of}

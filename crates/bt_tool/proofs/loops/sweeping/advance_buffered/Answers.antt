@@ -1,7 +1,7 @@
-use Rattle.bt_sweep.specs.calls.SweepView.{order_of as sweep_order, state_of}
-use Rattle.bt_sweep.proofs.lemmas.sweep.KnownLemmas.{known_batch}
-use Rattle.bt_tool.proofs.lemmas.running.sweep.AdvanceLemmas.{passed_both}
-use Rattle.bt_tool.proofs.lemmas.running.pair.BufferedLemmas.{batch_taken, consumes_given}
+use Rattle.bt_sweep.specs.calls.Sweeping.{order_of as sweep_order, state_of}
+use Rattle.bt_sweep.proofs.lemmas.sweep.KeepLemmas.{known_batch}
+use Rattle.bt_tool.proofs.lemmas.running.sweep.SweptLemmas.{passed_both}
+use Rattle.bt_tool.proofs.lemmas.running.pair.PairNear.{batch_taken, consumes_given}
 use Rattle.bt_tool.proofs.loops.sweeping.advance_buffered.Goals as goal
 
 pub advance-swept-requires-clause-known_a : goal.advance-swept-requires-clause-known_a

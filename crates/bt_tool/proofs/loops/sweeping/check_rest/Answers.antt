@@ -2,13 +2,13 @@ use Rattle.bt_lines.proofs.Std.{refl}
 use Rattle.bt_lines.proofs.lemmas.reader.block.ReadsLemmas.{has_read_then, reads_same}
 use Rattle.bt_lines.specs.calls.Reader.{HasRead}
 use Rattle.bt_lines.specs.calls.Names.{fault_value}
-use Rattle.bt_bed.specs.model.feature.LineKind.{IsBedKind}
+use Rattle.bt_bed.specs.model.Feature.{IsBedKind}
 use Rattle.bt_bed.specs.calls.Records.{below, order_in, view_of}
-use Rattle.bt_bed.proofs.lemmas.order.ResultLemmas.{passed_on}
-use Rattle.bt_tool.specs.inside.pair.SweepLoop.{ReadsRest}
-use Rattle.bt_tool.specs.calls.run.OwnReads.{AnswersNoRead}
+use Rattle.bt_bed.proofs.lemmas.order.TableLemmas.{passed_on}
+use Rattle.bt_tool.specs.inside.SweepLoop.{ReadsRest}
+use Rattle.bt_tool.specs.calls.Run.{AnswersNoRead}
 use Rattle.bt_tool.proofs.lemmas.running.members.PassedLemmas.{is_filled, is_over, is_stopped}
-use Rattle.bt_tool.proofs.lemmas.running.pair.RestLemmas.{reads_start, reads_more, reads_end, reads_stop, reads_taken}
+use Rattle.bt_tool.proofs.lemmas.running.pair.PairTurns.{reads_start, reads_more, reads_end, reads_stop, reads_taken}
 use Rattle.bt_tool.proofs.lemmas.running.whole.OwnFailureLemmas.{own_then, told_kept}
 use Rattle.bt_tool.proofs.loops.sweeping.check_rest.Goals as goal
 

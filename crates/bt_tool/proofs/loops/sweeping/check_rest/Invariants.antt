@@ -1,6 +1,6 @@
 use Rattle.bt_lines.specs.calls.Reader.{HasRead}
 use Rattle.bt_bed.specs.calls.Records.{below, room, view_of}
-use Rattle.bt_tool.proofs.lemmas.running.pair.RestLemmas.{IsReadOn}
+use Rattle.bt_tool.proofs.lemmas.running.pair.PairTurns.{IsReadOn}
 use Rattle.bt_tool.proofs.loops.sweeping.check_rest.Given as goal
 
 -- the records so far were consumed

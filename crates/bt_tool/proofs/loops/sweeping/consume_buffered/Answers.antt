@@ -2,8 +2,8 @@ use Rattle.bt_lines.proofs.Std.{◌≡◌, [], ◌∷◌, ◌++◌, subst, sym}
 use Rattle.bt_bed.specs.calls.Batch.{Passes, left}
 use Rattle.bt_bed.specs.declared.read.batch.Batch.{Batch}
 use Rattle.bt_bed.specs.calls.CursorLaws.{batch_gives_more, batch_gives_none}
-use Rattle.bt_bed.specs.calls.RawRecord.{record_in}
-use Rattle.bt_tool.proofs.lemmas.running.pair.BufferedLemmas.{all_taken, batch_taken, room_falls}
+use Rattle.bt_bed.specs.calls.Bed.{record_in}
+use Rattle.bt_tool.proofs.lemmas.running.pair.PairNear.{all_taken, batch_taken, room_falls}
 use Rattle.bt_tool.proofs.loops.sweeping.consume_buffered.Goals as goal
 
 pub loop-next-init : goal.loop-next-init

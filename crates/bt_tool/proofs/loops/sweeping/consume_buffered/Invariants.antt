@@ -1,6 +1,6 @@
 use Rattle.bt_lines.proofs.Std.{List}
 use Rattle.bt_bed.specs.calls.Batch.{Passes, batch_room}
-use Rattle.bt_bed.specs.model.feature.Feature.{Feature}
+use Rattle.bt_bed.specs.model.Feature.{Feature}
 use Rattle.bt_tool.proofs.loops.sweeping.consume_buffered.Given as goal
 
 -- the records so far were consumed

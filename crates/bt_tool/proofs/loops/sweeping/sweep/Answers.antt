@@ -3,16 +3,16 @@ use Rattle.bt_lines.specs.calls.Names.{fault_value}
 use Rattle.bt_lines.proofs.lemmas.reader.block.ReadsLemmas.{reads_same}
 use Rattle.bt_lines.specs.calls.Reader.{source_of}
 use Rattle.bt_lines.specs.declared.fault.Input.TheVariants.{First, Second}
-use Rattle.bt_bed.specs.model.input.GoodBed.{bed_format}
+use Rattle.bt_bed.specs.model.Good.{bed_format}
 use Rattle.bt_bed.specs.calls.Records.{below, view_of}
-use Rattle.bt_bed.specs.model.order.Sorting.{sorting_of}
-use Rattle.bt_bed.proofs.lemmas.definitions.GoodBedLemmas.{placed_good}
-use Rattle.bt_sweep.specs.calls.SweepView.{state_of}
-use Rattle.bt_tool.specs.model.report.SweepReport.{intersect_reaches, intersect_settles}
-use Rattle.bt_tool.specs.inside.pair.SweepLoop.{config_of, records_pair, sweep_join}
+use Rattle.bt_bed.specs.model.Sorted.{sorting_of}
+use Rattle.bt_bed.proofs.lemmas.Definitions.{placed_good}
+use Rattle.bt_sweep.specs.calls.Sweeping.{state_of}
+use Rattle.bt_tool.specs.model.Written.{intersect_reaches, intersect_settles}
+use Rattle.bt_tool.specs.inside.SweepLoop.{config_of, records_pair, sweep_join}
 use Rattle.bt_tool.proofs.lemmas.running.pair.PairMet.{writes_both}
 use Rattle.bt_tool.proofs.lemmas.running.pair.PairNear.{near_both}
-use Rattle.bt_tool.proofs.lemmas.running.members.CameMembers.{begins_over, fresh_over}
+use Rattle.bt_tool.proofs.lemmas.running.members.CursorLemmas.{begins_over, fresh_over}
 use Rattle.bt_tool.proofs.lemmas.running.sweep.SweepRounds.{sweeps_start}
 use Rattle.bt_tool.proofs.lemmas.running.sweep.SweepFacts.{sweep_needs, sweep_limits}
 use Rattle.bt_tool.proofs.lemmas.running.feed.DrivingLemmas.{sorted_start}

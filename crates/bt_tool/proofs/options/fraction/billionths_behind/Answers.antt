@@ -1,7 +1,7 @@
 use Rattle.bt_lines.proofs.Std.{◌≡◌, ◌<◌, ◌-◌, ap, arith, get_or, length, sym, ◌∙◌, true, is_ascii_digit, unwrap_or}
 use Rattle.bt_lines.proofs.lemmas.numbers.NumberLemmas.{digit_small, digits_more, value_below, value_more}
-use Rattle.bt_tool.specs.model.usage.Fraction.{nine_decimals}
-use Rattle.bt_tool.proofs.lemmas.options.FractionLemmas.{length_of_nine, nine_at, nine_whole, other_decimal}
+use Rattle.bt_tool.specs.model.Fraction.{nine_decimals}
+use Rattle.bt_tool.proofs.lemmas.Fraction.{length_of_nine, nine_at, nine_whole, other_decimal}
 use Rattle.bt_tool.proofs.options.fraction.billionths_behind.Goals as goal
 
 pub returns-then-not-is_ascii_digit-clause-value : goal.returns-then-not-is_ascii_digit-clause-value

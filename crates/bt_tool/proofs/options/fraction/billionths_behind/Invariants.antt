@@ -1,5 +1,5 @@
 use Rattle.bt_lines.proofs.Std.{◌≡◌, ◌<◌, ◌^◌, true, take, is_ascii_digit, list_all, digits_value}
-use Rattle.bt_tool.specs.model.usage.Fraction.{nine_decimals}
+use Rattle.bt_tool.specs.model.Fraction.{nine_decimals}
 use Rattle.bt_tool.proofs.options.fraction.billionths_behind.Given as goal
 
 -- the value so far is that of the digits so far

@@ -1,5 +1,5 @@
 use Rattle.bt_lines.proofs.Std.{◌≡◌, ◌<◌, ◌+◌, arith, length, sym, ◌∙◌, nat_tests}
-use Rattle.bt_tool.proofs.lemmas.options.FractionLemmas.{above_one, is_fraction, many_decimals, no_decimals, no_digit, no_whole}
+use Rattle.bt_tool.proofs.lemmas.Fraction.{above_one, is_fraction, many_decimals, no_decimals, no_digit, no_whole}
 use Rattle.bt_tool.proofs.options.fraction.fraction_in.Goals as goal
 use Rattle.bt_tool.proofs.options.fraction.fraction_in.Goals.{else-is_empty-via-then-is_empty+else-is_empty-2, else-is_empty-via-else-is_empty}
 

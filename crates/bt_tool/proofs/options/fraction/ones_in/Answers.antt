@@ -1,5 +1,5 @@
 use Rattle.bt_lines.proofs.Std.{sym, ◌∙◌, arith, ◌<◌, length, nat_tests}
-use Rattle.bt_tool.proofs.lemmas.options.FractionLemmas.{few_ones, many_ones, no_ones}
+use Rattle.bt_tool.proofs.lemmas.Fraction.{few_ones, many_ones, no_ones}
 use Rattle.bt_tool.proofs.options.fraction.ones_in.Goals as goal
 
 pub returns-in_default : goal.returns-in_default

@@ -1,7 +1,7 @@
 use Rattle.bt_lines.proofs.Std.{◌≡◌, Some, None, false, sym, ◌∙◌, string_bytes}
-use Rattle.bt_tool.specs.model.usage.Table.{fits, takes}
-use Rattle.bt_tool.specs.calls.words.Lent.{table_lent}
-use Rattle.bt_tool.proofs.lemmas.options.Reading.{words-from, words-pair, unknown-at, missing-at, bad-at}
+use Rattle.bt_tool.specs.model.Table.{fits, takes}
+use Rattle.bt_tool.specs.calls.Lent.{table_lent}
+use Rattle.bt_tool.proofs.lemmas.Options.{words-from, words-pair, unknown-at, missing-at, bad-at}
 use Rattle.bt_tool.proofs.options.item.item_at.Goals as goal
 
 pub returns-in_default-clause-fault : goal.returns-in_default-clause-fault

@@ -1,8 +1,8 @@
 use Rattle.bt_lines.proofs.Std.{Some, sym, ◌∙◌, ap, ◌||◌}
-use Rattle.bt_tool.specs.calls.words.Given.{items_in}
-use Rattle.bt_tool.specs.calls.words.Lent.{table_lent}
-use Rattle.bt_tool.specs.model.usage.Options.{has_exclusive, overwrites, reads_twice}
-use Rattle.bt_tool.proofs.lemmas.planning.TableLemmas.{together-exclusive, together-none, together-twice}
+use Rattle.bt_tool.specs.calls.Given.{items_in}
+use Rattle.bt_tool.specs.calls.Lent.{table_lent}
+use Rattle.bt_tool.specs.model.Options.{has_exclusive, overwrites, reads_twice}
+use Rattle.bt_tool.proofs.lemmas.Planning.{together-exclusive, together-none, together-twice}
 use Rattle.bt_tool.proofs.planning.checking.check.Goals as goal
 
 pub returns-then-excludes : goal.returns-then-excludes

@@ -1,8 +1,8 @@
 use Rattle.bt_lines.proofs.Std.{sym, ◌∙◌}
-use Rattle.bt_tool.specs.calls.words.Given.{items_in}
-use Rattle.bt_tool.specs.calls.words.Lent.{names_lent, table_lent}
-use Rattle.bt_tool.specs.model.usage.Options.{has_exclusive, overwrites}
-use Rattle.bt_tool.proofs.lemmas.planning.TableLemmas.{exclusive-lent, or-first, or-second}
+use Rattle.bt_tool.specs.calls.Given.{items_in}
+use Rattle.bt_tool.specs.calls.Lent.{names_lent, table_lent}
+use Rattle.bt_tool.specs.model.Options.{has_exclusive, overwrites}
+use Rattle.bt_tool.proofs.lemmas.Planning.{exclusive-lent, or-first, or-second}
 use Rattle.bt_tool.proofs.planning.checking.excludes.Goals as goal
 
 pub returns-then-gives_both : goal.returns-then-gives_both

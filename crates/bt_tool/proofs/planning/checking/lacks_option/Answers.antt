@@ -1,6 +1,6 @@
 use Rattle.bt_lines.proofs.Std.{sym, ◌∙◌, ap, not}
-use Rattle.bt_tool.specs.calls.words.Given.{items_in}
-use Rattle.bt_tool.proofs.lemmas.planning.TableLemmas.{lacks-by_one, lacks-none, lacks-one, lacks-required}
+use Rattle.bt_tool.specs.calls.Given.{items_in}
+use Rattle.bt_tool.proofs.lemmas.Planning.{lacks-by_one, lacks-none, lacks-one, lacks-required}
 use Rattle.bt_tool.proofs.planning.checking.lacks_option.Goals as goal
 
 pub returns-then-lacks_required : goal.returns-then-lacks_required

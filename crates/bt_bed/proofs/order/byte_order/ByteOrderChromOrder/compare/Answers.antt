@@ -1,5 +1,5 @@
 use Rattle.bt_lines.proofs.Std.{sym, ◌∙◌}
-use Rattle.bt_bed.proofs.lemmas.order.ByteOrderLemmas.{same_name_same}
+use Rattle.bt_bed.proofs.lemmas.order.OrderLemmas.{same_name_same}
 use Rattle.bt_bed.proofs.order.byte_order.ByteOrderChromOrder.compare.Goals as goal
 
 pub returns-then-is_same_name : goal.returns-then-is_same_name

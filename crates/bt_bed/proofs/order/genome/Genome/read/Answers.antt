@@ -1,16 +1,15 @@
 use Rattle.bt_lines.proofs.Std.{◌≡◌, ap, refl, rules}
 use Rattle.bt_lines.proofs.lemmas.reader.block.ReadsLemmas.{has_read_then, reads_same}
-use Rattle.bt_lines.specs.calls.LentLine.{line_seen}
+use Rattle.bt_lines.specs.calls.Columns.{line_seen}
 use Rattle.bt_lines.specs.calls.Names.{fault_value}
 use Rattle.bt_lines.specs.declared.fault.Place.{Place}
 use Rattle.bt_lines.specs.declared.fault.Input.{Input}
 use Rattle.bt_lines.specs.calls.Reader.{fault_kept, input_of}
-use Rattle.bt_bed.proofs.lemmas.read.good.OwnFailureLemmas.{lost_is_own, read_is_own}
+use Rattle.bt_bed.proofs.lemmas.read.good.ReadingLemmas.{lost_is_own, read_is_own}
 use Rattle.bt_bed.proofs.lemmas.read.good.SaidLemmas.{genome_of_line}
-use Rattle.bt_bed.proofs.lemmas.order.ResultLemmas.{passed_on}
-use Rattle.bt_bed.proofs.lemmas.order.TableLemmas.{going_start, going_line, going_end, going_err, going_fault, refused_at_place}
+use Rattle.bt_bed.proofs.lemmas.order.TableLemmas.{passed_on, going_start, going_line, going_end, going_err, going_fault, refused_at_place}
 use Rattle.bt_bed.specs.calls.GenomeTable.{ReadsGenome, names_of}
-use Rattle.bt_bed.specs.model.order.Genome.{entry_of, new_entry}
+use Rattle.bt_bed.specs.model.Genome.{entry_of, new_entry}
 use Rattle.bt_bed.specs.declared.order.genome.Genome.{Genome}
 use Rattle.bt_bed.proofs.order.genome.Genome.read.Goals as goal
 

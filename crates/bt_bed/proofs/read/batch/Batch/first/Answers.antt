@@ -1,8 +1,8 @@
 use Rattle.bt_lines.proofs.Std.{refl}
-use Rattle.bt_lines.specs.calls.Buffered.{rest_in}
-use Rattle.bt_bed.proofs.lemmas.read.batch.BatchLemmas.{none_below, none_either, none_elsewhere, none_holds, some_bytes, stands_first}
+use Rattle.bt_lines.specs.calls.Reader.{rest_in}
+use Rattle.bt_bed.proofs.lemmas.read.batch.RecordsLemmas.{none_below, none_either, none_elsewhere, none_holds, some_bytes, stands_first}
 use Rattle.bt_bed.specs.calls.Batch.{chrom_in, cursor_in, start_in}
-use Rattle.bt_bed.specs.calls.RawRecord.{record_in}
+use Rattle.bt_bed.specs.calls.Bed.{record_in}
 use Rattle.bt_bed.proofs.read.batch.Batch.first.Goals as goal
 
 pub returns-in_err-record-clause-none : goal.returns-in_err-record-clause-none

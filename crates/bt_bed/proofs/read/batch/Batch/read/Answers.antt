@@ -1,12 +1,10 @@
 use Rattle.bt_lines.proofs.Std.{◌≡◌, ◌∙◌, ◌+◌, ap, arith, length, length-drop, refl, sym, subst, take, IfSome, strip_last}
-use Rattle.bt_lines.specs.model.Number.{value_of}
-use Rattle.bt_bed.proofs.lemmas.read.FirstColumnLemmas.{front_is_name}
-use Rattle.bt_bed.proofs.lemmas.read.ParsedColumns.{parsed_begins, parsed_bounds, parsed_inside, parsed_name, parsed_no_header, parsed_of, third_at}
-use Rattle.bt_bed.proofs.lemmas.records.RawRecordLemmas.{on_line}
+use Rattle.bt_lines.specs.model.Lines.{value_of}
+use Rattle.bt_bed.proofs.lemmas.read.ColumnLemmas.{front_is_name, parsed_begins, parsed_bounds, parsed_inside, parsed_name, parsed_no_header, parsed_of, third_at, on_line}
 use Rattle.bt_bed.specs.calls.Batch.{chrom_in}
 use Rattle.bt_bed.specs.inside.FirstColumns.{EndsFirst}
-use Rattle.bt_bed.specs.calls.Run.{is_on}
-use Rattle.bt_bed.specs.model.feature.Record.{record_of}
+use Rattle.bt_bed.specs.calls.Bed.{is_on}
+use Rattle.bt_bed.specs.model.Feature.{record_of}
 use Rattle.bt_bed.proofs.read.batch.Batch.read.Goals as goal
 
 pub parse_number-start-requires : goal.parse_number-start-requires

@@ -1,9 +1,8 @@
 use Rattle.bt_lines.proofs.Std.{◌≡◌, ◌∙◌, ◌<◌, ap, arith, length, refl, take, strip_last}
-use Rattle.bt_lines.specs.calls.Buffered.{rest_in}
+use Rattle.bt_lines.specs.calls.Reader.{rest_in}
 use Rattle.bt_lines.proofs.lemmas.reader.lines.BufferedLemmas.{strip_begins, take_front}
-use Rattle.bt_bed.proofs.lemmas.parse.ColumnsLemmas.{line_bounds, line_named}
-use Rattle.bt_bed.proofs.lemmas.read.FirstColumnLemmas.{front_is_name, name_ends, named_is_no_header}
-use Rattle.bt_bed.proofs.lemmas.records.RawRecordLemmas.{no_return_there, on_line}
+use Rattle.bt_bed.proofs.lemmas.parse.NameLemmas.{line_bounds, line_named}
+use Rattle.bt_bed.proofs.lemmas.read.ColumnLemmas.{front_is_name, name_ends, named_is_no_header, no_return_there, on_line}
 use Rattle.bt_bed.specs.calls.Batch.{chrom_in, cursor_in}
 use Rattle.bt_bed.proofs.read.batch.Batch.scan.Goals as goal
 

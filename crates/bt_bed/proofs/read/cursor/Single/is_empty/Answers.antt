@@ -1,6 +1,5 @@
 use Rattle.bt_lines.proofs.Std.{Option, ap, option_map, option_to_list}
-use Rattle.bt_bed.specs.calls.Bed.{feature_lent}
-use Rattle.bt_bed.specs.calls.Single.{single_left}
+use Rattle.bt_bed.specs.calls.Bed.{feature_lent, single_left}
 use Rattle.bt_bed.specs.declared.record.bed.BedRef.{BedRef}
 use Rattle.bt_bed.proofs.read.cursor.Single.is_empty.Goals as goal
 

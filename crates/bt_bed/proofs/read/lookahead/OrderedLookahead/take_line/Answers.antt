@@ -1,7 +1,7 @@
 use Rattle.bt_lines.proofs.Std.{◌≡◌, ◌∙◌, refl, rules, sym, Some, None}
-use Rattle.bt_bed.proofs.lemmas.order.ResultLemmas.{lost_item, lost_wrong}
+use Rattle.bt_bed.proofs.lemmas.order.TableLemmas.{lost_item, lost_wrong}
 use Rattle.bt_bed.proofs.lemmas.read.good.SaidLemmas.{bed_of_line, wrong_is_of_line}
-use Rattle.bt_bed.proofs.lemmas.read.batch.NeighbourLemmas.{held_other, held_same, says_nothing, says_wrong, says_misplaced, says_record}
+use Rattle.bt_bed.proofs.lemmas.read.batch.RecordsLemmas.{held_other, held_same, says_nothing, says_wrong, says_misplaced, says_record}
 use Rattle.bt_bed.specs.calls.Bed.{feature_lent}
 use Rattle.bt_bed.specs.inside.OrderedLookahead.{goes_on, last_in, name_in, start_in}
 use Rattle.bt_bed.proofs.read.lookahead.OrderedLookahead.take_line.Goals as goal

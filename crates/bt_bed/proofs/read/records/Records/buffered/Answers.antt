@@ -1,6 +1,6 @@
 use Rattle.bt_bed.proofs.lemmas.read.batch.SortedReaderLemmas.{sorted_comes}
 use Rattle.bt_bed.specs.calls.Records.{view_of}
-use Rattle.bt_bed.specs.model.order.Sorting.{sorting_of}
+use Rattle.bt_bed.specs.model.Sorted.{sorting_of}
 use Rattle.bt_bed.proofs.read.records.Records.buffered.Goals as goal
 
 pub returns-clause-comes : goal.returns-clause-comes

@@ -1,10 +1,9 @@
 use Rattle.bt_lines.proofs.Std.{◌∙◌, ap, option_map}
 use Rattle.bt_lines.specs.calls.Reader.{input_of, lines_left}
 use Rattle.bt_bed.proofs.lemmas.read.batch.RecordsLemmas.{good_at_start, placed_at_start}
-use Rattle.bt_bed.specs.model.input.Good.{good}
-use Rattle.bt_bed.specs.model.input.GoodBed.{bed_format}
+use Rattle.bt_bed.specs.model.Good.{good, bed_format}
 use Rattle.bt_bed.specs.calls.Records.{view_of}
-use Rattle.bt_bed.specs.model.order.Sorting.{sorting_of}
+use Rattle.bt_bed.specs.model.Sorted.{sorting_of}
 use Rattle.bt_bed.specs.declared.read.sorted.ByOrder.{ByOrder}
 use Rattle.bt_bed.proofs.read.records.Records.new.Goals as goal
 

@@ -1,8 +1,8 @@
 use Rattle.bt_lines.proofs.Std.{List, [], ◌∷◌, ◌++◌, subst, sym}
-use Rattle.bt_bed.proofs.lemmas.read.good.TokenLemmas.{token_is}
+use Rattle.bt_bed.proofs.lemmas.read.good.SaidRuns.{token_is}
 use Rattle.bt_bed.specs.calls.Batch.{Passes}
 use Rattle.bt_bed.specs.calls.CursorLaws.{batch_gives_more}
-use Rattle.bt_bed.specs.model.feature.Feature.{Feature}
+use Rattle.bt_bed.specs.model.Feature.{Feature}
 use Rattle.bt_bed.specs.declared.read.batch.Batch.{Batch}
 use Rattle.bt_bed.proofs.read.records.tests.take_batch.Goals as goal
 use Rattle.bt_bed.proofs.read.records.tests.take_batch.Goals.{in-Some+in_ok-push, in_default-next}

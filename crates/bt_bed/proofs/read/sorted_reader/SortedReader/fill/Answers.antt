@@ -1,6 +1,6 @@
 use Rattle.bt_lines.proofs.Std.{refl}
 use Rattle.bt_lines.proofs.lemmas.reader.block.ReadsLemmas.{reads_same}
-use Rattle.bt_bed.proofs.lemmas.read.batch.SortedSteps.{sorted_again}
+use Rattle.bt_bed.proofs.lemmas.read.batch.SortedReaderLemmas.{sorted_again}
 use Rattle.bt_bed.proofs.read.sorted_reader.SortedReader.fill.Goals as goal
 
 pub returns-then-self-clause-fills : goal.returns-then-self-clause-fills

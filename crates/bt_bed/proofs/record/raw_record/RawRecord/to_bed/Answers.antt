@@ -1,4 +1,4 @@
-use Rattle.bt_bed.proofs.lemmas.records.RawRecordLemmas.{text_is_feature}
+use Rattle.bt_bed.proofs.lemmas.read.ColumnLemmas.{text_is_feature}
 use Rattle.bt_bed.proofs.record.raw_record.RawRecord.to_bed.Goals as goal
 
 pub invariant_of-result : goal.invariant_of-result

@@ -1,5 +1,5 @@
 use Rattle.bt_lines.proofs.Std.{arith, sym, ◌∙◌, nat_tests, nil_from_length}
-use Rattle.bt_lines.specs.calls.Buffered.{rest_in}
+use Rattle.bt_lines.specs.calls.Reader.{rest_in}
 use Rattle.bt_lines.proofs.lemmas.reader.lines.BufferedLemmas.{line_none}
 use Rattle.bt_lines.proofs.reader.buffered_lines.BufferedLines.first.Goals as goal
 

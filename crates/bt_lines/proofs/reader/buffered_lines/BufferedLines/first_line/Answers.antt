@@ -1,6 +1,6 @@
 use Rattle.bt_lines.proofs.Std.{◌≡◌, ◌∙◌, ap, length, subst, sym, take, length-take-le}
-use Rattle.bt_lines.specs.calls.Buffered.{rest_in}
-use Rattle.bt_lines.specs.calls.FirstByte.{IsBefore}
+use Rattle.bt_lines.specs.calls.Reader.{rest_in}
+use Rattle.bt_lines.specs.calls.Columns.{IsBefore}
 use Rattle.bt_lines.proofs.lemmas.reader.lines.BufferedLemmas.{line_first, line_none}
 use Rattle.bt_lines.proofs.reader.buffered_lines.BufferedLines.first_line.Goals as goal
 

@@ -1,5 +1,4 @@
-use Rattle.bt_lines.proofs.lemmas.reader.lines.BufferedLemmas.{begins_lines}
-use Rattle.bt_lines.proofs.lemmas.reader.lines.CutLemmas.{are_fed}
+use Rattle.bt_lines.proofs.lemmas.reader.lines.BufferedLemmas.{begins_lines, are_fed}
 use Rattle.bt_lines.proofs.lemmas.reader.lines.TakingLemmas.{is_prefix}
 use Rattle.bt_lines.specs.calls.Reader.{buffered_bytes, is_open, lines_given}
 use Rattle.bt_lines.proofs.reader.line_reader.LineReader.buffered.Goals as goal

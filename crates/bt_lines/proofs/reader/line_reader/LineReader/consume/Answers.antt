@@ -1,5 +1,5 @@
 use Rattle.bt_lines.proofs.Std.{refl}
-use Rattle.bt_lines.proofs.lemmas.reader.lines.CutLemmas.{are_fed}
+use Rattle.bt_lines.proofs.lemmas.reader.lines.BufferedLemmas.{are_fed}
 use Rattle.bt_lines.proofs.lemmas.reader.lines.TakingLemmas.{last_taken, quiet_taken, spaced_taken, takes_lines}
 use Rattle.bt_lines.specs.inside.ReadBuffer.{complete, unread}
 use Rattle.bt_lines.specs.calls.Reader.{buffered_bytes, lines_given}

@@ -1,8 +1,7 @@
 use Rattle.bt_lines.proofs.Std.{◌∙◌, ◌++◌, ap, eqb, length, refl, sym, eqb-true, false≢true}
 use Rattle.bt_lines.specs.calls.Reader.{fault_kept, input_of, lines_given}
 use Rattle.bt_lines.specs.inside.ReadBuffer.{complete, unread}
-use Rattle.bt_lines.proofs.lemmas.reader.lines.StateLemmas.{last_closed, last_going, last_of_none, quiet_going, spaced, spaced_fault, spaced_last}
-use Rattle.bt_lines.proofs.lemmas.reader.lines.StepLemmas.{line_step, last_step, end_step, failed_step, long_step, refused_step}
+use Rattle.bt_lines.proofs.lemmas.reader.lines.StepLemmas.{last_closed, last_going, last_of_none, quiet_going, spaced, spaced_fault, spaced_last, line_step, last_step, end_step, failed_step, long_step, refused_step}
 use Rattle.bt_lines.proofs.lemmas.reader.block.ReadsLemmas.{some_is, tells_unread, unread_by}
 use Rattle.bt_lines.proofs.reader.line_reader.LineReader.read_more.Goals as goal
 

@@ -1,5 +1,5 @@
 use Rattle.bt_lines.proofs.Std.{length, length-append, ap, arith}
-use Rattle.bt_lines.proofs.lemmas.writer.OutputLemmas.{front_held, holds_held}
+use Rattle.bt_lines.proofs.lemmas.Writer.{front_held, holds_held}
 use Rattle.bt_lines.proofs.writer.output.Out.put.Goals as goal
 
 pub returns-then-self-clause-front : goal.returns-then-self-clause-front

@@ -1,7 +1,6 @@
 use Rattle.bt_lines.proofs.Std.{arith, length-append}
-use Rattle.bt_lines.proofs.lemmas.writer.PuttingLemmas.{puts_held}
-use Rattle.bt_lines.proofs.lemmas.writer.SpanLemmas.{span_short}
-use Rattle.bt_lines.specs.calls.Putting.{span_text}
+use Rattle.bt_lines.proofs.lemmas.Writer.{puts_held, span_short}
+use Rattle.bt_lines.specs.calls.Output.{span_text}
 use Rattle.bt_lines.proofs.writer.output.Out.try_put_interval.Goals as goal
 
 pub returns-clause-held : goal.returns-clause-held

@@ -1,5 +1,5 @@
 use Rattle.bt_lines.proofs.Std.{arith, length-append}
-use Rattle.bt_lines.proofs.lemmas.writer.PuttingLemmas.{puts_held}
+use Rattle.bt_lines.proofs.lemmas.Writer.{puts_held}
 use Rattle.bt_lines.proofs.writer.output.Out.try_put_pair.Goals as goal
 
 pub returns-clause-held : goal.returns-clause-held

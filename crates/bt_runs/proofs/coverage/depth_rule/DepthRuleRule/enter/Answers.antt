@@ -1,10 +1,10 @@
 use Rattle.bt_lines.proofs.Std.{[], ◌≡◌, ◌∙◌, false, true, arith, refl, sym, err_from_is_err_and}
 use Rattle.bt_bed.specs.calls.GenomeTable.{entries}
-use Rattle.bt_runs.specs.inside.coverage.Kept.{seen}
+use Rattle.bt_runs.specs.inside.Coverage.{seen}
 use Rattle.bt_runs.specs.calls.Covering.{Covering}
-use Rattle.bt_runs.specs.inside.walk.Walk.{is_on}
+use Rattle.bt_runs.specs.inside.Walk.{is_on}
 use Rattle.bt_runs.proofs.lemmas.coverage.DepthSteps.{enters_failing, enters_moved, enters_there, is_there}
-use Rattle.bt_runs.proofs.lemmas.order.GenomeRanks.{found_at, length_read, name_read}
+use Rattle.bt_runs.proofs.lemmas.order.ByChromosome.{found_at, length_read, name_read}
 use Rattle.bt_runs.proofs.coverage.depth_rule.DepthRuleRule.enter.Goals as goal
 use Rattle.bt_runs.proofs.coverage.depth_rule.DepthRuleRule.enter.Goals.{in-Some+else-is_same_name, in_default}
 

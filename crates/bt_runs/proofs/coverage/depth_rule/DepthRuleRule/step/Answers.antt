@@ -1,11 +1,10 @@
 use Rattle.bt_lines.proofs.Std.{Err, subst, sym}
 use Rattle.bt_bed.specs.calls.GenomeTable.{entries}
 use Rattle.bt_bed.specs.declared.parse.bounds.Bounds.{Bounds}
-use Rattle.bt_runs.specs.inside.coverage.Kept.{seen}
+use Rattle.bt_runs.specs.inside.Coverage.{seen}
 use Rattle.bt_runs.specs.calls.Covering.{CountsRecord, Covering, IsOnChrom, next_lines, wants_memory, with_chrom}
-use Rattle.bt_runs.specs.inside.walk.Rule.{Does}
-use Rattle.bt_runs.proofs.lemmas.coverage.DepthCounts.{step_err}
-use Rattle.bt_runs.proofs.lemmas.coverage.DepthSteps.{fits}
+use Rattle.bt_runs.specs.inside.Walk.{Does}
+use Rattle.bt_runs.proofs.lemmas.coverage.DepthSteps.{step_err, fits}
 use Rattle.bt_runs.proofs.coverage.depth_rule.DepthRuleRule.step.Goals as goal
 
 pub returns-then-not-on-clause-fits : goal.returns-then-not-on-clause-fits

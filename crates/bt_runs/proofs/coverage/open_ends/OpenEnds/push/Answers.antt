@@ -1,5 +1,5 @@
 use Rattle.bt_lines.proofs.Std.{heap_items, ◌∷◌}
-use Rattle.bt_runs.specs.inside.coverage.Kept.{ends_of}
+use Rattle.bt_runs.specs.inside.Coverage.{ends_of}
 use Rattle.bt_runs.proofs.lemmas.coverage.OpenLemmas.{ends_permuted, same_count}
 use Rattle.bt_runs.proofs.coverage.open_ends.OpenEnds.push.Goals as goal
 

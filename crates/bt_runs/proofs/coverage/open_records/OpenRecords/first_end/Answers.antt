@@ -1,5 +1,4 @@
-use Rattle.bt_runs.specs.inside.coverage.DepthStep.{still_open}
-use Rattle.bt_runs.specs.inside.coverage.Kept.{spans_open}
+use Rattle.bt_runs.specs.inside.Coverage.{still_open, spans_open}
 use Rattle.bt_runs.proofs.lemmas.coverage.OpenLemmas.{all_open, ends_left, left_ends}
 use Rattle.bt_runs.proofs.coverage.open_records.OpenRecords.first_end.Goals as goal
 

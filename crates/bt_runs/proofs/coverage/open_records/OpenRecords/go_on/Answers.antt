@@ -1,5 +1,5 @@
 use Rattle.bt_lines.proofs.Std.{◌≤◌, arith}
-use Rattle.bt_runs.specs.inside.coverage.Kept.{spans_open}
+use Rattle.bt_runs.specs.inside.Coverage.{spans_open}
 use Rattle.bt_runs.proofs.lemmas.coverage.OpenLemmas.{keeps_later}
 use Rattle.bt_runs.proofs.coverage.open_records.OpenRecords.go_on.Goals as goal
 

@@ -1,6 +1,6 @@
 use Rattle.bt_lines.proofs.Std.{◌≡◌, ap, sym, ◌∙◌, Some}
 use Rattle.bt_lines.specs.calls.Names.{fault_value}
-use Rattle.bt_runs.proofs.lemmas.engine.RuledLemmas.{batch_fed}
+use Rattle.bt_runs.proofs.lemmas.Engine.{batch_fed}
 use Rattle.bt_runs.proofs.engine.rule.Ruled.feed_batch.Goals as goal
 
 pub returns-in-Err : goal.returns-in-Err

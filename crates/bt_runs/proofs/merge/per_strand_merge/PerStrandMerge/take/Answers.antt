@@ -1,12 +1,10 @@
 use Rattle.bt_lines.proofs.Std.{Bool, ◌≡◌, ◌<◌, ◌∙◌, Ok, Err, Result, true, false, refl, rules, ◌∷◌, [], ◌-◌, ap, subst, cond-false, cond-true}
 use Rattle.bt_lines.specs.calls.Names.{fault_value}
-use Rattle.bt_lines.specs.calls.Putting.{FailsToPut}
+use Rattle.bt_lines.specs.calls.Output.{FailsToPut}
 use Rattle.bt_lines.specs.declared.fault.Fault.{Fault}
-use Rattle.bt_bed.proofs.lemmas.order.ResultLemmas.{passed_on}
-use Rattle.bt_bed.specs.model.feature.IntervalLine.{interval_line}
-use Rattle.bt_runs.specs.inside.merge.StrandTaking.{kept_in}
-use Rattle.bt_runs.specs.inside.merge.StrandStep.{placed_run, placed_runs}
-use Rattle.bt_runs.specs.inside.merge.StrandTaking.{JoinsAmong}
+use Rattle.bt_bed.proofs.lemmas.order.TableLemmas.{passed_on}
+use Rattle.bt_bed.specs.model.Feature.{interval_line}
+use Rattle.bt_runs.specs.inside.merge.StrandStep.{kept_in, placed_run, placed_runs, JoinsAmong}
 use Rattle.bt_runs.specs.calls.Stranding.{Stranding}
 use Rattle.bt_runs.specs.declared.engine.failure.Failure.{Failure}
 use Rattle.bt_runs.specs.declared.merge.per_strand_merge.OnlyRun.{OnlyRun}

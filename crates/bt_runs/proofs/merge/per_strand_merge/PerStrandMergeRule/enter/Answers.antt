@@ -1,10 +1,9 @@
 use Rattle.bt_lines.proofs.Std.{◌≡◌, ap, bytes_eq, false, sym, ◌∙◌, Result}
 use Rattle.bt_lines.specs.declared.fault.Fault.{Fault}
-use Rattle.bt_bed.proofs.lemmas.order.ResultLemmas.{passed_on}
-use Rattle.bt_runs.specs.inside.merge.StrandTaking.{kept_in}
-use Rattle.bt_runs.specs.inside.merge.StrandStep.{placed_runs}
+use Rattle.bt_bed.proofs.lemmas.order.TableLemmas.{passed_on}
+use Rattle.bt_runs.specs.inside.merge.StrandStep.{kept_in, placed_runs}
 use Rattle.bt_runs.specs.calls.Stranding.{Stranding}
-use Rattle.bt_runs.proofs.lemmas.engine.EnterLemmas.{stays_on}
+use Rattle.bt_runs.proofs.lemmas.Engine.{stays_on}
 use Rattle.bt_runs.proofs.lemmas.merge.PerStrandLemmas.{Enters, enter_fails, enter_runs_out, entered, fits, holding, kept_nowhere, kept_placed, pending_in}
 use Rattle.bt_runs.proofs.merge.per_strand_merge.PerStrandMergeRule.enter.Goals as goal
 use Rattle.bt_runs.proofs.merge.per_strand_merge.PerStrandMergeRule.enter.Goals.{in-Ok, in-Err}

@@ -1,4 +1,4 @@
-use Rattle.bt_runs.specs.inside.merge.StrandTaking.{with_on}
+use Rattle.bt_runs.specs.inside.merge.StrandStep.{with_on}
 use Rattle.bt_runs.proofs.lemmas.merge.PerStrandLemmas.{fits}
 use Rattle.bt_runs.proofs.merge.per_strand_merge.PerStrandMergeRule.step.Goals as goal
 

@@ -1,6 +1,6 @@
 use Rattle.bt_lines.proofs.Std.{rules, ◌≡◌, false, bytes_eq}
 use Rattle.bt_bed.proofs.lemmas.parse.NameLemmas.{other_name}
-use Rattle.bt_runs.proofs.lemmas.engine.EnterLemmas.{stays_on}
+use Rattle.bt_runs.proofs.lemmas.Engine.{stays_on}
 use Rattle.bt_runs.proofs.lemmas.merge.UnstrandedLemmas.{enters_failing, enters_other, enters_unnamed, fits}
 use Rattle.bt_runs.proofs.merge.unstranded_merge.UnstrandedMergeRule.enter.Goals as goal
 

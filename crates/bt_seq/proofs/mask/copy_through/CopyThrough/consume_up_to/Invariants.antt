@@ -1,7 +1,7 @@
 use Rattle.bt_lines.proofs.Std.{◌≡◌, List, length, false}
-use Rattle.bt_lines.specs.calls.Buffered.{lines_in}
+use Rattle.bt_lines.specs.calls.Reader.{lines_in}
 use Rattle.bt_lines.specs.model.Lines.{TextLine}
-use Rattle.bt_seq.specs.inside.CopyThrough.{CopiesLines}
+use Rattle.bt_seq.specs.inside.Masking.{CopiesLines}
 use Rattle.bt_seq.proofs.mask.copy_through.CopyThrough.consume_up_to.Given as goal
 
 -- lines were consumed, one after another

@@ -2,8 +2,8 @@ use Rattle.bt_lines.proofs.Std.{◌≡◌, ◌∙◌, if◌then◌else◌, slice
 use Rattle.bt_seq.proofs.lemmas.mask.steps.CopyLemmas.{bounds_are, copied_through, some_bytes}
 use Rattle.bt_seq.proofs.lemmas.mask.bases.MaskingLemmas.{none_held}
 use Rattle.bt_seq.proofs.mask.mask_state.MaskState.copy_through.Goals as goal
-use Rattle.bt_seq.specs.inside.CopyThrough.{CopiesThrough}
-use Rattle.bt_seq.specs.calls.MaskState.{Masking}
+use Rattle.bt_seq.specs.inside.Masking.{CopiesThrough}
+use Rattle.bt_seq.specs.calls.MaskStage.{Masking}
 use Rattle.bt_seq.specs.inside.Window.{limit}
 use Rattle.bt_seq.specs.contracts.mask.mask_state.MaskState.{the_view}
 

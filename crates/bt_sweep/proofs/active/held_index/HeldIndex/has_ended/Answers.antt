@@ -1,5 +1,5 @@
 use Rattle.bt_sweep.specs.calls.HeldList.{records_in}
-use Rattle.bt_sweep.proofs.lemmas.active.EndLemmas.{none_ended}
+use Rattle.bt_sweep.proofs.lemmas.Active.{none_ended}
 use Rattle.bt_sweep.proofs.active.held_index.HeldIndex.has_ended.Goals as goal
 
 pub returns : goal.returns

@@ -1,7 +1,7 @@
 use Rattle.bt_lines.proofs.Std.{None, ap, cond, nat_lt, sym, ◌∙◌}
-use Rattle.bt_sweep.specs.inside.Ends.{ending_at, if_some}
+use Rattle.bt_sweep.specs.inside.Held.{ending_at, if_some}
 use Rattle.bt_sweep.specs.calls.HeldList.{records_in}
-use Rattle.bt_sweep.proofs.lemmas.active.EndLemmas.{kept_ends}
+use Rattle.bt_sweep.proofs.lemmas.Active.{kept_ends}
 use Rattle.bt_sweep.proofs.active.held_index.HeldIndex.remove_ended.Goals as goal
 
 pub invariant_of-self : goal.invariant_of-self

@@ -1,5 +1,5 @@
 use Rattle.bt_lines.proofs.Std.{sym, ◌∙◌}
-use Rattle.bt_sweep.proofs.lemmas.active.HeldListLemmas.{none_dropped}
+use Rattle.bt_sweep.proofs.lemmas.Active.{none_dropped}
 use Rattle.bt_sweep.proofs.active.held_list.HeldList.may_have_ended.Goals as goal
 
 pub returns-else-not-self : goal.returns-else-not-self

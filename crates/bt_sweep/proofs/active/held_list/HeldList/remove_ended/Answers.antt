@@ -1,6 +1,6 @@
 use Rattle.bt_lines.proofs.Std.{nat_lt, rules, ◌∙◌, filter_same}
-use Rattle.bt_bed.specs.model.feature.Feature.{Feature}
-use Rattle.bt_sweep.proofs.lemmas.active.HeldListLemmas.{bases_on, dropped, rises_on}
+use Rattle.bt_bed.specs.model.Feature.{Feature}
+use Rattle.bt_sweep.proofs.lemmas.Active.{bases_on, dropped, rises_on}
 use Rattle.bt_sweep.proofs.active.held_list.HeldList.remove_ended.Goals as goal
 
 pub returns-then-not-self : goal.returns-then-not-self

@@ -1,6 +1,6 @@
 use Rattle.bt_lines.proofs.Std.{ap, arith, deque_len, leb-true, ◌≤◌}
-use Rattle.bt_bed.specs.model.feature.Feature.{Feature}
-use Rattle.bt_sweep.proofs.lemmas.active.HeldListLemmas.{rises_push}
+use Rattle.bt_bed.specs.model.Feature.{Feature}
+use Rattle.bt_sweep.proofs.lemmas.Active.{rises_push}
 use Rattle.bt_sweep.proofs.active.held_list.HeldList.rises_to.Goals as goal
 
 pub returns-then-self : goal.returns-then-self

@@ -1,8 +1,8 @@
 use Rattle.bt_lines.proofs.Std.{ℕ, List, ap, filter, subst, sym, ◌∙◌, All, nat_lt}
-use Rattle.bt_bed.specs.model.feature.Feature.{Feature}
+use Rattle.bt_bed.specs.model.Feature.{Feature}
 use Rattle.bt_sweep.specs.calls.Held.{CanHit}
-use Rattle.bt_sweep.specs.inside.StateSteps.{are_on}
-use Rattle.bt_sweep.proofs.lemmas.sweep.StateLemmas.{hits_kept}
+use Rattle.bt_sweep.specs.inside.Joining.{are_on}
+use Rattle.bt_sweep.proofs.lemmas.sweep.KeepLemmas.{hits_kept}
 use Rattle.bt_sweep.proofs.sweep.state.State.enter.Goals as goal
 
 pub returns-then-are_on-clause-hits : goal.returns-then-are_on-clause-hits

@@ -1,7 +1,7 @@
 use Rattle.bt_lines.proofs.Std.{List, ℕ, [], subst, err_from_is_err_and}
 use Rattle.bt_lines.specs.calls.Names.{fault_value}
-use Rattle.bt_lines.specs.calls.Putting.{FailsToAdd, Grown}
-use Rattle.bt_sweep.specs.inside.Pending.{pending_in}
+use Rattle.bt_lines.specs.calls.Output.{FailsToAdd, Grown}
+use Rattle.bt_sweep.specs.inside.Joining.{pending_in}
 use Rattle.bt_sweep.proofs.lemmas.sweep.JoinLemmas.{joins_cut, joins_rest}
 use Rattle.bt_sweep.proofs.sweep.state.State.join.Goals as goal
 

@@ -1,11 +1,8 @@
 use Rattle.bt_lines.proofs.Std.{[], ◌<◌, ◌∷◌, Some, None, ℕ, ap, inl, inr, refl, subst, ◌∙◌, err_from_is_err_and}
 use Rattle.bt_lines.specs.calls.Names.{fault_value}
-use Rattle.bt_bed.specs.model.order.Order.{IsTotal}
-use Rattle.bt_sweep.specs.inside.Joining.{AreDecidedOn}
-use Rattle.bt_sweep.specs.inside.Pending.{pending_in}
-use Rattle.bt_sweep.specs.inside.StateSteps.{NeedsHit, has_room_in}
-use Rattle.bt_sweep.specs.calls.Taking.{CannotHold}
-use Rattle.bt_sweep.specs.calls.SweepState.{Sweeping}
+use Rattle.bt_bed.specs.model.Order.{IsTotal}
+use Rattle.bt_sweep.specs.inside.Joining.{AreDecidedOn, pending_in, NeedsHit, has_room_in}
+use Rattle.bt_sweep.specs.calls.Sweeping.{CannotHold, Sweeping}
 use Rattle.bt_sweep.proofs.lemmas.sweep.JoinLemmas.{breaks_take, breaks_write, joins_first, joins_past, joins_take, joins_write, leaves_none}
 use Rattle.bt_sweep.proofs.sweep.state.State.join_pending.Goals.{else-stop-start-via-then-stop-start+in_ok-write_up_to+else-not-branch, else-stop-start-via-else-stop-start}
 use Rattle.bt_sweep.proofs.sweep.state.State.join_pending.Goals as goal

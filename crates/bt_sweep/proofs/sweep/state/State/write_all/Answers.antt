@@ -1,10 +1,10 @@
 use Rattle.bt_lines.proofs.Std.{List, ℕ, [], option_map, subst, err_from_is_err_and}
 use Rattle.std.specs.Bool.{then_some}
 use Rattle.bt_lines.specs.calls.Names.{fault_value}
-use Rattle.bt_lines.specs.model.Number.{max_number}
-use Rattle.bt_lines.specs.calls.Putting.{FailsToAdd, Grown}
-use Rattle.bt_sweep.specs.inside.Pending.{pending_in}
-use Rattle.bt_sweep.proofs.lemmas.sweep.WriteLemmas.{cuts_rest, writes_rest}
+use Rattle.bt_lines.specs.model.Lines.{max_number}
+use Rattle.bt_lines.specs.calls.Output.{FailsToAdd, Grown}
+use Rattle.bt_sweep.specs.inside.Joining.{pending_in}
+use Rattle.bt_sweep.proofs.lemmas.sweep.KeepLemmas.{cuts_rest, writes_rest}
 use Rattle.bt_sweep.proofs.sweep.state.State.write_all.Goals as goal
 
 pub returns-in_err-put_pending-clause-writes : goal.returns-in_err-put_pending-clause-writes

@@ -1,9 +1,9 @@
 use Rattle.bt_lines.proofs.Std.{◌≤◌, ◌∷◌, ◌++◌, ℕ, List, [], ap, filter, subst, ◌∙◌, nat_lt, err_from_is_err_and}
 use Rattle.bt_lines.specs.calls.Names.{fault_value}
-use Rattle.bt_bed.specs.model.feature.Feature.{Feature}
-use Rattle.bt_sweep.specs.inside.Pending.{pending_in}
-use Rattle.bt_sweep.specs.calls.SweepState.{Sweeping}
-use Rattle.bt_sweep.proofs.lemmas.sweep.WriteLemmas.{cuts_off, writes_last, writes_more}
+use Rattle.bt_bed.specs.model.Feature.{Feature}
+use Rattle.bt_sweep.specs.inside.Joining.{pending_in}
+use Rattle.bt_sweep.specs.calls.Sweeping.{Sweeping}
+use Rattle.bt_sweep.proofs.lemmas.sweep.KeepLemmas.{cuts_off, writes_last, writes_more}
 use Rattle.bt_sweep.proofs.sweep.state.State.write_up_to.Goals as goal
 
 pub returns-in_err-write-clause-writes : goal.returns-in_err-write-clause-writes

@@ -1,6 +1,5 @@
 use Rattle.bt_lines.proofs.Std.{◌≡◌, Some, None}
-use Rattle.bt_sweep.specs.inside.Joining.{WritesSo}
-use Rattle.bt_sweep.specs.inside.Pending.{IsQuiet, line_in, pending_in}
+use Rattle.bt_sweep.specs.inside.Joining.{WritesSo, IsQuiet, line_in, pending_in}
 use Rattle.bt_sweep.proofs.sweep.state.State.write_up_to.Given as goal
 
 abbrev pub invariant-loop-self : goal.invariant-loop-self

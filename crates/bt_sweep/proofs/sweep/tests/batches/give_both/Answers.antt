@@ -1,6 +1,6 @@
 use Rattle.bt_lines.proofs.Std.{◌∙◌}
-use Rattle.bt_sweep.specs.calls.SweepView.{order_of}
-use Rattle.bt_sweep.proofs.lemmas.sweep.KnownLemmas.{known_later}
+use Rattle.bt_sweep.specs.calls.Sweeping.{order_of}
+use Rattle.bt_sweep.proofs.lemmas.sweep.KeepLemmas.{known_later}
 use Rattle.bt_sweep.proofs.sweep.tests.batches.give_both.Goals as goal
 
 pub advance-requires-2-clause-known_a : goal.advance-requires-2-clause-known_a

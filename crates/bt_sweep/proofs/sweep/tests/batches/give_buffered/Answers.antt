@@ -1,6 +1,6 @@
 use Rattle.bt_lines.proofs.Std.{sym, ◌∙◌}
-use Rattle.bt_sweep.specs.calls.SweepView.{order_of}
-use Rattle.bt_sweep.proofs.lemmas.sweep.KnownLemmas.{known_batch}
+use Rattle.bt_sweep.specs.calls.Sweeping.{order_of}
+use Rattle.bt_sweep.proofs.lemmas.sweep.KeepLemmas.{known_batch}
 use Rattle.bt_sweep.proofs.sweep.tests.batches.give_buffered.Goals as goal
 
 pub give_both-requires-clause-known_a : goal.give_both-requires-clause-known_a

@@ -1,5 +1,5 @@
 use Rattle.bt_lines.proofs.Std.{sym, ◌∙◌}
-use Rattle.bt_sweep.proofs.lemmas.sweep.KnownLemmas.{known_single}
+use Rattle.bt_sweep.proofs.lemmas.sweep.KeepLemmas.{known_single}
 use Rattle.bt_sweep.proofs.sweep.tests.batches.single_of.Goals as goal
 
 pub returns : goal.returns

@@ -2,7 +2,7 @@ use Rattle.bt_lines.proofs.Std.{sym, ◌∙◌}
 use Rattle.bt_lines.proofs.lemmas.reader.lines.BufferedLemmas.{begins_lines}
 use Rattle.bt_lines.proofs.lemmas.reader.block.ReadsLemmas.{counts_none}
 use Rattle.bt_lines.specs.calls.Reader.{bytes_taken, source_of}
-use Rattle.bt_bed.proofs.lemmas.read.good.TokenLemmas.{token_is}
+use Rattle.bt_bed.proofs.lemmas.read.good.SaidRuns.{token_is}
 use Rattle.bt_bed.specs.calls.Blocks.{count_in, view_of}
 use Rattle.bt_tool.proofs.lemmas.running.members.BlockMembers.{blocks_given, blocks_taken, lent_are, lent_at, none_over}
 use Rattle.bt_tool.proofs.lemmas.running.members.CursorLemmas.{lines_consumed, lines_numbered}

@@ -1,7 +1,7 @@
 use Rattle.bt_lines.proofs.Std.{◌≡◌, ◌+◌, Some, None, subst, ap, sym, ◌∙◌, cond, bytes_eq, option_map, option_or}
-use Rattle.bt_tool.specs.calls.words.Lent.{item_lent, table_lent}
-use Rattle.bt_tool.specs.calls.words.Plan.{words_seen}
-use Rattle.bt_tool.proofs.lemmas.options.Reading.{Reads, reads-item, reads-end, words-end}
+use Rattle.bt_tool.specs.calls.Lent.{item_lent, table_lent}
+use Rattle.bt_tool.specs.calls.Plan.{words_seen}
+use Rattle.bt_tool.proofs.lemmas.Options.{Reads, reads-item, reads-end, words-end}
 use Rattle.bt_tool.proofs.options.given.Given.last.Goals as goal
 use Rattle.bt_tool.proofs.options.given.Given.last.Goals.{then-eq, else-eq}
 

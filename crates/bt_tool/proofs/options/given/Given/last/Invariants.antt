@@ -1,7 +1,7 @@
 use Rattle.bt_lines.proofs.Std.{length, ◌-◌, option_map}
-use Rattle.bt_tool.proofs.lemmas.options.Reading.{Reads}
-use Rattle.bt_tool.specs.calls.words.Lent.{item_lent, table_lent}
-use Rattle.bt_tool.specs.calls.words.Plan.{words_seen}
+use Rattle.bt_tool.proofs.lemmas.Options.{Reads}
+use Rattle.bt_tool.specs.calls.Lent.{item_lent, table_lent}
+use Rattle.bt_tool.specs.calls.Plan.{words_seen}
 use Rattle.bt_tool.proofs.options.given.Given.last.Given as goal
 
 abbrev pub invariant-loop-at : goal.invariant-loop-at

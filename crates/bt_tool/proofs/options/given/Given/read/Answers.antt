@@ -1,7 +1,7 @@
-use Rattle.bt_tool.specs.calls.words.Lent.{item_lent, table_lent}
-use Rattle.bt_tool.specs.calls.words.Plan.{words_seen}
+use Rattle.bt_tool.specs.calls.Lent.{item_lent, table_lent}
+use Rattle.bt_tool.specs.calls.Plan.{words_seen}
 use Rattle.bt_lines.proofs.Std.{◌+◌, subst, sym}
-use Rattle.bt_tool.proofs.lemmas.options.Reading.{HasReadWords, reads-on-item, reads-on-end, words-end}
+use Rattle.bt_tool.proofs.lemmas.Options.{HasReadWords, reads-on-item, reads-on-end, words-end}
 use Rattle.bt_tool.proofs.options.given.Given.read.Goals as goal
 
 pub loop-at-preserved : goal.loop-at-preserved

@@ -1,7 +1,7 @@
 use Rattle.bt_lines.proofs.Std.{length, ◌-◌}
-use Rattle.bt_tool.proofs.lemmas.options.Reading.{HasReadWords}
-use Rattle.bt_tool.specs.calls.words.Plan.{words_seen}
-use Rattle.bt_tool.specs.calls.words.Lent.{table_lent}
+use Rattle.bt_tool.proofs.lemmas.Options.{HasReadWords}
+use Rattle.bt_tool.specs.calls.Plan.{words_seen}
+use Rattle.bt_tool.specs.calls.Lent.{table_lent}
 use Rattle.bt_tool.proofs.options.given.Given.read.Given as goal
 
 abbrev pub invariant-loop-at : goal.invariant-loop-at

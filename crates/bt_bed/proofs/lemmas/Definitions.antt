@@ -1,0 +1,332 @@
+-- Lemmas on the definitions of a good input, and on lists of spans.
+use Rattle.bt_lines.proofs.Std.{◌≡◌, ℕ, ◌<◌, Bool, true, false, cond, List, [], ◌∷◌, Option, Some, None, Result, Ok, Err, refl, arith, IsTrue, IfSome, All-nil, All-cons, subst, bytes_eq, nat_lt, bytes_decides, nat_tests, ◌&&◌, ◌++◌, sym, ap, ◌∙◌, append_assoc, flat_map, if◌then◌else◌, list_all, and_parts, and_left, and_right, list_all-append, option_or, zero, suc, ◌+◌, ◌≤◌, ◌⊎◌, inl, inr, cases_Bool, cases_eq, cond-true, cond-false, ap₂, cases_lt}
+use Rattle.bt_lines.specs.model.Lines.{lines_handed, TextLine}
+use Rattle.bt_lines.specs.declared.fault.Input.{Input}
+use Rattle.bt_lines.specs.declared.fault.Kind.{Kind}
+use Rattle.bt_lines.specs.declared.fault.Kind.TheVariants.{UnknownChrom, OutOfOrder}
+use Rattle.bt_bed.specs.model.Feature.{Feature, interval_of, intervals_of, AreNonEmpty, record_of, Span, IsCovered, AreApartFrom, with_position, stretches_from, scan_finds_stretches, AreStretchesOf}
+use Rattle.bt_bed.specs.model.Good.{good, Good, good_from, good_with, items_in, bed_format, good_are_placed, good_are_non_empty, line_says, said_after, locus_at, AreInBlocks, IsBlockUpTo, block_format, good_are_in_blocks, Rule, Met, join_report, written}
+use Rattle.bt_bed.specs.model.Order.{Order, IsTotal}
+use Rattle.bt_bed.specs.model.Sorted.{Locus, IsUpTo, ArePlaced, IsPlacedBefore, Sorting, falls_in, sorting_of, block_sorting}
+use Rattle.bt_bed.proofs.lemmas.read.good.SaidLemmas.{said_features}
+use Rattle.bt_bed.proofs.lemmas.order.OrderLemmas.{sorted_up_to}
+
+-- Lemmas on the good records of a BED input.
+
+-- a record that a line says after the last place: its chromosome is known, and its place doesn't fall
+pub record Said (sorting : Sorting) (last : Option Locus) (text : List ℕ) (r : Feature) : Type 0 where
+  pub known : IsTrue (sorting.knows r.chrom)
+  pub stays : falls_in sorting last (locus_at r) ≡ false
+  pub says : record_of text ≡ Ok (Some r)
+
+chosen : (knows falls : Bool) (r s : Feature) → cond knows (cond falls (Err OutOfOrder) (Ok (Some r))) (Err UnknownChrom) ≡ Ok (Some s) → (knows ≡ true) × (falls ≡ false) × (r ≡ s)
+chosen knows falls r s e = grind arith
+
+said_by_record : (sorting : Sorting) (last : Option Locus) (text : List ℕ) (said : Result (Option Feature) Kind) (r : Feature) → record_of text ≡ said → said_after sorting last said ≡ Ok (Some r) → Said sorting last text r
+said_by_record sorting last text said r was e = grind arith
+
+pub line_said : (sorting : Sorting) (last : Option Locus) (text : List ℕ) (r : Feature) → line_says sorting last text ≡ Ok (Some r) → Said sorting last text r
+unfolding line_says
+line_said sorting last text r e = said_by_record sorting last text (record_of text) r refl e
+
+-- the records come after the last place
+abbrev Follow : Order → Option Locus → List Feature → Type 0
+Follow order None rs = Unit {0}
+Follow order (Some last) [] = Unit {0}
+Follow order (Some last) (r ∷ rs) = IsUpTo order last (locus_at r)
+
+-- the records are in order, and after the last place
+record Placed (order : Order) (last : Option Locus) (rs : List Feature) : Type 0 where
+  placed : ArePlaced order (intervals_of rs)
+  behind : Follow order last rs
+
+abbrev IsKnownLocus : Order → Option Locus → Type 0
+IsKnownLocus order last = IfSome last (λ place. IsTrue (order.knows place.chrom))
+
+follow_nil : (order : Order) (last : Option Locus) → Follow order last []
+follow_nil order last = grind arith
+
+follow_up_to : (order : Order) (last : Option Locus) (r : Feature) (rs : List Feature) → IfSome last (λ l. IsUpTo order l (locus_at r)) → Follow order last (r ∷ rs)
+follow_up_to order last r rs up = grind arith
+
+before_rest : (order : Order) (r : Feature) (rs : List Feature) → Follow order (Some (locus_at r)) rs → IsPlacedBefore order (interval_of r) (intervals_of rs)
+before_rest order r rs f = grind arith
+
+placed_with : (input : Input) (order : Order) (last : Option Locus) (line : TextLine) (rest : Option Locus → Good Feature) → IsTotal order → IsKnownLocus order last
+    → ((now : Option Locus) → IsKnownLocus order now → Placed order now (items_in (rest now)))
+    → (said : Result (Option Feature) Kind) → line_says (sorting_of order) last line.text ≡ said → Placed order last (items_in (good_with (bed_format (sorting_of order)) input line.number last said rest))
+placed_with input order last line rest total was h (Err kind) e = record { placed = tt; behind = follow_nil order last }
+placed_with input order last line rest total was h (Ok None) e = h last was
+placed_with input order last line rest total was h (Ok (Some r)) e =
+    let said = line_said (sorting_of order) last line.text r e in
+    let more = h (Some (locus_at r)) said.known in
+    record {
+      placed = (said.known, before_rest order r (items_in (rest (Some (locus_at r)))) more.behind, more.placed);
+      behind = follow_up_to order last r (items_in (rest (Some (locus_at r)))) (sorted_up_to order last (locus_at r) total was said.known said.stays);
+    }
+
+placed_from : (input : Input) (order : Order) (last : Option Locus) (lines : List TextLine) → IsTotal order → IsKnownLocus order last → Placed order last (items_in (good_from (bed_format (sorting_of order)) input last lines))
+unfolding good_from
+placed_from input order last [] total was = record { placed = tt; behind = follow_nil order last }
+placed_from input order last (line ∷ lines) total was =
+    placed_with input order last line (λ now. good_from (bed_format (sorting_of order)) input now lines) total was (λ now is. placed_from input order now lines total is) (line_says (sorting_of order) last line.text) refl
+
+-- the good records of any lines are in order
+pub placed_lines : (input : Input) (order : Order) (lines : List TextLine) → IsTotal order → ArePlaced order (intervals_of (items_in (good (bed_format (sorting_of order)) input lines)))
+placed_lines input order lines total = (placed_from input order None lines total tt).placed
+
+-- the good records are in order
+pub placed_good : good_are_placed
+placed_good input order handed total = (placed_from input order None (lines_handed handed) total tt).placed
+
+non_empty_with : (input : Input) (sorting : Sorting) (last : Option Locus) (line : TextLine) (rest : Option Locus → Good Feature) → ((now : Option Locus) → AreNonEmpty (intervals_of (items_in (rest now))))
+    → (said : Result (Option Feature) Kind) → line_says sorting last line.text ≡ said → AreNonEmpty (intervals_of (items_in (good_with (bed_format sorting) input line.number last said rest)))
+non_empty_with input sorting last line rest h (Err kind) e = All-nil (λ r. r.start < r.stop)
+non_empty_with input sorting last line rest h (Ok None) e = h last
+non_empty_with input sorting last line rest h (Ok (Some r)) e =
+    All-cons (λ r. r.start < r.stop) (interval_of r) (intervals_of (items_in (rest (Some (locus_at r))))) (said_features line.text r (line_said sorting last line.text r e).says).non_empty (h (Some (locus_at r)))
+
+pub non_empty_from : (input : Input) (sorting : Sorting) (last : Option Locus) (lines : List TextLine) → AreNonEmpty (intervals_of (items_in (good_from (bed_format sorting) input last lines)))
+unfolding good_from
+non_empty_from input sorting last [] = All-nil (λ r. r.start < r.stop)
+non_empty_from input sorting last (line ∷ lines) =
+    non_empty_with input sorting last line (λ now. good_from (bed_format sorting) input now lines) (λ now. non_empty_from input sorting now lines) (line_says sorting last line.text) refl
+
+-- the good records have positions
+pub non_empty_good : good_are_non_empty
+non_empty_good input order handed = non_empty_from input (sorting_of order) None (lines_handed handed)
+
+-- Lemmas on the good records of a BED input in blocks.
+
+-- a place that doesn't fall below the last one doesn't start before it on its chromosome
+pub block_up_to : (last : Option Locus) (place : Locus) → falls_in block_sorting last place ≡ false → IfSome last (λ l. IsBlockUpTo l place)
+block_up_to None place stays = tt
+block_up_to (Some last) place stays = λ one.
+    let same : bytes_eq last.chrom place.chrom ≡ true = (bytes_decides last.chrom place.chrom).1 one in
+    let not_below : nat_lt place.start last.start ≡ false = subst (λ b. cond b (nat_lt place.start last.start) false ≡ false) same stays in
+    grind (arith, nat_tests)
+
+-- the records come after the last place
+abbrev FollowInBlocks : Option Locus → List Feature → Type 0
+FollowInBlocks last [] = Unit {0}
+FollowInBlocks last (r ∷ rs) = IfSome last (λ l. IsBlockUpTo l (locus_at r))
+
+record Blocked (last : Option Locus) (rs : List Feature) : Type 0 where
+  blocks : AreInBlocks rs
+  behind : FollowInBlocks last rs
+
+more_blocks : (r : Feature) (rs : List Feature) → Blocked (Some (locus_at r)) rs → AreInBlocks (r ∷ rs)
+more_blocks r rs b = grind arith
+
+blocked_with : (input : Input) (last : Option Locus) (line : TextLine) (rest : Option Locus → Good Feature) → ((now : Option Locus) → Blocked now (items_in (rest now)))
+    → (said : Result (Option Feature) Kind) → line_says block_sorting last line.text ≡ said → Blocked last (items_in (good_with block_format input line.number last said rest))
+blocked_with input last line rest h (Err kind) e = record { blocks = tt; behind = tt }
+blocked_with input last line rest h (Ok None) e = h last
+blocked_with input last line rest h (Ok (Some r)) e = record {
+  blocks = more_blocks r (items_in (rest (Some (locus_at r)))) (h (Some (locus_at r)));
+  behind = block_up_to last (locus_at r) (line_said block_sorting last line.text r e).stays;
+}
+
+blocked_from : (input : Input) (last : Option Locus) (lines : List TextLine) → Blocked last (items_in (good_from block_format input last lines))
+unfolding good_from
+blocked_from input last [] = record { blocks = tt; behind = tt }
+blocked_from input last (line ∷ lines) =
+    blocked_with input last line (λ now. good_from block_format input now lines) (λ now. blocked_from input now lines) (line_says block_sorting last line.text) refl
+
+pub good_in_blocks : good_are_in_blocks
+good_in_blocks input handed = (blocked_from input None (lines_handed handed)).blocks
+
+-- Lemmas on the meeting of two inputs.
+
+met_either : {L F : Type 0} (b : Bool) (x y : Met L F) (lines : List L) → (b ≡ true → x.lines ≡ lines) → y.lines ≡ lines → (if b then x else y).lines ≡ lines
+met_either b x y lines first second = grind arith
+
+fault_yes : {L F : Type 0} (b : Bool) (x y : Met L F) → b ≡ true → (if b then x else y).fault ≡ x.fault
+fault_yes b x y e = grind arith
+
+fault_no : {L F : Type 0} (b : Bool) (x y : Met L F) → b ≡ false → (if b then x else y).fault ≡ y.fault
+fault_no b x y e = grind arith
+
+module _ {A L F : Type 0} where
+  pub written_at : (rule : Rule A L F) (a : A) (members : List A) (d : Bool) → rule.decided a ≡ d → written rule (a ∷ members) ≡ cond d (rule.lines a ++ written rule members) []
+  written_at rule a members d e = grind arith
+
+  all_at : (rule : Rule A L F) (a : A) (members : List A) (d : Bool) → rule.decided a ≡ d → (d && list_all rule.decided members) ≡ true → (list_all rule.decided members ≡ true → flat_map rule.lines members ≡ written rule members)
+      → flat_map rule.lines (a ∷ members) ≡ written rule (a ∷ members)
+  all_at rule a members d e some rest = grind arith
+
+  -- if each member is decided, the lines of all are those before the first that isn't
+  pub all_written : (rule : Rule A L F) (members : List A) → list_all rule.decided members ≡ true → flat_map rule.lines members ≡ written rule members
+  all_written rule [] e = refl
+  all_written rule (a ∷ members) e = all_at rule a members (rule.decided a) refl e (all_written rule members)
+
+  -- the lines that are written are those of the members before the first that isn't decided
+  pub met_lines : (rule : Rule A L F) (members : List A) (fault : Option F) → (join_report rule members fault).lines ≡ written rule members
+  met_lines rule members fault = met_either (list_all rule.decided members) _ _ _ (all_written rule members) refl
+
+  pub met_fault_all : (rule : Rule A L F) (members : List A) (fault : Option F) → list_all rule.decided members ≡ true → (join_report rule members fault).fault ≡ option_or fault rule.last
+  met_fault_all rule members fault e = fault_yes (list_all rule.decided members) _ _ e
+
+  pub met_fault_stop : (rule : Rule A L F) (members : List A) (fault : Option F) → list_all rule.decided members ≡ false → (join_report rule members fault).fault ≡ rule.fault
+  met_fault_stop rule members fault e = fault_no (list_all rule.decided members) _ _ e
+
+  -- up to the first that isn't decided
+  pub written_stop : (rule : Rule A L F) (xs : List A) (a : A) (ys : List A) → list_all rule.decided xs ≡ true → rule.decided a ≡ false → written rule (xs ++ a ∷ ys) ≡ flat_map rule.lines xs
+  written_stop rule [] a ys all e = written_at rule a ys false e
+  written_stop rule (x ∷ xs) a ys all e =
+      let parts = and_parts (rule.decided x) (list_all rule.decided xs) all in
+      written_at rule x (xs ++ a ∷ ys) true parts.0 ∙ ap (λ l. rule.lines x ++ l) (written_stop rule xs a ys parts.1 e)
+
+  pub all_stop : (rule : Rule A L F) (xs : List A) (a : A) (ys : List A) → rule.decided a ≡ false → list_all rule.decided (xs ++ a ∷ ys) ≡ false
+  all_stop rule xs a ys e = list_all-append rule.decided xs (a ∷ ys) ∙ and_right (list_all rule.decided xs) (rule.decided a && list_all rule.decided ys) (and_left (rule.decided a) (list_all rule.decided ys) e)
+
+  -- what is written of decided members comes first
+  pub written_past : (rule : Rule A L F) (xs ys : List A) → list_all rule.decided xs ≡ true → written rule (xs ++ ys) ≡ flat_map rule.lines xs ++ written rule ys
+  written_past rule [] ys all = refl
+  written_past rule (x ∷ xs) ys all =
+      let parts = and_parts (rule.decided x) (list_all rule.decided xs) all in
+      written_at rule x (xs ++ ys) true parts.0 ∙ ap (λ l. rule.lines x ++ l) (written_past rule xs ys parts.1) ∙ sym (append_assoc (rule.lines x) (flat_map rule.lines xs) (written rule ys))
+
+-- The scan of positions finds the stretches of those that pass the test.
+
+-- the list has a gap before each span from a position on, and covers just the position and what the other list covers
+record AddsPosition (p : ℕ) (xs ys : List Span) : Type 0 where
+  apart : AreApartFrom p ys
+  within : (q : ℕ) → IsCovered ys q → (q ≡ p) ⊎ IsCovered xs q
+  here : IsCovered ys p
+  whole : (q : ℕ) → IsCovered xs q → IsCovered ys q
+
+touching : (p : ℕ) (s : Span) (ss : List Span) → AreApartFrom (p + 1) (s ∷ ss) → s.start ≡ p + 1 → AddsPosition p (s ∷ ss) (record { start = p; stop = s.stop } ∷ ss)
+touching p s ss a e = record {
+  apart = (omega arith, omega arith, a.2);
+  within = λ q c. elim c [
+    | inl w ↦ elim (cases_eq q p) [ inl same ↦ inl same | inr other ↦ inr (inl (omega arith, w.1)) ]
+    | inr w ↦ inr (inr w)
+  ];
+  here = inl (omega arith, omega arith);
+  whole = λ q c. elim c [ inl w ↦ inl (omega arith, w.1) | inr w ↦ inr w ];
+}
+
+with_position-adds : (p : ℕ) (xs : List Span) → AreApartFrom (p + 1) xs → AddsPosition p xs (with_position p xs)
+unfolding with_position
+with_position-adds p xs a = grind arith
+
+-- the list is what a scan of n positions from the first on is to find
+record IsScanOf (test : ℕ → Bool) (first n : ℕ) (ys : List Span) : Type 0 where
+  apart : AreApartFrom first ys
+  within : (q : ℕ) → IsCovered ys q → (q < first + n) × (test q ≡ true)
+  whole : (q : ℕ) → first ≤ q → q < first + n → test q ≡ true → IsCovered ys q
+
+looser : (f g : ℕ) (xs : List Span) → g ≤ f → AreApartFrom f xs → AreApartFrom g xs
+looser f g [] h a = tt
+looser f g (x ∷ xs) h a = (omega arith, a.1, a.2)
+
+passing : (test : ℕ → Bool) (first n : ℕ) (xs ys : List Span) → test first ≡ true → IsScanOf test (first + 1) n xs → AddsPosition first xs ys → IsScanOf test first (suc n) ys
+passing test first n xs ys t scan adds = record {
+  apart = adds.apart;
+  within = λ q c. elim (adds.within q c) [
+    | inl same ↦ (omega arith, rw same t)
+    | inr rest ↦ let h = scan.within q rest in (omega arith, h.1)
+  ];
+  whole = λ q low high pass. elim (cases_eq q first) [
+    | inl same ↦ rw same adds.here
+    | inr other ↦ adds.whole q (scan.whole q (omega arith) (omega arith) pass)
+  ];
+}
+
+failing : (test : ℕ → Bool) (first n : ℕ) (xs : List Span) → test first ≡ false → IsScanOf test (first + 1) n xs → IsScanOf test first (suc n) xs
+failing test first n xs t scan = record {
+  apart = looser (first + 1) first xs (omega arith) scan.apart;
+  within = λ q c. let h = scan.within q c in (omega arith, h.1);
+  whole = λ q low high pass. elim (cases_eq q first) [
+    | inl same ↦ let f : test q ≡ false = rw same t in absurd (cc)
+    | inr other ↦ scan.whole q (omega arith) (omega arith) pass
+  ];
+}
+
+stretches_from-scans : (test : ℕ → Bool) (first n : ℕ) → IsScanOf test first n (stretches_from test first n)
+unfolding stretches_from
+stretches_from-scans test first zero = record {
+  apart = tt;
+  within = λ q c. absurd c;
+  whole = λ q low high pass. absurd (omega arith);
+}
+stretches_from-scans test first (suc n) =
+    let rest = stretches_from test (first + 1) n in
+    let scan : IsScanOf test (first + 1) n rest = stretches_from-scans test (first + 1) n in
+    elim (cases_Bool (test first)) [
+      | inl t ↦ rw (cond-true (test first) (with_position first rest) rest t) (passing test first n rest (with_position first rest) t scan (with_position-adds first rest scan.apart))
+      | inr t ↦ rw (cond-false (test first) (with_position first rest) rest t) (failing test first n rest t scan)
+    ]
+
+pub scan_finds : scan_finds_stretches
+scan_finds test n =
+    let scan = stretches_from-scans test 0 n in
+    record {
+      apart = scan.apart;
+      within = λ q c. let h = scan.within q c in (omega arith, h.1);
+      whole = λ q c. scan.whole q (omega arith) (omega arith) c.1;
+    }
+
+-- Lists of spans with gaps between them: two that cover the same positions are equal.
+
+-- the positions that spans cover are at or after their first position
+pub covered_from : (first : ℕ) (xs : List Span) (p : ℕ) → AreApartFrom first xs → IsCovered xs p → first ≤ p
+covered_from first [] p apart c = absurd c
+covered_from first (x ∷ xs) p apart (inl w) = omega arith
+covered_from first (x ∷ xs) p apart (inr w) = let h = covered_from (x.stop + 1) xs p apart.2 w in omega arith
+
+-- and at or past the first start
+pub covered_from_start : (first : ℕ) (x : Span) (xs : List Span) (p : ℕ) → AreApartFrom first (x ∷ xs) → IsCovered (x ∷ xs) p → x.start ≤ p
+covered_from_start first x xs p apart e = grind (arith, covered_from)
+
+-- a span's stop is covered by none of them
+stop_is_bare : (first : ℕ) (x : Span) (xs : List Span) (p : ℕ) → AreApartFrom first (x ∷ xs) → p ≡ x.stop → IsCovered (x ∷ xs) p → ⊥
+stop_is_bare first x xs p apart e h = grind (arith, covered_from)
+
+-- each position that the first list covers is covered by the second
+abbrev pub IsWithin : List Span → List Span → Type 0
+IsWithin xs ys = (p : ℕ) → IsCovered xs p → IsCovered ys p
+
+start_up_to : (f : ℕ) (x y : Span) (g : ℕ) (xs ys : List Span) → AreApartFrom f (x ∷ xs) → AreApartFrom g (y ∷ ys) → IsWithin (x ∷ xs) (y ∷ ys) → y.start ≤ x.start
+start_up_to f x y g xs ys a b within = covered_from_start g y ys x.start b (within x.start (inl (omega arith, a.1)))
+
+stop_up_to : (f : ℕ) (x y : Span) (g : ℕ) (xs ys : List Span) → AreApartFrom f (x ∷ xs) → AreApartFrom g (y ∷ ys) → IsWithin (x ∷ xs) (y ∷ ys) → x.start ≡ y.start → x.stop ≤ y.stop
+stop_up_to f x y g xs ys a b within e =
+    elim (cases_lt y.stop x.stop) [
+      | inl l ↦ absurd (stop_is_bare g y ys y.stop b refl (within y.stop (inl (omega arith, l))))
+      | inr h ↦ h
+    ]
+
+tail_within : (f : ℕ) (x y : Span) (xs ys : List Span) → AreApartFrom f (x ∷ xs) → x.stop ≡ y.stop → IsWithin (x ∷ xs) (y ∷ ys) → IsWithin xs ys
+tail_within f x y xs ys a e within p c =
+    let past = covered_from (x.stop + 1) xs p a.2 c in
+    elim (within p (inr c)) [
+      | inl w ↦ absurd (omega arith)
+      | inr h ↦ h
+    ]
+
+pub same_span : (x y : Span) → x.start ≡ y.start → x.stop ≡ y.stop → x ≡ y
+same_span x y s e = let make : ℕ → ℕ → Span = λ a b. record { start = a; stop = b } in ap₂ make s e
+
+-- two lists of spans with gaps that cover the same positions are equal
+pub same_apart : (f g : ℕ) (xs ys : List Span) → AreApartFrom f xs → AreApartFrom g ys → IsWithin xs ys → IsWithin ys xs → xs ≡ ys
+same_apart f g [] [] a b to back = refl
+same_apart f g [] (y ∷ ys) a b to back = absurd (back y.start (inl (omega arith, b.1)))
+same_apart f g (x ∷ xs) [] a b to back = absurd (to x.start (inl (omega arith, a.1)))
+same_apart f g (x ∷ xs) (y ∷ ys) a b to back =
+    let low = start_up_to f x y g xs ys a b to in
+    let high = start_up_to g y x f ys xs b a back in
+    let starts : x.start ≡ y.start = omega arith in
+    let back_starts : y.start ≡ x.start = omega arith in
+    let short = stop_up_to f x y g xs ys a b to starts in
+    let long = stop_up_to g y x f ys xs b a back back_starts in
+    let stops : x.stop ≡ y.stop = omega arith in
+    let back_stops : y.stop ≡ x.stop = omega arith in
+    let heads = same_span x y starts stops in
+    let tails = same_apart (x.stop + 1) (y.stop + 1) xs ys a.2 b.2 (tail_within f x y xs ys a stops to) (tail_within g y x ys xs b back_stops back) in
+    cc
+
+-- two lists that make up one set are one list
+pub stretches_are_same : (S : ℕ → Type 0) (xs ys : List Span) → AreStretchesOf S xs → AreStretchesOf S ys → xs ≡ ys
+stretches_are_same S xs ys a b = same_apart 0 0 xs ys a.apart b.apart (λ p c. b.whole p (a.within p c)) (λ p c. a.whole p (b.within p c))

@@ -1,0 +1,155 @@
+-- Lemmas on orders of records.
+use Rattle.bt_lines.proofs.Std.{◌≡◌, ℕ, ◌≤◌, ◌⊎◌, inl, inr, List, [], ◌∷◌, ◌++◌, refl, sym, ◌∙◌, subst, true, false, bytes_eq, Some, IsTrue, or_parts, or_from, or_left, or_right, Bool, cond, Option, arith, IfSome, nat_lt, bytes_decides, false≢true, suc, ◌||◌, ap, is_some, option_map, tied_itself, nat_list_cmp_total}
+use Rattle.std.specs.declared.cmp.Ordering.TheVariants.{Less, Equal}
+use Rattle.bt_bed.specs.model.Feature.{last_from, last_of, Interval}
+use Rattle.bt_bed.specs.model.Order.{Order, IsTotal, is_among, rank_of, byte_order}
+use Rattle.bt_bed.specs.model.Sorted.{locus_of, IsUpTo, ArePlaced, placed_grows, prefixes_are_placed, has_records, IsFollowed, AreContiguous, placed_are_contiguous, prefixes_are_contiguous, Locus, is_below, is_below_at, falls_in, sorted_by_places, sorting_of}
+use Rattle.bt_bed.proofs.lemmas.parse.NameLemmas.{name_eq, name_ne, other_name, name_ne-sym, same_name}
+use Rattle.std.specs.Ordering.{is_lt}
+use Rattle.std.specs.declared.cmp.Ordering.{Ordering}
+
+-- Lemmas on contiguous records, and on records in a total order of their chromosomes.
+
+pub has_records-append : (name : List ℕ) (xs ys : List Interval) → has_records name (xs ++ ys) ≡ false → (has_records name xs ≡ false) × (has_records name ys ≡ false)
+has_records-append name [] ys f = (refl, f)
+has_records-append name (x ∷ xs) ys f =
+    let parts = or_parts (bytes_eq x.chrom name) (has_records name (xs ++ ys)) f in
+    let rest = has_records-append name xs ys parts.1 in
+    (or_from (bytes_eq x.chrom name) (has_records name xs) parts.0 rest.0, rest.1)
+
+-- records in order: the last of them, and one more
+pub contiguous_prefix : prefixes_are_contiguous
+contiguous_prefix [] ys t = tt
+contiguous_prefix (x ∷ []) ys t = (tt, tt)
+contiguous_prefix (x ∷ y ∷ zs) ys t =
+    let rest = contiguous_prefix (y ∷ zs) ys t.1 in
+    let next : IsFollowed x (y ∷ zs) = elim t.0 [
+      | inl same ↦ inl same
+      | inr gone ↦ inr (has_records-append x.chrom (y ∷ zs) ys gone).0
+    ] in
+    (next, rest)
+
+pub next_place : (q : Interval) (qs : List Interval) (r : Interval) → AreContiguous (q ∷ qs ++ r ∷ []) → ((r.chrom ≡ (last_from q qs).chrom) × ((last_from q qs).start ≤ r.start)) ⊎ (has_records r.chrom (q ∷ qs) ≡ false)
+next_place q [] r t = elim t.0 [
+  | inl same ↦ inl same
+  | inr gone ↦ inr (or_from (bytes_eq q.chrom r.chrom) false (name_ne-sym r.chrom q.chrom (or_parts (bytes_eq r.chrom q.chrom) false gone).0) refl)
+]
+next_place q (s ∷ ss) r t = elim (next_place s ss r t.1) [
+  | inl same ↦ inl same
+  | inr gone ↦
+      let parts = or_parts (bytes_eq s.chrom r.chrom) (has_records r.chrom ss) gone in
+      let miss : bytes_eq q.chrom r.chrom ≡ false = elim t.0 [
+        | inl same ↦ name_ne q.chrom r.chrom (λ e. other_name s.chrom r.chrom parts.0 (same.0 ∙ e))
+        | inr away ↦
+            let behind = has_records-append q.chrom (s ∷ ss) (r ∷ []) away in
+            name_ne-sym r.chrom q.chrom (or_parts (bytes_eq r.chrom q.chrom) false behind.1).0
+      ] in
+      inr (or_from (bytes_eq q.chrom r.chrom) (has_records r.chrom (s ∷ ss)) miss gone)
+]
+
+pub last_of-push : (past : List Interval) (r : Interval) → last_of (past ++ r ∷ []) ≡ Some r
+last_of-push [] r = refl
+last_of-push (q ∷ []) r = refl
+last_of-push (q ∷ s ∷ ss) r = last_of-push (s ∷ ss) r
+
+-- the last record's chromosome has records
+pub has_records-last : (q : Interval) (qs : List Interval) → has_records (last_from q qs).chrom (q ∷ qs) ≡ true
+has_records-last q [] = or_left (bytes_eq q.chrom q.chrom) false (name_eq q.chrom q.chrom refl)
+has_records-last q (s ∷ ss) = or_right (bytes_eq q.chrom (last_from s ss).chrom) (has_records (last_from s ss).chrom (s ∷ ss)) (has_records-last s ss)
+
+-- a name that comes before another isn't that one
+lower_is_other : (order : Order) (a b : List ℕ) → IsTotal order → IsTrue (order.knows a) → order.compare a b ≡ Less → b ≡ a → ⊥
+lower_is_other order a b total known lower e =
+    let same = total.same a known in
+    let it : order.compare a a ≡ Less = subst (λ (c : List ℕ). order.compare a c ≡ Less) e lower in
+    absurd (let apart : Less ≡ Equal = sym it ∙ same in cc)
+
+-- a chromosome that comes before the first record's has no records
+lower_is_absent : (order : Order) (name : List ℕ) (s : Interval) (ss : List Interval) → IsTotal order → IsTrue (order.knows name) → ArePlaced order (s ∷ ss) → order.compare name s.chrom ≡ Less → has_records name (s ∷ ss) ≡ false
+lower_is_absent order name s [] total known placed lower =
+    or_from (bytes_eq s.chrom name) false (name_ne s.chrom name (lower_is_other order name s.chrom total known lower)) refl
+lower_is_absent order name s (t ∷ ts) total known placed lower =
+    let further : order.compare name t.chrom ≡ Less = elim placed.1 [
+      | inl less ↦ total.ascends name s.chrom t.chrom known placed.0 placed.2.0 lower less
+      | inr same ↦ subst (λ (c : List ℕ). order.compare name c ≡ Less) same.0 lower
+    ] in
+    or_from (bytes_eq s.chrom name) (has_records name (t ∷ ts)) (name_ne s.chrom name (lower_is_other order name s.chrom total known lower)) (lower_is_absent order name t ts total known placed.2 further)
+
+-- what comes next is on the same chromosome, or has none of it
+followed : (order : Order) (r : Interval) (rs : List Interval) → IsTotal order → ArePlaced order (r ∷ rs) → IsFollowed r rs
+followed order r [] total placed = tt
+followed order r (s ∷ ss) total placed =
+    elim placed.1 [
+      | inl lower ↦ inr (lower_is_absent order r.chrom s ss total placed.0 placed.2 lower)
+      | inr same ↦ inl (sym same.0, same.1)
+    ]
+
+pub placed_contiguous : placed_are_contiguous
+placed_contiguous order [] total placed = tt
+placed_contiguous order (r ∷ rs) total placed = (followed order r rs total placed, placed_contiguous order rs total placed.2)
+
+pub placed_prefix : prefixes_are_placed
+placed_prefix order [] ys placed = tt
+placed_prefix order (x ∷ []) ys placed = (placed.0, tt, tt)
+placed_prefix order (x ∷ y ∷ zs) ys placed = (placed.0, placed.1, placed_prefix order (y ∷ zs) ys placed.2)
+
+placed_from : (order : Order) (q : Interval) (qs : List Interval) (r : Interval) → ArePlaced order (q ∷ qs) → IsTrue (order.knows r.chrom) → IsUpTo order (locus_of (last_from q qs)) (locus_of r) → ArePlaced order (q ∷ qs ++ r ∷ [])
+placed_from order q [] r placed known next = (placed.0, next, (known, tt, tt))
+placed_from order q (s ∷ ss) r placed known next = (placed.0, placed.1, placed_from order s ss r placed.2 known next)
+
+pub grows_placed : placed_grows
+grows_placed order [] r placed known next = (known, tt, tt)
+grows_placed order (q ∷ qs) r placed known next = placed_from order q qs r placed known next
+
+-- Lemmas on how records are sorted.
+
+up_to_by : (order : Order) (last place : Locus) → IsTotal order → IsTrue (order.knows last.chrom) → IsTrue (order.knows place.chrom)
+    → (o : Ordering) → order.compare place.chrom last.chrom ≡ o → is_below_at o place.start last.start ≡ false → IsUpTo order last place
+up_to_by order last place o was is e h stays = grind arith
+
+-- a place that doesn't fall below the last one isn't before it
+stays_up_to : (order : Order) (last place : Locus) → IsTotal order → IsTrue (order.knows last.chrom) → IsTrue (order.knows place.chrom) → is_below order place last ≡ false → IsUpTo order last place
+stays_up_to order last place total was is stays = up_to_by order last place total was is (order.compare place.chrom last.chrom) refl stays
+
+-- if the names differ, the order of the chromosomes decides alone
+apart_by : (o : Ordering) (start other : ℕ) → (o ≡ Equal → ⊥) → is_lt o ≡ is_below_at o start other
+apart_by o start other apart = grind arith
+
+sorted_by : (order : Order) (last place : Locus) → IsTotal order → IsTrue (order.knows last.chrom) → IsTrue (order.knows place.chrom)
+    → (b : Bool) → bytes_eq last.chrom place.chrom ≡ b → cond b (nat_lt place.start last.start) (is_lt (order.compare place.chrom last.chrom)) ≡ is_below order place last
+sorted_by order last place total was is true e =
+    let one : last.chrom ≡ place.chrom = (bytes_decides last.chrom place.chrom).0 e in
+    let equal : order.compare place.chrom last.chrom ≡ Equal = subst (λ name. order.compare name last.chrom ≡ Equal) one (total.same last.chrom was) in
+    rw equal refl
+sorted_by order last place total was is false e =
+    let apart : order.compare place.chrom last.chrom ≡ Equal → ⊥ = λ equal.
+    let same = total.equal place.chrom last.chrom is was equal in
+    false≢true (sym e ∙ (bytes_decides last.chrom place.chrom).1 (sym same)) in
+    apart_by (order.compare place.chrom last.chrom) place.start last.start apart
+
+-- in a total order places are sorted as the order has them
+pub places_sorted : sorted_by_places
+places_sorted order last place total was is = sorted_by order last place total was is (bytes_eq last.chrom place.chrom) refl
+
+-- a place that doesn't fall below the last one isn't before it
+pub sorted_up_to : (order : Order) (last : Option Locus) (place : Locus) → IsTotal order → IfSome last (λ l. IsTrue (order.knows l.chrom)) → IsTrue (order.knows place.chrom) → falls_in (sorting_of order) last place ≡ false
+    → IfSome last (λ l. IsUpTo order l place)
+sorted_up_to order last place total was is stays = grind (arith, stays_up_to, places_sorted)
+
+-- Lemmas on the ranks of names.
+
+is_some-cond : (b : Bool) (o : Option ℕ) → is_some (cond b (Some 0) (option_map (λ n. suc n) o)) ≡ (b || is_some o)
+is_some-cond b o = grind arith
+
+-- a name is among the names exactly if it has a rank
+pub among_ranked : (names : List (List ℕ)) (name : List ℕ) → is_some (rank_of names name) ≡ is_among names name
+among_ranked [] name = refl
+among_ranked (n ∷ ns) name = is_some-cond (bytes_eq n name) (rank_of ns name) ∙ ap (λ b. bytes_eq n name || b) (among_ranked ns name)
+
+-- The order of names by their bytes: which of two names comes first.
+
+-- equal names
+pub same_name_same : (left right : List ℕ) → bytes_eq left right ≡ true → byte_order.compare left right ≡ Equal
+same_name_same left right e =
+    subst (λ (name : List ℕ). byte_order.compare left name ≡ Equal) (same_name left right e)
+    (tied_itself nat_list_cmp_total left)

@@ -1,2 +1,0 @@
--- Lemmas on records.
-pub mod RawRecordLemmas

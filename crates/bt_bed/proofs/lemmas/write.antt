@@ -1,3 +1,0 @@
--- Lemmas on write.
-pub mod IntervalLineLemmas
-pub mod RecordLineLemmas

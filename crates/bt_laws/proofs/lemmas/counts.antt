@@ -1,4 +1,0 @@
--- Lemmas on counts.
-pub mod DepthSum
-pub mod PairSides
-pub mod PartBases

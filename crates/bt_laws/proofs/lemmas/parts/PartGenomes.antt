@@ -1,0 +1,595 @@
+-- Records of parts, each with its own part of the genome file.
+use Rattle.bt_lines.proofs.Std.{◌≡◌, ℕ, suc, ◌+◌, ◌<◌, Bool, true, false, cond, List, [], ◌∷◌, ◌++◌, ◌||◌, ◌⊎◌, length, Option, Some, None, inl, inr, refl, sym, ap, ap₂, ◌∙◌, arith, Result, Ok, Err, subst, IsTrue, bytes_eq, is_some, option_map, nat_lt, nat_cmp, cases_lt, or_parts, cases_Bool, or_right, AllByRecursion, map-append, flat_map-append, append-nil, ⊤, list_any, list_any-append}
+use Rattle.std.specs.declared.cmp.Ordering.TheVariants.{Less, Equal}
+use Rattle.bt_bed.specs.model.Order.{Order, AreDistinct, compare_ranks, is_among, rank_of, rank_order, IsTotal}
+use Rattle.bt_bed.proofs.lemmas.parse.NameLemmas.{same_name, name_ne, name_ne-sym}
+use Rattle.bt_bed.proofs.lemmas.order.OrderLemmas.{among_ranked}
+use Rattle.bt_runs.proofs.lemmas.order.FileOrder.{rank_of-later, spans_on-append, spans_on-none}
+use Rattle.bt_runs.proofs.lemmas.definitions.Standing.{cmp_equal, cmp_greater, cmp_less, known_rank}
+use Rattle.bt_lines.specs.model.Lines.{TextLine, lines_from, text_lines}
+use Rattle.bt_lines.specs.declared.fault.Input.{Input}
+use Rattle.bt_lines.specs.declared.fault.Kind.{Kind}
+use Rattle.bt_lines.specs.declared.fault.Kind.TheVariants.{UnknownChrom, OutOfOrder}
+use Rattle.bt_bed.specs.model.Feature.{Feature, record_of, interval_of, intervals_of, Interval, last_from, last_of, spans_on}
+use Rattle.bt_bed.specs.model.Genome.{Entry, genome_names}
+use Rattle.bt_bed.specs.model.Good.{Good, good_from, good_with, bed_format, in_order, line_says, locus_at, said_after}
+use Rattle.bt_bed.specs.model.Sorted.{Locus, falls_in, sorting_of, ArePlaced, IsPlacedBefore, has_records}
+use Rattle.std.specs.Ordering.{is_lt}
+use Rattle.bt_laws.specs.Parts.{LiesWithin, ComeBefore, StandsBefore, said_record, said_records}
+use Rattle.bt_laws.proofs.lemmas.parts.PartBed.{alike_records, records_on, Earlier}
+use Rattle.bt_laws.proofs.lemmas.parts.PartLines.{alike_lines, lines_join}
+use Rattle.bt_laws.proofs.lemmas.Lists.{all_back, all_front, all_so, all_map, all_swapped}
+use Rattle.bt_laws.proofs.lemmas.single.Sequences.{owners_stay_so}
+use Rattle.bt_seq.proofs.lemmas.definitions.KnowsLemmas.{is_last, leave, one_leaves}
+use Rattle.bt_seq.proofs.lemmas.definitions.MaskPrefixLemmas.{chrom_of, none_next, none_leaves}
+use Rattle.bt_seq.proofs.lemmas.Sam.{Tagged, last_from as last_tagged, next_left, own_in, own_tagged, tag_decides, tag_items, tags, tags_append, tags_of}
+use Rattle.bt_seq.specs.model.Masked.{items_if_last, names_behind as sequences_behind, own_records}
+
+abbrev shifted : ℕ → Option ℕ → Option ℕ
+shifted k rank = option_map (λ r. k + r) rank
+
+shift_none : (rank : Option ℕ) → shifted 0 rank ≡ rank
+shift_none None = refl
+shift_none (Some r) = ap Some (omega arith)
+
+shift_more : (k : ℕ) (rank : Option ℕ) → option_map (λ r. suc r) (shifted k rank) ≡ shifted (suc k) rank
+shift_more k None = refl
+shift_more k (Some r) = ap Some (omega arith)
+
+pub or_assoc : (a b c : Bool) → (a || (b || c)) ≡ ((a || b) || c)
+or_assoc true b c = refl
+or_assoc false b c = refl
+
+-- whether a name is among two lists of names
+pub among_append : (xs ys : List (List ℕ)) (name : List ℕ) → is_among (xs ++ ys) name ≡ (is_among xs name || is_among ys name)
+among_append [] ys name = refl
+among_append (x ∷ xs) ys name = ap (λ b. bytes_eq x name || b) (among_append xs ys name) ∙ or_assoc (bytes_eq x name) (is_among xs name) (is_among ys name)
+
+rank_none : (xs : List (List ℕ)) (name : List ℕ) → is_among xs name ≡ false → rank_of xs name ≡ None
+rank_none xs name e = none_by (rank_of xs name) (among_ranked xs name ∙ e)
+  where
+    none_by : (o : Option ℕ) → is_some o ≡ false → o ≡ None
+    none_by None e = refl
+    none_by (Some r) e = cc
+
+-- the rank of a name that isn't among the first names
+pub rank_behind : (xs ys : List (List ℕ)) (name : List ℕ) → is_among xs name ≡ false → rank_of (xs ++ ys) name ≡ shifted (length xs) (rank_of ys name)
+rank_behind [] ys name e = sym (shift_none (rank_of ys name))
+rank_behind (x ∷ xs) ys name e =
+    let parts = or_parts (bytes_eq x name) (is_among xs name) e in
+    rank_of-later x name (xs ++ ys) parts.0
+    ∙ ap (option_map (λ r. suc r)) (rank_behind xs ys name parts.1)
+    ∙ shift_more (length xs) (rank_of ys name)
+
+-- of one that isn't among the later ones
+pub rank_before : (xs ys : List (List ℕ)) (name : List ℕ) → is_among ys name ≡ false → rank_of (xs ++ ys) name ≡ rank_of xs name
+rank_before [] ys name e = rank_none ys name e
+rank_before (x ∷ xs) ys name e = ap (λ o. cond (bytes_eq x name) (Some 0) (option_map (λ r. suc r) o)) (rank_before xs ys name e)
+
+-- of one that is among the first ones
+pub rank_first : (xs ys : List (List ℕ)) (name : List ℕ) → is_among xs name ≡ true → rank_of (xs ++ ys) name ≡ rank_of xs name
+rank_first [] ys name e = cc
+rank_first (x ∷ xs) ys name e = by_first (bytes_eq x name) refl (rank_first xs ys name)
+  where
+    by_first : (b : Bool) → bytes_eq x name ≡ b → (is_among xs name ≡ true → rank_of (xs ++ ys) name ≡ rank_of xs name) → rank_of (x ∷ xs ++ ys) name ≡ rank_of (x ∷ xs) name
+    by_first true is more = ap (λ b. cond b (Some 0) (option_map (λ r. suc r) (rank_of (xs ++ ys) name))) is ∙ sym (ap (λ b. cond b (Some 0) (option_map (λ r. suc r) (rank_of xs name))) is)
+    by_first false is more = ap (λ o. cond (bytes_eq x name) (Some 0) (option_map (λ r. suc r) o)) (more (sym (ap (λ b. b || is_among xs name) is) ∙ e))
+
+shift_cmp : (k i j : ℕ) → nat_cmp (k + i) (k + j) ≡ nat_cmp i j
+shift_cmp k i j = by_way (cases i j)
+  where
+    cases : (i j : ℕ) → (i < j) ⊎ ((j < i) ⊎ (i ≡ j))
+    cases i j = elim (cases_lt i j) [ inl l ↦ inl l | inr l ↦ elim (cases_lt j i) [ inl m ↦ inr (inl m) | inr m ↦ inr (inr (omega arith)) ] ]
+
+    by_way : (i < j) ⊎ ((j < i) ⊎ (i ≡ j)) → nat_cmp (k + i) (k + j) ≡ nat_cmp i j
+    by_way (inl l) = cmp_less (k + i) (k + j) (omega arith) ∙ sym (cmp_less i j l)
+    by_way (inr (inl l)) = cmp_greater (k + i) (k + j) (omega arith) ∙ sym (cmp_greater i j l)
+    by_way (inr (inr e)) = ap (λ n. nat_cmp (k + n) (k + j)) e ∙ cmp_equal (k + j) ∙ sym (ap (λ n. nat_cmp n j) e ∙ cmp_equal j)
+
+compare_shifted : (k : ℕ) (o p : Option ℕ) → compare_ranks (shifted k o) (shifted k p) ≡ compare_ranks o p
+compare_shifted k None p = refl
+compare_shifted k (Some i) None = refl
+compare_shifted k (Some i) (Some j) = shift_cmp k i j
+
+some_shifted : (k : ℕ) (o : Option ℕ) → is_some (shifted k o) ≡ is_some o
+some_shifted k None = refl
+some_shifted k (Some i) = refl
+
+-- what is among all names is among those of the part
+abbrev pub Within : List (List ℕ) → List (List ℕ) → List ℕ → Type 0
+Within part whole name = IsTrue (is_among whole name) → IsTrue (is_among part name)
+
+-- two orders that agree on the names of some kind
+pub record Agree (mine yours : Order) (P : List ℕ → Type 0) : Type 0 where
+  pub knows : (a : List ℕ) → P a → mine.knows a ≡ yours.knows a
+  pub compare : (a b : List ℕ) → P a → P b → mine.compare a b ≡ yours.compare a b
+
+module _ (xs ys : List (List ℕ)) where
+  not_within : (a b : Bool) → (IsTrue a → IsTrue b) → b ≡ false → a ≡ false
+  not_within true b h e = absurd (let t : b ≡ true = h refl in let apart : true ≡ false = sym t ∙ e in cc)
+  not_within false b h e = refl
+
+  rank_of_part : (name : List ℕ) → Within xs (xs ++ ys) name → rank_of (xs ++ ys) name ≡ rank_of xs name
+  rank_of_part name within =
+      elim (cases_Bool (is_among xs name)) [
+        | inl e ↦ rank_first xs ys name e
+        | inr e ↦ rank_before xs ys name (or_parts (is_among xs name) (is_among ys name) (sym (among_append xs ys name) ∙ not_within (is_among (xs ++ ys) name) (is_among xs name) within e)).1
+      ]
+
+  pub first_agree : Agree (rank_order (xs ++ ys)) (rank_order xs) (Within xs (xs ++ ys))
+  first_agree = record {
+    knows = λ a within. ap is_some (rank_of_part a within);
+    compare = λ a b one two. ap₂ compare_ranks (rank_of_part a one) (rank_of_part b two);
+  }
+
+  module _ (distinct : AreDistinct (xs ++ ys)) where
+    -- no name is among both
+    not_first : (xs ys : List (List ℕ)) (name : List ℕ) → AreDistinct (xs ++ ys) → is_among ys name ≡ true → is_among xs name ≡ false
+    not_first [] ys name distinct e = refl
+    not_first (x ∷ xs) ys name distinct e = by_first (cases_Bool (bytes_eq x name)) (not_first xs ys name distinct.1 e)
+      where
+        by_first : (bytes_eq x name ≡ true) ⊎ (bytes_eq x name ≡ false) → is_among xs name ≡ false → is_among (x ∷ xs) name ≡ false
+        by_first (inl is) more =
+            let same = same_name x name is in
+            let there : is_among (xs ++ ys) x ≡ true = among_append xs ys x ∙ or_right (is_among xs x) (is_among ys x) (ap (is_among ys) same ∙ e) in
+            absurd (let apart : false ≡ true = sym distinct.0 ∙ there in cc)
+        by_first (inr is) more = ap (λ b. b || is_among xs name) is ∙ more
+
+    pub no_first : (name : List ℕ) → is_among ys name ≡ true → is_among xs name ≡ false
+    no_first name e = not_first xs ys name distinct e
+
+    rank_of_second : (name : List ℕ) → Within ys (xs ++ ys) name → rank_of (xs ++ ys) name ≡ shifted (length xs) (rank_of ys name)
+    rank_of_second name within =
+        elim (cases_Bool (is_among ys name)) [
+          | inl e ↦ rank_behind xs ys name (no_first name e)
+          | inr e ↦ rank_behind xs ys name (or_parts (is_among xs name) (is_among ys name) (sym (among_append xs ys name) ∙ not_within (is_among (xs ++ ys) name) (is_among ys name) within e)).0
+        ]
+
+    pub second_agree : Agree (rank_order (xs ++ ys)) (rank_order ys) (Within ys (xs ++ ys))
+    second_agree = record {
+      knows = λ a within. ap is_some (rank_of_second a within) ∙ some_shifted (length xs) (rank_of ys a);
+      compare = λ a b one two. ap₂ compare_ranks (rank_of_second a one) (rank_of_second b two) ∙ compare_shifted (length xs) (rank_of ys a) (rank_of ys b);
+    }
+
+  rank_low : (xs : List (List ℕ)) (name : List ℕ) (i : ℕ) → rank_of xs name ≡ Some i → i < length xs
+  rank_low [] name i e = cc
+  rank_low (x ∷ xs) name i e = by_first (bytes_eq x name) (rank_of xs name) refl e (rank_low xs name)
+    where
+      by_first : (b : Bool) (o : Option ℕ) → rank_of xs name ≡ o → cond b (Some 0) (option_map (λ r. suc r) o) ≡ Some i → ((i : ℕ) → rank_of xs name ≡ Some i → i < length xs) → i < length (x ∷ xs)
+      by_first true o is e low = let zero_is : 0 ≡ i = cc in omega arith
+      by_first false None is e low = cc
+      by_first false (Some r) is e low = let next : suc r ≡ i = cc in let less = low r is in omega arith
+
+  -- a name of the first part comes before one of the second
+  pub first_less : (a b : List ℕ) → AreDistinct (xs ++ ys) → is_among xs a ≡ true → is_among ys b ≡ true → (rank_order (xs ++ ys)).compare a b ≡ Less
+  first_less a b distinct one two =
+      let i = known_rank (rank_of xs a) (among_ranked xs a ∙ one) in
+      let j = known_rank (rank_of ys b) (among_ranked ys b ∙ two) in
+      let low = rank_low xs a i.0 i.1 in
+      ap₂ compare_ranks (rank_first xs ys a one ∙ i.1) (rank_behind xs ys b (no_first distinct b two) ∙ ap (shifted (length xs)) j.1)
+      ∙ cmp_less i.0 (length xs + j.0) (omega arith)
+
+-- ---- records of parts
+
+-- the records of two texts
+pub records_both : (one two : List ℕ) → StandsBefore one two → said_records (one ++ two) ≡ said_records one ++ said_records two
+records_both one two ends =
+    let split = lines_join 1 one two ends in
+    ap records_on split.1
+    ∙ flat_map-append _ (text_lines one) (lines_from split.0 two)
+    ∙ ap (λ rs. said_records one ++ rs) (alike_records (lines_from split.0 two) (text_lines two) (alike_lines split.0 1 two))
+
+module _ (mine yours : Order) (P : List ℕ → Type 0) (agree : Agree mine yours P) (input : Input) where
+  abbrev Mine : Option Locus → Type 0
+  Mine None = Unit {0}
+  Mine (Some last) = P last.chrom
+
+  falls_same : (last : Option Locus) (r : Feature) → Mine last → P r.chrom → falls_in (sorting_of mine) last (locus_at r) ≡ falls_in (sorting_of yours) last (locus_at r)
+  falls_same None r m p = refl
+  falls_same (Some last) r m p = ap (λ o. cond (bytes_eq last.chrom r.chrom) (nat_lt r.start last.start) (is_lt o)) (agree.compare r.chrom last.chrom p m)
+
+  in_order_same : (last : Option Locus) (r : Feature) → Mine last → P r.chrom → in_order (sorting_of mine) last r ≡ in_order (sorting_of yours) last r
+  in_order_same last r m p = ap₂ (λ k f. cond k (cond f (Err OutOfOrder) (Ok (Some r))) (Err UnknownChrom)) (agree.knows r.chrom p) (falls_same last r m p)
+
+  agree_kept : (n : ℕ) (last : Option Locus) (r : Feature) (knows falls : Bool) (ms ys : Option Locus → Good Feature) → ms (Some (locus_at r)) ≡ ys (Some (locus_at r))
+      → good_with (bed_format (sorting_of mine)) input n last (cond knows (cond falls (Err OutOfOrder) (Ok (Some r))) (Err UnknownChrom)) ms
+      ≡ good_with (bed_format (sorting_of yours)) input n last (cond knows (cond falls (Err OutOfOrder) (Ok (Some r))) (Err UnknownChrom)) ys
+  agree_kept n last r true true ms ys e = refl
+  agree_kept n last r true false ms ys e = ap (λ (g : Good Feature). record { members = record { line = n; item = r } ∷ g.members; fault = g.fault }) e
+  agree_kept n last r false falls ms ys e = refl
+
+  agree_with : (n : ℕ) (last : Option Locus) (said : Result (Option Feature) Kind) (ms ys : Option Locus → Good Feature) → Mine last → AllByRecursion (λ r. P r.chrom) (said_record said)
+      → ((now : Option Locus) → Mine now → ms now ≡ ys now)
+      → good_with (bed_format (sorting_of mine)) input n last (said_after (sorting_of mine) last said) ms ≡ good_with (bed_format (sorting_of yours)) input n last (said_after (sorting_of yours) last said) ys
+  agree_with n last (Err kind) ms ys m p h = refl
+  agree_with n last (Ok None) ms ys m p h = h last m
+  agree_with n last (Ok (Some r)) ms ys m p h =
+      agree_kept n last r (mine.knows r.chrom) (falls_in (sorting_of mine) last (locus_at r)) ms ys (h (Some (locus_at r)) p.0)
+      ∙ ap (λ said. good_with (bed_format (sorting_of yours)) input n last said ys) (in_order_same last r m p.0)
+
+  -- what is good depends on the order by the names that come alone
+  pub agree_good : (last : Option Locus) (lines : List TextLine) → Mine last → AllByRecursion (λ r. P r.chrom) (records_on lines) → good_from (bed_format (sorting_of mine)) input last lines ≡ good_from (bed_format (sorting_of yours)) input last lines
+  unfolding good_from line_says
+  agree_good last [] m p = refl
+  agree_good last (line ∷ lines) m p =
+      agree_with line.number last (record_of line.text) (λ now. good_from (bed_format (sorting_of mine)) input now lines) (λ now. good_from (bed_format (sorting_of yours)) input now lines) m
+      (all_front _ (said_record (record_of line.text)) (records_on lines) p)
+      (λ now is. agree_good now lines is (all_back _ (said_record (record_of line.text)) (records_on lines) p))
+
+-- names of the entries of both parts
+pub names_both : (ones twos : List Entry) → genome_names (ones ++ twos) ≡ genome_names ones ++ genome_names twos
+names_both ones twos = map-append (λ entry. entry.name) ones twos
+
+module _ (e_one e_two : List Entry) where
+  pub agree_first : Agree (rank_order (genome_names (e_one ++ e_two))) (rank_order (genome_names e_one)) (Within (genome_names e_one) (genome_names (e_one ++ e_two)))
+  agree_first = subst (λ ns. Agree (rank_order ns) (rank_order (genome_names e_one)) (Within (genome_names e_one) ns)) (sym (names_both e_one e_two)) (first_agree (genome_names e_one) (genome_names e_two))
+
+  module _ (distinct : AreDistinct (genome_names (e_one ++ e_two))) where
+    pub apart_both : AreDistinct (genome_names e_one ++ genome_names e_two)
+    apart_both = subst AreDistinct (names_both e_one e_two) distinct
+
+    pub agree_second : Agree (rank_order (genome_names (e_one ++ e_two))) (rank_order (genome_names e_two)) (Within (genome_names e_two) (genome_names (e_one ++ e_two)))
+    agree_second = subst (λ ns. Agree (rank_order ns) (rank_order (genome_names e_two)) (Within (genome_names e_two) ns)) (sym (names_both e_one e_two)) (second_agree (genome_names e_one) (genome_names e_two) apart_both)
+
+    pub entry_less : (a b : List ℕ) → is_among (genome_names e_one) a ≡ true → is_among (genome_names e_two) b ≡ true → (rank_order (genome_names (e_one ++ e_two))).compare a b ≡ Less
+    entry_less a b one two = subst (λ ns. (rank_order ns).compare a b ≡ Less) (sym (names_both e_one e_two)) (first_less (genome_names e_one) (genome_names e_two) a b apart_both one two)
+
+    -- the records of the first part come before those of the second
+    pub within_before : (ones twos : List Feature) → AllByRecursion (LiesWithin e_one (e_one ++ e_two)) ones → AllByRecursion (LiesWithin e_two (e_one ++ e_two)) twos → ComeBefore (rank_order (genome_names (e_one ++ e_two))) ones twos
+    within_before ones twos one two =
+        all_so _ _ ones (λ r in_one. all_so _ _ twos (λ s in_two known_r known_s.
+        entry_less r.chrom s.chrom (in_one (sym (among_ranked (genome_names (e_one ++ e_two)) r.chrom) ∙ known_r)) (in_two (sym (among_ranked (genome_names (e_one ++ e_two)) s.chrom) ∙ known_s))) two) one
+
+-- Which sequences the records of two parts belong to, record by record.
+
+abbrev Names : Type 0
+Names = List (List ℕ)
+
+-- ---- one name among names
+
+none_found : (name : List ℕ) (xs ys : Names) → sequences_behind name xs ≡ None → sequences_behind name (xs ++ ys) ≡ sequences_behind name ys
+none_found name [] ys e = refl
+none_found name (x ∷ xs) ys e = by_first (bytes_eq x name) e (none_found name xs ys)
+  where
+    by_first : (b : Bool) → cond b (Some xs) (sequences_behind name xs) ≡ None → (sequences_behind name xs ≡ None → sequences_behind name (xs ++ ys) ≡ sequences_behind name ys) → cond b (Some (xs ++ ys)) (sequences_behind name (xs ++ ys)) ≡ sequences_behind name ys
+    by_first true e next = cc
+    by_first false e next = next e
+
+pub off_found : (name : List ℕ) (xs : Names) → is_among xs name ≡ false → sequences_behind name xs ≡ None
+off_found name [] e = refl
+off_found name (x ∷ xs) e =
+    let parts = or_parts (bytes_eq x name) (is_among xs name) e in
+    ap (λ b. cond b (Some xs) (sequences_behind name xs)) parts.0 ∙ off_found name xs parts.1
+
+-- what isn't among names isn't among those after one of them
+pub off_behind : (name other : List ℕ) (xs now : Names) → is_among xs name ≡ false → sequences_behind other xs ≡ Some now → (is_among now name ≡ false) × (bytes_eq other name ≡ false)
+off_behind name other [] now off e = cc
+off_behind name other (x ∷ xs) now off e =
+    let parts = or_parts (bytes_eq x name) (is_among xs name) off in
+    by_first (bytes_eq x other) refl parts.0 parts.1 e (λ d. off_behind name other xs now parts.1 d)
+  where
+    by_first : (b : Bool) → bytes_eq x other ≡ b → bytes_eq x name ≡ false → is_among xs name ≡ false → cond b (Some xs) (sequences_behind other xs) ≡ Some now → (sequences_behind other xs ≡ Some now → (is_among now name ≡ false) × (bytes_eq other name ≡ false))
+        → (is_among now name ≡ false) × (bytes_eq other name ≡ false)
+    by_first true is apart rest e next =
+        let same : xs ≡ now = cc in
+        (ap (λ l. is_among l name) (sym same) ∙ rest, ap (λ n. bytes_eq n name) (sym (same_name x other is)) ∙ apart)
+    by_first false is apart rest e next = next e
+
+-- ---- what records leave
+
+pub leave_append : (left : Option Names) (last : Option (List ℕ)) (rs more : List Feature) → leave left last (rs ++ more) ≡ leave (leave left last rs) (last_tagged last rs) more
+leave_append left last [] more = refl
+leave_append left last (r ∷ rs) more = leave_append (one_leaves left last r) (Some r.chrom) rs more
+
+-- after a block that belongs to none, all belong to none
+none_tags : (last : Option (List ℕ)) (rs : List Feature) → tags chrom_of None last rs ≡ tag_items None rs
+none_tags last [] = refl
+none_tags last (r ∷ rs) =
+    ap (λ left. record { item = r; left = left } ∷ tags chrom_of left (Some r.chrom) rs) (none_next (is_last last r.chrom) r.chrom)
+    ∙ ap (λ (ts : List (Tagged Feature)). record { item = r; left = None } ∷ ts) (none_tags (Some r.chrom) rs)
+
+none_own : (rs : List Feature) → own_in (tag_items None rs) ≡ []
+none_own [] = refl
+none_own (r ∷ rs) = none_own rs
+
+-- the first of the later records, put after the others, belongs to none
+abbrev pub IsLost : Names → List Feature → List Feature → Type 0
+IsLost names ones [] = ⊤
+IsLost names ones (r ∷ twos) = leave (Some names) None (ones ++ r ∷ []) ≡ None
+
+lost_tags : (names : Names) (ones twos : List Feature) → IsLost names ones twos → tags chrom_of (leave (Some names) None ones) (last_tagged None ones) twos ≡ tag_items None twos
+lost_tags names ones [] lost = refl
+lost_tags names ones (r ∷ rs) lost =
+    let none : next_left chrom_of (leave (Some names) None ones) (last_tagged None ones) r ≡ None = sym (leave_append (Some names) None ones (r ∷ [])) ∙ lost in
+    ap (λ left. record { item = r; left = left } ∷ tags chrom_of left (Some r.chrom) rs) none
+    ∙ ap (λ (ts : List (Tagged Feature)). record { item = r; left = None } ∷ ts) (none_tags (Some r.chrom) rs)
+
+pub tags_first : (names : Names) (ones twos : List Feature) → IsLost names ones twos → tags_of names (ones ++ twos) ≡ tags_of names ones ++ tag_items None twos
+tags_first names ones twos lost = tags_append (Some names) None ones twos ∙ ap (λ ts. tags_of names ones ++ ts) (lost_tags names ones twos lost)
+
+-- the later records mask no sequence of the first part
+pub own_first : (names : Names) (ones twos : List Feature) → IsLost names ones twos → own_records names (ones ++ twos) ≡ own_records names ones
+own_first names ones twos lost =
+    own_tagged names (ones ++ twos) ∙ ap own_in (tags_first names ones twos lost)
+    ∙ flat_map-append (λ (t : Tagged Feature). items_if_last t.left (t.item ∷ [])) (tags_of names ones) (tag_items None twos)
+    ∙ ap (λ (l : List Feature). own_in (tags_of names ones) ++ l) (none_own twos) ∙ append-nil (own_in (tags_of names ones)) ∙ sym (own_tagged names ones)
+
+pub or_true : (b : Bool) → (b || true) ≡ true
+or_true true = refl
+or_true false = refl
+
+-- and the first of them decides each of its lines
+pub any_first : (bases : ℕ) (names : Names) (ones : List Feature) (r : Feature) (rs : List Feature) → IsLost names ones (r ∷ rs) → list_any (tag_decides bases) (tags_of names (ones ++ r ∷ rs)) ≡ true
+any_first bases names ones r rs lost =
+    ap (list_any (tag_decides bases)) (tags_first names ones (r ∷ rs) lost)
+    ∙ list_any-append (tag_decides bases) (tags_of names ones) (tag_items None (r ∷ rs))
+    ∙ or_true (list_any (tag_decides bases) (tags_of names ones))
+
+-- ---- after more names
+
+next_more : (left now more : Names) (last : Option (List ℕ)) (r : Feature) → one_leaves (Some left) last r ≡ Some now → one_leaves (Some (left ++ more)) last r ≡ Some (now ++ more)
+next_more left now more last r e = by_last (is_last last r.chrom) e
+  where
+    by_last : (b : Bool) → cond b (Some left) (sequences_behind r.chrom left) ≡ Some now → cond b (Some (left ++ more)) (sequences_behind r.chrom (left ++ more)) ≡ Some (now ++ more)
+    by_last true e = let same : left ≡ now = cc in ap (λ l. Some (l ++ more)) same
+    by_last false e = owners_stay_so left more (r ∷ []) now e
+
+-- the names left end with these
+abbrev pub EndsWith : Names → Tagged Feature → Type 0
+EndsWith more t = (xs : Names) × (t.left ≡ Some (xs ++ more))
+
+record Stays (left more : Names) (last : Option (List ℕ)) (rs : List Feature) (rest : Names) : Type 0 where
+  tagged : AllByRecursion (EndsWith more) (tags chrom_of (Some (left ++ more)) last rs)
+  leaves : leave (Some (left ++ more)) last rs ≡ Some (rest ++ more)
+
+stays_from : (more rest : Names) (left : Names) (last : Option (List ℕ)) (rs : List Feature) → leave (Some left) last rs ≡ Some rest → Stays left more last rs rest
+stays_from more rest left last [] e = record { tagged = tt; leaves = let same : left ≡ rest = cc in ap (λ l. Some (l ++ more)) same }
+stays_from more rest left last (r ∷ rs) e = by_next (one_leaves (Some left) last r) refl e (λ now d. stays_from more rest now (Some r.chrom) rs d)
+  where
+    going : (now : Names) → one_leaves (Some (left ++ more)) last r ≡ Some (now ++ more) → Stays now more (Some r.chrom) rs rest → Stays left more last (r ∷ rs) rest
+    going now is next = record {
+      tagged = ((now, is), rw is next.tagged);
+      leaves = ap (λ o. leave o (Some r.chrom) rs) is ∙ next.leaves;
+    }
+
+    by_next : (o : Option Names) → one_leaves (Some left) last r ≡ o → leave o (Some r.chrom) rs ≡ Some rest → ((now : Names) → leave (Some now) (Some r.chrom) rs ≡ Some rest → Stays now more (Some r.chrom) rs rest) → Stays left more last (r ∷ rs) rest
+    by_next None is e next = absurd (let apart : None ≡ Some rest = sym (none_leaves (Some r.chrom) rs) ∙ e in cc)
+    by_next (Some now) is e next = going now (next_more left now more last r is) (next now e)
+
+-- if a name follows, no such record masks the last sequence, nor decides a line of it
+ends_own : (n : List ℕ) (ns : Names) (ts : List (Tagged Feature)) → AllByRecursion (EndsWith (n ∷ ns)) ts → own_in ts ≡ []
+ends_own n ns [] h = refl
+ends_own n ns (t ∷ ts) h = ap (λ (l : List Feature). l ++ own_in ts) (one t.item h.0.0 t.left h.0.1) ∙ ends_own n ns ts h.1
+  where
+    one : (item : Feature) (xs : Names) (left : Option Names) → left ≡ Some (xs ++ n ∷ ns) → items_if_last left (item ∷ []) ≡ []
+    one item [] left e = ap (λ l. items_if_last l (item ∷ [])) e
+    one item (x ∷ xs) left e = ap (λ l. items_if_last l (item ∷ [])) e
+
+ends_any : (bases : ℕ) (n : List ℕ) (ns : Names) (ts : List (Tagged Feature)) → AllByRecursion (EndsWith (n ∷ ns)) ts → list_any (tag_decides bases) ts ≡ false
+ends_any bases n ns [] h = refl
+ends_any bases n ns (t ∷ ts) h = ap (λ b. b || list_any (tag_decides bases) ts) (one t.item h.0.0 t.left h.0.1) ∙ ends_any bases n ns ts h.1
+  where
+    one : (item : Feature) (xs : Names) (left : Option Names) → left ≡ Some (xs ++ n ∷ ns) → tag_decides bases (record { item = item; left = left }) ≡ false
+    one item [] left e = ap (λ l. tag_decides bases (record { item = item; left = l })) e
+    one item (x ∷ xs) left e = ap (λ l. tag_decides bases (record { item = item; left = l })) e
+
+-- records of the first part alone decide no line of the second
+pub any_behind : (bases : ℕ) (names rest : Names) (n : List ℕ) (ns : Names) (ones : List Feature) → leave (Some names) None ones ≡ Some rest → list_any (tag_decides bases) (tags_of (names ++ n ∷ ns) ones) ≡ false
+any_behind bases names rest n ns ones e = ends_any bases n ns (tags_of (names ++ n ∷ ns) ones) (stays_from (n ∷ ns) rest names None ones e).tagged
+
+-- the names left by the first records, then the block of the first of the later ones
+next_enters : (rest more : Names) (last : Option (List ℕ)) (r : Feature) → one_leaves (Some rest) last r ≡ None → one_leaves (Some (rest ++ more)) last r ≡ sequences_behind r.chrom more
+next_enters rest more last r e = by_last (is_last last r.chrom) e
+  where
+    by_last : (b : Bool) → cond b (Some rest) (sequences_behind r.chrom rest) ≡ None → cond b (Some (rest ++ more)) (sequences_behind r.chrom (rest ++ more)) ≡ sequences_behind r.chrom more
+    by_last true e = cc
+    by_last false e = none_found r.chrom rest more e
+
+module _ (names rest : Names) (ones : List Feature) (kept : leave (Some names) None ones ≡ Some rest) where
+  lost_next : (r : Feature) (rs : List Feature) → IsLost names ones (r ∷ rs) → one_leaves (Some rest) (last_tagged None ones) r ≡ None
+  lost_next r rs lost = ap (λ o. one_leaves o (last_tagged None ones) r) (sym kept) ∙ sym (leave_append (Some names) None ones (r ∷ [])) ∙ lost
+
+  -- the first of the later records lies on another chromosome than the last of the first ones
+  pub apart_next : (r : Feature) (rs : List Feature) → IsLost names ones (r ∷ rs) → is_last (last_tagged None ones) r.chrom ≡ false
+  apart_next r rs lost = by_last (is_last (last_tagged None ones) r.chrom) (lost_next r rs lost)
+    where
+      by_last : (b : Bool) → cond b (Some rest) (sequences_behind r.chrom rest) ≡ None → b ≡ false
+      by_last true e = cc
+      by_last false e = refl
+
+  later_tags : (more : Names) (twos : List Feature) → IsLost names ones twos → tags chrom_of (leave (Some (names ++ more)) None ones) (last_tagged None ones) twos ≡ tags_of more twos
+  later_tags more [] lost = refl
+  later_tags more (r ∷ rs) lost =
+      let is = (stays_from more rest names None ones kept).leaves in
+      let enters = next_enters rest more (last_tagged None ones) r (lost_next r rs lost) in
+      ap (λ o. tags chrom_of o (last_tagged None ones) (r ∷ rs)) is
+      ∙ ap (λ o. record { item = r; left = o } ∷ tags chrom_of o (Some r.chrom) rs) enters
+
+  -- what the later records leave, after the names of the first part
+  pub later_leave : (more : Names) (r : Feature) (rs : List Feature) → IsLost names ones (r ∷ rs) → leave (Some (names ++ more)) None (ones ++ r ∷ rs) ≡ leave (Some more) None (r ∷ rs)
+  later_leave more r rs lost =
+      let is = (stays_from more rest names None ones kept).leaves in
+      let enters = next_enters rest more (last_tagged None ones) r (lost_next r rs lost) in
+      leave_append (Some (names ++ more)) None ones (r ∷ rs)
+      ∙ ap (λ o. leave o (last_tagged None ones) (r ∷ rs)) is
+      ∙ ap (λ o. leave o (Some r.chrom) rs) enters
+
+  -- whether all belong to a sequence
+  pub both_owned : (more : Names) (twos : List Feature) → IsLost names ones twos → is_some (leave (Some (names ++ more)) None (ones ++ twos)) ≡ is_some (leave (Some more) None twos)
+  both_owned more [] lost = ap (λ rs. is_some (leave (Some (names ++ more)) None rs)) (append-nil ones) ∙ ap is_some (stays_from more rest names None ones kept).leaves
+  both_owned more (r ∷ rs) lost = ap is_some (later_leave more r rs lost)
+
+  module _ (n : List ℕ) (ns : Names) (twos : List Feature) (lost : IsLost names ones twos) where
+    tags_second : tags_of (names ++ n ∷ ns) (ones ++ twos) ≡ tags_of (names ++ n ∷ ns) ones ++ tags_of (n ∷ ns) twos
+    tags_second = tags_append (Some (names ++ n ∷ ns)) None ones twos ∙ ap (λ ts. tags_of (names ++ n ∷ ns) ones ++ ts) (later_tags (n ∷ ns) twos lost)
+
+    ends : AllByRecursion (EndsWith (n ∷ ns)) (tags_of (names ++ n ∷ ns) ones)
+    ends = (stays_from (n ∷ ns) rest names None ones kept).tagged
+
+    -- a sequence of the second part is masked by its own records
+    pub own_second : own_records (names ++ n ∷ ns) (ones ++ twos) ≡ own_records (n ∷ ns) twos
+    own_second =
+        own_tagged (names ++ n ∷ ns) (ones ++ twos) ∙ ap own_in tags_second
+        ∙ flat_map-append (λ (t : Tagged Feature). items_if_last t.left (t.item ∷ [])) (tags_of (names ++ n ∷ ns) ones) (tags_of (n ∷ ns) twos)
+        ∙ ap (λ (l : List Feature). l ++ own_in (tags_of (n ∷ ns) twos)) (ends_own n ns (tags_of (names ++ n ∷ ns) ones) ends)
+        ∙ sym (own_tagged (n ∷ ns) twos)
+
+    -- and its lines are decided by them
+    pub any_second : (bases : ℕ) → list_any (tag_decides bases) (tags_of (names ++ n ∷ ns) (ones ++ twos)) ≡ list_any (tag_decides bases) (tags_of (n ∷ ns) twos)
+    any_second bases =
+        ap (list_any (tag_decides bases)) tags_second
+        ∙ list_any-append (tag_decides bases) (tags_of (names ++ n ∷ ns) ones) (tags_of (n ∷ ns) twos)
+        ∙ ap (λ b. b || list_any (tag_decides bases) (tags_of (n ∷ ns) twos)) (ends_any bases n ns (tags_of (names ++ n ∷ ns) ones) ends)
+
+-- ---- names of one part alone
+
+abbrev pub AreOff : Names → List Feature → Type 0
+AreOff names rs = AllByRecursion (λ r. is_among names r.chrom ≡ false) rs
+
+-- records without a sequence have none after it either
+pub lost_more : (left more : Names) (last : Option (List ℕ)) (rs : List Feature) → AreOff more rs → leave (Some left) last rs ≡ None → leave (Some (left ++ more)) last rs ≡ None
+lost_more left more last [] off e = cc
+lost_more left more last (r ∷ rs) off e = by_next (one_leaves (Some left) last r) refl e (λ now d. lost_more now more (Some r.chrom) rs off.1 d)
+  where
+    by_next : (o : Option Names) → one_leaves (Some left) last r ≡ o → leave o (Some r.chrom) rs ≡ None → ((now : Names) → leave (Some now) (Some r.chrom) rs ≡ None → leave (Some (now ++ more)) (Some r.chrom) rs ≡ None)
+        → leave (one_leaves (Some (left ++ more)) last r) (Some r.chrom) rs ≡ None
+    by_next None is e next =
+        ap (λ o. leave o (Some r.chrom) rs) (next_enters left more last r is ∙ off_found r.chrom more off.0) ∙ none_leaves (Some r.chrom) rs
+    by_next (Some now) is e next = ap (λ o. leave o (Some r.chrom) rs) (next_more left now more last r is) ∙ next now e
+
+-- a record that is named as no sequence belongs to none
+lost_by : (left : Names) (last : Option (List ℕ)) (ones : List Feature) (r : Feature) → is_last last r.chrom ≡ false → is_among left r.chrom ≡ false → leave (Some left) last (ones ++ r ∷ []) ≡ None
+lost_by left last [] r apart off = ap (λ b. cond b (Some left) (sequences_behind r.chrom left)) apart ∙ off_found r.chrom left off
+lost_by left last (s ∷ ss) r apart off = by_last (is_last last s.chrom) refl (λ now clear rest. lost_by now (Some s.chrom) ss r clear rest)
+  where
+    on_last : (l : Option (List ℕ)) → is_last l s.chrom ≡ true → is_last l r.chrom ≡ false → bytes_eq s.chrom r.chrom ≡ false
+    on_last None is apart = cc
+    on_last (Some name) is apart = ap (λ n. bytes_eq n r.chrom) (sym (same_name name s.chrom is)) ∙ apart
+
+    by_found : (o : Option Names) → sequences_behind s.chrom left ≡ o → ((now : Names) → bytes_eq s.chrom r.chrom ≡ false → is_among now r.chrom ≡ false → leave (Some now) (Some s.chrom) (ss ++ r ∷ []) ≡ None) → leave o (Some s.chrom) (ss ++ r ∷ []) ≡ None
+    by_found None is next = none_leaves (Some s.chrom) (ss ++ r ∷ [])
+    by_found (Some now) is next =
+        let both = off_behind r.chrom s.chrom left now off is in
+        next now both.1 both.0
+
+    by_last : (b : Bool) → is_last last s.chrom ≡ b → ((now : Names) → bytes_eq s.chrom r.chrom ≡ false → is_among now r.chrom ≡ false → leave (Some now) (Some s.chrom) (ss ++ r ∷ []) ≡ None) → leave (cond b (Some left) (sequences_behind s.chrom left)) (Some s.chrom) (ss ++ r ∷ []) ≡ None
+    by_last true is next = next left (on_last last is apart) off
+    by_last false is next = by_found (sequences_behind s.chrom left) refl next
+
+pub lost_off : (names : Names) (ones twos : List Feature) → AreOff names twos → IsLost names ones twos
+lost_off names ones [] off = tt
+lost_off names ones (r ∷ twos) off = lost_by names None ones r refl off.0
+
+-- fewer names own no more
+pub left_fewer : (names more : Names) (rs : List Feature) → leave (Some (names ++ more)) None rs ≡ None → leave (Some names) None rs ≡ None
+left_fewer names more rs lost = by_left (leave (Some names) None rs) refl
+  where
+    by_left : (o : Option Names) → leave (Some names) None rs ≡ o → o ≡ None
+    by_left None e = refl
+    by_left (Some rest) e = absurd (let apart : Some (rest ++ more) ≡ None = sym (stays_from more rest names None rs e).leaves ∙ lost in cc)
+
+pub lost_fewer : (names more : Names) (ones twos : List Feature) → IsLost (names ++ more) ones twos → IsLost names ones twos
+lost_fewer names more ones [] lost = tt
+lost_fewer names more ones (r ∷ twos) lost = left_fewer names more (ones ++ r ∷ []) lost
+
+-- after records that belong to none, none has a sequence
+pub none_behind : (names : Names) (ones more : List Feature) → leave (Some names) None ones ≡ None → leave (Some names) None (ones ++ more) ≡ None
+none_behind names ones more e =
+    leave_append (Some names) None ones more ∙ ap (λ o. leave o (last_tagged None ones) more) e ∙ none_leaves (last_tagged None ones) more
+
+pub lost_behind : (names : Names) (ones more : List Feature) → leave (Some names) None ones ≡ None → IsLost names ones more
+lost_behind names ones [] e = tt
+lost_behind names ones (r ∷ more) e = none_behind names ones (r ∷ []) e
+
+-- a record that belongs to none decides each line
+any_none : (bases : ℕ) (left : Names) (last : Option (List ℕ)) (rs : List Feature) → leave (Some left) last rs ≡ None → list_any (tag_decides bases) (tags chrom_of (Some left) last rs) ≡ true
+any_none bases left last [] e = cc
+any_none bases left last (r ∷ rs) e = by_next (one_leaves (Some left) last r) refl e (λ now d. any_none bases now (Some r.chrom) rs d)
+  where
+    by_next : (o : Option Names) → one_leaves (Some left) last r ≡ o → leave o (Some r.chrom) rs ≡ None
+        → ((now : Names) → leave (Some now) (Some r.chrom) rs ≡ None → list_any (tag_decides bases) (tags chrom_of (Some now) (Some r.chrom) rs) ≡ true)
+        → list_any (tag_decides bases) (tags chrom_of (Some left) last (r ∷ rs)) ≡ true
+    by_next None is e next = ap (λ o. list_any (tag_decides bases) (record { item = r; left = o } ∷ tags chrom_of o (Some r.chrom) rs)) is
+    by_next (Some now) is e next =
+        ap (λ o. list_any (tag_decides bases) (record { item = r; left = o } ∷ tags chrom_of o (Some r.chrom) rs)) is
+        ∙ ap (λ b. tag_decides bases (record { item = r; left = Some now }) || b) (next now e)
+        ∙ or_true (tag_decides bases (record { item = r; left = Some now }))
+
+pub any_lost : (bases : ℕ) (names more own : Names) (rs : List Feature) → names ≡ own ++ more → leave (Some names) None rs ≡ None → list_any (tag_decides bases) (tags_of own rs) ≡ true
+any_lost bases names more own rs is e = any_none bases own None rs (left_fewer own more rs (subst (λ ns. leave (Some ns) None rs ≡ None) is e))
+
+-- Records of two parts, none of which lies on a chromosome of the other part.
+
+-- no record of the one lies on a chromosome of the other
+pub record Away (ones twos : List Interval) : Type 0 where
+  pub first : AllByRecursion (λ r. has_records r.chrom twos ≡ false) ones
+  pub second : AllByRecursion (λ s. has_records s.chrom ones ≡ false) twos
+
+pub none_has : (name : List ℕ) (rs : List Interval) → AllByRecursion (λ r. bytes_eq r.chrom name ≡ false) rs → has_records name rs ≡ false
+none_has name [] h = refl
+none_has name (r ∷ rs) h = ap (λ b. b || has_records name rs) h.0 ∙ none_has name rs h.1
+
+pub has_none : (name : List ℕ) (rs : List Interval) → has_records name rs ≡ false → AllByRecursion (λ r. bytes_eq r.chrom name ≡ false) rs
+has_none name [] e = tt
+has_none name (r ∷ rs) e = let parts = or_parts (bytes_eq r.chrom name) (has_records name rs) e in (parts.0, has_none name rs parts.1)
+
+pub away_by : (ones twos : List Interval) → AllByRecursion (λ r. AllByRecursion (λ s. bytes_eq r.chrom s.chrom ≡ false) twos) ones → Away ones twos
+away_by ones twos h = record {
+  first = all_so _ _ ones (λ r k. none_has r.chrom twos (all_so _ _ twos (λ s e. name_ne-sym r.chrom s.chrom e) k)) h;
+  second = all_so _ _ twos (λ s k. none_has s.chrom ones k) (all_swapped (λ r s. bytes_eq r.chrom s.chrom ≡ false) ones twos h);
+}
+
+-- the last of the records is one of them
+pub last_is : (P : Interval → Type 0) (q : Interval) (qs : List Interval) → AllByRecursion P (q ∷ qs) → P (last_from q qs)
+last_is P q [] h = h.0
+last_is P q (s ∷ ss) h = last_is P s ss h.1
+
+pub last_behind : (ones : List Interval) (q : Interval) (qs : List Interval) → last_of (ones ++ q ∷ qs) ≡ Some (last_from q qs)
+last_behind [] q qs = refl
+last_behind (r ∷ []) q qs = refl
+last_behind (r ∷ s ∷ ss) q qs = last_behind (s ∷ ss) q qs
+
+-- the records of a chromosome that has none in the other part
+pub spans_first : (name : List ℕ) (ones twos : List Interval) → has_records name twos ≡ false → spans_on name (ones ++ twos) ≡ spans_on name ones
+spans_first name ones twos e = spans_on-append name ones twos ∙ ap (λ l. spans_on name ones ++ l) (spans_on-none name twos e) ∙ append-nil (spans_on name ones)
+
+pub spans_second : (name : List ℕ) (ones twos : List Interval) → has_records name ones ≡ false → spans_on name (ones ++ twos) ≡ spans_on name twos
+spans_second name ones twos e = spans_on-append name ones twos ∙ ap (λ l. l ++ spans_on name twos) (spans_on-none name ones e)
+
+pub has_append : (name : List ℕ) (xs ys : List Interval) → has_records name (xs ++ ys) ≡ (has_records name xs || has_records name ys)
+has_append name [] ys = refl
+has_append name (x ∷ xs) ys = ap (λ b. bytes_eq x.chrom name || b) (has_append name xs ys) ∙ or_assoc (bytes_eq x.chrom name) (has_records name xs) (has_records name ys)
+
+module _ (order : Order) (total : IsTotal order) where
+  apart_names : (a b : List ℕ) → IsTrue (order.knows a) → order.compare a b ≡ Less → bytes_eq a b ≡ false
+  apart_names a b known less = name_ne a b (λ same.
+      let equal : order.compare a b ≡ Equal = subst (λ c. order.compare a c ≡ Equal) same (total.same a known) in
+      let both : Less ≡ Equal = sym less ∙ equal in absurd (cc))
+
+  earlier_away : (ones twos : List Feature) → ArePlaced order (intervals_of ones) → Earlier order total ones twos → AllByRecursion (λ r. AllByRecursion (λ s. bytes_eq r.chrom s.chrom ≡ false) (intervals_of twos)) (intervals_of ones)
+  earlier_away [] twos placed early = tt
+  earlier_away (r ∷ ones) twos placed early = (
+    all_map (λ s. bytes_eq r.chrom s.chrom ≡ false) interval_of twos (all_so _ _ twos (λ s less. apart_names r.chrom s.chrom placed.0 less) early.0),
+    earlier_away ones twos placed.2 early.1,
+  )
+
+  pub records_away : (ones twos : List Feature) → ArePlaced order (intervals_of ones) → Earlier order total ones twos → Away (intervals_of ones) (intervals_of twos)
+  records_away ones twos placed early = away_by (intervals_of ones) (intervals_of twos) (earlier_away ones twos placed early)
+
+  first_before : (r : Feature) (twos : List Feature) → AllByRecursion (λ s. order.compare r.chrom s.chrom ≡ Less) twos → IsPlacedBefore order (interval_of r) (intervals_of twos)
+  first_before r [] h = tt
+  first_before r (s ∷ twos) h = inl h.0
+
+  pub placed_both : (ones twos : List Feature) → ArePlaced order (intervals_of ones) → ArePlaced order (intervals_of twos) → Earlier order total ones twos → ArePlaced order (intervals_of (ones ++ twos))
+  placed_both [] twos one two early = two
+  placed_both (r ∷ []) twos one two early = (one.0, first_before r twos early.0, two)
+  placed_both (r ∷ s ∷ ones) twos one two early = (one.0, one.1, placed_both (s ∷ ones) twos one.2 two early.1)
+
+  pub names_apart : (ones twos : List Feature) → AllByRecursion (λ r. IsTrue (order.knows r.chrom)) ones → Earlier order total ones twos → AllByRecursion (λ a. AllByRecursion (λ b. bytes_eq a.chrom b.chrom ≡ false) twos) ones
+  names_apart [] twos known early = tt
+  names_apart (a ∷ ones) twos known early = (all_so _ _ twos (λ b less. apart_names a.chrom b.chrom known.0 less) early.0, names_apart ones twos known.1 early.1)
+
+  pub names_behind : (ones twos : List Feature) → AllByRecursion (λ r. IsTrue (order.knows r.chrom)) ones → Earlier order total ones twos → AllByRecursion (λ a. AllByRecursion (λ b. bytes_eq a.chrom b.chrom ≡ false) ones) twos
+  names_behind ones twos known early =
+      all_swapped (λ b a. bytes_eq a.chrom b.chrom ≡ false) ones twos
+      (all_so _ _ ones (λ b k. all_so _ _ twos (λ a e. name_ne-sym b.chrom a.chrom e) k) (names_apart ones twos known early))

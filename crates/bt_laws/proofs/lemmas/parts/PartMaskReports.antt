@@ -1,0 +1,526 @@
+-- The reports of maskfasta on two parts, and on both.
+use Rattle.bt_lines.proofs.Std.{◌≡◌, ℕ, Bool, true, false, List, [], ◌∷◌, ◌++◌, map, Option, Some, None, refl, sym, ap, ap₂, ◌∙◌, subst, cond, ◌||◌, ◌⊎◌, append-nil, inl, inr, IsTrue, flat_map, is_some, is_none, option_map, AllByRecursion, list_all, list_any, option_or, or_left, flat_map-append}
+use Rattle.bt_laws.proofs.lemmas.parts.PartLines.{none_like}
+use Rattle.bt_seq.proofs.lemmas.mask.steps.LineStepLemmas.{some_list}
+use Rattle.bt_lines.specs.model.Fault.{FaultValue}
+use Rattle.bt_lines.specs.model.Lines.{text_lines, end_bytes}
+use Rattle.bt_lines.specs.declared.fault.Input.TheVariants.{First, Second}
+use Rattle.bt_bed.specs.model.Feature.{Feature}
+use Rattle.bt_bed.specs.model.Good.{Good, good, items_in, or_else, block_format, Rule, join_report, written}
+use Rattle.bt_seq.proofs.lemmas.definitions.KnowsLemmas.{leave, leave_all}
+use Rattle.bt_seq.proofs.lemmas.definitions.MaskPrefixLemmas.{none_leaves, decided_by_tags, unnamed_own}
+use Rattle.bt_seq.proofs.lemmas.Sam.{last_from, tag_decides, tags_of}
+use Rattle.bt_seq.specs.model.Masked.{masked_line, names_of, decided, is_unnamed, mask_rule, masked_from, SequenceLine, sequence_format, bases_up_to, is_header, block_decides, own_records, owned}
+use Rattle.bt_seq.specs.declared.mask.mask_how.MaskHow.{MaskHow}
+use Rattle.bt_laws.specs.Parts.{BelongsToNone, MasksNone, begins_sequence, sequence_names, StandsBefore, said_records, Texts}
+use Rattle.bt_tool.specs.model.Written.{Report}
+use Rattle.bt_laws.proofs.lemmas.parts.PartSequences.{BeginsElsewhere, calm_joint, fresh_joint, sound_from, among_from, faulty_same, first_front, AreBothBy, fasta_both, line_after, names_begin, names_both, names_grown, second_named, second_sound, unnamed_from}
+use Rattle.bt_laws.proofs.lemmas.parts.PartMasked.{IsSound, lines_both, mask_good, report_sound, sound_output, sound_report, line_second, lines_first, told_lost}
+use Rattle.bt_laws.proofs.lemmas.parts.PartGenomes.{AreOff, IsLost, apart_next, both_owned, leave_append, lost_more, lost_off, any_behind, any_first, any_lost, any_second, later_leave, lost_behind, lost_fewer, none_behind, or_true}
+use Rattle.bt_laws.proofs.lemmas.parts.PartReports.{Adds, Stops}
+use Rattle.bt_lines.specs.declared.fault.Kind.TheVariants.{NoSequence}
+use Rattle.bt_bed.proofs.lemmas.Definitions.{all_written, met_fault_all, met_lines, written_at, written_past}
+use Rattle.bt_laws.proofs.lemmas.Lists.{all_so, flat_map_same, all_map}
+use Rattle.bt_laws.proofs.lemmas.parts.PartSweep.{all_true, take_front, unless_none, written_before}
+
+module _ (how : MaskHow) (full : Bool) where
+  -- what is good of FASTA text, and of records in blocks
+  abbrev pub fasta_of : List ℕ → Good SequenceLine
+  fasta_of text = good (sequence_format full) First (text_lines text)
+
+  abbrev pub blocks_of : List ℕ → Good Feature
+  blocks_of text = good block_format Second (text_lines text)
+
+  abbrev pub texts_report : Texts → Report
+  texts_report texts = mask_good how (fasta_of texts.first) (blocks_of texts.second)
+
+  -- the names, and the records
+  abbrev pub fasta_names : List ℕ → List (List ℕ)
+  fasta_names text = names_of (items_in (fasta_of text))
+
+  abbrev pub block_records : List ℕ → List Feature
+  block_records text = items_in (blocks_of text)
+
+  -- two parts, and both
+  pub record AreTwo (one two : Texts) : Type 0 where
+    pub first : StandsBefore one.first two.first
+    pub second : StandsBefore one.second two.second
+    pub begins : IsTrue (begins_sequence two.first)
+
+  abbrev pub joined_two : Texts → Texts → Texts
+  joined_two one two = record { first = one.first ++ two.first; second = one.second ++ two.second }
+
+  module _ (one two : Texts) (are : AreTwo one two) where
+    sound_lines : (fault : Option FaultValue) → (fasta_of one.first).fault ≡ fault → fault ≡ None
+        → (items_in (fasta_of (one.first ++ two.first)) ≡ items_in (fasta_of one.first) ++ map (line_after (fasta_names one.first)) (items_in (fasta_of two.first))) × ((fasta_of (one.first ++ two.first)).fault ≡ None)
+    sound_lines None is e = subst (λ f. AreBothBy full First f (fasta_of one.first) (fasta_of two.first) (fasta_of (one.first ++ two.first))) is (fasta_both full First one.first two.first are.first are.begins)
+    sound_lines (Some f) is e = cc
+
+    -- the lines of both, if the first part has no fault
+    pub lines_of_both : (fasta_of one.first).fault ≡ None
+        → (items_in (fasta_of (one.first ++ two.first)) ≡ items_in (fasta_of one.first) ++ map (line_after (fasta_names one.first)) (items_in (fasta_of two.first))) × ((fasta_of (one.first ++ two.first)).fault ≡ None)
+    lines_of_both e = sound_lines (fasta_of one.first).fault refl e
+
+    pub names_of_both : (fasta_of one.first).fault ≡ None → fasta_names (one.first ++ two.first) ≡ fasta_names one.first ++ fasta_names two.first
+    names_of_both e = ap names_of (lines_of_both e).0 ∙ names_both full First (items_in (fasta_of one.first)) (items_in (fasta_of two.first))
+
+    first_lines_sound : (fault : Option FaultValue) → (fasta_of one.first).fault ≡ fault → (fasta_of (one.first ++ two.first)).fault ≡ None → fault ≡ None
+    first_lines_sound None is e = refl
+    first_lines_sound (Some f) is e =
+        let same : fasta_of (one.first ++ two.first) ≡ fasta_of one.first = subst (λ f. AreBothBy full First f (fasta_of one.first) (fasta_of two.first) (fasta_of (one.first ++ two.first))) is (fasta_both full First one.first two.first are.first are.begins) in
+        let none : Some f ≡ None = sym is ∙ sym (ap (λ (g : Good SequenceLine). g.fault) same) ∙ e in cc
+
+    -- both parts are sound, and no record of the second belongs to a sequence of the first
+    module _ (first : IsSound (fasta_of one.first) (blocks_of one.second)) (second : IsSound (fasta_of two.first) (blocks_of two.second))
+        (lost : IsLost (fasta_names one.first) (block_records one.second) (block_records two.second)) where
+      rest_of : (rest : List (List ℕ)) × (leave (Some (fasta_names one.first)) None (block_records one.second) ≡ Some rest)
+      rest_of = some_list (leave (Some (fasta_names one.first)) None (block_records one.second)) first.owned
+
+      elsewhere : (twos : List Feature) → IsLost (fasta_names one.first) (block_records one.second) twos → BeginsElsewhere (last_from None (block_records one.second)) twos
+      elsewhere [] lost = tt
+      elsewhere (r ∷ rs) lost = apart_next (fasta_names one.first) rest_of.0 (block_records one.second) rest_of.1 r rs lost
+
+      records_two : block_records two.second ≡ said_records two.second
+      records_two = sound_from Second None (text_lines two.second) second.records
+
+      records_both : (block_records (one.second ++ two.second) ≡ block_records one.second ++ block_records two.second) × ((blocks_of (one.second ++ two.second)).fault ≡ None)
+      records_both =
+          let joint = fresh_joint Second one.second two.second are.second first.records (subst (BeginsElsewhere (last_from None (block_records one.second))) records_two (elsewhere (block_records two.second) lost)) in
+          (joint.0, none_like (blocks_of two.second).fault (blocks_of (one.second ++ two.second)).fault (sym joint.1) second.records)
+
+      pub whole_sound : IsSound (fasta_of (one.first ++ two.first)) (blocks_of (one.second ++ two.second))
+      whole_sound = record {
+        lines = (lines_of_both first.lines).1;
+        records = records_both.1;
+        owned =
+            ap₂ (λ names records. is_some (leave (Some names) None records)) (names_of_both first.lines) records_both.0
+            ∙ both_owned (fasta_names one.first) rest_of.0 (block_records one.second) rest_of.1 (fasta_names two.first) (block_records two.second) lost ∙ second.owned;
+      }
+
+      pub whole_output : (texts_report (joined_two one two)).output ≡ (texts_report one).output ++ (texts_report two).output
+      whole_output =
+          sound_output how (fasta_of (one.first ++ two.first)) (blocks_of (one.second ++ two.second)) records_both.1
+          ∙ ap₂ (λ records lines. flat_map (masked_line how records) lines) records_both.0 (lines_of_both first.lines).0
+          ∙ lines_both how (fasta_names one.first) rest_of.0 (block_records one.second) (block_records two.second) (items_in (fasta_of one.first)) (items_in (fasta_of two.first)) rest_of.1 lost
+          (names_begin full First (text_lines one.first)) (second_named full First one.first two.first are.first are.begins)
+          ∙ sym (ap₂ (λ a b. a ++ b) (sound_output how (fasta_of one.first) (blocks_of one.second) first.records) (sound_output how (fasta_of two.first) (blocks_of two.second) second.records))
+
+    -- names may be repeated
+    pub two_suffice : BelongsToNone (sequence_names full one.first) (said_records one.second) (said_records two.second) → (texts_report one).fault ≡ None → (texts_report two).fault ≡ None
+        → ((texts_report (joined_two one two)).fault ≡ None) × ((texts_report (joined_two one two)).output ≡ (texts_report one).output ++ (texts_report two).output)
+    two_suffice has e d =
+        let first = report_sound how (fasta_of one.first) (blocks_of one.second) e in
+        let second = report_sound how (fasta_of two.first) (blocks_of two.second) d in
+        let lost = lost_here first second has in
+        (sound_report how (fasta_of (one.first ++ two.first)) (blocks_of (one.second ++ two.second)) (whole_sound first second lost), whole_output first second lost)
+      where
+        as_lost : (names : List (List ℕ)) (ones twos : List Feature) → BelongsToNone names ones twos → IsLost names ones twos
+        as_lost names ones [] has = tt
+        as_lost names ones (r ∷ twos) has = leave_all (Some names) (ones ++ r ∷ []) ∙ has
+
+        lost_here : IsSound (fasta_of one.first) (blocks_of one.second) → IsSound (fasta_of two.first) (blocks_of two.second) → BelongsToNone (sequence_names full one.first) (said_records one.second) (said_records two.second)
+            → IsLost (fasta_names one.first) (block_records one.second) (block_records two.second)
+        lost_here first second has =
+            subst (λ names. IsLost names (block_records one.second) (block_records two.second)) (sym (names_grown full First one.first first.lines))
+            (subst (λ ones. IsLost (sequence_names full one.first) ones (block_records two.second)) (sym (sound_from Second None (text_lines one.second) first.records))
+            (subst (λ twos. IsLost (sequence_names full one.first) (said_records one.second) twos) (sym (sound_from Second None (text_lines two.second) second.records))
+            (as_lost (sequence_names full one.first) (said_records one.second) (said_records two.second) has)))
+
+    -- no record is named as a sequence of the other part
+    module _ (off_two : MasksNone full one two) (off_one : MasksNone full two one) where
+      lost_names : (fasta_of one.first).fault ≡ None → (twos : List Feature) → AreOff (sequence_names full one.first) twos → IsLost (fasta_names one.first) (block_records one.second) twos
+      lost_names e twos off = lost_off (fasta_names one.first) (block_records one.second) twos (subst (λ names. AreOff names twos) (sym (names_grown full First one.first e)) off)
+
+      lost_sound : IsSound (fasta_of one.first) (blocks_of one.second) → IsSound (fasta_of two.first) (blocks_of two.second) → IsLost (fasta_names one.first) (block_records one.second) (block_records two.second)
+      lost_sound first second = lost_names first.lines (block_records two.second) (subst (AreOff (sequence_names full one.first)) (sym (sound_from Second None (text_lines two.second) second.records)) off_one)
+
+      -- if both are sound, so is each part
+      module _ (whole : IsSound (fasta_of (one.first ++ two.first)) (blocks_of (one.second ++ two.second))) where
+        lines_one : (fasta_of one.first).fault ≡ None
+        lines_one = first_lines_sound (fasta_of one.first).fault refl whole.lines
+
+        calm : ((blocks_of one.second).fault ≡ None) × ((blocks_of two.second).fault ≡ None) × (block_records (one.second ++ two.second) ≡ block_records one.second ++ block_records two.second)
+        calm = calm_joint Second one.second two.second are.second whole.records
+
+        owned_both : is_some (leave (Some (fasta_names one.first ++ fasta_names two.first)) None (block_records one.second ++ block_records two.second)) ≡ true
+        owned_both = sym (ap₂ (λ names records. is_some (leave (Some names) None records)) (names_of_both lines_one) calm.2) ∙ whole.owned
+
+        ones_off : AreOff (fasta_names two.first) (block_records one.second)
+        ones_off =
+            subst (λ names. AreOff names (block_records one.second)) (sym (names_grown full First two.first (second_sound full First one.first two.first are.first are.begins)))
+            (subst (AreOff (sequence_names full two.first)) (sym (sound_from Second None (text_lines one.second) calm.0)) off_two)
+
+        twos_lost : IsLost (fasta_names one.first) (block_records one.second) (block_records two.second)
+        twos_lost = lost_names lines_one (block_records two.second) (subst (AreOff (sequence_names full one.first)) (sym (sound_from Second None (text_lines two.second) calm.1)) off_one)
+
+        by_left : (o : Option (List (List ℕ))) → leave (Some (fasta_names one.first)) None (block_records one.second) ≡ o
+            → IsSound (fasta_of one.first) (blocks_of one.second) × IsSound (fasta_of two.first) (blocks_of two.second)
+        by_left None is =
+            let more = lost_more (fasta_names one.first) (fasta_names two.first) None (block_records one.second) ones_off is in
+            let none = leave_append (Some (fasta_names one.first ++ fasta_names two.first)) None (block_records one.second) (block_records two.second)
+            ∙ ap (λ o. leave o (last_from None (block_records one.second)) (block_records two.second)) more
+            ∙ none_leaves (last_from None (block_records one.second)) (block_records two.second) in
+            absurd (let apart : false ≡ true = sym (ap is_some none) ∙ owned_both in cc)
+        by_left (Some rest) is = (
+          record { lines = lines_one; records = calm.0; owned = ap is_some is },
+          record {
+            lines = second_sound full First one.first two.first are.first are.begins;
+            records = calm.1;
+            owned = sym (both_owned (fasta_names one.first) rest (block_records one.second) is (fasta_names two.first) (block_records two.second) twos_lost) ∙ owned_both;
+          },
+        )
+
+        pub parts_sound : IsSound (fasta_of one.first) (blocks_of one.second) × IsSound (fasta_of two.first) (blocks_of two.second)
+        parts_sound = by_left (leave (Some (fasta_names one.first)) None (block_records one.second)) refl
+
+      pub mask_adds : Adds (texts_report one) (texts_report two) (texts_report (joined_two one two))
+      mask_adds = record {
+        parts = λ e.
+            let sound = parts_sound (report_sound how (fasta_of (one.first ++ two.first)) (blocks_of (one.second ++ two.second)) e) in
+            (sound_report how (fasta_of one.first) (blocks_of one.second) sound.0, sound_report how (fasta_of two.first) (blocks_of two.second) sound.1);
+        both = λ e d.
+            let first = report_sound how (fasta_of one.first) (blocks_of one.second) e in
+            let second = report_sound how (fasta_of two.first) (blocks_of two.second) d in
+            sound_report how (fasta_of (one.first ++ two.first)) (blocks_of (one.second ++ two.second)) (whole_sound first second (lost_sound first second));
+        output = λ e d.
+            let first = report_sound how (fasta_of one.first) (blocks_of one.second) e in
+            let second = report_sound how (fasta_of two.first) (blocks_of two.second) d in
+            whole_output first second (lost_sound first second);
+      }
+
+-- ---- one part at fault
+
+-- ---- written lines
+
+module _ (mine yours : Rule SequenceLine ℕ FaultValue) (move : SequenceLine → SequenceLine) where
+  -- lines that were moved, by a rule that says the same of them
+  moved_at : (x : SequenceLine) (xs : List SequenceLine) (b : Bool) → mine.decided (move x) ≡ b → yours.decided x ≡ b → mine.lines (move x) ≡ yours.lines x → written mine (map move xs) ≡ written yours xs
+      → written mine (move x ∷ map move xs) ≡ written yours (x ∷ xs)
+  moved_at x xs true e d same more = written_at mine (move x) (map move xs) true e ∙ ap₂ (λ a c. a ++ c) same more ∙ sym (written_at yours x xs true d)
+  moved_at x xs false e d same more = written_at mine (move x) (map move xs) false e ∙ sym (written_at yours x xs false d)
+
+  written_moved : (xs : List SequenceLine) → AllByRecursion (λ x. (mine.decided (move x) ≡ yours.decided x) × (mine.lines (move x) ≡ yours.lines x)) xs → written mine (map move xs) ≡ written yours xs
+  written_moved [] h = refl
+  written_moved (x ∷ xs) h = moved_at x xs (yours.decided x) h.0.0 refl h.0.1 (written_moved xs h.1)
+
+none_written : (rule : Rule SequenceLine ℕ FaultValue) (xs : List SequenceLine) → AllByRecursion (λ x. rule.decided x ≡ false) xs → written rule xs ≡ []
+none_written rule [] h = refl
+none_written rule (x ∷ xs) h = written_at rule x xs false h.0
+
+module _ (how : MaskHow) (full : Bool) where
+  abbrev report_on : Texts → Report
+  report_on texts = texts_report how full texts
+
+  abbrev F : List ℕ → Good SequenceLine
+  F text = fasta_of how full text
+
+  abbrev B : List ℕ → Good Feature
+  B text = blocks_of how full text
+
+  abbrev N : List ℕ → List (List ℕ)
+  N text = fasta_names how full text
+
+  abbrev R : List ℕ → List Feature
+  R text = block_records how full text
+
+  -- the rule for two texts
+  abbrev rule_on : Texts → Rule SequenceLine ℕ FaultValue
+  rule_on texts = mask_rule how (N texts.first) (B texts.second)
+
+  -- a record has no sequence, and no line before the first header is at fault
+  pub record Lacks (texts : Texts) : Type 0 where
+    pub lines : (F texts.first).fault ≡ None
+    pub lost : leave (Some (N texts.first)) None (R texts.second) ≡ None
+
+  lacks_one : (texts : Texts) → Lacks texts → (line : SequenceLine) → (more : List (List ℕ)) × (N texts.first ≡ line.names ++ more) → (rule_on texts).decided line ≡ true
+  lacks_one texts lacks line begins =
+      ap (λ b. is_none (B texts.second).fault || b)
+      (decided_by_tags line (R texts.second)
+      ∙ ap (λ b. is_unnamed line.names || b) (any_lost (bases_up_to line) (N texts.first) begins.0 line.names (R texts.second) begins.1 lacks.lost)
+      ∙ or_true (is_unnamed line.names))
+      ∙ or_true (is_none (B texts.second).fault)
+
+  lacks_decided : (texts : Texts) → Lacks texts → list_all (rule_on texts).decided (items_in (F texts.first)) ≡ true
+  lacks_decided texts lacks = all_true (rule_on texts).decided (items_in (F texts.first)) (all_so _ _ (items_in (F texts.first)) (λ line b. lacks_one texts lacks line b) (names_begin full First (text_lines texts.first)))
+
+  -- then all lines are written
+  lacks_output : (texts : Texts) → Lacks texts → (report_on texts).output ≡ flat_map (masked_line how (R texts.second)) (items_in (F texts.first))
+  lacks_output texts lacks = met_lines (rule_on texts) (items_in (F texts.first)) (F texts.first).fault ∙ sym (all_written (rule_on texts) (items_in (F texts.first)) (lacks_decided texts lacks))
+
+  -- and this is reported
+  pub lacks_kind : (texts : Texts) → Lacks texts → option_map (λ fault. fault.kind) (report_on texts).fault ≡ Some NoSequence
+  lacks_kind texts lacks =
+      ap (option_map (λ (fault : FaultValue). fault.kind))
+      (met_fault_all (rule_on texts) (items_in (F texts.first)) (F texts.first).fault (lacks_decided texts lacks)
+      ∙ ap₂ (λ a b. option_or a (or_else b (B texts.second).fault)) lacks.lines (told_lost (N texts.first) (B texts.second).members lacks.lost).1)
+
+  module _ (one two : Texts) (are : AreTwo how full one two) (off_two : MasksNone full one two) (off_one : MasksNone full two one) where
+    abbrev both : Texts
+    both = joined_two how full one two
+
+    sound_two : (F two.first).fault ≡ None
+    sound_two = second_sound full First one.first two.first are.first are.begins
+
+    named_two : AllByRecursion (λ line. is_unnamed line.names ≡ false) (items_in (F two.first))
+    named_two = second_named full First one.first two.first are.first are.begins
+
+    ones_away : AreOff (N two.first) (R one.second)
+    ones_away =
+        subst (λ names. AreOff names (R one.second)) (sym (names_grown full First two.first sound_two))
+        (among_from Second _ None (text_lines one.second) off_two)
+
+    lost_on : (F one.first).fault ≡ None → (twos : List Feature) → AreOff (sequence_names full one.first) twos → IsLost (N one.first) (R one.second) twos
+    lost_on e twos off = lost_off (N one.first) (R one.second) twos (subst (λ names. AreOff names twos) (sym (names_grown full First one.first e)) off)
+
+    twos_gone : (F one.first).fault ≡ None → IsLost (N one.first) (R one.second) (R two.second)
+    twos_gone e = lost_on e (R two.second) (among_from Second _ None (text_lines two.second) off_one)
+
+    -- ---- the first part lacks a sequence
+
+    module _ (lacks : Lacks one) where
+      whole_lacks : Lacks both
+      whole_lacks = record {
+        lines = (lines_of_both how full one two are lacks.lines).1;
+        lost =
+            let more = first_front Second one.second two.second are.second in
+            ap₂ (λ names records. leave (Some names) None records) (names_of_both how full one two are lacks.lines) more.1
+            ∙ none_behind (N one.first ++ N two.first) (R one.second) more.0 (lost_more (N one.first) (N two.first) None (R one.second) ones_away lacks.lost);
+      }
+
+      goes_on : (more : List ℕ) × ((report_on both).output ≡ (report_on one).output ++ more)
+      goes_on =
+          let more = first_front Second one.second two.second are.second in
+          let later = map (line_after (N one.first)) (items_in (F two.first)) in (
+            flat_map (masked_line how (R one.second ++ more.0)) later,
+            lacks_output both whole_lacks
+                ∙ ap₂ (λ records lines. flat_map (masked_line how records) lines) more.1 (lines_of_both how full one two are lacks.lines).0
+                ∙ flat_map-append (masked_line how (R one.second ++ more.0)) (items_in (F one.first)) later
+                ∙ ap (λ l. l ++ flat_map (masked_line how (R one.second ++ more.0)) later)
+                (lines_first how (N one.first) (R one.second) more.0 (items_in (F one.first)) (lost_behind (N one.first) (R one.second) more.0 lacks.lost) (names_begin full First (text_lines one.first))
+                ∙ sym (lacks_output one lacks)),
+          )
+
+    -- ---- text before its first header
+
+    module _ (fault : FaultValue) (e : (F one.first).fault ≡ Some fault) where
+      same_lines : F (one.first ++ two.first) ≡ F one.first
+      same_lines = subst (λ f. AreBothBy full First f (F one.first) (F two.first) (F (one.first ++ two.first))) e (fasta_both full First one.first two.first are.first are.begins)
+
+      unnamed : AllByRecursion (λ line. is_unnamed line.names ≡ true) (items_in (F one.first))
+      unnamed = unnamed_from full First (sequence_format full).begin (text_lines one.first) fault e
+
+      unnamed_text : (records : List Feature) (line : SequenceLine) → is_unnamed line.names ≡ true → masked_line how records line ≡ masked_line how [] line
+      unnamed_text records line u = by_names line.names refl u
+        where
+          by_names : (own : List (List ℕ)) → line.names ≡ own → is_unnamed own ≡ true → masked_line how records line ≡ masked_line how [] line
+          by_names [] is u =
+              ap (λ (rs : List Feature). cond (is_header line.text) line.text (masked_from how rs line.before line.text) ++ end_bytes line.ending)
+              (ap (λ own. own_records own records) is ∙ unnamed_own records ∙ sym (unnamed_own []) ∙ sym (ap (λ own. own_records own []) is))
+          by_names (n ∷ ns) is u = cc
+
+      unnamed_output : (names : List (List ℕ)) (second : Good Feature) → (join_report (mask_rule how names second) (items_in (F one.first)) (F one.first).fault).lines ≡ flat_map (masked_line how []) (items_in (F one.first))
+      unnamed_output names second =
+          met_lines (mask_rule how names second) (items_in (F one.first)) (F one.first).fault
+          ∙ sym (all_written (mask_rule how names second) (items_in (F one.first))
+          (all_true (mask_rule how names second).decided (items_in (F one.first))
+          (all_so _ _ (items_in (F one.first)) (λ line u. ap (λ b. is_none second.fault || b) (or_left (is_unnamed line.names) (list_any (λ o. block_decides (bases_up_to line) o.left o.block.items) (owned line.names (items_in second))) u) ∙ or_true (is_none second.fault)) unnamed)))
+          ∙ flat_map_same _ _ (items_in (F one.first)) (all_so _ _ (items_in (F one.first)) (λ line u. unnamed_text (items_in second) line u) unnamed)
+
+      stops_unnamed : (report_on one).output ≡ (report_on both).output
+      stops_unnamed =
+          unnamed_output (N one.first) (B one.second)
+          ∙ sym (ap (λ (g : Good SequenceLine). (join_report (mask_rule how (names_of (items_in g)) (B (one.second ++ two.second))) (items_in g) g.fault).lines) same_lines ∙ unnamed_output (N one.first) (B (one.second ++ two.second)))
+
+    -- ---- its records have sequences
+
+    module _ (lines : (F one.first).fault ≡ None) (rest : List (List ℕ)) (kept : leave (Some (N one.first)) None (R one.second) ≡ Some rest) where
+      -- records of the first part alone decide no line of the second
+      undecided : (fault : FaultValue) (second : Good Feature) → second.fault ≡ Some fault → items_in second ≡ R one.second → (names : List (List ℕ))
+          → AllByRecursion (λ line. (mask_rule how names second).decided line ≡ false) (map (line_after (N one.first)) (items_in (F two.first)))
+      undecided fault second e same names = all_map _ (line_after (N one.first)) (items_in (F two.first)) (all_so _ _ (items_in (F two.first)) (λ line u. each line u) named_two)
+        where
+          by_names : (line : SequenceLine) (own : List (List ℕ)) → line.names ≡ own → is_unnamed own ≡ false → (is_unnamed (N one.first ++ line.names) || list_any (tag_decides (bases_up_to line)) (tags_of (N one.first ++ line.names) (R one.second))) ≡ false
+          by_names line [] is u = cc
+          by_names line (n ∷ ns) is u =
+              ap (λ own. is_unnamed (N one.first ++ own) || list_any (tag_decides (bases_up_to line)) (tags_of (N one.first ++ own) (R one.second))) is
+              ∙ ap₂ (λ a b. a || b) (named (N one.first)) (any_behind (bases_up_to line) (N one.first) rest n ns (R one.second) kept)
+            where
+              named : (names : List (List ℕ)) → is_unnamed (names ++ n ∷ ns) ≡ false
+              named [] = refl
+              named (m ∷ ms) = refl
+
+          each : (line : SequenceLine) → is_unnamed line.names ≡ false → (mask_rule how names second).decided (line_after (N one.first) line) ≡ false
+          each line u =
+              ap₂ (λ f records. is_none f || decided (line_after (N one.first) line) records) e same
+              ∙ decided_by_tags (line_after (N one.first) line) (R one.second) ∙ by_names line line.names refl u
+
+      -- a record of it is at fault
+      stops_faulty : (fault : FaultValue) → (B one.second).fault ≡ Some fault → (report_on one).output ≡ (report_on both).output
+      stops_faulty fault e =
+          let same : B (one.second ++ two.second) ≡ B one.second = faulty_same Second one.second two.second are.second fault e in
+          met_lines (rule_on one) (items_in (F one.first)) (F one.first).fault
+          ∙ sym (met_lines (rule_on both) (items_in (F (one.first ++ two.first))) (F (one.first ++ two.first)).fault
+          ∙ ap₂ (λ (g : Good Feature) ls. written (mask_rule how (N (one.first ++ two.first)) g) ls) same (lines_of_both how full one two are lines).0
+          ∙ written_before (mask_rule how (N (one.first ++ two.first)) (B one.second)) (items_in (F one.first)) (map (line_after (N one.first)) (items_in (F two.first)))
+          (undecided fault (B one.second) e refl (N (one.first ++ two.first))))
+
+      module _ (records : (B one.second).fault ≡ None) where
+        lost : IsLost (N one.first) (R one.second) (R two.second)
+        lost = twos_gone lines
+
+        others_begin : (twos : List Feature) → IsLost (N one.first) (R one.second) twos → BeginsElsewhere (last_from None (R one.second)) twos
+        others_begin [] gone = tt
+        others_begin (r ∷ rs) gone = apart_next (N one.first) rest (R one.second) kept r rs gone
+
+        joint : (R (one.second ++ two.second) ≡ R one.second ++ R two.second) × (is_none (B (one.second ++ two.second)).fault ≡ is_none (B two.second).fault)
+        joint = fresh_joint Second one.second two.second are.second records (others_begin (said_records two.second) (lost_on lines (said_records two.second) off_one))
+
+        first_output : (report_on one).output ≡ flat_map (masked_line how (R one.second)) (items_in (F one.first))
+        first_output = sound_output how (F one.first) (B one.second) records
+
+        all_lines : flat_map (masked_line how (R (one.second ++ two.second))) (items_in (F (one.first ++ two.first)))
+            ≡ flat_map (masked_line how (R one.second)) (items_in (F one.first)) ++ flat_map (masked_line how (R two.second)) (items_in (F two.first))
+        all_lines =
+            ap₂ (λ records lines. flat_map (masked_line how records) lines) joint.0 (lines_of_both how full one two are lines).0
+            ∙ lines_both how (N one.first) rest (R one.second) (R two.second) (items_in (F one.first)) (items_in (F two.first)) kept lost (names_begin full First (text_lines one.first)) named_two
+
+        -- the second part lacks a sequence: so does the whole
+        both_lack : Lacks two → Lacks both
+        both_lack lacks = record {
+          lines = (lines_of_both how full one two are lines).1;
+          lost = ap₂ (λ names records. leave (Some names) None records) (names_of_both how full one two are lines) joint.0 ∙ by_records (R two.second) lost lacks.lost;
+        }
+          where
+            by_records : (twos : List Feature) → IsLost (N one.first) (R one.second) twos → leave (Some (N two.first)) None twos ≡ None → leave (Some (N one.first ++ N two.first)) None (R one.second ++ twos) ≡ None
+            by_records [] lost e = cc
+            by_records (r ∷ rs) lost e = later_leave (N one.first) rest (R one.second) kept (N two.first) r rs lost ∙ e
+
+        both_lines : Lacks two → (report_on both).output ≡ (report_on one).output ++ (report_on two).output
+        both_lines lacks = lacks_output both (both_lack lacks) ∙ all_lines ∙ sym (ap₂ (λ a b. a ++ b) first_output (lacks_output two lacks))
+
+        -- a record of the second part is at fault, or none
+        abbrev W : Rule SequenceLine ℕ FaultValue
+        W = rule_on both
+
+        front_of : (rest : List ℕ) × (flat_map W.lines (items_in (F one.first)) ≡ written W (items_in (F one.first)) ++ rest)
+        front_of = take_front W.decided W.lines (items_in (F one.first))
+
+        first_lines : flat_map W.lines (items_in (F one.first)) ≡ (report_on one).output
+        first_lines =
+            ap (λ records. flat_map (masked_line how records) (items_in (F one.first))) joint.0
+            ∙ lines_first how (N one.first) (R one.second) (R two.second) (items_in (F one.first)) lost (names_begin full First (text_lines one.first))
+            ∙ sym first_output
+
+        whole_written : (report_on both).output ≡ written W (items_in (F one.first) ++ map (line_after (N one.first)) (items_in (F two.first)))
+        whole_written = met_lines W (items_in (F (one.first ++ two.first))) (F (one.first ++ two.first)).fault ∙ ap (written W) (lines_of_both how full one two are lines).0
+
+        -- after the first of the later records
+        past_first : (r : Feature) (rs : List Feature) → R two.second ≡ r ∷ rs → (report_on both).output ≡ (report_on one).output ++ (report_on two).output
+        past_first r rs is =
+            whole_written
+            ∙ written_past W (items_in (F one.first)) (map (line_after (N one.first)) (items_in (F two.first)))
+            (all_true W.decided (items_in (F one.first)) (all_so _ _ (items_in (F one.first)) (λ line b. each line b) (names_begin full First (text_lines one.first))))
+            ∙ ap₂ (λ a b. a ++ b) first_lines
+            (written_moved W (rule_on two) (line_after (N one.first)) (items_in (F two.first)) (all_so _ _ (items_in (F two.first)) (λ line u. same line u) named_two)
+            ∙ sym (met_lines (rule_on two) (items_in (F two.first)) (F two.first).fault))
+          where
+            each : (line : SequenceLine) → (more : List (List ℕ)) × (N one.first ≡ line.names ++ more) → W.decided line ≡ true
+            each line begins =
+                ap (λ b. is_none (B (one.second ++ two.second)).fault || b)
+                (ap (decided line) (joint.0 ∙ ap (λ twos. R one.second ++ twos) is)
+                ∙ decided_by_tags line (R one.second ++ r ∷ rs)
+                ∙ ap (λ b. is_unnamed line.names || b)
+                (any_first (bases_up_to line) line.names (R one.second) r rs
+                (lost_fewer line.names begins.0 (R one.second) (r ∷ rs) (subst (λ names. IsLost names (R one.second) (r ∷ rs)) begins.1 (subst (IsLost (N one.first) (R one.second)) is lost))))
+                ∙ or_true (is_unnamed line.names))
+                ∙ or_true (is_none (B (one.second ++ two.second)).fault)
+
+            named : (names : List (List ℕ)) (n : List ℕ) (ns : List (List ℕ)) → is_unnamed (names ++ n ∷ ns) ≡ false
+            named [] n ns = refl
+            named (m ∷ ms) n ns = refl
+
+            by_names : (line : SequenceLine) (own : List (List ℕ)) → line.names ≡ own → is_unnamed own ≡ false
+                → (is_unnamed (N one.first ++ line.names) || list_any (tag_decides (bases_up_to line)) (tags_of (N one.first ++ line.names) (R one.second ++ R two.second)))
+                ≡ (is_unnamed line.names || list_any (tag_decides (bases_up_to line)) (tags_of line.names (R two.second)))
+            by_names line [] is u = cc
+            by_names line (n ∷ ns) is u =
+                ap (λ own. is_unnamed (N one.first ++ own) || list_any (tag_decides (bases_up_to line)) (tags_of (N one.first ++ own) (R one.second ++ R two.second))) is
+                ∙ ap₂ (λ a b. a || b) (named (N one.first) n ns) (any_second (N one.first) rest (R one.second) kept n ns (R two.second) lost (bases_up_to line))
+                ∙ sym (ap (λ own. is_unnamed own || list_any (tag_decides (bases_up_to line)) (tags_of own (R two.second))) is)
+
+            same : (line : SequenceLine) → is_unnamed line.names ≡ false → (W.decided (line_after (N one.first) line) ≡ (rule_on two).decided line) × (W.lines (line_after (N one.first) line) ≡ (rule_on two).lines line)
+            same line u = (
+              ap₂ (λ a b. a || b) joint.1
+                  (ap (decided (line_after (N one.first) line)) joint.0 ∙ decided_by_tags (line_after (N one.first) line) (R one.second ++ R two.second) ∙ by_names line line.names refl u ∙ sym (decided_by_tags line (R two.second))),
+              ap (λ records. masked_line how records (line_after (N one.first) line)) joint.0 ∙ line_second how (N one.first) rest (R one.second) (R two.second) kept lost line u,
+            )
+
+        some_fault : (f g : Option FaultValue) (fault : FaultValue) → is_none f ≡ is_none g → g ≡ Some fault → (told : FaultValue) × (f ≡ Some told)
+        some_fault None g fault e is = let apart : true ≡ false = e ∙ ap is_none is in absurd (let it : ⊥ = cc in it)
+        some_fault (Some told) g fault e is = (told, refl)
+
+        -- without any of them
+        before_second : (fault : FaultValue) → (B two.second).fault ≡ Some fault → R two.second ≡ [] → (rest : List ℕ) × ((report_on one).output ++ (report_on two).output ≡ (report_on both).output ++ rest)
+        before_second fault e is = (
+          front_of.0,
+          ap (λ l. (report_on one).output ++ l)
+              (met_lines (rule_on two) (items_in (F two.first)) (F two.first).fault
+              ∙ none_written (rule_on two) (items_in (F two.first))
+              (all_so _ _ (items_in (F two.first)) (λ line u. ap₂ (λ a b. a || b) (ap is_none e) (ap (decided line) is ∙ ap (λ b. b || false) u)) named_two))
+              ∙ append-nil (report_on one).output ∙ sym first_lines ∙ front_of.1
+              ∙ ap (λ l. l ++ front_of.0) (sym
+              (whole_written
+              ∙ written_before W (items_in (F one.first)) (map (line_after (N one.first)) (items_in (F two.first)))
+              (let told = some_fault (B (one.second ++ two.second)).fault (B two.second).fault fault joint.1 e in
+              undecided told.0 (B (one.second ++ two.second)) told.1 (joint.0 ∙ ap (λ twos. R one.second ++ twos) is ∙ append-nil (R one.second)) (N (one.first ++ two.first))))),
+        )
+
+        no_fault : (B two.second).fault ≡ None → (report_on both).output ≡ (report_on one).output ++ (report_on two).output
+        no_fault e =
+            sound_output how (F (one.first ++ two.first)) (B (one.second ++ two.second)) (none_like (B two.second).fault (B (one.second ++ two.second)).fault (sym joint.1) e)
+            ∙ all_lines ∙ sym (ap₂ (λ a b. a ++ b) first_output (sound_output how (F two.first) (B two.second) e))
+
+        either : (g : Option FaultValue) → (B two.second).fault ≡ g → (ts : List Feature) → R two.second ≡ ts → (rest : List ℕ) × ((report_on one).output ++ (report_on two).output ≡ (report_on both).output ++ rest)
+        either None e ts is = ([], sym (no_fault e) ∙ sym (append-nil (report_on both).output))
+        either (Some fault) e (r ∷ rs) is = ([], sym (past_first r rs is) ∙ sym (append-nil (report_on both).output))
+        either (Some fault) e [] is = before_second fault e is
+
+        pub stops_sound : (report_on one).fault ≡ None → Stops (report_on one) (report_on two) (report_on both)
+        stops_sound none =
+            let more = either (B two.second).fault refl (R two.second) refl in
+            (more.0, ap (λ l. (report_on one).output ++ l) (unless_none (report_on one).fault (report_on two).output none) ∙ more.1)
+
+    -- ---- any fault of the first part
+
+    -- it stops the whole, or the whole goes on without a sequence for some record
+    abbrev pub StopsOrGoes : Type 0
+    StopsOrGoes = ((rest : List ℕ) × ((report_on one).output ≡ (report_on both).output ++ rest))
+        ⊎ (Lacks both × ((more : List ℕ) × ((report_on both).output ≡ (report_on one).output ++ more)))
+
+    pub faulty_first : ((report_on one).fault ≡ None → ⊥) → StopsOrGoes
+    faulty_first some = by_lines (F one.first).fault refl
+      where
+        by_records : (g : Option FaultValue) → (B one.second).fault ≡ g → (F one.first).fault ≡ None → (rest : List (List ℕ)) → leave (Some (N one.first)) None (R one.second) ≡ Some rest → StopsOrGoes
+        by_records None e lines rest kept = absurd (some (sound_report how (F one.first) (B one.second) (record { lines = lines; records = e; owned = ap is_some kept })))
+        by_records (Some fault) e lines rest kept = inl ([], stops_faulty lines rest kept fault e ∙ sym (append-nil (report_on both).output))
+
+        by_left : (o : Option (List (List ℕ))) → leave (Some (N one.first)) None (R one.second) ≡ o → (F one.first).fault ≡ None → StopsOrGoes
+        by_left None e lines = let lacks : Lacks one = record { lines = lines; lost = e } in inr (whole_lacks lacks, goes_on lacks)
+        by_left (Some rest) e lines = by_records (B one.second).fault refl lines rest e
+
+        by_lines : (g : Option FaultValue) → (F one.first).fault ≡ g → StopsOrGoes
+        by_lines None e = by_left (leave (Some (N one.first)) None (R one.second)) refl e
+        by_lines (Some fault) e = inl ([], stops_unnamed fault e ∙ sym (append-nil (report_on both).output))
+
+    -- the first part has none: what the second part does, the whole does
+    pub sound_stops : (report_on one).fault ≡ None → Stops (report_on one) (report_on two) (report_on both)
+    sound_stops none =
+        let sound = report_sound how (F one.first) (B one.second) none in
+        let rest = some_list (leave (Some (N one.first)) None (R one.second)) sound.owned in
+        stops_sound sound.lines rest.0 rest.1 sound.records none
+
+    pub sound_goes : (report_on one).fault ≡ None → Lacks two → Lacks both × ((report_on both).output ≡ (report_on one).output ++ (report_on two).output)
+    sound_goes none lacks =
+        let sound = report_sound how (F one.first) (B one.second) none in
+        let rest = some_list (leave (Some (N one.first)) None (R one.second)) sound.owned in
+        (both_lack sound.lines rest.0 rest.1 sound.records lacks, both_lines sound.lines rest.0 rest.1 sound.records lacks)

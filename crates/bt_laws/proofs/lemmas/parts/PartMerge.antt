@@ -1,0 +1,267 @@
+-- Merged runs of records of two parts, and those of each strand.
+use Rattle.bt_lines.proofs.Std.{◌≡◌, ℕ, Bool, false, List, [], ◌∷◌, ◌++◌, map, filter, append-nil, refl, sym, ap, ap₂, ◌∙◌, subst, true, ◌&&◌, not, cond, append_assoc, bytes_eq, flat_map, nat_le, AllByRecursion, list_any, take_while, flat_map-append, map-append, filter-append, take_while-cons, and_left}
+use Rattle.bt_bed.specs.model.Feature.{Feature, interval_of, intervals_of, AreNonEmpty, Interval, last_from, last_of, placed_on, spans_on, interval_lines, interval_line, is_strand}
+use Rattle.bt_bed.specs.model.Sorted.{ArePlaced, has_records}
+use Rattle.bt_bed.specs.model.Order.{Order, IsTotal}
+use Rattle.bt_bed.proofs.lemmas.order.OrderLemmas.{placed_contiguous}
+use Rattle.bt_runs.specs.model.Merged.{counted, is_counted, chromosomes, merged, runs_of, runs_on, without, AreTaken, is_closed, merged_runs, passed_by, settled_runs, ordered_runs, StrandRun, begun_by, is_in, listed_behind, closed_prefix, places_of, runs_of_strand, settled_strand_runs, strand_runs, kept_strand_runs}
+use Rattle.bt_runs.specs.declared.merge.merge_strand.MergeStrand.{MergeStrand}
+use Rattle.bt_runs.proofs.lemmas.order.FileOrder.{among_chromosomes, without_absent, ordered_come}
+use Rattle.bt_runs.proofs.lemmas.definitions.Standing.{placed_elsewhere, counted-append, passed_elsewhere}
+use Rattle.bt_runs.proofs.lemmas.merge.SettledRuns.{runs_begin}
+use Rattle.bt_laws.proofs.lemmas.parts.PartBed.{Earlier}
+use Rattle.bt_laws.proofs.lemmas.Lists.{all_filter, all_map, all_so, flat_map_same, all_unmap, all_any, all_both, all_flat_map, filter_none, filter_same}
+use Rattle.bt_laws.proofs.lemmas.parts.PartGenomes.{Away, has_none, last_behind, last_is, none_has, placed_both, records_away, spans_first, spans_second}
+use Rattle.bt_laws.proofs.lemmas.parts.PartReports.{Splits}
+use Rattle.bt_tool.specs.model.Written.{pooled_written, strands_written}
+use Rattle.bt_bed.specs.declared.record.strand.Strand.{Strand}
+use Rattle.bt_runs.specs.declared.merge.merge_strand.MergeStrand.TheVariants.{One}
+use Rattle.bt_runs.proofs.lemmas.merge.StrandListing.{listed_append}
+use Rattle.bt_laws.proofs.lemmas.single.LevelLemmas.{divide}
+use Rattle.bt_laws.proofs.lemmas.parts.PartSweep.{any_behind}
+
+-- what isn't on a chromosome isn't when fewer records are looked at
+pub fewer : (t : Feature → Bool) (name : List ℕ) (rs : List Feature) → has_records name (intervals_of rs) ≡ false → has_records name (intervals_of (filter t rs)) ≡ false
+fewer t name rs e = none_has name (intervals_of (filter t rs)) (all_map _ interval_of (filter t rs) (all_filter _ t rs (all_unmap (λ r. bytes_eq r.chrom name ≡ false) interval_of rs (has_none name (intervals_of rs) e))))
+
+-- the records of a strand are on other chromosomes, if all records are
+pub away_some : (t : Feature → Bool) (ones twos : List Feature) → Away (intervals_of ones) (intervals_of twos) → Away (intervals_of (filter t ones)) (intervals_of (filter t twos))
+away_some t ones twos away = record {
+  first = all_map _ interval_of (filter t ones) (all_so _ _ (filter t ones) (λ r e. fewer t r.chrom twos e) (all_filter _ t ones (all_unmap _ interval_of ones away.first)));
+  second = all_map _ interval_of (filter t twos) (all_so _ _ (filter t twos) (λ s e. fewer t s.chrom ones e) (all_filter _ t twos (all_unmap _ interval_of twos away.second)));
+}
+
+-- chromosomes of both
+pub chromosomes_both : (xs ys : List Interval) → AllByRecursion (λ r. has_records r.chrom ys ≡ false) xs → chromosomes (xs ++ ys) ≡ chromosomes xs ++ chromosomes ys
+chromosomes_both [] ys h = refl
+chromosomes_both (r ∷ xs) ys h =
+    ap (λ ns. r.chrom ∷ ns)
+    (ap (without r.chrom) (chromosomes_both xs ys h.1)
+    ∙ filter-append _ (chromosomes xs) (chromosomes ys)
+    ∙ ap (λ ns. without r.chrom (chromosomes xs) ++ ns) (without_absent r.chrom (chromosomes ys) (among_chromosomes r.chrom ys ∙ h.0)))
+
+-- what holds of each record's chromosome holds of each name
+pub named_all : (P : List ℕ → Type 0) (xs : List Interval) → AllByRecursion (λ r. P r.chrom) xs → AllByRecursion P (chromosomes xs)
+named_all P [] h = tt
+named_all P (r ∷ xs) h = (h.0, all_filter P _ (chromosomes xs) (named_all P xs h.1))
+
+module _ (gap : ℕ) where
+  runs_same : (name : List ℕ) (xs ys : List Interval) → spans_on name xs ≡ spans_on name ys → runs_on name gap xs ≡ runs_on name gap ys
+  runs_same name xs ys e = ap (λ spans. map (placed_on name) (runs_of gap spans)) e
+
+  pub merged_both : (xs ys : List Interval) → Away xs ys → merged (chromosomes (xs ++ ys)) gap (xs ++ ys) ≡ merged (chromosomes xs) gap xs ++ merged (chromosomes ys) gap ys
+  unfolding merged
+  merged_both xs ys away =
+      ap (flat_map (λ name. runs_on name gap (xs ++ ys))) (chromosomes_both xs ys away.first)
+      ∙ flat_map-append (λ name. runs_on name gap (xs ++ ys)) (chromosomes xs) (chromosomes ys)
+      ∙ ap₂ (λ a b. a ++ b)
+      (flat_map_same (λ name. runs_on name gap (xs ++ ys)) (λ name. runs_on name gap xs) (chromosomes xs) (all_so _ _ (chromosomes xs) (λ n e. runs_same n (xs ++ ys) xs (spans_first n xs ys e)) (named_all (λ n. has_records n ys ≡ false) xs away.first)))
+      (flat_map_same (λ name. runs_on name gap (xs ++ ys)) (λ name. runs_on name gap ys) (chromosomes ys) (all_so _ _ (chromosomes ys) (λ n e. runs_same n (xs ++ ys) ys (spans_second n xs ys e)) (named_all (λ n. has_records n xs ≡ false) ys away.second)))
+
+  -- runs on other chromosomes are passed
+  pub passed_all : (last : Interval) (names : List (List ℕ)) (xs : List Interval) → AllByRecursion (λ n. bytes_eq n last.chrom ≡ false) names → filter (is_closed gap last) (merged names gap xs) ≡ merged names gap xs
+  unfolding merged
+  passed_all last [] xs h = refl
+  passed_all last (n ∷ names) xs h =
+      filter-append (is_closed gap last) (runs_on n gap xs) (flat_map (λ name. runs_on name gap xs) names)
+      ∙ ap₂ (λ a b. a ++ b) (placed_elsewhere gap last n (runs_of gap (spans_on n xs)) h.0) (passed_all last names xs h.1)
+
+  module _ (strand : MergeStrand) where
+    pub runs_both : (ones twos : List Feature) → Away (intervals_of ones) (intervals_of twos) → merged_runs gap strand (ones ++ twos) ≡ merged_runs gap strand ones ++ merged_runs gap strand twos
+    runs_both ones twos away =
+        ap (λ c. merged (chromosomes c) gap c) (counted-append strand ones twos)
+        ∙ merged_both (counted strand ones) (counted strand twos) (away_some (λ r. is_counted strand r.strand) ones twos away)
+
+    -- a record of the second part passes all runs of the first
+    pub passed_first : (last : Interval) (ones : List Feature) → has_records last.chrom (intervals_of ones) ≡ false → filter (is_closed gap last) (merged_runs gap strand ones) ≡ merged_runs gap strand ones
+    passed_first last ones e =
+        passed_all last (chromosomes (counted strand ones)) (counted strand ones)
+        (named_all (λ n. bytes_eq n last.chrom ≡ false) (counted strand ones) (has_none last.chrom (counted strand ones) (fewer (λ r. is_counted strand r.strand) last.chrom ones e)))
+
+    passed_both : (ones : List Feature) (s : Feature) (twos : List Feature) → Away (intervals_of ones) (intervals_of (s ∷ twos))
+        → passed_by gap (merged_runs gap strand (ones ++ s ∷ twos)) (last_of (intervals_of (ones ++ s ∷ twos))) ≡ merged_runs gap strand ones ++ passed_by gap (merged_runs gap strand (s ∷ twos)) (last_of (intervals_of (s ∷ twos)))
+    passed_both ones s twos away =
+        let last = last_from (interval_of s) (intervals_of twos) in
+        ap (passed_by gap (merged_runs gap strand (ones ++ s ∷ twos))) (ap last_of (map-append interval_of ones (s ∷ twos)) ∙ last_behind (intervals_of ones) (interval_of s) (intervals_of twos))
+        ∙ ap (filter (is_closed gap last)) (runs_both ones (s ∷ twos) away)
+        ∙ filter-append (is_closed gap last) (merged_runs gap strand ones) (merged_runs gap strand (s ∷ twos))
+        ∙ ap (λ l. l ++ filter (is_closed gap last) (merged_runs gap strand (s ∷ twos))) (passed_first last ones (last_is (λ r. has_records r.chrom (intervals_of ones) ≡ false) (interval_of s) (intervals_of twos) away.second))
+
+    settled_is : (records : List Feature) → settled_runs gap strand records ≡ passed_by gap (merged_runs gap strand records) (last_of (intervals_of records))
+    unfolding settled_runs
+    settled_is records = refl
+
+    begins : (ones : List Feature) → AreTaken ones → (rest : List Interval) × (merged_runs gap strand ones ≡ passed_by gap (merged_runs gap strand ones) (last_of (intervals_of ones)) ++ rest)
+    begins ones taken =
+        let front = runs_begin gap strand ones [] (subst AreTaken (sym (append-nil ones)) taken) in
+        (front.0, ap (merged_runs gap strand) (sym (append-nil ones)) ∙ front.1 ∙ ap (λ l. l ++ front.0) (settled_is ones))
+
+    begin_by : (ones twos : List Feature) → AreTaken ones → Away (intervals_of ones) (intervals_of twos)
+        → (rest : List ℕ) × (interval_lines (merged_runs gap strand ones) ++ interval_lines (passed_by gap (merged_runs gap strand twos) (last_of (intervals_of twos)))
+        ≡ interval_lines (passed_by gap (merged_runs gap strand (ones ++ twos)) (last_of (intervals_of (ones ++ twos)))) ++ rest)
+    begin_by ones [] taken away =
+        let front = begins ones taken in (
+          interval_lines front.0,
+          append-nil (interval_lines (merged_runs gap strand ones)) ∙ ap interval_lines front.1 ∙ flat_map-append interval_line _ front.0
+              ∙ ap (λ rs. interval_lines (passed_by gap (merged_runs gap strand rs) (last_of (intervals_of rs))) ++ interval_lines front.0) (sym (append-nil ones)),
+        )
+    begin_by ones (s ∷ twos) taken away =
+        ([], sym (append-nil _ ∙ ap interval_lines (passed_both ones s twos away) ∙ flat_map-append interval_line (merged_runs gap strand ones) _))
+
+    module _ (order : Order) (total : IsTotal order) (ones twos : List Feature) (one : ArePlaced order (intervals_of ones)) (two : ArePlaced order (intervals_of twos))
+        (full : AreNonEmpty (intervals_of ones)) (early : Earlier order total ones twos) where
+      come : (records : List Feature) → ArePlaced order (intervals_of records) → ordered_runs order gap strand records ≡ merged_runs gap strand records
+      come records placed = ordered_come order gap strand records total placed
+
+      both_placed : ArePlaced order (intervals_of (ones ++ twos))
+      both_placed = placed_both order total ones twos one two early
+
+      away : Away (intervals_of ones) (intervals_of twos)
+      away = records_away order total ones twos one early
+
+      pub pooled_split : Splits (pooled_written order gap strand) (pooled_written order gap strand) (pooled_written order gap strand) ones twos
+      pooled_split =
+          let front = begin_by ones twos (record { contiguous = placed_contiguous order (intervals_of ones) total one; full = full }) away in
+          record {
+            all = ap interval_lines (come (ones ++ twos) both_placed ∙ runs_both ones twos away ∙ ap₂ (λ a b. a ++ b) (sym (come ones one)) (sym (come twos two))) ∙ flat_map-append interval_line (ordered_runs order gap strand ones) (ordered_runs order gap strand twos);
+            first = refl;
+            begin = (
+              front.0,
+              ap₂ (λ a b. interval_lines a ++ interval_lines (passed_by gap b (last_of (intervals_of twos)))) (come ones one) (come twos two)
+                  ∙ front.1
+                  ∙ ap (λ a. interval_lines (passed_by gap a (last_of (intervals_of (ones ++ twos)))) ++ front.0) (sym (come (ones ++ twos) both_placed)),
+            );
+          }
+
+-- ---- runs of each strand
+
+-- the run lies on another chromosome
+abbrev Elsewhere : List ℕ → StrandRun → Type 0
+Elsewhere name item = bytes_eq item.run.chrom name ≡ false
+
+in_no : (a b c : Bool) → b ≡ false → (a && (b && c)) ≡ false
+in_no true b c e = ap (λ x. x && c) e
+in_no false b c e = refl
+
+not_in : (item : StrandRun) (r : Feature) → Elsewhere r.chrom item → is_in item r ≡ false
+not_in item r e = in_no (is_strand item.strand r.strand) (bytes_eq item.run.chrom r.chrom) (nat_le item.run.start r.start && nat_le r.stop item.run.stop) e
+
+-- what is listed is among the runs of the strands
+pub listed_all : (P : StrandRun → Type 0) (runs : Strand → List StrandRun) (before rs : List Feature) → ((strand : Strand) → AllByRecursion P (runs strand)) → AllByRecursion P (listed_behind runs before rs)
+listed_all P runs before [] h = tt
+listed_all P runs before (r ∷ rs) h = all_both P (begun_by (runs r.strand) before r) (listed_behind runs (before ++ r ∷ []) rs) (all_filter P _ (runs r.strand) (h r.strand)) (listed_all P runs (before ++ r ∷ []) rs h)
+
+module _ (gap : ℕ) where
+  runs_elsewhere : (name : List ℕ) (names : List (List ℕ)) (rs : List Interval) → AllByRecursion (λ n. bytes_eq n name ≡ false) names → AllByRecursion (λ run. bytes_eq run.chrom name ≡ false) (merged names gap rs)
+  unfolding merged
+  runs_elsewhere name names rs h =
+      all_flat_map (λ run. bytes_eq run.chrom name ≡ false) (λ n. runs_on n gap rs) names
+      (all_so _ _ names (λ n e. all_map (λ run. bytes_eq run.chrom name ≡ false) (placed_on n) (runs_of gap (spans_on n rs)) (all_any _ (runs_of gap (spans_on n rs)) (λ span. e))) h)
+
+  -- runs of records that have none on a chromosome lie elsewhere
+  items_elsewhere : (name : List ℕ) (rs : List Feature) (strand : Strand) → has_records name (intervals_of rs) ≡ false → AllByRecursion (Elsewhere name) (runs_of_strand gap rs strand)
+  items_elsewhere name rs strand e =
+      all_map (Elsewhere name) (λ run. record { strand = strand; run = run }) (merged_runs gap (One strand) rs)
+      (runs_elsewhere name (chromosomes (counted (One strand) rs)) (counted (One strand) rs)
+      (named_all (λ n. bytes_eq n name ≡ false) (counted (One strand) rs)
+      (all_map (λ r. bytes_eq r.chrom name ≡ false) interval_of (filter (λ r. is_counted (One strand) r.strand) rs)
+      (all_filter (λ r. bytes_eq r.chrom name ≡ false) (λ r. is_counted (One strand) r.strand) rs (all_unmap (λ r. bytes_eq r.chrom name ≡ false) interval_of rs (has_none name (intervals_of rs) e))))))
+
+  module _ (ones twos : List Feature) (away : Away (intervals_of ones) (intervals_of twos)) where
+    all_strand : (strand : Strand) → runs_of_strand gap (ones ++ twos) strand ≡ runs_of_strand gap ones strand ++ runs_of_strand gap twos strand
+    all_strand strand =
+        ap (map (λ run. record { strand = strand; run = run })) (runs_both gap (One strand) ones twos away)
+        ∙ map-append (λ run. record { strand = strand; run = run }) (merged_runs gap (One strand) ones) (merged_runs gap (One strand) twos)
+
+    begun_first : (before : List Feature) (r : Feature) → has_records r.chrom (intervals_of twos) ≡ false → begun_by (runs_of_strand gap (ones ++ twos) r.strand) before r ≡ begun_by (runs_of_strand gap ones r.strand) before r
+    begun_first before r e =
+        let test : StrandRun → Bool = λ item. is_in item r && not (list_any (is_in item) before) in
+        ap (filter test) (all_strand r.strand)
+        ∙ filter-append test (runs_of_strand gap ones r.strand) (runs_of_strand gap twos r.strand)
+        ∙ ap (λ l. filter test (runs_of_strand gap ones r.strand) ++ l) (filter_none test (runs_of_strand gap twos r.strand)
+        (all_so (Elsewhere r.chrom) (λ item. test item ≡ false) (runs_of_strand gap twos r.strand) (λ item out. and_left (is_in item r) (not (list_any (is_in item) before)) (not_in item r out)) (items_elsewhere r.chrom twos r.strand e)))
+        ∙ append-nil (filter test (runs_of_strand gap ones r.strand))
+
+    listed_first : (before rs : List Feature) → AllByRecursion (λ r. has_records r.chrom (intervals_of twos) ≡ false) rs → listed_behind (runs_of_strand gap (ones ++ twos)) before rs ≡ listed_behind (runs_of_strand gap ones) before rs
+    listed_first before [] h = refl
+    listed_first before (r ∷ rs) h = ap₂ (λ a b. a ++ b) (begun_first before r h.0) (listed_first (before ++ r ∷ []) rs h.1)
+
+    -- no record of the first part lies in a run of the second
+    none_first : (strand : Strand) → AllByRecursion (λ item. AllByRecursion (λ r. is_in item r ≡ false) ones) (runs_of_strand gap twos strand)
+    none_first strand = swapped ones (all_unmap _ interval_of ones away.first)
+      where
+        swapped : (rs : List Feature) → AllByRecursion (λ r. has_records r.chrom (intervals_of twos) ≡ false) rs → AllByRecursion (λ item. AllByRecursion (λ r. is_in item r ≡ false) rs) (runs_of_strand gap twos strand)
+        swapped [] h = all_any _ (runs_of_strand gap twos strand) (λ item. tt)
+        swapped (r ∷ rs) h = with_one (runs_of_strand gap twos strand) (items_elsewhere r.chrom twos strand h.0) (swapped rs h.1)
+          where
+            with_one : (items : List StrandRun) → AllByRecursion (Elsewhere r.chrom) items → AllByRecursion (λ item. AllByRecursion (λ r. is_in item r ≡ false) rs) items → AllByRecursion (λ item. AllByRecursion (λ r. is_in item r ≡ false) (r ∷ rs)) items
+            with_one [] e k = tt
+            with_one (item ∷ items) e k = ((not_in item r e.0, k.0), with_one items e.1 k.1)
+
+    begun_second : (before : List Feature) (r : Feature) → has_records r.chrom (intervals_of ones) ≡ false → begun_by (runs_of_strand gap (ones ++ twos) r.strand) (ones ++ before) r ≡ begun_by (runs_of_strand gap twos r.strand) before r
+    begun_second before r e =
+        let test : StrandRun → Bool = λ item. is_in item r && not (list_any (is_in item) (ones ++ before)) in
+        let here : StrandRun → Bool = λ item. is_in item r && not (list_any (is_in item) before) in
+        ap (filter test) (all_strand r.strand)
+        ∙ filter-append test (runs_of_strand gap ones r.strand) (runs_of_strand gap twos r.strand)
+        ∙ ap₂ (λ a b. a ++ b)
+        (filter_none test (runs_of_strand gap ones r.strand)
+        (all_so (Elsewhere r.chrom) (λ item. test item ≡ false) (runs_of_strand gap ones r.strand) (λ item out. and_left (is_in item r) (not (list_any (is_in item) (ones ++ before))) (not_in item r out)) (items_elsewhere r.chrom ones r.strand e)))
+        (filter_same test here (runs_of_strand gap twos r.strand)
+        (all_so (λ item. AllByRecursion (λ r. is_in item r ≡ false) ones) (λ item. test item ≡ here item) (runs_of_strand gap twos r.strand) (λ item none. ap (λ b. is_in item r && not b) (any_behind (is_in item) ones before none)) (none_first r.strand)))
+
+    listed_second : (before rs : List Feature) → AllByRecursion (λ r. has_records r.chrom (intervals_of ones) ≡ false) rs → listed_behind (runs_of_strand gap (ones ++ twos)) (ones ++ before) rs ≡ listed_behind (runs_of_strand gap twos) before rs
+    listed_second before [] h = refl
+    listed_second before (r ∷ rs) h =
+        ap₂ (λ a b. a ++ b) (begun_second before r h.0)
+        (ap (λ b. listed_behind (runs_of_strand gap (ones ++ twos)) b rs) (append_assoc ones before (r ∷ [])) ∙ listed_second (before ++ r ∷ []) rs h.1)
+
+    pub strand_runs_both : strand_runs gap (ones ++ twos) ≡ strand_runs gap ones ++ strand_runs gap twos
+    unfolding strand_runs
+    strand_runs_both =
+        listed_append (runs_of_strand gap (ones ++ twos)) [] ones twos
+        ∙ ap₂ (λ a b. a ++ b) (listed_first [] ones (all_unmap _ interval_of ones away.first))
+        (ap (λ b. listed_behind (runs_of_strand gap (ones ++ twos)) b twos) (sym (append-nil ones)) ∙ listed_second [] twos (all_unmap _ interval_of twos away.second))
+
+  strand_runs_elsewhere : (name : List ℕ) (rs : List Feature) → has_records name (intervals_of rs) ≡ false → AllByRecursion (Elsewhere name) (strand_runs gap rs)
+  unfolding strand_runs
+  strand_runs_elsewhere name rs e = listed_all (Elsewhere name) (runs_of_strand gap rs) [] rs (λ strand. items_elsewhere name rs strand e)
+
+  take_front : (t : StrandRun → Bool) (xs ys : List StrandRun) → AllByRecursion (λ x. t x ≡ true) xs → take_while t (xs ++ ys) ≡ xs ++ take_while t ys
+  take_front t [] ys h = refl
+  take_front t (x ∷ xs) ys h = take_while-cons t x (xs ++ ys) ∙ ap (λ b. cond b (x ∷ take_while t (xs ++ ys)) []) h.0 ∙ ap (λ l. x ∷ l) (take_front t xs ys h.1)
+
+  settled_both : (ones : List Feature) (s : Feature) (twos : List Feature) → Away (intervals_of ones) (intervals_of (s ∷ twos)) → settled_strand_runs gap (ones ++ s ∷ twos) ≡ strand_runs gap ones ++ settled_strand_runs gap (s ∷ twos)
+  unfolding settled_strand_runs
+  settled_both ones s twos away =
+      let last = last_from (interval_of s) (intervals_of twos) in
+      let test : StrandRun → Bool = λ item. is_closed gap last item.run in
+      ap (closed_prefix gap (strand_runs gap (ones ++ s ∷ twos))) (ap last_of (map-append interval_of ones (s ∷ twos)) ∙ last_behind (intervals_of ones) (interval_of s) (intervals_of twos))
+      ∙ ap (take_while test) (strand_runs_both ones (s ∷ twos) away)
+      ∙ take_front test (strand_runs gap ones) (strand_runs gap (s ∷ twos))
+      (all_so (Elsewhere last.chrom) (λ item. test item ≡ true) (strand_runs gap ones) (λ item out. passed_elsewhere gap last item.run out)
+      (strand_runs_elsewhere last.chrom ones (last_is (λ r. has_records r.chrom (intervals_of ones) ≡ false) (interval_of s) (intervals_of twos) away.second)))
+
+  places_both : (xs ys : List StrandRun) → interval_lines (places_of (xs ++ ys)) ≡ interval_lines (places_of xs) ++ interval_lines (places_of ys)
+  places_both xs ys = ap interval_lines (map-append (λ item. item.run) xs ys) ∙ flat_map-append interval_line (places_of xs) (places_of ys)
+
+  nothing_settled : interval_lines (places_of (settled_strand_runs gap [])) ≡ []
+  unfolding settled_strand_runs
+  nothing_settled = refl
+
+  strand_begin : (ones twos : List Feature) → Away (intervals_of ones) (intervals_of twos)
+      → (rest : List ℕ) × (interval_lines (places_of (strand_runs gap ones)) ++ interval_lines (places_of (settled_strand_runs gap twos)) ≡ interval_lines (places_of (settled_strand_runs gap (ones ++ twos))) ++ rest)
+  strand_begin ones [] away = (
+    interval_lines (places_of (kept_strand_runs gap ones)),
+    ap (λ l. interval_lines (places_of (strand_runs gap ones)) ++ l) nothing_settled ∙ append-nil (interval_lines (places_of (strand_runs gap ones)))
+        ∙ ap (λ items. interval_lines (places_of items)) (divide gap ones) ∙ places_both (settled_strand_runs gap ones) (kept_strand_runs gap ones)
+        ∙ ap (λ rs. interval_lines (places_of (settled_strand_runs gap rs)) ++ interval_lines (places_of (kept_strand_runs gap ones))) (sym (append-nil ones)),
+  )
+  strand_begin ones (s ∷ twos) away = ([], sym (append-nil _ ∙ ap (λ items. interval_lines (places_of items)) (settled_both ones s twos away) ∙ places_both (strand_runs gap ones) (settled_strand_runs gap (s ∷ twos))))
+
+  pub strands_split : (ones twos : List Feature) → Away (intervals_of ones) (intervals_of twos) → Splits (strands_written gap) (strands_written gap) (strands_written gap) ones twos
+  strands_split ones twos away = record {
+    all = ap (λ items. interval_lines (places_of items)) (strand_runs_both ones twos away) ∙ places_both (strand_runs gap ones) (strand_runs gap twos);
+    first = refl;
+    begin = strand_begin ones twos away;
+  }

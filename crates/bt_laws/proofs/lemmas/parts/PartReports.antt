@@ -1,0 +1,158 @@
+-- The reports on two parts and on the whole, and from them those on any number of parts.
+use Rattle.bt_lines.proofs.Std.{◌≡◌, ℕ, true, false, List, [], ◌∷◌, ◌++◌, map, append-nil, append_assoc, Option, Some, None, refl, sym, ap, ap₂, ◌∙◌, subst, flat_map, is_none, flat_map-append}
+use Rattle.bt_lines.specs.model.Fault.{FaultValue}
+use Rattle.bt_bed.specs.model.Good.{Good, items_in}
+use Rattle.bt_laws.specs.Parts.{AddUp, StopWithin, prefixes_begin, outputs_to_fault, unless_fault}
+use Rattle.bt_tool.specs.model.Written.{Report, good_report, report_by, Written}
+use Rattle.bt_laws.proofs.lemmas.parts.PartLines.{IsJoint, IsJointBy}
+
+-- two parts, and the whole
+pub record Adds (one two whole : Report) : Type 0 where
+  pub parts : whole.fault ≡ None → (one.fault ≡ None) × (two.fault ≡ None)
+  pub both : one.fault ≡ None → two.fault ≡ None → whole.fault ≡ None
+  pub output : one.fault ≡ None → two.fault ≡ None → whole.output ≡ one.output ++ two.output
+
+abbrev pub Stops : Report → Report → Report → Type 0
+Stops one two whole = (rest : List ℕ) × (one.output ++ unless_fault one.fault two.output ≡ whole.output ++ rest)
+
+-- both
+abbrev pub Joins : Report → Report → Report → Type 0
+Joins one two whole = Adds one two whole × Stops one two whole
+
+pub add_none : (whole : Report) → whole.fault ≡ None → whole.output ≡ [] → AddUp [] whole
+add_none whole fault output = record { faultless = (λ e. tt, λ all. fault); output = λ e. output }
+
+pub stop_none : (whole : Report) → whole.output ≡ [] → StopWithin [] whole
+stop_none whole output = ([], sym (append-nil whole.output ∙ output))
+
+pub add_one : (part : Report) → AddUp (part ∷ []) part
+add_one part = record { faultless = (λ e. (e, tt), λ all. all.0); output = λ e. sym (append-nil part.output) }
+
+one_stop : (fault : Option FaultValue) (output : List ℕ) → (rest : List ℕ) × (output ++ unless_fault fault [] ≡ output ++ rest)
+one_stop None output = ([], refl)
+one_stop (Some fault) output = ([], refl)
+
+pub stop_one : (part : Report) → StopWithin (part ∷ []) part
+stop_one part = one_stop part.fault part.output
+
+pub add_more : (part : Report) (parts : List Report) (rest whole : Report) → AddUp parts rest → Adds part rest whole → AddUp (part ∷ parts) whole
+add_more part parts rest whole more adds = record {
+  faultless = (
+    (λ e. let both = adds.parts e in (both.0, more.faultless.0 both.1)),
+    (λ all. adds.both all.0 (more.faultless.1 all.1)),
+  );
+  output = λ e.
+      let both = adds.parts e in
+      adds.output both.0 both.1 ∙ ap (λ l. part.output ++ l) (more.output both.1);
+}
+
+stop_by : (fault : Option FaultValue) (first whole output outputs left : List ℕ) → outputs ≡ output ++ left
+    → (rest : List ℕ) × (first ++ unless_fault fault output ≡ whole ++ rest) → (rest : List ℕ) × (first ++ unless_fault fault outputs ≡ whole ++ rest)
+stop_by None first whole output outputs left more stops = (
+  stops.0 ++ left,
+  ap (λ l. first ++ l) more ∙ sym (append_assoc first output left) ∙ ap (λ l. l ++ left) stops.1 ∙ append_assoc whole stops.0 left,
+)
+stop_by (Some fault) first whole output outputs left more stops = stops
+
+pub stop_more : (part : Report) (parts : List Report) (rest whole : Report) → StopWithin parts rest → Stops part rest whole → StopWithin (part ∷ parts) whole
+stop_more part parts rest whole more stops = stop_by part.fault part.output whole.output rest.output (outputs_to_fault parts) more.0 more.1 stops
+
+-- what a command of one input writes of the members of two parts; each command may have its own genome file
+pub record Splits {A : Type 0} (one two whole : Written A) (ones twos : List A) : Type 0 where
+  pub all : whole.whole (ones ++ twos) ≡ one.whole ones ++ two.whole twos
+  pub first : whole.settled ones ≡ one.settled ones
+  pub begin : (rest : List ℕ) × (one.whole ones ++ two.settled twos ≡ whole.settled (ones ++ twos) ++ rest)
+
+abbrev pub Contiguous : {A : Type 0} → Option FaultValue → Option FaultValue → Option FaultValue → List A → List A → List A → Type 0
+Contiguous None g h ones twos all = (all ≡ ones ++ twos) × (is_none h ≡ is_none g)
+Contiguous (Some f) g h ones twos all = (all ≡ ones) × (is_none h ≡ false)
+
+-- the whole is without a fault exactly if the parts are
+pub together_parts : {A : Type 0} (f g h : Option FaultValue) (ones twos all : List A) → Contiguous f g h ones twos all → h ≡ None → (f ≡ None) × (g ≡ None)
+together_parts None None h ones twos all is e = (refl, refl)
+together_parts None (Some g) None ones twos all is e = let apart : true ≡ false = is.1 in absurd (cc)
+together_parts None (Some g) (Some h) ones twos all is e = cc
+together_parts (Some f) g None ones twos all is e = let apart : true ≡ false = is.1 in absurd (cc)
+together_parts (Some f) g (Some h) ones twos all is e = cc
+
+pub together_both : {A : Type 0} (f g h : Option FaultValue) (ones twos all : List A) → Contiguous f g h ones twos all → f ≡ None → g ≡ None → h ≡ None
+together_both None None None ones twos all is e d = refl
+together_both None None (Some h) ones twos all is e d = let apart : false ≡ true = is.1 in absurd (cc)
+together_both None (Some g) h ones twos all is e d = cc
+together_both (Some f) g h ones twos all is e d = cc
+
+pub together_all : {A : Type 0} (f g h : Option FaultValue) (ones twos all : List A) → Contiguous f g h ones twos all → f ≡ None → all ≡ ones ++ twos
+together_all None g h ones twos all is e = is.0
+together_all (Some f) g h ones twos all is e = cc
+
+module _ {A : Type 0} (one two whole : Written A) (ones twos all : List A) (splits : Splits one two whole ones twos) where
+  pub joins_by : (f g h : Option FaultValue) → Contiguous f g h ones twos all → Joins (report_by one ones f) (report_by two twos g) (report_by whole all h)
+  joins_by None None None is = (
+    record { parts = λ e. (refl, refl); both = λ e d. refl; output = λ e d. ap whole.whole is.0 ∙ splits.all },
+    ([], sym (append-nil (whole.whole all) ∙ ap whole.whole is.0 ∙ splits.all)),
+  )
+  joins_by None None (Some h) is = let apart : false ≡ true = is.1 in absurd (cc)
+  joins_by None (Some g) None is = let apart : true ≡ false = is.1 in absurd (cc)
+  joins_by None (Some g) (Some h) is = (
+    record { parts = λ e. cc; both = λ e d. cc; output = λ e d. cc },
+    (splits.begin.0, splits.begin.1 ∙ ap (λ l. whole.settled l ++ splits.begin.0) (sym is.0)),
+  )
+  joins_by (Some f) g None is = let apart : true ≡ false = is.1 in absurd (cc)
+  joins_by (Some f) g (Some h) is = (
+    record { parts = λ e. cc; both = λ e d. cc; output = λ e d. cc },
+    ([], ap (λ l. l ++ []) (sym (ap whole.settled is.0 ∙ splits.first))),
+  )
+
+pub together : {A : Type 0} (f : Option FaultValue) (one two whole : Good A) → IsJointBy f one two whole → Contiguous f two.fault whole.fault (items_in one) (items_in two) (items_in whole)
+together None one two whole is = is
+together (Some f) one two whole is = is
+
+module _ {A : Type 0} (one two whole : Written A) (first second all : Good A) (joint : IsJoint first second all) (splits : Splits one two whole (items_in first) (items_in second)) where
+  pub good_joins : Joins (good_report one first) (good_report two second) (good_report whole all)
+  good_joins = joins_by one two whole (items_in first) (items_in second) (items_in all) splits first.fault second.fault all.fault (together first.fault first second all joint)
+
+-- a run that wrote nothing, without a fault
+abbrev pub nothing : Report
+nothing = record { output = []; fault = None }
+
+-- any number of parts, by two of them
+module _ {T : Type 0} (join : List T → T) (report : T → Report) (Fits : List T → Type 0)
+    (empty : report (join []) ≡ nothing)
+    (one : (t : T) → report (join (t ∷ [])) ≡ report t)
+    (less : (t : T) (ts : List T) → Fits (t ∷ ts) → Fits ts) where
+  pub parts_add : ((t u : T) (ts : List T) → Fits (t ∷ u ∷ ts) → Adds (report t) (report (join (u ∷ ts))) (report (join (t ∷ u ∷ ts))))
+      → (ts : List T) → Fits ts → AddUp (map report ts) (report (join ts))
+  parts_add two [] fits = add_none (report (join [])) (ap (λ (r : Report). r.fault) empty) (ap (λ (r : Report). r.output) empty)
+  parts_add two (t ∷ []) fits = subst (λ r. AddUp (report t ∷ []) r) (sym (one t)) (add_one (report t))
+  parts_add two (t ∷ u ∷ ts) fits =
+      add_more (report t) (map report (u ∷ ts)) (report (join (u ∷ ts))) (report (join (t ∷ u ∷ ts))) (parts_add two (u ∷ ts) (less t (u ∷ ts) fits)) (two t u ts fits)
+
+  pub parts_stop : ((t u : T) (ts : List T) → Fits (t ∷ u ∷ ts) → Stops (report t) (report (join (u ∷ ts))) (report (join (t ∷ u ∷ ts))))
+      → (ts : List T) → Fits ts → StopWithin (map report ts) (report (join ts))
+  parts_stop two [] fits = stop_none (report (join [])) (ap (λ (r : Report). r.output) empty)
+  parts_stop two (t ∷ []) fits = subst (λ r. StopWithin (report t ∷ []) r) (sym (one t)) (stop_one (report t))
+  parts_stop two (t ∷ u ∷ ts) fits =
+      stop_more (report t) (map report (u ∷ ts)) (report (join (u ∷ ts))) (report (join (t ∷ u ∷ ts))) (parts_stop two (u ∷ ts) (less t (u ∷ ts) fits)) (two t u ts fits)
+
+  pub parts_both : ((t u : T) (ts : List T) → Fits (t ∷ u ∷ ts) → Joins (report t) (report (join (u ∷ ts))) (report (join (t ∷ u ∷ ts))))
+      → (ts : List T) → Fits ts → AddUp (map report ts) (report (join ts)) × StopWithin (map report ts) (report (join ts))
+  parts_both two ts fits = (parts_add (λ t u ts f. (two t u ts f).0) ts fits, parts_stop (λ t u ts f. (two t u ts f).1) ts fits)
+
+-- commands that write the same of these members
+pub splits_as : {A : Type 0} (one two whole one_too two_too whole_too : Written A) (ones twos : List A)
+    → one.whole ones ≡ one_too.whole ones → one.settled ones ≡ one_too.settled ones → two.whole twos ≡ two_too.whole twos → two.settled twos ≡ two_too.settled twos
+    → whole.whole (ones ++ twos) ≡ whole_too.whole (ones ++ twos) → whole.settled ones ≡ whole_too.settled ones → whole.settled (ones ++ twos) ≡ whole_too.settled (ones ++ twos)
+    → Splits one_too two_too whole_too ones twos → Splits one two whole ones twos
+splits_as one two whole one_too two_too whole_too ones twos a b c d e f g splits = record {
+  all = e ∙ splits.all ∙ ap₂ (λ x y. x ++ y) (sym a) (sym c);
+  first = f ∙ splits.first ∙ sym b;
+  begin = (splits.begin.0, ap₂ (λ x y. x ++ y) a d ∙ splits.begin.1 ∙ ap (λ x. x ++ splits.begin.0) (sym g));
+}
+
+-- a prefix of what one part writes
+pub prefixes_begin_whole : prefixes_begin
+prefixes_begin_whole before later part whole front rest add none is = (
+  rest ++ flat_map (λ p. p.output) later,
+  add.output none ∙ flat_map-append (λ (p : Report). p.output) before (part ∷ later)
+      ∙ ap (λ l. flat_map (λ (p : Report). p.output) before ++ l) (ap (λ l. l ++ flat_map (λ (p : Report). p.output) later) is ∙ append_assoc front rest (flat_map (λ (p : Report). p.output) later)),
+)

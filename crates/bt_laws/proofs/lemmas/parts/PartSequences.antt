@@ -1,0 +1,491 @@
+-- What is good of two concatenated FASTA texts.
+use Rattle.bt_lines.proofs.Std.{◌≡◌, ℕ, suc, ◌-◌, Bool, true, false, cond, List, [], ◌∷◌, ◌++◌, length, map, take, append-nil, append_assoc, Option, Some, None, Result, Ok, Err, refl, sym, ap, ap₂, ◌∙◌, subst, eqb, arith, IsTrue, ⊤, flat_map, AllByRecursion, ends_with_byte, strip_last, eqb-true, map-append, is_none, nat_lt, option_map}
+use Rattle.bt_lines.specs.model.Fault.{FaultValue}
+use Rattle.bt_lines.specs.model.Lines.{TextLine, fed_line, last_line, lines_from, text_lines}
+use Rattle.bt_lines.specs.declared.fault.Input.{Input}
+use Rattle.bt_lines.specs.declared.fault.Kind.{Kind}
+use Rattle.bt_lines.specs.declared.fault.Kind.TheVariants.{TextBeforeHeader, OutOfOrder}
+use Rattle.bt_lines.proofs.lemmas.reader.lines.TextLemmas.{lines_from-fed, lines_from-last, by_lines}
+use Rattle.bt_bed.specs.model.Good.{Format, Good, Member, good, good_from, good_with, items_in, with_member, line_says as record_says, locus_at, said_after, block_format}
+use Rattle.bt_seq.specs.model.Masked.{is_unnamed, names_of, Reached, SequenceLine, header_behind, is_header, line_behind, line_says, may_stand, name_in, sequence_format}
+use Rattle.bt_laws.specs.Parts.{begins_sequence, name_on, sequence_names, StandsBefore, said_record, said_records}
+use Rattle.bt_laws.proofs.lemmas.parts.PartLines.{like_from, none_like, alike_lines, lines_join, IsLike}
+use Rattle.bt_bed.specs.model.Feature.{Feature, record_of}
+use Rattle.bt_bed.specs.model.Sorted.{Locus, block_sorting, falls_in}
+use Rattle.bt_seq.proofs.lemmas.definitions.KnowsLemmas.{is_last}
+use Rattle.bt_seq.proofs.lemmas.Sam.{last_from}
+use Rattle.bt_laws.proofs.lemmas.parts.PartBed.{alike_records, records_on}
+use Rattle.bt_laws.proofs.lemmas.Lists.{all_back, all_front}
+
+module _ {A State : Type 0} (format : Format A State) where
+  -- what is known after members
+  abbrev pub reached : State → List A → State
+  reached state [] = state
+  reached state (x ∷ xs) = reached (format.after state x) xs
+
+  -- what is good of lines, followed by this
+  abbrev pub put_on : Option FaultValue → Good A → Good A → Good A
+  put_on None g h = record { members = g.members ++ h.members; fault = h.fault }
+  put_on (Some fault) g h = g
+
+  member_on : (m : Member A) (fault : Option FaultValue) (g h : Good A) → with_member m (put_on fault g h) ≡ put_on fault (with_member m g) h
+  member_on m None g h = refl
+  member_on m (Some fault) g h = refl
+
+  module _ (input : Input) where
+    go_with : (n : ℕ) (state : State) (said : Result (Option A) Kind) (ms : List TextLine) (whole ones : State → Good A)
+        → ((now : State) → whole now ≡ put_on (ones now).fault (ones now) (good_from format input (reached now (items_in (ones now))) ms))
+        → good_with format input n state said whole ≡ put_on (good_with format input n state said ones).fault (good_with format input n state said ones) (good_from format input (reached state (items_in (good_with format input n state said ones))) ms)
+    go_with n state (Err kind) ms whole ones h = refl
+    go_with n state (Ok None) ms whole ones h = h state
+    go_with n state (Ok (Some item)) ms whole ones h =
+        let now = format.after state item in
+        let m : Member A = record { line = n; item = item } in
+        ap (with_member m) (h now) ∙ member_on m (ones now).fault (ones now) (good_from format input (reached now (items_in (ones now))) ms)
+
+    -- what is good of lines and of others after them
+    pub go_from : (state : State) (ls ms : List TextLine) → good_from format input state (ls ++ ms)
+        ≡ put_on (good_from format input state ls).fault (good_from format input state ls) (good_from format input (reached state (items_in (good_from format input state ls))) ms)
+    unfolding good_from
+    go_from state [] ms = refl
+    go_from state (l ∷ ls) ms =
+        go_with l.number state (format.says state l) ms (λ now. good_from format input now (ls ++ ms)) (λ now. good_from format input now ls) (λ now. go_from now ls ms)
+
+-- ---- sequences
+
+-- a line after sequences of these names
+abbrev pub line_after : List (List ℕ) → SequenceLine → SequenceLine
+line_after names line = record { names = names ++ line.names; before = line.before; text = line.text; ending = line.ending }
+
+-- a state after sequences of these names
+abbrev reached_after : List (List ℕ) → Reached → Reached
+reached_after names reached = record { names = names ++ reached.names; bases = reached.bases }
+
+-- lines of sequences, and the same after sequences of these names
+pub record AreMoved (names : List (List ℕ)) (g h : Good SequenceLine) : Type 0 where
+  pub items : items_in g ≡ map (line_after names) (items_in h)
+  pub none : g.fault ≡ None
+  pub same : h.fault ≡ None
+  pub named : AllByRecursion (λ line. is_unnamed line.names ≡ false) (items_in h)
+
+-- the first line, if there is one, is a header
+abbrev pub BeginsAtHeader : List TextLine → Type 0
+BeginsAtHeader [] = ⊤
+BeginsAtHeader (line ∷ lines) = is_header line.text ≡ true
+
+named_behind : (names : List (List ℕ)) (name : List ℕ) → is_unnamed (names ++ name ∷ []) ≡ false
+named_behind [] name = refl
+named_behind (n ∷ ns) name = refl
+
+named_more : (names more : List (List ℕ)) → is_unnamed more ≡ false → is_unnamed (names ++ more) ≡ false
+named_more [] more e = e
+named_more (n ∷ ns) more e = refl
+
+stands : (names : List (List ℕ)) (text : List ℕ) → is_unnamed names ≡ false → may_stand names text ≡ true
+stands [] text e = cc
+stands (n ∷ ns) text e = refl
+
+module _ (full : Bool) (input : Input) where
+  abbrev Fasta : Format SequenceLine Reached
+  Fasta = sequence_format full
+
+  -- what a line says after a named sequence, and after more names
+  record Moves (names : List (List ℕ)) (s : Reached) (line : TextLine) : Type 0 where
+    it : SequenceLine
+    here : line_says full s line ≡ Ok (Some it)
+    there : line_says full (reached_after names s) line ≡ Ok (Some (line_after names it))
+    named : is_unnamed it.names ≡ false
+
+  says_header : (s : Reached) (line : TextLine) → is_header line.text ≡ true → line_says full s line ≡ Ok (Some (header_behind full s line))
+  says_header s line e = ap (λ h. cond h (Ok (Some (header_behind full s line))) (cond (may_stand s.names line.text) (Ok (Some (line_behind s line))) (Err TextBeforeHeader))) e
+
+  says_bases : (s : Reached) (line : TextLine) → is_header line.text ≡ false → is_unnamed s.names ≡ false → line_says full s line ≡ Ok (Some (line_behind s line))
+  says_bases s line e named =
+      ap (λ h. cond h (Ok (Some (header_behind full s line))) (cond (may_stand s.names line.text) (Ok (Some (line_behind s line))) (Err TextBeforeHeader))) e
+      ∙ ap (λ m. cond m (Ok (Some (line_behind s line))) (Err TextBeforeHeader)) (stands s.names line.text named)
+
+  header_moves : (names : List (List ℕ)) (s : Reached) (line : TextLine) → is_header line.text ≡ true → Moves names s line
+  header_moves names s line e = record {
+    it = header_behind full s line;
+    here = says_header s line e;
+    there = says_header (reached_after names s) line e
+        ∙ ap (λ (all : List (List ℕ)). Ok (Some (record { names = all; before = 0; text = line.text; ending = line.ending }))) (append_assoc names s.names (name_in full line.text ∷ []));
+    named = named_behind s.names (name_in full line.text);
+  }
+
+  moves_by : (names : List (List ℕ)) (s : Reached) (line : TextLine) → is_unnamed s.names ≡ false → (h : Bool) → is_header line.text ≡ h → Moves names s line
+  moves_by names s line named true e = header_moves names s line e
+  moves_by names s line named false e = record {
+    it = line_behind s line;
+    here = says_bases s line e named;
+    there = says_bases (reached_after names s) line e (named_more names s.names named);
+    named = named;
+  }
+
+  moved_with : (names : List (List ℕ)) (s : Reached) (n : ℕ) (it : SequenceLine) (here there : Result (Option SequenceLine) Kind) (hs ts : Reached → Good SequenceLine)
+      → here ≡ Ok (Some it) → there ≡ Ok (Some (line_after names it)) → is_unnamed it.names ≡ false
+      → AreMoved names (ts (reached_after names (Fasta.after s it))) (hs (Fasta.after s it)) → (r : Reached) → AreMoved names (good_with Fasta input n r there ts) (good_with Fasta input n s here hs)
+  moved_with names s n it here there hs ts e d named more r =
+      subst (λ h. AreMoved names (good_with Fasta input n r there ts) (good_with Fasta input n s h hs)) (sym e)
+      (subst (λ t. AreMoved names (good_with Fasta input n r t ts) (good_with Fasta input n s (Ok (Some it)) hs)) (sym d)
+      (record { items = ap (λ ls. line_after names it ∷ ls) more.items; none = more.none; same = more.same; named = (named, more.named) }))
+
+  moved_from : (names : List (List ℕ)) (s : Reached) (ls : List TextLine) → is_unnamed s.names ≡ false → AreMoved names (good_from Fasta input (reached_after names s) ls) (good_from Fasta input s ls)
+  unfolding good_from
+  moved_from names s [] named = record { items = refl; none = refl; same = refl; named = tt }
+  moved_from names s (l ∷ ls) named =
+      let m = moves_by names s l named (is_header l.text) refl in
+      moved_with names s l.number m.it (line_says full s l) (line_says full (reached_after names s) l) (λ now. good_from Fasta input now ls) (λ now. good_from Fasta input now ls) m.here m.there m.named
+      (moved_from names (Fasta.after s m.it) ls m.named) (reached_after names s)
+
+  -- from a header on
+  moved_header : (r : Reached) (ls : List TextLine) → BeginsAtHeader ls → AreMoved r.names (good_from Fasta input r ls) (good_from Fasta input Fasta.begin ls)
+  unfolding good_from
+  moved_header r [] h = record { items = refl; none = refl; same = refl; named = tt }
+  moved_header r (l ∷ ls) h =
+      let it = header_behind full Fasta.begin l in
+      moved_with r.names Fasta.begin l.number it (line_says full Fasta.begin l) (line_says full r l) (λ now. good_from Fasta input now ls) (λ now. good_from Fasta input now ls)
+      (says_header Fasta.begin l h) (says_header r l h) refl (moved_from r.names (Fasta.after Fasta.begin it) ls refl) r
+
+  -- if a line is at fault, no line before it has a sequence
+  unnamed_with : (s : Reached) (l : TextLine) (rest : Reached → Good SequenceLine) (fault : FaultValue)
+      → ((now : Reached) → (rest now).fault ≡ Some fault → AllByRecursion (λ line. is_unnamed line.names ≡ true) (items_in (rest now)))
+      → ((now : Reached) → is_unnamed now.names ≡ false → (rest now).fault ≡ None)
+      → (h m u : Bool) → is_unnamed s.names ≡ u
+      → (good_with Fasta input l.number s (cond h (Ok (Some (header_behind full s l))) (cond m (Ok (Some (line_behind s l))) (Err TextBeforeHeader))) rest).fault ≡ Some fault
+      → AllByRecursion (λ line. is_unnamed line.names ≡ true) (items_in (good_with Fasta input l.number s (cond h (Ok (Some (header_behind full s l))) (cond m (Ok (Some (line_behind s l))) (Err TextBeforeHeader))) rest))
+  unnamed_with s l rest fault next sound true m u is e =
+      let none = sound (Fasta.after s (header_behind full s l)) (named_behind s.names (name_in full l.text)) in
+      absurd (let apart : None ≡ Some fault = sym none ∙ e in cc)
+  unnamed_with s l rest fault next sound false true true is e = (is, next (Fasta.after s (line_behind s l)) e)
+  unnamed_with s l rest fault next sound false true false is e =
+      let none = sound (Fasta.after s (line_behind s l)) is in
+      absurd (let apart : None ≡ Some fault = sym none ∙ e in cc)
+  unnamed_with s l rest fault next sound false false u is e = tt
+
+  pub unnamed_from : (s : Reached) (ls : List TextLine) (fault : FaultValue) → (good_from Fasta input s ls).fault ≡ Some fault → AllByRecursion (λ line. is_unnamed line.names ≡ true) (items_in (good_from Fasta input s ls))
+  unfolding good_from
+  unnamed_from s [] fault e = tt
+  unnamed_from s (l ∷ ls) fault e =
+      unnamed_with s l (λ now. good_from Fasta input now ls) fault (λ now d. unnamed_from now ls fault d) (λ now named. (moved_from [] now ls named).same)
+      (is_header l.text) (may_stand s.names l.text) (is_unnamed s.names) refl e
+
+  -- ---- names
+
+  pub reached_names : (s : Reached) (x : SequenceLine) (xs : List SequenceLine) → (reached Fasta s (x ∷ xs)).names ≡ names_of (x ∷ xs)
+  reached_names s x [] = refl
+  reached_names s x (y ∷ ys) = reached_names (Fasta.after s x) y ys
+
+  begin_names : (xs : List SequenceLine) → (reached Fasta Fasta.begin xs).names ≡ names_of xs
+  begin_names [] = refl
+  begin_names (x ∷ xs) = reached_names Fasta.begin x xs
+
+  -- the names after lines without a fault
+  grown_with : (s : Reached) (l : TextLine) (ls : List TextLine) (rest : Reached → Good SequenceLine)
+      → ((now : Reached) → (rest now).fault ≡ None → (reached Fasta now (items_in (rest now))).names ≡ now.names ++ flat_map (λ line. name_on full line.text) ls)
+      → (h m : Bool) → is_header l.text ≡ h
+      → (good_with Fasta input l.number s (cond h (Ok (Some (header_behind full s l))) (cond m (Ok (Some (line_behind s l))) (Err TextBeforeHeader))) rest).fault ≡ None
+      → (reached Fasta s (items_in (good_with Fasta input l.number s (cond h (Ok (Some (header_behind full s l))) (cond m (Ok (Some (line_behind s l))) (Err TextBeforeHeader))) rest))).names
+      ≡ s.names ++ (name_on full l.text ++ flat_map (λ line. name_on full line.text) ls)
+  grown_with s l ls rest next true m e none =
+      next (Fasta.after s (header_behind full s l)) none
+      ∙ append_assoc s.names (name_in full l.text ∷ []) (flat_map (λ line. name_on full line.text) ls)
+      ∙ ap (λ names. s.names ++ (names ++ flat_map (λ line. name_on full line.text) ls)) (sym (ap (λ b. cond b (name_in full l.text ∷ []) []) e))
+  grown_with s l ls rest next false true e none =
+      next (Fasta.after s (line_behind s l)) none
+      ∙ ap (λ names. s.names ++ (names ++ flat_map (λ line. name_on full line.text) ls)) (sym (ap (λ b. cond b (name_in full l.text ∷ []) []) e))
+  grown_with s l ls rest next false false e none = cc
+
+  grown_from : (s : Reached) (ls : List TextLine) → (good_from Fasta input s ls).fault ≡ None
+      → (reached Fasta s (items_in (good_from Fasta input s ls))).names ≡ s.names ++ flat_map (λ line. name_on full line.text) ls
+  unfolding good_from
+  grown_from s [] none = sym (append-nil s.names)
+  grown_from s (l ∷ ls) none = grown_with s l ls (λ now. good_from Fasta input now ls) (λ now. grown_from now ls) (is_header l.text) (may_stand s.names l.text) refl none
+
+  -- without a fault the names are those of the headers
+  pub names_grown : (text : List ℕ) → (good Fasta input (text_lines text)).fault ≡ None → names_of (items_in (good Fasta input (text_lines text))) ≡ sequence_names full text
+  names_grown text none = sym (begin_names (items_in (good Fasta input (text_lines text)))) ∙ grown_from Fasta.begin (text_lines text) none
+
+  -- each line's names begin those of all
+  abbrev pub Begins : List (List ℕ) → SequenceLine → Type 0
+  Begins names line = (more : List (List ℕ)) × (names ≡ line.names ++ more)
+
+  record Grows (s : Reached) (xs : List SequenceLine) : Type 0 where
+    more : List (List ℕ)
+    is : (reached Fasta s xs).names ≡ s.names ++ more
+    all : AllByRecursion (Begins (reached Fasta s xs).names) xs
+
+  -- an item that goes on from these names
+  grows_item : (s : Reached) (it : SequenceLine) (xs : List SequenceLine) (own : List (List ℕ)) → it.names ≡ s.names ++ own → Grows (Fasta.after s it) xs → Grows s (it ∷ xs)
+  grows_item s it xs own e more = record {
+    more = own ++ more.more;
+    is = more.is ∙ ap (λ names. names ++ more.more) e ∙ append_assoc s.names own more.more;
+    all = ((more.more, more.is), more.all);
+  }
+
+  grows_with : (s : Reached) (l : TextLine) (rest : Reached → Good SequenceLine) → ((now : Reached) → Grows now (items_in (rest now))) → (h m : Bool)
+      → Grows s (items_in (good_with Fasta input l.number s (cond h (Ok (Some (header_behind full s l))) (cond m (Ok (Some (line_behind s l))) (Err TextBeforeHeader))) rest))
+  grows_with s l rest next true m = grows_item s (header_behind full s l) _ (name_in full l.text ∷ []) refl (next (Fasta.after s (header_behind full s l)))
+  grows_with s l rest next false true = grows_item s (line_behind s l) _ [] (sym (append-nil s.names)) (next (Fasta.after s (line_behind s l)))
+  grows_with s l rest next false false = record { more = []; is = sym (append-nil s.names); all = tt }
+
+  grows_from : (s : Reached) (ls : List TextLine) → Grows s (items_in (good_from Fasta input s ls))
+  unfolding good_from
+  grows_from s [] = record { more = []; is = sym (append-nil s.names); all = tt }
+  grows_from s (l ∷ ls) = grows_with s l (λ now. good_from Fasta input now ls) (λ now. grows_from now ls) (is_header l.text) (may_stand s.names l.text)
+
+  pub names_begin : (ls : List TextLine) → AllByRecursion (Begins (names_of (items_in (good Fasta input ls)))) (items_in (good Fasta input ls))
+  names_begin ls = subst (λ names. AllByRecursion (Begins names) (items_in (good Fasta input ls))) (begin_names (items_in (good Fasta input ls))) (grows_from Fasta.begin ls).all
+
+  -- the names of two parts
+  names_moved : (names : List (List ℕ)) (y : SequenceLine) (ys : List SequenceLine) → names_of (map (line_after names) (y ∷ ys)) ≡ names ++ names_of (y ∷ ys)
+  names_moved names y [] = refl
+  names_moved names y (z ∷ zs) = names_moved names z zs
+
+  last_names : (xs : List SequenceLine) (y : SequenceLine) (ys : List SequenceLine) → names_of (xs ++ y ∷ ys) ≡ names_of (y ∷ ys)
+  last_names [] y ys = refl
+  last_names (x ∷ []) y ys = refl
+  last_names (x ∷ z ∷ zs) y ys = last_names (z ∷ zs) y ys
+
+  pub names_both : (xs ys : List SequenceLine) → names_of (xs ++ map (line_after (names_of xs)) ys) ≡ names_of xs ++ names_of ys
+  names_both xs [] = ap names_of (append-nil xs) ∙ sym (append-nil (names_of xs))
+  names_both xs (y ∷ ys) = last_names xs (line_after (names_of xs) y) (map (line_after (names_of xs)) ys) ∙ names_moved (names_of xs) y ys
+
+  -- ---- two texts
+
+  front_header : (byte : ℕ) (rest : List ℕ) → eqb byte 62 ≡ true → is_header (strip_last 13 (byte ∷ rest)) ≡ true
+  front_header byte [] e = ap (λ b. is_header (strip_last 13 (b ∷ []))) (eqb-true byte 62 e)
+  front_header byte (next ∷ rest) e = by_end (ends_with_byte 13 (byte ∷ next ∷ rest))
+    where
+      by_end : (b : Bool) → is_header (cond b (take (length (byte ∷ next ∷ rest) - 1) (byte ∷ next ∷ rest)) (byte ∷ next ∷ rest)) ≡ true
+      by_end true = let count : length (byte ∷ next ∷ rest) - 1 ≡ suc (length rest) = omega arith in ap (λ n. is_header (take n (byte ∷ next ∷ rest))) count ∙ e
+      by_end false = e
+
+  fed_header : (n : ℕ) (piece rest : List ℕ) (ls : List TextLine) → IsTrue (begins_sequence (piece ++ 10 ∷ rest)) → BeginsAtHeader (fed_line n piece ∷ ls)
+  fed_header n [] rest ls e = cc
+  fed_header n (byte ∷ piece) rest ls e = front_header byte piece e
+
+  last_header : (n : ℕ) (piece : List ℕ) → IsTrue (begins_sequence piece) → BeginsAtHeader (last_line n piece)
+  last_header n [] e = tt
+  last_header n (byte ∷ piece) e = front_header byte piece e
+
+  header_first : (n : ℕ) (text : List ℕ) → IsTrue (begins_sequence text) → BeginsAtHeader (lines_from n text)
+  header_first n text = by_lines (λ n bytes. IsTrue (begins_sequence bytes) → BeginsAtHeader (lines_from n bytes))
+      (λ n piece clear e. subst BeginsAtHeader (sym (lines_from-last n piece clear)) (last_header n piece e))
+      (λ n piece rest clear is e. subst BeginsAtHeader (sym (lines_from-fed n piece rest clear)) (fed_header n piece rest (lines_from (suc n) rest) e))
+      n text
+
+  -- the lines of the second text, whatever the numbers of its lines
+  moved_lines : (r : Reached) (n : ℕ) (two : List ℕ) → IsTrue (begins_sequence two) → AreMoved r.names (good_from Fasta input r (lines_from n two)) (good Fasta input (text_lines two))
+  moved_lines r n two e =
+      let moved = moved_header r (lines_from n two) (header_first n two e) in
+      let like = like_from Fasta input Fasta.begin (lines_from n two) (text_lines two) (λ state l m t d. same_said state l m t d) (alike_lines n 1 two) in
+      record {
+        items = moved.items ∙ ap (map (line_after r.names)) like.items;
+        none = moved.none;
+        same = none_like (good_from Fasta input Fasta.begin (lines_from n two)).fault (good Fasta input (text_lines two)).fault like.fault moved.same;
+        named = subst (AllByRecursion (λ line. is_unnamed line.names ≡ false)) like.items moved.named;
+      }
+    where
+      same_said : (state : Reached) (l m : TextLine) → l.text ≡ m.text → l.ending ≡ m.ending → line_says full state l ≡ line_says full state m
+      same_said state l m t d = ap₂ (λ text ending. line_says full state (record { number = l.number; text = text; ending = ending })) t d
+
+  -- what is good of both texts: the first is at fault, or the lines of the second come after its sequences
+  abbrev pub AreBothBy : Option FaultValue → Good SequenceLine → Good SequenceLine → Good SequenceLine → Type 0
+  AreBothBy None one two whole =
+      (items_in whole ≡ items_in one ++ map (line_after (names_of (items_in one))) (items_in two)) × (whole.fault ≡ None)
+  AreBothBy (Some fault) one two whole = whole ≡ one
+
+  both_by : (fault : Option FaultValue) (one two behind : Good SequenceLine) → AreMoved (names_of (items_in one)) behind two → AreBothBy fault one two (put_on Fasta fault one behind)
+  both_by None one two behind moved = (map-append (λ m. m.item) one.members behind.members ∙ ap (λ l. items_in one ++ l) moved.items, moved.none)
+  both_by (Some fault) one two behind moved = refl
+
+  module _ (one two : List ℕ) (ends : StandsBefore one two) (begins : IsTrue (begins_sequence two)) where
+    pub fasta_both : AreBothBy (good Fasta input (text_lines one)).fault (good Fasta input (text_lines one)) (good Fasta input (text_lines two)) (good Fasta input (text_lines (one ++ two)))
+    fasta_both =
+        let split = lines_join 1 one two ends in
+        let first = good Fasta input (text_lines one) in
+        let state = reached Fasta Fasta.begin (items_in first) in
+        let behind = good_from Fasta input state (lines_from split.0 two) in
+        let moved = moved_lines state split.0 two begins in
+        subst (AreBothBy first.fault first (good Fasta input (text_lines two))) (sym (ap (good Fasta input) split.1 ∙ go_from Fasta input Fasta.begin (text_lines one) (lines_from split.0 two)))
+        (both_by first.fault first (good Fasta input (text_lines two)) behind (subst (λ names. AreMoved names behind (good Fasta input (text_lines two))) (begin_names (items_in first)) moved))
+
+    pub second_sound : (good Fasta input (text_lines two)).fault ≡ None
+    second_sound = (moved_lines Fasta.begin 1 two begins).same
+
+    pub second_named : AllByRecursion (λ line. is_unnamed line.names ≡ false) (items_in (good Fasta input (text_lines two)))
+    second_named = (moved_lines Fasta.begin 1 two begins).named
+
+-- Records in blocks, in two concatenated texts.
+
+-- the chromosome of a place
+abbrev pub name_at : Option Locus → Option (List ℕ)
+name_at last = option_map (λ l. l.chrom) last
+
+pub reached_last : (last : Option Locus) (rs : List Feature) → name_at (reached block_format last rs) ≡ last_from (name_at last) rs
+reached_last last [] = refl
+reached_last last (r ∷ rs) = reached_last (Some (locus_at r)) rs
+
+-- the first record, if there is one, doesn't lie on this chromosome
+abbrev pub BeginsElsewhere : Option (List ℕ) → List Feature → Type 0
+BeginsElsewhere last [] = ⊤
+BeginsElsewhere last (r ∷ rs) = is_last last r.chrom ≡ false
+
+none_falls : (last : Option Locus) (r : Feature) → is_last (name_at last) r.chrom ≡ false → falls_in block_sorting last (locus_at r) ≡ false
+none_falls None r e = refl
+none_falls (Some l) r e = ap (λ b. cond b (nat_lt r.start l.start) false) e
+
+module _ (input : Input) where
+  kept_with : (n : ℕ) (last : Option Locus) (falls : Bool) (r : Feature) (rest : Option Locus → Good Feature) → falls ≡ false
+      → good_with block_format input n last (cond falls (Err OutOfOrder) (Ok (Some r))) rest ≡ good_with block_format input n None (Ok (Some r)) rest
+  kept_with n last true r rest e = cc
+  kept_with n last false r rest e = refl
+
+  fresh_with : (n : ℕ) (last : Option Locus) (said : Result (Option Feature) Kind) (rest : Option Locus → Good Feature) (more : List Feature)
+      → (BeginsElsewhere (name_at last) more → rest last ≡ rest None) → BeginsElsewhere (name_at last) (said_record said ++ more)
+      → good_with block_format input n last (said_after block_sorting last said) rest ≡ good_with block_format input n None (said_after block_sorting None said) rest
+  fresh_with n last (Err kind) rest more same h = refl
+  fresh_with n last (Ok None) rest more same h = same h
+  fresh_with n last (Ok (Some r)) rest more same h = kept_with n last (falls_in block_sorting last (locus_at r)) r rest (none_falls last r h)
+
+  -- records of which the first lies on another chromosome are as good as without those before
+  pub fresh_from : (last : Option Locus) (ms : List TextLine) → BeginsElsewhere (name_at last) (records_on ms) → good_from block_format input last ms ≡ good_from block_format input None ms
+  unfolding good_from record_says
+  fresh_from last [] h = refl
+  fresh_from last (m ∷ ms) h = fresh_with m.number last (record_of m.text) (λ now. good_from block_format input now ms) (records_on ms) (fresh_from last ms) h
+
+  calm_kept : (n : ℕ) (last : Option Locus) (falls : Bool) (r : Feature) (rest : Option Locus → Good Feature)
+      → (good_with block_format input n last (cond falls (Err OutOfOrder) (Ok (Some r))) rest).fault ≡ None
+      → good_with block_format input n last (cond falls (Err OutOfOrder) (Ok (Some r))) rest ≡ good_with block_format input n None (Ok (Some r)) rest
+  calm_kept n last true r rest e = cc
+  calm_kept n last false r rest e = refl
+
+  calm_with : (n : ℕ) (last : Option Locus) (said : Result (Option Feature) Kind) (rest : Option Locus → Good Feature) → ((rest last).fault ≡ None → rest last ≡ rest None)
+      → (good_with block_format input n last (said_after block_sorting last said) rest).fault ≡ None
+      → good_with block_format input n last (said_after block_sorting last said) rest ≡ good_with block_format input n None (said_after block_sorting None said) rest
+  calm_with n last (Err kind) rest same e = refl
+  calm_with n last (Ok None) rest same e = same e
+  calm_with n last (Ok (Some r)) rest same e = calm_kept n last (falls_in block_sorting last (locus_at r)) r rest e
+
+  -- and so are records without a fault
+  pub calm_from : (last : Option Locus) (ms : List TextLine) → (good_from block_format input last ms).fault ≡ None → good_from block_format input last ms ≡ good_from block_format input None ms
+  unfolding good_from record_says
+  calm_from last [] e = refl
+  calm_from last (m ∷ ms) e = calm_with m.number last (record_of m.text) (λ now. good_from block_format input now ms) (calm_from last ms) e
+
+  sound_kept : (n : ℕ) (last : Option Locus) (falls : Bool) (r : Feature) (rest : Option Locus → Good Feature) (more : List Feature) → ((rest (Some (locus_at r))).fault ≡ None → items_in (rest (Some (locus_at r))) ≡ more)
+      → (good_with block_format input n last (cond falls (Err OutOfOrder) (Ok (Some r))) rest).fault ≡ None
+      → items_in (good_with block_format input n last (cond falls (Err OutOfOrder) (Ok (Some r))) rest) ≡ r ∷ more
+  sound_kept n last true r rest more same e = cc
+  sound_kept n last false r rest more same e = ap (λ (l : List Feature). r ∷ l) (same e)
+
+  sound_with : (n : ℕ) (last : Option Locus) (said : Result (Option Feature) Kind) (rest : Option Locus → Good Feature) (more : List Feature) → ((now : Option Locus) → (rest now).fault ≡ None → items_in (rest now) ≡ more)
+      → (good_with block_format input n last (said_after block_sorting last said) rest).fault ≡ None → items_in (good_with block_format input n last (said_after block_sorting last said) rest) ≡ said_record said ++ more
+  sound_with n last (Err kind) rest more same e = cc
+  sound_with n last (Ok None) rest more same e = same last e
+  sound_with n last (Ok (Some r)) rest more same e = sound_kept n last (falls_in block_sorting last (locus_at r)) r rest more (same (Some (locus_at r))) e
+
+  -- without a fault the records are all that the lines say
+  pub sound_from : (last : Option Locus) (ms : List TextLine) → (good_from block_format input last ms).fault ≡ None → items_in (good_from block_format input last ms) ≡ records_on ms
+  unfolding good_from record_says
+  sound_from last [] e = refl
+  sound_from last (m ∷ ms) e = sound_with m.number last (record_of m.text) (λ now. good_from block_format input now ms) (records_on ms) (λ now d. sound_from now ms d) e
+
+  among_kept : (P : Feature → Type 0) (n : ℕ) (last : Option Locus) (falls : Bool) (r : Feature) (rest : Option Locus → Good Feature) → P r → AllByRecursion P (items_in (rest (Some (locus_at r))))
+      → AllByRecursion P (items_in (good_with block_format input n last (cond falls (Err OutOfOrder) (Ok (Some r))) rest))
+  among_kept P n last true r rest p h = tt
+  among_kept P n last false r rest p h = (p, h)
+
+  among_with : (P : Feature → Type 0) (n : ℕ) (last : Option Locus) (said : Result (Option Feature) Kind) (rest : Option Locus → Good Feature) → ((now : Option Locus) → AllByRecursion P (items_in (rest now)))
+      → AllByRecursion P (said_record said) → AllByRecursion P (items_in (good_with block_format input n last (said_after block_sorting last said) rest))
+  among_with P n last (Err kind) rest h p = tt
+  among_with P n last (Ok None) rest h p = h last
+  among_with P n last (Ok (Some r)) rest h p = among_kept P n last (falls_in block_sorting last (locus_at r)) r rest p.0 (h (Some (locus_at r)))
+
+  -- what holds of all that the lines say, holds of the good records
+  pub among_from : (P : Feature → Type 0) (last : Option Locus) (ms : List TextLine) → AllByRecursion P (records_on ms) → AllByRecursion P (items_in (good_from block_format input last ms))
+  unfolding good_from record_says
+  among_from P last [] h = tt
+  among_from P last (m ∷ ms) h =
+      among_with P m.number last (record_of m.text) (λ now. good_from block_format input now ms) (λ now. among_from P now ms (all_back P (said_record (record_of m.text)) (records_on ms) h))
+      (all_front P (said_record (record_of m.text)) (records_on ms) h)
+
+  -- ---- two texts
+
+  module _ (one two : List ℕ) (ends : StandsBefore one two) where
+    abbrev First-good : Good Feature
+    First-good = good block_format input (text_lines one)
+
+    abbrev Second-good : Good Feature
+    Second-good = good block_format input (text_lines two)
+
+    abbrev Whole-good : Good Feature
+    Whole-good = good block_format input (text_lines (one ++ two))
+
+    -- what comes after the records of the first text, whatever the numbers of its lines
+    abbrev Lines-behind : List TextLine
+    Lines-behind = lines_from (lines_join 1 one two ends).0 two
+
+    abbrev Last : Option Locus
+    Last = reached block_format None (items_in First-good)
+
+    whole_is : Whole-good ≡ put_on block_format First-good.fault First-good (good_from block_format input Last Lines-behind)
+    whole_is = ap (good block_format input) (lines_join 1 one two ends).1 ∙ go_from block_format input None (text_lines one) Lines-behind
+
+    like_two : IsLike (good_from block_format input None Lines-behind) Second-good
+    like_two = like_from block_format input None Lines-behind (text_lines two) (λ state l m t d. ap (record_says block_sorting state) t) (alike_lines (lines_join 1 one two ends).0 1 two)
+
+    -- the records of both
+    abbrev pub AreJoint : Type 0
+    AreJoint = (items_in Whole-good ≡ items_in First-good ++ items_in Second-good) × (is_none Whole-good.fault ≡ is_none Second-good.fault)
+
+    joint_of : (g h : Good Feature) → IsLike h Second-good → Whole-good ≡ record { members = First-good.members ++ h.members; fault = h.fault } → AreJoint
+    joint_of g h like is = (
+      ap (λ (w : Good Feature). items_in w) is ∙ map-append (λ m. m.item) First-good.members h.members ∙ ap (λ l. items_in First-good ++ l) like.items,
+      ap (λ (w : Good Feature). is_none w.fault) is ∙ like.fault,
+    )
+
+    put_none : (fault : Option FaultValue) (g h : Good Feature) → fault ≡ None → put_on block_format fault g h ≡ record { members = g.members ++ h.members; fault = h.fault }
+    put_none None g h e = refl
+    put_none (Some fault) g h e = cc
+
+    elsewhere : BeginsElsewhere (last_from None (items_in First-good)) (said_records two) → BeginsElsewhere (name_at Last) (records_on Lines-behind)
+    elsewhere h =
+        subst (λ last. BeginsElsewhere last (records_on Lines-behind)) (sym (reached_last None (items_in First-good)))
+        (subst (BeginsElsewhere (last_from None (items_in First-good))) (alike_records (text_lines two) Lines-behind (alike_lines 1 (lines_join 1 one two ends).0 two)) h)
+
+    -- if those of the second text begin on another chromosome
+    pub fresh_joint : First-good.fault ≡ None → BeginsElsewhere (last_from None (items_in First-good)) (said_records two) → AreJoint
+    fresh_joint none h =
+        joint_of First-good (good_from block_format input None Lines-behind) like_two
+        (whole_is ∙ put_none First-good.fault First-good (good_from block_format input Last Lines-behind) none
+        ∙ ap (λ (g : Good Feature). record { members = First-good.members ++ g.members; fault = g.fault }) (fresh_from Last Lines-behind (elsewhere h)))
+
+    none_by : (fault : Option FaultValue) (g h : Good Feature) → g.fault ≡ fault → (put_on block_format fault g h).fault ≡ None → (fault ≡ None) × (h.fault ≡ None)
+    none_by None g h is e = (refl, e)
+    none_by (Some fault) g h is e = let apart : Some fault ≡ None = sym is ∙ e in cc
+
+    -- or if both texts have no fault
+    pub calm_joint : Whole-good.fault ≡ None → (First-good.fault ≡ None) × (Second-good.fault ≡ None) × (items_in Whole-good ≡ items_in First-good ++ items_in Second-good)
+    calm_joint none =
+        let late = good_from block_format input Last Lines-behind in
+        let both = none_by First-good.fault First-good late refl (ap (λ (g : Good Feature). g.fault) (sym whole_is) ∙ none) in
+        let calm = calm_from Last Lines-behind both.1 in
+        let joint = joint_of First-good (good_from block_format input None Lines-behind) like_two
+        (whole_is ∙ put_none First-good.fault First-good late both.0 ∙ ap (λ (g : Good Feature). record { members = First-good.members ++ g.members; fault = g.fault }) calm) in
+        (both.0, none_like Whole-good.fault Second-good.fault joint.1 none, joint.0)
+
+    -- a fault of the first text is that of both
+    pub faulty_same : (fault : FaultValue) → First-good.fault ≡ Some fault → Whole-good ≡ First-good
+    faulty_same fault e = whole_is ∙ ap (λ f. put_on block_format f First-good (good_from block_format input Last Lines-behind)) e
+
+    front_by : (fault : Option FaultValue) (g h : Good Feature) → (more : List Feature) × (items_in (put_on block_format fault g h) ≡ items_in g ++ more)
+    front_by None g h = (items_in h, map-append (λ m. m.item) g.members h.members)
+    front_by (Some fault) g h = ([], sym (append-nil (items_in g)))
+
+    -- the records of the first text come first
+    pub first_front : (more : List Feature) × (items_in Whole-good ≡ items_in First-good ++ more)
+    first_front =
+        let front = front_by First-good.fault First-good (good_from block_format input Last Lines-behind) in
+        (front.0, ap (λ (w : Good Feature). items_in w) whole_is ∙ front.1)

@@ -1,0 +1,532 @@
+-- Parts with their own parts of the genome file: complement, genomecov and merge.
+use Rattle.bt_lines.proofs.Std.{◌≡◌, ℕ, Bool, true, false, List, [], ◌∷◌, ◌++◌, filter, append-nil, Option, Some, None, refl, sym, ap, ap₂, ◌∙◌, cond, not, ◌||◌, map, Result, Ok, Err, subst, IsTrue, bytes_eq, flat_map, nat_le, nat_lt, AllByRecursion, or_left, or_right, flat_map-append, map-append, filter-append}
+use Rattle.std.specs.Option.{option_map_or}
+use Rattle.std.specs.declared.cmp.Ordering.{Ordering}
+use Rattle.std.specs.declared.cmp.Ordering.TheVariants.{Less, Equal, Greater}
+use Rattle.bt_bed.specs.model.Feature.{Feature, interval_of, intervals_of, Interval, last_from, last_of, placed_on, spans_on, interval_line, interval_lines}
+use Rattle.bt_bed.specs.model.Genome.{Entry, genome_names, genome_cut, genome_handed, genome_of}
+use Rattle.bt_bed.specs.model.Order.{AreDistinct, is_among, rank_order, IsTotal, Order}
+use Rattle.bt_bed.specs.inside.RankTotal.{ranks_total}
+use Rattle.bt_bed.specs.model.Sorted.{has_records, ArePlaced, sorting_of}
+use Rattle.bt_bed.proofs.lemmas.parse.NameLemmas.{name_eq, name_ne}
+use Rattle.bt_bed.proofs.lemmas.order.OrderLemmas.{among_ranked}
+use Rattle.bt_runs.specs.model.Gaps.{is_over_at, AreTaken, complement, gaps_of, gaps_on, is_asked, is_over, settled_gaps}
+use Rattle.bt_tool.specs.model.Written.{Written, complement_written, coverage_written, merge_written, pooled_written, Report, good_report}
+use Rattle.bt_laws.proofs.lemmas.parts.PartGenomes.{agree_first, agree_second, apart_both, entry_less, names_both, among_append, no_first, agree_good, records_both, within_before, last_behind, last_is, none_has, has_append, records_away, spans_first, spans_second}
+use Rattle.bt_laws.proofs.lemmas.Lists.{all_flat_map, all_so, filter_all, filter_none, filter_same, flat_map_same, all_any, all_both, all_map, map_same}
+use Rattle.bt_laws.proofs.lemmas.parts.PartReports.{Splits, nothing, parts_both, splits_as, Joins, good_joins}
+use Rattle.bt_laws.proofs.lemmas.parts.PartBed.{reversed_less, Earlier, bed_joint, good_earlier, items_all}
+use Rattle.bt_lines.specs.model.Fault.{FaultValue}
+use Rattle.bt_lines.specs.model.Lines.{Handed, cut_fault, lines_handed, whole_text, lines_from, text_lines}
+use Rattle.bt_lines.specs.declared.fault.Input.TheVariants.{First, Genome}
+use Rattle.bt_bed.specs.model.Good.{Good, good, good_from, items_in, bed_format}
+use Rattle.bt_bed.specs.declared.record.strand.Strand.{Strand}
+use Rattle.bt_bed.proofs.lemmas.Definitions.{non_empty_from, placed_lines}
+use Rattle.bt_laws.proofs.lemmas.single.Records.{distinct_genome}
+use Rattle.bt_runs.specs.model.Depth.{DepthInterval, counted_on, coverage, depth_line, depth_of, depth_on, depths_on, is_counted_by, is_ended_by, settled_depths, levels_of}
+use Rattle.bt_runs.specs.model.Merged.{passed_by, merged, ordered_runs, strand_runs}
+use Rattle.bt_runs.specs.declared.merge.merge_strand.MergeStrand.{MergeStrand}
+use Rattle.bt_runs.specs.declared.merge.merge_strand.MergeStrand.TheVariants.{All, Each, One}
+use Rattle.bt_runs.proofs.lemmas.order.FileOrder.{ordered_come}
+use Rattle.bt_runs.proofs.lemmas.coverage.DepthSteps.{settles_depths}
+use Rattle.bt_runs.proofs.lemmas.complement.GapRuleLemmas.{settles_gaps}
+use Rattle.bt_runs.proofs.lemmas.definitions.Standing.{begins}
+use Rattle.bt_laws.specs.Parts.{AreShards, LiesWithin, Shard, ShardsAddUp, all_entries, complement_divides, genomecov_divides, merge_genomes_divide, shard_texts, AreOfLines, StandsBefore, joined, said_records, on_text}
+use Rattle.bt_tool.specs.model.Report.{chromosomes_of, of_file, report_of, report_on}
+use Rattle.bt_tool.specs.declared.planning.plan_type.Command.{Command}
+use Rattle.bt_tool.specs.declared.planning.plan_type.Command.TheVariants.{Complement, Coverage, Merge}
+use Rattle.bt_tool.proofs.lemmas.running.members.CursorLemmas.{good_whole}
+use Rattle.bt_laws.proofs.lemmas.parts.PartLines.{IsJoint}
+use Rattle.bt_laws.proofs.lemmas.parts.PartMerge.{fewer, pooled_split, strands_split}
+use Rattle.bt_laws.proofs.lemmas.parts.PartTexts.{lines_less}
+
+-- each entry's name is among those of its list
+own_names : (es : List Entry) (all : List (List ℕ)) → ((n : List ℕ) → is_among (genome_names es) n ≡ true → is_among all n ≡ true) → AllByRecursion (λ e. is_among all e.name ≡ true) es
+own_names [] all f = tt
+own_names (e ∷ es) all f = (
+  f e.name (or_left (bytes_eq e.name e.name) (is_among (genome_names es) e.name) (name_eq e.name e.name refl)),
+  own_names es all (λ n h. f n (or_right (bytes_eq e.name n) (is_among (genome_names es) n) h)),
+)
+
+over_less : (o : Ordering) (b : Bool) → o ≡ Less → is_over_at o b ≡ true
+over_less Less b e = refl
+over_less Equal b e = cc
+over_less Greater b e = cc
+
+over_greater : (o : Ordering) (b : Bool) → o ≡ Greater → is_over_at o b ≡ false
+over_greater Less b e = cc
+over_greater Equal b e = cc
+over_greater Greater b e = refl
+
+module _ {T : Type 0} (chrom : T → List ℕ) (ends : Interval → T → Bool) (line : T → List ℕ) (F : List Feature → Entry → List T) where
+  -- what is written of a genome file's chromosomes
+  abbrev pub whole_of : List Entry → List Feature → List T
+  whole_of entries records = flat_map (F records) entries
+
+  abbrev pub is_ended : List (List ℕ) → Interval → T → Bool
+  is_ended names last t = is_over_at ((rank_order names).compare (chrom t) last.chrom) (ends last t)
+
+  abbrev pub ended : List (List ℕ) → List T → Option Interval → List T
+  ended names items None = []
+  ended names items (Some last) = filter (is_ended names last) items
+
+  abbrev pub settled_of : List Entry → List Feature → List T
+  settled_of entries records = ended (genome_names entries) (whole_of entries records) (last_of (intervals_of records))
+
+  abbrev pub written_of : List Entry → Written Feature
+  written_of entries = record { whole = λ records. flat_map line (whole_of entries records); settled = λ records. flat_map line (settled_of entries records) }
+
+  module _ (named : (records : List Feature) (e : Entry) → AllByRecursion (λ t. chrom t ≡ e.name) (F records e))
+      (first_same : (ones twos : List Feature) (e : Entry) → has_records e.name (intervals_of twos) ≡ false → F (ones ++ twos) e ≡ F ones e)
+      (second_same : (ones twos : List Feature) (e : Entry) → has_records e.name (intervals_of ones) ≡ false → F (ones ++ twos) e ≡ F twos e)
+      (e_one e_two : List Entry) (distinct : AreDistinct (genome_names (e_one ++ e_two))) where
+    abbrev One-names : List (List ℕ)
+    One-names = genome_names e_one
+
+    abbrev Two-names : List (List ℕ)
+    Two-names = genome_names e_two
+
+    abbrev Both : List (List ℕ)
+    Both = genome_names (e_one ++ e_two)
+
+    one_in : (name : List ℕ) → is_among One-names name ≡ true → IsTrue ((rank_order Both).knows name)
+    one_in name h = among_ranked Both name ∙ ap (λ ns. is_among ns name) (names_both e_one e_two) ∙ among_append One-names Two-names name ∙ or_left (is_among One-names name) (is_among Two-names name) h
+
+    two_in : (name : List ℕ) → is_among Two-names name ≡ true → IsTrue ((rank_order Both).knows name)
+    two_in name h = among_ranked Both name ∙ ap (λ ns. is_among ns name) (names_both e_one e_two) ∙ among_append One-names Two-names name ∙ or_right (is_among One-names name) (is_among Two-names name) h
+
+    less : (a b : List ℕ) → is_among One-names a ≡ true → is_among Two-names b ≡ true → (rank_order Both).compare a b ≡ Less
+    less a b one two = entry_less e_one e_two distinct a b one two
+
+    greater : (a b : List ℕ) → is_among Two-names a ≡ true → is_among One-names b ≡ true → (rank_order Both).compare a b ≡ Greater
+    greater a b two one = reversed_less ((rank_order Both).compare b a) ((rank_order Both).compare a b) (less b a one two) ((ranks_total Both).swapped b a (one_in b one) (two_in a two))
+
+    apart : (a b : List ℕ) → is_among One-names a ≡ true → is_among Two-names b ≡ true → bytes_eq b a ≡ false
+    apart a b one two = name_ne b a (λ same.
+        let not_one : is_among One-names b ≡ false = no_first One-names Two-names (apart_both e_one e_two distinct) b two in
+        let both : true ≡ false = sym one ∙ ap (is_among One-names) (sym same) ∙ not_one in absurd (cc))
+
+    apart_too : (a b : List ℕ) → is_among One-names a ≡ true → is_among Two-names b ≡ true → bytes_eq a b ≡ false
+    apart_too a b one two = name_ne a b (λ same.
+        let not_one : is_among One-names b ≡ false = no_first One-names Two-names (apart_both e_one e_two distinct) b two in
+        let both : true ≡ false = sym one ∙ ap (is_among One-names) same ∙ not_one in absurd (cc))
+
+    -- items lie on chromosomes of their entries
+    items_named : (names : List (List ℕ)) (es : List Entry) (records : List Feature) → AllByRecursion (λ e. is_among names e.name ≡ true) es → AllByRecursion (λ t. is_among names (chrom t) ≡ true) (whole_of es records)
+    items_named names es records h =
+        all_flat_map _ (F records) es (all_so _ _ es (λ e is. all_so _ _ (F records e) (λ t at. ap (is_among names) at ∙ is) (named records e)) h)
+
+    own_one : AllByRecursion (λ e. is_among One-names e.name ≡ true) e_one
+    own_one = own_names e_one One-names (λ n h. h)
+
+    own_two : AllByRecursion (λ e. is_among Two-names e.name ≡ true) e_two
+    own_two = own_names e_two Two-names (λ n h. h)
+
+    -- each record lies on a chromosome of its part
+    module _ (ones twos : List Feature) (in_one : AllByRecursion (λ r. is_among One-names r.chrom ≡ true) (intervals_of ones)) (in_two : AllByRecursion (λ r. is_among Two-names r.chrom ≡ true) (intervals_of twos)) where
+      whole_both : whole_of (e_one ++ e_two) (ones ++ twos) ≡ whole_of e_one ones ++ whole_of e_two twos
+      whole_both =
+          flat_map-append (F (ones ++ twos)) e_one e_two
+          ∙ ap₂ (λ a b. a ++ b)
+          (flat_map_same (F (ones ++ twos)) (F ones) e_one (all_so _ _ e_one (λ e is. first_same ones twos e (none_has e.name (intervals_of twos) (all_so _ _ (intervals_of twos) (λ s at. apart e.name s.chrom is at) in_two))) own_one))
+          (flat_map_same (F (ones ++ twos)) (F twos) e_two (all_so _ _ e_two (λ e is. second_same ones twos e (none_has e.name (intervals_of ones) (all_so _ _ (intervals_of ones) (λ r at. apart_too r.chrom e.name at is) in_one))) own_two))
+
+    -- what the first part's records settle, by either genome file
+    settled_first : (ones : List Feature) → AllByRecursion (λ r. is_among One-names r.chrom ≡ true) (intervals_of ones) → settled_of (e_one ++ e_two) ones ≡ settled_of e_one ones
+    settled_first [] in_one = refl
+    settled_first (q ∷ qs) in_one =
+        let last = last_from (interval_of q) (intervals_of qs) in
+        let at : is_among One-names last.chrom ≡ true = last_is (λ r. is_among One-names r.chrom ≡ true) (interval_of q) (intervals_of qs) in_one in
+        ap (filter (is_ended Both last)) (flat_map-append (F (q ∷ qs)) e_one e_two)
+        ∙ filter-append (is_ended Both last) (whole_of e_one (q ∷ qs)) (whole_of e_two (q ∷ qs))
+        ∙ ap₂ (λ a b. a ++ b)
+        (filter_same (is_ended Both last) (is_ended One-names last) (whole_of e_one (q ∷ qs)) (all_so _ _ (whole_of e_one (q ∷ qs)) (λ t is. ap (λ o. is_over_at o (ends last t)) ((agree_first e_one e_two).compare (chrom t) last.chrom (λ w. is) (λ w. at))) (items_named One-names e_one (q ∷ qs) own_one)))
+        (filter_none (is_ended Both last) (whole_of e_two (q ∷ qs)) (all_so _ _ (whole_of e_two (q ∷ qs)) (λ t is. over_greater _ (ends last t) (greater (chrom t) last.chrom is at)) (items_named Two-names e_two (q ∷ qs) own_two)))
+        ∙ append-nil (filter (is_ended One-names last) (whole_of e_one (q ∷ qs)))
+
+    settled_both : (ones : List Feature) (s : Feature) (twos : List Feature) → AllByRecursion (λ r. is_among One-names r.chrom ≡ true) (intervals_of ones) → AllByRecursion (λ r. is_among Two-names r.chrom ≡ true) (intervals_of (s ∷ twos))
+        → settled_of (e_one ++ e_two) (ones ++ s ∷ twos) ≡ whole_of e_one ones ++ settled_of e_two (s ∷ twos)
+    settled_both ones s twos in_one in_two =
+        let last = last_from (interval_of s) (intervals_of twos) in
+        let at : is_among Two-names last.chrom ≡ true = last_is (λ r. is_among Two-names r.chrom ≡ true) (interval_of s) (intervals_of twos) in_two in
+        ap (ended Both (whole_of (e_one ++ e_two) (ones ++ s ∷ twos))) (ap last_of (map-append interval_of ones (s ∷ twos)) ∙ last_behind (intervals_of ones) (interval_of s) (intervals_of twos))
+        ∙ ap (filter (is_ended Both last)) (whole_both ones (s ∷ twos) in_one in_two)
+        ∙ filter-append (is_ended Both last) (whole_of e_one ones) (whole_of e_two (s ∷ twos))
+        ∙ ap₂ (λ a b. a ++ b)
+        (filter_all (is_ended Both last) (whole_of e_one ones) (all_so _ _ (whole_of e_one ones) (λ t is. over_less _ (ends last t) (less (chrom t) last.chrom is at)) (items_named One-names e_one ones own_one)))
+        (filter_same (is_ended Both last) (is_ended Two-names last) (whole_of e_two (s ∷ twos)) (all_so _ _ (whole_of e_two (s ∷ twos)) (λ t is. ap (λ o. is_over_at o (ends last t)) ((agree_second e_one e_two distinct).compare (chrom t) last.chrom (λ w. is) (λ w. at))) (items_named Two-names e_two (s ∷ twos) own_two)))
+
+    lines_both : (xs ys : List T) → flat_map line (xs ++ ys) ≡ flat_map line xs ++ flat_map line ys
+    lines_both xs ys = flat_map-append line xs ys
+
+    begin_by : (ones twos : List Feature) → AllByRecursion (λ r. is_among One-names r.chrom ≡ true) (intervals_of ones) → AllByRecursion (λ r. is_among Two-names r.chrom ≡ true) (intervals_of twos)
+        → ((rest : List T) × (whole_of e_one ones ≡ settled_of e_one ones ++ rest))
+        → (rest : List ℕ) × (flat_map line (whole_of e_one ones) ++ flat_map line (settled_of e_two twos) ≡ flat_map line (settled_of (e_one ++ e_two) (ones ++ twos)) ++ rest)
+    begin_by ones [] in_one in_two begins = (
+      flat_map line begins.0,
+      append-nil (flat_map line (whole_of e_one ones)) ∙ ap (flat_map line) begins.1 ∙ lines_both (settled_of e_one ones) begins.0
+          ∙ ap (λ l. flat_map line l ++ flat_map line begins.0) (sym (settled_first ones in_one) ∙ ap (settled_of (e_one ++ e_two)) (sym (append-nil ones))),
+    )
+    begin_by ones (s ∷ twos) in_one in_two begins =
+        ([], sym (append-nil _ ∙ ap (flat_map line) (settled_both ones s twos in_one in_two) ∙ lines_both (whole_of e_one ones) (settled_of e_two (s ∷ twos))))
+
+    pub chromosomes_split : (ones twos : List Feature) → AllByRecursion (λ r. is_among One-names r.chrom ≡ true) (intervals_of ones) → AllByRecursion (λ r. is_among Two-names r.chrom ≡ true) (intervals_of twos)
+        → ((rest : List T) × (whole_of e_one ones ≡ settled_of e_one ones ++ rest))
+        → Splits (written_of e_one) (written_of e_two) (written_of (e_one ++ e_two)) ones twos
+    chromosomes_split ones twos in_one in_two begins = record {
+      all = ap (flat_map line) (whole_both ones twos in_one in_two) ∙ lines_both (whole_of e_one ones) (whole_of e_two twos);
+      first = ap (flat_map line) (settled_first ones in_one);
+      begin = begin_by ones twos in_one in_two begins;
+    }
+
+-- ---- complement, genomecov and merge
+
+-- ---- gaps
+
+flat_filter : {A B : Type 0} (g : A → List B) (t : A → Bool) (xs : List A) → flat_map g (filter t xs) ≡ flat_map (λ x. cond (t x) (g x) []) xs
+flat_filter g t [] = refl
+flat_filter g t (x ∷ xs) = by (t x) ∙ ap (λ l. cond (t x) (g x) [] ++ l) (flat_filter g t xs)
+  where
+    by : (b : Bool) → flat_map g (cond b (x ∷ filter t xs) (filter t xs)) ≡ cond b (g x) [] ++ flat_map g (filter t xs)
+    by true = refl
+    by false = refl
+
+-- records of parts, each known to its own genome file
+pub record OwnParts (e_one e_two : List Entry) (ones twos : List Feature) : Type 0 where
+  pub distinct : AreDistinct (genome_names (e_one ++ e_two))
+  pub in_one : AllByRecursion (λ r. is_among (genome_names e_one) r.chrom ≡ true) (intervals_of ones)
+  pub in_two : AllByRecursion (λ r. is_among (genome_names e_two) r.chrom ≡ true) (intervals_of twos)
+  pub taken : AreTaken e_one ones
+  pub placed : ArePlaced (rank_order (genome_names e_two)) (intervals_of twos)
+  pub first_placed : ArePlaced (rank_order (genome_names (e_one ++ e_two))) (intervals_of ones)
+  pub second_placed : ArePlaced (rank_order (genome_names (e_one ++ e_two))) (intervals_of twos)
+  pub early : Earlier (rank_order (genome_names (e_one ++ e_two))) (ranks_total (genome_names (e_one ++ e_two))) ones twos
+
+or_not : (a b : Bool) → b ≡ false → (a || b) ≡ a
+or_not true b e = refl
+or_not false b e = e
+
+or_is : (a b : Bool) → a ≡ false → (a || b) ≡ b
+or_is a b e = ap (λ x. x || b) e
+
+module _ (limit : Bool) where
+  gaps_here : List Feature → Entry → List Interval
+  gaps_here records e = cond (is_asked limit (intervals_of records) e) (gaps_on (intervals_of records) e) []
+
+  abbrev gap_ends : Interval → Interval → Bool
+  gap_ends last gap = nat_le gap.stop last.start
+
+  abbrev gap_chrom : Interval → List ℕ
+  gap_chrom gap = gap.chrom
+
+  complement_is : (entries : List Entry) (records : List Feature) → complement limit entries records ≡ whole_of gap_chrom gap_ends interval_line gaps_here entries records
+  unfolding complement gaps_here
+  complement_is entries records = flat_filter (gaps_on (intervals_of records)) (is_asked limit (intervals_of records)) entries
+
+  over_same : (names : List (List ℕ)) (items : List Interval) (o : Option Interval) → option_map_or (λ last. filter (is_over names last) items) o [] ≡ ended gap_chrom gap_ends interval_line gaps_here names items o
+  over_same names items None = refl
+  over_same names items (Some last) = refl
+
+  gaps_settled : (entries : List Entry) (records : List Feature) → settled_gaps limit entries records ≡ settled_of gap_chrom gap_ends interval_line gaps_here entries records
+  unfolding settled_gaps
+  gaps_settled entries records =
+      ap (λ items. option_map_or (λ last. filter (is_over (genome_names entries) last) items) (last_of (intervals_of records)) []) (complement_is entries records)
+      ∙ over_same (genome_names entries) (whole_of gap_chrom gap_ends interval_line gaps_here entries records) (last_of (intervals_of records))
+
+  gaps_named : (records : List Feature) (e : Entry) → AllByRecursion (λ gap. gap.chrom ≡ e.name) (gaps_here records e)
+  unfolding gaps_here
+  gaps_named records e = by (is_asked limit (intervals_of records) e)
+    where
+      by : (b : Bool) → AllByRecursion (λ gap. gap.chrom ≡ e.name) (cond b (gaps_on (intervals_of records) e) [])
+      by true = all_map (λ gap. gap.chrom ≡ e.name) (placed_on e.name) (gaps_of e.length (spans_on e.name (intervals_of records))) (all_any _ (gaps_of e.length (spans_on e.name (intervals_of records))) (λ s. refl))
+      by false = tt
+
+  gaps_first : (ones twos : List Feature) (e : Entry) → has_records e.name (intervals_of twos) ≡ false → gaps_here (ones ++ twos) e ≡ gaps_here ones e
+  unfolding gaps_here
+  gaps_first ones twos e none =
+      ap (λ ivs. cond (is_asked limit ivs e) (gaps_on ivs e) []) (map-append interval_of ones twos)
+      ∙ ap₂ (λ b spans. cond (not limit || b) (map (placed_on e.name) (gaps_of e.length spans)) [])
+      (has_append e.name (intervals_of ones) (intervals_of twos) ∙ or_not (has_records e.name (intervals_of ones)) (has_records e.name (intervals_of twos)) none)
+      (spans_first e.name (intervals_of ones) (intervals_of twos) none)
+
+  gaps_second : (ones twos : List Feature) (e : Entry) → has_records e.name (intervals_of ones) ≡ false → gaps_here (ones ++ twos) e ≡ gaps_here twos e
+  unfolding gaps_here
+  gaps_second ones twos e none =
+      ap (λ ivs. cond (is_asked limit ivs e) (gaps_on ivs e) []) (map-append interval_of ones twos)
+      ∙ ap₂ (λ b spans. cond (not limit || b) (map (placed_on e.name) (gaps_of e.length spans)) [])
+      (has_append e.name (intervals_of ones) (intervals_of twos) ∙ or_is (has_records e.name (intervals_of ones)) (has_records e.name (intervals_of twos)) none)
+      (spans_second e.name (intervals_of ones) (intervals_of twos) none)
+
+  gaps_begin : (entries : List Entry) (ones : List Feature) → AreTaken entries ones → (rest : List Interval) × (whole_of gap_chrom gap_ends interval_line gaps_here entries ones ≡ settled_of gap_chrom gap_ends interval_line gaps_here entries ones ++ rest)
+  gaps_begin entries ones taken =
+      let front = begins (settled_gaps limit entries) (complement limit entries) (AreTaken entries) (settles_gaps limit entries) ones [] (subst (AreTaken entries) (sym (append-nil ones)) taken) in
+      (front.0, sym (complement_is entries ones) ∙ ap (complement limit entries) (sym (append-nil ones)) ∙ front.1 ∙ ap (λ l. l ++ front.0) (gaps_settled entries ones))
+
+  pub gaps_split : (e_one e_two : List Entry) (ones twos : List Feature) → OwnParts e_one e_two ones twos → Splits (complement_written e_one limit) (complement_written e_two limit) (complement_written (e_one ++ e_two) limit) ones twos
+  gaps_split e_one e_two ones twos own =
+      let W : List Entry → Written Feature = written_of gap_chrom gap_ends interval_line gaps_here in
+      splits_as (complement_written e_one limit) (complement_written e_two limit) (complement_written (e_one ++ e_two) limit) (W e_one) (W e_two) (W (e_one ++ e_two)) ones twos
+      (ap interval_lines (complement_is e_one ones)) (ap interval_lines (gaps_settled e_one ones)) (ap interval_lines (complement_is e_two twos)) (ap interval_lines (gaps_settled e_two twos))
+      (ap interval_lines (complement_is (e_one ++ e_two) (ones ++ twos))) (ap interval_lines (gaps_settled (e_one ++ e_two) ones)) (ap interval_lines (gaps_settled (e_one ++ e_two) (ones ++ twos)))
+      (chromosomes_split gap_chrom gap_ends interval_line gaps_here gaps_named gaps_first gaps_second e_one e_two own.distinct ones twos own.in_one own.in_two (gaps_begin e_one ones own.taken))
+
+-- ---- depths
+
+module _ (zeros : Bool) (strand : Option Strand) where
+  abbrev depth_chrom : DepthInterval → List ℕ
+  depth_chrom item = item.chrom
+
+  abbrev depth_ends : Interval → DepthInterval → Bool
+  depth_ends last item = nat_lt item.stop last.start
+
+  abbrev depths_here : List Feature → Entry → List DepthInterval
+  depths_here records e = depths_on zeros strand records e
+
+  coverage_is : (entries : List Entry) (records : List Feature) → coverage zeros strand entries records ≡ whole_of depth_chrom depth_ends depth_line depths_here entries records
+  unfolding coverage
+  coverage_is entries records = refl
+
+  ended_same : (names : List (List ℕ)) (items : List DepthInterval) (o : Option Interval) → option_map_or (λ last. filter (is_ended_by names last) items) o [] ≡ ended depth_chrom depth_ends depth_line depths_here names items o
+  ended_same names items None = refl
+  ended_same names items (Some last) = refl
+
+  depths_settled : (entries : List Entry) (records : List Feature) → settled_depths zeros strand entries records ≡ settled_of depth_chrom depth_ends depth_line depths_here entries records
+  unfolding settled_depths
+  depths_settled entries records =
+      ap (λ items. option_map_or (λ last. filter (is_ended_by (genome_names entries) last) items) (last_of (intervals_of records)) []) (coverage_is entries records)
+      ∙ ended_same (genome_names entries) (whole_of depth_chrom depth_ends depth_line depths_here entries records) (last_of (intervals_of records))
+
+  depths_named : (records : List Feature) (e : Entry) → AllByRecursion (λ item. item.chrom ≡ e.name) (depths_here records e)
+  depths_named records e =
+      let levels = levels_of (depth_of zeros (counted_on strand e.name records)) e.length in
+      all_map (λ item. item.chrom ≡ e.name) (depth_on e.name) levels (all_any _ levels (λ l. refl))
+
+  abbrev counts : Feature → Bool
+  counts r = is_counted_by strand r.strand
+
+  counted_both : (ones twos : List Feature) → intervals_of (filter counts (ones ++ twos)) ≡ intervals_of (filter counts ones) ++ intervals_of (filter counts twos)
+  counted_both ones twos = ap intervals_of (filter-append counts ones twos) ∙ map-append interval_of (filter counts ones) (filter counts twos)
+
+  depths_by : (e : Entry) (xs ys : List Feature) → counted_on strand e.name xs ≡ counted_on strand e.name ys → depths_here xs e ≡ depths_here ys e
+  depths_by e xs ys is = ap (λ spans. map (depth_on e.name) (levels_of (depth_of zeros spans) e.length)) is
+
+  depths_first : (ones twos : List Feature) (e : Entry) → has_records e.name (intervals_of twos) ≡ false → depths_here (ones ++ twos) e ≡ depths_here ones e
+  depths_first ones twos e none =
+      depths_by e (ones ++ twos) ones (ap (spans_on e.name) (counted_both ones twos) ∙ spans_first e.name (intervals_of (filter counts ones)) (intervals_of (filter counts twos)) (fewer counts e.name twos none))
+
+  depths_second : (ones twos : List Feature) (e : Entry) → has_records e.name (intervals_of ones) ≡ false → depths_here (ones ++ twos) e ≡ depths_here twos e
+  depths_second ones twos e none =
+      depths_by e (ones ++ twos) twos (ap (spans_on e.name) (counted_both ones twos) ∙ spans_second e.name (intervals_of (filter counts ones)) (intervals_of (filter counts twos)) (fewer counts e.name ones none))
+
+  depths_begin : (entries : List Entry) (ones : List Feature) → AreTaken entries ones → (rest : List DepthInterval) × (whole_of depth_chrom depth_ends depth_line depths_here entries ones ≡ settled_of depth_chrom depth_ends depth_line depths_here entries ones ++ rest)
+  depths_begin entries ones taken =
+      let front = begins (settled_depths zeros strand entries) (coverage zeros strand entries) (AreTaken entries) (settles_depths zeros strand entries) ones [] (subst (AreTaken entries) (sym (append-nil ones)) taken) in
+      (front.0, sym (coverage_is entries ones) ∙ ap (coverage zeros strand entries) (sym (append-nil ones)) ∙ front.1 ∙ ap (λ l. l ++ front.0) (depths_settled entries ones))
+
+  pub depths_split : (e_one e_two : List Entry) (ones twos : List Feature) → OwnParts e_one e_two ones twos → Splits (coverage_written e_one zeros strand) (coverage_written e_two zeros strand) (coverage_written (e_one ++ e_two) zeros strand) ones twos
+  depths_split e_one e_two ones twos own =
+      let W : List Entry → Written Feature = written_of depth_chrom depth_ends depth_line depths_here in
+      splits_as (coverage_written e_one zeros strand) (coverage_written e_two zeros strand) (coverage_written (e_one ++ e_two) zeros strand) (W e_one) (W e_two) (W (e_one ++ e_two)) ones twos
+      (ap (flat_map depth_line) (coverage_is e_one ones)) (ap (flat_map depth_line) (depths_settled e_one ones)) (ap (flat_map depth_line) (coverage_is e_two twos)) (ap (flat_map depth_line) (depths_settled e_two twos))
+      (ap (flat_map depth_line) (coverage_is (e_one ++ e_two) (ones ++ twos))) (ap (flat_map depth_line) (depths_settled (e_one ++ e_two) ones)) (ap (flat_map depth_line) (depths_settled (e_one ++ e_two) (ones ++ twos)))
+      (chromosomes_split depth_chrom depth_ends depth_line depths_here depths_named depths_first depths_second e_one e_two own.distinct ones twos own.in_one own.in_two (depths_begin e_one ones own.taken))
+
+-- ---- merged runs
+
+module _ (d : ℕ) where
+  -- the runs in either order
+  module _ (strand : MergeStrand) where
+    runs_as : (mine yours : List (List ℕ)) (records : List Feature) → ArePlaced (rank_order mine) (intervals_of records) → ArePlaced (rank_order yours) (intervals_of records)
+        → ordered_runs (rank_order mine) d strand records ≡ ordered_runs (rank_order yours) d strand records
+    runs_as mine yours records one two = ordered_come (rank_order mine) d strand records (ranks_total mine) one ∙ sym (ordered_come (rank_order yours) d strand records (ranks_total yours) two)
+
+    settled_as : (mine yours : List (List ℕ)) (records : List Feature) → ArePlaced (rank_order mine) (intervals_of records) → ArePlaced (rank_order yours) (intervals_of records)
+        → interval_lines (passed_by d (ordered_runs (rank_order mine) d strand records) (last_of (intervals_of records))) ≡ interval_lines (passed_by d (ordered_runs (rank_order yours) d strand records) (last_of (intervals_of records)))
+    settled_as mine yours records one two = ap (λ runs. interval_lines (passed_by d runs (last_of (intervals_of records)))) (runs_as mine yours records one two)
+
+    pooled_own : (e_one e_two : List Entry) (ones twos : List Feature) → OwnParts e_one e_two ones twos
+        → Splits (pooled_written (rank_order (genome_names e_one)) d strand) (pooled_written (rank_order (genome_names e_two)) d strand) (pooled_written (rank_order (genome_names (e_one ++ e_two))) d strand) ones twos
+    pooled_own e_one e_two ones twos own =
+        let both = genome_names (e_one ++ e_two) in
+        let W : List (List ℕ) → Written Feature = λ names. pooled_written (rank_order names) d strand in
+        splits_as (W (genome_names e_one)) (W (genome_names e_two)) (W both) (W both) (W both) (W both) ones twos
+        (ap interval_lines (runs_as (genome_names e_one) both ones own.taken.placed own.first_placed)) (settled_as (genome_names e_one) both ones own.taken.placed own.first_placed)
+        (ap interval_lines (runs_as (genome_names e_two) both twos own.placed own.second_placed)) (settled_as (genome_names e_two) both twos own.placed own.second_placed)
+        refl refl refl
+        (pooled_split d strand (rank_order both) (ranks_total both) ones twos own.first_placed own.second_placed own.taken.full own.early)
+
+  pub merge_own : (strand : MergeStrand) (e_one e_two : List Entry) (ones twos : List Feature) → OwnParts e_one e_two ones twos
+      → Splits (merge_written (rank_order (genome_names e_one)) d strand) (merge_written (rank_order (genome_names e_two)) d strand) (merge_written (rank_order (genome_names (e_one ++ e_two))) d strand) ones twos
+  merge_own All = pooled_own All
+  merge_own (One strand) = pooled_own (One strand)
+  merge_own Each = λ e_one e_two ones twos own. strands_split d ones twos (records_away (rank_order (genome_names (e_one ++ e_two))) (ranks_total (genome_names (e_one ++ e_two))) ones twos own.first_placed own.early)
+
+-- ---- any command that writes so
+
+-- a genome file has each chromosome once
+cut_none : (fault : Option FaultValue) (result : Result (List Entry) FaultValue) (entries : List Entry) → genome_cut fault result ≡ Ok entries → result ≡ Ok entries
+cut_none None result entries e = e
+cut_none (Some fault) (Ok more) entries e = cc
+cut_none (Some fault) (Err first) entries e = cc
+
+pub file_is : (result : Result (List Entry) FaultValue) (entries : List Entry) → of_file result ≡ Ok (Some entries) → result ≡ Ok entries
+file_is (Ok more) entries e = cc
+file_is (Err fault) entries e = cc
+
+pub distinct_in : (genome : Handed) (entries : List Entry) → chromosomes_of (Some genome) ≡ Ok (Some entries) → AreDistinct (genome_names entries)
+distinct_in genome entries e =
+    distinct_genome Genome (lines_handed genome) entries (cut_none (cut_fault Genome genome) (genome_of Genome (lines_handed genome)) entries (file_is (genome_handed Genome genome) entries e))
+
+module _ (W : List Entry → Written Feature) (command : Command)
+    (is : (entries : List Entry) (text : List ℕ) → report_on command (Ok (Some entries)) (whole_text text) None ≡ good_report (W entries) (good (bed_format (sorting_of (rank_order (genome_names entries)))) First (text_lines text)))
+    (splits : (e_one e_two : List Entry) (ones twos : List Feature) → OwnParts e_one e_two ones twos → Splits (W e_one) (W e_two) (W (e_one ++ e_two)) ones twos) where
+  abbrev good_of : List Entry → List ℕ → Good Feature
+  good_of entries text = good (bed_format (sorting_of (rank_order (genome_names entries)))) First (text_lines text)
+
+  abbrev report_in : List Entry → List ℕ → Report
+  report_in entries text = good_report (W entries) (good_of entries text)
+
+  known_in : (entries : List Entry) (text : List ℕ) → AllByRecursion (λ r. is_among (genome_names entries) r.chrom ≡ true) (intervals_of (items_in (good_of entries text)))
+  known_in entries text =
+      let total = ranks_total (genome_names entries) in
+      all_map (λ r. is_among (genome_names entries) r.chrom ≡ true) interval_of (items_in (good_of entries text))
+      (items_all (rank_order (genome_names entries)) total First (λ r. is_among (genome_names entries) r.chrom ≡ true) None (text_lines text) (all_any _ _ (λ r known. sym (among_ranked (genome_names entries) r.chrom) ∙ known)))
+
+  front_distinct : (xs ys : List (List ℕ)) → AreDistinct (xs ++ ys) → AreDistinct xs
+  front_distinct [] ys d = tt
+  front_distinct (x ∷ xs) ys d = (not_there (is_among xs x) (is_among ys x) (sym (among_append xs ys x) ∙ d.0), front_distinct xs ys d.1)
+    where
+      not_there : (a b : Bool) → (a || b) ≡ false → a ≡ false
+      not_there true b e = cc
+      not_there false b e = refl
+
+  module _ (e_one e_two : List Entry) (one two : List ℕ) (distinct : AreDistinct (genome_names (e_one ++ e_two))) (ends : StandsBefore one two)
+      (within_one : AllByRecursion (LiesWithin e_one (e_one ++ e_two)) (said_records one)) (within_two : AllByRecursion (LiesWithin e_two (e_one ++ e_two)) (said_records two)) where
+    one_same : good_of (e_one ++ e_two) one ≡ good_of e_one one
+    one_same = agree_good _ _ _ (agree_first e_one e_two) First None (text_lines one) tt within_one
+
+    two_same : good_of (e_one ++ e_two) two ≡ good_of e_two two
+    two_same = agree_good _ _ _ (agree_second e_one e_two distinct) First None (text_lines two) tt within_two
+
+    joint : IsJoint (good_of e_one one) (good_of e_two two) (good_of (e_one ++ e_two) (one ++ two))
+    joint = subst (λ g. IsJoint g (good_of e_two two) (good_of (e_one ++ e_two) (one ++ two))) one_same
+        (subst (λ g. IsJoint (good_of (e_one ++ e_two) one) g (good_of (e_one ++ e_two) (one ++ two))) two_same
+        (bed_joint (rank_order (genome_names (e_one ++ e_two))) (ranks_total (genome_names (e_one ++ e_two))) one two (within_before e_one e_two distinct (said_records one) (said_records two) within_one within_two) First ends))
+
+    abbrev order_of_both : Order
+    order_of_both = rank_order (genome_names (e_one ++ e_two))
+
+    abbrev total_of_both : IsTotal (rank_order (genome_names (e_one ++ e_two)))
+    total_of_both = ranks_total (genome_names (e_one ++ e_two))
+
+    own : OwnParts e_one e_two (items_in (good_of e_one one)) (items_in (good_of e_two two))
+    own = record {
+      distinct = distinct;
+      in_one = known_in e_one one;
+      in_two = known_in e_two two;
+      taken = record {
+        distinct = front_distinct (genome_names e_one) (genome_names e_two) (subst AreDistinct (names_both e_one e_two) distinct);
+        placed = placed_lines First (rank_order (genome_names e_one)) (text_lines one) (ranks_total (genome_names e_one));
+        full = non_empty_from First (sorting_of (rank_order (genome_names e_one))) None (text_lines one);
+      };
+      placed = placed_lines First (rank_order (genome_names e_two)) (text_lines two) (ranks_total (genome_names e_two));
+      first_placed = subst (λ (g : Good Feature). ArePlaced order_of_both (intervals_of (items_in g))) one_same (placed_lines First order_of_both (text_lines one) total_of_both);
+      second_placed = subst (λ (g : Good Feature). ArePlaced order_of_both (intervals_of (items_in g))) two_same (placed_lines First order_of_both (text_lines two) total_of_both);
+      early = subst (λ (g : Good Feature). Earlier order_of_both total_of_both (items_in g) (items_in (good_of e_two two))) one_same
+          (subst (λ (g : Good Feature). Earlier order_of_both total_of_both (items_in (good_of (e_one ++ e_two) one)) (items_in g)) two_same
+          (good_earlier order_of_both total_of_both one two (within_before e_one e_two distinct (said_records one) (said_records two) within_one within_two) First First));
+    }
+
+    both_reports : Joins (report_in e_one one) (report_in e_two two) (report_in (e_one ++ e_two) (one ++ two))
+    both_reports = good_joins (W e_one) (W e_two) (W (e_one ++ e_two)) (good_of e_one one) (good_of e_two two) (good_of (e_one ++ e_two) (one ++ two)) joint (splits e_one e_two (items_in (good_of e_one one)) (items_in (good_of e_two two)) own)
+
+  join : List Shard → Shard
+  join shards = record { genome = whole_text []; entries = all_entries shards; text = joined (shard_texts shards) }
+
+  record Fit (shards : List Shard) : Type 0 where
+    distinct : AreDistinct (genome_names (all_entries shards))
+    lines : AreOfLines (shard_texts shards)
+    within : AllByRecursion (λ shard. AllByRecursion (LiesWithin shard.entries (all_entries shards)) (said_records shard.text)) shards
+
+  back_distinct : (xs ys : List (List ℕ)) → AreDistinct (xs ++ ys) → AreDistinct ys
+  back_distinct [] ys d = d
+  back_distinct (x ∷ xs) ys d = back_distinct xs ys d.1
+
+  among_more : (e_one e_two : List Entry) (name : List ℕ) → is_among (genome_names e_two) name ≡ true → is_among (genome_names (e_one ++ e_two)) name ≡ true
+  among_more e_one e_two name h = ap (λ ns. is_among ns name) (names_both e_one e_two) ∙ among_append (genome_names e_one) (genome_names e_two) name ∙ or_right (is_among (genome_names e_one) name) (is_among (genome_names e_two) name) h
+
+  among_less : (e_one e_two : List Entry) (name : List ℕ) → is_among (genome_names e_one) name ≡ true → is_among (genome_names (e_one ++ e_two)) name ≡ true
+  among_less e_one e_two name h = ap (λ ns. is_among ns name) (names_both e_one e_two) ∙ among_append (genome_names e_one) (genome_names e_two) name ∙ or_left (is_among (genome_names e_one) name) (is_among (genome_names e_two) name) h
+
+  fit_less : (t : Shard) (ts : List Shard) → Fit (t ∷ ts) → Fit ts
+  fit_less t ts fit = record {
+    distinct = back_distinct (genome_names t.entries) (genome_names (all_entries ts)) (subst AreDistinct (names_both t.entries (all_entries ts)) fit.distinct);
+    lines = lines_less t.text (shard_texts ts) fit.lines;
+    within = all_so _ _ ts (λ s h. all_so _ _ (said_records s.text) (λ r k here. k (among_more t.entries (all_entries ts) r.chrom here)) h) fit.within.1;
+  }
+
+  within_all : (whole : List Entry) (shards : List Shard) → AreOfLines (shard_texts shards) → AllByRecursion (λ shard. AllByRecursion (LiesWithin shard.entries whole) (said_records shard.text)) shards
+      → AllByRecursion (LiesWithin (all_entries shards) whole) (said_records (joined (shard_texts shards)))
+  unfolding lines_from
+  within_all whole [] lines h = tt
+  within_all whole (t ∷ []) lines h =
+      subst (λ text. AllByRecursion (LiesWithin (t.entries ++ []) whole) (said_records text)) (sym (append-nil t.text))
+      (subst (λ es. AllByRecursion (LiesWithin es whole) (said_records t.text)) (sym (append-nil t.entries)) h.0)
+  within_all whole (t ∷ u ∷ ts) lines h =
+      subst (λ rs. AllByRecursion (LiesWithin (t.entries ++ all_entries (u ∷ ts)) whole) rs) (sym (records_both t.text (joined (shard_texts (u ∷ ts))) lines.0))
+      (all_both _ (said_records t.text) (said_records (joined (shard_texts (u ∷ ts))))
+      (all_so _ _ (said_records t.text) (λ r k here. among_less t.entries (all_entries (u ∷ ts)) r.chrom (k here)) h.0)
+      (all_so _ _ (said_records (joined (shard_texts (u ∷ ts)))) (λ r k here. among_more t.entries (all_entries (u ∷ ts)) r.chrom (k here)) (within_all whole (u ∷ ts) lines.1 h.1)))
+
+  on_shard : Shard → Report
+  on_shard shard = report_in shard.entries shard.text
+
+  on_own : (shards : List Shard) → AllByRecursion (λ shard. chromosomes_of (Some shard.genome) ≡ Ok (Some shard.entries)) shards → map (λ shard. on_text command (Some shard.genome) shard.text) shards ≡ map on_shard shards
+  unfolding report_of on_shard
+  on_own shards h = map_same _ _ shards (all_so _ _ shards (λ s has. ap (λ c. report_on command c (whole_text s.text) None) has ∙ is s.entries s.text) h)
+
+  same_parts : (shards : List Shard) (genome : Handed) → AreShards genome shards → on_text command (Some genome) (joined (shard_texts shards)) ≡ on_shard (join shards)
+  unfolding report_of on_shard join
+  same_parts shards genome are = ap (λ c. report_on command c (whole_text (joined (shard_texts shards))) None) are.whole ∙ is (all_entries shards) (joined (shard_texts shards))
+
+  fit_of : (shards : List Shard) (genome : Handed) → AreShards genome shards → Fit shards
+  fit_of shards genome are = record { distinct = distinct_in genome (all_entries shards) are.whole; lines = are.lines; within = are.within }
+
+  alone : (t : Shard) → on_shard (join (t ∷ [])) ≡ on_shard t
+  unfolding on_shard join
+  alone t = ap₂ report_in (append-nil t.entries) (append-nil t.text)
+
+  next : (t u : Shard) (ts : List Shard) → Fit (t ∷ u ∷ ts) → Joins (on_shard t) (on_shard (join (u ∷ ts))) (on_shard (join (t ∷ u ∷ ts)))
+  unfolding on_shard join
+  next t u ts fit =
+      both_reports t.entries (all_entries (u ∷ ts)) t.text (joined (shard_texts (u ∷ ts))) fit.distinct fit.lines.0 fit.within.0
+      (within_all (t.entries ++ all_entries (u ∷ ts)) (u ∷ ts) fit.lines.1 fit.within.1)
+
+  pub shards_add : report_in [] [] ≡ nothing → (genome : Handed) (shards : List Shard) → AreShards genome shards → ShardsAddUp command genome shards
+  unfolding on_shard join
+  shards_add empty genome shards are =
+      let both = parts_both join on_shard Fit empty alone fit_less next shards (fit_of shards genome are) in
+      rw (on_own shards are.parts, same_parts shards genome are) both
+
+pub complement_parts : complement_divides
+unfolding lines_from good_from complement
+complement_parts limit = shards_add (λ entries. complement_written entries limit) (Complement limit)
+    (λ entries text. ap (good_report (complement_written entries limit)) (good_whole (bed_format (sorting_of (rank_order (genome_names entries)))) First text))
+    (gaps_split limit) refl
+
+pub genomecov_parts : genomecov_divides
+unfolding lines_from good_from coverage
+genomecov_parts zeros strand = shards_add (λ entries. coverage_written entries zeros strand) (Coverage zeros strand)
+    (λ entries text. ap (good_report (coverage_written entries zeros strand)) (good_whole (bed_format (sorting_of (rank_order (genome_names entries)))) First text))
+    (depths_split zeros strand) refl
+
+merge_nothing : (d : ℕ) (strand : MergeStrand) → good_report (merge_written (rank_order []) d strand) (good (bed_format (sorting_of (rank_order []))) First (text_lines [])) ≡ nothing
+unfolding lines_from good_from ordered_runs merged strand_runs
+merge_nothing d All = refl
+merge_nothing d Each = refl
+merge_nothing d (One strand) = refl
+
+pub merge_genome_parts : merge_genomes_divide
+merge_genome_parts d strand = shards_add (λ entries. merge_written (rank_order (genome_names entries)) d strand) (Merge d strand)
+    (λ entries text. ap (good_report (merge_written (rank_order (genome_names entries)) d strand)) (good_whole (bed_format (sorting_of (rank_order (genome_names entries)))) First text))
+    (merge_own d strand) (merge_nothing d strand)

@@ -1,0 +1,368 @@
+-- The reports of bamtobed, merge, intersect and subtract on two concatenated texts, and on any number.
+use Rattle.bt_lines.proofs.Std.{◌≡◌, ℕ, Bool, List, [], ◌∷◌, ◌++◌, append-nil, Option, Some, None, refl, sym, ap, ◌∙◌, map, Ok, ap₂, flat_map-append, IsTrue, AllByRecursion, ◌⊎◌, append_assoc, inl, inr, subst, flat_map, flat_map-map}
+use Rattle.bt_lines.specs.model.Lines.{lines_from, text_lines, Handed, whole_text}
+use Rattle.bt_lines.specs.declared.fault.Input.TheVariants.{First, Second}
+use Rattle.bt_bed.specs.model.Good.{Good, good, good_from, items_in, bed_format}
+use Rattle.bt_seq.specs.model.Alignment.{Alignment, alignment_of, bed_lines, sam_format}
+use Rattle.bt_laws.specs.Parts.{AreOfLines, StandsBefore, joined, ComeBefore, said_records, bamtobed_divides, on_text, ArePairs, PairsAscend, Texts, TextsAscend, intersect_divides, joined_texts, merge_divides, on_texts, subtract_divides, PairsAddUp, AreAtHeaders, WritesOn, MaskTheirOwn, NoneMoves, begins_sequence, maskfasta_divides, repeated_names_divide, AddUp, StopWithin, outputs_to_fault, unless_fault}
+use Rattle.bt_tool.specs.model.Written.{Report, good_report, alignment_lines, alignments_written, merge_written}
+use Rattle.bt_tool.specs.model.Report.{report_of, chromosomes_of, report_on, order_of}
+use Rattle.bt_tool.specs.declared.planning.plan_type.Command.TheVariants.{BamToBed, Intersect, Merge, Subtract, MaskFasta}
+use Rattle.bt_tool.proofs.lemmas.running.members.CursorLemmas.{good_whole}
+use Rattle.bt_laws.proofs.lemmas.parts.PartLines.{IsJoint, good_joint}
+use Rattle.bt_laws.proofs.lemmas.parts.PartReports.{Splits, parts_both, Joins, good_joins, nothing, together, parts_add, stop_more, stop_none, stop_one}
+use Rattle.bt_laws.proofs.lemmas.Lists.{all_any, all_back, all_front, all_so, all_unmap}
+use Rattle.bt_lines.specs.declared.fault.Input.{Input}
+use Rattle.bt_bed.specs.model.Order.{bytes_total, Order, IsTotal}
+use Rattle.bt_bed.specs.model.Feature.{Feature, intervals_of}
+use Rattle.bt_bed.specs.model.Genome.{Entry, genome_names}
+use Rattle.bt_bed.specs.model.Sorted.{ArePlaced, sorting_of}
+use Rattle.bt_bed.specs.inside.RankTotal.{ranks_total}
+use Rattle.bt_bed.proofs.lemmas.Definitions.{non_empty_from, placed_lines}
+use Rattle.bt_runs.specs.model.Merged.{merged, ordered_runs, strand_runs}
+use Rattle.bt_runs.specs.declared.merge.merge_strand.MergeStrand.{MergeStrand}
+use Rattle.bt_runs.specs.declared.merge.merge_strand.MergeStrand.TheVariants.{All, Each, One}
+use Rattle.bt_sweep.specs.model.Lines.{subtract_shape}
+use Rattle.bt_sweep.specs.declared.hits.hit_rule.HitRule.{HitRule}
+use Rattle.bt_sweep.specs.declared.output.shape.Shape.{Shape}
+use Rattle.bt_laws.proofs.lemmas.parts.PartBed.{Earlier, bed_joint, good_earlier, items_all}
+use Rattle.bt_laws.proofs.lemmas.parts.PartMerge.{pooled_split, strands_split}
+use Rattle.bt_laws.proofs.lemmas.parts.PartGenomes.{names_apart, names_behind, records_away}
+use Rattle.bt_laws.proofs.lemmas.parts.PartSweep.{AreSplit, sweep_report, sweep_joins, unless_none}
+use Rattle.bt_tool.specs.declared.planning.plan_type.Command.{Command}
+use Rattle.bt_lines.specs.model.Fault.{FaultValue}
+use Rattle.bt_seq.specs.declared.mask.mask_how.MaskHow.{MaskHow}
+use Rattle.bt_laws.proofs.lemmas.parts.PartMasked.{mask_is}
+use Rattle.bt_laws.proofs.lemmas.parts.PartMaskReports.{Lacks, faulty_first, lacks_kind, sound_goes, sound_stops, AreTwo, mask_adds, texts_report, two_suffice}
+
+module _ (split cigar : Bool) where
+  on_sam : List ℕ → Report
+  on_sam text = good_report (alignments_written split cigar) (good sam_format First (text_lines text))
+
+  sam_is : (text : List ℕ) → on_text (BamToBed split cigar) None text ≡ on_sam text
+  unfolding report_of on_sam
+  sam_is text =
+      ap (good_report (alignments_written split cigar)) (good_whole sam_format First text)
+
+  lines_split : (ones twos : List Alignment) → Splits (alignments_written split cigar) (alignments_written split cigar) (alignments_written split cigar) ones twos
+  lines_split ones twos =
+      let both = flat_map-append (bed_lines split cigar) ones twos in
+      record { all = both; first = refl; begin = ([], sym (append-nil (alignment_lines split cigar (ones ++ twos)) ∙ both)) }
+
+  sam_joint : (one two : List ℕ) → StandsBefore one two → IsJoint (good sam_format First (text_lines one)) (good sam_format First (text_lines two)) (good sam_format First (text_lines (one ++ two)))
+  sam_joint one two ends = good_joint sam_format First (λ state. Unit {0}) one two ends (λ state l m e d. ap alignment_of e) tt (λ n now leads. refl) (all_any _ (text_lines one) (λ l state item leads e. tt))
+
+  sam_joins : (one two : List ℕ) → StandsBefore one two → Joins (on_sam one) (on_sam two) (on_sam (one ++ two))
+  unfolding on_sam
+  sam_joins one two ends =
+      good_joins (alignments_written split cigar) (alignments_written split cigar) (alignments_written split cigar) (good sam_format First (text_lines one)) (good sam_format First (text_lines two)) (good sam_format First (text_lines (one ++ two))) (sam_joint one two ends) (lines_split _ _)
+
+  text_joins : (one two : List ℕ) → StandsBefore one two → Joins (on_text (BamToBed split cigar) None one) (on_text (BamToBed split cigar) None two) (on_text (BamToBed split cigar) None (one ++ two))
+  text_joins one two ends = rw (sam_is one, sam_is two, sam_is (one ++ two)) (sam_joins one two ends)
+
+pub lines_less : (text : List ℕ) (texts : List (List ℕ)) → AreOfLines (text ∷ texts) → AreOfLines texts
+lines_less text texts lines = lines.1
+
+pub sam_divides : bamtobed_divides
+unfolding report_of lines_from good_from
+sam_divides split cigar texts lines =
+    parts_both joined (on_text (BamToBed split cigar) None) AreOfLines refl (λ t. ap (on_text (BamToBed split cigar) None) (append-nil t)) lines_less
+    (λ t u ts fits. text_joins split cigar t (joined (u ∷ ts)) fits.0) texts lines
+
+-- ---- records
+
+pub order_total : (chromosomes : Option (List Entry)) → IsTotal (order_of chromosomes)
+order_total None = bytes_total
+order_total (Some entries) = ranks_total (genome_names entries)
+
+module _ (order : Order) (total : IsTotal order) where
+  -- what is good of a text of records
+  abbrev pub bed_text_good : Input → List ℕ → Good Feature
+  bed_text_good input text = good (bed_format (sorting_of order)) input (text_lines text)
+
+  abbrev pub text_records : Input → List ℕ → List Feature
+  text_records input text = items_in (bed_text_good input text)
+
+  pub text_placed : (input : Input) (text : List ℕ) → ArePlaced order (intervals_of (text_records input text))
+  text_placed input text = placed_lines input order (text_lines text) total
+
+  -- ---- merge
+
+  pub merge_split : (d : ℕ) (strand : MergeStrand) (one two : List ℕ) → Earlier order total (text_records First one) (text_records First two)
+      → Splits (merge_written order d strand) (merge_written order d strand) (merge_written order d strand) (text_records First one) (text_records First two)
+  merge_split d All one two early = pooled_split d All order total (text_records First one) (text_records First two) (text_placed First one) (text_placed First two) (non_empty_from First (sorting_of order) None (text_lines one)) early
+  merge_split d (One strand) one two early = pooled_split d (One strand) order total (text_records First one) (text_records First two) (text_placed First one) (text_placed First two) (non_empty_from First (sorting_of order) None (text_lines one)) early
+  merge_split d Each one two early = strands_split d (text_records First one) (text_records First two) (records_away order total (text_records First one) (text_records First two) (text_placed First one) early)
+
+  abbrev pub merge_report : ℕ → MergeStrand → List ℕ → Report
+  merge_report d strand text = good_report (merge_written order d strand) (bed_text_good First text)
+
+  module _ (d : ℕ) (strand : MergeStrand) (one two : List ℕ) (ends : StandsBefore one two) (before : ComeBefore order (said_records one) (said_records two)) where
+    pub merge_joins : Joins (merge_report d strand one) (merge_report d strand two) (merge_report d strand (one ++ two))
+    merge_joins = good_joins (merge_written order d strand) (merge_written order d strand) (merge_written order d strand) (bed_text_good First one) (bed_text_good First two) (bed_text_good First (one ++ two))
+        (bed_joint order total one two before First ends) (merge_split d strand one two (good_earlier order total one two before First First))
+
+  -- ---- intersect
+
+  abbrev pub pair_report : Shape → HitRule → List ℕ → List ℕ → Report
+  pair_report shape rule first second = sweep_report order shape rule (text_records First first) (bed_text_good First first).fault (text_records Second second) (bed_text_good Second second).fault
+
+  -- the records of a part of the first input, or of the second, among those of both
+  came : (one_first one_second two_first two_second : List Feature) → ComeBefore order (one_first ++ one_second) (two_first ++ two_second)
+      → (ComeBefore order one_first two_first × ComeBefore order one_first two_second × ComeBefore order one_second two_first × ComeBefore order one_second two_second)
+  came one_first one_second two_first two_second h =
+      let first = all_front _ one_first one_second h in
+      let second = all_back _ one_first one_second h in (
+        all_so _ _ one_first (λ r k. all_front _ two_first two_second k) first,
+        all_so _ _ one_first (λ r k. all_back _ two_first two_second k) first,
+        all_so _ _ one_second (λ r k. all_front _ two_first two_second k) second,
+        all_so _ _ one_second (λ r k. all_back _ two_first two_second k) second,
+      )
+
+  known_all : (input : Input) (text : List ℕ) → AllByRecursion (λ r. IsTrue (order.knows r.chrom)) (text_records input text)
+  known_all input text = items_all order total input (λ r. IsTrue (order.knows r.chrom)) None (text_lines text) (all_any _ _ (λ r known. known))
+
+  module _ (shape : Shape) (rule : HitRule) (a_one b_one a_two b_two : List ℕ) (a_ends : StandsBefore a_one a_two) (b_ends : StandsBefore b_one b_two)
+      (before : ComeBefore order (said_records a_one ++ said_records b_one) (said_records a_two ++ said_records b_two)) where
+    parts : ComeBefore order (said_records a_one) (said_records a_two) × ComeBefore order (said_records a_one) (said_records b_two) × ComeBefore order (said_records b_one) (said_records a_two) × ComeBefore order (said_records b_one) (said_records b_two)
+    parts = came (said_records a_one) (said_records b_one) (said_records a_two) (said_records b_two) before
+
+    split : AreSplit order total (text_records First a_one) (text_records First a_two) (text_records Second b_one) (text_records Second b_two)
+    split =
+        let early = good_earlier order total a_one b_two parts.1 First Second in
+        let late = good_earlier order total b_one a_two parts.2 Second First in
+        record {
+          known = known_all Second b_two;
+          known_first = known_all First a_one;
+          first_second = early;
+          second_first = late;
+          apart_first = names_apart order total (text_records First a_one) (text_records Second b_two) (known_all First a_one) early;
+          apart_second = names_behind order total (text_records Second b_one) (text_records First a_two) (known_all Second b_one) late;
+        }
+
+    pub pair_joins : Joins (pair_report shape rule a_one b_one) (pair_report shape rule a_two b_two) (pair_report shape rule (a_one ++ a_two) (b_one ++ b_two))
+    pair_joins = sweep_joins order total shape rule (text_records First a_one) (text_records First a_two) (text_records Second b_one) (text_records Second b_two) split _ _ _ _ _ _ _ _
+        (together _ (bed_text_good First a_one) (bed_text_good First a_two) (bed_text_good First (a_one ++ a_two)) (bed_joint order total a_one a_two parts.0 First a_ends))
+        (together _ (bed_text_good Second b_one) (bed_text_good Second b_two) (bed_text_good Second (b_one ++ b_two)) (bed_joint order total b_one b_two parts.3 Second b_ends))
+
+-- ---- the reports of the commands
+
+module _ (genome : Option Handed) (chromosomes : Option (List Entry)) (has : chromosomes_of genome ≡ Ok chromosomes) where
+  pub merge_is : (d : ℕ) (strand : MergeStrand) (text : List ℕ) → on_text (Merge d strand) genome text ≡ merge_report (order_of chromosomes) (order_total chromosomes) d strand text
+  unfolding report_of
+  merge_is d strand text =
+      ap (λ c. report_on (Merge d strand) c (whole_text text) None) has
+      ∙ ap (good_report (merge_written (order_of chromosomes) d strand)) (good_whole (bed_format (sorting_of (order_of chromosomes))) First text)
+
+  pub intersect_is : (shape : Shape) (rule : HitRule) (texts : Texts) → on_texts (Intersect shape rule None) genome texts ≡ pair_report (order_of chromosomes) (order_total chromosomes) shape rule texts.first texts.second
+  unfolding report_of
+  intersect_is shape rule texts =
+      ap (λ c. report_on (Intersect shape rule None) c (whole_text texts.first) (Some (whole_text texts.second))) has
+      ∙ ap₂ (λ (a b : Good Feature). sweep_report (order_of chromosomes) shape rule (items_in a) a.fault (items_in b) b.fault)
+      (good_whole (bed_format (sorting_of (order_of chromosomes))) First texts.first) (good_whole (bed_format (sorting_of (order_of chromosomes))) Second texts.second)
+
+  pub subtract_is : (whole : Bool) (rule : HitRule) (texts : Texts) → on_texts (Subtract whole rule None) genome texts ≡ pair_report (order_of chromosomes) (order_total chromosomes) (subtract_shape whole) rule texts.first texts.second
+  unfolding report_of
+  subtract_is whole rule texts =
+      ap (λ c. report_on (Subtract whole rule None) c (whole_text texts.first) (Some (whole_text texts.second))) has
+      ∙ ap₂ (λ (a b : Good Feature). sweep_report (order_of chromosomes) (subtract_shape whole) rule (items_in a) a.fault (items_in b) b.fault)
+      (good_whole (bed_format (sorting_of (order_of chromosomes))) First texts.first) (good_whole (bed_format (sorting_of (order_of chromosomes))) Second texts.second)
+
+-- texts that are divided so
+pub record AreFit (order : Order) (texts : List (List ℕ)) : Type 0 where
+  pub lines : AreOfLines texts
+  pub ascend : TextsAscend order texts
+
+fit_less : (order : Order) (text : List ℕ) (texts : List (List ℕ)) → AreFit order (text ∷ texts) → AreFit order texts
+fit_less order text texts fit = record { lines = lines_less text texts fit.lines; ascend = fit.ascend.1 }
+
+pub record ArePairsFit (order : Order) (parts : List Texts) : Type 0 where
+  pub lines : ArePairs parts
+  pub ascend : PairsAscend order parts
+
+pairs_less : (order : Order) (part : Texts) (parts : List Texts) → ArePairsFit order (part ∷ parts) → ArePairsFit order parts
+pairs_less order part parts fit = record {
+  lines = (lines_less part.first (map (λ p. p.first) parts) fit.lines.0, lines_less part.second (map (λ p. p.second) parts) fit.lines.1);
+  ascend = fit.ascend.1;
+}
+
+pub join_one : (part : Texts) → joined_texts (part ∷ []) ≡ part
+join_one part = ap₂ (λ a b. record { first = a; second = b }) (append-nil part.first) (append-nil part.second)
+
+module _ (order : Order) (total : IsTotal order) where
+  pub merge_empty : (d : ℕ) (strand : MergeStrand) → merge_report order total d strand [] ≡ nothing
+  unfolding lines_from good_from ordered_runs merged strand_runs
+  merge_empty d All = refl
+  merge_empty d Each = refl
+  merge_empty d (One strand) = refl
+
+  pub pair_empty : (shape : Shape) (rule : HitRule) → pair_report order total shape rule [] [] ≡ nothing
+  unfolding lines_from good_from
+  pair_empty shape rule = refl
+
+pub merge_parts : merge_divides
+merge_parts d strand genome chromosomes texts has lines ascend =
+    let order = order_of chromosomes in
+    let total = order_total chromosomes in
+    let is : (text : List ℕ) → on_text (Merge d strand) genome text ≡ merge_report order total d strand text = merge_is genome chromosomes has d strand in
+    parts_both joined (on_text (Merge d strand) genome) (AreFit order) (is [] ∙ merge_empty order total d strand) (λ t. ap (on_text (Merge d strand) genome) (append-nil t)) (fit_less order)
+    (λ t u ts f.
+    let more = joined (u ∷ ts) in
+    rw (is t, is more, is (t ++ more)) (merge_joins order total d strand t more f.lines.0 f.ascend.0))
+    texts (record { lines = lines; ascend = ascend })
+
+-- a command that writes such a report
+sweep_parts : (command : Command) (shape : Shape) (rule : HitRule) (genome : Option Handed) (order : Order) (total : IsTotal order) → ((texts : Texts) → on_texts command genome texts ≡ pair_report order total shape rule texts.first texts.second)
+    → (parts : List Texts) → ArePairs parts → PairsAscend order parts → PairsAddUp command genome parts
+sweep_parts command shape rule genome order total is parts lines ascend =
+    parts_both joined_texts (on_texts command genome) (ArePairsFit order) (is (joined_texts []) ∙ pair_empty order total shape rule) (λ t. ap (on_texts command genome) (join_one t)) (pairs_less order)
+    (λ t u ts f.
+    let more = joined_texts (u ∷ ts) in
+    rw (is t, is more, is (joined_texts (t ∷ u ∷ ts))) (pair_joins order total shape rule t.first t.second more.first more.second f.lines.0.0 f.lines.1.0 f.ascend.0))
+    parts (record { lines = lines; ascend = ascend })
+
+pub intersect_parts : intersect_divides
+intersect_parts shape rule genome chromosomes parts has =
+    sweep_parts (Intersect shape rule None) shape rule genome (order_of chromosomes) (order_total chromosomes) (intersect_is genome chromosomes has shape rule) parts
+
+pub subtract_parts : subtract_divides
+subtract_parts whole rule genome chromosomes parts has =
+    sweep_parts (Subtract whole rule None) (subtract_shape whole) rule genome (order_of chromosomes) (order_total chromosomes) (subtract_is genome chromosomes has whole rule) parts
+
+-- maskfasta over any number of parts.
+
+module _ (how : MaskHow) (full : Bool) where
+  abbrev T : Texts → Report
+  T texts = texts_report how full texts
+
+  on_is : (parts : List Texts) → map (on_texts (MaskFasta how full) None) parts ≡ map T parts
+  on_is [] = refl
+  on_is (t ∷ ts) = ap₂ (λ a b. a ∷ b) (mask_is how full t) (on_is ts)
+
+  empty : T (joined_texts []) ≡ nothing
+  unfolding lines_from good_from
+  empty = refl
+
+  alone : (t : Texts) → T (joined_texts (t ∷ [])) ≡ T t
+  alone t = ap T (join_one t)
+
+  -- parts of complete lines, divided at headers
+  record AreMasked (parts : List Texts) : Type 0 where
+    lines : ArePairs parts
+    headers : AreAtHeaders parts
+
+  begins_joined : (parts : List Texts) → AllByRecursion (λ later. IsTrue (begins_sequence later.first)) parts → IsTrue (begins_sequence (joined_texts parts).first)
+  begins_joined [] h = refl
+  begins_joined (t ∷ ts) h = by_first t.first h.0 (begins_joined ts h.1)
+    where
+      by_first : (text : List ℕ) → IsTrue (begins_sequence text) → IsTrue (begins_sequence (joined_texts ts).first) → IsTrue (begins_sequence (text ++ (joined_texts ts).first))
+      by_first [] e more = more
+      by_first (byte ∷ bytes) e more = e
+
+  headers_less : (t : Texts) (ts : List Texts) → AreAtHeaders (t ∷ ts) → AreAtHeaders ts
+  headers_less t [] h = tt
+  headers_less t (u ∷ ts) h = h.1
+
+  masked_less : (t : Texts) (ts : List Texts) → AreMasked (t ∷ ts) → AreMasked ts
+  masked_less t ts fit = record {
+    lines = (lines_less t.first (map (λ p. p.first) ts) fit.lines.0, lines_less t.second (map (λ p. p.second) ts) fit.lines.1);
+    headers = headers_less t ts fit.headers;
+  }
+
+  are_two : (t u : Texts) (ts : List Texts) → AreMasked (t ∷ u ∷ ts) → AreTwo how full t (joined_texts (u ∷ ts))
+  are_two t u ts fit = record { first = fit.lines.0.0; second = fit.lines.1.0; begins = begins_joined (u ∷ ts) fit.headers }
+
+  -- ---- names of one part alone
+
+  record OwnFit (parts : List Texts) : Type 0 where
+    fit : AreMasked parts
+    own : MaskTheirOwn full parts
+
+  own_less : (t : Texts) (ts : List Texts) → OwnFit (t ∷ ts) → OwnFit ts
+  own_less t ts own = record { fit = masked_less t ts own.fit; own = own.own.2 }
+
+  own_add : (parts : List Texts) → OwnFit parts → AddUp (map T parts) (T (joined_texts parts))
+  own_add = parts_add joined_texts T OwnFit empty alone own_less
+      (λ t u ts own. mask_adds how full t (joined_texts (u ∷ ts)) (are_two t u ts own.fit) own.own.0 own.own.1)
+
+  -- what the single run writes begins what the parts write, or begins with it
+  abbrev Ends : List Texts → Type 0
+  Ends parts = StopWithin (map T parts) (T (joined_texts parts))
+      ⊎ (Lacks how full (joined_texts parts) × ((more : List ℕ) × ((T (joined_texts parts)).output ≡ outputs_to_fault (map T parts) ++ more)))
+
+  module _ (t u : Texts) (ts : List Texts) (own : OwnFit (t ∷ u ∷ ts)) where
+    abbrev Rest : Texts
+    Rest = joined_texts (u ∷ ts)
+
+    abbrev Outputs : List ℕ
+    Outputs = outputs_to_fault (map T (u ∷ ts))
+
+    two : AreTwo how full t (joined_texts (u ∷ ts))
+    two = are_two t u ts own.fit
+
+    faulty : (fault : Option FaultValue) (outputs : List ℕ) → (fault ≡ None → ⊥) → (T t).output ++ unless_fault fault outputs ≡ (T t).output
+    faulty None outputs some = absurd (some refl)
+    faulty (Some fault) outputs some = append-nil (T t).output
+
+    end_faulty : ((T t).fault ≡ None → ⊥) → Ends (t ∷ u ∷ ts)
+    end_faulty some = elim (faulty_first how full t (joined_texts (u ∷ ts)) two own.own.0 own.own.1 some) [
+      | inl stops ↦ inl (stops.0, faulty (T t).fault Outputs some ∙ stops.1)
+      | inr goes ↦ inr (goes.0, (goes.1.0, goes.1.1 ∙ ap (λ l. l ++ goes.1.0) (sym (faulty (T t).fault Outputs some))))
+    ]
+
+    end_sound : (T t).fault ≡ None → Ends (u ∷ ts) → Ends (t ∷ u ∷ ts)
+    end_sound none ends = elim ends [
+      | inl stops ↦ inl (stop_more (T t) (map T (u ∷ ts)) (T Rest) (T (joined_texts (t ∷ u ∷ ts))) stops (sound_stops how full t (joined_texts (u ∷ ts)) two own.own.0 own.own.1 none))
+      | inr goes ↦
+          let both = sound_goes how full t (joined_texts (u ∷ ts)) two own.own.0 own.own.1 none goes.0 in
+          inr (
+            both.0,
+            (
+              goes.1.0,
+              both.1 ∙ ap (λ l. (T t).output ++ l) goes.1.1 ∙ sym (append_assoc (T t).output Outputs goes.1.0)
+                  ∙ ap (λ l. ((T t).output ++ l) ++ goes.1.0) (sym (unless_none (T t).fault Outputs none)),
+            ),
+          )
+    ]
+
+    end_by : (fault : Option FaultValue) → (T t).fault ≡ fault → Ends (u ∷ ts) → Ends (t ∷ u ∷ ts)
+    end_by None e ends = end_sound e ends
+    end_by (Some fault) e ends = end_faulty (λ none. let apart : Some fault ≡ None = sym e ∙ none in cc)
+
+  ends_all : (parts : List Texts) → OwnFit parts → Ends parts
+  ends_all [] own = inl (stop_none (T (joined_texts [])) (ap (λ (r : Report). r.output) empty))
+  ends_all (t ∷ []) own = inl (subst (λ r. StopWithin (T t ∷ []) r) (sym (alone t)) (stop_one (T t)))
+  ends_all (t ∷ u ∷ ts) own = end_by t u ts own (T t).fault refl (ends_all (u ∷ ts) (own_less t (u ∷ ts) own))
+
+  own_stop : (parts : List Texts) → OwnFit parts → StopWithin (map T parts) (T (joined_texts parts)) ⊎ WritesOn (map T parts) (T (joined_texts parts))
+  own_stop parts own = elim (ends_all parts own) [
+    | inl stops ↦ inl stops
+    | inr goes ↦ inr (lacks_kind how full (joined_texts parts) goes.0, goes.1)
+  ]
+
+  -- ---- names of several parts
+
+  record CutFit (parts : List Texts) : Type 0 where
+    fit : AreMasked parts
+    none : NoneMoves full parts
+
+  suffice_all : (parts : List Texts) → CutFit parts → AllByRecursion (λ part. (T part).fault ≡ None) parts
+      → ((T (joined_texts parts)).fault ≡ None) × ((T (joined_texts parts)).output ≡ flat_map (λ part. (T part).output) parts)
+  suffice_all [] cut all = (ap (λ (r : Report). r.fault) empty, ap (λ (r : Report). r.output) empty)
+  suffice_all (t ∷ []) cut all = (ap (λ (r : Report). r.fault) (alone t) ∙ all.0, ap (λ (r : Report). r.output) (alone t) ∙ sym (append-nil (T t).output))
+  suffice_all (t ∷ u ∷ ts) cut all =
+      let more = suffice_all (u ∷ ts) (record { fit = masked_less t (u ∷ ts) cut.fit; none = cut.none.1 }) all.1 in
+      let both = two_suffice how full t (joined_texts (u ∷ ts)) (are_two t u ts cut.fit) cut.none.0 all.0 more.0 in
+      (both.0, both.1 ∙ ap (λ l. (T t).output ++ l) more.1)
+
+pub mask_divides : maskfasta_divides
+mask_divides how full parts lines headers own =
+    let fit : OwnFit how full parts = record { fit = record { lines = lines; headers = headers }; own = own } in
+    rw (on_is how full parts, mask_is how full (joined_texts parts)) (own_add how full parts fit, own_stop how full parts fit)
+
+pub repeated_divide : repeated_names_divide
+repeated_divide how full parts lines headers none all =
+    let fit : CutFit how full parts = record { fit = record { lines = lines; headers = headers }; none = none } in
+    let sound = all_unmap _ (texts_report how full) parts (rw (on_is how full parts) at all) in
+    let whole = suffice_all how full parts fit sound in
+    rw (on_is how full parts, mask_is how full (joined_texts parts)) (whole.0, whole.1 ∙ sym (flat_map-map (λ (part : Report). part.output) (texts_report how full) parts))

@@ -1,5 +1,0 @@
--- Lemmas on parts, order.
-pub mod PartGenomes
-pub mod PartGood
-pub mod PartOwnGenomes
-pub mod PartOwners

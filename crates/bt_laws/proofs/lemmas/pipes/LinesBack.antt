@@ -1,0 +1,513 @@
+-- Lines and numbers have no line feed.
+use Rattle.bt_lines.proofs.Std.{◌≡◌, ℕ, Bool, true, false, List, [], ◌∷◌, ◌++◌, refl, sym, subst, eqb, zero, suc, ◌+◌, ◌/◌, ◌%◌, ◌<◌, ◌≤◌, cond, arith, decimal, AllByRecursion, ends_with_byte, strip_last, All-append, All-cons, All-head, All-tail, All-nil, All-from_recursion, digit_glyph, digits_onto, lt-ltb, nat_tests, ◌-◌, ◌||◌, length, Option, Some, None, Ok, ap, ◌∙◌, append_assoc, append-nil, IsTrue, ◌==◌, codes, nat_lt, decimal_is_IsNumeral, append_cancel_right, get_or-append-add, length-append, Err, inl, inr, not, map, filter, flat_map, flat_map-map, ◌&&◌, Result, ltb, leb, if◌then◌else◌, list_all, join_with_byte, is_ascii_digit, digits_value, and_parts, leb-true, join_with_byte-slice_split}
+use Rattle.bt_lines.specs.calls.Columns.{NoLineFeed}
+use Rattle.bt_lines.specs.model.Lines.{TextLine, last_line, lines_from, whole_lines_from, fed_line, text_lines, Handed, lines_handed, pieces, whole_lines, is_number, value_of}
+use Rattle.bt_lines.proofs.lemmas.reader.lines.TextLemmas.{lines_from-fed, lines_from-last, strip_last-other, strip_last-push, by_lines, whole_lines_from-fed, whole_lines_from-last, IsColumn, IsInside, lines_from-nil}
+use Rattle.std.specs.Fmt.{digits}
+use Rattle.bt_laws.proofs.lemmas.Lists.{all_back, all_so, all_any, all_map, map_map, flat_map_same}
+use Rattle.bt_bed.specs.model.Feature.{Feature, ends_word, first_word, is_header, is_header_word, IsName, columns_in, is_kept, record_of, strand_of, interval_of, intervals_of, Interval, IsFeature, not_skipped}
+use Rattle.bt_bed.proofs.lemmas.parse.FeatureLemmas.{header_says, of_word, record_said, said_is_feature, said_stands, pieces_are_columns}
+use Rattle.bt_laws.proofs.lemmas.single.Records.{written_feature}
+use Rattle.std.specs.declared.cmp.Ordering.{Ordering}
+use Rattle.std.specs.declared.cmp.Ordering.TheVariants.{Less, Equal, Greater}
+use Rattle.bt_lines.specs.declared.fault.Input.{Input}
+use Rattle.bt_lines.specs.declared.fault.Kind.TheVariants.{UnknownChrom, OutOfOrder, BadLength, RepeatedChrom}
+use Rattle.bt_bed.specs.model.Good.{Good, good, good_from, good_with, items_in, bed_format, line_says, locus_at, said_after, bed_good}
+use Rattle.bt_bed.specs.model.Sorted.{ArePlaced, IsPlacedBefore, IsUpTo, Locus, is_below_at, falls_in, sorting_of, Sorting}
+use Rattle.bt_bed.specs.model.Order.{Order, IsTotal, is_among}
+use Rattle.bt_bed.proofs.lemmas.order.OrderLemmas.{places_sorted}
+use Rattle.bt_laws.proofs.lemmas.parts.PartBed.{below_no, reversed_less}
+use Rattle.bt_runs.proofs.lemmas.order.FileOrder.{some_placed}
+use Rattle.bt_laws.specs.Pipes.{IsInput, is_no_header}
+use Rattle.bt_tool.proofs.lemmas.running.members.CursorLemmas.{or_else_none}
+use Rattle.bt_lines.specs.model.Fault.{FaultValue}
+use Rattle.bt_lines.specs.declared.fault.Kind.{Kind}
+use Rattle.bt_bed.specs.model.Genome.{Entry, columns_give, entry_from, entry_of, genome_cut, genome_from, genome_handed, genome_of, genome_with, is_skipped, new_entry, with_entry}
+use Rattle.bt_bed.proofs.lemmas.Definitions.{line_said}
+
+pub clear_front : (xs ys : List ℕ) → NoLineFeed (xs ++ ys) → NoLineFeed xs
+clear_front [] ys h = All-nil (λ b. eqb b 10 ≡ false)
+clear_front (x ∷ xs) ys h =
+    All-cons (λ b. eqb b 10 ≡ false) x xs (All-head (λ b. eqb b 10 ≡ false) x (xs ++ ys) h) (clear_front xs ys (All-tail (λ b. eqb b 10 ≡ false) x (xs ++ ys) h))
+
+pub clear_back : (xs ys : List ℕ) → NoLineFeed (xs ++ ys) → NoLineFeed ys
+clear_back [] ys h = h
+clear_back (x ∷ xs) ys h = clear_back xs ys (All-tail (λ b. eqb b 10 ≡ false) x (xs ++ ys) h)
+
+pub clear_both : (xs ys : List ℕ) → NoLineFeed xs → NoLineFeed ys → NoLineFeed (xs ++ ys)
+clear_both xs ys h k = All-append (λ b. eqb b 10 ≡ false) xs ys h k
+
+pub clear_tab : (xs : List ℕ) → NoLineFeed xs → NoLineFeed (9 ∷ xs)
+clear_tab xs h = All-cons (λ b. eqb b 10 ≡ false) 9 xs refl h
+
+clear_by : (byte : ℕ) (xs : List ℕ) (b : Bool) → ends_with_byte byte xs ≡ b → NoLineFeed xs → NoLineFeed (strip_last byte xs)
+clear_by byte xs true e h = clear_front (strip_last byte xs) (byte ∷ []) (subst NoLineFeed (sym (strip_last-push byte xs e)) h)
+clear_by byte xs false e h = subst NoLineFeed (sym (strip_last-other byte xs e)) h
+
+pub clear_strip : (byte : ℕ) (xs : List ℕ) → NoLineFeed xs → NoLineFeed (strip_last byte xs)
+clear_strip byte xs h = clear_by byte xs (ends_with_byte byte xs) refl h
+
+abbrev pub AreClear : List TextLine → Type 0
+AreClear lines = AllByRecursion (λ line. NoLineFeed line.text) lines
+
+clear_last : (n : ℕ) (piece : List ℕ) → NoLineFeed piece → AreClear (last_line n piece)
+clear_last n [] h = tt
+clear_last n (byte ∷ bytes) h = (clear_strip 13 (byte ∷ bytes) h, tt)
+
+-- so it is of each line of a text
+pub clear_lines : (n : ℕ) (bytes : List ℕ) → AreClear (lines_from n bytes)
+clear_lines n bytes = by_lines (λ n bytes. AreClear (lines_from n bytes))
+    (λ n piece clear. subst AreClear (sym (lines_from-last n piece clear)) (clear_last n piece clear))
+    (λ n piece rest clear is. subst AreClear (sym (lines_from-fed n piece rest clear)) (clear_strip 13 piece clear, is))
+    n bytes
+
+pub clear_whole : (n : ℕ) (bytes : List ℕ) → AreClear (whole_lines_from n bytes)
+clear_whole n bytes = by_lines (λ n bytes. AreClear (whole_lines_from n bytes))
+    (λ n piece clear. subst AreClear (sym (whole_lines_from-last n piece clear)) tt)
+    (λ n piece rest clear is. subst AreClear (sym (whole_lines_from-fed n piece rest clear)) (clear_strip 13 piece clear, is))
+    n bytes
+
+-- ---- a number's text has digits alone
+
+abbrev pub IsDigit : ℕ → Type 0
+IsDigit c = (48 ≤ c) × (c ≤ 57)
+
+glyph_is_digit : (d : ℕ) → d < 10 → IsDigit (digit_glyph false d)
+glyph_is_digit d below = subst (λ b. IsDigit (cond b (48 + d) (87 + d))) (sym (lt-ltb d 10 below)) (omega arith, omega (arith, below))
+
+onto_digits : (k n : ℕ) (acc : List ℕ) → AllByRecursion IsDigit acc → AllByRecursion IsDigit (digits_onto k 10 false n acc)
+onto_digits zero n acc h = h
+onto_digits (suc k) n acc h =
+    let here : IsDigit (digit_glyph false (n % 10)) = glyph_is_digit (n % 10) (omega arith) in
+    elim (eqb (n / 10) 0) as (λ b. AllByRecursion IsDigit (cond b (digit_glyph false (n % 10) ∷ acc) (digits_onto k 10 false (n / 10) (digit_glyph false (n % 10) ∷ acc)))) [
+      | true ↦ (here, h)
+      | false ↦ onto_digits k (n / 10) (digit_glyph false (n % 10) ∷ acc) (here, h)
+    ]
+
+pub decimal_digits : (n : ℕ) → AllByRecursion IsDigit (decimal n)
+unfolding digits
+decimal_digits n = onto_digits 64 n [] tt
+
+clear_digit : (c : ℕ) → IsDigit c → eqb c 10 ≡ false
+clear_digit c h = grind (arith, nat_tests)
+
+no_return : (c : ℕ) → IsDigit c → eqb c 13 ≡ false
+no_return c h = grind (arith, nat_tests)
+
+clear_digits : (ds : List ℕ) → AllByRecursion IsDigit ds → NoLineFeed ds
+clear_digits [] h = All-nil (λ b. eqb b 10 ≡ false)
+clear_digits (c ∷ cs) h = All-cons (λ b. eqb b 10 ≡ false) c cs (clear_digit c h.0) (clear_digits cs h.1)
+
+pub clear_number : (n : ℕ) → NoLineFeed (decimal n)
+clear_number n = clear_digits (decimal n) (decimal_digits n)
+
+digits_none : (ds : List ℕ) → AllByRecursion IsDigit ds → AllByRecursion (λ b. eqb b 13 ≡ false) ds
+digits_none [] h = tt
+digits_none (c ∷ cs) h = (no_return c h.0, digits_none cs h.1)
+
+strip_none_by : (ds : List ℕ) (b : Bool) → ends_with_byte 13 ds ≡ b → AllByRecursion (λ b. eqb b 13 ≡ false) ds → strip_last 13 ds ≡ ds
+strip_none_by ds true e h =
+    let end = all_back (λ b. eqb b 13 ≡ false) (strip_last 13 ds) (13 ∷ []) (subst (AllByRecursion (λ b. eqb b 13 ≡ false)) (sym (strip_last-push 13 ds e)) h) in
+    absurd (let apart : true ≡ false = end.0 in cc)
+strip_none_by ds false e h = strip_last-other 13 ds e
+
+-- no carriage return ends it, with a tab before it
+pub strip_number : (n : ℕ) → strip_last 13 (9 ∷ decimal n) ≡ 9 ∷ decimal n
+strip_number n = strip_none_by (9 ∷ decimal n) (ends_with_byte 13 (9 ∷ decimal n)) refl (refl, digits_none (decimal n) (decimal_digits n))
+
+pub strip_decimal : (n : ℕ) → strip_last 13 (decimal n) ≡ decimal n
+strip_decimal n = strip_none_by (decimal n) (ends_with_byte 13 (decimal n)) refl (digits_none (decimal n) (decimal_digits n))
+
+-- a number is a column
+digit_inside : (c : ℕ) → IsDigit c → IsInside c
+digit_inside c h = grind (arith, nat_tests)
+
+digits_inside : (ds : List ℕ) → AllByRecursion IsDigit ds → AllByRecursion IsInside ds
+digits_inside [] h = tt
+digits_inside (c ∷ cs) h = (digit_inside c h.0, digits_inside cs h.1)
+
+pub number_column : (n : ℕ) → IsColumn (decimal n)
+number_column n = All-from_recursion IsInside (decimal n) (digits_inside (decimal n) (decimal_digits n))
+
+-- What a line says that begins with a name and two numbers.
+
+-- ---- a byte at the end
+
+pub ends_both : (byte : ℕ) (front back : List ℕ) → 0 < length back → ends_with_byte byte (front ++ back) ≡ ends_with_byte byte back
+ends_both byte front back some =
+    let size : length (front ++ back) ≡ length front + length back = length-append front back in
+    let at : length (front ++ back) - 1 ≡ length front + (length back - 1) = omega (arith, size) in
+    let here : nat_lt 0 (length (front ++ back)) ≡ true = lt-ltb 0 (length (front ++ back)) (omega (arith, size)) in
+    let there : nat_lt 0 (length back) ≡ true = lt-ltb 0 (length back) some in
+    rw (here, there, at, get_or-append-add front back (length back - 1) 0) refl
+
+strip_both_by : (byte : ℕ) (front back : List ℕ) (b : Bool) → 0 < length back → ends_with_byte byte back ≡ b → strip_last byte (front ++ back) ≡ front ++ strip_last byte back
+strip_both_by byte front back true some e =
+    append_cancel_right (strip_last byte (front ++ back)) (front ++ strip_last byte back) (byte ∷ [])
+    (strip_last-push byte (front ++ back) (ends_both byte front back some ∙ e) ∙ ap (λ l. front ++ l) (sym (strip_last-push byte back e)) ∙ sym (append_assoc front (strip_last byte back) (byte ∷ [])))
+strip_both_by byte front back false some e =
+    strip_last-other byte (front ++ back) (ends_both byte front back some ∙ e) ∙ ap (λ l. front ++ l) (sym (strip_last-other byte back e))
+
+pub strip_both : (byte : ℕ) (front back : List ℕ) → 0 < length back → strip_last byte (front ++ back) ≡ front ++ strip_last byte back
+strip_both byte front back some = strip_both_by byte front back (ends_with_byte byte back) some refl
+
+-- ---- digits
+
+pub some_digits : (n : ℕ) → n ≤ 999999999999 → 0 < length (decimal n)
+some_digits n small = (decimal_is_IsNumeral n (omega arith)).0.0
+
+-- ---- the first word
+
+until_tab : (chrom tail : List ℕ) → first_word (chrom ++ 9 ∷ tail) ≡ first_word chrom
+until_tab [] tail = refl
+until_tab (byte ∷ chrom) tail =
+    of_word byte (chrom ++ 9 ∷ tail) (ends_word byte) refl ∙ ap (λ l. cond (ends_word byte) [] (byte ∷ l)) (until_tab chrom tail)
+    ∙ sym (of_word byte chrom (ends_word byte) refl)
+
+pub header_of_name : (chrom tail : List ℕ) → 0 < length chrom → is_header (chrom ++ 9 ∷ tail) ≡ is_header chrom
+header_of_name [] tail some = absurd (omega arith)
+header_of_name (byte ∷ chrom) tail some = ap (λ word. (byte == 35) || is_header_word word) (until_tab (byte ∷ chrom) tail)
+
+-- ---- a line
+
+-- a name, two numbers, and what follows them
+abbrev pub columns_text : List ℕ → ℕ → ℕ → List ℕ → List ℕ
+columns_text chrom start stop tail = chrom ++ codes "\t" ++ decimal start ++ codes "\t" ++ decimal stop ++ tail
+
+-- the record of these columns
+abbrev pub record_with : List ℕ → ℕ → ℕ → List ℕ → Feature
+record_with chrom start stop tail = record { chrom = chrom; start = start; stop = stop; strand = strand_of (columns_in tail); rest = tail }
+
+abbrev pub unless_header : List ℕ → Feature → Option Feature
+unless_header chrom r = cond (is_header chrom) None (Some r)
+
+module _ (chrom : List ℕ) (start stop : ℕ) (named : IsName chrom) (below : start < stop) (small : stop ≤ 999999999999) where
+  pub name_first : (tail : List ℕ) → columns_text chrom start stop tail ≡ chrom ++ 9 ∷ (decimal start ++ 9 ∷ (decimal stop ++ tail))
+  name_first tail = simp append_assoc
+
+  header_first : (tail : List ℕ) → is_header (columns_text chrom start stop tail) ≡ is_header chrom
+  header_first tail = ap is_header (name_first tail) ∙ header_of_name chrom (decimal start ++ 9 ∷ (decimal stop ++ tail)) named.some
+
+  first_says : (tail : List ℕ) (b : Bool) → is_header chrom ≡ b → IsTrue (is_kept tail) → record_of (columns_text chrom start stop tail) ≡ Ok (cond b None (Some (record_with chrom start stop tail)))
+  first_says tail true e kept = header_says (columns_text chrom start stop tail) (header_first tail ∙ e)
+  first_says tail false e kept =
+      written_feature (record_with chrom start stop tail) (record { named = named; non_empty = below; in_range = small; kept = kept; stranded = refl })
+      (header_first tail ∙ e)
+
+  pub strip_columns : (tail : List ℕ) → strip_last 13 (columns_text chrom start stop tail) ≡ columns_text chrom start stop (strip_last 13 tail)
+  strip_columns [] =
+      let front = chrom ++ codes "\t" ++ decimal start ++ codes "\t" in
+      let is : (tail : List ℕ) → columns_text chrom start stop tail ≡ front ++ (decimal stop ++ tail) = λ tail. simp append_assoc in
+      ap (strip_last 13) (is []) ∙ strip_both 13 front (decimal stop ++ []) (omega (arith, length-append (decimal stop) [], some_digits stop small))
+      ∙ ap (λ l. front ++ strip_last 13 l) (append-nil (decimal stop)) ∙ ap (λ l. front ++ l) (strip_decimal stop ∙ sym (append-nil (decimal stop))) ∙ sym (is [])
+  strip_columns (byte ∷ bytes) =
+      let front = chrom ++ codes "\t" ++ decimal start ++ codes "\t" ++ decimal stop in
+      let is : (tail : List ℕ) → columns_text chrom start stop tail ≡ front ++ tail = λ tail. simp append_assoc in
+      ap (strip_last 13) (is (byte ∷ bytes)) ∙ strip_both 13 front (byte ∷ bytes) (omega arith) ∙ sym (is (strip_last 13 (byte ∷ bytes)))
+
+  -- what is kept of what follows is empty, or begins with a tab
+  pub kept_by : (tail : List ℕ) (b : Bool) → ends_with_byte 13 tail ≡ b → IsTrue (is_kept tail) → (some : List ℕ) → strip_last 13 tail ≡ some → IsTrue (is_kept some)
+  kept_by tail false e kept some is = subst (λ t. IsTrue (is_kept t)) (sym (strip_last-other 13 tail e) ∙ is) kept
+  kept_by tail true e kept [] is = refl
+  kept_by tail true e kept (byte ∷ bytes) is =
+      let whole : byte ∷ (bytes ++ 13 ∷ []) ≡ tail = ap (λ l. l ++ 13 ∷ []) (sym is) ∙ strip_last-push 13 tail e in
+      subst (λ t. IsTrue (is_kept t)) (sym whole) kept
+
+  pub tail_says : (tail : List ℕ) → IsTrue (is_kept tail)
+      → record_of (strip_last 13 (columns_text chrom start stop tail)) ≡ Ok (unless_header chrom (record_with chrom start stop (strip_last 13 tail)))
+  tail_says tail kept =
+      ap record_of (strip_columns tail) ∙ first_says (strip_last 13 tail) (is_header chrom) refl (kept_by tail (ends_with_byte 13 tail) refl kept (strip_last 13 tail) refl)
+
+  pub tail_clear : (tail : List ℕ) → NoLineFeed chrom → NoLineFeed tail → NoLineFeed (columns_text chrom start stop tail)
+  tail_clear tail clear behind =
+      subst NoLineFeed (sym (name_first tail))
+      (clear_both chrom (9 ∷ (decimal start ++ 9 ∷ (decimal stop ++ tail))) clear
+      (clear_tab (decimal start ++ 9 ∷ (decimal stop ++ tail))
+      (clear_both (decimal start) (9 ∷ (decimal stop ++ tail)) (clear_number start)
+      (clear_tab (decimal stop ++ tail) (clear_both (decimal stop) tail (clear_number stop) behind)))))
+
+-- Lines of known records are an input without a fault.
+
+-- the record that is said, if there is one
+abbrev pub some_said : Option Feature → List Feature
+some_said None = []
+some_said (Some r) = r ∷ []
+
+module _ (order : Order) (total : IsTotal order) where
+  -- the records follow the last place in order
+  abbrev pub Follow : Option Locus → List Feature → Type 0
+  Follow last [] = Unit {0}
+  Follow last (r ∷ rs) = IsTrue (order.knows r.chrom) × (falls_in (sorting_of order) last (locus_at r) ≡ false) × Follow (Some (locus_at r)) rs
+
+  below_same : (o : Ordering) (start other : ℕ) → o ≡ Equal → other ≤ start → is_below_at o start other ≡ false
+  below_same Less start other e up = cc
+  below_same Equal start other e up = grind (arith, nat_tests)
+  below_same Greater start other e up = refl
+
+  pub up_to_stays : (last place : Locus) → IsTrue (order.knows last.chrom) → IsTrue (order.knows place.chrom) → IsUpTo order last place → falls_in (sorting_of order) (Some last) place ≡ false
+  up_to_stays last place was is (inl less) =
+      places_sorted order last place total was is
+      ∙ below_no (order.compare place.chrom last.chrom) place.start last.start (reversed_less (order.compare last.chrom place.chrom) (order.compare place.chrom last.chrom) less (total.swapped last.chrom place.chrom was is))
+  up_to_stays last place was is (inr same) =
+      places_sorted order last place total was is
+      ∙ below_same (order.compare place.chrom last.chrom) place.start last.start (subst (λ name. order.compare name last.chrom ≡ Equal) same.0 (total.same last.chrom was)) same.1
+
+  placed_behind : (r : Feature) (rs : List Feature) → IsTrue (order.knows r.chrom) → IsPlacedBefore order (interval_of r) (intervals_of rs) → ArePlaced order (intervals_of rs) → Follow (Some (locus_at r)) rs
+  placed_behind r [] known before placed = tt
+  placed_behind r (s ∷ ss) known before placed = (placed.0, up_to_stays (locus_at r) (locus_at s) known placed.0 before, placed_behind s ss placed.0 placed.1 placed.2)
+
+  pub placed_follow : (rs : List Feature) → ArePlaced order (intervals_of rs) → Follow None rs
+  placed_follow [] placed = tt
+  placed_follow (r ∷ rs) placed = (placed.0, refl, placed_behind r rs placed.0 placed.1 placed.2)
+
+  module _ {X : Type 0} (text : X → List ℕ) (said : X → Option Feature) where
+    -- the line of x has no line feed, and says what it is to say
+    pub record SaysLine (x : X) : Type 0 where
+      pub clear : NoLineFeed (text x)
+      pub says : record_of (strip_last 13 (text x)) ≡ Ok (said x)
+
+    abbrev pub line_for : X → List ℕ
+    line_for x = text x ++ 10 ∷ []
+
+    abbrev pub said_of : List X → List Feature
+    said_of xs = flat_map (λ x. some_said (said x)) xs
+
+    pub record IsGood (rs : List Feature) (g : Good Feature) : Type 0 where
+      pub items : items_in g ≡ rs
+      pub faultless : g.fault ≡ None
+
+    module _ (input : Input) where
+      says_on : (n : ℕ) (last : Option Locus) (o : Option Feature) (rest : Option Locus → Good Feature) (rs : List Feature)
+          → Follow last (some_said o ++ rs) → ((now : Option Locus) → Follow now rs → IsGood rs (rest now))
+          → IsGood (some_said o ++ rs) (good_with (bed_format (sorting_of order)) input n last (said_after (sorting_of order) last (Ok o)) rest)
+      says_on n last None rest rs follow more = more last follow
+      says_on n last (Some r) rest rs follow more =
+          let is = more (Some (locus_at r)) follow.2 in
+          subst (λ knows. IsGood (r ∷ rs) (good_with (bed_format (sorting_of order)) input n last (cond knows (cond (falls_in (sorting_of order) last (locus_at r)) (Err OutOfOrder) (Ok (Some r))) (Err UnknownChrom)) rest)) (sym follow.0)
+          (subst (λ falls. IsGood (r ∷ rs) (good_with (bed_format (sorting_of order)) input n last (cond falls (Err OutOfOrder) (Ok (Some r))) rest)) (sym follow.1)
+          (record { items = ap (λ l. r ∷ l) is.items; faultless = is.faultless }))
+
+      good_written : (n : ℕ) (last : Option Locus) (xs : List X) → AllByRecursion SaysLine xs → Follow last (said_of xs)
+          → IsGood (said_of xs) (good_from (bed_format (sorting_of order)) input last (lines_from n (flat_map line_for xs)))
+      unfolding good_from line_says
+      good_written n last [] says follow = subst (λ ls. IsGood [] (good_from (bed_format (sorting_of order)) input last ls)) (sym (lines_from-nil n)) (record { items = refl; faultless = refl })
+      good_written n last (x ∷ xs) says follow =
+          let behind = flat_map line_for xs in
+          let lines : lines_from n (line_for x ++ behind) ≡ fed_line n (text x) ∷ lines_from (suc n) behind =
+          ap (lines_from n) (append_assoc (text x) (10 ∷ []) behind) ∙ lines_from-fed n (text x) behind says.0.clear in
+          subst (λ ls. IsGood (some_said (said x) ++ said_of xs) (good_from (bed_format (sorting_of order)) input last ls)) (sym lines)
+          (subst (λ s. IsGood (some_said (said x) ++ said_of xs) (good_with (bed_format (sorting_of order)) input n last (said_after (sorting_of order) last s) (λ now. good_from (bed_format (sorting_of order)) input now (lines_from (suc n) behind)))) (sym says.0.says)
+          (says_on n last (said x) (λ now. good_from (bed_format (sorting_of order)) input now (lines_from (suc n) behind)) (said_of xs) follow (λ now then. good_written (suc n) now xs says.1 then)))
+
+      -- what is good of these lines
+      pub good_lines : (xs : List X) → AllByRecursion SaysLine xs → ArePlaced order (intervals_of (said_of xs))
+          → IsGood (said_of xs) (good (bed_format (sorting_of order)) input (text_lines (flat_map line_for xs)))
+      good_lines xs says placed = good_written 1 None xs says (placed_follow (said_of xs) placed)
+
+-- ---- lines of a name, two numbers and what follows them
+
+-- a line: where it lies, and what follows the three columns
+pub record Columns : Type 0 where
+  pub at : Interval
+  pub tail : List ℕ
+
+-- such as the commands write
+pub record IsColumns (line : Columns) : Type 0 where
+  pub named : IsName line.at.chrom
+  pub clear : NoLineFeed line.at.chrom
+  pub below : line.at.start < line.at.stop
+  pub small : line.at.stop ≤ 999999999999
+  pub kept : IsTrue (is_kept line.tail)
+  pub clear_tail : NoLineFeed line.tail
+
+abbrev pub text_of_columns : Columns → List ℕ
+text_of_columns line = columns_text line.at.chrom line.at.start line.at.stop line.tail
+
+-- the record that is read of it
+abbrev pub record_back : Columns → Feature
+record_back line = record_with line.at.chrom line.at.start line.at.stop (strip_last 13 line.tail)
+
+abbrev pub said_back : Columns → Option Feature
+said_back line = unless_header line.at.chrom (record_back line)
+
+said_by : (header : Bool) (r : Feature) (rs : List Feature) → some_said (cond header None (Some r)) ++ rs ≡ cond (not header) (r ∷ rs) rs
+said_by true r rs = refl
+said_by false r rs = refl
+
+said_are : (lines : List Columns) → flat_map (λ line. some_said (said_back line)) lines ≡ filter is_no_header (map record_back lines)
+said_are [] = refl
+said_are (line ∷ lines) =
+    ap (λ rs. some_said (said_back line) ++ rs) (said_are lines) ∙ said_by (is_header line.at.chrom) (record_back line) (filter is_no_header (map record_back lines))
+
+pub placed_known : (order : Order) (rs : List Interval) → ArePlaced order rs → AllByRecursion (λ (r : Interval). IsTrue (order.knows r.chrom)) rs
+placed_known order [] placed = tt
+placed_known order (r ∷ rs) placed = (placed.0, placed_known order rs placed.2)
+
+module _ (order : Order) (total : IsTotal order) where
+  says_columns : (line : Columns) → IsColumns line → SaysLine order total text_of_columns said_back line
+  says_columns line is = record {
+    clear = tail_clear line.at.chrom line.at.start line.at.stop is.named is.below is.small line.tail is.clear is.clear_tail;
+    says = tail_says line.at.chrom line.at.start line.at.stop is.named is.below is.small line.tail is.kept;
+  }
+
+  -- their lines are an input, whose records are those that no header word hides
+  pub lines_back : (lines : List Columns) → AllByRecursion IsColumns lines → ArePlaced order (map (λ line. line.at) lines)
+      → IsInput order (flat_map (λ line. text_of_columns line ++ 10 ∷ []) lines) (filter is_no_header (map record_back lines))
+  lines_back lines are placed =
+      let says = all_so IsColumns (SaysLine order total text_of_columns said_back) lines says_columns are in
+      let here : ArePlaced order (intervals_of (filter is_no_header (map record_back lines))) = some_placed order total is_no_header (map record_back lines) (subst (ArePlaced order) (sym (map_map record_back interval_of (λ line. line.at) lines (all_any _ lines (λ line. refl)))) placed) in
+      let text = flat_map (λ line. text_of_columns line ++ 10 ∷ []) lines in
+      let is : (input : Input) → IsGood order total text_of_columns said_back (filter is_no_header (map record_back lines)) (good (bed_format (sorting_of order)) input (text_lines text)) = λ input.
+      subst (λ rs. IsGood order total text_of_columns said_back rs (good (bed_format (sorting_of order)) input (text_lines text))) (said_are lines)
+      (good_lines order total text_of_columns said_back input lines says (subst (λ rs. ArePlaced order (intervals_of rs)) (sym (said_are lines)) here)) in
+      record {
+        records_are = λ input. (is input).items;
+        faultless = λ input. or_else_none (good (bed_format (sorting_of order)) input (text_lines text)).fault ∙ (is input).faultless;
+      }
+
+  -- so are items that write such a line each
+  pub written_back : {A : Type 0} (line : A → List ℕ) (columns : A → Columns) (back : A → Feature) (items : List A) → ((a : A) → line a ≡ text_of_columns (columns a) ++ 10 ∷ [])
+      → AllByRecursion (λ a. record_back (columns a) ≡ back a) items → AllByRecursion (λ a. IsColumns (columns a)) items → ArePlaced order (map (λ a. (columns a).at) items)
+      → IsInput order (flat_map line items) (filter is_no_header (map back items))
+  written_back line columns back items as_line as_read are placed =
+      let text : Columns → List ℕ = λ line. text_of_columns line ++ 10 ∷ [] in
+      subst (λ bytes. IsInput order bytes (filter is_no_header (map back items))) (flat_map-map text columns items ∙ sym (flat_map_same line (λ a. text (columns a)) items (all_any _ items as_line)))
+      (subst (λ rs. IsInput order (flat_map text (map columns items)) (filter is_no_header rs)) (map_map columns record_back back items as_read)
+      (lines_back (map columns items) (all_map IsColumns columns items are)
+      (subst (ArePlaced order) (sym (map_map columns (λ line. line.at) (λ a. (columns a).at) items (all_any _ items (λ a. refl)))) placed)))
+
+-- What is known of each good record of an input, and of each chromosome of a genome file.
+
+-- a record that a line said, which was no header line and had no line feed
+pub record IsSaid (r : Feature) : Type 0 where
+  pub feature : IsFeature r
+  pub no_header : is_header r.chrom ≡ false
+  pub clear_name : NoLineFeed r.chrom
+  pub clear_rest : NoLineFeed r.rest
+
+pub line_is_said : (text : List ℕ) (r : Feature) → NoLineFeed text → record_of text ≡ Ok (Some r) → IsSaid r
+line_is_said text r clear e =
+    let said = record_said text r e in
+    let stands = said_stands text r said.1 in
+    let feature = said_is_feature text r said.1 in
+    let split : text ≡ r.chrom ++ 9 ∷ (stands.0 ++ r.rest) = stands.1 ∙ simp append_assoc in
+    let clear_split : NoLineFeed (r.chrom ++ 9 ∷ (stands.0 ++ r.rest)) = subst NoLineFeed split clear in
+    record {
+      feature = feature;
+      no_header = sym (header_of_name r.chrom (stands.0 ++ r.rest) feature.named.some) ∙ ap is_header (sym split) ∙ said.0;
+      clear_name = clear_front r.chrom (9 ∷ (stands.0 ++ r.rest)) clear_split;
+      clear_rest = clear_back (r.chrom ++ 9 ∷ stands.0) r.rest (subst NoLineFeed stands.1 clear);
+    }
+
+module _ (input : Input) (sorting : Sorting) where
+  said_with : (n : ℕ) (last : Option Locus) (text : List ℕ) (said : Result (Option Feature) Kind) (rest : Option Locus → Good Feature) → NoLineFeed text → line_says sorting last text ≡ said
+      → ((now : Option Locus) → AllByRecursion IsSaid (items_in (rest now))) → AllByRecursion IsSaid (items_in (good_with (bed_format sorting) input n last said rest))
+  said_with n last text (Err kind) rest clear e h = tt
+  said_with n last text (Ok None) rest clear e h = h last
+  said_with n last text (Ok (Some r)) rest clear e h = (line_is_said text r clear (line_said sorting last text r e).says, h ((bed_format sorting).after last r))
+
+  said_lines : (last : Option Locus) (lines : List TextLine) → AreClear lines → AllByRecursion IsSaid (items_in (good_from (bed_format sorting) input last lines))
+  unfolding good_from
+  said_lines last [] clear = tt
+  said_lines last (line ∷ lines) clear =
+      said_with line.number last line.text (line_says sorting last line.text) (λ now. good_from (bed_format sorting) input now lines) clear.0 refl (λ now. said_lines now lines clear.1)
+
+clear_if : (cut : Bool) (text : List ℕ) → AreClear (cond cut (whole_lines text) (text_lines text))
+clear_if true text = clear_whole 1 text
+clear_if false text = clear_lines 1 text
+
+pub clear_handed : (handed : Handed) → AreClear (lines_handed handed)
+clear_handed handed = clear_if handed.is_cut handed.text
+
+pub good_are_said : (input : Input) (order : Order) (handed : Handed) → AllByRecursion IsSaid (items_in (bed_good input order handed))
+good_are_said input order handed = said_lines input (sorting_of order) None (lines_handed handed) (clear_handed handed)
+
+-- ---- chromosomes of a genome file
+
+pub record IsChrom (entry : Entry) : Type 0 where
+  pub named : IsName entry.name
+  pub clear : NoLineFeed entry.name
+  pub some : 0 < entry.length
+  pub small : entry.length ≤ 999999999999
+
+some_of : (b : Bool) (v n : ℕ) → (b ≡ true → v ≤ 999999999999) → cond b (Some v) None ≡ Some n → n ≤ 999999999999
+some_of true v n h e = let same : v ≡ n = cc in subst (λ k. k ≤ 999999999999) same (h refl)
+some_of false v n h e = cc
+
+value_at_most : (text : List ℕ) (n : ℕ) → value_of text ≡ Some n → n ≤ 999999999999
+unfolding value_of
+value_at_most text n e =
+    some_of (is_number text) (digits_value 10 text) n
+    (λ yes. leb-true (digits_value 10 text) 999999999999 ((and_parts (ltb 0 (length text) && list_all is_ascii_digit text) (leb (digits_value 10 text) 999999999999) yes).1)) e
+
+chosen_entry : (b : Bool) (byte : ℕ) (bytes : List ℕ) (size : ℕ) (entry : Entry) → eqb size 0 ≡ b → cond b (Err BadLength) (Ok (record { name = byte ∷ bytes; length = size })) ≡ Ok entry
+    → (byte ∷ bytes ≡ entry.name) × (size ≡ entry.length) × (0 < size)
+chosen_entry true byte bytes size entry e is = cc
+chosen_entry false byte bytes size entry e is = (cc, cc, grind (arith))
+
+entry_said : (name : List ℕ) (size : Option ℕ) (entry : Entry) → entry_from name size ≡ Ok entry → (name ≡ entry.name) × (size ≡ Some entry.length) × (0 < length name) × (0 < entry.length)
+entry_said [] size entry e = cc
+entry_said (byte ∷ bytes) None entry e = cc
+entry_said (byte ∷ bytes) (Some size) entry e =
+    let is = chosen_entry (eqb size 0) byte bytes size entry refl e in
+    (is.0, ap Some is.1, omega arith, subst (λ n. 0 < n) is.1 is.2)
+
+joined_name : (name size : List ℕ) (rest : List (List ℕ)) → (more : List ℕ) × (join_with_byte 9 (name ∷ size ∷ rest) ≡ name ++ 9 ∷ more)
+joined_name name size rest = (join_with_byte 9 (size ∷ rest), refl)
+
+columns_said : (text : List ℕ) (columns : List (List ℕ)) (entry : Entry) → NoLineFeed text → pieces 9 text ≡ columns → columns_give columns ≡ Ok entry → IsChrom entry
+columns_said text [] entry clear cut e = cc
+columns_said text (name ∷ []) entry clear cut e = cc
+columns_said text (name ∷ size ∷ rest) entry clear cut e =
+    let is = entry_said name (value_of size) entry e in
+    let whole = joined_name name size rest in
+    let split : text ≡ name ++ 9 ∷ whole.0 = sym (join_with_byte-slice_split 9 text) ∙ ap (join_with_byte 9) cut ∙ whole.1 in
+    record {
+      named = subst IsName is.0 (record { some = is.2; one_column = (subst (AllByRecursion IsColumn) cut (pieces_are_columns text)).0 });
+      clear = subst NoLineFeed is.0 (clear_front name (9 ∷ whole.0) (subst NoLineFeed split clear));
+      some = is.3;
+      small = value_at_most size entry.length is.1;
+    }
+
+skipped_entry : (skipped : Bool) (said : Result Entry Kind) (entry : Entry) → cond skipped (Ok None) (not_skipped said) ≡ Ok (Some entry) → said ≡ Ok entry
+skipped_entry true said entry e = cc
+skipped_entry false (Ok x) entry e = cc
+skipped_entry false (Err kind) entry e = cc
+
+line_is_chrom : (text : List ℕ) (entry : Entry) → NoLineFeed text → entry_of text ≡ Ok (Some entry) → IsChrom entry
+unfolding entry_of
+line_is_chrom text entry clear e = columns_said text (pieces 9 text) entry clear refl (skipped_entry (is_skipped text) (columns_give (pieces 9 text)) entry e)
+
+-- the entries of an answer
+abbrev pub AreChroms : Result (List Entry) FaultValue → Type 0
+AreChroms (Ok entries) = AllByRecursion IsChrom entries
+AreChroms (Err fault) = Unit {0}
+
+with_chrom : (entry : Entry) (rest : Result (List Entry) FaultValue) → IsChrom entry → AreChroms rest → AreChroms (with_entry entry rest)
+with_chrom entry (Ok entries) is h = (is, h)
+with_chrom entry (Err fault) is h = tt
+
+new_chrom : (input : Input) (n : ℕ) (names : List (List ℕ)) (text : List ℕ) (said : Result (Option Entry) Kind) (rest : List (List ℕ) → Result (List Entry) FaultValue) → NoLineFeed text → entry_of text ≡ said
+    → ((now : List (List ℕ)) → AreChroms (rest now)) → AreChroms (genome_with input n names (new_entry names said) rest)
+new_chrom input n names text (Err kind) rest clear e h = tt
+new_chrom input n names text (Ok None) rest clear e h = h names
+new_chrom input n names text (Ok (Some entry)) rest clear e h =
+    elim (is_among names entry.name) as (λ b. AreChroms (genome_with input n names (if b then Err RepeatedChrom else Ok (Some entry)) rest)) [
+      | true ↦ tt
+      | false ↦ with_chrom entry (rest (names ++ entry.name ∷ [])) (line_is_chrom text entry clear e) (h (names ++ entry.name ∷ []))
+    ]
+
+chroms_from : (input : Input) (names : List (List ℕ)) (lines : List TextLine) → AreClear lines → AreChroms (genome_from input names lines)
+unfolding genome_from
+chroms_from input names [] clear = tt
+chroms_from input names (line ∷ lines) clear =
+    new_chrom input line.number names line.text (entry_of line.text) (λ now. genome_from input now lines) clear.0 refl (λ now. chroms_from input now lines clear.1)
+
+cut_chroms : (fault : Option FaultValue) (answer : Result (List Entry) FaultValue) → AreChroms answer → AreChroms (genome_cut fault answer)
+cut_chroms None answer h = h
+cut_chroms (Some fault) (Ok entries) h = tt
+cut_chroms (Some fault) (Err first) h = tt
+
+pub genome_chroms : (input : Input) (handed : Handed) (entries : List Entry) → genome_handed input handed ≡ Ok entries → AllByRecursion IsChrom entries
+genome_chroms input handed entries e =
+    subst AreChroms e (cut_chroms _ (genome_of input (lines_handed handed)) (chroms_from input [] (lines_handed handed) (clear_handed handed)))

@@ -1,0 +1,334 @@
+-- What merge, complement and genomecov write is an input of the next command.
+use Rattle.bt_lines.proofs.Std.{◌≡◌, ℕ, ◌+◌, ◌-◌, ◌<◌, ◌≤◌, Bool, true, false, cond, not, List, [], ◌∷◌, ◌++◌, map, filter, refl, sym, ap, ◌∙◌, subst, inl, inr, arith, eqb, append-nil, decimal, Option, ap₂, append_assoc, IsTrue, codes, if◌then◌else◌, bytes_eq, flat_map, AllByRecursion, is_lt, All-nil, map-id, map-append, slice_split_none}
+use Rattle.bt_lines.specs.calls.Columns.{NoLineFeed}
+use Rattle.bt_bed.specs.model.Feature.{Feature, interval_of, intervals_of, is_header, Interval, Span, placed_on, spans_on, span_of, interval_line, interval_lines, IsName, columns_in, strand_of, AreApartFrom, IsCovered, stretches_from}
+use Rattle.bt_bed.specs.model.Sorted.{ArePlaced, IsPlacedBefore}
+use Rattle.bt_bed.specs.model.Order.{Order, IsTotal, AreDistinct, rank_order}
+use Rattle.bt_bed.proofs.lemmas.Definitions.{scan_finds}
+use Rattle.bt_runs.specs.model.Merged.{counted, is_counted, chromosomes, end_of, merged, runs_of, runs_on, merged_runs, in_order, ordered_runs, put_in_order, StrandRun, places_of, runs_of_strand, strand_runs}
+use Rattle.bt_runs.specs.declared.merge.merge_strand.MergeStrand.{MergeStrand}
+use Rattle.bt_runs.specs.declared.merge.merge_strand.MergeStrand.TheVariants.{One}
+use Rattle.bt_bed.specs.declared.record.strand.Strand.{Strand}
+use Rattle.bt_runs.proofs.lemmas.order.FileOrder.{some_placed, distinct_chromosomes}
+use Rattle.bt_laws.proofs.lemmas.single.StrandOrder.{names_in_order}
+use Rattle.bt_laws.specs.Pipes.{AreSeparate, IsInput, is_no_header, three_columns, AreDisjoint, four_columns}
+use Rattle.bt_laws.proofs.lemmas.Lists.{EachPair, all_any, all_filter, all_flat_map, all_map, all_so, filter_all, all_zip, all_unmap, map_map}
+use Rattle.bt_laws.proofs.lemmas.pipes.LinesBack.{Columns, IsColumns, text_of_columns, placed_known, written_back, record_back, IsSaid, IsChrom, clear_tab, clear_number, strip_number, number_column}
+use Rattle.bt_laws.proofs.lemmas.pipes.Placing.{Earlier, apart_pairs, ascending_pairs, on_name, parts_pairs, parts_placed, spans_apart, spans_placed, known_names, names_pairs, pairs_filter, pairs_from_map, pairs_map, pairs_so}
+use Rattle.bt_laws.proofs.lemmas.parts.PartMerge.{named_all, listed_all}
+use Rattle.bt_lines.specs.model.Lines.{pieces}
+use Rattle.bt_bed.specs.model.Genome.{Entry, genome_names}
+use Rattle.bt_bed.specs.inside.RankTotal.{ranks_total}
+use Rattle.bt_laws.specs.Runs.{interval_at, AreDisjointFrom, AreLevelsOf, HasValue}
+use Rattle.bt_runs.specs.model.Depth.{DepthInterval, coverage, depth_line, depth_lines, depth_on, depth_of, depths_on, counted_on, Level, levels_of}
+use Rattle.bt_runs.specs.model.Gaps.{complement, gaps_of, gaps_on, is_asked}
+use Rattle.bt_laws.proofs.lemmas.single.LevelLemmas.{are_levels}
+
+-- ---- lines of three columns
+
+-- an interval that can be written, and a name that can
+pub record IsWritten (r : Interval) : Type 0 where
+  pub named : IsName r.chrom
+  pub clear : NoLineFeed r.chrom
+  pub below : r.start < r.stop
+  pub small : r.stop ≤ 999999999999
+
+abbrev pub alone : Interval → Columns
+alone r = record { at = r; tail = [] }
+
+alone_columns : (r : Interval) → IsWritten r → IsColumns (alone r)
+alone_columns r is = record { named = is.named; clear = is.clear; below = is.below; small = is.small; kept = refl; clear_tail = All-nil (λ b. eqb b 10 ≡ false) }
+
+alone_line : (r : Interval) → interval_line r ≡ text_of_columns (alone r) ++ 10 ∷ []
+alone_line r = ap (λ l. l ++ 10 ∷ []) (sym (append-nil (r.chrom ++ codes "\t" ++ decimal r.start ++ codes "\t" ++ decimal r.stop)))
+
+module _ (order : Order) (total : IsTotal order) where
+  pub intervals_back : (rs : List Interval) → AllByRecursion IsWritten rs → ArePlaced order rs → IsInput order (interval_lines rs) (filter is_no_header (map three_columns rs))
+  intervals_back rs are placed =
+      written_back order total interval_line alone three_columns rs alone_line (all_any _ rs (λ r. refl)) (all_so IsWritten (λ r. IsColumns (alone r)) rs alone_columns are) (subst (ArePlaced order) (sym (map-id rs)) placed)
+
+-- ---- spans within a length
+
+pub stops_within : (first n : ℕ) (spans : List Span) → AreApartFrom first spans → ((p : ℕ) → IsCovered spans p → p < n) → AllByRecursion (λ (s : Span). (s.start < s.stop) × (s.stop ≤ n)) spans
+stops_within first n [] apart h = tt
+stops_within first n (s ∷ ss) apart h =
+    let last = h (s.stop - 1) (inl (omega (arith, apart.1), omega (arith, apart.1))) in
+    ((apart.1, omega (arith, last, apart.1)), stops_within (s.stop + 1) n ss apart.2 (λ p c. h p (inr c)))
+
+pub scanned : (test : ℕ → Bool) (n : ℕ) → AreApartFrom 0 (stretches_from test 0 n) × AllByRecursion (λ (s : Span). (s.start < s.stop) × (s.stop ≤ n)) (stretches_from test 0 n)
+scanned test n = let found = scan_finds test n in (found.apart, stops_within 0 n (stretches_from test 0 n) found.apart (λ p c. (found.within p c).0))
+
+pub on_written : (name : List ℕ) (n : ℕ) (spans : List Span) → IsName name → NoLineFeed name → n ≤ 999999999999 → AllByRecursion (λ (s : Span). (s.start < s.stop) × (s.stop ≤ n)) spans → AllByRecursion IsWritten (map (placed_on name) spans)
+on_written name n spans named clear small h =
+    all_map IsWritten (placed_on name) spans (all_so (λ (s : Span). (s.start < s.stop) × (s.stop ≤ n)) (λ s. IsWritten (placed_on name s)) spans
+    (λ s k. record { named = named; clear = clear; below = k.0; small = omega (arith, k.1, small) }) h)
+
+-- ---- merge
+
+-- a name that comes from a line that is no header line
+pub record IsSaidName (name : List ℕ) : Type 0 where
+  pub named : IsName name
+  pub clear : NoLineFeed name
+  pub no_header : is_header name ≡ false
+
+end_small : (name : List ℕ) (rs : List Interval) → AllByRecursion (λ (r : Interval). r.stop ≤ 999999999999) rs → end_of (spans_on name rs) ≤ 999999999999
+end_small name [] h = omega arith
+end_small name (r ∷ rs) h =
+    let rest = end_small name rs h.1 in
+    elim (bytes_eq r.chrom name) as (λ b. end_of (cond b (span_of r ∷ spans_on name rs) (spans_on name rs)) ≤ 999999999999) [
+      | true ↦ omega (arith, h.0, rest)
+      | false ↦ rest
+    ]
+
+runs_apart : (gap : ℕ) (spans : List Span) → AreApartFrom 0 (runs_of gap spans) × AllByRecursion (λ (s : Span). (s.start < s.stop) × (s.stop ≤ end_of spans)) (runs_of gap spans)
+unfolding runs_of
+runs_apart gap spans = scanned _ (end_of spans)
+
+put_all : (P : List ℕ → Type 0) (order : Order) (name : List ℕ) (names : List (List ℕ)) → P name → AllByRecursion P names → AllByRecursion P (put_in_order order name names)
+put_all P order name [] one all = (one, tt)
+put_all P order name (n ∷ ns) one all =
+    elim (is_lt (order.compare name n)) as (λ b. AllByRecursion P (if b then name ∷ n ∷ ns else n ∷ put_in_order order name ns)) [
+      | true ↦ (one, all)
+      | false ↦ (all.0, put_all P order name ns one all.1)
+    ]
+
+pub ordered_all : (P : List ℕ → Type 0) (order : Order) (names : List (List ℕ)) → AllByRecursion P names → AllByRecursion P (in_order order names)
+ordered_all P order [] all = tt
+ordered_all P order (n ∷ ns) all = put_all P order n (in_order order ns) all.0 (ordered_all P order ns all.1)
+
+-- a run, whose name is no header word
+pub record IsRun (r : Interval) : Type 0 where
+  pub written : IsWritten r
+  pub no_header : is_header r.chrom ≡ false
+
+runs_are_written : (name : List ℕ) (gap : ℕ) (rs : List Interval) → IsSaidName name → AllByRecursion (λ (r : Interval). r.stop ≤ 999999999999) rs → AllByRecursion IsRun (runs_on name gap rs)
+runs_are_written name gap rs is small =
+    all_zip IsWritten (λ r. r.chrom ≡ name) IsRun (runs_on name gap rs) (λ r w e. record { written = w; no_header = ap is_header e ∙ is.no_header })
+    (on_written name (end_of (spans_on name rs)) (runs_of gap (spans_on name rs)) is.named is.clear (end_small name rs small) (runs_apart gap (spans_on name rs)).1)
+    (on_name name (runs_of gap (spans_on name rs)))
+
+merged_written : (names : List (List ℕ)) (gap : ℕ) (rs : List Interval) → AllByRecursion IsSaidName names → AllByRecursion (λ (r : Interval). r.stop ≤ 999999999999) rs → AllByRecursion IsRun (merged names gap rs)
+unfolding merged
+merged_written names gap rs are small =
+    all_flat_map IsRun (λ name. runs_on name gap rs) names (all_so IsSaidName (λ name. AllByRecursion IsRun (runs_on name gap rs)) names (λ name is. runs_are_written name gap rs is small) are)
+
+-- what is known of the merged records
+counted_names : (strand : MergeStrand) (records : List Feature) → AllByRecursion IsSaid records → AllByRecursion (λ (r : Interval). IsSaidName r.chrom) (counted strand records)
+counted_names strand records said =
+    all_map (λ (r : Interval). IsSaidName r.chrom) interval_of (filter (λ r. is_counted strand r.strand) records)
+    (all_filter (λ r. IsSaidName r.chrom) (λ r. is_counted strand r.strand) records
+    (all_so IsSaid (λ r. IsSaidName r.chrom) records (λ r is. record { named = is.feature.named; clear = is.clear_name; no_header = is.no_header }) said))
+
+counted_stops : (strand : MergeStrand) (records : List Feature) → AllByRecursion IsSaid records → AllByRecursion (λ (r : Interval). r.stop ≤ 999999999999) (counted strand records)
+counted_stops strand records said =
+    all_map (λ (r : Interval). r.stop ≤ 999999999999) interval_of (filter (λ r. is_counted strand r.strand) records)
+    (all_filter (λ r. r.stop ≤ 999999999999) (λ r. is_counted strand r.strand) records (all_so IsSaid (λ r. r.stop ≤ 999999999999) records (λ r is. is.feature.in_range) said))
+
+no_headers : (rs : List Interval) → AllByRecursion IsRun rs → filter is_no_header (map three_columns rs) ≡ map three_columns rs
+no_headers rs runs = filter_all is_no_header (map three_columns rs) (all_map (λ r. is_no_header r ≡ true) three_columns rs (all_so IsRun (λ r. not (is_header r.chrom) ≡ true) rs (λ r is. ap not is.no_header) runs))
+
+module _ (order : Order) (total : IsTotal order) where
+  pub runs_back : (rs : List Interval) → AllByRecursion IsRun rs → ArePlaced order rs → IsInput order (interval_lines rs) (map three_columns rs)
+  runs_back rs runs placed = subst (IsInput order (interval_lines rs)) (no_headers rs runs) (intervals_back order total rs (all_so IsRun IsWritten rs (λ r is. is.written) runs) placed)
+
+  module _ (gap : ℕ) (strand : MergeStrand) (records : List Feature) (said : AllByRecursion IsSaid records) (placed : ArePlaced order (intervals_of records)) where
+    names : List (List ℕ)
+    names = in_order order (chromosomes (counted strand records))
+
+    names_known : AllByRecursion (λ name. IsTrue (order.knows name)) (chromosomes (counted strand records))
+    names_known = named_all (λ name. IsTrue (order.knows name)) (counted strand records) (placed_known order (counted strand records) (some_placed order total (λ r. is_counted strand r.strand) records placed))
+
+    known_in_order : AllByRecursion (λ name. IsTrue (order.knows name)) names
+    unfolding names
+    known_in_order = ordered_all (λ name. IsTrue (order.knows name)) order (chromosomes (counted strand records)) names_known
+
+    names_earlier : EachPair (Earlier order) names
+    unfolding names
+    names_earlier = ascending_pairs order total names known_in_order (names_in_order order (chromosomes (counted strand records)) total names_known (distinct_chromosomes (counted strand records))).0
+
+    part : List ℕ → List Interval
+    part name = runs_on name gap (counted strand records)
+
+    pub merge_placed : ArePlaced order (ordered_runs order gap strand records)
+    unfolding ordered_runs merged names part
+    merge_placed = parts_placed order total (λ name. name) part (λ name. on_name name (runs_of gap (spans_on name (counted strand records)))) names names_earlier
+        (all_so (λ name. IsTrue (order.knows name)) (λ name. ArePlaced order (part name)) names (λ name known. spans_placed order name known 0 (runs_of gap (spans_on name (counted strand records))) (runs_apart gap (spans_on name (counted strand records))).0) known_in_order)
+
+    pub merge_apart : EachPair AreSeparate (ordered_runs order gap strand records)
+    unfolding ordered_runs merged names part
+    merge_apart = parts_pairs order total (λ name. name) part (λ name. on_name name (runs_of gap (spans_on name (counted strand records)))) AreSeparate (λ r s other same. absurd (other same)) names known_in_order names_earlier
+        (all_any (λ name. EachPair AreSeparate (part name)) names (λ name. spans_apart name (runs_of gap (spans_on name (counted strand records))) (apart_pairs 0 (runs_of gap (spans_on name (counted strand records))) (runs_apart gap (spans_on name (counted strand records))).0)))
+
+    pub merge_runs : AllByRecursion IsRun (ordered_runs order gap strand records)
+    unfolding ordered_runs
+    merge_runs = merged_written (in_order order (chromosomes (counted strand records))) gap (counted strand records)
+        (ordered_all IsSaidName order (chromosomes (counted strand records)) (named_all IsSaidName (counted strand records) (counted_names strand records said))) (counted_stops strand records said)
+
+    -- what merge writes
+    pub merge_back : IsInput order (interval_lines (ordered_runs order gap strand records)) (map three_columns (ordered_runs order gap strand records))
+    merge_back = runs_back (ordered_runs order gap strand records) merge_runs merge_placed
+
+  -- each strand separately
+  strand_written : (gap : ℕ) (records : List Feature) → AllByRecursion IsSaid records → (strand : Strand) → AllByRecursion (λ (item : StrandRun). IsRun item.run) (runs_of_strand gap records strand)
+  strand_written gap records said strand =
+      all_map (λ (item : StrandRun). IsRun item.run) _ (merged_runs gap (One strand) records)
+      (merged_written (chromosomes (counted (One strand) records)) gap (counted (One strand) records)
+      (named_all IsSaidName (counted (One strand) records) (counted_names (One strand) records said)) (counted_stops (One strand) records said))
+
+  pub strands_written : (gap : ℕ) (records : List Feature) → AllByRecursion IsSaid records → AllByRecursion IsRun (places_of (strand_runs gap records))
+  unfolding strand_runs
+  strands_written gap records said = all_map IsRun (λ (item : StrandRun). item.run) (strand_runs gap records) (listed_all (λ (item : StrandRun). IsRun item.run) (runs_of_strand gap records) [] records (strand_written gap records said))
+
+-- ---- complement and genomecov
+
+gaps_apart : (size : ℕ) (spans : List Span) → AreApartFrom 0 (gaps_of size spans) × AllByRecursion (λ (s : Span). (s.start < s.stop) × (s.stop ≤ size)) (gaps_of size spans)
+unfolding gaps_of
+gaps_apart size spans = scanned _ size
+
+module _ (entries : List Entry) (chroms : AllByRecursion IsChrom entries) (distinct : AreDistinct (genome_names entries)) where
+  abbrev file_order : Order
+  file_order = rank_order (genome_names entries)
+
+  file_total : IsTotal file_order
+  file_total = ranks_total (genome_names entries)
+
+  entries_known : AllByRecursion (λ (e : Entry). IsTrue (file_order.knows e.name)) entries
+  entries_known = all_unmap (λ name. IsTrue (file_order.knows name)) (λ (e : Entry). e.name) entries (known_names (genome_names entries))
+
+  entries_earlier : EachPair (λ (d e : Entry). Earlier file_order d.name e.name) entries
+  entries_earlier = pairs_from_map (Earlier file_order) (λ (e : Entry). e.name) entries (names_pairs (genome_names entries) distinct)
+
+  module _ (limit : Bool) (records : List Feature) where
+    abbrev asked : Entry → Bool
+    asked = is_asked limit (intervals_of records)
+
+    gaps_part : Entry → List Interval
+    gaps_part = gaps_on (intervals_of records)
+
+    on_entry : (e : Entry) → AllByRecursion (λ (r : Interval). r.chrom ≡ e.name) (gaps_part e)
+    unfolding gaps_part
+    on_entry e = on_name e.name (gaps_of e.length (spans_on e.name (intervals_of records)))
+
+    pub gaps_placed : ArePlaced file_order (complement limit entries records)
+    unfolding complement gaps_part
+    gaps_placed = parts_placed file_order file_total (λ (e : Entry). e.name) gaps_part on_entry (filter asked entries) (pairs_filter (λ (d e : Entry). Earlier file_order d.name e.name) asked entries entries_earlier)
+        (all_filter (λ e. ArePlaced file_order (gaps_part e)) asked entries (all_so (λ (e : Entry). IsTrue (file_order.knows e.name)) (λ e. ArePlaced file_order (gaps_part e)) entries
+        (λ e known. spans_placed file_order e.name known 0 (gaps_of e.length (spans_on e.name (intervals_of records))) (gaps_apart e.length (spans_on e.name (intervals_of records))).0) entries_known))
+
+    pub gaps_pairs : EachPair AreSeparate (complement limit entries records)
+    unfolding complement gaps_part
+    gaps_pairs = parts_pairs file_order file_total (λ (e : Entry). e.name) gaps_part on_entry AreSeparate (λ r s other same. absurd (other same)) (filter asked entries) (all_filter (λ (e : Entry). IsTrue (file_order.knows e.name)) asked entries entries_known)
+        (pairs_filter (λ (d e : Entry). Earlier file_order d.name e.name) asked entries entries_earlier)
+        (all_any (λ e. EachPair AreSeparate (gaps_part e)) (filter asked entries) (λ e. spans_apart e.name (gaps_of e.length (spans_on e.name (intervals_of records))) (apart_pairs 0 (gaps_of e.length (spans_on e.name (intervals_of records))) (gaps_apart e.length (spans_on e.name (intervals_of records))).0)))
+
+    gaps_written : AllByRecursion IsWritten (complement limit entries records)
+    unfolding complement gaps_part
+    gaps_written = all_flat_map IsWritten gaps_part (filter asked entries) (all_filter (λ e. AllByRecursion IsWritten (gaps_part e)) asked entries (all_so IsChrom (λ e. AllByRecursion IsWritten (gaps_part e)) entries
+        (λ e is. on_written e.name e.length (gaps_of e.length (spans_on e.name (intervals_of records))) is.named is.clear is.small (gaps_apart e.length (spans_on e.name (intervals_of records))).1) chroms))
+
+    pub gaps_back : IsInput file_order (interval_lines (complement limit entries records)) (filter is_no_header (map three_columns (complement limit entries records)))
+    gaps_back = intervals_back file_order file_total (complement limit entries records) gaps_written gaps_placed
+
+-- ---- lines of four columns
+
+abbrev pub with_depth : DepthInterval → Columns
+with_depth r = record { at = interval_at r; tail = codes "\t" ++ decimal r.depth }
+
+depth_columns : (r : DepthInterval) → IsWritten (interval_at r) → IsColumns (with_depth r)
+depth_columns r is = record { named = is.named; clear = is.clear; below = is.below; small = is.small; kept = refl; clear_tail = clear_tab (decimal r.depth) (clear_number r.depth) }
+
+depth_as : (r : DepthInterval) → depth_line r ≡ text_of_columns (with_depth r) ++ 10 ∷ []
+depth_as r = simp append_assoc
+
+one_column : (n : ℕ) → pieces 9 (decimal n) ≡ decimal n ∷ []
+one_column n = slice_split_none (λ b. eqb b 9) (decimal n) (number_column n)
+
+depth_back : (r : DepthInterval) → record_back (with_depth r) ≡ four_columns r
+depth_back r =
+    ap (λ tail. record { chrom = r.chrom; start = r.start; stop = r.stop; strand = strand_of (columns_in tail); rest = tail }) (strip_number r.depth)
+    ∙ ap (λ columns. record { chrom = r.chrom; start = r.start; stop = r.stop; strand = strand_of columns; rest = codes "\t" ++ decimal r.depth }) (one_column r.depth)
+
+module _ (order : Order) (total : IsTotal order) where
+  depth_lines_back : (rs : List DepthInterval) → AllByRecursion (λ r. IsWritten (interval_at r)) rs → ArePlaced order (map interval_at rs) → IsInput order (depth_lines rs) (filter is_no_header (map four_columns rs))
+  depth_lines_back rs are placed =
+      written_back order total depth_line with_depth four_columns rs depth_as (all_any _ rs depth_back) (all_so (λ r. IsWritten (interval_at r)) (λ r. IsColumns (with_depth r)) rs depth_columns are) placed
+
+-- ---- levels
+
+levels_within : (first n : ℕ) (levels : List Level) → AreDisjointFrom first levels → ((p v : ℕ) → HasValue levels p v → p < n) → AllByRecursion (λ (l : Level). (l.start < l.stop) × (l.stop ≤ n)) levels
+levels_within first n [] disjoint h = tt
+levels_within first n (l ∷ ls) disjoint h =
+    let last = h (l.stop - 1) l.value (inl (omega (arith, disjoint.1), omega (arith, disjoint.1), refl)) in
+    ((disjoint.1, omega (arith, last, disjoint.1)), levels_within l.stop n ls disjoint.3 (λ p v c. h p v (inr c)))
+
+levels_behind : (first stop : ℕ) (levels : List Level) → stop ≤ first → AreDisjointFrom first levels → AllByRecursion (λ (l : Level). stop ≤ l.start) levels
+levels_behind first stop [] up h = tt
+levels_behind first stop (l ∷ ls) up h = (omega (arith, up, h.0), levels_behind l.stop stop ls (omega (arith, up, h.0, h.1)) h.3)
+
+levels_pairs : (first : ℕ) (levels : List Level) → AreDisjointFrom first levels → EachPair (λ (k l : Level). k.stop ≤ l.start) levels
+levels_pairs first [] h = tt
+levels_pairs first (l ∷ ls) h = (levels_behind l.stop l.stop ls (omega arith) h.3, levels_pairs l.stop ls h.3)
+
+abbrev level_place : List ℕ → Level → Interval
+level_place name l = record { chrom = name; start = l.start; stop = l.stop }
+
+module _ (order : Order) (name : List ℕ) (known : IsTrue (order.knows name)) where
+  level_before : (first : ℕ) (l : Level) (ls : List Level) → l.start ≤ first → AreDisjointFrom first ls → IsPlacedBefore order (level_place name l) (map (level_place name) ls)
+  level_before first l [] up h = tt
+  level_before first l (m ∷ ms) up h = inr (refl, omega (arith, up, h.0))
+
+  levels_placed : (first : ℕ) (ls : List Level) → AreDisjointFrom first ls → ArePlaced order (map (level_place name) ls)
+  levels_placed first [] h = tt
+  levels_placed first (l ∷ ls) h = (known, level_before l.stop l ls (omega (arith, h.1)) h.3, levels_placed l.stop ls h.3)
+
+module _ (entries : List Entry) (chroms : AllByRecursion IsChrom entries) (distinct : AreDistinct (genome_names entries)) (zeros : Bool) (strand : Option Strand) (records : List Feature) where
+  abbrev names_order : Order
+  names_order = rank_order (genome_names entries)
+
+  abbrev levels_for : Entry → List Level
+  levels_for e = levels_of (depth_of zeros (counted_on strand e.name records)) e.length
+
+  level_part : Entry → List Interval
+  level_part e = map (level_place e.name) (levels_for e)
+
+  places_of_all : (es : List Entry) → map interval_at (flat_map (depths_on zeros strand records) es) ≡ flat_map level_part es
+  unfolding level_part
+  places_of_all [] = refl
+  places_of_all (e ∷ es) =
+      map-append interval_at (depths_on zeros strand records e) (flat_map (depths_on zeros strand records) es) ∙ ap₂ (λ a b. a ++ b) (map_map (depth_on e.name) interval_at (level_place e.name) (levels_for e) (all_any _ (levels_for e) (λ l. refl))) (places_of_all es)
+
+  levels_are_so : (e : Entry) → AreLevelsOf (depth_of zeros (counted_on strand e.name records)) e.length (levels_for e)
+  levels_are_so e = are_levels (depth_of zeros (counted_on strand e.name records)) e.length
+
+  on_level : (e : Entry) → AllByRecursion (λ (r : Interval). r.chrom ≡ e.name) (level_part e)
+  unfolding level_part
+  on_level e = all_map (λ (r : Interval). r.chrom ≡ e.name) (level_place e.name) (levels_for e) (all_any (λ l. e.name ≡ e.name) (levels_for e) (λ l. refl))
+
+  pub depths_placed : ArePlaced names_order (map interval_at (coverage zeros strand entries records))
+  unfolding coverage level_part
+  depths_placed = subst (ArePlaced names_order) (sym (places_of_all entries))
+      (parts_placed names_order (ranks_total (genome_names entries)) (λ (e : Entry). e.name) level_part on_level entries (entries_earlier entries chroms distinct)
+      (all_so (λ (e : Entry). IsTrue (names_order.knows e.name)) (λ e. ArePlaced names_order (level_part e)) entries (λ e known. levels_placed names_order e.name known 0 (levels_for e) (levels_are_so e).disjoint) (entries_known entries chroms distinct)))
+
+  level_disjoint : (e : Entry) → EachPair AreDisjoint (level_part e)
+  unfolding level_part
+  level_disjoint e = pairs_map AreDisjoint (level_place e.name) (levels_for e) (pairs_so (λ l. Unit {0}) (λ (k l : Level). k.stop ≤ l.start) (λ k l. AreDisjoint (level_place e.name k) (level_place e.name l)) (levels_for e) (λ k l p q up same. up)
+      (all_any (λ l. Unit {0}) (levels_for e) (λ l. tt)) (levels_pairs 0 (levels_for e) (levels_are_so e).disjoint))
+
+  pub depths_disjoint : EachPair AreDisjoint (map interval_at (coverage zeros strand entries records))
+  unfolding coverage level_part
+  depths_disjoint = subst (EachPair AreDisjoint) (sym (places_of_all entries))
+      (parts_pairs names_order (ranks_total (genome_names entries)) (λ (e : Entry). e.name) level_part on_level AreDisjoint (λ r s other same. absurd (other same)) entries (entries_known entries chroms distinct) (entries_earlier entries chroms distinct) (all_any (λ e. EachPair AreDisjoint (level_part e)) entries level_disjoint))
+
+  level_written : (e : Entry) → IsChrom e → AllByRecursion IsWritten (level_part e)
+  unfolding level_part
+  level_written e is = all_map IsWritten (level_place e.name) (levels_for e) (all_so (λ (l : Level). (l.start < l.stop) × (l.stop ≤ e.length)) (λ l. IsWritten (level_place e.name l)) (levels_for e)
+      (λ l k. record { named = is.named; clear = is.clear; below = k.0; small = omega (arith, k.1, is.small) })
+      (levels_within 0 e.length (levels_for e) (levels_are_so e).disjoint (λ p v c. ((levels_are_so e).within p v c).0)))
+
+  depths_written : AllByRecursion IsWritten (map interval_at (coverage zeros strand entries records))
+  unfolding coverage level_part
+  depths_written = subst (AllByRecursion IsWritten) (sym (places_of_all entries)) (all_flat_map IsWritten level_part entries (all_so IsChrom (λ e. AllByRecursion IsWritten (level_part e)) entries level_written chroms))
+
+  pub coverage_back : IsInput names_order (depth_lines (coverage zeros strand entries records)) (filter is_no_header (map four_columns (coverage zeros strand entries records)))
+  coverage_back = depth_lines_back names_order (ranks_total (genome_names entries)) (coverage zeros strand entries records) (all_unmap IsWritten interval_at (coverage zeros strand entries records) depths_written) depths_placed

@@ -1,0 +1,461 @@
+-- What intersect and subtract write is an input of the next command.
+use Rattle.bt_lines.proofs.Std.{◌≡◌, ℕ, zero, suc, ◌+◌, ◌-◌, ◌<◌, ◌≤◌, Bool, true, false, cond, not, List, [], ◌∷◌, ◌++◌, map, filter, length, max, min, refl, sym, ap, ap₂, ◌∙◌, subst, inl, inr, arith, append_assoc, append-nil, decimal, IsTrue, flat_map, replicate, AllByRecursion, bytes_decides, flat_map-append}
+use Rattle.std.specs.declared.cmp.Ordering.TheVariants.{Less, Equal}
+use Rattle.bt_lines.specs.calls.Columns.{NoLineFeed}
+use Rattle.bt_bed.specs.model.Feature.{Feature, interval_of, intervals_of, is_header, Interval, Span, bed_text, cut_to, is_kept, AreApartFrom, IsCovered}
+use Rattle.bt_bed.specs.model.Sorted.{ArePlaced, IsPlacedBefore, IsUpTo, locus_of}
+use Rattle.bt_bed.specs.model.Order.{Order, IsTotal}
+use Rattle.bt_runs.proofs.lemmas.order.FileOrder.{skips}
+use Rattle.bt_sweep.specs.model.Hits.{hits, hits_among, shared_bases}
+use Rattle.bt_sweep.specs.model.Lines.{cut, hit_line, intersect, line_with, lines_for, lines_of, piece_line, IsLeft, pieces}
+use Rattle.bt_sweep.specs.declared.hits.hit_rule.HitRule.{HitRule}
+use Rattle.bt_sweep.specs.declared.output.shape.Shape.{Shape}
+use Rattle.bt_sweep.specs.declared.output.shape.Shape.TheVariants.{Count, Cut, CutAndB, Missing, Once, OrigA, OrigBoth, Overlap, Pieces, Whole}
+use Rattle.bt_sweep.proofs.lemmas.definitions.PieceLemmas.{are_pieces}
+use Rattle.bt_sweep.proofs.lemmas.definitions.HitLemmas.{hit_overlaps, overlap_parts}
+use Rattle.bt_laws.specs.Pipes.{begins_with_a, line_count, AreDisjoint, IsInput, is_no_header}
+use Rattle.bt_laws.proofs.lemmas.Lists.{EachPair, all_any, all_both, all_flat_map, all_map, all_so, filter_all, all_zip, map_flat, map_map, all_unmap}
+use Rattle.bt_laws.proofs.lemmas.pipes.LinesBack.{clear_both, clear_tab, clear_number, Columns, IsColumns, lines_back, record_back, text_of_columns, placed_known, IsSaid, tail_clear}
+use Rattle.bt_laws.proofs.lemmas.pipes.Placing.{apart_pairs, pairs_both, pairs_filter, pairs_from_map, pairs_map, pairs_so}
+
+-- ---- pairs of a list of lists
+
+behind : {A B : Type 0} (R : B → B → Type 0) (part : A → List B) (x : A) (xs : List A) → AllByRecursion (λ y. AllByRecursion (λ r. AllByRecursion (R r) (part y)) (part x)) xs
+    → AllByRecursion (λ r. AllByRecursion (R r) (flat_map part xs)) (part x)
+behind R part x [] cross = all_any _ (part x) (λ r. tt)
+behind R part x (y ∷ ys) cross =
+    all_zip (λ r. AllByRecursion (R r) (part y)) (λ r. AllByRecursion (R r) (flat_map part ys)) (λ r. AllByRecursion (R r) (part y ++ flat_map part ys)) (part x) (λ r h k. all_both (R r) (part y) (flat_map part ys) h k) cross.0 (behind R part x ys cross.1)
+
+pub pairs_flat : {A B : Type 0} (R : B → B → Type 0) (part : A → List B) (xs : List A) → AllByRecursion (λ x. EachPair R (part x)) xs
+    → EachPair (λ x y. AllByRecursion (λ r. AllByRecursion (R r) (part y)) (part x)) xs → EachPair R (flat_map part xs)
+pairs_flat R part [] own cross = tt
+pairs_flat R part (x ∷ xs) own cross =
+    pairs_both R (part x) (flat_map part xs) own.0 (pairs_flat R part xs own.1 cross.1) (behind R part x xs cross.0)
+
+-- ---- records in order, as pairs
+
+module _ (order : Order) (total : IsTotal order) where
+  abbrev pub UpTo : Interval → Interval → Type 0
+  UpTo r s = IsUpTo order (locus_of r) (locus_of s)
+
+  up_to_all : (r : Interval) (rs : List Interval) → ArePlaced order (r ∷ rs) → AllByRecursion (UpTo r) rs
+  up_to_all r [] placed = tt
+  up_to_all r (s ∷ ss) placed = (placed.1, up_to_all r ss (skips order r s ss total placed))
+
+  pub placed_pairs : (rs : List Interval) → ArePlaced order rs → EachPair UpTo rs
+  placed_pairs [] placed = tt
+  placed_pairs (r ∷ rs) placed = (up_to_all r rs placed, placed_pairs rs placed.2)
+
+  before_first : (r : Interval) (rs : List Interval) → AllByRecursion (UpTo r) rs → IsPlacedBefore order r rs
+  before_first r [] h = tt
+  before_first r (s ∷ ss) h = h.0
+
+  pub pairs_placed : (rs : List Interval) → AllByRecursion (λ (r : Interval). IsTrue (order.knows r.chrom)) rs → EachPair UpTo rs → ArePlaced order rs
+  pairs_placed [] known pairs = tt
+  pairs_placed (r ∷ rs) known pairs = (known.0, before_first r rs pairs.0, pairs_placed rs known.1 pairs.1)
+
+-- ---- the lines as columns
+
+abbrev pub columns_at : Feature → List ℕ → Columns
+columns_at a tail = record { at = interval_of a; tail = tail }
+
+unfoldable pub hit_columns : Shape → Feature → Feature → Columns
+hit_columns Cut a b = columns_at (cut a b) a.rest
+hit_columns OrigA a b = columns_at a a.rest
+hit_columns CutAndB a b = columns_at (cut a b) (a.rest ++ 9 ∷ bed_text b)
+hit_columns OrigBoth a b = columns_at a (a.rest ++ 9 ∷ bed_text b)
+hit_columns Overlap a b = columns_at a (a.rest ++ 9 ∷ (bed_text b ++ 9 ∷ decimal (shared_bases a b)))
+hit_columns Once a b = columns_at a a.rest
+hit_columns Missing a b = columns_at a a.rest
+hit_columns Count a b = columns_at a a.rest
+hit_columns Pieces a b = columns_at a a.rest
+hit_columns Whole a b = columns_at a a.rest
+
+unfoldable pub piece_columns : Feature → Span → Columns
+piece_columns a p = columns_at (cut_to p.start p.stop a) a.rest
+
+unfoldable pub columns_for : Shape → Feature → List Feature → List Columns
+columns_for Cut a found = map (hit_columns Cut a) found
+columns_for OrigA a found = map (hit_columns OrigA a) found
+columns_for CutAndB a found = map (hit_columns CutAndB a) found
+columns_for OrigBoth a found = map (hit_columns OrigBoth a) found
+columns_for Overlap a found = map (hit_columns Overlap a) found
+columns_for Once a [] = []
+columns_for Once a (b ∷ more) = columns_at a a.rest ∷ []
+columns_for Missing a [] = columns_at a a.rest ∷ []
+columns_for Missing a (b ∷ more) = []
+columns_for Count a found = columns_at a (a.rest ++ 9 ∷ decimal (length found)) ∷ []
+columns_for Pieces a found = map (piece_columns a) (pieces a found)
+columns_for Whole a [] = columns_at a a.rest ∷ []
+columns_for Whole a (b ∷ more) = []
+
+abbrev pub line_text : Columns → List ℕ
+line_text line = text_of_columns line ++ 10 ∷ []
+
+map_lines : {B : Type 0} (f : B → List ℕ) (g : B → Columns) (bs : List B) → ((b : B) → f b ≡ line_text (g b)) → flat_map f bs ≡ flat_map line_text (map g bs)
+map_lines f g [] h = refl
+map_lines f g (b ∷ bs) h = ap₂ (λ x y. x ++ y) (h b) (map_lines f g bs h)
+
+alone_text : (line : Columns) → line_text line ≡ flat_map line_text (line ∷ [])
+alone_text line = sym (append-nil (line_text line))
+
+both_text : (a b : Feature) → line_with (bed_text a ∷ bed_text b ∷ []) ≡ line_text (columns_at a (a.rest ++ 9 ∷ bed_text b))
+both_text a b = simp append_assoc
+
+overlap_text : (a b : Feature) (n : ℕ) → line_with (bed_text a ∷ bed_text b ∷ decimal n ∷ []) ≡ line_text (columns_at a (a.rest ++ 9 ∷ (bed_text b ++ 9 ∷ decimal n)))
+overlap_text a b n = simp append_assoc
+
+count_text : (a : Feature) (n : ℕ) → line_with (bed_text a ∷ decimal n ∷ []) ≡ line_text (columns_at a (a.rest ++ 9 ∷ decimal n))
+count_text a n = simp append_assoc
+
+lines_as : (shape : Shape) (a : Feature) (found : List Feature) → lines_of shape a found ≡ flat_map line_text (columns_for shape a found)
+unfolding columns_for hit_columns piece_columns
+lines_as Cut a found = map_lines (hit_line Cut a) (hit_columns Cut a) found (λ b. refl)
+lines_as OrigA a found = map_lines (hit_line OrigA a) (hit_columns OrigA a) found (λ b. refl)
+lines_as CutAndB a found = map_lines (hit_line CutAndB a) (hit_columns CutAndB a) found (λ b. both_text (cut a b) b)
+lines_as OrigBoth a found = map_lines (hit_line OrigBoth a) (hit_columns OrigBoth a) found (λ b. both_text a b)
+lines_as Overlap a found = map_lines (hit_line Overlap a) (hit_columns Overlap a) found (λ b. overlap_text a b (shared_bases a b))
+lines_as Once a [] = refl
+lines_as Once a (b ∷ more) = alone_text (columns_at a a.rest)
+lines_as Missing a [] = alone_text (columns_at a a.rest)
+lines_as Missing a (b ∷ more) = refl
+lines_as Count a found = count_text a (length found) ∙ alone_text (columns_at a (a.rest ++ 9 ∷ decimal (length found)))
+lines_as Pieces a found = map_lines (piece_line a) (piece_columns a) (pieces a found) (λ p. refl)
+lines_as Whole a [] = alone_text (columns_at a a.rest)
+lines_as Whole a (b ∷ more) = refl
+
+module _ (shape : Shape) (rule : HitRule) (second : List Feature) where
+  unfoldable pub part : Feature → List Columns
+  part a = columns_for shape a (hits_among rule a second)
+
+  unfoldable pub all_columns : List Feature → List Columns
+  all_columns first = flat_map part first
+
+  text_as : (first : List Feature) → intersect shape rule first second ≡ flat_map line_text (all_columns first)
+  unfolding lines_for part all_columns
+  text_as [] = refl
+  text_as (a ∷ first) =
+      ap₂ (λ x y. x ++ y) (lines_as shape a (hits_among rule a second)) (text_as first) ∙ sym (flat_map-append line_text (columns_for shape a (hits_among rule a second)) (flat_map part first))
+
+-- ---- each is written so
+
+pub kept_more : (rest more : List ℕ) → IsTrue (is_kept rest) → IsTrue (is_kept (rest ++ 9 ∷ more))
+kept_more [] more h = refl
+kept_more (byte ∷ bytes) more h = h
+
+clear_record : (b : Feature) → IsSaid b → NoLineFeed (bed_text b)
+clear_record b is = tail_clear b.chrom b.start b.stop is.feature.named is.feature.non_empty is.feature.in_range b.rest is.clear_name is.clear_rest
+
+said_columns : (a : Feature) (start stop : ℕ) (more : List ℕ) → IsSaid a → start < stop → stop ≤ a.stop → IsTrue (is_kept more) → NoLineFeed more → IsColumns (columns_at (cut_to start stop a) more)
+said_columns a start stop more is below up kept clear = record { named = is.feature.named; clear = is.clear_name; below = below; small = omega (arith, up, is.feature.in_range); kept = kept; clear_tail = clear }
+
+abbrev pub Hit : HitRule → Feature → Feature → Type 0
+Hit rule a b = IsSaid b × (hits rule a b ≡ true)
+
+pub cut_bounds : (rule : HitRule) (a b : Feature) → hits rule a b ≡ true → max a.start b.start < min a.stop b.stop
+cut_bounds rule a b h = omega (arith, (overlap_parts a b (hit_overlaps rule a b h)).1)
+
+pub same_name : (rule : HitRule) (a b : Feature) → hits rule a b ≡ true → a.chrom ≡ b.chrom
+same_name rule a b h = (bytes_decides a.chrom b.chrom).0 (overlap_parts a b (hit_overlaps rule a b h)).0
+
+whole_columns : (a : Feature) (more : List ℕ) → IsSaid a → IsTrue (is_kept more) → NoLineFeed more → IsColumns (columns_at a more)
+whole_columns a more is kept clear = record { named = is.feature.named; clear = is.clear_name; below = is.feature.non_empty; small = is.feature.in_range; kept = kept; clear_tail = clear }
+
+module _ (rule : HitRule) (a : Feature) (is : IsSaid a) where
+  plain_columns : IsColumns (columns_at a a.rest)
+  plain_columns = whole_columns a a.rest is is.feature.kept is.clear_rest
+
+  cut_columns : (b : Feature) (more : List ℕ) → Hit rule a b → IsTrue (is_kept more) → NoLineFeed more → IsColumns (columns_at (cut a b) more)
+  cut_columns b more hit kept clear = said_columns a (max a.start b.start) (min a.stop b.stop) more is (cut_bounds rule a b hit.1) (omega arith) kept clear
+
+  with_record : (b : Feature) → IsSaid b → NoLineFeed (a.rest ++ 9 ∷ bed_text b)
+  with_record b said = clear_both a.rest (9 ∷ bed_text b) is.clear_rest (clear_tab (bed_text b) (clear_record b said))
+
+  hit_is : (shape : Shape) (b : Feature) → Hit rule a b → IsColumns (hit_columns shape a b)
+  unfolding hit_columns
+  hit_is Cut b hit = cut_columns b a.rest hit is.feature.kept is.clear_rest
+  hit_is OrigA b hit = plain_columns
+  hit_is CutAndB b hit = cut_columns b (a.rest ++ 9 ∷ bed_text b) hit (kept_more a.rest (bed_text b) is.feature.kept) (with_record b hit.0)
+  hit_is OrigBoth b hit = whole_columns a (a.rest ++ 9 ∷ bed_text b) is (kept_more a.rest (bed_text b) is.feature.kept) (with_record b hit.0)
+  hit_is Overlap b hit =
+      whole_columns a (a.rest ++ 9 ∷ (bed_text b ++ 9 ∷ decimal (shared_bases a b))) is (kept_more a.rest (bed_text b ++ 9 ∷ decimal (shared_bases a b)) is.feature.kept)
+      (clear_both a.rest (9 ∷ (bed_text b ++ 9 ∷ decimal (shared_bases a b))) is.clear_rest
+      (clear_tab (bed_text b ++ 9 ∷ decimal (shared_bases a b)) (clear_both (bed_text b) (9 ∷ decimal (shared_bases a b)) (clear_record b hit.0) (clear_tab (decimal (shared_bases a b)) (clear_number (shared_bases a b))))))
+  hit_is Once b hit = plain_columns
+  hit_is Missing b hit = plain_columns
+  hit_is Count b hit = plain_columns
+  hit_is Pieces b hit = plain_columns
+  hit_is Whole b hit = plain_columns
+
+  hits_are : (shape : Shape) (found : List Feature) → AllByRecursion (Hit rule a) found → AllByRecursion IsColumns (map (hit_columns shape a) found)
+  hits_are shape found h = all_map IsColumns (hit_columns shape a) found (all_so (Hit rule a) (λ b. IsColumns (hit_columns shape a b)) found (λ b k. hit_is shape b k) h)
+
+  -- the pieces lie in the record
+  pieces_in : (first : ℕ) (found : List Feature) (ps : List Span) → AreApartFrom first ps → ((p : ℕ) → IsCovered ps p → IsLeft a found p) → AllByRecursion (λ (p : Span). (a.start ≤ p.start) × (p.start < p.stop) × (p.stop ≤ a.stop)) ps
+  pieces_in first found [] apart h = tt
+  pieces_in first found (p ∷ ps) apart h =
+      let begin = h p.start (inl (omega arith, apart.1)) in
+      let last = h (p.stop - 1) (inl (omega (arith, apart.1), omega (arith, apart.1))) in
+      ((begin.from_start, apart.1, omega (arith, last.before_stop, apart.1)), pieces_in (p.stop + 1) found ps apart.2 (λ q c. h q (inr c)))
+
+  pub piece_bounds : (found : List Feature) → AllByRecursion (λ (p : Span). (a.start ≤ p.start) × (p.start < p.stop) × (p.stop ≤ a.stop)) (pieces a found)
+  piece_bounds found = let are = are_pieces a found in pieces_in 0 found (pieces a found) are.apart are.within
+
+  part_is : (shape : Shape) (found : List Feature) → AllByRecursion (Hit rule a) found → AllByRecursion IsColumns (columns_for shape a found)
+  unfolding columns_for piece_columns
+  part_is Cut found h = hits_are Cut found h
+  part_is OrigA found h = hits_are OrigA found h
+  part_is CutAndB found h = hits_are CutAndB found h
+  part_is OrigBoth found h = hits_are OrigBoth found h
+  part_is Overlap found h = hits_are Overlap found h
+  part_is Once [] h = tt
+  part_is Once (b ∷ more) h = (plain_columns, tt)
+  part_is Missing [] h = (plain_columns, tt)
+  part_is Missing (b ∷ more) h = tt
+  part_is Count found h =
+      (whole_columns a (a.rest ++ 9 ∷ decimal (length found)) is (kept_more a.rest (decimal (length found)) is.feature.kept) (clear_both a.rest (9 ∷ decimal (length found)) is.clear_rest (clear_tab (decimal (length found)) (clear_number (length found)))), tt)
+  part_is Pieces found h = all_map IsColumns (piece_columns a) (pieces a found) (all_so (λ (p : Span). (a.start ≤ p.start) × (p.start < p.stop) × (p.stop ≤ a.stop)) (λ p. IsColumns (piece_columns a p)) (pieces a found)
+      (λ p k. said_columns a p.start p.stop a.rest is k.1 k.2 is.feature.kept is.clear_rest) (piece_bounds found))
+  part_is Whole [] h = (plain_columns, tt)
+  part_is Whole (b ∷ more) h = tt
+
+-- ---- which are hits
+
+hits_by : (rule : HitRule) (a b : Feature) (found : List Feature) (c : Bool) → hits rule a b ≡ c → IsSaid b → AllByRecursion (Hit rule a) found → AllByRecursion (Hit rule a) (cond c (b ∷ found) found)
+hits_by rule a b found true e is h = ((is, e), h)
+hits_by rule a b found false e is h = h
+
+pub all_hits : (rule : HitRule) (a : Feature) (bs : List Feature) → AllByRecursion IsSaid bs → AllByRecursion (Hit rule a) (hits_among rule a bs)
+all_hits rule a [] h = tt
+all_hits rule a (b ∷ bs) h = hits_by rule a b (hits_among rule a bs) (hits rule a b) refl h.0 (all_hits rule a bs h.1)
+
+-- ---- where the lines of one record lie, if they begin with it
+
+map_at : (shape : Shape) (a : Feature) (found : List Feature) → ((b : Feature) → (hit_columns shape a b).at ≡ interval_of a) → map (λ line. line.at) (map (hit_columns shape a) found) ≡ replicate (length found) (interval_of a)
+map_at shape a [] h = refl
+map_at shape a (b ∷ bs) h = ap₂ (λ x y. x ∷ y) (h b) (map_at shape a bs h)
+
+part_at : (shape : Shape) (a : Feature) (found : List Feature) → begins_with_a shape ≡ true → map (λ line. line.at) (columns_for shape a found) ≡ replicate (line_count shape (length found)) (interval_of a)
+unfolding columns_for hit_columns
+part_at Cut a found e = cc
+part_at OrigA a found e = map_at OrigA a found (λ b. refl)
+part_at CutAndB a found e = cc
+part_at OrigBoth a found e = map_at OrigBoth a found (λ b. refl)
+part_at Overlap a found e = map_at Overlap a found (λ b. refl)
+part_at Once a [] e = refl
+part_at Once a (b ∷ more) e = refl
+part_at Missing a [] e = refl
+part_at Missing a (b ∷ more) e = refl
+part_at Count a found e = refl
+part_at Pieces a found e = cc
+part_at Whole a [] e = refl
+part_at Whole a (b ∷ more) e = refl
+
+repeated : {A : Type 0} (P : A → Type 0) (n : ℕ) (x : A) → P x → AllByRecursion P (replicate n x)
+repeated P zero x p = tt
+repeated P (suc n) x p = (p, repeated P n x p)
+
+repeated_pairs : {A : Type 0} (R : A → A → Type 0) (n : ℕ) (x : A) → R x x → EachPair R (replicate n x)
+repeated_pairs R zero x p = tt
+repeated_pairs R (suc n) x p = (repeated (R x) n x p, repeated_pairs R n x p)
+
+no_headers : (lines : List Columns) → AllByRecursion (λ (line : Columns). is_header line.at.chrom ≡ false) lines → filter is_no_header (map record_back lines) ≡ map record_back lines
+no_headers lines h = filter_all is_no_header (map record_back lines) (all_map (λ r. is_no_header r ≡ true) record_back lines (all_so (λ (line : Columns). is_header line.at.chrom ≡ false) (λ line. not (is_header line.at.chrom) ≡ true) lines (λ line e. ap not e) h))
+
+pub pairs_of_places : (order : Order) (total : IsTotal order) (as_read : List Feature) → EachPair (UpTo order total) (intervals_of as_read) → EachPair (λ (a b : Feature). UpTo order total (interval_of a) (interval_of b)) as_read
+pairs_of_places order total as_read h = pairs_from_map (UpTo order total) interval_of as_read h
+
+-- the names of all lines are those of records that were read
+part_named : (shape : Shape) (a : Feature) (found : List Feature) → AllByRecursion (λ (line : Columns). line.at.chrom ≡ a.chrom) (columns_for shape a found)
+unfolding columns_for hit_columns piece_columns
+part_named Cut a found = all_map (λ (line : Columns). line.at.chrom ≡ a.chrom) (hit_columns Cut a) found (all_any _ found (λ b. refl))
+part_named OrigA a found = all_map (λ (line : Columns). line.at.chrom ≡ a.chrom) (hit_columns OrigA a) found (all_any _ found (λ b. refl))
+part_named CutAndB a found = all_map (λ (line : Columns). line.at.chrom ≡ a.chrom) (hit_columns CutAndB a) found (all_any _ found (λ b. refl))
+part_named OrigBoth a found = all_map (λ (line : Columns). line.at.chrom ≡ a.chrom) (hit_columns OrigBoth a) found (all_any _ found (λ b. refl))
+part_named Overlap a found = all_map (λ (line : Columns). line.at.chrom ≡ a.chrom) (hit_columns Overlap a) found (all_any _ found (λ b. refl))
+part_named Once a [] = tt
+part_named Once a (b ∷ more) = (refl, tt)
+part_named Missing a [] = (refl, tt)
+part_named Missing a (b ∷ more) = tt
+part_named Count a found = (refl, tt)
+part_named Pieces a found = all_map (λ (line : Columns). line.at.chrom ≡ a.chrom) (piece_columns a) (pieces a found) (all_any _ (pieces a found) (λ p. refl))
+part_named Whole a [] = (refl, tt)
+part_named Whole a (b ∷ more) = tt
+
+module _ (order : Order) (total : IsTotal order) (shape : Shape) (rule : HitRule) (first second : List Feature) (said : AllByRecursion IsSaid first) (said_second : AllByRecursion IsSaid second) (placed : ArePlaced order (intervals_of first)) where
+  lines : List Columns
+  lines = all_columns shape rule second first
+
+  all_are : AllByRecursion IsColumns lines
+  unfolding lines all_columns part
+  all_are = all_flat_map IsColumns (part shape rule second) first (all_so IsSaid (λ a. AllByRecursion IsColumns (part shape rule second a)) first
+      (λ a is. part_is rule a is shape (hits_among rule a second) (all_hits rule a second said_second)) said)
+
+  all_named : AllByRecursion (λ (line : Columns). is_header line.at.chrom ≡ false) lines
+  unfolding lines all_columns part
+  all_named = all_flat_map (λ (line : Columns). is_header line.at.chrom ≡ false) (part shape rule second) first (all_so IsSaid (λ a. AllByRecursion (λ (line : Columns). is_header line.at.chrom ≡ false) (part shape rule second a)) first
+      (λ a is. all_so (λ (line : Columns). line.at.chrom ≡ a.chrom) (λ line. is_header line.at.chrom ≡ false) (columns_for shape a (hits_among rule a second)) (λ line e. ap is_header e ∙ is.no_header) (part_named shape a (hits_among rule a second))) said)
+
+  lines_input : ArePlaced order (map (λ (line : Columns). line.at) lines) → IsInput order (intersect shape rule first second) (map record_back lines)
+  unfolding lines
+  lines_input at =
+      subst (λ text. IsInput order text (map record_back lines)) (sym (text_as shape rule second first))
+      (subst (IsInput order (flat_map line_text lines)) (no_headers lines all_named) (lines_back order total lines all_are at))
+
+  known_all : AllByRecursion (λ (a : Feature). IsTrue (order.knows a.chrom)) first
+  known_all = all_unmap _ interval_of first (placed_known order (intervals_of first) placed)
+
+  -- lines that begin with records of the first input
+  module _ (begins : begins_with_a shape ≡ true) where
+    abbrev copies : Feature → List Interval
+    copies a = replicate (line_count shape (length (hits_among rule a second))) (interval_of a)
+
+    places_are : map (λ (line : Columns). line.at) lines ≡ flat_map copies first
+    unfolding lines all_columns part
+    places_are = map_flat (λ (line : Columns). line.at) (part shape rule second) copies first (λ a. part_at shape a (hits_among rule a second) begins)
+
+    copies_placed : ArePlaced order (flat_map copies first)
+    copies_placed = pairs_placed order total (flat_map copies first)
+        (all_flat_map (λ (r : Interval). IsTrue (order.knows r.chrom)) copies first (all_so (λ (a : Feature). IsTrue (order.knows a.chrom)) (λ a. AllByRecursion (λ (r : Interval). IsTrue (order.knows r.chrom)) (copies a)) first
+        (λ a known. repeated (λ (r : Interval). IsTrue (order.knows r.chrom)) (line_count shape (length (hits_among rule a second))) (interval_of a) known) known_all))
+        (pairs_flat (UpTo order total) copies first
+        (all_any (λ a. EachPair (UpTo order total) (copies a)) first (λ a. repeated_pairs (UpTo order total) (line_count shape (length (hits_among rule a second))) (interval_of a) (inr (refl, omega arith))))
+        (pairs_so (λ a. Unit {0}) (λ a b. UpTo order total (interval_of a) (interval_of b)) (λ a b. AllByRecursion (λ r. AllByRecursion (UpTo order total r) (copies b)) (copies a)) first
+        (λ a b p q up. repeated (λ r. AllByRecursion (UpTo order total r) (copies b)) (line_count shape (length (hits_among rule a second))) (interval_of a) (repeated (UpTo order total (interval_of a)) (line_count shape (length (hits_among rule b second))) (interval_of b) up))
+        (all_any (λ a. Unit {0}) first (λ a. tt)) (pairs_of_places order total first (placed_pairs order total (intervals_of first) placed))))
+
+    pub kept_back : IsInput order (intersect shape rule first second) (map record_back (all_columns shape rule second first))
+    unfolding lines
+    kept_back = lines_input (subst (ArePlaced order) (sym places_are) copies_placed)
+
+-- ---- lines whose start and end are cut, of records that have no base in common
+
+apart_some : (first : ℕ) (spans : List Span) → AreApartFrom first spans → AllByRecursion (λ (s : Span). s.start < s.stop) spans
+apart_some first [] h = tt
+apart_some first (s ∷ ss) h = (h.1, apart_some (s.stop + 1) ss h.2)
+
+pairs_zip : {A : Type 0} (R S : A → A → Type 0) (xs : List A) → EachPair R xs → EachPair S xs → EachPair (λ x y. R x y × S x y) xs
+pairs_zip R S [] h k = tt
+pairs_zip R S (x ∷ xs) h k = (all_zip (R x) (S x) (λ y. R x y × S x y) xs (λ y r s. (r, s)) h.0 k.0, pairs_zip R S xs h.1 k.1)
+
+-- a line lies within the record
+pub record IsWithin (a : Feature) (line : Columns) : Type 0 where
+  pub same : line.at.chrom ≡ a.chrom
+  pub from_start : a.start ≤ line.at.start
+  pub non_empty : line.at.start < line.at.stop
+  pub to_stop : line.at.stop ≤ a.stop
+
+cut_within : (rule : HitRule) (a b : Feature) (tail : List ℕ) → Hit rule a b → IsWithin a (columns_at (cut a b) tail)
+cut_within rule a b tail hit = record { same = refl; from_start = omega arith; non_empty = cut_bounds rule a b hit.1; to_stop = omega arith }
+
+part_within : (shape : Shape) (rule : HitRule) (a : Feature) (is : IsSaid a) (found : List Feature) → begins_with_a shape ≡ false → AllByRecursion (Hit rule a) found → AllByRecursion (IsWithin a) (columns_for shape a found)
+unfolding columns_for hit_columns piece_columns
+part_within Cut rule a is found e h = all_map (IsWithin a) (hit_columns Cut a) found (all_so (Hit rule a) (λ b. IsWithin a (hit_columns Cut a b)) found (λ b k. cut_within rule a b a.rest k) h)
+part_within CutAndB rule a is found e h = all_map (IsWithin a) (hit_columns CutAndB a) found (all_so (Hit rule a) (λ b. IsWithin a (hit_columns CutAndB a b)) found (λ b k. cut_within rule a b (a.rest ++ 9 ∷ bed_text b) k) h)
+part_within Pieces rule a is found e h = all_map (IsWithin a) (piece_columns a) (pieces a found) (all_so (λ (p : Span). (a.start ≤ p.start) × (p.start < p.stop) × (p.stop ≤ a.stop)) (λ p. IsWithin a (piece_columns a p)) (pieces a found)
+    (λ p k. record { same = refl; from_start = k.0; non_empty = k.1; to_stop = k.2 }) (piece_bounds rule a is found))
+part_within OrigA rule a is found e h = cc
+part_within OrigBoth rule a is found e h = cc
+part_within Overlap rule a is found e h = cc
+part_within Once rule a is found e h = cc
+part_within Missing rule a is found e h = cc
+part_within Count rule a is found e h = cc
+part_within Whole rule a is found e h = cc
+
+-- starts that don't fall
+abbrev Rise : Feature → Feature → Type 0
+Rise b c = b.start ≤ c.start
+
+module _ (order : Order) (total : IsTotal order) where
+  rise_by : (name : List ℕ) (b c : Feature) → IsTrue (order.knows name) → b.chrom ≡ name → c.chrom ≡ name → UpTo order total (interval_of b) (interval_of c) → Rise b c
+  rise_by name b c known one two (inl less) =
+      let equal : order.compare b.chrom c.chrom ≡ Equal = rw (one, two) (total.same name known) in
+      let both : Less ≡ Equal = sym less ∙ equal in absurd (cc)
+  rise_by name b c known one two (inr same) = same.1
+
+  hits_rise : (rule : HitRule) (a : Feature) (bs : List Feature) → IsTrue (order.knows a.chrom) → AllByRecursion IsSaid bs → ArePlaced order (intervals_of bs) → EachPair Rise (hits_among rule a bs)
+  hits_rise rule a bs known said placed =
+      pairs_so (Hit rule a) (λ b c. UpTo order total (interval_of b) (interval_of c)) Rise (hits_among rule a bs)
+      (λ b c p q up. rise_by a.chrom b c known (sym (same_name rule a b p.1)) (sym (same_name rule a c q.1)) up)
+      (all_hits rule a bs said) (pairs_filter (λ b c. UpTo order total (interval_of b) (interval_of c)) (hits rule a) bs (pairs_of_places order total bs (placed_pairs order total (intervals_of bs) placed)))
+
+  abbrev LineUpTo : Columns → Columns → Type 0
+  LineUpTo k l = UpTo order total k.at l.at
+
+  part_rises : (shape : Shape) (a : Feature) (found : List Feature) → begins_with_a shape ≡ false → EachPair Rise found → EachPair LineUpTo (columns_for shape a found)
+  unfolding columns_for hit_columns piece_columns
+  part_rises Cut a found e h = pairs_map LineUpTo (hit_columns Cut a) found (pairs_so (λ b. Unit {0}) Rise (λ b c. LineUpTo (hit_columns Cut a b) (hit_columns Cut a c)) found (λ b c p q up. inr (refl, omega (arith, up))) (all_any (λ b. Unit {0}) found (λ b. tt)) h)
+  part_rises CutAndB a found e h = pairs_map LineUpTo (hit_columns CutAndB a) found (pairs_so (λ b. Unit {0}) Rise (λ b c. LineUpTo (hit_columns CutAndB a b) (hit_columns CutAndB a c)) found (λ b c p q up. inr (refl, omega (arith, up))) (all_any (λ b. Unit {0}) found (λ b. tt)) h)
+  part_rises Pieces a found e h =
+      pairs_map LineUpTo (piece_columns a) (pieces a found) (pairs_so (λ (s : Span). s.start < s.stop) (λ (s t : Span). s.stop < t.start) (λ s t. LineUpTo (piece_columns a s) (piece_columns a t)) (pieces a found) (λ s t p q up. inr (refl, omega (arith, p, up)))
+      (apart_some 0 (pieces a found) (are_pieces a found).apart) (apart_pairs 0 (pieces a found) (are_pieces a found).apart))
+  part_rises OrigA a found e h = cc
+  part_rises OrigBoth a found e h = cc
+  part_rises Overlap a found e h = cc
+  part_rises Once a found e h = cc
+  part_rises Missing a found e h = cc
+  part_rises Count a found e h = cc
+  part_rises Whole a found e h = cc
+
+  abbrev FollowsApart : Feature → Feature → Type 0
+  FollowsApart a b = UpTo order total (interval_of a) (interval_of b) × AreDisjoint (interval_of a) (interval_of b)
+
+  cross_up : (a b : Feature) (k l : Columns) → FollowsApart a b → IsWithin a k → IsWithin b l → LineUpTo k l
+  cross_up a b k l ((inl less), apart) one two = inl (rw (one.same, two.same) less)
+  cross_up a b k l ((inr same), apart) one two =
+      inr (one.same ∙ same.0 ∙ sym two.same, omega (arith, apart same.0, one.non_empty, one.to_stop, two.from_start))
+
+  cross_apart : (a b : Feature) (k l : Columns) → FollowsApart a b → IsWithin a k → IsWithin b l → AreDisjoint k.at l.at
+  cross_apart a b k l follows one two same = omega (arith, follows.1 (sym one.same ∙ same ∙ two.same), one.to_stop, two.from_start)
+
+  module _ (shape : Shape) (rule : HitRule) (first second : List Feature) (said : AllByRecursion IsSaid first) (said_second : AllByRecursion IsSaid second) (placed : ArePlaced order (intervals_of first)) (placed_second : ArePlaced order (intervals_of second))
+      (apart : EachPair AreDisjoint (intervals_of first)) (cuts : begins_with_a shape ≡ false) where
+    abbrev cut_part : Feature → List Columns
+    cut_part a = columns_for shape a (hits_among rule a second)
+
+    all_within : AllByRecursion (λ a. AllByRecursion (IsWithin a) (cut_part a)) first
+    all_within = all_so IsSaid (λ a. AllByRecursion (IsWithin a) (cut_part a)) first (λ a is. part_within shape rule a is (hits_among rule a second) cuts (all_hits rule a second said_second)) said
+
+    follow_apart : EachPair FollowsApart first
+    follow_apart = pairs_zip (λ a b. UpTo order total (interval_of a) (interval_of b)) (λ a b. AreDisjoint (interval_of a) (interval_of b)) first (pairs_of_places order total first (placed_pairs order total (intervals_of first) placed)) (pairs_from_map AreDisjoint interval_of first apart)
+
+    cross_all : (R : Columns → Columns → Type 0) → ((a b : Feature) (k l : Columns) → FollowsApart a b → IsWithin a k → IsWithin b l → R k l) → EachPair (λ a b. AllByRecursion (λ k. AllByRecursion (R k) (cut_part b)) (cut_part a)) first
+    cross_all R f = pairs_so (λ a. AllByRecursion (IsWithin a) (cut_part a)) FollowsApart (λ a b. AllByRecursion (λ k. AllByRecursion (R k) (cut_part b)) (cut_part a)) first
+        (λ a b one two follows. all_so (IsWithin a) (λ k. AllByRecursion (R k) (cut_part b)) (cut_part a) (λ k w. all_so (IsWithin b) (R k) (cut_part b) (λ l v. f a b k l follows w v) two) one) all_within follow_apart
+
+    cut_lines : List Columns
+    cut_lines = flat_map cut_part first
+
+    cut_pairs : EachPair LineUpTo cut_lines
+    unfolding cut_lines
+    cut_pairs = pairs_flat LineUpTo cut_part first
+        (all_so (λ (a : Feature). IsTrue (order.knows a.chrom)) (λ a. EachPair LineUpTo (cut_part a)) first (λ a known. part_rises shape a (hits_among rule a second) cuts (hits_rise rule a second known said_second placed_second)) (all_unmap _ interval_of first (placed_known order (intervals_of first) placed)))
+        (cross_all LineUpTo cross_up)
+
+    cut_placed : ArePlaced order (map (λ (line : Columns). line.at) cut_lines)
+    unfolding cut_lines
+    cut_placed = pairs_placed order total (map (λ (line : Columns). line.at) cut_lines)
+        (all_map (λ (r : Interval). IsTrue (order.knows r.chrom)) (λ (line : Columns). line.at) cut_lines
+        (all_flat_map (λ (line : Columns). IsTrue (order.knows line.at.chrom)) cut_part first (all_zip (λ a. AllByRecursion (IsWithin a) (cut_part a)) (λ (a : Feature). IsTrue (order.knows a.chrom)) (λ a. AllByRecursion (λ (line : Columns). IsTrue (order.knows line.at.chrom)) (cut_part a)) first
+        (λ a within known. all_so (IsWithin a) (λ (line : Columns). IsTrue (order.knows line.at.chrom)) (cut_part a) (λ line w. subst (λ name. IsTrue (order.knows name)) (sym w.same) known) within) all_within (all_unmap _ interval_of first (placed_known order (intervals_of first) placed)))))
+        (pairs_map (UpTo order total) (λ (line : Columns). line.at) cut_lines cut_pairs)
+
+  pub cut_back : (shape : Shape) (rule : HitRule) (first second : List Feature) (said : AllByRecursion IsSaid first) (said_second : AllByRecursion IsSaid second) (placed : ArePlaced order (intervals_of first)) (placed_second : ArePlaced order (intervals_of second))
+      (apart : EachPair AreDisjoint (intervals_of first)) (cuts : begins_with_a shape ≡ false) → IsInput order (intersect shape rule first second) (map record_back (all_columns shape rule second first))
+  unfolding cut_lines lines all_columns part
+  cut_back shape rule first second said said_second placed placed_second apart cuts =
+      lines_input order total shape rule first second said said_second placed (cut_placed shape rule first second said said_second placed placed_second apart cuts)
+
+  -- pieces of records that have no base in common have none
+  pub pieces_back : (rule : HitRule) (first second : List Feature) → AllByRecursion IsSaid first → AllByRecursion IsSaid second → ArePlaced order (intervals_of first) → ArePlaced order (intervals_of second)
+      → EachPair AreDisjoint (intervals_of first) → EachPair AreDisjoint (intervals_of (map record_back (all_columns Pieces rule second first)))
+  unfolding cut_lines lines all_columns part columns_for piece_columns
+  pieces_back rule first second said said_second placed placed_second apart =
+      let cut = cut_lines Pieces rule first second said said_second placed placed_second apart refl in
+      subst (EachPair AreDisjoint) (sym (map_map record_back interval_of (λ line. line.at) cut (all_any _ cut (λ line. refl))))
+      (pairs_map AreDisjoint (λ (line : Columns). line.at) cut
+      (pairs_flat (λ k l. AreDisjoint k.at l.at) (λ a. map (piece_columns a) (pieces a (hits_among rule a second))) first
+      (all_any _ first (λ a. pairs_map (λ k l. AreDisjoint k.at l.at) (piece_columns a) (pieces a (hits_among rule a second))
+      (pairs_so (λ p. Unit {0}) (λ (s t : Span). s.stop < t.start) (λ s t. AreDisjoint (piece_columns a s).at (piece_columns a t).at) (pieces a (hits_among rule a second)) (λ s t p q up same. omega (arith, up)) (all_any (λ p. Unit {0}) (pieces a (hits_among rule a second)) (λ p. tt))
+      (apart_pairs 0 (pieces a (hits_among rule a second)) (are_pieces a (hits_among rule a second)).apart))))
+      (cross_all Pieces rule first second said said_second placed placed_second apart refl (λ k l. AreDisjoint k.at l.at) cross_apart)))

@@ -1,2 +1,0 @@
--- Lemmas on reports.
-pub mod Division

@@ -1,0 +1,409 @@
+-- Lemmas on lines, records and their orders.
+use Rattle.bt_lines.proofs.Std.{◌≡◌, ℕ, Bool, true, false, cond, List, [], ◌∷◌, Option, Some, None, Result, Ok, Err, refl, sym, ap, ◌∙◌, ⊤, ◌≢◌, IfSome, nat_lt, length, arith, zero, suc, ◌+◌, ◌<◌, ◌≤◌, take, ◌++◌, append_assoc, append-nil, IfErr, ◌==◌, ◌||◌, ltb, leb, decimal, lt-ltb, nat_tests, decimal_is_IsNumeral, All-cons, digit_from_value, is_ascii_digit, IsInRange, AllByRecursion, list_all, AllDigits, digits_value, false≢true, nat_cmp_total, tied_itself, slice_cmp, nat_cmp, ordering_then, IsTrue, ◌⊎◌, inl, inr, bytes_eq, or_parts, or_from}
+use Rattle.bt_lines.specs.model.Fault.{FaultValue, read_failed}
+use Rattle.bt_lines.specs.model.Lines.{cut_fault, lines_handed, TextLine, pieces, value_of, text_lines, AreNumbered}
+use Rattle.bt_lines.specs.declared.fault.Input.{Input}
+use Rattle.bt_lines.specs.declared.fault.Kind.{Kind}
+use Rattle.bt_lines.specs.declared.fault.Kind.TheVariants.{EmptyFeature, OutOfOrder, UnknownChrom}
+use Rattle.bt_bed.specs.model.Feature.{Feature, is_header, columns_say, feature_of, not_skipped, record_of, ends_word, first_word, is_header_word, IsFeature, bed_text, columns_in, kept_columns, said_are_features, Interval, last_from}
+use Rattle.bt_bed.specs.model.Good.{Good, good_from, good_with, or_else, line_says, locus_at, said_after, block_format, block_good, bed_format, Rule, join_report, written}
+use Rattle.bt_laws.specs.Records.{blocks_know_each_chromosome, good_stand_on_lines, first_lines_have_the_first, good_in_blocks_are_non_empty, good_in_blocks_stand_on_lines, genome_names_are_distinct, first_lines_make_entries, read_are_rewritten, written_are_read, StaysDecided, bytes_know_each_chromosome, first_difference_decides, prefixes_come_first, HasBase, HasShared, shared_are_common, stretches_are_one, contiguous_grows}
+use Rattle.bt_bed.specs.model.Sorted.{Locus, block_sorting, falls_in, sorting_of, has_records, IsFollowed, AreContiguous}
+use Rattle.bt_lines.proofs.lemmas.reader.lines.TextLemmas.{lines_are_numbered, IsColumn, IsInside}
+use Rattle.bt_bed.proofs.lemmas.read.good.SaidLemmas.{ascend_from, first_from, within_from}
+use Rattle.bt_bed.proofs.lemmas.Definitions.{non_empty_from, met_lines, written_at, stretches_are_same}
+use Rattle.bt_bed.specs.calls.Reading.{IsFaultBeyond}
+use Rattle.bt_bed.specs.model.Order.{AreDistinct, byte_order}
+use Rattle.bt_bed.specs.model.Genome.{Entry, genome_names, genome_from, genome_with, new_entry, entry_of, with_entry}
+use Rattle.bt_bed.proofs.lemmas.order.TableLemmas.{distinct_push, is_new, ok_entries}
+use Rattle.bt_laws.specs.Parts.{joined}
+use Rattle.bt_bed.proofs.lemmas.read.ColumnLemmas.{kept_again}
+use Rattle.bt_bed.proofs.lemmas.parse.FeatureLemmas.{columns_of_line, record_said, said_is_feature, said_stands, whole, of_word, kept_is_cut, pieces_are_columns}
+use Rattle.std.specs.declared.cmp.Ordering.TheVariants.{Less}
+use Rattle.bt_bed.proofs.lemmas.parse.NameLemmas.{name_ne, name_ne-sym}
+use Rattle.bt_bed.proofs.lemmas.order.OrderLemmas.{has_records-last}
+
+-- In blocks no chromosome is unknown.
+
+is_other : Kind → Bool
+is_other UnknownChrom = false
+is_other _ = true
+
+abbrev Other : {T : Type 0} → Result T Kind → Type 0
+Other (Ok x) = ⊤
+Other (Err kind) = is_other kind ≡ true
+
+abbrev Tells : Option FaultValue → Type 0
+Tells None = ⊤
+Tells (Some fault) = is_other fault.kind ≡ true
+
+based : (t : Bool) (r : Feature) → Other (cond t (Ok r) (Err EmptyFeature))
+unfolding is_other
+based true r = tt
+based false r = refl
+
+feature_other : (chrom : List ℕ) (start stop : Option ℕ) (rest : List (List ℕ)) → Other (feature_of chrom start stop rest)
+unfolding is_other
+feature_other [] start stop rest = refl
+feature_other (b ∷ bs) None stop rest = refl
+feature_other (b ∷ bs) (Some start) None rest = refl
+feature_other (b ∷ bs) (Some start) (Some stop) rest = based (nat_lt start stop) _
+
+columns_other : (columns : List (List ℕ)) → Other (columns_say columns)
+unfolding is_other
+columns_other [] = refl
+columns_other (a ∷ []) = refl
+columns_other (a ∷ b ∷ []) = refl
+columns_other (a ∷ b ∷ c ∷ rest) = feature_other a (value_of b) (value_of c) rest
+
+skipped_other : (r : Result Feature Kind) → Other r → Other (not_skipped r)
+skipped_other (Ok x) h = tt
+skipped_other (Err kind) h = h
+
+header_other : (t : Bool) (r : Result (Option Feature) Kind) → Other r → Other (cond t (Ok None) r)
+header_other true r h = tt
+header_other false r h = h
+
+record_other : (text : List ℕ) → Other (record_of text)
+unfolding record_of
+record_other text = header_other (is_header text) (not_skipped (columns_say (pieces 9 text))) (skipped_other (columns_say (pieces 9 text)) (columns_other (pieces 9 text)))
+
+placed_other : (t : Bool) (r : Feature) → Other (cond t (Err OutOfOrder) (Ok (Some r)))
+unfolding is_other
+placed_other true r = refl
+placed_other false r = tt
+
+said_other : (last : Option Locus) (said : Result (Option Feature) Kind) → Other said → Other (said_after block_sorting last said)
+said_other last (Err kind) h = h
+said_other last (Ok None) h = tt
+said_other last (Ok (Some r)) h = placed_other (falls_in block_sorting last (locus_at r)) r
+
+line_other : (last : Option Locus) (text : List ℕ) → Other (line_says block_sorting last text)
+unfolding line_says
+line_other last text = said_other last (record_of text) (record_other text)
+
+with_other : (input : Input) (line : ℕ) (last : Option Locus) (said : Result (Option Feature) Kind) (rest : Option Locus → Good Feature) → Other said → ((now : Option Locus) → Tells (rest now).fault)
+    → Tells (good_with block_format input line last said rest).fault
+with_other input line last (Err kind) rest h k = h
+with_other input line last (Ok None) rest h k = k last
+with_other input line last (Ok (Some r)) rest h k = k (Some (locus_at r))
+
+from_other : (input : Input) (last : Option Locus) (lines : List TextLine) → Tells (good_from block_format input last lines).fault
+unfolding good_from
+from_other input last [] = tt
+from_other input last (line ∷ lines) =
+    with_other input line.number last (line_says block_sorting last line.text) (λ now. good_from block_format input now lines) (line_other last line.text) (λ now. from_other input now lines)
+
+else_other : (one other : Option FaultValue) → Tells one → Tells other → Tells (or_else one other)
+else_other None other h k = k
+else_other (Some fault) other h k = h
+
+cut_by : (t : Bool) (input : Input) (line : ℕ) → Tells (cond t (Some (read_failed input line)) None)
+unfolding is_other
+cut_by true input line = refl
+cut_by false input line = tt
+
+never_unknown : (fault : Option FaultValue) → Tells fault → IfSome fault (λ fault. fault.kind ≢ UnknownChrom)
+unfolding is_other
+never_unknown None h = tt
+never_unknown (Some fault) h = λ e. absurd (let apart : true ≡ false = sym h ∙ ap is_other e in cc)
+
+pub each_known : blocks_know_each_chromosome
+each_known input handed =
+    never_unknown (block_good input handed).fault
+    (else_other (good_from block_format input None (lines_handed handed)).fault (cut_fault input handed) (from_other input None (lines_handed handed)) (cut_by handed.is_cut input _))
+
+-- Lemmas on the lines and the bases of good records.
+
+-- each is on a line of the text
+pub good_on_lines : good_stand_on_lines
+good_on_lines input order text =
+    let lines = text_lines text in
+    let numbered = lines_are_numbered 1 text in (
+      ascend_from (bed_format (sorting_of order)) input 1 None lines numbered,
+      within_from (bed_format (sorting_of order)) input (length lines) 1 None lines numbered (omega arith),
+    )
+
+pub first_have_first : first_lines_have_the_first
+first_have_first input order count text past rest fault e up beyond =
+    first_from (bed_format (sorting_of order)) input count count 1 None (text_lines text) past rest fault (omega arith) (lines_are_numbered 1 text)
+    (ap (λ (g : Good Feature). g.members) e) (ap (λ (g : Good Feature). g.fault) e) up beyond
+
+pub good_blocks_non_empty : good_in_blocks_are_non_empty
+good_blocks_non_empty input handed = non_empty_from input block_sorting None (lines_handed handed)
+
+pub good_blocks_on_lines : good_in_blocks_stand_on_lines
+good_blocks_on_lines input text =
+    let lines = text_lines text in
+    let numbered = lines_are_numbered 1 text in (
+      ascend_from block_format input 1 None lines numbered,
+      within_from block_format input (length lines) 1 None lines numbered (omega arith),
+    )
+
+-- Lemmas on the entries of a genome file.
+
+abbrev KeepsDistinct : List (List ℕ) → Result (List Entry) FaultValue → Type 0
+KeepsDistinct names result = (entries : List Entry) → result ≡ Ok entries → AreDistinct (names ++ genome_names entries)
+
+distinct_with : (input : Input) (line : TextLine) (names : List (List ℕ)) (rest : List (List ℕ) → Result (List Entry) FaultValue) → AreDistinct names
+    → ((now : List (List ℕ)) → AreDistinct now → KeepsDistinct now (rest now))
+    → (said : Result (Option Entry) Kind) → new_entry names (entry_of line.text) ≡ said → KeepsDistinct names (genome_with input line.number names said rest)
+distinct_with input line names rest d h (Err kind) was entries e = cc
+distinct_with input line names rest d h (Ok None) was entries e = h names d entries e
+distinct_with input line names rest d h (Ok (Some entry)) was entries e =
+    let parts = ok_entries entry (rest (names ++ entry.name ∷ [])) entries e in
+    let new = is_new names (entry_of line.text) entry was in
+    let more = h (names ++ entry.name ∷ []) (distinct_push names entry.name d new) parts.0 parts.1 in
+    let joined : names ++ genome_names entries ≡ (names ++ entry.name ∷ []) ++ genome_names parts.0 =
+    ap (λ l. names ++ genome_names l) parts.2 ∙ sym (append_assoc names (entry.name ∷ []) (genome_names parts.0)) in
+    rw joined more
+
+distinct_from : (input : Input) (names : List (List ℕ)) (lines : List TextLine) → AreDistinct names → KeepsDistinct names (genome_from input names lines)
+unfolding genome_from
+distinct_from input names [] d entries e =
+    let none : entries ≡ [] = cc in
+    rw (none, append-nil) d
+distinct_from input names (line ∷ lines) d entries e =
+    distinct_with input line names (λ now. genome_from input now lines) d (λ now fresh. distinct_from input now lines fresh) (new_entry names (entry_of line.text)) refl entries e
+
+-- no chromosome of a genome file comes twice
+pub distinct_genome : genome_names_are_distinct
+distinct_genome input lines entries e = distinct_from input [] lines tt entries e
+
+first_with : (input : Input) (count number : ℕ) (names : List (List ℕ)) (said : Result (Option Entry) Kind) (whole taken : List (List ℕ) → Result (List Entry) FaultValue) → number ≤ count
+    → ((now : List (List ℕ)) → IfErr (whole now) (IsFaultBeyond count) → (entries : List Entry) × (taken now ≡ Ok entries))
+    → IfErr (genome_with input number names said whole) (IsFaultBeyond count) → (entries : List Entry) × (genome_with input number names said taken ≡ Ok entries)
+first_with input count number names (Err kind) whole taken low h beyond = absurd (let high : count < number = beyond in omega arith)
+first_with input count number names (Ok None) whole taken low h beyond = h names beyond
+first_with input count number names (Ok (Some entry)) whole taken low h beyond =
+    let now = names ++ entry.name ∷ [] in
+    let more = h now (err_behind count entry (whole now) beyond) in
+    (entry ∷ more.0, ap (with_entry entry) more.1)
+  where
+    err_behind : (count : ℕ) (entry : Entry) (result : Result (List Entry) FaultValue) → IfErr (with_entry entry result) (IsFaultBeyond count) → IfErr result (IsFaultBeyond count)
+    err_behind count entry (Ok entries) beyond = tt
+    err_behind count entry (Err fault) beyond = beyond
+
+-- if the fault, if there is one, lies after the first lines, these have none
+pub first_entries_from : (input : Input) (more count number : ℕ) (names : List (List ℕ)) (lines : List TextLine) → suc count ≡ number + more → AreNumbered number lines
+    → IfErr (genome_from input names lines) (IsFaultBeyond count) → (entries : List Entry) × (genome_from input names (take more lines) ≡ Ok entries)
+unfolding genome_from
+first_entries_from input zero count number names lines size n beyond = ([], refl)
+first_entries_from input (suc more) count number names [] size n beyond = ([], refl)
+first_entries_from input (suc more) count number names (line ∷ lines) size n beyond =
+    let same = n.0 in
+    first_with input count line.number names (new_entry names (entry_of line.text)) (λ now. genome_from input now lines) (λ now. genome_from input now (take more lines)) (omega arith)
+    (λ now later. first_entries_from input more count (suc number) now lines (omega arith) n.1 later) beyond
+
+pub first_make_entries : first_lines_make_entries
+first_make_entries input count text beyond = first_entries_from input count count 1 [] (text_lines text) (omega arith) (lines_are_numbered 1 text) beyond
+
+-- What a line says is said by its bytes, written anew.
+
+-- a decimal digit is a digit and no tab
+in_range_digit : (c : ℕ) → IsInRange 48 57 c → is_ascii_digit c ≡ true
+in_range_digit c h = grind (arith, nat_tests)
+
+in_range_inside : (c : ℕ) → IsInRange 48 57 c → IsInside c
+in_range_inside c h = grind (arith, nat_tests)
+
+digits_pass : (ds : List ℕ) → AllDigits 10 ds → list_all is_ascii_digit ds ≡ true
+digits_pass [] h = refl
+digits_pass (c ∷ cs) h = rw (in_range_digit c (digit_from_value c h.0), digits_pass cs h.1) refl
+
+digits_are_column : (ds : List ℕ) → AllDigits 10 ds → IsColumn ds
+digits_are_column [] h = λ k d l. absurd (omega arith)
+digits_are_column (c ∷ cs) h = All-cons IsInside c cs (in_range_inside c (digit_from_value c h.0)) (digits_are_column cs h.1)
+
+-- the digits of a number denote it
+value_of_text : (text : List ℕ) (n : ℕ) → 0 < length text → AllDigits 10 text → digits_value 10 text ≡ n → n ≤ 999999999999 → value_of text ≡ Some n
+unfolding value_of
+value_of_text text n some digits e small =
+    let here : ltb 0 (length text) ≡ true = grind (arith, nat_tests) in
+    let within : leb n 999999999999 ≡ true = grind (arith, nat_tests) in
+    rw (here, digits_pass text digits, e, within) refl
+
+value_of_decimal : (n : ℕ) → n ≤ 999999999999 → value_of (decimal n) ≡ Some n
+value_of_decimal n small = let d = decimal_is_IsNumeral n (omega arith) in value_of_text (decimal n) n d.0.0 d.0.1 d.1 small
+
+decimal_is_column : (n : ℕ) → n ≤ 999999999999 → IsColumn (decimal n)
+decimal_is_column n small = digits_are_column (decimal n) (decimal_is_IsNumeral n (omega arith)).0.1
+
+rest_are_columns : (rest : List ℕ) → AllByRecursion IsColumn (columns_in rest)
+rest_are_columns [] = tt
+rest_are_columns (byte ∷ bytes) = pieces_are_columns bytes
+
+of_numbers : (chrom : List ℕ) (start stop : ℕ) (rest : List (List ℕ)) → 0 < length chrom → start < stop → feature_of chrom (Some start) (Some stop) rest ≡ Ok (whole chrom start stop rest)
+of_numbers [] start stop rest some below = absurd (omega arith)
+of_numbers (byte ∷ bytes) start stop rest some below = rw (lt-ltb start stop below) refl
+
+-- the columns of a record's bytes
+columns_of_text : (f : Feature) → IsFeature f → pieces 9 (bed_text f) ≡ f.chrom ∷ decimal f.start ∷ decimal f.stop ∷ columns_in f.rest
+columns_of_text f is =
+    let small : f.start ≤ 999999999999 = omega (arith, is.non_empty, is.in_range) in
+    let text : bed_text f ≡ f.chrom ++ kept_columns (decimal f.start ∷ decimal f.stop ∷ columns_in f.rest) =
+    ap (λ l. f.chrom ++ 9 ∷ [] ++ decimal f.start ++ 9 ∷ [] ++ decimal f.stop ++ l) (sym (kept_again f.rest is.kept)) ∙ simp append_assoc in
+    ap (pieces 9) text
+    ∙ kept_is_cut f.chrom (decimal f.start ∷ decimal f.stop ∷ columns_in f.rest) is.named.one_column
+    (decimal_is_column f.start small, (decimal_is_column f.stop is.in_range, rest_are_columns f.rest))
+
+-- a feature is made of its columns
+whole_again : (f : Feature) → IsFeature f → whole f.chrom f.start f.stop (columns_in f.rest) ≡ f
+whole_again f is = ap (λ s. record { chrom = f.chrom; start = f.start; stop = f.stop; strand = s; rest = kept_columns (columns_in f.rest) }) (sym is.stranded)
+    ∙ ap (λ r. record { chrom = f.chrom; start = f.start; stop = f.stop; strand = f.strand; rest = r }) (kept_again f.rest is.kept)
+
+text_says : (f : Feature) → IsFeature f → columns_say (pieces 9 (bed_text f)) ≡ Ok f
+text_says f is =
+    let small : f.start ≤ 999999999999 = omega (arith, is.non_empty, is.in_range) in
+    ap columns_say (columns_of_text f is)
+    ∙ ap (λ v. feature_of f.chrom v (value_of (decimal f.stop)) (columns_in f.rest)) (value_of_decimal f.start small)
+    ∙ ap (λ v. feature_of f.chrom (Some f.start) v (columns_in f.rest)) (value_of_decimal f.stop is.in_range)
+    ∙ of_numbers f.chrom f.start f.stop (columns_in f.rest) is.named.some is.non_empty
+    ∙ ap Ok (whole_again f is)
+
+pub said_feature : said_are_features
+said_feature text f e = said_is_feature text f (record_said text f e).1
+
+pub written_feature : written_are_read
+written_feature f is header = columns_of_line (bed_text f) header ∙ ap not_skipped (text_says f is)
+
+-- what follows a tab doesn't change the first word
+until_tab : (chrom tail : List ℕ) → first_word (chrom ++ 9 ∷ tail) ≡ first_word chrom
+until_tab [] tail = refl
+until_tab (byte ∷ chrom) tail =
+    of_word byte (chrom ++ 9 ∷ tail) (ends_word byte) refl ∙ ap (λ l. cond (ends_word byte) [] (byte ∷ l)) (until_tab chrom tail)
+    ∙ sym (of_word byte chrom (ends_word byte) refl)
+
+-- whether a line is a header is said before its first tab
+header_until_tab : (chrom one other : List ℕ) → is_header (chrom ++ 9 ∷ one) ≡ is_header (chrom ++ 9 ∷ other)
+header_until_tab [] one other = refl
+header_until_tab (byte ∷ chrom) one other =
+    ap (λ word. (byte == 35) || is_header_word word) (until_tab (byte ∷ chrom) one ∙ sym (until_tab (byte ∷ chrom) other))
+
+no_header_again : (text : List ℕ) (f : Feature) (between : List ℕ) → text ≡ (f.chrom ++ 9 ∷ between) ++ f.rest → is_header (bed_text f) ≡ is_header text
+no_header_again text f between e =
+    let old : text ≡ f.chrom ++ 9 ∷ (between ++ f.rest) = e ∙ simp append_assoc in
+    let new : bed_text f ≡ f.chrom ++ 9 ∷ (decimal f.start ++ 9 ∷ (decimal f.stop ++ f.rest)) = simp append_assoc in
+    ap is_header new ∙ header_until_tab f.chrom (decimal f.start ++ 9 ∷ (decimal f.stop ++ f.rest)) (between ++ f.rest) ∙ ap is_header (sym old)
+
+pub rewritten_feature : read_are_rewritten
+rewritten_feature text f e =
+    let s = record_said text f e in
+    let stands = said_stands text f s.1 in
+    written_feature f (said_is_feature text f s.1) (no_header_again text f stands.0 stands.1 ∙ s.0)
+
+-- Lemmas on what is written early of two inputs.
+
+module _ {A L F : Type 0} where
+  begin_at : (early late : Rule A L F) (a : A) (members more : List A) (d : Bool) → early.decided a ≡ d → StaysDecided early late a
+      → (rest : List L) × (written late (members ++ more) ≡ written early members ++ rest)
+      → (rest : List L) × (written late (a ∷ members ++ more) ≡ written early (a ∷ members) ++ rest)
+  begin_at early late a members more true e stays rest =
+      let now = stays e in (
+        rest.0,
+        written_at late a (members ++ more) true now.0
+            ∙ ap (λ l. l ++ written late (members ++ more)) (sym now.1)
+            ∙ ap (λ l. early.lines a ++ l) rest.1
+            ∙ sym (append_assoc (early.lines a) (written early members) rest.0)
+            ∙ ap (λ l. l ++ rest.0) (sym (written_at early a members true e)),
+      )
+  begin_at early late a members more false e stays rest =
+      (written late (a ∷ members ++ more), ap (λ l. l ++ written late (a ∷ members ++ more)) (sym (written_at early a members false e)))
+
+  begins : (early late : Rule A L F) (members more : List A) → AllByRecursion (StaysDecided early late) members
+      → (rest : List L) × (written late (members ++ more) ≡ written early members ++ rest)
+  begins early late [] more stays = (written late more, refl)
+  begins early late (a ∷ members) more stays = begin_at early late a members more (early.decided a) refl stays.0 (begins early late members more stays.1)
+
+  pub written_begins : (early late : Rule A L F) (members more : List A) (fault : Option F) → AllByRecursion (StaysDecided early late) members
+      → (rest : List L) × ((join_report late (members ++ more) fault).lines ≡ written early members ++ rest)
+  written_begins early late members more fault stays =
+      let rest = begins early late members more stays in
+      (rest.0, met_lines late (members ++ more) fault ∙ rest.1)
+
+-- The order of names by their bytes: which of two names comes first.
+
+-- equal first bytes leave the others to decide
+same_first : (byte : ℕ) (left right : List ℕ) → byte_order.compare (byte ∷ left) (byte ∷ right) ≡ byte_order.compare left right
+same_first byte left right = ap (λ o. ordering_then o (slice_cmp nat_cmp left right)) (tied_itself nat_cmp_total byte)
+
+pub less_cmp : (a b : ℕ) → a < b → nat_cmp a b ≡ Less
+less_cmp a b h = rw (lt-ltb a b h) refl
+
+pub prefix_first : prefixes_come_first
+prefix_first [] byte rest = refl
+prefix_first (b ∷ name) byte rest = same_first b name (name ++ byte ∷ rest) ∙ prefix_first name byte rest
+
+pub difference_decides : first_difference_decides
+difference_decides [] low high left right less = ap (λ o. ordering_then o (slice_cmp nat_cmp left right)) (less_cmp low high less)
+difference_decides (b ∷ front) low high left right less =
+    same_first b (front ++ low ∷ left) (front ++ high ∷ right) ∙ difference_decides front low high left right less
+
+pub know_each : bytes_know_each_chromosome
+know_each kind of_bed is = let unknown = of_bed.1 is in false≢true (sym unknown.1)
+
+-- Lemmas on the bases of intervals.
+
+both_share : (a b : Interval) (chrom : List ℕ) (p : ℕ) → HasBase a chrom p → HasBase b chrom p → HasShared a b chrom p
+both_share a b chrom p first second = record {
+  first = first.same;
+  second = second.same;
+  from_start = omega (arith, first.from_start, second.from_start);
+  before_stop = omega (arith, first.before_stop, second.before_stop);
+}
+
+shared_first : (a b : Interval) (chrom : List ℕ) (p : ℕ) → HasShared a b chrom p → HasBase a chrom p
+shared_first a b chrom p both = record {
+  same = both.first;
+  from_start = omega (arith, both.from_start);
+  before_stop = omega (arith, both.before_stop);
+}
+
+shared_second : (a b : Interval) (chrom : List ℕ) (p : ℕ) → HasShared a b chrom p → HasBase b chrom p
+shared_second a b chrom p both = record {
+  same = both.second;
+  from_start = omega (arith, both.from_start);
+  before_stop = omega (arith, both.before_stop);
+}
+
+-- the shared bases are the common ones
+pub common_bases : shared_are_common
+common_bases a b chrom p = (λ (first, second). both_share a b chrom p first second, λ both. (shared_first a b chrom p both, shared_second a b chrom p both))
+
+pub one_list : stretches_are_one
+one_list test xs ys a b = stretches_are_same (λ p. IsTrue (test p)) xs ys a b
+
+-- Lemmas on contiguous records, and on records in a total order of their chromosomes.
+
+has_records-push : (name : List ℕ) (xs : List Interval) (r : Interval) → has_records name xs ≡ false → bytes_eq r.chrom name ≡ false → has_records name (xs ++ r ∷ []) ≡ false
+has_records-push name [] r f g = or_from (bytes_eq r.chrom name) false g refl
+has_records-push name (x ∷ xs) r f g =
+    let parts = or_parts (bytes_eq x.chrom name) (has_records name xs) f in
+    or_from (bytes_eq x.chrom name) (has_records name (xs ++ r ∷ [])) parts.0 (has_records-push name xs r parts.1 g)
+
+-- the next of a past in order: what the last record asks of it, it asks of all
+grows_from : (q : Interval) (qs : List Interval) (r : Interval) → AreContiguous (q ∷ qs) → ((r.chrom ≡ (last_from q qs).chrom) × ((last_from q qs).start ≤ r.start)) ⊎ (has_records r.chrom (q ∷ qs) ≡ false) → AreContiguous (q ∷ qs ++ r ∷ [])
+grows_from q [] r t next = (
+  elim next [
+    | inl same ↦ inl same
+    | inr new ↦ inr (or_from (bytes_eq r.chrom q.chrom) false (name_ne-sym q.chrom r.chrom (or_parts (bytes_eq q.chrom r.chrom) false new).0) refl)
+  ],
+  (tt, tt),
+)
+grows_from q (s ∷ ss) r t next =
+    let later : ((r.chrom ≡ (last_from s ss).chrom) × ((last_from s ss).start ≤ r.start)) ⊎ (has_records r.chrom (s ∷ ss) ≡ false) = elim next [
+      | inl same ↦ inl same
+      | inr new ↦ inr (or_parts (bytes_eq q.chrom r.chrom) (has_records r.chrom (s ∷ ss)) new).1
+    ] in
+    let first : IsFollowed q (s ∷ ss ++ r ∷ []) = elim t.0 [
+      | inl same ↦ inl same
+      | inr gone ↦ inr (has_records-push q.chrom (s ∷ ss) r gone (elim next [
+        | inl same ↦ name_ne r.chrom q.chrom (λ e. false≢true (sym gone ∙ ap (λ name. has_records name (s ∷ ss)) (sym e ∙ same.0) ∙ has_records-last s ss))
+        | inr new ↦ name_ne-sym q.chrom r.chrom (or_parts (bytes_eq q.chrom r.chrom) (has_records r.chrom (s ∷ ss)) new).0
+      ]))
+    ] in
+    (first, grows_from s ss r t.1 later)
+
+pub grows_contiguous : contiguous_grows
+grows_contiguous [] r t next = (tt, tt)
+grows_contiguous (q ∷ qs) r t next = grows_from q qs r t next

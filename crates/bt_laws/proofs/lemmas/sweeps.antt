@@ -1,5 +1,0 @@
--- Lemmas on sweeps.
-pub mod EarlyLemmas
-pub mod FirstLemmas
-pub mod LimitLemmas
-pub mod QuietLemmas

@@ -1,4 +1,0 @@
--- Sums, pairs and bases.
-pub mod DepthSum
-pub mod PairSides
-pub mod PartBases

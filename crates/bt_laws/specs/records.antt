@@ -1,4 +1,0 @@
--- Lines, records and their orders.
-pub mod Features
-pub mod Inputs
-pub mod Orders

@@ -1,2 +1,0 @@
--- Command lines.
-pub mod OptionLaws

@@ -1,4 +1,0 @@
--- Alignments and masked sequences.
-pub mod Cigars
-pub mod Masks
-pub mod Owners

@@ -1,2 +1,0 @@
--- Lemmas on device.
-pub mod ScriptLemmas

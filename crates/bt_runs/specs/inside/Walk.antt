@@ -1,0 +1,211 @@
+-- How an engine goes through records and chromosomes.
+use Rattle.std.specs.Prelude.{◌≡◌, ℕ, ◌+◌, ◌<◌, ⊤, Bool, false, cond, List, [], ◌∷◌, ◌++◌, length, get_or, flat_map, bytes_eq, slice_range, Option, Some, None, ◌⊎◌, Result, Ok, Err, max, min, nat_lt}
+use Rattle.bt_bed.specs.model.Feature.{Feature, Interval}
+use Rattle.bt_bed.specs.model.Genome.{Entry, genome_names}
+use Rattle.bt_bed.specs.model.Sorted.{Locus}
+use Rattle.bt_bed.specs.model.Order.{rank_of}
+use Rattle.bt_lines.specs.model.Fault.{no_memory}
+use Rattle.bt_lines.specs.calls.Names.{fault_value}
+use Rattle.bt_lines.specs.calls.Output.{Output, Adds, FailsToAdd, Grown}
+use Rattle.bt_lines.specs.declared.fault.Fault.{Fault}
+use Rattle.bt_runs.specs.calls.Engine.{AfterEach, AtEnd}
+
+-- How an engine goes through the chromosomes of a genome file, in their order, exactly: which one
+-- it has reached, and what one more record settles.
+
+-- what an engine says of one chromosome: T are the items that it writes, and S is what it knows
+-- of a chromosome that it has reached
+pub record Walk (T S : Type 0) : Type 0 where
+  -- the items of a chromosome without records, and what is known before its first
+  pub bare : Entry → List T
+  pub fresh : S
+  -- the items that are left
+  pub left : Entry → S → List T
+  -- the items that one more record settles, and what is known with it
+  pub step : Entry → S → Feature → List T
+  pub after : Entry → S → Feature → S
+
+-- the chromosome of a rank
+abbrev pub entry_at : List Entry → ℕ → Entry
+entry_at entries rank = get_or entries rank (record { name = []; length = 0 })
+
+-- the chromosome that was reached, by its rank, and what is known of it
+pub record Place (S : Type 0) : Type 0 where
+  pub rank : ℕ
+  pub known : S
+
+-- one that was reached is the one that has its name
+pub record IsPlaced (entries : List Entry) (rank : ℕ) : Type 0 where
+  pub within : rank < length entries
+  pub named : rank_of (genome_names entries) (entry_at entries rank).name ≡ Some rank
+
+-- if one was reached, it is so
+abbrev pub AreReached : {S : Type 0} → List Entry → Option (Place S) → Type 0
+AreReached entries None = ⊤
+AreReached entries (Some place) = IsPlaced entries place.rank
+
+-- and it has this name
+pub record IsNamed (entries : List Entry) (rank : ℕ) (name : List ℕ) : Type 0 where
+  pub placed : IsPlaced entries rank
+  pub is : (entry_at entries rank).name ≡ name
+
+-- how many chromosomes have begun
+abbrev pub begun : {S : Type 0} → Option (Place S) → ℕ
+begun None = 0
+begun (Some place) = place.rank + 1
+
+-- whether the chromosome of this name is the one that was reached
+abbrev pub is_on : {S : Type 0} → List Entry → Option (Place S) → List ℕ → Bool
+is_on entries None name = false
+is_on entries (Some place) name = bytes_eq (entry_at entries place.rank).name name
+
+-- the position up to which it is known, on the chromosome that was reached, if one was
+abbrev pub places : {S : Type 0} → (S → ℕ) → List Entry → Option (Place S) → List Locus
+places to entries None = []
+places to entries (Some place) =
+    record { chrom = (entry_at entries place.rank).name; start = to place.known } ∷ []
+
+-- what is left of the chromosome that was reached, if one was
+abbrev pub left_of : {T S : Type 0} → (Entry → S → List T) → List Entry → Option (Place S) → List T
+left_of left entries None = []
+left_of left entries (Some place) = left (entry_at entries place.rank) place.known
+
+-- what is left before the chromosome of a rank
+abbrev pub left_before : {T S : Type 0} → (Entry → S → List T) → (Entry → List T) → List Entry
+    → Option (Place S) → ℕ → List T
+left_before left bare entries current stop =
+    left_of left entries current ++ flat_map bare (slice_range entries (begun current) stop)
+
+module _ {T S : Type 0} (walk : Walk T S) (entries : List Entry) where
+  -- what is reached on the way to a chromosome, and what is settled on it
+  abbrev pub going_at : Option (Place S) → Option ℕ → Option (Place S) × List T
+  going_at current None = (None, [])
+  going_at current (Some rank) = (
+    Some (record { rank = rank; known = walk.fresh }),
+    left_before walk.left walk.bare entries current rank,
+  )
+
+  abbrev pub going : Option (Place S) → List ℕ → Option (Place S) × List T
+  going current name =
+      cond (is_on entries current name) (current, [])
+      (going_at current (rank_of (genome_names entries) name))
+
+  -- one more record on the chromosome that was reached
+  abbrev pub taking : Place S → Feature → Place S × List T
+  taking place r =
+      let entry = entry_at entries place.rank in (
+        record { rank = place.rank; known = walk.after entry place.known r },
+        walk.step entry place.known r,
+      )
+
+  -- one more record: what is reached with it, and what it settles. A record of an unknown
+  -- chromosome changes nothing
+  abbrev pub step_from : Option (Place S) → Feature → Option (Place S) × List T
+      → Option (Place S) × List T
+  step_from current r (None, items) = (current, items)
+  step_from current r (Some place, items) = (Some (taking place r).0, items ++ (taking place r).1)
+
+  abbrev pub walk_step : Option (Place S) → Feature → Option (Place S) × List T
+  walk_step current r = step_from current r (going current r.chrom)
+
+-- What the rule of an engine does: one record after another, and the chromosomes between them.
+
+module _ {E : Type 0} (lines : E → Feature → List ℕ) (has : E → Feature → E → Type 0) (wants : E → Feature → Type 0) where
+  -- what is done with a record, exactly: its lines are put, and then the rule has taken it, or memory ran out that was needed
+  abbrev pub Does : E → Feature → Output → Result (Unit {0}) Fault → E → Output → Type 0
+  Does old r out (Ok done) new grown = has old r new × Grown out (lines old r) grown
+  Does old r out (Err fault) new grown =
+      FailsToAdd out (lines old r) (fault_value fault) grown
+      ⊎ ((fault_value fault ≡ no_memory) × (wants old r × Grown out (lines old r) grown))
+
+  module _ (MayTake : E → List Feature → Type 0) (Stands : E → List Feature → E → Type 0) (settled : E → List Feature → List ℕ)
+      (Quiet : E → List Feature → Feature → Type 0) where
+    -- what that means after every past
+    pub record FitsPast (old : E) (r : Feature) : Type 0 where
+      -- the lines are those that the record settles
+      pub settles : AfterEach MayTake Stands old r (λ first past.
+          settled first (past ++ r ∷ []) ≡ settled first past ++ lines old r)
+      -- a rule that has taken the record is as after all of the past and the record
+      pub next : (new : E) → has old r new → AfterEach MayTake Stands old r (λ first past. Stands first (past ++ r ∷ []) new)
+      -- a quiet record has no lines, and needs no memory
+      pub quiet : AfterEach MayTake Stands old r (λ first past.
+          Quiet first past r → (lines old r ≡ []) × (wants old r → ⊥))
+
+    -- what is done with a record, exactly and after every past
+    pub record Taken (old : E) (r : Feature) (out : Output) (result : Result (Unit {0}) Fault) (new : E) (grown : Output) : Type 0 where
+      pub does : Does old r out result new grown
+      pub fits : FitsPast old r
+
+    -- entering a chromosome: what is done with a record on it afterwards is what would have been done with it before
+    abbrev pub EnterAnswers : E → List ℕ → Output → Result (Unit {0}) Fault → E → Output → Type 0
+    EnterAnswers old chrom out (Ok done) new grown =
+        (r : Feature) → r.chrom ≡ chrom → (result : Result (Unit {0}) Fault) (next : E) (later : Output)
+        → Does new r grown result next later → Taken old r out result next later
+    EnterAnswers old chrom out (Err fault) new grown =
+        (r : Feature) → r.chrom ≡ chrom → Taken old r out (Err fault) new grown
+
+-- the end of the input: the lines that are left are put
+pub record PutsRestAtEnd {E A : Type 0} (MayTake : E → List Feature → Type 0) (Stands : E → List Feature → E → Type 0)
+    (settled whole : E → List Feature → List ℕ) (last : E) (out : Output) (result : Result A Fault) (grown : Output) : Type 0 where
+  pub left : List ℕ
+  pub is : AtEnd MayTake Stands last (λ first past. whole first past ≡ settled first past ++ left)
+  pub adds : Adds out left result grown
+
+module _ {E : Type 0} (does : E → Feature → Output → Result (Unit {0}) Fault → E → Output → Type 0) where
+  -- records were taken one after another
+  abbrev pub DoesEach : E → Output → List Feature → E → Output → Type 0
+  DoesEach old out [] new grown = (new ≡ old) × (grown ≡ out)
+  DoesEach old out (r ∷ records) new grown =
+      (mid : E) × (through : Output) × does old r out (Ok tt) mid through
+      × DoesEach mid through records new grown
+
+  module _ {C : Type 0} (gives : C → List Feature → C → Type 0) (has_ended : C → Type 0) (old : E) (cursor : C)
+      (out : Output) where
+    -- all records that the cursor gives were taken
+    pub record DoesAll (new : E) (passed : C) (grown : Output) : Type 0 where
+      pub records : List Feature
+      pub given : gives cursor records passed
+      pub ended : has_ended passed
+      pub each : DoesEach old out records new grown
+
+    -- those before the last one that was given were taken, and that one wasn't
+    pub record DoesUpTo (fault : Fault) (new : E) (passed : C) (grown : Output) : Type 0 where
+      pub records : List Feature
+      pub before : C
+      pub given : gives cursor records before
+      pub mid : E
+      pub through : Output
+      pub each : DoesEach old out records mid through
+      pub r : Feature
+      pub last : gives before (r ∷ []) passed
+      pub fails : does mid r through (Err fault) new grown
+
+    -- what the loop over a cursor does
+    abbrev pub Follows : Result (Unit {0}) Fault → E → C → Output → Type 0
+    Follows (Ok done) new passed grown = DoesAll new passed grown
+    Follows (Err fault) new passed grown = DoesUpTo fault new passed grown
+
+-- The gaps that a complement writes as records come, exactly.
+
+-- a gap of a chromosome, if it has a base
+abbrev pub gap_between : List ℕ → ℕ → ℕ → List Interval
+gap_between name start stop =
+    cond (nat_lt start stop) (record { chrom = name; start = start; stop = stop } ∷ []) []
+
+-- the last gap of a chromosome
+abbrev pub last_gap : Entry → ℕ → List Interval
+last_gap entry end = gap_between entry.name end entry.length
+
+-- a chromosome without records: all of it, or nothing with -L
+abbrev pub bare_gap : Bool → Entry → List Interval
+bare_gap limit entry = cond limit [] (last_gap entry 0)
+
+-- a record settles the gap before it, and is taken out of the last one
+abbrev pub gap_walk : Bool → Walk Interval ℕ
+gap_walk limit = record {
+  bare = bare_gap limit;
+  fresh = 0;
+  left = last_gap;
+  step = λ entry end r. gap_between entry.name end (min r.start entry.length);
+  after = λ entry end r. max end (min r.stop entry.length);
+}

@@ -1,0 +1,558 @@
+-- Lemmas on SAM lines and on blocks.
+use Rattle.bt_lines.proofs.Std.{◌≡◌, ℕ, ◌+◌, ◌≤◌, Bool, true, false, List, [], ◌∷◌, ◌++◌, length, Option, Some, None, refl, sym, ap, ◌∙◌, arith, cond, append-nil, add-zero, append_assoc, flat_map, nat_lt, not, false≢true, nat_tests, sum_by-cons, sum_by_push, take_while-cons, ◌<◌, take, drop, get_or, option_map, length-append, length-take, IfSome, is_ascii_digit, list_all, list_all_more, digits_value, and_parts, take-append-drop, take_more, drop_more, take-append-le, get_or_append_left, take_all, ◌-◌, zero, suc, min, ◌||◌, map, list_any, list_any-append, Result, Ok, Err, subst, nat_le, bytes_eq, bytes_decides, ⊤, flat_map-append}
+use Rattle.bt_bed.specs.model.Feature.{Span, Feature}
+use Rattle.bt_seq.specs.model.Alignment.{begins_block, block_at, blocks_in, blocks_of, cuts, is_skip, up_to_skip, with_bases, covered_by, operations_in, reference_length, with_operation, Part, is_letter, onto_part, operation_of, each_operation, parts_of, with_part, span_with, Alignment, Fields, alignment_of, columns_say, fields_of, fields_say, is_skipped, value_up_to, length_of, is_sam_kind, sam_kinds_are_of_lines, wrong_have_sam_kinds}
+use Rattle.bt_seq.specs.inside.Sam.{none_left, FitBehind, fit_behind}
+use Rattle.bt_seq.specs.declared.sam.operation.Operation.{Operation}
+use Rattle.std.specs.Prelude.{option_and_then}
+use Rattle.bt_lines.proofs.lemmas.numbers.NumberLemmas.{digits_below, digits_denoting, value_of_digits, value_of_empty, value_of_large, value_of_other, value_short}
+use Rattle.bt_lines.specs.model.Lines.{value_of, pieces}
+use Rattle.bt_seq.specs.model.Masked.{masked_byte, Block, Owned, block_decides, block_with, blocks_by, items_if_last, left_by, own_records, owned, owned_from}
+use Rattle.bt_seq.specs.inside.Window.{has_position, masked_in}
+use Rattle.bt_seq.specs.declared.mask.mask_how.MaskHow.{MaskHow}
+use Rattle.bt_seq.specs.declared.sam.extent.Extent.{Extent}
+use Rattle.bt_lines.specs.declared.fault.Kind.{Kind}
+use Rattle.bt_lines.specs.declared.fault.Kind.TheVariants.{TooFewColumns}
+use Rattle.bt_seq.proofs.lemmas.definitions.KnowsLemmas.{is_last, leave}
+
+-- The blocks of an alignment, as they are found in one pass over its operations.
+
+-- the blocks of operations, of which the first begins here and has come so far
+abbrev pub open_blocks : ℕ → ℕ → List Operation → List Span
+open_blocks start stop [] = with_bases start stop
+open_blocks start stop (operation ∷ operations) =
+    cond (is_skip operation) (with_bases start stop ++ open_blocks (stop + operation.length) (stop + operation.length) operations) (open_blocks start (stop + covered_by operation) operations)
+
+abbrev pub open_in : ℕ → ℕ → Option (List Operation) → List Span
+open_in start stop None = []
+open_in start stop (Some operations) = open_blocks start stop operations
+
+no_bases : (n m : ℕ) → n ≡ m → with_bases n m ≡ []
+no_bases n m e = let none : nat_lt n m ≡ false = grind (arith, nat_tests) in rw none refl
+
+begins_push : (before : List Operation) (operation : Operation) → begins_block (before ++ operation ∷ []) ≡ is_skip operation
+begins_push [] operation = refl
+begins_push (x ∷ []) operation = refl
+begins_push (x ∷ y ∷ ys) operation = begins_push (y ∷ ys) operation
+
+length_push : (before : List Operation) (operation : Operation) → reference_length (before ++ operation ∷ []) ≡ reference_length before + covered_by operation
+length_push before operation = sum_by_push covered_by before operation
+
+-- an N covers all of its number
+pub skip_covers : (operation : Operation) → is_skip operation ≡ true → covered_by operation ≡ operation.length
+skip_covers operation e = grind (arith, nat_tests)
+
+up_by : (b : Bool) (operation : Operation) (rest : List Operation) → reference_length (cond (not b) (operation ∷ rest) []) ≡ cond b 0 (covered_by operation + reference_length rest)
+up_by true operation rest = refl
+up_by false operation rest = sum_by-cons covered_by operation rest
+
+-- how far the operations up to the next N go
+up_length : (operation : Operation) (operations : List Operation) → reference_length (up_to_skip (operation ∷ operations)) ≡ cond (is_skip operation) 0 (covered_by operation + reference_length (up_to_skip operations))
+up_length operation operations =
+    ap reference_length (take_while-cons (λ o. not (is_skip o)) operation operations) ∙ up_by (is_skip operation) operation (up_to_skip operations)
+
+-- the block that is open, if none begins here
+abbrev still_open : Bool → ℕ → ℕ → List Operation → List Span
+still_open b start at operations = cond b [] (with_bases start (at + reference_length (up_to_skip operations)))
+
+-- the block that is open, or the one that begins here
+one_open : (b : Bool) (s start at : ℕ) (before operations : List Operation) → at ≡ s + reference_length before → begins_block before ≡ b → (b ≡ true → start ≡ at)
+    → still_open b start at operations ++ block_at s (record { before = before; behind = operations }) ≡ with_bases start (at + reference_length (up_to_skip operations))
+one_open b s start at before operations e begins same = grind arith
+
+-- one more operation
+open_more : (operation : Operation) (operations : List Operation) (start at : ℕ) (found : List Span) (k : Bool) → is_skip operation ≡ k
+    → (is_skip operation ≡ true → found ≡ open_blocks (at + operation.length) (at + operation.length) operations)
+    → (is_skip operation ≡ false → with_bases start (at + covered_by operation + reference_length (up_to_skip operations)) ++ found ≡ open_blocks start (at + covered_by operation) operations)
+    → with_bases start (at + cond k 0 (covered_by operation + reference_length (up_to_skip operations))) ++ found
+    ≡ cond k (with_bases start at ++ open_blocks (at + operation.length) (at + operation.length) operations) (open_blocks start (at + covered_by operation) operations)
+open_more operation operations start at found k e skipped more = grind (arith, nat_tests)
+
+module _ (s : ℕ) where
+  found_open : (operations before : List Operation) (b : Bool) (start at : ℕ) → at ≡ s + reference_length before → begins_block before ≡ b → (b ≡ true → start ≡ at)
+      → still_open b start at operations ++ flat_map (block_at s) (cuts before operations) ≡ open_blocks start at operations
+  found_open [] before b start at e begins same =
+      ap (λ l. still_open b start at [] ++ l) (append-nil (block_at s (record { before = before; behind = [] })))
+      ∙ one_open b s start at before [] e begins same ∙ ap (with_bases start) (add-zero at)
+  found_open (operation ∷ operations) before b start at e begins same =
+      let found = flat_map (block_at s) (cuts (before ++ operation ∷ []) operations) in
+      let more : at + covered_by operation ≡ s + reference_length (before ++ operation ∷ []) = omega (arith, length_push before operation) in
+      let skipped : is_skip operation ≡ true → found ≡ open_blocks (at + operation.length) (at + operation.length) operations =
+      λ k. found_open operations (before ++ operation ∷ []) true (at + operation.length) (at + operation.length) (ap (λ n. at + n) (sym (skip_covers operation k)) ∙ more) (begins_push before operation ∙ k) (λ h. refl) in
+      let going : is_skip operation ≡ false → with_bases start (at + covered_by operation + reference_length (up_to_skip operations)) ++ found ≡ open_blocks start (at + covered_by operation) operations =
+      λ k. found_open operations (before ++ operation ∷ []) false start (at + covered_by operation) more (begins_push before operation ∙ k) (λ h. absurd (false≢true h)) in
+      sym (append_assoc (still_open b start at (operation ∷ operations)) (block_at s (record { before = before; behind = operation ∷ operations })) found)
+      ∙ ap (λ l. l ++ found) (one_open b s start at before (operation ∷ operations) e begins same)
+      ∙ ap (λ n. with_bases start (at + n) ++ found) (up_length operation operations)
+      ∙ open_more operation operations start at found (is_skip operation) refl skipped going
+
+-- the blocks are those that are found in one pass
+pub blocks_open : (start : ℕ) (operations : List Operation) → blocks_of start operations ≡ open_blocks start start operations
+unfolding blocks_of
+blocks_open start operations = found_open start operations [] true start start (sym (add-zero start)) refl (λ h. refl)
+
+pub blocks_open_in : (start : ℕ) (operations : Option (List Operation)) → blocks_in start operations ≡ open_in start start operations
+blocks_open_in start None = refl
+blocks_open_in start (Some operations) = blocks_open start operations
+
+-- an N ends the block
+module _ (start stop : ℕ) (operation : Operation) where
+  pub block_ends : (more : Option (List Operation)) → is_skip operation ≡ true → FitBehind stop (with_operation (Some operation) more)
+      → open_in start stop (with_operation (Some operation) more) ≡ with_bases start stop ++ blocks_in (stop + operation.length) more
+  block_ends None k h = absurd (false≢true h)
+  block_ends (Some operations) k h = rw k (ap (λ l. with_bases start stop ++ l) (sym (blocks_open (stop + operation.length) operations)))
+
+-- no operation is left
+pub block_is_last : (start stop : ℕ) (rest : List ℕ) → operations_in rest ≡ none_left rest → FitBehind stop (operations_in rest)
+    → open_in start stop (operations_in rest) ≡ with_bases start stop ++ blocks_in stop (operations_in rest)
+block_is_last start stop [] e h =
+    rw e (sym (ap (λ l. with_bases start stop ++ l) (blocks_open stop [] ∙ no_bases stop stop refl) ∙ append-nil (with_bases start stop)))
+block_is_last start stop (byte ∷ bytes) e h = absurd (false≢true (sym (ap (fit_behind stop) e) ∙ h))
+
+-- an empty text has no blocks
+pub no_blocks : (start : ℕ) (rest : List ℕ) → length rest ≡ 0 → blocks_in start (operations_in rest) ≡ []
+unfolding operations_in
+no_blocks start [] e = blocks_open start [] ∙ no_bases start start refl
+no_blocks start (byte ∷ bytes) e = absurd (omega arith)
+
+pub is_skip_by : (operation : Operation) → operation.letter ≡ 78 → is_skip operation ≡ true
+is_skip_by operation e = grind (arith, nat_tests)
+
+-- an empty text has operations, none of them
+pub nothing_fits : (start : ℕ) → start ≤ 999999999999 → FitBehind start (operations_in [])
+unfolding operations_in
+nothing_fits start small = grind (arith, nat_tests)
+
+-- Lemmas on the operations of a CIGAR.
+
+-- no digit is a letter of an operation
+pub digit_no_letter : (byte : ℕ) → is_ascii_digit byte ≡ true → is_letter byte ≡ false
+digit_no_letter byte digit = grind (arith, nat_tests)
+
+-- some bytes before the first of the parts
+abbrev onto_front : List ℕ → Option (List Part) → Option (List Part)
+onto_front [] parts = parts
+onto_front (byte ∷ bytes) parts = onto_part byte (onto_front bytes parts)
+
+-- none of these is a letter
+abbrev pub no_letters : List ℕ → Bool
+no_letters bytes = list_all (λ byte. cond (is_letter byte) false true) bytes
+
+flipped : (b : Bool) → cond b false true ≡ true → b ≡ false
+flipped b e = grind arith
+
+parts_behind : (front rest : List ℕ) → no_letters front ≡ true → parts_of (front ++ rest) ≡ onto_front front (parts_of rest)
+parts_behind [] rest e = refl
+parts_behind (byte ∷ bytes) rest e =
+    let p = and_parts (cond (is_letter byte) false true) (no_letters bytes) e in
+    let no : is_letter byte ≡ false = flipped (is_letter byte) p.0 in
+    rw (no, parts_behind bytes rest p.1) refl
+
+-- digits before the parts, of which the first begins so
+onto_some : (front : List ℕ) (part : Part) (parts : List Part)
+    → onto_front front (Some (part ∷ parts)) ≡ Some (record { digits = front ++ part.digits; letter = part.letter } ∷ parts)
+onto_some [] part parts = refl
+onto_some (byte ∷ bytes) part parts = rw (onto_some bytes part parts) refl
+
+onto_none : (front : List ℕ) → onto_front front None ≡ None
+onto_none [] = refl
+onto_none (byte ∷ bytes) = rw (onto_none bytes) refl
+
+onto_nothing : (byte : ℕ) (bytes : List ℕ) → onto_front (byte ∷ bytes) (Some []) ≡ None
+onto_nothing byte [] = refl
+onto_nothing byte (b ∷ bs) = rw (onto_nothing b bs) refl
+
+-- a prefix without letters that no number begins with
+no_number_by : (byte : ℕ) (bytes : List ℕ) (parts : Option (List Part)) → ((more : List ℕ) → value_of ((byte ∷ bytes) ++ more) ≡ None)
+    → option_and_then each_operation (onto_front (byte ∷ bytes) parts) ≡ None
+no_number_by byte bytes None none = rw (onto_none (byte ∷ bytes)) refl
+no_number_by byte bytes (Some []) none = rw (onto_nothing byte bytes) refl
+no_number_by byte bytes (Some (part ∷ parts)) none = rw (onto_some (byte ∷ bytes) part parts, none part.digits) refl
+
+pub no_number : (front rest : List ℕ) → 0 < length front → no_letters front ≡ true → ((more : List ℕ) → value_of (front ++ more) ≡ None) → operations_in (front ++ rest) ≡ None
+unfolding operations_in
+no_number [] rest some e none = absurd (omega arith)
+no_number (byte ∷ bytes) rest some e none =
+    ap (option_and_then each_operation) (parts_behind (byte ∷ bytes) rest e) ∙ no_number_by byte bytes (parts_of rest) none
+
+-- digits and the letter after them
+operation_by : (digits : List ℕ) (letter : ℕ) (parts : Option (List Part)) → option_and_then each_operation (onto_front digits (with_part (record { digits = []; letter = letter }) parts))
+    ≡ with_operation (operation_of (record { digits = digits; letter = letter })) (option_and_then each_operation parts)
+operation_by digits letter None = rw (onto_none digits) (cases (value_of digits))
+  where
+    cases : (value : Option ℕ) → None ≡ with_operation (option_map (λ length. record { length = length; letter = letter }) value) None
+    cases None = refl
+    cases (Some value) = refl
+operation_by digits letter (Some parts) = rw (onto_some digits (record { digits = []; letter = letter }) parts, append-nil digits) refl
+
+pub first_operation_is : (digits : List ℕ) (letter : ℕ) (rest : List ℕ) → no_letters digits ≡ true → is_letter letter ≡ true
+    → operations_in (digits ++ letter ∷ rest) ≡ with_operation (operation_of (record { digits = digits; letter = letter })) (operations_in rest)
+unfolding operations_in
+first_operation_is digits letter rest e is =
+    ap (option_and_then each_operation) (parts_behind digits (letter ∷ rest) e ∙ ap (onto_front digits) (rw is refl)) ∙ operation_by digits letter (parts_of rest)
+
+none_left_some : (text : List ℕ) → 0 < length text → none_left text ≡ None
+none_left_some text some = grind arith
+
+-- digits aren't letters
+pub digits_no_letters : (bytes : List ℕ) → list_all is_ascii_digit bytes ≡ true → no_letters bytes ≡ true
+digits_no_letters [] e = refl
+digits_no_letters (byte ∷ bytes) e =
+    let p = and_parts (is_ascii_digit byte) (list_all is_ascii_digit bytes) e in
+    rw (digit_no_letter byte p.0, digits_no_letters bytes p.1) refl
+
+cut_there : (text : List ℕ) (n : ℕ) → n < length text → text ≡ take n text ++ get_or text n 0 ∷ drop (n + 1) text
+cut_there text n inside = sym (take-append-drop n text) ∙ ap (λ l. take n text ++ l) (drop_more text n 0 inside)
+
+-- digits, and the letter of an operation after them
+pub first_is : (text : List ℕ) (value end letter : ℕ) → end < length text → 0 < end → value ≡ digits_value 10 (take end text) → list_all is_ascii_digit (take end text) ≡ true
+    → value ≤ 999999999999 → letter ≡ get_or text end 0 → is_letter letter ≡ true
+    → operations_in text ≡ with_operation (Some (record { length = value; letter = letter })) (operations_in (drop (end + 1) text))
+first_is text value end letter inside some is digits small at named =
+    let size : 0 < length (take end text) = omega (arith, length-take end text) in
+    let low : digits_value 10 (take end text) ≤ 999999999999 = rw (← is) small in
+    let number : value_of (take end text) ≡ Some value = sym (value_of_digits (take end text) size digits low) ∙ ap Some (sym is) in
+    let cut : text ≡ take end text ++ letter ∷ drop (end + 1) text = cut_there text end inside ∙ ap (λ b. take end text ++ b ∷ drop (end + 1) text) (sym at) in
+    let first = first_operation_is (take end text) letter (drop (end + 1) text) (digits_no_letters (take end text) digits) named in
+    ap operations_in cut ∙ first ∙ ap (λ v. with_operation (option_map (λ length. record { length = length; letter = letter }) v) (operations_in (drop (end + 1) text))) number
+
+-- a letter without a number
+pub bare_letter : (text : List ℕ) → 0 < length text → is_letter (get_or text 0 0) ≡ true → operations_in text ≡ none_left text
+bare_letter [] some named = absurd (omega arith)
+bare_letter (byte ∷ bytes) some named = first_operation_is [] byte bytes refl named ∙ rw (sym (value_of_empty [] refl)) refl
+
+-- digits, and a byte after them that is neither a digit nor a letter
+pub other_byte : (text : List ℕ) (end : ℕ) → end < length text → list_all is_ascii_digit (take end text) ≡ true → is_ascii_digit (get_or text end 0) ≡ false
+    → is_letter (get_or text end 0) ≡ false → operations_in text ≡ none_left text
+other_byte text end inside digits no_digit no_letter =
+    let front = take (end + 1) text in
+    let size : length front ≡ end + 1 = omega (arith, length-take (end + 1) text) in
+    let at : (more : List ℕ) → get_or (front ++ more) end 0 ≡ get_or text end 0 =
+    λ more. get_or_append_left front more 0 end (omega arith) ∙ get_or_front text end inside in
+    let clear : no_letters front ≡ true = rw (list_all_more (λ byte. cond (is_letter byte) false true) text end 0 inside, digits_no_letters (take end text) digits, no_letter) refl in
+    let none : (more : List ℕ) → value_of (front ++ more) ≡ None =
+    λ more. sym (value_of_other (front ++ more) end (omega (arith, length-append front more)) (ap is_ascii_digit (at more) ∙ no_digit)) in
+    ap operations_in (sym (take-append-drop (end + 1) text)) ∙ no_number front (drop (end + 1) text) (omega arith) clear none
+    ∙ sym (none_left_some text (omega arith))
+  where
+    get_or_front : (text : List ℕ) (end : ℕ) → end < length text → get_or (take (end + 1) text) end 0 ≡ get_or text end 0
+    get_or_front text end inside = sym (get_or_append_left (take (end + 1) text) (drop (end + 1) text) 0 end (omega (arith, length-take (end + 1) text))) ∙ ap (λ l. get_or l end 0) (take-append-drop (end + 1) text)
+
+-- a text that begins with no digit
+pub no_operation_at_all : (text : List ℕ) (end : ℕ) → end ≡ 0 → end < length text → is_ascii_digit (get_or text end 0) ≡ false → operations_in text ≡ none_left text
+no_operation_at_all text end e inside no_digit = by (is_letter (get_or text 0 0)) refl
+  where
+    by : (b : Bool) → is_letter (get_or text 0 0) ≡ b → operations_in text ≡ none_left text
+    by true is = bare_letter text (omega arith) is
+    by false is = other_byte text 0 (omega arith) refl (ap (λ n. is_ascii_digit (get_or text n 0)) (sym e) ∙ no_digit) is
+
+-- digits that are too many
+pub large_number : (text : List ℕ) (end value : ℕ) → end < length text → list_all is_ascii_digit (take (end + 1) text) ≡ true → value ≡ digits_value 10 (take (end + 1) text)
+    → 999999999999 < value → operations_in text ≡ none_left text
+large_number text end value inside digits is large =
+    let front = take (end + 1) text in
+    let size : length front ≡ end + 1 = omega (arith, length-take (end + 1) text) in
+    let none : (more : List ℕ) → value_of (front ++ more) ≡ None =
+    λ more. sym (value_of_large (front ++ more) (end + 1) (rw (take-append-le (end + 1) front more (omega arith), take_front text (end + 1), ← is) large)) in
+    ap operations_in (sym (take-append-drop (end + 1) text)) ∙ no_number front (drop (end + 1) text) (omega arith) (digits_no_letters front digits) none
+    ∙ sym (none_left_some text (omega arith))
+  where
+    take_front : (text : List ℕ) (n : ℕ) → take n (take n text) ≡ take n text
+    take_front text n = take_all n (take n text) (omega (arith, length-take n text))
+
+-- digits alone
+pub digits_alone : (text : List ℕ) (end : ℕ) → length text ≤ end → list_all is_ascii_digit (take end text) ≡ true → operations_in text ≡ none_left text
+unfolding operations_in
+digits_alone [] end past digits = refl
+digits_alone (byte ∷ bytes) end past digits =
+    let all : list_all is_ascii_digit (byte ∷ bytes) ≡ true = sym (ap (list_all is_ascii_digit) (take_all end (byte ∷ bytes) past)) ∙ digits in
+    ap (λ l. option_and_then each_operation (parts_of l)) (sym (append-nil (byte ∷ bytes)))
+    ∙ ap (option_and_then each_operation) (parts_behind (byte ∷ bytes) [] (digits_no_letters (byte ∷ bytes) all) ∙ onto_nothing byte bytes)
+
+-- no operation is left
+pub span_end : (total : ℕ) (rest : List ℕ) → length rest ≡ 0 → total ≤ 1000000000000 → Some total ≡ span_with total (operations_in rest)
+unfolding operations_in
+span_end total [] e small = ap Some (grind (arith, nat_tests))
+span_end total (byte ∷ bytes) e small = absurd (omega arith)
+
+-- an operation covers no more bases than its number
+pub covered_within : (operation : Operation) → covered_by operation ≤ operation.length
+covered_within operation = grind (arith, nat_tests)
+
+-- a part before the parts of the rest
+pub parts_cut : (digits : List ℕ) (letter : ℕ) (rest : List ℕ) (parts : List Part) → no_letters digits ≡ true → is_letter letter ≡ true → parts_of rest ≡ Some parts
+    → parts_of (digits ++ letter ∷ rest) ≡ Some (record { digits = digits; letter = letter } ∷ parts)
+parts_cut digits letter rest parts e is found =
+    let here : parts_of (letter ∷ rest) ≡ Some (record { digits = []; letter = letter } ∷ parts) = rw (is, found) refl in
+    parts_behind digits (letter ∷ rest) e ∙ ap (onto_front digits) here ∙ onto_some digits (record { digits = []; letter = letter }) parts
+    ∙ ap (λ (d : List ℕ). Some (record { digits = d; letter = letter } ∷ parts)) (append-nil digits)
+
+-- a single M covers as many bases as its number says
+single_match : (digits : List ℕ) (value : ℕ) → length digits ≤ 12 → Some value ≡ value_of digits → span_with 0 (operations_in (digits ++ 77 ∷ [])) ≡ Some value
+unfolding operations_in value_of
+single_match digits value few e =
+    let are = digits_denoting digits value e in
+    let small : value ≤ 999999999999 = value_short (length digits) value (omega (arith, are.1, digits_below digits are.0)) few in
+    let first = first_operation_is digits 77 [] (digits_no_letters digits are.0) refl in
+    ap (span_with 0) first
+    ∙ ap (λ v. span_with 0 (with_operation (option_map (λ l. record { length = l; letter = 77 }) v) (Some []))) (sym e)
+    ∙ ap Some (grind (arith, nat_tests))
+
+pub single_span_is : (text : List ℕ) (end : ℕ) (number : Option ℕ) → end ≤ 12 → length text ≡ end + 1 → get_or text end 0 ≡ 77 → number ≡ value_of (take end text) → IfSome number (λ span. span_with 0 (operations_in text) ≡ Some span)
+single_span_is text end None few size last e = tt
+single_span_is text end (Some value) few size last e =
+    let whole : text ≡ take end text ++ 77 ∷ [] = sym (take_all (end + 1) text (omega (arith, size))) ∙ take_more text end 0 (omega (arith, size)) ∙ ap (λ b. take end text ++ b ∷ []) last in
+    ap (λ l. span_with 0 (operations_in l)) whole ∙ single_match (take end text) value (omega (arith, few, length-take end text)) e
+
+-- Lemmas on masked extents.
+
+-- without an extent nothing changes
+pub none_masked : (how : MaskHow) (position : ℕ) (bases : List ℕ) → bases ≡ masked_in how [] position bases
+none_masked how position [] = refl
+none_masked how position (base ∷ bases) = ap (λ bs. base ∷ bs) (none_masked how (suc position) bases)
+
+by_both : (how : MaskHow) (base : ℕ) (b c : Bool) → cond (b || c) (masked_byte how base) base ≡ cond c (masked_byte how (cond b (masked_byte how base) base)) (cond b (masked_byte how base) base)
+by_both how base b c = grind arith
+
+-- extents mask one after another
+pub one_behind : (how : MaskHow) (extents : List Extent) (s : Extent) (position : ℕ) (bases : List ℕ) → masked_in how (extents ++ s ∷ []) position bases ≡ masked_in how (s ∷ []) position (masked_in how extents position bases)
+one_behind how extents s position [] = refl
+one_behind how extents s position (base ∷ bases) =
+    ap (λ b. cond b (masked_byte how base) base ∷ masked_in how (extents ++ s ∷ []) (suc position) bases) (list_any-append (has_position position) extents (s ∷ []))
+    ∙ ap (λ b. b ∷ masked_in how (extents ++ s ∷ []) (suc position) bases) (by_both how base (list_any (has_position position) extents) (list_any (has_position position) (s ∷ [])))
+    ∙ ap (λ bs. cond (list_any (has_position position) (s ∷ [])) (masked_byte how (cond (list_any (has_position position) extents) (masked_byte how base) base)) (cond (list_any (has_position position) extents) (masked_byte how base) base) ∷ bs) (one_behind how extents s (suc position) bases)
+
+module _ (how : MaskHow) (s : Extent) where
+  outside : (position base : ℕ) (bases : List ℕ) → has_position position s ≡ false → base ∷ masked_in how (s ∷ []) (suc position) bases ≡ masked_in how (s ∷ []) position (base ∷ bases)
+  outside position base bases e = sym (ap (λ b. cond (b || false) (masked_byte how base) base ∷ masked_in how (s ∷ []) (suc position) bases) e)
+
+  inside : (position base : ℕ) (bases : List ℕ) → has_position position s ≡ true → masked_byte how base ∷ masked_in how (s ∷ []) (suc position) bases ≡ masked_in how (s ∷ []) position (base ∷ bases)
+  inside position base bases e = sym (ap (λ b. cond (b || false) (masked_byte how base) base ∷ masked_in how (s ∷ []) (suc position) bases) e)
+
+  -- from a position in or after the extent on
+  from_inside : (bases : List ℕ) (position to : ℕ) → s.start ≤ position → to ≡ min (s.stop - position) (length bases)
+      → map (masked_byte how) (take to bases) ++ drop to bases ≡ masked_in how (s ∷ []) position bases
+  from_inside [] position zero low e = refl
+  from_inside [] position (suc to) low e = absurd (omega arith)
+  from_inside (base ∷ bases) position zero low e =
+      ap (λ bs. base ∷ bs) (from_inside bases (suc position) zero (omega arith) (omega arith))
+      ∙ outside position base bases (grind (arith, nat_tests))
+  from_inside (base ∷ bases) position (suc to) low e =
+      ap (λ bs. masked_byte how base ∷ bs) (from_inside bases (suc position) to (omega arith) (omega arith))
+      ∙ inside position base bases (grind (arith, nat_tests))
+
+  -- from any position on
+  pub masked_between : (bases : List ℕ) (position from count : ℕ) → from ≡ min (s.start - position) (length bases) → from + count ≡ min (s.stop - position) (length bases)
+      → take from bases ++ (map (masked_byte how) (take count (drop from bases)) ++ drop count (drop from bases)) ≡ masked_in how (s ∷ []) position bases
+  masked_between [] position zero zero d e = refl
+  masked_between [] position zero (suc count) d e = absurd (omega arith)
+  masked_between [] position (suc from) count d e = absurd (omega arith)
+  masked_between (base ∷ bases) position zero count d e = from_inside (base ∷ bases) position count (omega arith) (omega arith)
+  masked_between (base ∷ bases) position (suc from) count d e =
+      ap (λ bs. base ∷ bs) (masked_between bases (suc position) from count (omega arith) (omega arith))
+      ∙ outside position base bases (grind (arith, nat_tests))
+
+  -- if nothing is between, nothing changes
+  pub masked_nowhere : (bases : List ℕ) (position from to : ℕ) → from ≡ min (s.start - position) (length bases) → to ≡ min (s.stop - position) (length bases) → to ≤ from
+      → bases ≡ masked_in how (s ∷ []) position bases
+  masked_nowhere [] position from to d e high = refl
+  masked_nowhere (base ∷ bases) position from to d e high =
+      ap (λ bs. base ∷ bs) (masked_nowhere bases (suc position) (min (s.start - suc position) (length bases)) (min (s.stop - suc position) (length bases)) refl refl (omega arith))
+      ∙ outside position base bases (grind (arith, nat_tests))
+
+-- What is wrong with a line of a SAM file.
+
+same_kind : {T : Type 0} (was : Result T Kind) (a kind : Kind) → was ≡ Err a → was ≡ Err kind → is_sam_kind a ≡ true → is_sam_kind kind ≡ true
+same_kind was a kind p q placed = let is : a ≡ kind = cc in subst (λ k. is_sam_kind k ≡ true) is placed
+
+of_columns : (f : Fields) (flag : Option ℕ) (chrom : List ℕ) (p q s : Option ℕ) (kind : Kind) → columns_say f flag chrom p q s ≡ Err kind → is_sam_kind kind ≡ true
+of_columns f flag chrom p q s kind e = grind arith
+
+of_fields : (fields : Option Fields) (kind : Kind) → fields_say fields ≡ Err kind → is_sam_kind kind ≡ true
+unfolding fields_say
+of_fields None kind e = same_kind {T = Option Alignment} (Err TooFewColumns) TooFewColumns kind refl e refl
+of_fields (Some f) kind e =
+    of_columns f (value_up_to 65535 f.flag) f.chrom (value_up_to 2147483647 f.position) (value_up_to 255 f.quality) (length_of f.cigar) kind e
+
+of_line : (b : Bool) (fields : Option Fields) (kind : Kind) → cond b (Ok None) (fields_say fields) ≡ Err kind → is_sam_kind kind ≡ true
+of_line true fields kind e = cc
+of_line false fields kind e = of_fields fields kind e
+
+pub wrong_kinds : wrong_have_sam_kinds
+unfolding alignment_of
+wrong_kinds text kind e = of_line (is_skipped text) (fields_of (pieces 9 text)) kind e
+
+pub kinds_of_lines : sam_kinds_are_of_lines
+kinds_of_lines x0 e = grind arith
+
+-- Lemmas on blocks, record by record: each with the names that its block leaves.
+
+-- a record, and the names that its block leaves
+pub record Tagged (A : Type 0) : Type 0 where
+  pub item : A
+  pub left : Option (List (List ℕ))
+
+-- there is one at least
+abbrev pub HasOne : {A : Type 0} → List A → Type 0
+HasOne [] = ⊥
+HasOne (x ∷ xs) = ⊤
+
+abbrev pub AllHaveOne : {A : Type 0} → List (Block A) → Type 0
+AllHaveOne [] = ⊤
+AllHaveOne (b ∷ bs) = HasOne b.items × AllHaveOne bs
+
+module _ {A : Type 0} where
+  abbrev pub tag_items : Option (List (List ℕ)) → List A → List (Tagged A)
+  tag_items left xs = map (λ x. record { item = x; left = left }) xs
+
+  abbrev pub spread : List (Owned A) → List (Tagged A)
+  spread [] = []
+  spread (o ∷ os) = tag_items o.left o.block.items ++ spread os
+
+module _ {A : Type 0} (chrom : A → List ℕ) where
+  abbrev pub next_left : Option (List (List ℕ)) → Option (List ℕ) → A → Option (List (List ℕ))
+  next_left left last x = cond (is_last last (chrom x)) left (left_by left (chrom x))
+
+  abbrev pub tags : Option (List (List ℕ)) → Option (List ℕ) → List A → List (Tagged A)
+  tags left last [] = []
+  tags left last (x ∷ xs) = record { item = x; left = next_left left last x } ∷ tags (next_left left last x) (Some (chrom x)) xs
+
+  abbrev blocks : List A → List (Block A)
+  blocks xs = blocks_by chrom xs
+
+  -- the tags of blocks, of which the first goes on with the last chromosome if that is its own
+  abbrev blocks_tags : Option (List (List ℕ)) → Option (List ℕ) → List (Block A) → List (Tagged A)
+  blocks_tags left last [] = []
+  blocks_tags left last (b ∷ bs) = cond (is_last last b.chrom) (tag_items left b.items ++ spread (owned_from left bs)) (spread (owned_from left (b ∷ bs)))
+
+  abbrev tag_at : Option (List (List ℕ)) → A → Bool → Tagged A
+  tag_at left x s = record { item = x; left = cond s left (left_by left (chrom x)) }
+
+  alone : (left : Option (List (List ℕ))) (last : Option (List ℕ)) (x : A) (s : Bool) → is_last last (chrom x) ≡ s
+      → tag_at left x s ∷ [] ≡ blocks_tags left last (block_with (chrom x) x [])
+  alone left last x s e = grind arith
+
+  joined : (left : Option (List (List ℕ))) (last : Option (List ℕ)) (x : A) (b : Block A) (bs : List (Block A)) (s : Bool) → is_last last b.chrom ≡ s → chrom x ≡ b.chrom
+      → tag_at left x s ∷ (tag_items (cond s left (left_by left (chrom x))) b.items ++ spread (owned_from (cond s left (left_by left (chrom x))) bs))
+      ≡ blocks_tags left last (record { chrom = b.chrom; items = x ∷ b.items } ∷ bs)
+  joined left last x b bs s e same = grind arith
+
+  apart : (left : Option (List (List ℕ))) (last : Option (List ℕ)) (x : A) (b : Block A) (bs : List (Block A)) (s : Bool) → is_last last (chrom x) ≡ s
+      → tag_at left x s ∷ spread (owned_from (cond s left (left_by left (chrom x))) (b ∷ bs)) ≡ blocks_tags left last (record { chrom = chrom x; items = x ∷ [] } ∷ b ∷ bs)
+  apart left last x b bs s e = grind arith
+
+  with_first : (left : Option (List (List ℕ))) (last : Option (List ℕ)) (x : A) (b : Block A) (bs : List (Block A)) (t : Bool) → bytes_eq (chrom x) b.chrom ≡ t
+      → record { item = x; left = next_left left last x } ∷ cond t (tag_items (next_left left last x) b.items ++ spread (owned_from (next_left left last x) bs)) (spread (owned_from (next_left left last x) (b ∷ bs)))
+      ≡ blocks_tags left last (cond t (record { chrom = b.chrom; items = x ∷ b.items } ∷ bs) (record { chrom = chrom x; items = x ∷ [] } ∷ b ∷ bs))
+  with_first left last x b bs true e =
+      let same : chrom x ≡ b.chrom = (bytes_decides (chrom x) b.chrom).0 e in
+      joined left last x b bs (is_last last (chrom x)) (ap (is_last last) (sym same)) same
+  with_first left last x b bs false e = apart left last x b bs (is_last last (chrom x)) refl
+
+  with_any : (left : Option (List (List ℕ))) (last : Option (List ℕ)) (x : A) (bs : List (Block A))
+      → record { item = x; left = next_left left last x } ∷ blocks_tags (next_left left last x) (Some (chrom x)) bs ≡ blocks_tags left last (block_with (chrom x) x bs)
+  with_any left last x [] = alone left last x (is_last last (chrom x)) refl
+  with_any left last x (b ∷ bs) = with_first left last x b bs (bytes_eq (chrom x) b.chrom) refl
+
+  tags_on : (left : Option (List (List ℕ))) (last : Option (List ℕ)) (xs : List A) → tags left last xs ≡ blocks_tags left last (blocks xs)
+  tags_on left last [] = refl
+  tags_on left last (x ∷ xs) =
+      ap (λ (ts : List (Tagged A)). record { item = x; left = next_left left last x } ∷ ts) (tags_on (next_left left last x) (Some (chrom x)) xs)
+      ∙ with_any left last x (blocks xs)
+
+  all_tags : (left : Option (List (List ℕ))) (bs : List (Block A)) → blocks_tags left None bs ≡ spread (owned_from left bs)
+  all_tags left bs = grind arith
+
+  -- the tags of all
+  pub tags_all : (left : Option (List (List ℕ))) (xs : List A) → tags left None xs ≡ spread (owned_from left (blocks xs))
+  tags_all left xs = tags_on left None xs ∙ all_tags left (blocks xs)
+
+  with_one : (x : A) (bs : List (Block A)) → AllHaveOne bs → AllHaveOne (block_with (chrom x) x bs)
+  with_one x bs h = grind arith
+
+  -- each block has a record
+  pub blocks_have_one : (xs : List A) → AllHaveOne (blocks xs)
+  blocks_have_one [] = tt
+  blocks_have_one (x ∷ xs) = with_one x (blocks xs) (blocks_have_one xs)
+
+-- the records whose block belongs to the last sequence
+abbrev pub own_in : List (Tagged Feature) → List Feature
+own_in ts = flat_map (λ t. items_if_last t.left (t.item ∷ [])) ts
+
+-- whether a record decides a line up to whose end there are this many bases
+abbrev pub tag_decides : ℕ → Tagged Feature → Bool
+tag_decides bases t = block_decides bases t.left (t.item ∷ [])
+
+abbrev pub tags_of : List (List ℕ) → List Feature → List (Tagged Feature)
+tags_of names records = tags (λ (r : Feature). r.chrom) (Some names) None records
+
+own_items : (left : Option (List (List ℕ))) (rs : List Feature) → items_if_last left rs ≡ own_in (tag_items left rs)
+own_items None [] = refl
+own_items None (r ∷ rs) = own_items None rs
+own_items (Some []) [] = refl
+own_items (Some []) (r ∷ rs) = ap (λ (l : List Feature). r ∷ l) (own_items (Some []) rs)
+own_items (Some (n ∷ ns)) [] = refl
+own_items (Some (n ∷ ns)) (r ∷ rs) = own_items (Some (n ∷ ns)) rs
+
+own_spread : (os : List (Owned Feature)) → flat_map (λ (o : Owned Feature). items_if_last o.left o.block.items) os ≡ own_in (spread os)
+own_spread [] = refl
+own_spread (o ∷ os) =
+    ap (λ (l : List Feature). l ++ flat_map (λ (o : Owned Feature). items_if_last o.left o.block.items) os) (own_items o.left o.block.items)
+    ∙ ap (λ (l : List Feature). own_in (tag_items o.left o.block.items) ++ l) (own_spread os)
+    ∙ sym (flat_map-append (λ (t : Tagged Feature). items_if_last t.left (t.item ∷ [])) (tag_items o.left o.block.items) (spread os))
+
+pub own_tagged : (names : List (List ℕ)) (records : List Feature) → own_records names records ≡ own_in (tags_of names records)
+own_tagged names records = own_spread (owned names records) ∙ sym (ap own_in (tags_all (λ (r : Feature). r.chrom) (Some names) records))
+
+module _ (bases : ℕ) where
+  none_decides : (rs : List Feature) → HasOne rs → list_any (tag_decides bases) (tag_items None rs) ≡ true
+  none_decides rs h = grind arith
+
+  or_first : (a b : Bool) → ((a || false) || b) ≡ (a || b)
+  or_first a b = grind arith
+
+  own_decides : (rs : List Feature) → list_any (λ (r : Feature). nat_le bases r.start) rs ≡ list_any (tag_decides bases) (tag_items (Some []) rs)
+  own_decides [] = refl
+  own_decides (r ∷ rs) = ap (λ b. nat_le bases r.start || b) (own_decides rs) ∙ sym (or_first (nat_le bases r.start) (list_any (tag_decides bases) (tag_items (Some []) rs)))
+
+  early_decides : (n : List ℕ) (ns : List (List ℕ)) (rs : List Feature) → list_any (tag_decides bases) (tag_items (Some (n ∷ ns)) rs) ≡ false
+  early_decides n ns [] = refl
+  early_decides n ns (r ∷ rs) = early_decides n ns rs
+
+  items_decide : (left : Option (List (List ℕ))) (rs : List Feature) → HasOne rs → block_decides bases left rs ≡ list_any (tag_decides bases) (tag_items left rs)
+  items_decide None rs h = sym (none_decides rs h)
+  items_decide (Some []) rs h = own_decides rs
+  items_decide (Some (n ∷ ns)) rs h = sym (early_decides n ns rs)
+
+  any_decides : (left : Option (List (List ℕ))) (bs : List (Block Feature)) → AllHaveOne bs
+      → list_any (λ (o : Owned Feature). block_decides bases o.left o.block.items) (owned_from left bs) ≡ list_any (tag_decides bases) (spread (owned_from left bs))
+  any_decides left [] h = refl
+  any_decides left (b ∷ bs) h =
+      ap (λ c. c || list_any (λ (o : Owned Feature). block_decides bases o.left o.block.items) (owned_from (left_by left b.chrom) bs)) (items_decide (left_by left b.chrom) b.items h.0)
+      ∙ ap (λ c. list_any (tag_decides bases) (tag_items (left_by left b.chrom) b.items) || c) (any_decides (left_by left b.chrom) bs h.1)
+      ∙ sym (list_any-append (tag_decides bases) (tag_items (left_by left b.chrom) b.items) (spread (owned_from (left_by left b.chrom) bs)))
+
+  pub decided_tagged : (names : List (List ℕ)) (records : List Feature)
+      → list_any (λ (o : Owned Feature). block_decides bases o.left o.block.items) (owned names records) ≡ list_any (tag_decides bases) (tags_of names records)
+  decided_tagged names records =
+      any_decides (Some names) (blocks_by (λ (r : Feature). r.chrom) records) (blocks_have_one (λ (r : Feature). r.chrom) records)
+      ∙ sym (ap (list_any (tag_decides bases)) (tags_all (λ (r : Feature). r.chrom) (Some names) records))
+
+-- one more record
+pub tags_more : (left : Option (List (List ℕ))) (last : Option (List ℕ)) (rs : List Feature) (r : Feature)
+    → tags (λ (r : Feature). r.chrom) left last (rs ++ r ∷ []) ≡ tags (λ (r : Feature). r.chrom) left last rs ++ record { item = r; left = leave left last (rs ++ r ∷ []) } ∷ []
+tags_more left last [] r = refl
+tags_more left last (s ∷ ss) r =
+    ap (λ (ts : List (Tagged Feature)). record { item = s; left = next_left (λ (r : Feature). r.chrom) left last s } ∷ ts) (tags_more (next_left (λ (r : Feature). r.chrom) left last s) (Some s.chrom) ss r)
+
+-- the chromosome of the last record, or else this
+abbrev pub last_from : Option (List ℕ) → List Feature → Option (List ℕ)
+last_from last [] = last
+last_from last (r ∷ rs) = last_from (Some r.chrom) rs
+
+pub tags_append : (left : Option (List (List ℕ))) (last : Option (List ℕ)) (rs more : List Feature)
+    → tags (λ (r : Feature). r.chrom) left last (rs ++ more)
+    ≡ tags (λ (r : Feature). r.chrom) left last rs ++ tags (λ (r : Feature). r.chrom) (leave left last rs) (last_from last rs) more
+tags_append left last [] more = refl
+tags_append left last (s ∷ ss) more =
+    ap (λ (ts : List (Tagged Feature)). record { item = s; left = next_left (λ (r : Feature). r.chrom) left last s } ∷ ts) (tags_append (next_left (λ (r : Feature). r.chrom) left last s) (Some s.chrom) ss more)

@@ -1,3 +1,0 @@
--- Lemmas on bamtobed.
-pub mod LineLemmas
-pub mod TextLemmas

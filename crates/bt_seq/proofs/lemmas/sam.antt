@@ -1,6 +1,0 @@
--- Lemmas on sam.
-pub mod BlockLemmas
-pub mod CigarLemmas
-pub mod ExtentLemmas
-pub mod SamKindLemmas
-pub mod TagLemmas

@@ -1,0 +1,161 @@
+-- Lemmas on the plain program.
+use Rattle.bt_lines.proofs.Std.{◌≡◌, ◌⊎◌, inl, inr, ℕ, List, [], ◌∷◌, ◌++◌, refl, sym, ap, ◌∙◌, subst, arith, append_assoc, decimal, flat_map, length, ◌+◌, ◌-◌, ◌<◌, ◌≤◌, le-leb, suc, Bool, not, ◌&&◌, ◌||◌, cond, ap₂, add-one, map, ◌==◌, list_any, ne_eqb, eq-eqb, cond-true, cond-false, reverse-append}
+use Rattle.bt_bed.specs.model.Feature.{Feature, bed_text, Span, stretches_from, with_position}
+use Rattle.bt_sweep.specs.model.Hits.{hits_among, hits}
+use Rattle.bt_sweep.specs.model.Lines.{hit_line, line_with, lines_for, lines_of, piece_line, pieces, has_position, is_left}
+use Rattle.bt_sweep.specs.declared.hits.hit_rule.HitRule.{HitRule}
+use Rattle.bt_sweep.specs.declared.output.shape.Shape.{Shape}
+use Rattle.bt_sweep.specs.declared.output.shape.Shape.TheVariants.{Cut, OrigA, CutAndB, OrigBoth, Overlap, Once, Missing, Count, Pieces, Whole}
+use Rattle.bt_sweep.specs.inside.Pieces.{piece_in, pieces_in}
+use Rattle.bt_sweep.specs.declared.plain.plain_pieces.PlainPiece.{PlainPiece}
+
+-- Lemmas on the lines of a record against all others.
+
+-- a text, a tab and more
+pub tabbed : (old x y first second new : List ℕ) → first ≡ old ++ x → second ≡ first ++ 9 ∷ [] → new ≡ second ++ y → new ≡ old ++ ((x ++ 9 ∷ []) ++ y)
+tabbed old x y first second new e f g = g ∙ ap (λ l. l ++ y) (f ∙ ap (λ l. l ++ 9 ∷ []) e) ∙ simp append_assoc
+
+once_of : (a : Feature) (found : List Feature) → length found ≡ 0 → lines_of Once a found ≡ []
+once_of a found e = grind arith
+
+once_by : (a : Feature) (found : List Feature) → (length found ≡ 0 → ⊥) → lines_of Once a found ≡ line_with (bed_text a ∷ [])
+once_by a found e = grind arith
+
+missing_of : (a : Feature) (found : List Feature) → length found ≡ 0 → lines_of Missing a found ≡ line_with (bed_text a ∷ [])
+missing_of a found e = grind arith
+
+missing_by : (a : Feature) (found : List Feature) → (length found ≡ 0 → ⊥) → lines_of Missing a found ≡ []
+missing_by a found e = grind arith
+
+whole_of : (a : Feature) (found : List Feature) → length found ≡ 0 → lines_of Whole a found ≡ line_with (bed_text a ∷ [])
+whole_of a found e = grind arith
+
+whole_by : (a : Feature) (found : List Feature) → (length found ≡ 0 → ⊥) → lines_of Whole a found ≡ []
+whole_by a found e = grind arith
+
+module _ (a : Feature) (bs : List Feature) (shape : Shape) (rule : HitRule) where
+  at_shape : (s : Shape) (l : List ℕ) → shape ≡ s → lines_for s rule a bs ≡ l → lines_for shape rule a bs ≡ l
+  at_shape s l is e = ap (λ (t : Shape). lines_for t rule a bs) is ∙ e
+
+  module _ (n : ℕ) (counted : n ≡ length (hits_among rule a bs)) where
+    pub once_none : shape ≡ Once → n ≡ 0 → lines_for shape rule a bs ≡ []
+    unfolding lines_for
+    once_none is none = at_shape Once [] is (once_of a (hits_among rule a bs) (sym counted ∙ none))
+
+    pub once_some : shape ≡ Once → (n ≡ 0 → ⊥) → lines_for shape rule a bs ≡ line_with (bed_text a ∷ [])
+    unfolding lines_for
+    once_some is some = at_shape Once (line_with (bed_text a ∷ [])) is (once_by a (hits_among rule a bs) (λ e. some (counted ∙ e)))
+
+    pub missing_none : (shape ≡ Missing) ⊎ (shape ≡ Whole) → n ≡ 0 → lines_for shape rule a bs ≡ line_with (bed_text a ∷ [])
+    unfolding lines_for
+    missing_none is none = elim is [
+      | inl is ↦ at_shape Missing (line_with (bed_text a ∷ [])) is (missing_of a (hits_among rule a bs) (sym counted ∙ none))
+      | inr is ↦ at_shape Whole (line_with (bed_text a ∷ [])) is (whole_of a (hits_among rule a bs) (sym counted ∙ none))
+    ]
+
+    pub missing_some : (shape ≡ Missing) ⊎ (shape ≡ Whole) → (n ≡ 0 → ⊥) → lines_for shape rule a bs ≡ []
+    unfolding lines_for
+    missing_some is some = elim is [
+      | inl is ↦ at_shape Missing [] is (missing_by a (hits_among rule a bs) (λ e. some (counted ∙ e)))
+      | inr is ↦ at_shape Whole [] is (whole_by a (hits_among rule a bs) (λ e. some (counted ∙ e)))
+    ]
+
+    pub count_all : shape ≡ Count → lines_for shape rule a bs ≡ line_with (bed_text a ∷ decimal n ∷ [])
+    unfolding lines_for
+    count_all is = at_shape Count (line_with (bed_text a ∷ decimal n ∷ [])) is (ap (λ (m : ℕ). line_with (bed_text a ∷ decimal m ∷ [])) (sym counted))
+
+  pub all_pieces : shape ≡ Pieces → lines_for shape rule a bs ≡ flat_map (piece_line a) (pieces a (hits_among rule a bs))
+  unfolding lines_for
+  all_pieces is = at_shape Pieces (flat_map (piece_line a) (pieces a (hits_among rule a bs))) is refl
+
+  one_each : (s : Shape) → shape ≡ s → lines_for s rule a bs ≡ flat_map (hit_line s a) (hits_among rule a bs) → lines_for shape rule a bs ≡ flat_map (hit_line shape a) (hits_among rule a bs)
+  one_each s is e = subst (λ (t : Shape). lines_for t rule a bs ≡ flat_map (hit_line t a) (hits_among rule a bs)) (sym is) e
+
+  -- a line for each hit
+  pub each_hit : (shape ≡ Cut) ⊎ ((shape ≡ OrigA) ⊎ ((shape ≡ CutAndB) ⊎ ((shape ≡ OrigBoth) ⊎ (shape ≡ Overlap)))) → lines_for shape rule a bs ≡ flat_map (hit_line shape a) (hits_among rule a bs)
+  unfolding lines_for
+  each_hit is =
+      elim is [
+        | inl e ↦ one_each Cut e refl
+        | inr is ↦ elim is [
+          | inl e ↦ one_each OrigA e refl
+          | inr is ↦ elim is [
+            | inl e ↦ one_each CutAndB e refl
+            | inr is ↦ elim is [
+              | inl e ↦ one_each OrigBoth e refl
+              | inr e ↦ one_each Overlap e refl
+            ]
+          ]
+        ]
+      ]
+
+-- The scan of a record's positions, from the last one on, against the definition of its pieces.
+
+-- one more was found
+pub found_push : (xs : List PlainPiece) (x : PlainPiece) → pieces_in (xs ++ x ∷ []) ≡ piece_in x ∷ pieces_in xs
+found_push xs x = ap (map piece_in) (reverse-append xs (x ∷ []))
+
+-- the next position belongs to the last of them
+pub next_joined : (front : List PlainPiece) (piece : PlainPiece) (p : ℕ) → piece.start ≡ p + 1
+    → pieces_in (front ++ record { start = p; stop = piece.stop } ∷ []) ≡ with_position p (pieces_in (front ++ piece ∷ []))
+unfolding with_position
+next_joined front piece p e =
+    found_push front (record { start = p; stop = piece.stop })
+    ∙ sym (cond-true (piece.start == p + 1) (record { start = p; stop = piece.stop } ∷ pieces_in front) (record { start = p; stop = p + 1 } ∷ piece_in piece ∷ pieces_in front) (eq-eqb piece.start (p + 1) e))
+    ∙ sym (ap (with_position p) (found_push front piece))
+
+-- or is the first one of another
+pub next_apart : (front : List PlainPiece) (piece : PlainPiece) (p : ℕ) → (piece.start ≡ p + 1 → ⊥)
+    → pieces_in ((front ++ piece ∷ []) ++ record { start = p; stop = p + 1 } ∷ []) ≡ with_position p (pieces_in (front ++ piece ∷ []))
+unfolding with_position
+next_apart front piece p other =
+    found_push (front ++ piece ∷ []) (record { start = p; stop = p + 1 })
+    ∙ ap (λ l. record { start = p; stop = p + 1 } ∷ l) (found_push front piece)
+    ∙ sym (cond-false (piece.start == p + 1) (record { start = p; stop = piece.stop } ∷ pieces_in front) (record { start = p; stop = p + 1 } ∷ piece_in piece ∷ pieces_in front) (ne_eqb piece.start (p + 1) other))
+    ∙ sym (ap (with_position p) (found_push front piece))
+
+pub first_found : (p : ℕ) → pieces_in (record { start = p; stop = p + 1 } ∷ []) ≡ with_position p []
+unfolding with_position
+first_found p = refl
+
+scan_step : (test : ℕ → Bool) (first n : ℕ) → stretches_from test first (suc n) ≡ cond (test first) (with_position first (stretches_from test (first + 1) n)) (stretches_from test (first + 1) n)
+unfolding stretches_from
+scan_step test first n = refl
+
+-- none was tested yet
+pub scan_none : (test : ℕ → Bool) (first : ℕ) → [] ≡ stretches_from test first 0
+unfolding stretches_from
+scan_none test first = refl
+
+-- one position more was tested
+pub scan_next : (test : ℕ → Bool) (stop passed : ℕ) (c : Bool) (old new : List Span) → passed < stop → test ((stop - passed) - 1) ≡ c → old ≡ stretches_from test (stop - passed) passed
+    → new ≡ cond c (with_position ((stop - passed) - 1) old) old → new ≡ stretches_from test (stop - (passed + 1)) (passed + 1)
+scan_next test stop passed c old new less e so_far step =
+    let first = (stop - passed) - 1 in
+    let here : stop - (passed + 1) ≡ first = omega arith in
+    let back : stop - passed ≡ first + 1 = omega arith in
+    let rest = stretches_from test (first + 1) passed in
+    let was : old ≡ rest = so_far ∙ ap (λ n. stretches_from test n passed) back in
+    step ∙ ap (λ l. cond c (with_position first l) l) was ∙ ap (λ b. cond b (with_position first rest) rest) (sym e)
+    ∙ sym (scan_step test first passed) ∙ ap₂ (λ f n. stretches_from test f n) (sym here) (sym (add-one passed))
+
+-- all positions were
+pub scan_all : (a : Feature) (others : List Feature) (passed : ℕ) (found : List Span) → passed ≡ a.stop
+    → found ≡ stretches_from (is_left a others) (a.stop - passed) passed → found ≡ pieces a others
+unfolding pieces
+scan_all a others passed found all so_far =
+    let first : a.stop - passed ≡ 0 = omega (arith, all) in
+    so_far ∙ ap₂ (λ f n. stretches_from (is_left a others) f n) first all
+
+any_at : (rule : HitRule) (a : Feature) (p : ℕ) (b : Feature) (bs : List Feature) (c : Bool) → hits rule a b ≡ c
+    → ((c && has_position p b) || list_any (has_position p) (hits_among rule a bs)) ≡ list_any (has_position p) (cond c (b ∷ hits_among rule a bs) (hits_among rule a bs))
+any_at rule a p b bs c e = grind arith
+
+-- some of those that hit a has the position
+pub any_hit_has : (rule : HitRule) (a : Feature) (p : ℕ) (bs : List Feature) → list_any (λ b. hits rule a b && has_position p b) bs ≡ list_any (has_position p) (hits_among rule a bs)
+any_hit_has rule a p [] = refl
+any_hit_has rule a p (b ∷ bs) = ap (λ c. (hits rule a b && has_position p b) || c) (any_hit_has rule a p bs) ∙ any_at rule a p b bs (hits rule a b) refl
+
+-- a position from the start on that none of the others has
+pub left_by : (a : Feature) (others : List Feature) (p : ℕ) (taken : Bool) → a.start ≤ p → taken ≡ list_any (has_position p) others → not taken ≡ is_left a others p
+left_by a others p taken low e = ap not e ∙ sym (ap (λ c. c && not (list_any (has_position p) others)) (le-leb a.start p low))

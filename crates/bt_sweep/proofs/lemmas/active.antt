@@ -1,4 +1,0 @@
--- Lemmas on active.
-pub mod EndLemmas
-pub mod FilterLemmas
-pub mod HeldListLemmas

@@ -1,2 +1,0 @@
--- Lemmas on hits.
-pub mod StartedLemmas

@@ -1,5 +1,0 @@
--- Lemmas on output.
-pub mod HeldLemmas
-pub mod OpenLemmas
-pub mod WalkLemmas
-pub mod WritingLemmas

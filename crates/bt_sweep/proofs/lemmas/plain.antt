@@ -1,3 +1,0 @@
--- Lemmas on plain.
-pub mod PlainLemmas
-pub mod PlainPieceLemmas

@@ -1,0 +1,67 @@
+-- The words of a command line divide into items in one way.
+use Rattle.bt_lines.proofs.Std.{◌≡◌, ◌+◌, Bool, true, false, List, [], ◌∷◌, ◌++◌, Option, Some, None, refl, All, All-nil, All-cons}
+use Rattle.bt_tool.specs.model.Usage.{Item, IsItem, items_of, words_of}
+use Rattle.bt_tool.specs.model.Table.{Word, Table, fits, takes}
+use Rattle.bt_tool.specs.declared.options.takes.Takes.{Takes}
+
+-- an induction over the division
+module _ (table : Table) (P : List Word → List Item → Type 0)
+    (stop : (words : List Word) → P words [])
+    (step : (item : Item) (rest : List Word) (items : List Item)
+    → IsItem table item → P rest items → P (words_of item ++ rest) (item ∷ items)) where
+  divided-one-kind : (option : Word) (kind : Takes) (alone : Bool)
+      → takes table option ≡ Some kind → fits kind None ≡ alone
+      → P (option ∷ []) (items_of table (option ∷ []))
+  unfolding items_of
+  divided-one-kind option kind true f g =
+      let item : Item = record { option = option; value = None } in
+      rw (f, g, items_of) (step item [] [] (kind, f, g) (stop []))
+  divided-one-kind option kind false f g = rw (f, g, items_of) (stop (option ∷ []))
+
+  divided-one : (option : Word) (found : Option Takes) → takes table option ≡ found
+      → P (option ∷ []) (items_of table (option ∷ []))
+  unfolding items_of
+  divided-one option None f = rw (f, items_of) (stop (option ∷ []))
+  divided-one option (Some kind) f = divided-one-kind option kind (fits kind None) f refl
+
+  divided-more-kind : (option value : Word) (rest : List Word) (kind : Takes)
+      (alone valued : Bool) → takes table option ≡ Some kind
+      → fits kind None ≡ alone → fits kind (Some value) ≡ valued
+      → P (value ∷ rest) (items_of table (value ∷ rest)) → P rest (items_of table rest)
+      → P (option ∷ value ∷ rest) (items_of table (option ∷ value ∷ rest))
+  unfolding items_of
+  divided-more-kind option value rest kind true valued f g h one two =
+      let item : Item = record { option = option; value = None } in
+      let more = items_of table (value ∷ rest) in
+      rw (f, g, items_of) (step item (value ∷ rest) more (kind, f, g) one)
+  divided-more-kind option value rest kind false true f g h one two =
+      let item : Item = record { option = option; value = Some value } in
+      rw (f, g, h, items_of) (step item rest (items_of table rest) (kind, f, h) two)
+  divided-more-kind option value rest kind false false f g h one two =
+      rw (f, g, h, items_of) (stop (option ∷ value ∷ rest))
+
+  divided-more : (option value : Word) (rest : List Word) (found : Option Takes)
+      → takes table option ≡ found
+      → P (value ∷ rest) (items_of table (value ∷ rest)) → P rest (items_of table rest)
+      → P (option ∷ value ∷ rest) (items_of table (option ∷ value ∷ rest))
+  unfolding items_of
+  divided-more option value rest None f one two =
+      rw (f, items_of) (stop (option ∷ value ∷ rest))
+  divided-more option value rest (Some kind) f one two =
+      let alone = fits kind None in
+      let valued = fits kind (Some value) in
+      divided-more-kind option value rest kind alone valued f refl refl one two
+
+  pub divided : (words : List Word) → P words (items_of table words)
+  unfolding items_of
+  divided [] = stop []
+  divided (option ∷ []) = divided-one option (takes table option) refl
+  divided (option ∷ value ∷ rest) =
+      let one = divided (value ∷ rest) in
+      divided-more option value rest (takes table option) refl one (divided rest)
+
+pub allowed : (table : Table) (words : List Word) → All (IsItem table) (items_of table words)
+allowed table words =
+    let P : List Word → List Item → Type 0 = λ _ items. All (IsItem table) items in
+    divided table P (λ _. All-nil (IsItem table))
+    (λ item rest items h all. All-cons (IsItem table) item items h all) words

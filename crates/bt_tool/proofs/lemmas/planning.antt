@@ -1,2 +1,0 @@
--- Lemmas on planning.
-pub mod TableLemmas

@@ -1,0 +1,352 @@
+-- Loops over one reader.
+use Rattle.std.specs.Prelude.{◌≡◌, ℕ, suc, ◌+◌, ◌^◌, ◌<◌, ◌≤◌, ◌⊎◌, ⊤, All, true, List, [], ◌∷◌, ◌++◌, drop, length, map, Option, Some, None, IfSome, IsSome, ◌≢◌, Result, Ok, Err, false}
+use Rattle.bt_lines.specs.declared.device.Source.{Ghosts as Source}
+use Rattle.bt_lines.specs.model.Fault.{FaultValue, read_failed, no_memory, write_failed}
+use Rattle.bt_lines.specs.model.Lines.{bytes_in, TextLine}
+use Rattle.bt_lines.specs.calls.Output.{block_size, Output, IsPrefixOf, Grows, HoldsBlock, WorksAsBefore, FailsToAdd, Grown}
+use Rattle.bt_lines.specs.calls.Reader.{CutsOff, Hands, IsKept, IsUnread, source_of, input_of, bytes_taken, fault_kept as line_fault, lines_given, lines_left, IsSound, feeds_taken}
+use Rattle.bt_lines.specs.declared.fault.Input.{Input}
+use Rattle.bt_lines.specs.declared.fault.Kind.{Kind}
+use Rattle.bt_lines.specs.declared.reader.line_reader.LineReader.{LineReader}
+use Rattle.bt_bed.specs.model.Good.{Format, Good, Member}
+use Rattle.bt_bed.specs.calls.Reading.{IsBeyond, AreSaid, MemberReader, Takes, ahead_in, good_coming, state_behind}
+use Rattle.bt_bed.specs.model.Feature.{fault_at_line, Feature, intervals_of, AreNonEmpty}
+use Rattle.bt_lines.specs.calls.Names.{fault_value}
+use Rattle.bt_lines.specs.declared.fault.Fault.{Fault}
+use Rattle.bt_bed.specs.model.Sorted.{ArePlaced}
+use Rattle.bt_bed.specs.model.Order.{Order}
+use Rattle.bt_bed.specs.calls.Batch.{Passes as PassesBatch, left, line_in}
+use Rattle.bt_bed.specs.calls.Records.{below, order_in, view_of}
+use Rattle.bt_bed.specs.declared.order.ChromOrder.{Ghosts}
+use Rattle.bt_bed.specs.declared.read.batch.Batch.{Batch}
+use Rattle.bt_bed.specs.declared.read.records.Records.{Records}
+use Rattle.bt_tool.specs.calls.Run.{IsPutTo}
+use Rattle.std.specs.Option.{option_map_or}
+use Rattle.bt_seq.specs.model.Alignment.{Alignment, alignment_of, bed_lines, sam_format, is_sam_kind}
+use Rattle.bt_seq.specs.calls.Sam.{Converting}
+use Rattle.bt_tool.specs.model.Written.{IsOneOf, alignment_lines}
+use Rattle.std.specs.Io.KnownBytes.{Keeps}
+
+-- What a reader of members has consumed, and why it stops.
+
+-- these members came first of what was to come, and the others are still to come
+abbrev pub ComeFirst : {A : Type 0} → Option (Good A) → List (Member A) → Option (Good A) → Type 0
+ComeFirst None past now = ⊤
+ComeFirst (Some old) past None = ⊥
+ComeFirst (Some old) past (Some now) = (old.members ≡ past ++ now.members) × (old.fault ≡ now.fault)
+
+-- the items of members, without their lines
+abbrev pub member_items : {A : Type 0} → List (Member A) → List A
+member_items members = map (λ m. m.item) members
+
+-- a reader of lines as one of their members, if so much is known after those that were given
+abbrev pub lines_read : {S A State : Type 0} → Format A State → State → LineReader S
+    → MemberReader S A State
+lines_read format state lines =
+    record { format = format; below = lines; state = state; buffered = []; fault = line_fault lines }
+
+-- a failed read that is kept is of the reads since then: the last of them failed, whatever the
+-- source did before, or the text is too long
+abbrev pub IsOwnFault : {S : Type 0} → (S → Option ℕ → S → Type 0) → LineReader S → Option FaultValue
+    → LineReader S → Type 0
+IsOwnFault IsRead old kept new =
+    (input : Input) (line : ℕ) → kept ≡ Some (read_failed input line) → IsUnread IsRead old new
+
+-- so it is of the one that a reader of members keeps
+abbrev pub KeepsOwnFault : {S A State : Type 0} → (S → Option ℕ → S → Type 0) → LineReader S
+    → MemberReader S A State → Type 0
+KeepsOwnFault IsRead old reader = IsOwnFault IsRead old reader.fault reader.below
+
+-- a failed read that a reader of members keeps is kept by its reader of lines
+abbrev pub IsKeptBelow : {S A State : Type 0} → MemberReader S A State → LineReader S → Type 0
+IsKeptBelow reader lines =
+    (input : Input) (line : ℕ) → reader.fault ≡ Some (read_failed input line)
+    → line_fault lines ≡ Some (read_failed input line)
+
+module _ {S A State : Type 0} (device : Source S) where
+  -- the member ahead is the first of those still to come
+  abbrev pub AheadComes : MemberReader S A State → Type 0
+  AheadComes reader = (m : Member A) → ahead_in reader ≡ Some m
+      → IfSome (good_coming device.left reader)
+      (λ good. (rest : List (Member A)) × (good.members ≡ m ∷ rest))
+
+  -- members that were buffered are taken
+  pub record HasTaken (old : MemberReader S A State) (taken : List A)
+      (new : MemberReader S A State) : Type 0 where
+    pub takes : Takes device old taken new
+    pub clear : new.fault ≡ None → line_fault new.below ≡ None
+    pub ahead : AheadComes new
+
+  module _ (old : MemberReader S A State) where
+    -- these members were consumed, and more may be buffered
+    pub record Passes (past : List (Member A)) (now : MemberReader S A State) : Type 0 where
+      pub format : now.format ≡ old.format
+      pub bytes : (bytes : List ℕ) × Hands device.left old.below bytes now.below
+      pub said : AreSaid old.format old.state (member_items past)
+      pub state : now.state ≡ state_behind old.format old.state (member_items past)
+      pub come : ComeFirst (good_coming device.left old) past (good_coming device.left now)
+      pub behind : All (λ m. m.line ≤ lines_given now.below) past
+      -- the lines left are those after the lines given
+      pub lines : IfSome (lines_left device.left old.below)
+          (λ lines. lines_left device.left now.below ≡ Some (drop (lines_given now.below) lines))
+      pub going : now.fault ≡ None
+      pub clear : line_fault now.below ≡ None
+      pub kept : IsKept device now.below
+      pub served : device.has_failed (source_of now.below) ≡ device.has_failed (source_of old.below)
+      pub ahead : IsSome (good_coming device.left old) → AheadComes now
+      -- of known bytes, those after the lines given and one more line are left, except at most a block
+      pub near : IfSome (lines_left device.left old.below) (λ lines. IfSome (device.left (source_of now.below))
+          (λ rest. bytes_in (drop (suc (lines_given now.below)) lines) ≤ length rest + block_size))
+
+    -- How far the input was read: the first `count` lines, one more and at most a block, and what is
+    -- good after these members comes after the first `count` lines.
+    pub record IsReadTo (past : List (Member A)) (now : MemberReader S A State) : Type 0 where
+      pub count : ℕ
+      pub near : IfSome (lines_left device.left old.below) (λ lines. IfSome (device.left (source_of now.below))
+          (λ rest. bytes_in (drop (suc count) lines) ≤ length rest + block_size))
+      pub behind : IfSome (good_coming device.left old) (λ good. (rest : List (Member A))
+          × (good.members ≡ past ++ rest)
+          × IsBeyond count (record { members = rest; fault = good.fault }))
+
+    -- The members on the first `count` lines are `past`,
+    -- and all that were given are on them and the next.
+    pub record IsReadFor (past given : List (Member A))
+        (now : MemberReader S A State) : Type 0 where
+      pub to : IsReadTo past now
+      pub low : All (λ m. m.line ≤ to.count) past
+      pub high : All (λ m. m.line ≤ suc to.count) given
+      pub begins : IfSome (good_coming device.left old)
+          (λ good. (rest : List (Member A)) × (good.members ≡ given ++ rest))
+
+    -- they are all that is good of the input, which has no fault
+    abbrev pub AreAll : List (Member A) → Type 0
+    AreAll past =
+        IfSome (good_coming device.left old) (λ good. (good.members ≡ past) × (good.fault ≡ None))
+
+    -- a line after them is at fault
+    pub record IsWrongBehind (Kinds : Kind → Type 0) (past : List (Member A)) (fault : FaultValue)
+        (new : MemberReader S A State) : Type 0 where
+      pub whole : IfSome (good_coming device.left old)
+          (λ good. (good.members ≡ past) × (good.fault ≡ Some fault))
+      pub line : ℕ
+      pub kind : Kind
+      pub is : fault ≡ fault_at_line (input_of old.below) line kind
+      pub of_kind : Kinds kind
+      pub served : device.has_failed (source_of new.below) ≡ device.has_failed (source_of old.below)
+      pub within : bytes_taken new.below < 2 ^ 63
+
+    -- the source failed, or its text is too long: after the lines that were given
+    pub record IsUnreadBehind (past : List (Member A)) (fault : FaultValue)
+        (new : MemberReader S A State) : Type 0 where
+      pub is : fault ≡ read_failed (input_of old.below) (suc (lines_given new.below))
+      pub kept : new.fault ≡ Some fault
+      pub cause : (device.has_failed (source_of new.below) ≡ true) ⊎ (2 ^ 63 ≤ bytes_taken new.below)
+      pub cut : CutsOff device.left old.below new.below
+      -- the lines given have these members, and none of them is at fault
+      pub members : IfSome (good_coming device.left old) (λ good. (rest : List (Member A))
+          × (good.members ≡ past ++ rest)
+          × IsBeyond (lines_given new.below) (record { members = rest; fault = good.fault }))
+      pub behind : All (λ m. m.line ≤ lines_given new.below) past
+
+    -- the fault of the input lies after these members
+    abbrev pub HasFaultBehind : (Kind → Type 0) → List (Member A) → FaultValue → MemberReader S A State
+        → Type 0
+    HasFaultBehind Kinds past fault new =
+        IsWrongBehind Kinds past fault new ⊎ IsUnreadBehind past fault new
+
+    -- memory ran out
+    pub record LacksMemory (fault : FaultValue) (new : MemberReader S A State) : Type 0 where
+      pub is : fault ≡ no_memory
+      pub served : device.has_failed (source_of new.below) ≡ device.has_failed (source_of old.below)
+
+    -- the reader stopped after these members
+    pub record StopsAfter (Kinds : Kind → Type 0) (past : List (Member A)) (fault : FaultValue)
+        (new : MemberReader S A State) : Type 0 where
+      pub bytes : (bytes : List ℕ) × Hands device.left old.below bytes new.below
+      pub cause : HasFaultBehind Kinds past fault new ⊎ LacksMemory fault new
+
+-- What feeding an engine with the members of a reader does to the devices.
+
+-- these lines were put after what was put before
+abbrev pub PutsLines : Output → List ℕ → Output → Type 0
+PutsLines old lines new =
+    (before : List ℕ) → old.put ≡ Some before → new.put ≡ Some (before ++ lines)
+
+-- the sink took a prefix of what was put before and these lines, and failed
+pub record CutsLines (old : Output) (lines : List ℕ) (new : Output) : Type 0 where
+  pub front : (before : List ℕ) → old.put ≡ Some before
+      → IsPrefixOf new.took (Some (before ++ lines)) []
+  pub failed : new.has_failed ≡ true
+  pub sink_failed : new.sink_has_failed ≡ true
+
+-- these lines were put, and the sink took all but a block of what was put
+pub record HasPut (old : Output) (lines : List ℕ) (new : Output) : Type 0 where
+  pub puts : PutsLines old lines new
+  pub works : WorksAsBefore old new
+  pub block : HoldsBlock new.took new.put
+  pub grows : Grows old.took new.took
+
+-- of these bytes, put after what was put before, the sink took all but a block;
+-- and unless a write failed, all of them were put
+pub record TookButBlock (old : Output) (bytes : List ℕ) (new : Output) : Type 0 where
+  pub took : (before taken : List ℕ) → old.put ≡ Some before → old.took ≡ Some taken
+      → IfSome new.took (λ now. length (before ++ bytes) ≤ length now + block_size)
+  pub put : (new.has_failed ≡ true) ⊎ ((before : List ℕ) → old.put ≡ Some before
+      → IsPutTo (length (before ++ bytes)) new.put)
+
+module _ {S A State : Type 0} (device : Source S) where
+  -- a reader of members that has given nothing yet
+  pub record IsFresh (reader : MemberReader S A State) : Type 0 where
+    pub none_given : (lines_given reader.below ≡ 0) × (bytes_taken reader.below ≡ 0)
+        × (feeds_taken reader.below ≡ 0)
+    pub none_buffered : reader.buffered ≡ []
+    pub going : reader.fault ≡ None
+    pub sound : IsSound device reader.below
+
+module _ {S A State : Type 0} (settled : List A → List ℕ) (Kinds : Kind → Type 0)
+    (Sorted : List A → Type 0) (device : Source S) where
+  -- these members were taken
+  pub record Took (old : MemberReader S A State) (out : Output) (past : List (Member A))
+      (new : MemberReader S A State) (grown : Output) : Type 0 where
+    pub bytes : (bytes : List ℕ) × Hands device.left old.below bytes new.below
+    -- they are ordered as the input's format requires
+    pub sorted : Sorted (member_items past)
+    pub grows : Grows out.took grown.took
+    -- how far the input was read: what the members of the lines before settle was taken, except at most a
+    -- block
+    pub before : List (Member A)
+    pub read : IsReadFor device old before before new
+    pub kept : TookButBlock out (settled (member_items before)) grown
+
+  -- all members were taken, and the engine is after them
+  pub record FeedsAll (Stands : List A → Type 0) (old : MemberReader S A State) (out : Output)
+      (new : MemberReader S A State) (grown : Output) : Type 0 where
+    pub past : List (Member A)
+    pub took : Took old out past new grown
+    pub whole : AreAll device old past
+    pub stands : Stands (member_items past)
+    pub puts : PutsLines out (settled (member_items past)) grown
+    pub works : WorksAsBefore out grown
+    pub served : device.has_failed (source_of new.below) ≡ device.has_failed (source_of old.below)
+    pub within : bytes_taken new.below < 2 ^ 63
+
+  -- a line is at fault, or the source failed, or its text is too long; or memory ran out
+  pub record StopsTaking (old : MemberReader S A State) (out : Output) (past : List (Member A))
+      (fault : FaultValue) (new : MemberReader S A State) (grown : Output) : Type 0 where
+    pub cause : HasFaultBehind device old Kinds past fault new ⊎ LacksMemory device old fault new
+    pub puts : PutsLines out (settled (member_items past)) grown
+    pub works : WorksAsBefore out grown
+
+  -- the sink failed
+  pub record StopsWriting (old : MemberReader S A State) (out : Output) (past : List (Member A))
+      (fault : FaultValue) (new : MemberReader S A State) (grown : Output) : Type 0 where
+    pub is : fault ≡ write_failed
+    pub cuts : CutsLines out (settled (member_items past)) grown
+    pub served : device.has_failed (source_of new.below) ≡ device.has_failed (source_of old.below)
+
+  -- why the members weren't all taken
+  abbrev pub StopCause : MemberReader S A State → Output → List (Member A) → FaultValue
+      → MemberReader S A State → Output → Type 0
+  StopCause old out past fault new grown =
+      StopsTaking old out past fault new grown ⊎ StopsWriting old out past fault new grown
+
+  -- the members were taken up to a fault
+  pub record FeedsUpTo (old : MemberReader S A State) (out : Output) (fault : FaultValue)
+      (new : MemberReader S A State) (grown : Output) : Type 0 where
+    pub past : List (Member A)
+    pub took : Took old out past new grown
+    pub begins : IfSome (good_coming device.left old)
+        (λ good. (rest : List (Member A)) × (good.members ≡ past ++ rest))
+    pub cause : StopCause old out past fault new grown
+    -- unless a write failed, what was put is what the members of the lines before settle
+    pub exact : fault ≢ write_failed → PutsLines out (settled (member_items took.before)) grown
+
+  -- what feeding an engine with all members does
+  abbrev pub FeedsMembers : {T : Type 0} → (List A → Type 0) → MemberReader S A State → Output
+      → Result T Fault → MemberReader S A State → Output → Type 0
+  FeedsMembers Stands old out (Ok done) new grown = FeedsAll Stands old out new grown
+  FeedsMembers Stands old out (Err fault) new grown = FeedsUpTo old out (fault_value fault) new grown
+
+-- records are in the order of their chromosomes, and each has a base
+abbrev pub AreInOrder : Order → List Feature → Type 0
+AreInOrder order records =
+    ArePlaced order (intervals_of records) × AreNonEmpty (intervals_of records)
+
+-- a reader consumed what was given of its batch, and has buffered what the batch has left
+pub record ConsumesGiven {S O : Type 0} {g : Ghosts O} (device : Source S) (old : Records S O g)
+    (first last : Batch) (new : Records S O g) : Type 0 where
+  pub takes : (records : List Feature) → PassesBatch first records last
+      → HasTaken device (view_of old) records (view_of new)
+  pub left_is : (view_of new).buffered ≡ left last
+  pub line_is : line_in last ≡ lines_given (below new)
+  pub order : order_in new ≡ order_in old
+
+-- What a run does with one line of a SAM input, and with all of them.
+
+-- the line is at fault
+pub record LineRefused (input : Input) (line : TextLine) (out : Output) (fault : FaultValue)
+    (grown : Output) : Type 0 where
+  pub kind : Kind
+  pub says : alignment_of line.text ≡ Err kind
+  pub is : fault ≡ fault_at_line input line.number kind
+  pub unchanged : grown ≡ out
+
+-- what a line of the input does: what it says was written, or the line is at fault, or the lines of
+-- its alignment couldn't be written
+abbrev pub ConvertsLine : {T : Type 0} → Input → Converting → TextLine → Output → Result T Fault
+    → Converting → Output → Type 0
+ConvertsLine input old line out (Ok done) new grown = (said : Option Alignment)
+    × (alignment_of line.text ≡ Ok said)
+    × Grown out (option_map_or (bed_lines old.split old.with_cigar) said []) grown
+    × (new ≡ old)
+ConvertsLine input old line out (Err fault) new grown =
+    LineRefused input line out (fault_value fault) grown
+    ⊎ ((said : Alignment) × (alignment_of line.text ≡ Ok (Some said))
+    × FailsToAdd out (bed_lines old.split old.with_cigar said) (fault_value fault) grown)
+
+-- a reader of lines as one of the alignments on them
+abbrev pub sam_reader : {S : Type 0} → LineReader S → MemberReader S Alignment ⊤
+sam_reader reader = lines_read sam_format tt reader
+
+-- what writing the alignments of all lines does
+abbrev pub ConvertsAll : {S T : Type 0} → Source S → Converting → LineReader S → Output → Result T Fault
+    → LineReader S → Output → Type 0
+ConvertsAll {S} device converting old out answer new grown =
+    (members : MemberReader S Alignment ⊤) × (members.below ≡ new)
+    × FeedsMembers (alignment_lines converting.split converting.with_cigar) (IsOneOf is_sam_kind)
+    (λ past. ⊤) device (λ past. ⊤) (sam_reader old) out answer members grown
+    × IsKeptBelow members new
+
+-- How a run ends at its output.
+
+-- all that was put has been taken, and the fault stays what it was
+pub record FlushesAll (old : Output) (fault : Option FaultValue) (answer : Option FaultValue)
+    (new : Output) : Type 0 where
+  pub was : fault ≢ Some write_failed
+  pub same_fault : answer ≡ fault
+  pub taken : Keeps old.put new.took
+  pub was_served : old.has_failed ≡ false
+  pub sink_served : new.sink_has_failed ≡ old.sink_has_failed
+
+-- the sink failed now, and took a prefix of what was put
+pub record FlushFails (old : Output) (fault : Option FaultValue) (answer : Option FaultValue)
+    (new : Output) : Type 0 where
+  pub was : fault ≢ Some write_failed
+  pub is : answer ≡ Some write_failed
+  pub front : IsPrefixOf new.took old.put []
+  pub sink_failed : new.sink_has_failed ≡ true
+
+-- the sink had failed, and nothing more is written
+pub record StaysFailed (old : Output) (fault : Option FaultValue) (answer : Option FaultValue)
+    (new : Output) : Type 0 where
+  pub was : fault ≡ Some write_failed
+  pub is : answer ≡ Some write_failed
+  pub unchanged : new ≡ old
+
+-- the output of a run that ends with this fault, or without one, is handed on,
+-- unless a write failed
+pub record Flushes (old : Output) (fault : Option FaultValue) (answer : Option FaultValue)
+    (new : Output) : Type 0 where
+  pub ends : (FlushesAll old fault answer new ⊎ FlushFails old fault answer new)
+      ⊎ StaysFailed old fault answer new
+  pub grows : Grows old.took new.took

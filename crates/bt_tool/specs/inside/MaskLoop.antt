@@ -1,0 +1,148 @@
+-- How far masking the lines of a reader by the records of another has come, and how it ends, as a run
+-- over two inputs.
+use Rattle.std.specs.Prelude.{◌≡◌, ◌⊎◌, ⊤, ℕ, ◌+◌, ◌*◌, Bool, true, false, not, List, [], Option, Some, IsTrue, is_some, length}
+use Rattle.std.specs.List.{list_any}
+use Rattle.bt_lines.specs.declared.device.Source.{Ghosts as Source}
+use Rattle.bt_lines.specs.model.Fault.{FaultValue}
+use Rattle.bt_lines.specs.calls.Output.{Output}
+use Rattle.bt_lines.specs.calls.Reader.{buffered_bytes, has_ended, input_of, room as line_room}
+use Rattle.bt_lines.specs.declared.fault.Input.TheVariants.{First}
+use Rattle.bt_lines.specs.declared.reader.line_reader.LineReader.{LineReader}
+use Rattle.bt_bed.specs.model.Feature.{Feature}
+use Rattle.bt_bed.specs.model.Good.{Member, AreInBlocks, block_format}
+use Rattle.bt_bed.specs.model.Sorted.{Locus}
+use Rattle.bt_bed.specs.calls.Blocks.{view_of}
+use Rattle.bt_bed.specs.calls.Reading.{MemberReader, room}
+use Rattle.bt_seq.specs.calls.MaskStage.{MaskStage, Masking}
+use Rattle.bt_seq.specs.calls.MaskSteps.{MaskStandsAt}
+use Rattle.bt_seq.specs.model.Masked.{decided, masked_line, names_of, no_sequence, left_after, Reached, SequenceLine, sequence_format}
+use Rattle.bt_seq.specs.declared.mask.mask_how.MaskHow.{MaskHow}
+use Rattle.bt_seq.specs.declared.mask.mask_want.MaskWant.{MaskWant}
+use Rattle.bt_seq.specs.declared.mask.mask_want.MaskWant.TheVariants.{Line as WantLine, Bed as WantBed, Nothing}
+use Rattle.bt_sweep.specs.declared.sweep.want.Want.{Want}
+use Rattle.bt_sweep.specs.declared.sweep.want.Want.TheVariants.{A as WantA, B as WantB, Nothing as WantNothing}
+use Rattle.bt_tool.specs.declared.loops.masking.MaskRun.{MaskRun}
+use Rattle.bt_tool.specs.model.Written.{IsOneOf, bytes_up_to, is_fasta_kind, is_mask_kind, last_needed}
+use Rattle.bt_tool.specs.inside.Pair.{Comes, JoinDef, Pair, PairStage, item_ahead, HaveRead, IsOverWith}
+use Rattle.bt_tool.specs.inside.Rounds.{IsBuffered}
+use Rattle.bt_tool.specs.inside.Feed.{lines_read}
+
+-- a reader of lines as one of the lines of sequences, if those that were given have come so far
+abbrev pub line_members : {S : Type 0} → Bool → Reached → LineReader S
+    → MemberReader S SequenceLine Reached
+line_members full reached lines = lines_read (sequence_format full) reached lines
+
+-- these records leave one of the lines undecided
+abbrev pub leaves_some : List SequenceLine → List Feature → Bool
+leaves_some lines records = list_any (λ line. not (decided line records)) lines
+
+-- the block of each of these records belongs to a sequence of the lines
+abbrev pub AreOwned : List SequenceLine → List Feature → Type 0
+AreOwned lines records = is_some (left_after (names_of lines) records) ≡ true
+
+-- what masking makes of a line by records
+abbrev pub mask_join : MaskHow → JoinDef SequenceLine Feature
+mask_join how = record {
+  decided = decided;
+  bytes = λ line records. masked_line how records line;
+  limited = λ lines second. second;
+  Fits = λ lines members. ⊤;
+  -- the first record without a sequence
+  last = λ lines members. no_sequence (names_of lines) members;
+  reaches = λ lines members text. bytes_up_to text (last_needed lines [] members);
+  -- if records were taken, they leave one of the lines given undecided
+  Asks = λ lines records. (records ≡ []) ⊎ IsTrue (leaves_some lines records);
+  InOrder = AreInBlocks;
+  first_kinds = IsOneOf is_fasta_kind;
+  second_kinds = IsOneOf is_mask_kind;
+}
+
+-- what a stage of masking is as one of two readers
+abbrev pub stage_of : MaskStage → PairStage SequenceLine Feature
+stage_of stage = record {
+  written = stage.written;
+  waiting = stage.waiting;
+  taken = stage.taken;
+  first_ended = stage.lines_ended;
+  second_ended = stage.bed_ended;
+}
+
+-- before the first header
+abbrev pub nothing_reached : Reached
+nothing_reached = record { names = []; bases = 0 }
+
+-- what an engine that masks wants, as of two inputs
+abbrev pub wanted_by : MaskWant → Want
+wanted_by WantLine = WantA
+wanted_by WantBed = WantB
+wanted_by Nothing = WantNothing
+
+-- how many rounds are wanted beside those that consume: a line that waits is to be written, then
+-- lines come, then records alone
+abbrev pub mask_rounds : Bool → MaskWant → ℕ
+mask_rounds waits WantLine = 2
+mask_rounds true WantBed = 3
+mask_rounds false WantBed = 1
+mask_rounds waits Nothing = 0
+
+module _ {A B : Type 0} where
+  abbrev pub mask_wanted : MaskRun A B → Want
+  mask_wanted now = wanted_by now.mask.want
+
+  abbrev pub is_mask_ready : MaskRun A B → Type 0
+  is_mask_ready now =
+      IsBuffered (mask_wanted now) (length (buffered_bytes now.lines))
+      (length (view_of now.records).buffered)
+
+  -- it falls with each line and each record, and if neither comes
+  abbrev pub left_to_mask : MaskRun A B → ℕ
+  left_to_mask now = 4 * (line_room now.lines + room (view_of now.records))
+      + mask_rounds (is_some now.mask.waiting) now.mask.want
+
+module _ {A B : Type 0} (source_a : Source A) (source_b : Source B) where
+  abbrev pub mask_pair : Bool → LineReader A → MemberReader B Feature (Option Locus)
+      → Pair A B SequenceLine Feature Reached (Option Locus)
+  mask_pair full lines records = record {
+    source_a = source_a;
+    source_b = source_b;
+    first = line_members full nothing_reached lines;
+    second = records;
+  }
+
+module _ {A B : Type 0} (source_a : Source A) (source_b : Source B) (start : MaskRun A B)
+    (out : Output) where
+  abbrev pub begun_pair : Pair A B SequenceLine Feature Reached (Option Locus)
+  begun_pair = mask_pair source_a source_b start.mask.full start.lines (view_of start.records)
+
+  -- lines and records so far were given, and the lines have come so far
+  pub record Masks (reached : Reached) (lines : LineReader A)
+      (second : MemberReader B Feature (Option Locus)) (mask : Masking) (grown : Output) : Type 0 where
+    pub past_first : List (Member SequenceLine)
+    pub past_second : List (Member Feature)
+    pub stage : MaskStage
+    pub stands : MaskStandsAt stage mask
+    pub first_is : input_of start.lines ≡ First
+    pub blocks_is : (view_of start.records).format ≡ block_format
+    pub how_is : mask.how ≡ start.mask.how
+    pub full_is : mask.full ≡ start.mask.full
+    pub comes : Comes (mask_join start.mask.how) begun_pair out (stage_of stage) past_first past_second
+        (line_members start.mask.full reached lines) second grown
+    -- the record ahead, if one is known to be, is the next one
+    pub kept_ahead : (r : Feature) → stage.ahead ≡ Some r → item_ahead second ≡ Some r
+    pub lines_over : stage.lines_ended ≡ true → has_ended lines ≡ true
+
+  abbrev pub GoesOn : LineReader A → MemberReader B Feature (Option Locus) → Masking → Output
+      → Type 0
+  GoesOn lines second mask grown = (reached : Reached) × Masks reached lines second mask grown
+
+  -- the lines and the records so far were given, and all reads served
+  pub record MaskComes (now : MaskRun A B) (grown : Output) : Type 0 where
+    pub goes : GoesOn now.lines (view_of now.records) now.mask grown
+    pub reads : HaveRead begun_pair
+        (line_members start.mask.full goes.0 now.lines) (view_of now.records)
+
+  abbrev pub MaskIsOver : Option FaultValue → MaskRun A B → Output → Type 0
+  MaskIsOver fault now grown = (members : MemberReader A SequenceLine Reached)
+      × (members.below ≡ now.lines)
+      × IsOverWith begun_pair (mask_join start.mask.how) out fault
+      members (view_of now.records) grown
