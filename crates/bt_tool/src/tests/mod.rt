@@ -17,236 +17,6 @@ use std::test::Fail;
 // The genome file of the cases that name no other.
 pub(crate) const GENOME: &[u8] = b"chr1\t1000\nchr2\t50\n";
 
-// A run of `merge` over scripts, and what it gives.
-#[derive(Clone, Copy)]
-struct Case {
-    name: &'static str,
-    genome: &'static [u8],
-    first: &'static [u8],
-    output: &'static [u8],
-    line: Option<&'static [u8]>,
-}
-
-const CASES: [Case; 31] = [
-    Case {
-        name: "overlapping and touching features",
-        genome: GENOME,
-        first: b"chr1\t100\t200\nchr1\t180\t250\nchr1\t250\t500\nchr1\t501\t1000\n",
-        output: b"chr1\t100\t500\nchr1\t501\t1000\n",
-        line: None,
-    },
-    Case {
-        name: "empty input",
-        genome: GENOME,
-        first: b"",
-        output: b"",
-        line: None,
-    },
-    Case {
-        name: "out of order",
-        genome: GENOME,
-        first: b"chr1\t0\t10\nchr1\t20\t30\nchr1\t5\t8\n",
-        output: b"chr1\t0\t10\n",
-        line: Some(b"bedtools merge: a.bed:3: record is out of order\n"),
-    },
-    Case {
-        name: "a chromosome that returns",
-        genome: GENOME,
-        first: b"chr1\t0\t5\nchr2\t0\t5\nchr1\t6\t8\n",
-        output: b"chr1\t0\t5\n",
-        line: Some(b"bedtools merge: a.bed:3: record is out of order\n"),
-    },
-    Case {
-        name: "two chromosomes, in the order of the genome file",
-        genome: b"chr2\t50\nchr10\t1000\n",
-        first: b"chr2\t0\t5\nchr10\t7\t9\nchr10\t8\t20\n",
-        output: b"chr2\t0\t5\nchr10\t7\t20\n",
-        line: None,
-    },
-    Case {
-        name: "line ends, blank lines and leading zeros",
-        genome: b"# name\tlength\nchr1\t1000\r\n\nchr2\t50",
-        first: b"chr1\t007\t9\r\n\r\nchr1\t20\t30",
-        output: b"chr1\t7\t9\nchr1\t20\t30\n",
-        line: None,
-    },
-    Case {
-        name: "a header line",
-        genome: GENOME,
-        first: b"track\tname=x\r\nchr1\t007\t9\r\nchr1\t20\t30",
-        output: b"chr1\t7\t9\nchr1\t20\t30\n",
-        line: None,
-    },
-    Case {
-        name: "header lines anywhere",
-        genome: GENOME,
-        first: b"browser\tposition\tchr1\r\n#\tc\r\nchr1\t5\t9\r\ntrack\tx\r\nchr1\t20\t30",
-        output: b"chr1\t5\t9\nchr1\t20\t30\n",
-        line: None,
-    },
-    Case {
-        name: "a comment",
-        genome: GENOME,
-        first: b"#chr1\t5\nchr1\t1\t2\n",
-        output: b"chr1\t1\t2\n",
-        line: None,
-    },
-    Case {
-        name: "further columns aren't looked at",
-        genome: b"chr1\t10\t52\t60\t61\n",
-        first: b"chr1\t1\t2\tname\t0\t+\nchr1\t1\t3\n",
-        output: b"chr1\t1\t3\n",
-        line: None,
-    },
-    Case {
-        name: "a name that isn't in the genome file",
-        genome: GENOME,
-        first: b"trackX\t1\t2\n",
-        output: b"",
-        line: Some(b"bedtools merge: a.bed:1: chromosome is not in the genome file\n"),
-    },
-    Case {
-        name: "a start of thirteen digits",
-        genome: GENOME,
-        first: b"chr1\t1000000000000\t5\n",
-        output: b"",
-        line: Some(b"bedtools merge: a.bed:1: start is not a number\n"),
-    },
-    Case {
-        name: "an empty feature",
-        genome: GENOME,
-        first: b"chr1\t5\t5\n",
-        output: b"",
-        line: Some(b"bedtools merge: a.bed:1: start is not below end\n"),
-    },
-    Case {
-        name: "two columns",
-        genome: GENOME,
-        first: b"chr1\t5\n",
-        output: b"",
-        line: Some(b"bedtools merge: a.bed:1: too few columns\n"),
-    },
-    Case {
-        name: "two columns on a last line without a line feed",
-        genome: GENOME,
-        first: b"chr1\t5",
-        output: b"",
-        line: Some(b"bedtools merge: a.bed:1: too few columns\n"),
-    },
-    Case {
-        name: "an empty name",
-        genome: GENOME,
-        first: b"\t1\t2\n",
-        output: b"",
-        line: Some(b"bedtools merge: a.bed:1: empty chromosome name\n"),
-    },
-    Case {
-        name: "an end that is no number",
-        genome: GENOME,
-        first: b"chr1\t1\tx\n",
-        output: b"",
-        line: Some(b"bedtools merge: a.bed:1: end is not a number\n"),
-    },
-    Case {
-        name: "the greatest numbers",
-        genome: GENOME,
-        first: b"chr1\t999999999998\t999999999999\n",
-        output: b"chr1\t999999999998\t999999999999\n",
-        line: None,
-    },
-    Case {
-        name: "a start past any number of 64 bits",
-        genome: GENOME,
-        first: b"chr1\t18446744073709551616\t5\n",
-        output: b"",
-        line: Some(b"bedtools merge: a.bed:1: start is not a number\n"),
-    },
-    Case {
-        name: "an end past any number of 64 bits",
-        genome: GENOME,
-        first: b"chr1\t0\t18446744073709551617\n",
-        output: b"",
-        line: Some(b"bedtools merge: a.bed:1: end is not a number\n"),
-    },
-    Case {
-        name: "one column",
-        genome: GENOME,
-        first: b"chr1\n",
-        output: b"",
-        line: Some(b"bedtools merge: a.bed:1: too few columns\n"),
-    },
-    Case {
-        name: "a negative start",
-        genome: GENOME,
-        first: b"chr1\t-1\t5\n",
-        output: b"",
-        line: Some(b"bedtools merge: a.bed:1: start is not a number\n"),
-    },
-    Case {
-        name: "two carriage returns at the end",
-        genome: GENOME,
-        first: b"chr1\t1\t5\r\r\n",
-        output: b"",
-        line: Some(b"bedtools merge: a.bed:1: end is not a number\n"),
-    },
-    Case {
-        name: "a carriage return inside",
-        genome: GENOME,
-        first: b"chr1\t1\t5\rx\n",
-        output: b"",
-        line: Some(b"bedtools merge: a.bed:1: end is not a number\n"),
-    },
-    Case {
-        name: "a lone carriage return",
-        genome: GENOME,
-        first: b"\r",
-        output: b"",
-        line: None,
-    },
-    Case {
-        name: "a genome line of one column",
-        genome: b"chr1\n",
-        first: b"chr1\t1\t2\n",
-        output: b"",
-        line: Some(b"bedtools merge: g.txt:1: too few columns\n"),
-    },
-    Case {
-        name: "a length of 0",
-        genome: b"chr1\t0\n",
-        first: b"chr1\t1\t2\n",
-        output: b"",
-        line: Some(b"bedtools merge: g.txt:1: length is not a number\n"),
-    },
-    Case {
-        name: "an empty name in the genome file",
-        genome: b"\t10\n",
-        first: b"chr1\t1\t2\n",
-        output: b"",
-        line: Some(b"bedtools merge: g.txt:1: empty chromosome name\n"),
-    },
-    Case {
-        name: "a repeated chromosome",
-        genome: b"chr1\t10\nchr1\t20\n",
-        first: b"chr1\t1\t2\n",
-        output: b"",
-        line: Some(b"bedtools merge: g.txt:2: chromosome is repeated\n"),
-    },
-    Case {
-        name: "the genome file's fault comes first",
-        genome: b"chr1\tx\n",
-        first: b"x\n",
-        output: b"",
-        line: Some(b"bedtools merge: g.txt:1: length is not a number\n"),
-    },
-    Case {
-        name: "an empty genome file",
-        genome: b"",
-        first: b"chr1\t1\t2\n",
-        output: b"",
-        line: Some(b"bedtools merge: a.bed:1: chromosome is not in the genome file\n"),
-    },
-];
-
 // The words as strings.
 pub(crate) fn strings(alloc: Global, words: &[&str]) -> Result<Vec<String>, AllocError> {
     let mut strings = Vec::new(alloc);
@@ -389,8 +159,8 @@ pub(crate) fn expect_size(rt: &impl Abort, given: usize, wanted: usize) {
     assert_eq!(rt; given, wanted);
 }
 
-// A run of a command of two inputs on the genome of all tests, by these words after those that name its
-// inputs, and what it gives.
+// A run of a command of two inputs on the genome of all tests, by these words after those that name
+// its inputs, and what it gives.
 pub(crate) struct Pair {
     pub(crate) name: &'static str,
     pub(crate) options: &'static [&'static str],
@@ -415,27 +185,59 @@ pub(crate) fn with_options(
     Ok(words)
 }
 
+// A run, and what it gives.
+#[derive(Clone, Copy)]
+struct Run<'a> {
+    name: &'a str,
+    words: &'a [&'a str],
+    genome: &'a [u8],
+    first: &'a [u8],
+    second: &'a [u8],
+    output: &'a [u8],
+    line: &'a [u8],
+}
+
+fn check_step(rt: &impl Abort, alloc: Global, run: &Run<'_>, step: usize) -> Result<(), Fail> {
+    let script = whole(step.max(1));
+    let devices = Devices {
+        genome: (run.genome, script),
+        first: (run.first, script),
+        second: (run.second, script),
+        out: script,
+    };
+    let answer = run_both(alloc, run.words, devices)?;
+    expect(rt, &answer, run.output, run.line, run.name);
+    Ok(())
+}
+
+// By devices that move bytes one by one, seven a call, and all at once.
+fn check_run(rt: &impl Abort, alloc: Global, run: &Run<'_>) -> Result<(), Fail> {
+    for step in [1, 7, 8192] {
+        check_step(rt, alloc, run, step)?;
+    }
+    Ok(())
+}
+
 fn check_pair(
     rt: &impl Abort,
     alloc: Global,
     command: &[&'static str],
     case: &Pair,
-    step: usize,
 ) -> Result<(), Fail> {
-    let script = whole(step.max(1));
     let words = with_options(alloc, command, case.options)?;
-    let devices = Devices {
-        genome: (GENOME, script),
-        first: (case.first, script),
-        second: (case.second, script),
-        out: script,
+    let run = Run {
+        name: case.name,
+        words: words.as_slice(),
+        genome: GENOME,
+        first: case.first,
+        second: case.second,
+        output: case.output,
+        line: case.line,
     };
-    let answer = run_both(alloc, words.as_slice(), devices)?;
-    expect(rt, &answer, case.output, case.line, case.name);
-    Ok(())
+    check_run(rt, alloc, &run)
 }
 
-// Runs a command in these cases, by devices that move bytes one by one, seven a call, and all at once.
+// Runs a command in these cases.
 pub(crate) fn check_pairs(
     rt: &impl Abort,
     alloc: Global,
@@ -443,15 +245,13 @@ pub(crate) fn check_pairs(
     cases: &[Pair],
 ) -> Result<(), Fail> {
     for case in cases {
-        for step in [1, 7, 8192] {
-            check_pair(rt, alloc, command, case, step)?;
-        }
+        check_pair(rt, alloc, command, case)?;
     }
     Ok(())
 }
 
-// The text of a row: one space stands for a tab, and ` ; ` separates lines, each of which ends with a line
-// feed.
+// The text of a row: one space stands for a tab, and ` ; ` separates lines, each of which ends with
+// a line feed.
 pub(crate) fn text(alloc: Global, row: &str) -> Result<Vec<u8>, Fail> {
     let mut text = Vec::new(alloc);
     if row.is_empty() {
@@ -466,76 +266,134 @@ pub(crate) fn text(alloc: Global, row: &str) -> Result<Vec<u8>, Fail> {
     Ok(text)
 }
 
-// A run of a command of one input on rows, by these words after those that name its input, and what it
-// gives.
-pub(crate) struct Rows {
-    pub(crate) name: &'static str,
-    pub(crate) options: &'static [&'static str],
-    pub(crate) genome: &'static str,
-    pub(crate) first: &'static str,
-    pub(crate) output: &'static str,
-    pub(crate) line: &'static str,
+// Runs of a command, one a row. The head says what stands between the bars of each row:
+//   name      what the row shows
+//   options   the words after those of the command
+//   genome    the genome file; without this part it is GENOME
+//   first     the first input
+//   second    the second input
+//   output    what is written
+//   fault     what the fault line says behind the command; empty for a run that serves
+// A part of the head as `first = TEXT` is the same in all rows, which leave it out.
+#[derive(Clone, Copy)]
+pub(crate) struct Table {
+    pub(crate) command: &'static str,
+    // Whether inputs and output stand as they are; otherwise each is a row of `text`.
+    pub(crate) is_exact: bool,
+    pub(crate) head: &'static str,
+    pub(crate) rows: &'static [&'static str],
 }
 
-fn check_row(
-    rt: &impl Abort,
-    alloc: Global,
-    command: &[&'static str],
-    rows: &Rows,
-    step: usize,
-) -> Result<(), Fail> {
-    let script = whole(step.max(1));
-    let words = with_options(alloc, command, rows.options)?;
-    let genome = text(alloc, rows.genome)?;
-    let first = text(alloc, rows.first)?;
-    let output = text(alloc, rows.output)?;
-    let inputs = ((genome.as_slice(), script), (first.as_slice(), script));
-    let answer = run_words(alloc, words.as_slice(), inputs.0, inputs.1, script)?;
-    let line = rows.line.as_bytes();
-    expect(rt, &answer, output.as_slice(), line, rows.name);
-    Ok(())
+// The parts of a row.
+#[derive(Clone, Copy)]
+struct Parts {
+    options: &'static str,
+    genome: Option<&'static str>,
+    first: &'static str,
+    second: &'static str,
+    output: &'static str,
+    fault: &'static str,
 }
 
-// Runs a command of one input in these cases, by the same devices.
-pub(crate) fn check_rows(
-    rt: &impl Abort,
+fn put_part(parts: &mut Parts, column: &str, part: &'static str) -> Option<()> {
+    match column {
+        "name" => {}
+        "options" => parts.options = part,
+        "genome" => parts.genome = Some(part),
+        "first" => parts.first = part,
+        "second" => parts.second = part,
+        "output" => parts.output = part,
+        "fault" => parts.fault = part,
+        _ => return None,
+    }
+    Some(())
+}
+
+// None if the row doesn't fit the head.
+fn parts_of(head: &'static str, row: &'static str) -> Option<Parts> {
+    let mut parts = Parts {
+        options: "",
+        genome: None,
+        first: "",
+        second: "",
+        output: "",
+        fault: "",
+    };
+    let mut rest = row.split('|');
+    for column in head.split('|') {
+        let (column, part) = match column.split_once(" = ") {
+            Some(shared) => shared,
+            None => (column, rest.next()?),
+        };
+        put_part(&mut parts, column.trim_matches(' '), part.trim_matches(' '))?;
+    }
+    if rest.next().is_some() {
+        return None;
+    }
+    Some(parts)
+}
+
+fn bytes_of(alloc: Global, table: &Table, part: &str) -> Result<Vec<u8>, Fail> {
+    if table.is_exact {
+        return Ok(Vec::from_slice(alloc, part.as_bytes())?);
+    }
+    text(alloc, part)
+}
+
+// The words of a command, and these options.
+fn words_of(
     alloc: Global,
-    command: &[&'static str],
-    cases: &[Rows],
-) -> Result<(), Fail> {
-    for case in cases {
-        for step in [1, 7, 8192] {
-            check_row(rt, alloc, command, case, step)?;
+    command: &'static str,
+    options: &'static str,
+) -> Result<Vec<&'static str>, AllocError> {
+    let mut words = Vec::new(alloc);
+    for word in command.split_whitespace() {
+        words.push(word)?;
+    }
+    for word in options.split_whitespace() {
+        words.push(word)?;
+    }
+    Ok(words)
+}
+
+// The fault line of a run of these words, an empty one for none.
+fn fault_line(alloc: Global, words: &[&str], fault: &str) -> Result<String, AllocError> {
+    if fault.is_empty() {
+        return Ok(String::new(alloc));
+    }
+    let command = words.first().copied().unwrap_or("");
+    format!(in alloc; "bedtools {command}: {fault}\n")
+}
+
+fn check_row(rt: &impl Abort, alloc: Global, table: &Table, row: &'static str) -> Result<(), Fail> {
+    let parts = parts_of(table.head, row).ok_or(row)?;
+    let words = words_of(alloc, table.command, parts.options)?;
+    let genome = match parts.genome {
+        Some(genome) => bytes_of(alloc, table, genome)?,
+        None => Vec::from_slice(alloc, GENOME)?,
+    };
+    let first = bytes_of(alloc, table, parts.first)?;
+    let second = bytes_of(alloc, table, parts.second)?;
+    let output = bytes_of(alloc, table, parts.output)?;
+    let line = fault_line(alloc, words.as_slice(), parts.fault)?;
+    let run = Run {
+        name: row,
+        words: words.as_slice(),
+        genome: genome.as_slice(),
+        first: first.as_slice(),
+        second: second.as_slice(),
+        output: output.as_slice(),
+        line: line.as_bytes(),
+    };
+    check_run(rt, alloc, &run)
+}
+
+// Runs the commands of these tables.
+pub(crate) fn check_tables(rt: &impl Abort, alloc: Global, tables: &[Table]) -> Result<(), Fail> {
+    for table in tables {
+        for row in table.rows {
+            check_row(rt, alloc, table, row)?;
         }
     }
     Ok(())
-}
-
-fn check(rt: &impl Abort, alloc: Global, case: &Case, step: usize) -> Result<(), Fail> {
-    let script = whole(step.max(1));
-    let words = ["merge", "-i", "a.bed", "-g", "g.txt"];
-    let inputs = ((case.genome, script), (case.first, script));
-    let answer = run_words(alloc, &words, inputs.0, inputs.1, script)?;
-    expect(
-        rt,
-        &answer,
-        case.output,
-        case.line.unwrap_or(b""),
-        case.name,
-    );
-    Ok(())
-}
-
-fn check_all(rt: &impl Abort, alloc: Global, cases: &[Case]) -> Result<(), Fail> {
-    for case in cases {
-        for step in [1, 7, 8192] {
-            check(rt, alloc, case, step)?;
-        }
-    }
-    Ok(())
-}
-
-#[test]
-fn worked_cases(rt: HostRuntime) -> Result<(), Fail> {
-    check_all(&rt, rt.alloc(), &CASES)
 }

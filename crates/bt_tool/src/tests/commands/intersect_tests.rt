@@ -1,435 +1,112 @@
-use crate::tests::{INTERSECT, Pair, check_pairs};
+use crate::tests::{Table, check_tables};
 use std::test::Fail;
 
-const CASES: [Pair; 29] = [
-    Pair {
-        name: "nothing in the first input",
-        options: &[],
-        first: b"",
-        second: b"chr1\t2\t4\n",
-        output: b"",
-        line: b"",
-    },
-    Pair {
-        name: "nothing in the second",
-        options: &["-v"],
-        first: b"chr1\t0\t10\ta\nchr1\t5\t8\n",
-        second: b"",
-        output: b"chr1\t0\t10\ta\nchr1\t5\t8\n",
-        line: b"",
-    },
-    Pair {
-        name: "features that touch",
-        options: &[],
-        first: b"chr1\t10\t20\n",
-        second: b"chr1\t20\t30\n",
-        output: b"",
-        line: b"",
-    },
-    Pair {
-        name: "features that touch, with none of the other",
-        options: &["-v"],
-        first: b"chr1\t10\t20\n",
-        second: b"chr1\t20\t30\n",
-        output: b"chr1\t10\t20\n",
-        line: b"",
-    },
-    Pair {
-        name: "features that touch, counted",
-        options: &["-c"],
-        first: b"chr1\t10\t20\n",
-        second: b"chr1\t20\t30\n",
-        output: b"chr1\t10\t20\t0\n",
-        line: b"",
-    },
-    Pair {
-        name: "a feature inside another",
-        options: &[],
-        first: b"chr1\t0\t100\nchr1\t50\t60\n",
-        second: b"chr1\t10\t20\nchr1\t55\t58\nchr1\t90\t95\n",
-        output: b"chr1\t10\t20\nchr1\t55\t58\nchr1\t90\t95\nchr1\t55\t58\n",
-        line: b"",
-    },
-    Pair {
-        name: "a feature inside another, counted",
-        options: &["-c"],
-        first: b"chr1\t0\t100\nchr1\t50\t60\n",
-        second: b"chr1\t10\t20\nchr1\t55\t58\nchr1\t90\t95\n",
-        output: b"chr1\t0\t100\t3\nchr1\t50\t60\t1\n",
-        line: b"",
-    },
-    Pair {
-        name: "the shared parts",
-        options: &[],
-        first: b"chr1\t10\t30\ta\n",
-        second: b"chr1\t0\t15\tx\nchr1\t25\t40\ty\n",
-        output: b"chr1\t10\t15\ta\nchr1\t25\t30\ta\n",
-        line: b"",
-    },
-    Pair {
-        name: "all input is sorted",
-        options: &["-sorted"],
-        first: b"chr1\t10\t30\ta\n",
-        second: b"chr1\t0\t15\tx\nchr1\t25\t40\ty\n",
-        output: b"chr1\t10\t15\ta\nchr1\t25\t30\ta\n",
-        line: b"",
-    },
-    Pair {
-        name: "the record for each hit",
-        options: &["-wa"],
-        first: b"chr1\t10\t30\ta\n",
-        second: b"chr1\t0\t15\tx\nchr1\t25\t40\ty\n",
-        output: b"chr1\t10\t30\ta\nchr1\t10\t30\ta\n",
-        line: b"",
-    },
-    Pair {
-        name: "the same, asked for twice",
-        options: &["-wa", "-wa"],
-        first: b"chr1\t10\t30\ta\n",
-        second: b"chr1\t0\t15\tx\nchr1\t25\t40\ty\n",
-        output: b"chr1\t10\t30\ta\nchr1\t10\t30\ta\n",
-        line: b"",
-    },
-    Pair {
-        name: "the shared parts, and what hits",
-        options: &["-wb"],
-        first: b"chr1\t10\t30\ta\n",
-        second: b"chr1\t0\t15\tx\nchr1\t25\t40\ty\n",
-        output: b"chr1\t10\t15\ta\tchr1\t0\t15\tx\nchr1\t25\t30\ta\tchr1\t25\t40\ty\n",
-        line: b"",
-    },
-    Pair {
-        name: "the records of both",
-        options: &["-wa", "-wb"],
-        first: b"chr1\t10\t30\ta\n",
-        second: b"chr1\t0\t15\tx\nchr1\t25\t40\ty\n",
-        output: b"chr1\t10\t30\ta\tchr1\t0\t15\tx\nchr1\t10\t30\ta\tchr1\t25\t40\ty\n",
-        line: b"",
-    },
-    Pair {
-        name: "the records of both, and how much they share",
-        options: &["-wo"],
-        first: b"chr1\t10\t30\ta\n",
-        second: b"chr1\t0\t15\tx\nchr1\t25\t40\ty\n",
-        output: b"chr1\t10\t30\ta\tchr1\t0\t15\tx\t5\nchr1\t10\t30\ta\tchr1\t25\t40\ty\t5\n",
-        line: b"",
-    },
-    Pair {
-        name: "the record once",
-        options: &["-u"],
-        first: b"chr1\t10\t30\ta\n",
-        second: b"chr1\t0\t15\tx\nchr1\t25\t40\ty\n",
-        output: b"chr1\t10\t30\ta\n",
-        line: b"",
-    },
-    Pair {
-        name: "the record once, whatever is written of it",
-        options: &["-wa", "-u"],
-        first: b"chr1\t10\t30\ta\n",
-        second: b"chr1\t0\t15\tx\nchr1\t25\t40\ty\n",
-        output: b"chr1\t10\t30\ta\n",
-        line: b"",
-    },
-    Pair {
-        name: "the number of hits",
-        options: &["-c"],
-        first: b"chr1\t10\t30\ta\n",
-        second: b"chr1\t0\t15\tx\nchr1\t25\t40\ty\n",
-        output: b"chr1\t10\t30\ta\t2\n",
-        line: b"",
-    },
-    Pair {
-        name: "the number of hits, whatever is written",
-        options: &["-c", "-wa"],
-        first: b"chr1\t10\t30\ta\n",
-        second: b"chr1\t0\t15\tx\nchr1\t25\t40\ty\n",
-        output: b"chr1\t10\t30\ta\t2\n",
-        line: b"",
-    },
-    Pair {
-        name: "no record without a hit",
-        options: &["-v"],
-        first: b"chr1\t10\t30\ta\n",
-        second: b"chr1\t0\t15\tx\nchr1\t25\t40\ty\n",
-        output: b"",
-        line: b"",
-    },
-    Pair {
-        name: "none without a hit, whatever is written",
-        options: &["-wa", "-v"],
-        first: b"chr1\t10\t30\ta\n",
-        second: b"chr1\t0\t15\tx\nchr1\t25\t40\ty\n",
-        output: b"",
-        line: b"",
-    },
-    Pair {
-        name: "a chromosome behind that of the other",
-        options: &[],
-        first: b"chr2\t0\t5\n",
-        second: b"chr1\t0\t9\nchr2\t5\t9\n",
-        output: b"",
-        line: b"",
-    },
-    Pair {
-        name: "a fault where the second record is asked for",
-        options: &[],
-        first: b"chr1\t0\t10\nchr1\t100\t110\n",
-        second: b"chr1\t2\t4\nchr1\t50\t60\nchr1\tx\t9\n",
-        output: b"chr1\t2\t4\n",
-        line: b"bedtools intersect: b.bed:3: start is not a number\n",
-    },
-    Pair {
-        name: "a fault behind the last record",
-        options: &[],
-        first: b"chr1\t0\t10\n",
-        second: b"chr1\t2\t4\nchr1\t50\t60\nchr1\tx\t9\n",
-        output: b"chr1\t2\t4\n",
-        line: b"bedtools intersect: b.bed:3: start is not a number\n",
-    },
-    Pair {
-        name: "a fault beside no record",
-        options: &[],
-        first: b"",
-        second: b"chr1\t2\t4\nchr1\t50\t60\nchr1\tx\t9\n",
-        output: b"",
-        line: b"bedtools intersect: b.bed:3: start is not a number\n",
-    },
-    Pair {
-        name: "a second input out of order",
-        options: &[],
-        first: b"chr1\t0\t10\n",
-        second: b"chr1\t2\t4\nchr2\t0\t5\nchr1\t50\t60\n",
-        output: b"chr1\t2\t4\n",
-        line: b"bedtools intersect: b.bed:3: record is out of order\n",
-    },
-    Pair {
-        name: "the first input at fault before the second",
-        options: &[],
-        first: b"chr1\t0\t10\nchr1\tx\t5\n",
-        second: b"chr1\t2\t4\nchr1\t50\t60\nchr1\ty\t9\n",
-        output: b"chr1\t2\t4\n",
-        line: b"bedtools intersect: a.bed:2: start is not a number\n",
-    },
-    Pair {
-        name: "both at fault at once",
-        options: &[],
-        first: b"chr1\tx\t5\n",
-        second: b"chr1\ty\t9\n",
-        output: b"",
-        line: b"bedtools intersect: a.bed:1: start is not a number\n",
-    },
-    Pair {
-        name: "the second at fault at once",
-        options: &[],
-        first: b"chr1\t0\t10\n",
-        second: b"chr1\ty\t9\n",
-        output: b"",
-        line: b"bedtools intersect: b.bed:1: start is not a number\n",
-    },
-    Pair {
-        name: "a start with zeros before it",
-        options: &["-wa", "-wb"],
-        first: b"chr1\t007\t9\tn\t0\t+\n",
-        second: b"chr1\t08\t20\tm\n",
-        output: b"chr1\t7\t9\tn\t0\t+\tchr1\t8\t20\tm\n",
-        line: b"",
-    },
-];
+// What is written of a record that two others share parts of.
+const SHARED: Table = Table {
+    command: "intersect -a a.bed -b b.bed -g g.txt",
+    is_exact: false,
+    head: "first = chr1 10 30 a | second = chr1 0 15 x ; chr1 25 40 y | name | options | output",
+    rows: &[
+        "the shared parts | | chr1 10 15 a ; chr1 25 30 a",
+        "all input is sorted | -sorted | chr1 10 15 a ; chr1 25 30 a",
+        "the record for each hit | -wa | chr1 10 30 a ; chr1 10 30 a",
+        "the same, asked for twice | -wa -wa | chr1 10 30 a ; chr1 10 30 a",
+        "the shared parts, and what hits | -wb \
+             | chr1 10 15 a chr1 0 15 x ; chr1 25 30 a chr1 25 40 y",
+        "the records of both | -wa -wb | chr1 10 30 a chr1 0 15 x ; chr1 10 30 a chr1 25 40 y",
+        "the records of both, and how much they share | -wo \
+             | chr1 10 30 a chr1 0 15 x 5 ; chr1 10 30 a chr1 25 40 y 5",
+        "the record once | -u | chr1 10 30 a",
+        "the record once, whatever is written of it | -wa -u | chr1 10 30 a",
+        "the number of hits | -c | chr1 10 30 a 2",
+        "the number of hits, whatever is written | -c -wa | chr1 10 30 a 2",
+        "no record without a hit | -v |",
+        "none without a hit, whatever is written | -wa -v |",
+    ],
+};
+
+const CASES: Table = Table {
+    command: "intersect -a a.bed -b b.bed -g g.txt",
+    is_exact: false,
+    head: "name | options | first | second | output",
+    rows: &[
+        "nothing in the first input | | | chr1 2 4 |",
+        "nothing in the second | -v | chr1 0 10 a ; chr1 5 8 | | chr1 0 10 a ; chr1 5 8",
+        "features that touch | | chr1 10 20 | chr1 20 30 |",
+        "features that touch, with none of the other | -v | chr1 10 20 | chr1 20 30 | chr1 10 20",
+        "features that touch, counted | -c | chr1 10 20 | chr1 20 30 | chr1 10 20 0",
+        "a feature inside another | | chr1 0 100 ; chr1 50 60 \
+             | chr1 10 20 ; chr1 55 58 ; chr1 90 95 \
+             | chr1 10 20 ; chr1 55 58 ; chr1 90 95 ; chr1 55 58",
+        "a feature inside another, counted | -c | chr1 0 100 ; chr1 50 60 \
+             | chr1 10 20 ; chr1 55 58 ; chr1 90 95 | chr1 0 100 3 ; chr1 50 60 1",
+        "a chromosome behind that of the other | | chr2 0 5 | chr1 0 9 ; chr2 5 9 |",
+        "a start with zeros before it | -wa -wb | chr1 007 9 n 0 + | chr1 08 20 m \
+             | chr1 7 9 n 0 + chr1 8 20 m",
+    ],
+};
 
 // What makes a hit: a fraction of the record, or of both, and equal strands.
-const RULES: [Pair; 23] = [
-    Pair {
-        name: "half of the record",
-        options: &["-f", "0.5"],
-        first: b"chr1\t0\t10\n",
-        second: b"chr1\t0\t5\n",
-        output: b"chr1\t0\t5\n",
-        line: b"",
-    },
-    Pair {
-        name: "half of the record, without a digit before the point",
-        options: &["-f", ".5"],
-        first: b"chr1\t0\t10\n",
-        second: b"chr1\t0\t5\n",
-        output: b"chr1\t0\t5\n",
-        line: b"",
-    },
-    Pair {
-        name: "a billionth more than half",
-        options: &["-f", "0.500000001"],
-        first: b"chr1\t0\t10\n",
-        second: b"chr1\t0\t5\n",
-        output: b"",
-        line: b"",
-    },
-    Pair {
-        name: "half of both",
-        options: &["-f", "0.5", "-r"],
-        first: b"chr1\t0\t10\n",
-        second: b"chr1\t0\t5\n",
-        output: b"chr1\t0\t5\n",
-        line: b"",
-    },
-    Pair {
-        name: "half of the record, and not of the other",
-        options: &["-r", "-f", "0.5"],
-        first: b"chr1\t0\t10\n",
-        second: b"chr1\t0\t100\n",
-        output: b"",
-        line: b"",
-    },
-    Pair {
-        name: "the same, asked of the record alone",
-        options: &["-f", "0.5"],
-        first: b"chr1\t0\t10\n",
-        second: b"chr1\t0\t100\n",
-        output: b"chr1\t0\t10\n",
-        line: b"",
-    },
-    Pair {
-        name: "all of the record",
-        options: &["-f", "1"],
-        first: b"chr1\t0\t10\nchr1\t4\t6\n",
-        second: b"chr1\t0\t9\n",
-        output: b"chr1\t4\t6\n",
-        line: b"",
-    },
-    Pair {
-        name: "all of it, without a digit behind the point",
-        options: &["-f", "1."],
-        first: b"chr1\t0\t10\nchr1\t4\t6\n",
-        second: b"chr1\t0\t9\n",
-        output: b"chr1\t4\t6\n",
-        line: b"",
-    },
-    Pair {
-        name: "the last fraction",
-        options: &["-f", "1", "-f", "0.5"],
-        first: b"chr1\t0\t10\n",
-        second: b"chr1\t0\t5\n",
-        output: b"chr1\t0\t5\n",
-        line: b"",
-    },
-    Pair {
-        name: "no fraction",
-        options: &["-f", "0"],
-        first: b"chr1\t0\t10\n",
-        second: b"chr1\t9\t1000\n",
-        output: b"chr1\t9\t10\n",
-        line: b"",
-    },
-    Pair {
-        name: "of both, without a fraction",
-        options: &["-r"],
-        first: b"chr1\t0\t10\n",
-        second: b"chr1\t9\t1000\n",
-        output: b"chr1\t9\t10\n",
-        line: b"",
-    },
-    Pair {
-        name: "half of the record in one of two",
-        options: &["-f", "0.5"],
-        first: b"chr1\t0\t100\n",
-        second: b"chr1\t0\t10\nchr1\t20\t90\n",
-        output: b"chr1\t20\t90\n",
-        line: b"",
-    },
-    Pair {
-        name: "half of the longest record",
-        options: &["-f", "0.5"],
-        first: b"chr1\t0\t999999999999\n",
-        second: b"chr1\t0\t500000000000\n",
-        output: b"chr1\t0\t500000000000\n",
-        line: b"",
-    },
-    Pair {
-        name: "less than half of the longest record",
-        options: &["-f", "0.5"],
-        first: b"chr1\t0\t999999999999\n",
-        second: b"chr1\t0\t499999999999\n",
-        output: b"",
-        line: b"",
-    },
-    Pair {
-        name: "no record without half of it",
-        options: &["-f", "0.5", "-v"],
-        first: b"chr1\t0\t10\n",
-        second: b"chr1\t0\t5\n",
-        output: b"",
-        line: b"",
-    },
-    Pair {
-        name: "a record without more than half of it",
-        options: &["-f", "0.6", "-v"],
-        first: b"chr1\t0\t10\n",
-        second: b"chr1\t0\t5\n",
-        output: b"chr1\t0\t10\n",
-        line: b"",
-    },
-    Pair {
-        name: "the number of hits of half of the record",
-        options: &["-c", "-f", "0.5"],
-        first: b"chr1\t0\t10\n",
-        second: b"chr1\t0\t2\nchr1\t0\t5\n",
-        output: b"chr1\t0\t10\t1\n",
-        line: b"",
-    },
-    Pair {
-        name: "another strand",
-        options: &["-s"],
-        first: b"chr1\t0\t10\ta\t0\t+\n",
-        second: b"chr1\t5\t8\tb\t0\t-\n",
-        output: b"",
-        line: b"",
-    },
-    Pair {
-        name: "another strand, which isn't looked at",
-        options: &[],
-        first: b"chr1\t0\t10\ta\t0\t+\n",
-        second: b"chr1\t5\t8\tb\t0\t-\n",
-        output: b"chr1\t5\t8\ta\t0\t+\n",
-        line: b"",
-    },
-    Pair {
-        name: "the same strand",
-        options: &["-s"],
-        first: b"chr1\t0\t10\ta\t0\t-\n",
-        second: b"chr1\t5\t8\tb\t0\t-\n",
-        output: b"chr1\t5\t8\ta\t0\t-\n",
-        line: b"",
-    },
-    Pair {
-        name: "no strand in both",
-        options: &["-s"],
-        first: b"chr1\t0\t10\n",
-        second: b"chr1\t5\t8\n",
-        output: b"chr1\t5\t8\n",
-        line: b"",
-    },
-    Pair {
-        name: "no strand in one",
-        options: &["-s"],
-        first: b"chr1\t0\t10\n",
-        second: b"chr1\t5\t8\tb\t0\t+\n",
-        output: b"",
-        line: b"",
-    },
-    Pair {
-        name: "half of both on one strand",
-        options: &["-s", "-r", "-f", "0.5"],
-        first: b"chr1\t0\t10\ta\t0\t+\n",
-        second: b"chr1\t0\t6\tb\t0\t-\nchr1\t0\t7\tc\t0\t+\n",
-        output: b"chr1\t0\t7\ta\t0\t+\n",
-        line: b"",
-    },
-];
+const RULES: Table = Table {
+    command: "intersect -a a.bed -b b.bed -g g.txt",
+    is_exact: false,
+    head: "name | options | first | second | output",
+    rows: &[
+        "half of the record | -f 0.5 | chr1 0 10 | chr1 0 5 | chr1 0 5",
+        "half of the record, without a digit before the point | -f .5 | chr1 0 10 | chr1 0 5 \
+             | chr1 0 5",
+        "a billionth more than half | -f 0.500000001 | chr1 0 10 | chr1 0 5 |",
+        "half of both | -f 0.5 -r | chr1 0 10 | chr1 0 5 | chr1 0 5",
+        "half of the record, and not of the other | -r -f 0.5 | chr1 0 10 | chr1 0 100 |",
+        "the same, asked of the record alone | -f 0.5 | chr1 0 10 | chr1 0 100 | chr1 0 10",
+        "all of the record | -f 1 | chr1 0 10 ; chr1 4 6 | chr1 0 9 | chr1 4 6",
+        "all of it, without a digit behind the point | -f 1. | chr1 0 10 ; chr1 4 6 | chr1 0 9 \
+             | chr1 4 6",
+        "the last fraction | -f 1 -f 0.5 | chr1 0 10 | chr1 0 5 | chr1 0 5",
+        "no fraction | -f 0 | chr1 0 10 | chr1 9 1000 | chr1 9 10",
+        "of both, without a fraction | -r | chr1 0 10 | chr1 9 1000 | chr1 9 10",
+        "half of the record in one of two | -f 0.5 | chr1 0 100 | chr1 0 10 ; chr1 20 90 \
+             | chr1 20 90",
+        "half of the longest record | -f 0.5 | chr1 0 999999999999 | chr1 0 500000000000 \
+             | chr1 0 500000000000",
+        "less than half of the longest record | -f 0.5 | chr1 0 999999999999 | chr1 0 499999999999 \
+             |",
+        "no record without half of it | -f 0.5 -v | chr1 0 10 | chr1 0 5 |",
+        "a record without more than half of it | -f 0.6 -v | chr1 0 10 | chr1 0 5 | chr1 0 10",
+        "the number of hits of half of the record | -c -f 0.5 | chr1 0 10 | chr1 0 2 ; chr1 0 5 \
+             | chr1 0 10 1",
+        "another strand | -s | chr1 0 10 a 0 + | chr1 5 8 b 0 - |",
+        "another strand, which isn't looked at | | chr1 0 10 a 0 + | chr1 5 8 b 0 - \
+             | chr1 5 8 a 0 +",
+        "the same strand | -s | chr1 0 10 a 0 - | chr1 5 8 b 0 - | chr1 5 8 a 0 -",
+        "no strand in both | -s | chr1 0 10 | chr1 5 8 | chr1 5 8",
+        "no strand in one | -s | chr1 0 10 | chr1 5 8 b 0 + |",
+        "half of both on one strand | -s -r -f 0.5 | chr1 0 10 a 0 + \
+             | chr1 0 6 b 0 - ; chr1 0 7 c 0 + | chr1 0 7 a 0 +",
+    ],
+};
+
+const FAULTS: Table = Table {
+    command: "intersect -a a.bed -b b.bed -g g.txt",
+    is_exact: false,
+    head: "name | first | second | output | fault",
+    rows: &[
+        "a fault where the second record is asked for | chr1 0 10 ; chr1 100 110 \
+             | chr1 2 4 ; chr1 50 60 ; chr1 x 9 | chr1 2 4 | b.bed:3: start is not a number",
+        "a fault behind the last record | chr1 0 10 | chr1 2 4 ; chr1 50 60 ; chr1 x 9 | chr1 2 4 \
+             | b.bed:3: start is not a number",
+        "a fault beside no record | | chr1 2 4 ; chr1 50 60 ; chr1 x 9 | \
+             | b.bed:3: start is not a number",
+        "a second input out of order | chr1 0 10 | chr1 2 4 ; chr2 0 5 ; chr1 50 60 | chr1 2 4 \
+             | b.bed:3: record is out of order",
+        "the first input at fault before the second | chr1 0 10 ; chr1 x 5 \
+             | chr1 2 4 ; chr1 50 60 ; chr1 y 9 | chr1 2 4 | a.bed:2: start is not a number",
+        "both at fault at once | chr1 x 5 | chr1 y 9 | | a.bed:1: start is not a number",
+        "the second at fault at once | chr1 0 10 | chr1 y 9 | | b.bed:1: start is not a number",
+    ],
+};
 
 #[test]
 fn worked_cases(rt: HostRuntime) -> Result<(), Fail> {
-    check_pairs(&rt, rt.alloc(), INTERSECT, &CASES)
-}
-
-#[test]
-fn worked_rules(rt: HostRuntime) -> Result<(), Fail> {
-    check_pairs(&rt, rt.alloc(), INTERSECT, &RULES)
+    check_tables(&rt, rt.alloc(), &[SHARED, CASES, RULES, FAULTS])
 }

@@ -1,4 +1,4 @@
-//! One table a command.
+//! The worked cases of each command, in tables.
 
 mod bamtobed_tests;
 mod command_tests;

@@ -1,194 +1,59 @@
-use crate::tests::{Pair, SUBTRACT, check_pairs};
+use crate::tests::{Table, check_tables};
 use std::test::Fail;
 
-const CASES: [Pair; 23] = [
-    Pair {
-        name: "pieces between those that hit",
-        options: &[],
-        first: b"chr1\t0\t100\tn\t5\t+\n",
-        second: b"chr1\t10\t20\nchr1\t15\t30\nchr1\t90\t200\n",
-        output: b"chr1\t0\t10\tn\t5\t+\nchr1\t30\t90\tn\t5\t+\n",
-        line: b"",
-    },
-    Pair {
-        name: "a record that is hit, dropped whole",
-        options: &["-A"],
-        first: b"chr1\t0\t100\tn\t5\t+\n",
-        second: b"chr1\t10\t20\nchr1\t15\t30\nchr1\t90\t200\n",
-        output: b"",
-        line: b"",
-    },
-    Pair {
-        name: "past the chromosome's length, at which nothing is cut",
-        options: &[],
-        first: b"chr2\t40\t90\ta\n",
-        second: b"chr2\t60\t70\nchr2\t80\t200\n",
-        output: b"chr2\t40\t60\ta\nchr2\t70\t80\ta\n",
-        line: b"",
-    },
-    Pair {
-        name: "past the chromosome's length, whole",
-        options: &["-A"],
-        first: b"chr2\t40\t60\ta\nchr2\t70\t90\tb\n",
-        second: b"chr2\t60\t70\nchr2\t80\t200\n",
-        output: b"chr2\t40\t60\ta\n",
-        line: b"",
-    },
-    Pair {
-        name: "a record without bases left",
-        options: &[],
-        first: b"chr1\t0\t100\tn\t5\t+\n",
-        second: b"chr1\t0\t100\n",
-        output: b"",
-        line: b"",
-    },
-    Pair {
-        name: "half of the record in one of two",
-        options: &["-f", "0.5"],
-        first: b"chr1\t0\t100\n",
-        second: b"chr1\t0\t40\nchr1\t40\t90\n",
-        output: b"chr1\t0\t40\nchr1\t90\t100\n",
-        line: b"",
-    },
-    Pair {
-        name: "half of the record",
-        options: &["-f", ".5"],
-        first: b"chr1\t0\t10\n",
-        second: b"chr1\t0\t5\n",
-        output: b"chr1\t5\t10\n",
-        line: b"",
-    },
-    Pair {
-        name: "a billionth more than half",
-        options: &["-f", "0.500000001"],
-        first: b"chr1\t0\t10\n",
-        second: b"chr1\t0\t5\n",
-        output: b"chr1\t0\t10\n",
-        line: b"",
-    },
-    Pair {
-        name: "the last fraction",
-        options: &["-f", "1.", "-f", "0.5"],
-        first: b"chr1\t0\t10\n",
-        second: b"chr1\t0\t5\n",
-        output: b"chr1\t5\t10\n",
-        line: b"",
-    },
-    Pair {
-        name: "another strand",
-        options: &["-s"],
-        first: b"chr1\t0\t10\ta\t0\t+\n",
-        second: b"chr1\t2\t4\tb\t0\t-\n",
-        output: b"chr1\t0\t10\ta\t0\t+\n",
-        line: b"",
-    },
-    Pair {
-        name: "another strand, which isn't looked at",
-        options: &[],
-        first: b"chr1\t0\t10\ta\t0\t+\n",
-        second: b"chr1\t2\t4\tb\t0\t-\n",
-        output: b"chr1\t0\t2\ta\t0\t+\nchr1\t4\t10\ta\t0\t+\n",
-        line: b"",
-    },
-    Pair {
-        name: "no strand in both",
-        options: &["-s"],
-        first: b"chr1\t0\t10\n",
-        second: b"chr1\t2\t4\n",
-        output: b"chr1\t0\t2\nchr1\t4\t10\n",
-        line: b"",
-    },
-    Pair {
-        name: "a third of a record, where half is asked for",
-        options: &["-A", "-f", "0.5"],
-        first: b"chr1\t0\t9\ta\n",
-        second: b"chr1\t0\t3\n",
-        output: b"chr1\t0\t9\ta\n",
-        line: b"",
-    },
-    Pair {
-        name: "half of a record, dropped whole",
-        options: &["-f", "0.5", "-A"],
-        first: b"chr1\t0\t10\ta\n",
-        second: b"chr1\t0\t5\n",
-        output: b"",
-        line: b"",
-    },
-    Pair {
-        name: "another strand, with whole records",
-        options: &["-s", "-A"],
-        first: b"chr1\t0\t10\ta\t0\t+\n",
-        second: b"chr1\t2\t4\tb\t0\t-\n",
-        output: b"chr1\t0\t10\ta\t0\t+\n",
-        line: b"",
-    },
-    Pair {
-        name: "records that touch",
-        options: &[],
-        first: b"chr1\t10\t20\n",
-        second: b"chr1\t0\t10\nchr1\t20\t30\n",
-        output: b"chr1\t10\t20\n",
-        line: b"",
-    },
-    Pair {
-        name: "a record inside another",
-        options: &[],
-        first: b"chr1\t0\t100\nchr1\t50\t60\n",
-        second: b"chr1\t10\t20\nchr1\t55\t58\n",
-        output: b"chr1\t0\t10\nchr1\t20\t55\nchr1\t58\t100\nchr1\t50\t55\nchr1\t58\t60\n",
-        line: b"",
-    },
-    Pair {
-        name: "a chromosome behind that of the other",
-        options: &[],
-        first: b"chr2\t0\t5\n",
-        second: b"chr1\t0\t9\nchr2\t5\t9\n",
-        output: b"chr2\t0\t5\n",
-        line: b"",
-    },
-    Pair {
-        name: "a fault where the second record is asked for",
-        options: &[],
-        first: b"chr1\t0\t10\nchr1\t100\t110\n",
-        second: b"chr1\t2\t4\nchr1\t50\t60\nchr1\tx\t9\n",
-        output: b"chr1\t0\t2\nchr1\t4\t10\n",
-        line: b"bedtools subtract: b.bed:3: start is not a number\n",
-    },
-    Pair {
-        name: "a fault beside no record",
-        options: &[],
-        first: b"",
-        second: b"chr1\t2\t4\nchr1\t50\t60\nchr1\tx\t9\n",
-        output: b"",
-        line: b"bedtools subtract: b.bed:3: start is not a number\n",
-    },
-    Pair {
-        name: "the first input at fault before the second",
-        options: &["-A"],
-        first: b"chr1\t0\t10\nchr1\t20\t30\nchr1\tx\t5\n",
-        second: b"chr1\t2\t4\nchr1\t50\t60\nchr1\ty\t9\n",
-        output: b"chr1\t20\t30\n",
-        line: b"bedtools subtract: a.bed:3: start is not a number\n",
-    },
-    Pair {
-        name: "nothing in the second input",
-        options: &[],
-        first: b"chr1\t0\t10\ta\nchr1\t5\t8\n",
-        second: b"",
-        output: b"chr1\t0\t10\ta\nchr1\t5\t8\n",
-        line: b"",
-    },
-    Pair {
-        name: "nothing in either",
-        options: &[],
-        first: b"",
-        second: b"",
-        output: b"",
-        line: b"",
-    },
-];
+const CASES: Table = Table {
+    command: "subtract -a a.bed -b b.bed -g g.txt",
+    is_exact: false,
+    head: "name | options | first | second | output",
+    rows: &[
+        "pieces between those that hit | | chr1 0 100 n 5 + \
+             | chr1 10 20 ; chr1 15 30 ; chr1 90 200 | chr1 0 10 n 5 + ; chr1 30 90 n 5 +",
+        "a record that is hit, dropped whole | -A | chr1 0 100 n 5 + \
+             | chr1 10 20 ; chr1 15 30 ; chr1 90 200 |",
+        "past the chromosome's length, at which nothing is cut | | chr2 40 90 a \
+             | chr2 60 70 ; chr2 80 200 | chr2 40 60 a ; chr2 70 80 a",
+        "past the chromosome's length, whole | -A | chr2 40 60 a ; chr2 70 90 b \
+             | chr2 60 70 ; chr2 80 200 | chr2 40 60 a",
+        "a record without bases left | | chr1 0 100 n 5 + | chr1 0 100 |",
+        "half of the record in one of two | -f 0.5 | chr1 0 100 | chr1 0 40 ; chr1 40 90 \
+             | chr1 0 40 ; chr1 90 100",
+        "half of the record | -f .5 | chr1 0 10 | chr1 0 5 | chr1 5 10",
+        "a billionth more than half | -f 0.500000001 | chr1 0 10 | chr1 0 5 | chr1 0 10",
+        "the last fraction | -f 1. -f 0.5 | chr1 0 10 | chr1 0 5 | chr1 5 10",
+        "another strand | -s | chr1 0 10 a 0 + | chr1 2 4 b 0 - | chr1 0 10 a 0 +",
+        "another strand, which isn't looked at | | chr1 0 10 a 0 + | chr1 2 4 b 0 - \
+             | chr1 0 2 a 0 + ; chr1 4 10 a 0 +",
+        "no strand in both | -s | chr1 0 10 | chr1 2 4 | chr1 0 2 ; chr1 4 10",
+        "a third of a record, where half is asked for | -A -f 0.5 | chr1 0 9 a | chr1 0 3 \
+             | chr1 0 9 a",
+        "half of a record, dropped whole | -f 0.5 -A | chr1 0 10 a | chr1 0 5 |",
+        "another strand, with whole records | -s -A | chr1 0 10 a 0 + | chr1 2 4 b 0 - \
+             | chr1 0 10 a 0 +",
+        "records that touch | | chr1 10 20 | chr1 0 10 ; chr1 20 30 | chr1 10 20",
+        "a record inside another | | chr1 0 100 ; chr1 50 60 | chr1 10 20 ; chr1 55 58 \
+             | chr1 0 10 ; chr1 20 55 ; chr1 58 100 ; chr1 50 55 ; chr1 58 60",
+        "a chromosome behind that of the other | | chr2 0 5 | chr1 0 9 ; chr2 5 9 | chr2 0 5",
+        "nothing in the second input | | chr1 0 10 a ; chr1 5 8 | | chr1 0 10 a ; chr1 5 8",
+        "nothing in either | | | |",
+    ],
+};
+
+const FAULTS: Table = Table {
+    command: "subtract -a a.bed -b b.bed -g g.txt",
+    is_exact: false,
+    head: "name | options | first | second | output | fault",
+    rows: &[
+        "a fault where the second record is asked for | | chr1 0 10 ; chr1 100 110 \
+             | chr1 2 4 ; chr1 50 60 ; chr1 x 9 | chr1 0 2 ; chr1 4 10 \
+             | b.bed:3: start is not a number",
+        "a fault beside no record | | | chr1 2 4 ; chr1 50 60 ; chr1 x 9 | \
+             | b.bed:3: start is not a number",
+        "the first input at fault before the second | -A | chr1 0 10 ; chr1 20 30 ; chr1 x 5 \
+             | chr1 2 4 ; chr1 50 60 ; chr1 y 9 | chr1 20 30 | a.bed:3: start is not a number",
+    ],
+};
 
 #[test]
 fn worked_cases(rt: HostRuntime) -> Result<(), Fail> {
-    check_pairs(&rt, rt.alloc(), SUBTRACT, &CASES)
+    check_tables(&rt, rt.alloc(), &[CASES, FAULTS])
 }
