@@ -185,96 +185,62 @@ fn end_of(alloc: Global, plan: &Plan, outcome: &Outcome) -> Message
 #[cfg(test)]
 mod tests {
     use super::*;
+    use std::process::Abort;
     use std::test::Fail;
 
-    // Words, and the line and status of their end.
-    const ENDS: [(&str, &[u8], u8); 21] = [
-        ("", b"bedtools: no or unknown command\n", 2),
-        ("sort", b"bedtools: no or unknown command\n", 2),
-        ("merge -q", b"bedtools: unknown option: -q\n", 2),
-        (
-            "complement -i a.bed",
-            b"bedtools: required option missing\n",
-            2,
-        ),
-        (
-            "merge -g no/such/file",
-            b"bedtools merge: no/such/file: cannot be opened\n",
-            1,
-        ),
-        (
-            "intersect -a no/a -b no/b -g no/g",
-            b"bedtools intersect: no/g: cannot be opened\n",
-            1,
-        ),
-        (
-            "intersect -a no/a -b no/b -g /dev/null",
-            b"bedtools intersect: no/a: cannot be opened\n",
-            1,
-        ),
-        (
-            "intersect -a /dev/null -b no/b -g /dev/null",
-            b"bedtools intersect: no/b: cannot be opened\n",
-            1,
-        ),
-        (
-            "intersect -a . -b /dev/null -g /dev/null",
-            b"bedtools intersect: .:1: reading failed\n",
-            1,
-        ),
-        (
-            "intersect -a /dev/null -b . -g /dev/null",
-            b"bedtools intersect: .:1: reading failed\n",
-            1,
-        ),
-        (
-            "merge -i . -g /dev/null",
-            b"bedtools merge: .:1: reading failed\n",
-            1,
-        ),
-        ("merge -i /dev/null -g /dev/null", b"", 0),
-        ("bamtobed -i /dev/null", b"", 0),
-        ("bamtobed -g g.txt", b"bedtools: unknown option: -g\n", 2),
-        ("maskfasta -fi /dev/null -bed /dev/null", b"", 0),
-        ("maskfasta -fi /dev/null -bed /dev/null -fo stdout", b"", 0),
-        (
-            "maskfasta -fi /dev/null -bed /dev/null -fo /dev/null",
-            b"bedtools: options exclude one another\n",
-            2,
-        ),
-        (
-            "maskfasta -fi no/fa -bed no/bed -fo no/out",
-            b"bedtools maskfasta: no/fa: cannot be opened\n",
-            1,
-        ),
-        (
-            "maskfasta -fi /dev/null -bed no/bed -fo no/out",
-            b"bedtools maskfasta: no/bed: cannot be opened\n",
-            1,
-        ),
-        (
-            "maskfasta -fi /dev/null -bed /dev/./null -fo no/out",
-            b"bedtools maskfasta: no/out: cannot be opened\n",
-            1,
-        ),
-        (
-            "maskfasta -fi /dev/null -bed . -fo /dev/./null",
-            b"bedtools maskfasta: .:1: reading failed\n",
-            1,
-        ),
+    // Words, and behind `=> ` the status of their end, and its line if there is one.
+    const ENDS: [&str; 21] = [
+        "=> 2 bedtools: no or unknown command\n",
+        "sort => 2 bedtools: no or unknown command\n",
+        "merge -q => 2 bedtools: unknown option: -q\n",
+        "complement -i a.bed => 2 bedtools: required option missing\n",
+        "merge -g no/such/file => 1 bedtools merge: no/such/file: cannot be opened\n",
+        "intersect -a no/a -b no/b -g no/g => 1 bedtools intersect: no/g: cannot be opened\n",
+        "intersect -a no/a -b no/b -g /dev/null => 1 bedtools intersect: no/a: cannot be opened\n",
+        "intersect -a /dev/null -b no/b -g /dev/null => \
+         1 bedtools intersect: no/b: cannot be opened\n",
+        "intersect -a . -b /dev/null -g /dev/null => 1 bedtools intersect: .:1: reading failed\n",
+        "intersect -a /dev/null -b . -g /dev/null => 1 bedtools intersect: .:1: reading failed\n",
+        "merge -i . -g /dev/null => 1 bedtools merge: .:1: reading failed\n",
+        "merge -i /dev/null -g /dev/null => 0",
+        "bamtobed -i /dev/null => 0",
+        "bamtobed -g g.txt => 2 bedtools: unknown option: -g\n",
+        "maskfasta -fi /dev/null -bed /dev/null => 0",
+        "maskfasta -fi /dev/null -bed /dev/null -fo stdout => 0",
+        "maskfasta -fi /dev/null -bed /dev/null -fo /dev/null => \
+         2 bedtools: options exclude one another\n",
+        "maskfasta -fi no/fa -bed no/bed -fo no/out => \
+         1 bedtools maskfasta: no/fa: cannot be opened\n",
+        "maskfasta -fi /dev/null -bed no/bed -fo no/out => \
+         1 bedtools maskfasta: no/bed: cannot be opened\n",
+        "maskfasta -fi /dev/null -bed /dev/./null -fo no/out => \
+         1 bedtools maskfasta: no/out: cannot be opened\n",
+        "maskfasta -fi /dev/null -bed . -fo /dev/./null => \
+         1 bedtools maskfasta: .:1: reading failed\n",
     ];
+
+    // The end of a command line.
+    fn message_of(rt: &HostRuntime, command: &str) -> Result<Message, Fail> {
+        let mut words = Vec::new(rt.alloc());
+        for word in command.split_whitespace() {
+            words.push(String::from_str(rt.alloc(), word)?)?;
+        }
+        Ok(start(rt, words.as_slice()))
+    }
+
+    fn expect(rt: &impl Abort, message: &Message, end: &str, row: &str) {
+        let (status, line) = end.split_once(' ').unwrap_or((end, ""));
+        assert_eq!(rt; message.line.as_bytes(), line.as_bytes(), "at {row}");
+        assert_eq!(rt; Some(message.status), status.parse::<u8>().ok(), "at {row}");
+    }
 
     // With memory for its line, each end has its own line and status.
     #[test]
     fn ends(rt: HostRuntime) -> Result<(), Fail> {
-        for (command, line, status) in ENDS {
-            let mut words = Vec::new(rt.alloc());
-            for word in command.split_whitespace() {
-                words.push(String::from_str(rt.alloc(), word)?)?;
-            }
-            let message = start(&rt, words.as_slice());
-            assert_eq!(rt; message.line.as_bytes(), line);
-            assert_eq!(rt; message.status, status);
+        for row in &ENDS {
+            let (command, end) = row.split_once("=> ").ok_or("a row")?;
+            let message = message_of(&rt, command)?;
+            expect(&rt, &message, end, row);
         }
         Ok(())
     }

@@ -133,32 +133,18 @@ mod tests {
             String::from_str(alloc, "merge")?,
             String::from_str(alloc, "-q")?,
         ];
-        let usage = Usage { number: 2, word: 1 };
-        let cases: [(Obstacle<'_>, &[u8], u8); 4] = [
-            (
-                Obstacle::CannotOpen("merge", "g.txt"),
-                b"bedtools merge: g.txt: cannot be opened\n",
-                1,
-            ),
-            (
-                Obstacle::NotUnicode,
-                b"bedtools: argument is not UTF-8\n",
-                2,
-            ),
-            (
-                Obstacle::ClosedStream,
-                b"bedtools: standard stream is closed\n",
-                1,
-            ),
-            (
-                Obstacle::Usage(&words, usage),
-                b"bedtools: unknown option: -q\n",
-                2,
-            ),
+        let unopened = Obstacle::CannotOpen("merge", "g.txt");
+        let usage = Obstacle::Usage(&words, Usage { number: 2, word: 1 });
+        let cases: [(Obstacle<'_>, &str, u8); 4] = [
+            (unopened, " merge: g.txt: cannot be opened", 1),
+            (Obstacle::NotUnicode, ": argument is not UTF-8", 2),
+            (Obstacle::ClosedStream, ": standard stream is closed", 1),
+            (usage, ": unknown option: -q", 2),
         ];
-        for (obstacle, line, status) in &cases {
+        for (obstacle, text, status) in &cases {
             let message = Message::of(alloc, obstacle);
-            assert_eq!(rt; message.line.as_bytes(), *line);
+            let line = format!(in alloc; "bedtools{text}\n")?;
+            assert_eq!(rt; message.line.as_bytes(), line.as_bytes());
             assert_eq!(rt; message.status, *status);
         }
         Ok(())

@@ -2,7 +2,8 @@
 
 ghost use Rattle.std.specs.Prelude.{◌≡◌, IsSome, None, is_some, true};
 
-use crate::tests::{Answer, GENOME, expect, strings};
+use crate::tests::failing_tests::rows::{Case, cases_of};
+use crate::tests::{Answer, expect, strings};
 use crate::{plan, run};
 use bt_lines::{DeviceFailed, ScriptSink, Source};
 use std::alloc::Global;
@@ -43,65 +44,28 @@ impl Source for FailedBefore {
     }
 }
 
-// A run, and what it writes without a fault.
-struct Row {
-    name: &'static str,
-    words: &'static [&'static str],
-    first: &'static [u8],
-    second: &'static [u8],
-    output: &'static [u8],
-}
-
-const ROWS: [Row; 7] = [
-    Row {
-        name: "merge",
-        words: &["merge", "-i", "a.bed", "-g", "g.txt"],
-        first: b"chr1\t1\t5\nchr1\t4\t9\n",
-        second: b"",
-        output: b"chr1\t1\t9\n",
-    },
-    Row {
-        name: "complement",
-        words: &["complement", "-i", "a.bed", "-g", "g.txt", "-L"],
-        first: b"chr1\t0\t990\n",
-        second: b"",
-        output: b"chr1\t990\t1000\n",
-    },
-    Row {
-        name: "genomecov",
-        words: &["genomecov", "-i", "a.bed", "-g", "g.txt", "-bg"],
-        first: b"chr1\t1\t5\n",
-        second: b"",
-        output: b"chr1\t1\t5\t1\n",
-    },
-    Row {
-        name: "intersect",
-        words: &["intersect", "-a", "a.bed", "-b", "b.bed", "-g", "g.txt"],
-        first: b"chr1\t1\t9\n",
-        second: b"chr1\t5\t20\n",
-        output: b"chr1\t5\t9\n",
-    },
-    Row {
-        name: "subtract",
-        words: &["subtract", "-a", "a.bed", "-b", "b.bed", "-g", "g.txt"],
-        first: b"chr1\t1\t9\n",
-        second: b"chr1\t5\t20\n",
-        output: b"chr1\t1\t5\n",
-    },
-    Row {
-        name: "bamtobed",
-        words: &["bamtobed", "-i", "a.sam"],
-        first: b"r\t0\tchr1\t3\t30\t4M\t*\t0\t0\tACGT\t*\n",
-        second: b"",
-        output: b"chr1\t2\t6\tr\t30\t+\n",
-    },
-    Row {
-        name: "maskfasta",
-        words: &["maskfasta", "-fi", "a.fa", "-bed", "b.bed"],
-        first: b">s\nACGT\n",
-        second: b"s\t1\t3\n",
-        output: b">s\nANNT\n",
-    },
+const ROWS: [&str; 21] = [
+    "run: merge -i a.bed -g g.txt | chr1\t1000\nchr2\t50\n",
+    "on: chr1\t1\t5\nchr1\t4\t9\n",
+    "merge | - | chr1\t1\t9\n",
+    "run: complement -i a.bed -g g.txt | chr1\t1000\nchr2\t50\n",
+    "on: chr1\t0\t990\n",
+    "complement | -L | chr1\t990\t1000\n",
+    "run: genomecov -i a.bed -g g.txt | chr1\t1000\nchr2\t50\n",
+    "on: chr1\t1\t5\n",
+    "genomecov | -bg | chr1\t1\t5\t1\n",
+    "run: intersect -a a.bed -b b.bed -g g.txt | chr1\t1000\nchr2\t50\n",
+    "on: chr1\t1\t9\n | chr1\t5\t20\n",
+    "intersect | - | chr1\t5\t9\n",
+    "run: subtract -a a.bed -b b.bed -g g.txt | chr1\t1000\nchr2\t50\n",
+    "on: chr1\t1\t9\n | chr1\t5\t20\n",
+    "subtract | - | chr1\t1\t5\n",
+    "run: bamtobed -i a.sam",
+    "on: r\t0\tchr1\t3\t30\t4M\t*\t0\t0\tACGT\t*\n",
+    "bamtobed | - | chr1\t2\t6\tr\t30\t+\n",
+    "run: maskfasta -fi a.fa -bed b.bed",
+    "on: >s\nACGT\n | s\t1\t3\n",
+    "maskfasta | - | >s\nANNT\n",
 ];
 
 fn failed_before(bytes: &'static [u8]) -> FailedBefore {
@@ -121,15 +85,15 @@ fn failed_if(name: &Option<String>, bytes: &'static [u8]) -> Option<FailedBefore
     Some(failed_before(bytes))
 }
 
-fn run_row(alloc: Global, row: &Row) -> Result<Answer, Fail> {
-    let words = strings(alloc, row.words)?;
+fn run_case(alloc: Global, case: Case) -> Result<Answer, Fail> {
+    let words = strings(alloc, case.words(alloc)?.as_slice())?;
     let plan = plan(alloc, words.as_slice()).ok().ok_or("a plan")?;
     let ended = run(
         alloc,
         &plan,
-        failed_if(&plan.genome, GENOME),
-        failed_before(row.first),
-        failed_if(&plan.second, row.second),
+        failed_if(&plan.genome, case.genome()),
+        failed_before(case.first()),
+        failed_if(&plan.second, case.second()),
         ScriptSink::new(alloc, 7, None),
     );
     Ok(Answer {
@@ -139,15 +103,16 @@ fn run_row(alloc: Global, row: &Row) -> Result<Answer, Fail> {
     })
 }
 
-fn check_rows(rt: &impl Abort, alloc: Global, rows: &[Row]) -> Result<(), Fail> {
-    for row in rows {
-        let answer = run_row(alloc, row)?;
-        expect(rt, &answer, row.output, b"", row.name);
+fn check_all(rt: &impl Abort, alloc: Global, rows: &[&'static str]) -> Result<(), Fail> {
+    let cases = cases_of(alloc, rows)?;
+    for case in cases.as_slice() {
+        let answer = run_case(alloc, *case)?;
+        expect(rt, &answer, case.output(), b"", case.name());
     }
     Ok(())
 }
 
 #[test]
 fn a_failure_before_the_run_is_no_fault(rt: HostRuntime) -> Result<(), Fail> {
-    check_rows(&rt, rt.alloc(), &ROWS)
+    check_all(&rt, rt.alloc(), &ROWS)
 }
