@@ -3,3 +3,4 @@ pub mod Held
 pub mod HeldIndex
 pub mod HeldList
 pub mod Sweeping
+pub mod SweepView

@@ -170,7 +170,7 @@ module _ {X : Type 0} (p : X → Bool) where
   all_pass xs all = pass_rec xs (recursion_from_All (λ x. p x ≡ true) xs all)
 
 module _ (place : ℕ) where
-  none_rec : (xs : List Feature) → list_any (λ r. nat_le r.stop place) xs ≡ false → AllByRecursion (λ x. stays x ≡ true) xs
+  none_rec : (xs : List Feature) → list_any (λ r. nat_le r.stop place) xs ≡ false → AllByRecursion (λ x. stays place x ≡ true) xs
   none_rec [] e = tt
   none_rec (x ∷ xs) e =
       let parts = or_parts (nat_le x.stop place) (list_any (λ r. nat_le r.stop place) xs) e in
@@ -178,23 +178,23 @@ module _ (place : ℕ) where
 
   module _ (xs : List Feature) (n : ℕ) (within : n ≤ length xs) (bases : HaveBases xs)
       (at : IsPartitionPoint (λ (r : Feature). nat_lt r.start place ≡ true) (λ (r : Feature). nat_lt r.start place ≡ false) xs n) where
-    rest_stays : All (λ r. stays r ≡ true) (drop n xs)
+    rest_stays : All (λ r. stays place r ≡ true) (drop n xs)
     rest_stays k d h =
         let high : n + k < length xs = omega (arith, h, length-drop n xs, within) in
         let from = ltb-false _ place (at.1 (n + k) d (omega arith) high) in
-        let here : stays (slice_index_or xs (n + k) d) ≡ true = lt-ltb place _ (omega (arith, from, bases (n + k) d high)) in
-        subst (λ (r : Feature). stays r ≡ true) (sym (get_or-drop n xs k d)) here
+        let here : stays place (slice_index_or xs (n + k) d) ≡ true = lt-ltb place _ (omega (arith, from, bases (n + k) d high)) in
+        subst (λ (r : Feature). stays place r ≡ true) (sym (get_or-drop n xs k d)) here
 
     -- those that have ended are dropped: all of them start before the place
-    pub dropped : filter stays (take n xs) ++ drop n xs ≡ filter stays xs
+    pub dropped : filter (stays place) (take n xs) ++ drop n xs ≡ filter stays place xs
     dropped =
-        ap (λ l. filter stays (take n xs) ++ l) (sym (all_pass stays (drop n xs) rest_stays))
-        ∙ sym (filter-append stays (take n xs) (drop n xs)) ∙ ap (filter stays) (take-append-drop n xs)
+        ap (λ l. filter (stays place) (take n xs) ++ l) (sym (all_pass (stays place) (drop n xs) rest_stays))
+        ∙ sym (filter-append stays (take n xs) (drop n xs)) ∙ ap (filter (stays place)) (take-append-drop n xs)
 
     -- if none of those that start before has ended, there is none
-    pub none_dropped : list_any (λ r. nat_le r.stop place) (take n xs) ≡ false → xs ≡ filter stays xs
+    pub none_dropped : list_any (λ r. nat_le r.stop place) (take n xs) ≡ false → xs ≡ filter stays place xs
     none_dropped none =
-        sym (take-append-drop n xs) ∙ ap (λ l. l ++ drop n xs) (sym (pass_rec stays (take n xs) (none_rec (take n xs) none))) ∙ dropped
+        sym (take-append-drop n xs) ∙ ap (λ l. l ++ drop n xs) (sym (pass_rec (stays place) (take n xs) (none_rec (take n xs) none))) ∙ dropped
 
 -- they rise and have bases if others did of which they are some
 pub rises_on : (p : Feature → Bool) (xs items : List Feature) → items ≡ filter p xs → IsNonDecreasingBy (λ r. r.start) xs → IsNonDecreasingBy (λ r. r.start) items

@@ -12,9 +12,6 @@ use Rattle.bt_bed.specs.model.Sorted.{ArePlaced}
 use Rattle.bt_bed.specs.model.Order.{Order}
 use Rattle.bt_sweep.specs.model.Hits.{decides, decided}
 pub use Rattle.bt_sweep.specs.model.Hits.{is_held, held_for}
-use Rattle.bt_bed.specs.declared.order.ChromOrder.{Ghosts}
-use Rattle.bt_sweep.specs.declared.active.held.Held.{Ghosts as HeldGhosts}
-use Rattle.bt_sweep.specs.declared.sweep.Sweep.{Sweep}
 use Rattle.bt_lines.specs.model.Fault.{FaultValue, no_memory}
 use Rattle.bt_lines.specs.declared.fault.Input.TheVariants.{Second}
 use Rattle.bt_lines.specs.declared.fault.Kind.TheVariants.{TooManyHeld}
@@ -144,17 +141,6 @@ with_a_ended stage = record stage { a_ended = true }
 
 abbrev pub with_b_ended : Stage → Stage
 with_b_ended stage = record (with_lines stage) { b_ended = true }
-
--- What a sweep holds, and the order that it sweeps in.
-
-module _ {H O : Type 0} {h : HeldGhosts H} {g : Ghosts O} where
-  -- the order of the chromosomes
-  abbrev pub order_of : Sweep H O h g → Order
-  order_of sweep = g.order sweep.order.now
-
-  -- what it holds
-  abbrev pub state_of : Sweep H O h g → Sweeping
-  state_of sweep = sweep.state
 
 -- How records of the second input meet those of the first: which they decide, and for which they are taken.
 

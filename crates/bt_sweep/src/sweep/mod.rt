@@ -41,7 +41,8 @@ impl<'o, H: Held, O: ChromOrder> Sweep<'o, H, O> {
     ghost use Rattle.std.specs.Prelude.{◌≡◌, ℕ, All, List, [], IsOk, IsTrue, None, OnErr, OnOk, Option, Some, is_some, ⊤};
     ghost use Rattle.bt_bed.specs.calls.Bed.{feature_lent};
     ghost use Rattle.bt_bed.specs.model.Order.{Order};
-    ghost use Rattle.bt_sweep.specs.calls.Sweeping.{IsInOrder, MovesTo, Stage, StandsAt, first_stage, given, held_for, last_given, with_a, with_a_ended, with_b, EndsB, GivesA, GivesB, AdvancesOn, IsThis, NoneGiven, Settles, GivesKnown, LeavesLast, order_of, state_of, want_in, want_of};
+    ghost use Rattle.bt_sweep.specs.calls.Sweeping.{IsInOrder, MovesTo, Stage, StandsAt, first_stage, given, held_for, last_given, with_a, with_a_ended, with_b, EndsB, GivesA, GivesB, AdvancesOn, IsThis, NoneGiven, Settles, GivesKnown, LeavesLast, want_in, want_of};
+    ghost use Rattle.bt_sweep.specs.calls.SweepView.{order_of, state_of};
     ghost use Rattle.bt_sweep.specs.calls.Held.{CanHit};
     ghost use Rattle.bt_sweep.specs.inside.Joining.{Joins, line_in, pending_in, EndsWhile};
 

@@ -20,7 +20,8 @@ use Rattle.bt_bed.specs.declared.order.ChromOrder.{Ghosts}
 use Rattle.bt_bed.specs.declared.read.records.Records.{Records}
 use Rattle.bt_sweep.specs.model.Hits.{decided, are_too_many, cut_behind, limited}
 use Rattle.bt_sweep.specs.model.Lines.{lines_for}
-use Rattle.bt_sweep.specs.calls.Sweeping.{Stage, StandsAt, given, leaves_some, Sweeping, is_over, want_in, order_of as sweep_order, state_of}
+use Rattle.bt_sweep.specs.calls.Sweeping.{Stage, StandsAt, given, leaves_some, Sweeping, is_over, want_in}
+use Rattle.bt_sweep.specs.calls.SweepView.{order_of as sweep_order, state_of}
 use Rattle.bt_sweep.specs.declared.sweep.want.Want.{Want}
 use Rattle.bt_tool.specs.declared.loops.sweeping.SweepConfig.{SweepConfig}
 use Rattle.bt_tool.specs.declared.loops.sweeping.SweepRun.{SweepRun}

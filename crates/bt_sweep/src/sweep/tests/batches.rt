@@ -3,7 +3,8 @@
 ghost use Rattle.std.specs.Prelude.{◌≡◌, IfSome};
 ghost use Rattle.bt_bed.specs.calls.Records.{order_in};
 ghost use Rattle.bt_bed.specs.calls.Bed.{GivesSingle};
-ghost use Rattle.bt_sweep.specs.calls.Sweeping.{GivesKnown, order_of};
+ghost use Rattle.bt_sweep.specs.calls.Sweeping.{GivesKnown};
+ghost use Rattle.bt_sweep.specs.calls.SweepView.{order_of};
 
 use super::*;
 use bt_bed::{Records, Single};

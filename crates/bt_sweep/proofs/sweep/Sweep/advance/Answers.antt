@@ -1,5 +1,5 @@
 use Rattle.bt_lines.proofs.Std.{inl, sym, ◌∙◌}
-use Rattle.bt_sweep.specs.calls.Sweeping.{order_of, state_of}
+use Rattle.bt_sweep.specs.calls.SweepView.{order_of, state_of}
 use Rattle.bt_sweep.proofs.lemmas.sweep.StandLemmas.{advances_none, stops_nothing}
 use Rattle.bt_sweep.proofs.sweep.Sweep.advance.Goals as goal
 

@@ -1,6 +1,6 @@
 use Rattle.bt_lines.proofs.Std.{ap}
 use Rattle.bt_bed.specs.model.Feature.{Feature}
-use Rattle.bt_sweep.specs.calls.Sweeping.{order_of, state_of}
+use Rattle.bt_sweep.specs.calls.SweepView.{order_of, state_of}
 use Rattle.bt_sweep.proofs.lemmas.sweep.RelateLemmas.{decides_after, decides_before, decides_beside}
 use Rattle.bt_sweep.proofs.sweep.Sweep.decide.Goals as goal
 

@@ -2,7 +2,8 @@ use Rattle.bt_lines.proofs.Std.{◌≡◌, List, [], ◌∷◌, Option, Some, No
 use Rattle.bt_lines.specs.calls.Names.{fault_value}
 use Rattle.bt_bed.specs.calls.Bed.{feature_lent, GivesSingle, HasNone, single_left}
 use Rattle.bt_bed.specs.model.Feature.{Feature}
-use Rattle.bt_sweep.specs.calls.Sweeping.{AdvancesSo, NoneGiven, Sweeping, order_of, state_of}
+use Rattle.bt_sweep.specs.calls.Sweeping.{AdvancesSo, NoneGiven, Sweeping}
+use Rattle.bt_sweep.specs.calls.SweepView.{order_of, state_of}
 use Rattle.bt_sweep.specs.inside.Joining.{EndsWhile}
 use Rattle.bt_sweep.proofs.lemmas.sweep.StandLemmas.{advances_from, advances_none, fails_from, keeps_current, only_first, pre_current, single_none, stops_b, want_b, stops_none}
 use Rattle.bt_sweep.proofs.sweep.Sweep.decide_current.Goals as goal

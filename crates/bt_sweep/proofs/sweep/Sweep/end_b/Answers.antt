@@ -1,7 +1,8 @@
 use Rattle.bt_lines.proofs.Std.{◌≡◌, Some, Ok, ap, subst, sym, ◌∙◌}
 use Rattle.bt_bed.specs.calls.Bed.{feature_lent, single_left}
 use Rattle.bt_bed.specs.model.Feature.{Feature}
-use Rattle.bt_sweep.specs.calls.Sweeping.{EndsB, Sweeping, order_of, state_of}
+use Rattle.bt_sweep.specs.calls.Sweeping.{EndsB, Sweeping}
+use Rattle.bt_sweep.specs.calls.SweepView.{order_of, state_of}
 use Rattle.bt_sweep.specs.declared.sweep.phase.Phase.TheVariants.{First}
 use Rattle.bt_sweep.proofs.lemmas.sweep.SingleLemmas.{ends_b, same_some}
 use Rattle.bt_sweep.proofs.sweep.Sweep.end_b.Goals as goal

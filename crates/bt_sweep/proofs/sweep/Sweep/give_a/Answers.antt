@@ -1,5 +1,5 @@
 use Rattle.bt_bed.specs.calls.Bed.{feature_lent}
-use Rattle.bt_sweep.specs.calls.Sweeping.{order_of}
+use Rattle.bt_sweep.specs.calls.SweepView.{order_of}
 use Rattle.bt_sweep.proofs.lemmas.sweep.KeepLemmas.{known_single}
 use Rattle.bt_sweep.proofs.sweep.Sweep.give_a.Goals as goal
 

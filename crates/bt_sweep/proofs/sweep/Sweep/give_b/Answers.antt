@@ -1,6 +1,6 @@
 use Rattle.bt_lines.proofs.Std.{◌∙◌, err_from_is_err_and}
 use Rattle.bt_bed.specs.calls.Bed.{feature_lent}
-use Rattle.bt_sweep.specs.calls.Sweeping.{order_of, state_of}
+use Rattle.bt_sweep.specs.calls.SweepView.{order_of, state_of}
 use Rattle.bt_sweep.proofs.lemmas.sweep.KeepLemmas.{known_none, known_single}
 use Rattle.bt_sweep.proofs.lemmas.sweep.SingleLemmas.{decides_a, stops_b, takes_b}
 use Rattle.bt_sweep.proofs.sweep.Sweep.give_b.Goals as goal

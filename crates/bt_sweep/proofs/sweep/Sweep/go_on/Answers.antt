@@ -2,7 +2,8 @@ use Rattle.bt_lines.proofs.Std.{◌≡◌, [], ◌∷◌, Option, None, ap, inl,
 use Rattle.bt_lines.specs.calls.Names.{fault_value}
 use Rattle.bt_bed.specs.model.Feature.{Feature}
 use Rattle.bt_sweep.specs.inside.Joining.{EndsWhile}
-use Rattle.bt_sweep.specs.calls.Sweeping.{Sweeping, order_of, state_of}
+use Rattle.bt_sweep.specs.calls.Sweeping.{Sweeping}
+use Rattle.bt_sweep.specs.calls.SweepView.{order_of, state_of}
 use Rattle.bt_sweep.proofs.lemmas.sweep.StandLemmas.{advances_from, advances_none, fails_from, keeps_entered, kept_or_not, none_waits, not_over, pre_next, stops_a, want_a}
 use Rattle.bt_sweep.proofs.sweep.Sweep.go_on.Goals as goal
 

@@ -15,7 +15,8 @@ use Rattle.bt_bed.specs.declared.read.batch.Batch.{Batch}
 use Rattle.bt_bed.specs.declared.order.ChromOrder.{Ghosts}
 use Rattle.bt_bed.specs.declared.read.records.Records.{Records}
 use Rattle.bt_bed.proofs.lemmas.order.OrderLemmas.{sorted_up_to, grows_placed, last_of-push}
-use Rattle.bt_sweep.specs.calls.Sweeping.{AdvancesOn, Settles, ComesNext, Sweeping, AdvancesSo, FailsAt, PutsEach, stage_after, AreDecided, CannotBeHeld, TakenEach, has_room, IsInOrder, MovesTo, Stage, StandsAt, given, leaves_some, phase_of, with_a_ended, with_b_ended, is_over as is_done, want_in, want_of, state_of}
+use Rattle.bt_sweep.specs.calls.Sweeping.{AdvancesOn, Settles, ComesNext, Sweeping, AdvancesSo, FailsAt, PutsEach, stage_after, AreDecided, CannotBeHeld, TakenEach, has_room, IsInOrder, MovesTo, Stage, StandsAt, given, leaves_some, phase_of, with_a_ended, with_b_ended, is_over as is_done, want_in, want_of}
+use Rattle.bt_sweep.specs.calls.SweepView.{state_of}
 use Rattle.bt_sweep.specs.model.Hits.{decided, held_for, is_held}
 use Rattle.bt_sweep.specs.declared.sweep.phase.Phase.{Phase}
 use Rattle.bt_sweep.proofs.lemmas.sweep.KeepLemmas.{decided_before, undecided_beside}

@@ -1,4 +1,4 @@
-use Rattle.bt_sweep.specs.calls.Sweeping.{order_of as sweep_order, state_of}
+use Rattle.bt_sweep.specs.calls.SweepView.{order_of as sweep_order, state_of}
 use Rattle.bt_sweep.proofs.lemmas.sweep.KeepLemmas.{known_batch}
 use Rattle.bt_tool.proofs.lemmas.running.sweep.SweptLemmas.{passed_both}
 use Rattle.bt_tool.proofs.lemmas.running.pair.PairNear.{batch_taken, consumes_given}

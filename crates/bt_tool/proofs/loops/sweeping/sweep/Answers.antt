@@ -7,7 +7,7 @@ use Rattle.bt_bed.specs.model.Good.{bed_format}
 use Rattle.bt_bed.specs.calls.Records.{below, view_of}
 use Rattle.bt_bed.specs.model.Sorted.{sorting_of}
 use Rattle.bt_bed.proofs.lemmas.Definitions.{placed_good}
-use Rattle.bt_sweep.specs.calls.Sweeping.{state_of}
+use Rattle.bt_sweep.specs.calls.SweepView.{state_of}
 use Rattle.bt_tool.specs.model.Written.{intersect_reaches, intersect_settles}
 use Rattle.bt_tool.specs.inside.SweepLoop.{config_of, records_pair, sweep_join}
 use Rattle.bt_tool.proofs.lemmas.running.pair.PairMet.{writes_both}

@@ -1,5 +1,5 @@
 use Rattle.bt_lines.proofs.Std.{◌∙◌}
-use Rattle.bt_sweep.specs.calls.Sweeping.{order_of}
+use Rattle.bt_sweep.specs.calls.SweepView.{order_of}
 use Rattle.bt_sweep.proofs.lemmas.sweep.KeepLemmas.{known_later}
 use Rattle.bt_sweep.proofs.sweep.tests.batches.give_both.Goals as goal
 

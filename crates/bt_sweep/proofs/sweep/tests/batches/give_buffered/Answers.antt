@@ -1,5 +1,5 @@
 use Rattle.bt_lines.proofs.Std.{sym, ◌∙◌}
-use Rattle.bt_sweep.specs.calls.Sweeping.{order_of}
+use Rattle.bt_sweep.specs.calls.SweepView.{order_of}
 use Rattle.bt_sweep.proofs.lemmas.sweep.KeepLemmas.{known_batch}
 use Rattle.bt_sweep.proofs.sweep.tests.batches.give_buffered.Goals as goal
 
