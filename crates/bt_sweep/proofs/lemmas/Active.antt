@@ -186,13 +186,13 @@ module _ (place : ℕ) where
         subst (λ (r : Feature). stays place r ≡ true) (sym (get_or-drop n xs k d)) here
 
     -- those that have ended are dropped: all of them start before the place
-    pub dropped : filter (stays place) (take n xs) ++ drop n xs ≡ filter stays place xs
+    pub dropped : filter (stays place) (take n xs) ++ drop n xs ≡ filter (stays place) xs
     dropped =
         ap (λ l. filter (stays place) (take n xs) ++ l) (sym (all_pass (stays place) (drop n xs) rest_stays))
-        ∙ sym (filter-append stays (take n xs) (drop n xs)) ∙ ap (filter (stays place)) (take-append-drop n xs)
+        ∙ sym (filter-append (stays place) (take n xs) (drop n xs)) ∙ ap (filter (stays place)) (take-append-drop n xs)
 
     -- if none of those that start before has ended, there is none
-    pub none_dropped : list_any (λ r. nat_le r.stop place) (take n xs) ≡ false → xs ≡ filter stays place xs
+    pub none_dropped : list_any (λ r. nat_le r.stop place) (take n xs) ≡ false → xs ≡ filter (stays place) xs
     none_dropped none =
         sym (take-append-drop n xs) ∙ ap (λ l. l ++ drop n xs) (sym (pass_rec (stays place) (take n xs) (none_rec (take n xs) none))) ∙ dropped
 
