@@ -2,8 +2,8 @@
 
 ghost use Rattle.std.specs.Prelude.{◌≡◌, IsSome, None, is_some, true};
 
-use crate::tests::failing_tests::rows::{Case, cases_of};
-use crate::tests::{Answer, expect, strings};
+use crate::tests::tables::{Table, run_of};
+use crate::tests::{Answer, strings};
 use crate::{plan, run};
 use bt_lines::{DeviceFailed, ScriptSink, Source};
 use std::alloc::Global;
@@ -12,12 +12,12 @@ use std::test::Fail;
 
 // A source that says from the start that a read has failed, and hands over its bytes one by one.
 #[derive(Drop)]
-struct FailedBefore {
-    bytes: &'static [u8],
+struct FailedBefore<'a> {
+    bytes: &'a [u8],
     end_told: bool,
 }
 
-impl Source for FailedBefore {
+impl Source for FailedBefore<'_> {
     ghost left = { λ _. None };
 
     ghost has_failed = { λ _. true };
@@ -44,31 +44,23 @@ impl Source for FailedBefore {
     }
 }
 
-const ROWS: [&str; 21] = [
-    "run: merge -i a.bed -g g.txt | chr1\t1000\nchr2\t50\n",
-    "on: chr1\t1\t5\nchr1\t4\t9\n",
-    "merge | - | chr1\t1\t9\n",
-    "run: complement -i a.bed -g g.txt | chr1\t1000\nchr2\t50\n",
-    "on: chr1\t0\t990\n",
-    "complement | -L | chr1\t990\t1000\n",
-    "run: genomecov -i a.bed -g g.txt | chr1\t1000\nchr2\t50\n",
-    "on: chr1\t1\t5\n",
-    "genomecov | -bg | chr1\t1\t5\t1\n",
-    "run: intersect -a a.bed -b b.bed -g g.txt | chr1\t1000\nchr2\t50\n",
-    "on: chr1\t1\t9\n | chr1\t5\t20\n",
-    "intersect | - | chr1\t5\t9\n",
-    "run: subtract -a a.bed -b b.bed -g g.txt | chr1\t1000\nchr2\t50\n",
-    "on: chr1\t1\t9\n | chr1\t5\t20\n",
-    "subtract | - | chr1\t1\t5\n",
-    "run: bamtobed -i a.sam",
-    "on: r\t0\tchr1\t3\t30\t4M\t*\t0\t0\tACGT\t*\n",
-    "bamtobed | - | chr1\t2\t6\tr\t30\t+\n",
-    "run: maskfasta -fi a.fa -bed b.bed",
-    "on: >s\nACGT\n | s\t1\t3\n",
-    "maskfasta | - | >s\nANNT\n",
-];
+// The options are all words, as each row is of another command.
+const RUNS: Table = Table {
+    command: "",
+    is_exact: false,
+    head: "options | first | second | output",
+    rows: &[
+        "merge -i a.bed -g g.txt | chr1 1 5 ; chr1 4 9 | | chr1 1 9",
+        "complement -i a.bed -g g.txt -L | chr1 0 990 | | chr1 990 1000",
+        "genomecov -i a.bed -g g.txt -bg | chr1 1 5 | | chr1 1 5 1",
+        "intersect -a a.bed -b b.bed -g g.txt | chr1 1 9 | chr1 5 20 | chr1 5 9",
+        "subtract -a a.bed -b b.bed -g g.txt | chr1 1 9 | chr1 5 20 | chr1 1 5",
+        "bamtobed -i a.sam | r 0 chr1 3 30 4M * 0 0 ACGT * | | chr1 2 6 r 30 +",
+        "maskfasta -fi a.fa -bed b.bed | >s ; ACGT | s 1 3 | >s ; ANNT",
+    ],
+};
 
-fn failed_before(bytes: &'static [u8]) -> FailedBefore {
+fn failed_before(bytes: &[u8]) -> FailedBefore<'_> {
     FailedBefore {
         bytes,
         end_told: false,
@@ -76,7 +68,7 @@ fn failed_before(bytes: &'static [u8]) -> FailedBefore {
 }
 
 // One of these bytes if the plan names the input.
-fn failed_if(name: &Option<String>, bytes: &'static [u8]) -> Option<FailedBefore>
+fn failed_if<'a>(name: &Option<String>, bytes: &'a [u8]) -> Option<FailedBefore<'a>>
     ensures { is_some result ≡ is_some name.now }
 {
     if name.is_none() {
@@ -85,34 +77,30 @@ fn failed_if(name: &Option<String>, bytes: &'static [u8]) -> Option<FailedBefore
     Some(failed_before(bytes))
 }
 
-fn run_case(alloc: Global, case: Case) -> Result<Answer, Fail> {
-    let words = strings(alloc, case.words(alloc)?.as_slice())?;
+fn check_row(rt: &impl Abort, alloc: Global, row: &'static str) -> Result<(), Fail> {
+    let asked = run_of(alloc, &RUNS, row)?;
+    let words = strings(alloc, asked.words.as_slice())?;
     let plan = plan(alloc, words.as_slice()).ok().ok_or("a plan")?;
     let ended = run(
         alloc,
         &plan,
-        failed_if(&plan.genome, case.genome()),
-        failed_before(case.first()),
-        failed_if(&plan.second, case.second()),
+        failed_if(&plan.genome, asked.genome.as_slice()),
+        failed_before(asked.first.as_slice()),
+        failed_if(&plan.second, asked.second.as_slice()),
         ScriptSink::new(alloc, 7, None),
     );
-    Ok(Answer {
+    let answer = Answer {
         output: Vec::from_slice(alloc, ended.out.taken())?,
         line: ended.outcome.fault_line(alloc, &plan)?,
         status: ended.outcome.status(),
-    })
-}
-
-fn check_all(rt: &impl Abort, alloc: Global, rows: &[&'static str]) -> Result<(), Fail> {
-    let cases = cases_of(alloc, rows)?;
-    for case in cases.as_slice() {
-        let answer = run_case(alloc, *case)?;
-        expect(rt, &answer, case.output(), b"", case.name());
-    }
-    Ok(())
+    };
+    asked.expect(rt, alloc, &answer, (asked.output.as_slice(), ""))
 }
 
 #[test]
 fn a_failure_before_the_run_is_no_fault(rt: HostRuntime) -> Result<(), Fail> {
-    check_all(&rt, rt.alloc(), &ROWS)
+    for row in RUNS.rows {
+        check_row(&rt, rt.alloc(), row)?;
+    }
+    Ok(())
 }

@@ -1,83 +1,114 @@
 //! Runs without a genome file.
 
-use crate::tests::failing_tests::rows::check_cases;
+use crate::tests::tables::{Table, check_tables};
 use std::test::Fail;
 
-const CASES: [&str; 51] = [
-    "run: merge",
-    "on: chr10\t0\t5\nchr2\t0\t5\nchr2\t5\t9\n",
-    "chr10 before chr2 | -i a.bed | chr10\t0\t5\nchr2\t0\t9\n",
-    "on: chr2\t0\t5\nchr10\t0\t5\n",
-    "chr10 behind chr2 | -i a.bed | - | a.bed:2: record is out of order",
-    "on: chr\t0\t1\nchr1\t0\t1\n",
-    "a name before one that it begins | -i a.bed | chr\t0\t1\nchr1\t0\t1\n",
-    "on: chr1\t0\t1\nchr\t0\t1\n",
-    "a name behind one that it begins | -i a.bed | - | a.bed:2: record is out of order",
-    "on: trackX\t1\t2\n",
-    "any name is known | -i a.bed | trackX\t1\t2\n",
-    "on: X\t1\t2\nchrX\t1\t2\nchr_a\t1\t2\n",
-    "capitals before small letters | -i a.bed | X\t1\t2\nchrX\t1\t2\nchr_a\t1\t2\n",
-    "on: chr1\t0\t5\nchr2\t0\t5\nchr1\t6\t8\n",
-    "a chromosome that returns | -i a.bed | chr1\t0\t5\n | a.bed:3: record is out of order",
-    "on: chr1\t0\t5\n\t0\t5\n",
-    "an empty name comes before the order | -i a.bed | - | a.bed:2: empty chromosome name",
-    "on: chr1\t100\t200\nchr1\t180\t250\nchr1\t250\t500\nchr1\t501\t1000\n",
-    "overlapping and touching features | -i a.bed | chr1\t100\t500\nchr1\t501\t1000\n",
-    "a gap of one base | -d 1 -i a.bed | chr1\t100\t1000\n",
-    "on: chr1\t0\t100\ta\t0\t+\nchr1\t10\t20\tb\t0\t-\nchr1\t50\t120\tc\t0\t+\n\
-     chr1\t60\t70\td\t0\t-\n",
-    "each strand by itself | -s -i a.bed | chr1\t0\t120\nchr1\t10\t20\nchr1\t60\t70\n",
-    "the strand - | -S - -i a.bed | chr1\t10\t20\nchr1\t60\t70\n",
-    "on: chr10\t0\t5\ta\t0\t-\nchr11\t0\t5\ta\t0\t+\nchr2\t5\t9\ta\t0\t-\n",
-    "chromosomes without counted records | -S - -i a.bed | chr10\t0\t5\nchr2\t5\t9\n",
-    "run: intersect",
-    "on: chr2\t0\t5\n | chr10\t0\t9\nchr2\t2\t9\n",
-    "the second input has chr10 before chr2 | -a a.bed -b b.bed | chr2\t2\t5\n",
-    "on: chr2\t0\t5\n | chr2\t2\t4\nchr10\t0\t9\n",
-    "the second input has chr10 behind chr2 | -a a.bed -b b.bed | - | \
-     b.bed:2: record is out of order",
-    "on: chr1\t0\t5\nchr11\t0\t5\nchr3\t0\t5\n | chr\t0\t9\nchr10\t0\t9\nchr11\t1\t2\nchr2\t2\t9\n",
-    "chromosomes that only one input has | -c -a a.bed -b b.bed | \
-     chr1\t0\t5\t0\nchr11\t0\t5\t1\nchr3\t0\t5\t0\n",
-    "on: chr1\t10\t20\n | chr1\t20\t30\n",
-    "features that touch | -a a.bed -b b.bed",
-    "features that touch, with none of the other | -v -a a.bed -b b.bed | chr1\t10\t20\n",
-    "on: chr1\t0\t100\nchr1\t50\t60\n | chr1\t10\t20\nchr1\t55\t58\nchr1\t90\t95\n",
-    "a feature inside another | -a a.bed -b b.bed | \
-     chr1\t10\t20\nchr1\t55\t58\nchr1\t90\t95\nchr1\t55\t58\n",
-    "a feature inside another, counted | -a a.bed -b b.bed -c | chr1\t0\t100\t3\nchr1\t50\t60\t1\n",
-    "on: chr1\t0\t10\n | chr1\t2\t4\nchr2\t0\t5\nchr1\t50\t60\n",
-    "a fault of the second input behind all that is asked for | -a a.bed -b b.bed | chr1\t2\t4\n | \
-     b.bed:3: record is out of order",
-    "on: chr1\t0\t10\nchr1\t100\t110\n | chr1\t2\t4\nchr1\t50\t60\nchr1\tx\t9\n",
-    "a fault of the second input before a decided record | -a a.bed -b b.bed | chr1\t2\t4\n | \
-     b.bed:3: start is not a number",
-    "on: chr1\t0\t10\nchr1\tx\t5\n | chr1\t2\t4\nchr1\t50\t60\nchr1\ty\t9\n",
-    "faults of both inputs | -a a.bed -b b.bed | chr1\t2\t4\n | a.bed:2: start is not a number",
-    "on: chr1\tx\t5\n | chr1\ty\t9\n",
-    "faults of both first lines | -a a.bed -b b.bed | - | a.bed:1: start is not a number",
-    "run: subtract",
-    "on: chr10\t0\t9\tn\nchr2\t0\t9\tm\n | chr1\t0\t90\nchr2\t2\t5\n",
-    "pieces on chromosomes in the order of their bytes | -a a.bed -b b.bed | \
-     chr10\t0\t9\tn\nchr2\t0\t2\tm\nchr2\t5\t9\tm\n",
-    "on: chr2\t0\t9\nchr10\t0\t9\n | chr2\t2\t5\n",
-    "the first input has chr10 behind chr2 | -a a.bed -b b.bed | chr2\t0\t2\nchr2\t5\t9\n | \
-     a.bed:2: record is out of order",
-];
+const MERGED: Table = Table {
+    command: "merge",
+    is_exact: false,
+    head: "name | options | first | output",
+    rows: &[
+        "chr10 before chr2 | -i a.bed | chr10 0 5 ; chr2 0 5 ; chr2 5 9 | chr10 0 5 ; chr2 0 9",
+        "a name before one that it begins | -i a.bed | chr 0 1 ; chr1 0 1 | chr 0 1 ; chr1 0 1",
+        "any name is known | -i a.bed | trackX 1 2 | trackX 1 2",
+        "capitals before small letters | -i a.bed | X 1 2 ; chrX 1 2 ; chr_a 1 2 \
+             | X 1 2 ; chrX 1 2 ; chr_a 1 2",
+        "overlapping and touching features | -i a.bed \
+             | chr1 100 200 ; chr1 180 250 ; chr1 250 500 ; chr1 501 1000 \
+             | chr1 100 500 ; chr1 501 1000",
+        "a gap of one base | -d 1 -i a.bed \
+             | chr1 100 200 ; chr1 180 250 ; chr1 250 500 ; chr1 501 1000 | chr1 100 1000",
+        "each strand by itself | -s -i a.bed \
+             | chr1 0 100 a 0 + ; chr1 10 20 b 0 - ; chr1 50 120 c 0 + ; chr1 60 70 d 0 - \
+             | chr1 0 120 ; chr1 10 20 ; chr1 60 70",
+        "the strand - | -S - -i a.bed \
+             | chr1 0 100 a 0 + ; chr1 10 20 b 0 - ; chr1 50 120 c 0 + ; chr1 60 70 d 0 - \
+             | chr1 10 20 ; chr1 60 70",
+        "chromosomes without counted records | -S - -i a.bed \
+             | chr10 0 5 a 0 - ; chr11 0 5 a 0 + ; chr2 5 9 a 0 - | chr10 0 5 ; chr2 5 9",
+    ],
+};
+
+const MERGE_FAULTS: Table = Table {
+    command: "merge -i a.bed",
+    is_exact: false,
+    head: "name | first | output | fault",
+    rows: &[
+        "chr10 behind chr2 | chr2 0 5 ; chr10 0 5 | | a.bed:2: record is out of order",
+        "a name behind one that it begins | chr1 0 1 ; chr 0 1 | | a.bed:2: record is out of order",
+        "a chromosome that returns | chr1 0 5 ; chr2 0 5 ; chr1 6 8 | chr1 0 5 \
+             | a.bed:3: record is out of order",
+        "an empty name comes before the order | chr1 0 5 ;  0 5 | | a.bed:2: empty chromosome name",
+    ],
+};
+
+const INTERSECTED: Table = Table {
+    command: "intersect",
+    is_exact: false,
+    head: "name | options | first | second | output",
+    rows: &[
+        "the second input has chr10 before chr2 | -a a.bed -b b.bed | chr2 0 5 \
+             | chr10 0 9 ; chr2 2 9 | chr2 2 5",
+        "chromosomes that only one input has | -c -a a.bed -b b.bed \
+             | chr1 0 5 ; chr11 0 5 ; chr3 0 5 | chr 0 9 ; chr10 0 9 ; chr11 1 2 ; chr2 2 9 \
+             | chr1 0 5 0 ; chr11 0 5 1 ; chr3 0 5 0",
+        "features that touch | -a a.bed -b b.bed | chr1 10 20 | chr1 20 30 |",
+        "features that touch, with none of the other | -v -a a.bed -b b.bed | chr1 10 20 \
+             | chr1 20 30 | chr1 10 20",
+        "a feature inside another | -a a.bed -b b.bed | chr1 0 100 ; chr1 50 60 \
+             | chr1 10 20 ; chr1 55 58 ; chr1 90 95 \
+             | chr1 10 20 ; chr1 55 58 ; chr1 90 95 ; chr1 55 58",
+        "a feature inside another, counted | -a a.bed -b b.bed -c | chr1 0 100 ; chr1 50 60 \
+             | chr1 10 20 ; chr1 55 58 ; chr1 90 95 | chr1 0 100 3 ; chr1 50 60 1",
+    ],
+};
+
+const INTERSECT_FAULTS: Table = Table {
+    command: "intersect -a a.bed -b b.bed",
+    is_exact: false,
+    head: "name | first | second | output | fault",
+    rows: &[
+        "the second input has chr10 behind chr2 | chr2 0 5 | chr2 2 4 ; chr10 0 9 | \
+             | b.bed:2: record is out of order",
+        "a fault of the second input behind all that is asked for | chr1 0 10 \
+             | chr1 2 4 ; chr2 0 5 ; chr1 50 60 | chr1 2 4 | b.bed:3: record is out of order",
+        "a fault of the second input before a decided record | chr1 0 10 ; chr1 100 110 \
+             | chr1 2 4 ; chr1 50 60 ; chr1 x 9 | chr1 2 4 | b.bed:3: start is not a number",
+        "faults of both inputs | chr1 0 10 ; chr1 x 5 | chr1 2 4 ; chr1 50 60 ; chr1 y 9 \
+             | chr1 2 4 | a.bed:2: start is not a number",
+        "faults of both first lines | chr1 x 5 | chr1 y 9 | | a.bed:1: start is not a number",
+    ],
+};
+
+const SUBTRACTED: Table = Table {
+    command: "subtract -a a.bed -b b.bed",
+    is_exact: false,
+    head: "name | first | second | output | fault",
+    rows: &[
+        "pieces on chromosomes in the order of their bytes | chr10 0 9 n ; chr2 0 9 m \
+             | chr1 0 90 ; chr2 2 5 | chr10 0 9 n ; chr2 0 2 m ; chr2 5 9 m |",
+        "the first input has chr10 behind chr2 | chr2 0 9 ; chr10 0 9 | chr2 2 5 \
+             | chr2 0 2 ; chr2 5 9 | a.bed:2: record is out of order",
+    ],
+};
 
 // The order of a genome file, if one is named, isn't that of the names' bytes.
-const NAMED: [&str; 3] = [
-    "run: intersect -a a.bed -b b.bed -g g.txt | chr2\t50\nchr10\t50\n",
-    "on: chr2\t0\t5\n | chr10\t0\t9\nchr2\t2\t9\n",
-    "chr10 behind chr2 | - | - | b.bed:2: record is out of order",
-];
+const NAMED: Table = Table {
+    command: "intersect -a a.bed -b b.bed -g g.txt",
+    is_exact: false,
+    head: "name | genome | first | second | fault",
+    rows: &[
+        "chr10 behind chr2 | chr2 50 ; chr10 50 | chr2 0 5 | chr10 0 9 ; chr2 2 9 \
+             | b.bed:2: record is out of order",
+    ],
+};
 
 #[test]
 fn worked_cases(rt: HostRuntime) -> Result<(), Fail> {
-    check_cases(&rt, rt.alloc(), &CASES)
+    check_tables(&rt, rt.alloc(), &[MERGED, INTERSECTED, SUBTRACTED, NAMED])
 }
 
 #[test]
-fn a_genome_file_decides_where_it_is_named(rt: HostRuntime) -> Result<(), Fail> {
-    check_cases(&rt, rt.alloc(), &NAMED)
+fn faults(rt: HostRuntime) -> Result<(), Fail> {
+    check_tables(&rt, rt.alloc(), &[MERGE_FAULTS, INTERSECT_FAULTS])
 }

@@ -1,4 +1,4 @@
-use crate::tests::{Table, check_tables};
+use crate::tests::tables::{Table, check_tables};
 use std::test::Fail;
 
 const CASES: Table = Table {

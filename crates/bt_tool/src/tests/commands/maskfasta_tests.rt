@@ -1,4 +1,5 @@
-use crate::tests::{Devices, Table, check_tables, expect, run_both, whole};
+use crate::tests::tables::{Table, check_tables};
+use crate::tests::{Devices, expect, run_both, whole};
 use std::alloc::{AllocError, Global};
 use std::test::Fail;
 
