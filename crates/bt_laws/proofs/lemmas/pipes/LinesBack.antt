@@ -297,7 +297,7 @@ module _ (order : Order) (total : IsTotal order) where
           ap (lines_from n) (append_assoc (text x) (10 ∷ []) behind) ∙ lines_from-fed n (text x) behind says.0.clear in
           subst (λ ls. IsGood (some_said (said x) ++ said_of xs) (good_from (bed_format (sorting_of order)) input last ls)) (sym lines)
           (subst (λ s. IsGood (some_said (said x) ++ said_of xs) (good_with (bed_format (sorting_of order)) input n last (said_after (sorting_of order) last s) (λ now. good_from (bed_format (sorting_of order)) input now (lines_from (suc n) behind)))) (sym says.0.says)
-          (says_on n last (said x) (λ now. good_from (bed_format (sorting_of order)) input now (lines_from (suc n) behind)) (said_of xs) follow (λ now then. good_written (suc n) now xs says.1 then)))
+          (says_on n last (said x) (λ now. good_from (bed_format (sorting_of order)) input now (lines_from (suc n) behind)) (said_of xs) follow (λ now follows. good_written (suc n) now xs says.1 follows)))
 
       -- what is good of these lines
       pub good_lines : (xs : List X) → AllByRecursion SaysLine xs → ArePlaced order (intervals_of (said_of xs))
