@@ -46,6 +46,8 @@ mod order;
 mod parse;
 mod read;
 mod record;
+#[cfg(test)]
+mod tests;
 mod write;
 
 pub use order::ChromOrder;

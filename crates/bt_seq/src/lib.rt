@@ -37,6 +37,8 @@ mod bamtobed;
 mod example;
 mod mask;
 mod sam;
+#[cfg(test)]
+mod tests;
 
 pub use bamtobed::bam_to_bed::BamToBed;
 pub use bt_bed::Taken;

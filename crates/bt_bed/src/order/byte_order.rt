@@ -42,33 +42,16 @@ mod tests {
     use super::*;
 
     // Names, each of which comes before the next.
-    const ASCENDING: [&[u8]; 9] = [
-        b"",
-        b"Chr1",
-        b"chr",
-        b"chr1",
-        b"chr10",
-        b"chr10_random",
-        b"chr2",
-        b"chrX",
-        b"\xc3\xa9",
-    ];
+    #[rattlefmt::skip]
+    const ASCENDING: [&[u8]; 9] =
+        [b"", b"Chr1", b"chr", b"chr1", b"chr10", b"chr10_random", b"chr2", b"chrX", b"\xc3\xa9"];
 
-    // Whether two names of the list compare as their places in it.
-    fn agrees<O: ChromOrder>(order: &O, i: usize, j: usize) -> bool {
-        let (Some(left), Some(right)) = (ASCENDING.get(i), ASCENDING.get(j)) else {
-            return true;
-        };
-        order.knows(left) && order.knows(right) && order.compare(left, right) == i.cmp(&j)
-    }
-
-    // The places of the first two names that compare otherwise.
-    fn first_misordered<O: ChromOrder>(order: &O) -> Option<(usize, usize)> {
-        for i in 0..9 {
-            for j in 0..9 {
-                if !agrees(order, i, j) {
-                    return Some((i, j));
-                }
+    // The first name that compares otherwise with the one at this place than their places do.
+    fn first_misordered<O: ChromOrder>(order: &O, at: usize, name: &[u8]) -> Option<&'static [u8]> {
+        for (place, other) in ASCENDING.iter().enumerate() {
+            let are_known = order.knows(name) && order.knows(other);
+            if !are_known || order.compare(name, other) != at.cmp(&place) {
+                return Some(*other);
             }
         }
         None
@@ -76,6 +59,8 @@ mod tests {
 
     #[test]
     fn orders_names_by_their_bytes(rt: HostRuntime) {
-        assert_eq!(rt; first_misordered(&ByteOrder), None);
+        for (at, name) in ASCENDING.iter().enumerate() {
+            assert_eq!(rt; first_misordered(&ByteOrder, at, name), None, "{name:?}");
+        }
     }
 }

@@ -123,46 +123,24 @@ impl Genome {
 mod tests {
     use super::*;
     use crate::order::ChromOrder;
-    use bt_lines::{Input, ScriptSource};
+    use crate::tests::{genome_of, told};
+    use bt_lines::Input;
     use itoa::Buffer;
     use std::alloc::AllocError;
     use std::cmp::Ordering;
+    use std::test::Fail;
 
-    // The genome file of a text that comes in pieces of this many bytes.
-    fn read(alloc: Global, text: &[u8], step: usize, good: Option<usize>) -> Result<Genome, Fault>
-        requires { 0 < step }
-    {
-        let source = ScriptSource::new(text, step, good);
-        let mut reader = LineReader::new(alloc, source, Input::Genome);
-        let genome = Genome::read(alloc, &mut reader);
-        let _ = reader.into_source();
-        genome
-    }
+    // How many chromosomes a text has, or what is wrong with it at which line.
+    type Count = Result<usize, (Kind, u64)>;
 
-    // How many chromosomes the text has, or what is wrong with it at which line.
-    fn count(
-        alloc: Global,
-        text: &[u8],
-        step: usize,
-        good: Option<usize>,
-    ) -> Result<usize, (Kind, Option<Place>)>
-        requires { 0 < step }
-    {
-        match read(alloc, text, step, good) {
+    fn count(alloc: Global, text: &[u8], step: usize, good: Option<usize>) -> Count {
+        match genome_of(alloc, text, step, good) {
             Ok(genome) => Ok(genome.count()),
-            Err(fault) => Err((fault.kind, fault.place)),
+            Err(fault) => Err(told(fault, Input::Genome)),
         }
     }
 
-    fn at(kind: Kind, line: u64) -> Result<usize, (Kind, Option<Place>)> {
-        let place = Place {
-            input: Input::Genome,
-            line,
-        };
-        Err((kind, Some(place)))
-    }
-
-    const COUNTS: [(&[u8], Result<usize, (Kind, u64)>); 11] = [
+    const COUNTS: [(&[u8], Count); 11] = [
         (b"", Ok(0)),
         (b"chr1\t10\nchr2\t5\n", Ok(2)),
         (b"chr1\t10\t52\t60\t61\n", Ok(1)),
@@ -176,63 +154,31 @@ mod tests {
         (b"chr1\t10\nchr2\nchr1\t10\n", Err((Kind::TooFewColumns, 2))),
     ];
 
-    // The first text of a table that gives another count or fault than it has, in pieces of this many
-    // bytes.
-    fn first_miscounted(
-        alloc: Global,
-        rows: &[(&'static [u8], Result<usize, (Kind, u64)>)],
-        step: usize,
-    ) -> Option<&'static [u8]>
-        requires { 0 < step }
-    {
-        for row in rows {
-            let want = match row.1 {
-                Ok(count) => Ok(count),
-                Err((kind, line)) => at(kind, line),
-            };
-            if count(alloc, row.0, step, None) != want {
-                return Some(row.0);
-            }
-        }
-        None
-    }
-
     #[test]
     fn counts_chromosomes(rt: HostRuntime) {
-        assert_eq!(rt; first_miscounted(rt.alloc(), &COUNTS, 1), None);
-        assert_eq!(rt; first_miscounted(rt.alloc(), &COUNTS, 7), None);
+        for (text, want) in &COUNTS {
+            let by_one = count(rt.alloc(), text, 1, None);
+            let by_seven = count(rt.alloc(), text, 7, None);
+            assert_eq!(rt; (by_one, by_seven), (*want, *want), "{text:?}");
+        }
     }
 
     #[test]
     fn tells_a_failed_read(rt: HostRuntime) {
-        let text = b"chr1\t10\nchr2\t5\n";
-        assert_eq!(rt;
-            count(rt.alloc(), text, 7, Some(8)),
-            at(Kind::ReadFailed, 2)
-        );
-        assert_eq!(rt;
-            count(rt.alloc(), text, 1, Some(15)),
-            at(Kind::ReadFailed, 3)
-        );
+        for (step, good, line) in [(7, 8, 2), (1, 15, 3)] {
+            let found = count(rt.alloc(), b"chr1\t10\nchr2\t5\n", step, Some(good));
+            assert_eq!(rt; found, Err((Kind::ReadFailed, line)));
+        }
     }
 
     #[test]
-    fn finds_chromosomes(rt: HostRuntime) {
-        let found = match read(rt.alloc(), b"b\t10\na\t5\n", 1, None) {
-            Ok(genome) => (genome.rank(b"a"), genome.rank(b"b"), genome.rank(b"c")),
-            Err(_fault) => (None, None, None),
-        };
-        assert_eq!(rt; found, (Some(1), Some(0), None));
-    }
-
-    #[test]
-    fn tells_names_and_lengths(rt: HostRuntime) {
-        let found = match read(rt.alloc(), b"b\t10\na\t5\n", 1, None) {
-            Ok(genome) if genome.count() == 2 => genome.name(1) == b"a".as_slice()
-                && genome.length(1) == 5,
-            _ => false,
-        };
-        assert!(rt; found);
+    fn finds_chromosomes(rt: HostRuntime) -> Result<(), Fail> {
+        let genome = genome_of(rt.alloc(), b"b\t10\na\t5\n", 1, None)?;
+        let ranks = (genome.rank(b"a"), genome.rank(b"b"), genome.rank(b"c"));
+        assert_eq!(rt; ranks, (Some(1), Some(0), None));
+        let is_named = genome.count() == 2 && genome.name(1) == b"a".as_slice();
+        assert!(rt; is_named && genome.count() == 2 && genome.length(1) == 5);
+        Ok(())
     }
 
     // Which of two names comes first, if the order knows both.
@@ -245,9 +191,7 @@ mod tests {
     }
 
     // Two names, and how they compare.
-    type Pair = (&'static [u8], &'static [u8], Option<Ordering>);
-
-    const PAIRS: [Pair; 5] = [
+    const PAIRS: [(&[u8], &[u8], Option<Ordering>); 5] = [
         (b"chr10", b"chr2", Some(Ordering::Less)),
         (b"chr2", b"chr10", Some(Ordering::Greater)),
         (b"chr2", b"chr2", Some(Ordering::Equal)),
@@ -255,22 +199,13 @@ mod tests {
         (b"chr3", b"chr2", None),
     ];
 
-    fn agrees<O: ChromOrder>(order: &O, pairs: &[Pair]) -> bool {
-        for pair in pairs {
-            if compared(order, pair.0, pair.1) != pair.2 {
-                return false;
-            }
-        }
-        true
-    }
-
     #[test]
-    fn orders_chromosomes_by_their_lines(rt: HostRuntime) {
-        let found = match read(rt.alloc(), b"chr10\t5\nchr2\t7\n", 1, None) {
-            Ok(genome) => agrees(&genome, &PAIRS),
-            Err(_fault) => false,
-        };
-        assert!(rt; found);
+    fn orders_chromosomes_by_their_lines(rt: HostRuntime) -> Result<(), Fail> {
+        let genome = genome_of(rt.alloc(), b"chr10\t5\nchr2\t7\n", 1, None)?;
+        for (left, right, want) in &PAIRS {
+            assert_eq!(rt; compared(&genome, left, right), *want);
+        }
+        Ok(())
     }
 
     // A genome file of the names c0, c1 and so on.
@@ -286,14 +221,11 @@ mod tests {
     }
 
     #[test]
-    fn finds_the_last_of_many(rt: HostRuntime) {
-        let found = match numbered(rt.alloc(), 2000) {
-            Ok(text) => match read(rt.alloc(), text.as_slice(), 512, None) {
-                Ok(genome) => (genome.count(), genome.rank(b"c1999"), genome.rank(b"c2000")),
-                Err(_fault) => (0, None, None),
-            },
-            Err(_failed) => (0, None, None),
-        };
+    fn finds_the_last_of_many(rt: HostRuntime) -> Result<(), Fail> {
+        let text = numbered(rt.alloc(), 2000)?;
+        let genome = genome_of(rt.alloc(), text.as_slice(), 512, None)?;
+        let found = (genome.count(), genome.rank(b"c1999"), genome.rank(b"c2000"));
         assert_eq!(rt; found, (2000, Some(1999), None));
+        Ok(())
     }
 }

@@ -38,46 +38,25 @@ fn ends_word(byte: u8) -> bool
 }
 
 #[cfg(test)]
-mod tests {
+pub(crate) mod tests {
     use super::*;
 
-    const LINES: [(&[u8], bool); 22] = [
-        (b"", true),
-        (b"#", true),
-        (b"#chr1\t1\t2", true),
-        (b"##", true),
-        (b"track", true),
-        (b"track\tx", true),
-        (b"track name=x", true),
-        (b"browser", true),
-        (b"browser position", true),
-        (b"browser\t", true),
-        (b"t", false),
-        (b"trac", false),
-        (b"tracks\t1\t2", false),
-        (b"trackX\t1\t2", false),
-        (b"track:\t1\t2", false),
-        (b"Track\t1\t2", false),
-        (b"browsers\t1\t2", false),
-        (b"b", false),
-        (b"brows er", false),
-        (b" track", false),
-        (b"\ttrack", false),
-        (b"chr1\t1\t2", false),
+    #[rattlefmt::skip]
+    pub(crate) const HEADERS: [&[u8]; 10] = [
+        b"", b"#", b"#chr1\t1\t2", b"##", b"track", b"track\tx", b"track name=x", b"browser",
+        b"browser position", b"browser\t",
     ];
 
-    // The first line of a table that is taken for a header and isn't one, or the other way round.
-    fn first_misjudged(rows: &[(&'static [u8], bool)]) -> Option<&'static [u8]> {
-        for row in rows {
-            if is_header(row.0) != row.1 {
-                return Some(row.0);
-            }
-        }
-        None
-    }
+    #[rattlefmt::skip]
+    const OTHERS: [&[u8]; 12] = [
+        b"t", b"trac", b"tracks\t1\t2", b"trackX\t1\t2", b"track:\t1\t2", b"Track\t1\t2",
+        b"browsers\t1\t2", b"b", b"brows er", b" track", b"\ttrack", b"chr1\t1\t2",
+    ];
 
     #[test]
     fn headers(rt: HostRuntime) {
-        assert_eq!(rt; first_misjudged(&LINES), None);
+        let missed = HEADERS.iter().find(|line| !is_header(line));
+        let taken = OTHERS.iter().find(|line| is_header(line));
+        assert_eq!(rt; (missed, taken), (None, None));
     }
 }

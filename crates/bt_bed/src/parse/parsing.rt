@@ -78,71 +78,34 @@ fn bounds(chrom: &[u8], start: &[u8], stop: &[u8]) -> Result<(u64, u64), Kind>
 #[cfg(test)]
 mod tests {
     use super::*;
+    use crate::parse::header::tests::HEADERS;
+    use crate::record::strand::Strand::{Dot, Minus, Plus};
+    use crate::tests::{Said, record, said};
 
-    // The start, the end, the strand and what is kept of a record.
-    type Said = (u64, u64, Strand, &'static [u8]);
-
+    #[rattlefmt::skip]
     const RECORDS: [(&[u8], Said); 20] = [
-        (b"chr1\t5\t9", (5, 9, Strand::Dot, b"")),
-        (b"chr1\t5\t9\t", (5, 9, Strand::Dot, b"\t")),
-        (b"chr1\t007\t9\tn\t0\t+", (7, 9, Strand::Plus, b"\tn\t0\t+")),
-        (
-            b"chr1\t007\t9\tn\t0\t-",
-            (7, 9, Strand::Minus, b"\tn\t0\t-"),
-        ),
-        (b"chr1\t007\t9\tn\t0\t.", (7, 9, Strand::Dot, b"\tn\t0\t.")),
-        (
-            b"chr1\t007\t9\tn\t0\t++",
-            (7, 9, Strand::Dot, b"\tn\t0\t++"),
-        ),
-        (b"chr1\t007\t9\tn\t0\t", (7, 9, Strand::Dot, b"\tn\t0\t")),
-        (b"chr1\t7\t9\tn\t+", (7, 9, Strand::Dot, b"\tn\t+")),
-        (b"chr1\t7\t9\t\t\t+", (7, 9, Strand::Plus, b"\t\t\t+")),
-        (
-            b"chr1\t7\t9\tn\t0\t-\t+",
-            (7, 9, Strand::Minus, b"\tn\t0\t-\t+"),
-        ),
-        (
-            b"chr1\t7\t9\t+\t+\t.\t+",
-            (7, 9, Strand::Dot, b"\t+\t+\t.\t+"),
-        ),
-        (
-            b"chr1\t12345678\t123456789\tabcdefghij\t789\t+",
-            (
-                12_345_678,
-                123_456_789,
-                Strand::Plus,
-                b"\tabcdefghij\t789\t+",
-            ),
-        ),
-        (
-            b"chr1\t00000007\t000000009\tabcdefghijk\t789\t-",
-            (7, 9, Strand::Minus, b"\tabcdefghijk\t789\t-"),
-        ),
-        (
-            b"chr1\t7\t9\tabcdefghijkl\t789\t-\t+",
-            (7, 9, Strand::Minus, b"\tabcdefghijkl\t789\t-\t+"),
-        ),
-        (
-            b"chr1\t7\t9\tabcdefghijklmnopqrst\t789",
-            (7, 9, Strand::Dot, b"\tabcdefghijklmnopqrst\t789"),
-        ),
-        (
-            b"chr1\t90817263\t90817264\t\t\t-\t\t\t\t\t\t\t\t\t\t\t\t\t",
-            (
-                90_817_263,
-                90_817_264,
-                Strand::Minus,
-                b"\t\t\t-\t\t\t\t\t\t\t\t\t\t\t\t\t",
-            ),
-        ),
-        (b"tracks\t1\t2", (1, 2, Strand::Dot, b"")),
-        (b"trackX\t1\t2", (1, 2, Strand::Dot, b"")),
-        (b"Track\t1\t2", (1, 2, Strand::Dot, b"")),
-        (
-            b"chr1\t999999999998\t999999999999",
-            (999_999_999_998, 999_999_999_999, Strand::Dot, b""),
-        ),
+        (b"chr1\t5\t9", (5, 9, Dot, b"")),
+        (b"chr1\t5\t9\t", (5, 9, Dot, b"\t")),
+        (b"chr1\t007\t9\tn\t0\t+", (7, 9, Plus, b"\tn\t0\t+")),
+        (b"chr1\t007\t9\tn\t0\t-", (7, 9, Minus, b"\tn\t0\t-")),
+        (b"chr1\t007\t9\tn\t0\t.", (7, 9, Dot, b"\tn\t0\t.")),
+        (b"chr1\t007\t9\tn\t0\t++", (7, 9, Dot, b"\tn\t0\t++")),
+        (b"chr1\t007\t9\tn\t0\t", (7, 9, Dot, b"\tn\t0\t")),
+        (b"chr1\t7\t9\tn\t+", (7, 9, Dot, b"\tn\t+")),
+        (b"chr1\t7\t9\t\t\t+", (7, 9, Plus, b"\t\t\t+")),
+        (b"chr1\t7\t9\tn\t0\t-\t+", (7, 9, Minus, b"\tn\t0\t-\t+")),
+        (b"chr1\t7\t9\t+\t+\t.\t+", (7, 9, Dot, b"\t+\t+\t.\t+")),
+        (b"chr1\t12345678\t123456789\tabcdefghij\t789\t+",
+            (12_345_678, 123_456_789, Plus, b"\tabcdefghij\t789\t+")),
+        (b"chr1\t00000007\t000000009\tabcdefghijk\t789\t-", (7, 9, Minus, b"\tabcdefghijk\t789\t-")),
+        (b"chr1\t7\t9\tabcdefghijkl\t789\t-\t+", (7, 9, Minus, b"\tabcdefghijkl\t789\t-\t+")),
+        (b"chr1\t7\t9\tabcdefghijklmnopqrst\t789", (7, 9, Dot, b"\tabcdefghijklmnopqrst\t789")),
+        (b"chr1\t90817263\t90817264\t\t\t-\t\t\t\t\t\t\t\t\t\t\t\t\t",
+            (90_817_263, 90_817_264, Minus, b"\t\t\t-\t\t\t\t\t\t\t\t\t\t\t\t\t")),
+        (b"tracks\t1\t2", (1, 2, Dot, b"")),
+        (b"trackX\t1\t2", (1, 2, Dot, b"")),
+        (b"Track\t1\t2", (1, 2, Dot, b"")),
+        (b"chr1\t999999999998\t999999999999", (999_999_999_998, 999_999_999_999, Dot, b"")),
     ];
 
     const NAMES: [(&[u8], &[u8]); 3] = [
@@ -151,114 +114,53 @@ mod tests {
         (b" \t3\t4", b" "),
     ];
 
-    const HEADERS: [&[u8]; 7] = [
-        b"",
-        b"#",
-        b"#chr1\t1\t2",
-        b"track",
-        b"track\tx",
-        b"track name=x",
-        b"browser position",
+    fn says(line: &[u8], want: Said<'_>) -> bool {
+        record(line).map(said) == Some(want)
+    }
+
+    fn name(line: &[u8]) -> Option<&[u8]> {
+        record(line).map(|bed| bed.chrom)
+    }
+
+    #[test]
+    fn lines_say_records(rt: HostRuntime) {
+        let misread = RECORDS.iter().find(|row| !says(row.0, row.1));
+        assert_eq!(rt; misread, None);
+        let misnamed = NAMES.iter().find(|row| name(row.0) != Some(row.1));
+        assert_eq!(rt; misnamed, None);
+    }
+
+    #[rattlefmt::skip]
+    const FAULTS: [(Kind, &[&[u8]]); 5] = [
+        (Kind::TooFewColumns, &[b"chr1", b"chr1\t5", b"\tx", b"chr1 5 9"]),
+        (Kind::EmptyName, &[b"\t1\t2", b"\tx\ty", b"\t\t\t\t\t\t\t\t\t\t\t\t\t\t\t\t\t\t\t\t"]),
+        (Kind::BadStart, &[
+            b"chr1\t\t5", b"chr1\t-1\tx", b"chr1\t1000000000000\t5", b"chr1\t18446744073709551616\t5",
+            b"chr1\t1234567:\t123456789", b"chr1\t/2345678\t123456789",
+        ]),
+        (Kind::BadStop, &[
+            b"chr1\t1\t12345678p", b"chr1\t1\tx", b"chr1\t1\t2\r", b"chr1\t5\t1000000000000", b"chr1\t5\t",
+        ]),
+        (Kind::EmptyFeature, &[b"chr1\t5\t5", b"chr1\t6\t5"]),
     ];
 
-    const FAULTS: [(&[u8], Kind); 20] = [
-        (b"chr1", Kind::TooFewColumns),
-        (b"chr1\t5", Kind::TooFewColumns),
-        (b"\tx", Kind::TooFewColumns),
-        (b"chr1 5 9", Kind::TooFewColumns),
-        (b"\t1\t2", Kind::EmptyName),
-        (b"\tx\ty", Kind::EmptyName),
-        (b"\t\t\t\t\t\t\t\t\t\t\t\t\t\t\t\t\t\t\t\t", Kind::EmptyName),
-        (b"chr1\t\t5", Kind::BadStart),
-        (b"chr1\t-1\tx", Kind::BadStart),
-        (b"chr1\t1000000000000\t5", Kind::BadStart),
-        (b"chr1\t18446744073709551616\t5", Kind::BadStart),
-        (b"chr1\t1234567:\t123456789", Kind::BadStart),
-        (b"chr1\t/2345678\t123456789", Kind::BadStart),
-        (b"chr1\t1\t12345678p", Kind::BadStop),
-        (b"chr1\t1\tx", Kind::BadStop),
-        (b"chr1\t1\t2\r", Kind::BadStop),
-        (b"chr1\t5\t1000000000000", Kind::BadStop),
-        (b"chr1\t5\t", Kind::BadStop),
-        (b"chr1\t5\t5", Kind::EmptyFeature),
-        (b"chr1\t6\t5", Kind::EmptyFeature),
-    ];
-
-    fn said(text: &'static [u8]) -> Option<Said> {
-        match parse_bed(text) {
-            Ok(Some(bed)) => Some((bed.start, bed.stop, bed.strand, bed.rest)),
-            _ => None,
-        }
-    }
-
-    fn name(text: &[u8]) -> Option<&[u8]> {
-        match parse_bed(text) {
-            Ok(Some(bed)) => Some(bed.chrom),
-            _ => None,
-        }
-    }
-
-    fn fault(text: &[u8]) -> Option<Kind> {
-        match parse_bed(text) {
-            Err(kind) => Some(kind),
-            Ok(_) => None,
-        }
-    }
-
-    // The first line of a table that says something else than it has.
-    fn first_misread(rows: &[(&'static [u8], Said)]) -> Option<&'static [u8]> {
-        for row in rows {
-            if said(row.0) != Some(row.1) {
-                return Some(row.0);
-            }
-        }
-        None
-    }
-
-    fn first_misnamed(rows: &[(&'static [u8], &'static [u8])]) -> Option<&'static [u8]> {
-        for row in rows {
-            if name(row.0) != Some(row.1) {
-                return Some(row.0);
-            }
-        }
-        None
-    }
-
-    fn first_unskipped(lines: &[&'static [u8]]) -> Option<&'static [u8]> {
+    // The first of these lines with which something else is wrong.
+    fn first_misjudged(kind: Kind, lines: &[&'static [u8]]) -> Option<&'static [u8]> {
         for line in lines {
-            if !matches!(parse_bed(line), Ok(None)) {
+            if parse_bed(line).err() != Some(kind) {
                 return Some(*line);
             }
         }
         None
     }
 
-    fn first_misjudged(rows: &[(&'static [u8], Kind)]) -> Option<&'static [u8]> {
-        for row in rows {
-            if fault(row.0) != Some(row.1) {
-                return Some(row.0);
-            }
+    #[test]
+    fn other_lines_say_none(rt: HostRuntime) {
+        let unskipped = HEADERS.iter().find(|line| parse_bed(line).is_err());
+        let taken = HEADERS.iter().find(|line| record(line).is_some());
+        assert_eq!(rt; (unskipped, taken), (None, None));
+        for (kind, lines) in &FAULTS {
+            assert_eq!(rt; first_misjudged(*kind, lines), None);
         }
-        None
-    }
-
-    #[test]
-    fn lines_say_records(rt: HostRuntime) {
-        assert_eq!(rt; first_misread(&RECORDS), None);
-    }
-
-    #[test]
-    fn records_keep_the_name(rt: HostRuntime) {
-        assert_eq!(rt; first_misnamed(&NAMES), None);
-    }
-
-    #[test]
-    fn headers_say_nothing(rt: HostRuntime) {
-        assert_eq!(rt; first_unskipped(&HEADERS), None);
-    }
-
-    #[test]
-    fn lines_are_at_fault(rt: HostRuntime) {
-        assert_eq!(rt; first_misjudged(&FAULTS), None);
     }
 }

@@ -81,75 +81,47 @@ impl BedRef<'_> {
 #[cfg(test)]
 mod tests {
     use super::*;
-    use crate::parse::parsing::parse_bed;
+    use crate::record::strand::Strand::{Dot, Minus, Plus};
+    use crate::tests::{Said, record, said};
     use std::test::Fail;
 
-    // A line, and the start, the end, the strand and what is kept of its record.
-    type Row = (&'static [u8], (u64, u64, Strand, &'static [u8]));
+    const LONG: &[u8] =
+        b"chr1\t1\t11\tlong\t5\t+\t0123456789abcdefghijklmnopqrstuvwxyz0123456789abcdefghijklmnopqrstuvwxyz";
 
-    // Texts that are inline, up to the longest of 31 bytes and the shortest that isn't, and some in a buffer.
-    const RECORDS: [Row; 9] = [
-        (b"chr1\t10\t30\ta", (10, 30, Strand::Dot, b"\ta")),
-        (b"chr1\t007\t9\tn\t0\t+", (7, 9, Strand::Plus, b"\tn\t0\t+")),
-        (
-            b"chr1\t8\t9\tabcdefghijklmnopqrstuvwxyz",
-            (8, 9, Strand::Dot, b"\tabcdefghijklmnopqrstuvwxyz"),
-        ),
-        (b"chr1\t5\t9\t", (5, 9, Strand::Dot, b"\t")),
-        (
-            b"chr1\t8\t10\tabcdefghijklmnopqrstuvwxyz0",
-            (8, 10, Strand::Dot, b"\tabcdefghijklmnopqrstuvwxyz0"),
-        ),
-        (b"chr1\t0\t15", (0, 15, Strand::Dot, b"")),
-        (
-            b"chr1\t1\t11\tlong\t5\t+\t0123456789abcdefghijklmnopqrstuvwxyz0123456789abcdefghijklmnopqrstuvwxyz",
-            (
-                1,
-                11,
-                Strand::Plus,
-                b"\tlong\t5\t+\t0123456789abcdefghijklmnopqrstuvwxyz0123456789abcdefghijklmnopqrstuvwxyz",
-            ),
-        ),
-        (
-            b"chr1\t2\t12\t0123456789abcdefghijklmnopqrstuvwxyz",
-            (
-                2,
-                12,
-                Strand::Dot,
-                b"\t0123456789abcdefghijklmnopqrstuvwxyz",
-            ),
-        ),
-        (
-            b"chr1\t0\t100\tn\t5\t-\tx",
-            (0, 100, Strand::Minus, b"\tn\t5\t-\tx"),
-        ),
+    const LONG_REST: &[u8] =
+        b"\tlong\t5\t+\t0123456789abcdefghijklmnopqrstuvwxyz0123456789abcdefghijklmnopqrstuvwxyz";
+
+    // Lines, and what their records say. Texts that are inline, up to the longest of 31 bytes and
+    // the shortest that isn't, and some in a buffer.
+    #[rattlefmt::skip]
+    const RECORDS: [(&[u8], Said); 9] = [
+        (b"chr1\t10\t30\ta", (10, 30, Dot, b"\ta")),
+        (b"chr1\t007\t9\tn\t0\t+", (7, 9, Plus, b"\tn\t0\t+")),
+        (b"chr1\t8\t9\tabcdefghijklmnopqrstuvwxyz", (8, 9, Dot, b"\tabcdefghijklmnopqrstuvwxyz")),
+        (b"chr1\t5\t9\t", (5, 9, Dot, b"\t")),
+        (b"chr1\t8\t10\tabcdefghijklmnopqrstuvwxyz0",
+            (8, 10, Dot, b"\tabcdefghijklmnopqrstuvwxyz0")),
+        (b"chr1\t0\t15", (0, 15, Dot, b"")),
+        (LONG, (1, 11, Plus, LONG_REST)),
+        (b"chr1\t2\t12\t0123456789abcdefghijklmnopqrstuvwxyz",
+            (2, 12, Dot, b"\t0123456789abcdefghijklmnopqrstuvwxyz")),
+        (b"chr1\t0\t100\tn\t5\t-\tx", (0, 100, Minus, b"\tn\t5\t-\tx")),
     ];
 
-    fn is_seen_as(bed: BedRef<'_>, want: (u64, u64, Strand, &[u8])) -> bool {
-        let (start, stop, strand, rest) = want;
-        bed.chrom == b"chr1".as_slice()
-            && (bed.start, bed.stop) == (start, stop)
-            && bed.strand == strand
-            && bed.rest == rest
-    }
-
-    // The first line of a table whose record reads otherwise once it is kept.
-    fn first_miskept(alloc: Global, rows: &[Row]) -> Result<Option<&'static [u8]>, AllocError> {
-        for row in rows {
-            let agrees = match parse_bed(row.0) {
-                Ok(Some(bed)) => is_seen_as(bed.to_rec(alloc)?.as_bed(), row.1),
-                _ => false,
-            };
-            if !agrees {
-                return Ok(Some(row.0));
-            }
-        }
-        Ok(None)
+    // Whether the record of a line says this once it is kept.
+    fn is_kept(alloc: Global, line: &[u8], want: Said<'_>) -> Result<bool, AllocError> {
+        let Some(bed) = record(line) else {
+            return Ok(false);
+        };
+        let rec = bed.to_rec(alloc)?;
+        Ok(rec.as_bed().chrom == b"chr1".as_slice() && said(rec.as_bed()) == want)
     }
 
     #[test]
     fn records_are_kept_and_lent_as_they_were(rt: HostRuntime) -> Result<(), Fail> {
-        assert_eq!(rt; first_miskept(rt.alloc(), &RECORDS)?, None);
+        for (line, want) in &RECORDS {
+            assert!(rt; is_kept(rt.alloc(), line, *want)?, "{line:?}");
+        }
         Ok(())
     }
 }

@@ -40,9 +40,9 @@ pub fn put_cut<K: Sink>(
 #[cfg(test)]
 mod tests {
     use super::*;
-    use crate::parse::parsing::parse_bed;
+    use crate::tests::record;
     use bt_lines::{ScriptSink, put_number};
-    use std::test::Fail;
+    use std::alloc::Global;
 
     // Puts the lines of two records that share bases: the shared part beside the second, both with the
     // number of shared bases, and the first as it is.
@@ -57,14 +57,11 @@ mod tests {
     }
 
     // Whether the lines are put, and what the sink took of them if it takes `good` bytes.
-    fn taken_by(rt: &HostRuntime, good: Option<usize>, want: &[u8]) -> bool {
-        let (Ok(Some(a)), Ok(Some(b))) = (
-            parse_bed(b"chr1\t010\t30\ta"),
-            parse_bed(b"chr1\t0\t15\tx"),
-        ) else {
+    fn taken_by(alloc: Global, good: Option<usize>, want: &[u8]) -> bool {
+        let (Some(a), Some(b)) = (record(b"chr1\t010\t30\ta"), record(b"chr1\t0\t15\tx")) else {
             return false;
         };
-        let mut out = Out::new(ScriptSink::new(rt.alloc(), 3, good));
+        let mut out = Out::new(ScriptSink::new(alloc, 3, good));
         let put = put_lines(&a, &b, &mut out);
         put.is_ok() == good.is_none() && out.into_sink().taken() == want
     }
@@ -73,8 +70,8 @@ mod tests {
     fn records_and_parts_stand_beside_one_another(rt: HostRuntime) {
         let lines: &[u8] =
             b"chr1\t10\t15\ta\tchr1\t0\t15\tx\nchr1\t10\t30\ta\tchr1\t0\t15\tx\t5\nchr1\t10\t30\ta\n";
-        assert!(rt; taken_by(&rt, None, lines));
-        assert!(rt; taken_by(&rt, Some(9), b"chr1\t10\t1"));
+        assert!(rt; taken_by(rt.alloc(), None, lines));
+        assert!(rt; taken_by(rt.alloc(), Some(9), b"chr1\t10\t1"));
     }
 
     // Puts a record, its first half and the record again, with nothing after it.
@@ -88,7 +85,7 @@ mod tests {
     #[test]
     fn records_without_further_columns_are_put_with_what_ends_them(rt: HostRuntime) {
         let mut out = Out::new(ScriptSink::new(rt.alloc(), 3, None));
-        if let Ok(Some(bed)) = parse_bed(b"chr1\t010\t20") {
+        if let Some(bed) = record(b"chr1\t010\t20") {
             assert!(rt; put_bare(&bed, &mut out).is_ok());
         }
         let lines: &[u8] = b"chr1\t10\t20\tchr1\t10\t15\nchr1\t10\t20";

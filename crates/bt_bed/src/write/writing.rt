@@ -63,54 +63,35 @@ fn push_columns(
 #[cfg(test)]
 mod tests {
     use super::*;
-    use crate::parse::parsing::parse_bed;
+    use crate::tests::record;
     use std::alloc::Global;
     use std::test::Fail;
 
     // A line, the bounds of the part of its record that is written if it isn't written whole, and
     // what is written.
-    type Row = (&'static [u8], Option<(u64, u64)>, &'static [u8]);
-
-    const WHOLE: [Row; 5] = [
+    #[rattlefmt::skip]
+    const WRITTEN: [(&[u8], Option<(u64, u64)>, &[u8]); 10] = [
         (b"chr1\t007\t9\tn\t0\t+", None, b"chr1\t7\t9\tn\t0\t+"),
         (b"chr1\t000\t00012", None, b"chr1\t0\t12"),
         (b"chr 1\t5\t9\t", None, b"chr 1\t5\t9\t"),
         (b"chr1\t5\t9\t\tx", None, b"chr1\t5\t9\t\tx"),
-        (
-            b"c\t999999999998\t999999999999",
-            None,
-            b"c\t999999999998\t999999999999",
-        ),
-    ];
-
-    const PARTS: [Row; 5] = [
-        (
-            b"chr1\t0\t100\tn\t5\t+",
-            Some((0, 10)),
-            b"chr1\t0\t10\tn\t5\t+",
-        ),
-        (
-            b"chr1\t0\t100\tn\t5\t+",
-            Some((30, 90)),
-            b"chr1\t30\t90\tn\t5\t+",
-        ),
+        (b"c\t999999999998\t999999999999", None, b"c\t999999999998\t999999999999"),
+        (b"chr1\t0\t100\tn\t5\t+", Some((0, 10)), b"chr1\t0\t10\tn\t5\t+"),
+        (b"chr1\t0\t100\tn\t5\t+", Some((30, 90)), b"chr1\t30\t90\tn\t5\t+"),
         (b"chr1\t10\t30\ta", Some((25, 30)), b"chr1\t25\t30\ta"),
         (b"chr1\t010\t020", Some((10, 20)), b"chr1\t10\t20"),
-        (
-            b"c\t0\t999999999999\t",
-            Some((999_999_999_998, 999_999_999_999)),
-            b"c\t999999999998\t999999999999\t",
-        ),
+        (b"c\t0\t999999999999\t", Some((999_999_999_998, 999_999_999_999)),
+            b"c\t999999999998\t999999999999\t"),
     ];
 
-    // What follows a sign that a record was written to.
+    // A sign, and what is written to it.
     fn written(
         alloc: Global,
         text: &[u8],
         part: Option<(u64, u64)>,
     ) -> Result<Vec<u8>, AllocError> {
         let mut line = Vec::from_slice(alloc, b"> ")?;
-        if let Ok(Some(bed)) = parse_bed(text) {
+        if let Some(bed) = record(text) {
             match part {
                 Some((start, stop)) => write_cut(&bed, start, stop, &mut line)?,
                 None => write_bed(&bed, &mut line)?,
@@ -119,26 +100,12 @@ mod tests {
         Ok(line)
     }
 
-    // The first line of a table that is written otherwise.
-    fn first_miswritten(alloc: Global, rows: &[Row]) -> Result<Option<&'static [u8]>, AllocError> {
-        for row in rows {
-            let line = written(alloc, row.0, row.1)?;
-            if line.strip_prefix(b"> ") != Some(row.2) {
-                return Ok(Some(row.0));
-            }
+    #[test]
+    fn records_and_parts_are_written_behind_what_stands(rt: HostRuntime) -> Result<(), Fail> {
+        for (text, part, want) in &WRITTEN {
+            let line = written(rt.alloc(), text, *part)?;
+            assert_eq!(rt; line.strip_prefix(b"> "), Some(*want), "{text:?} {part:?}");
         }
-        Ok(None)
-    }
-
-    #[test]
-    fn records_are_written_behind_what_stands(rt: HostRuntime) -> Result<(), Fail> {
-        assert_eq!(rt; first_miswritten(rt.alloc(), &WHOLE)?, None);
-        Ok(())
-    }
-
-    #[test]
-    fn parts_are_written_with_their_own_bounds(rt: HostRuntime) -> Result<(), Fail> {
-        assert_eq!(rt; first_miswritten(rt.alloc(), &PARTS)?, None);
         Ok(())
     }
 }

@@ -1,8 +1,8 @@
 ghost use Rattle.std.specs.Prelude.{None, true, ⊤};
 
+use crate::tests::{gives_some, has_ended};
 use crate::{
-    BLOCK, DeviceFailed, Fault, FromRead, Input, Kind, LineReader, Out, ScriptSink, Sink, Source,
-    ToWrite,
+    BLOCK, DeviceFailed, FromRead, Input, LineReader, Out, Sink, Source, ToWrite, write_failed,
 };
 use std::io;
 use std::io::{BufWriter, Read, Write};
@@ -57,26 +57,25 @@ fn a_reader_that_failed_is_asked_no_more(rt: HostRuntime) {
     assert_eq!(rt; source.into_inner().calls, 1);
 }
 
-#[test]
-fn a_writer_that_failed_is_asked_no_more(rt: HostRuntime) {
+// Whether a sink whose first call fails is asked once, and all these flushes and writes fail.
+fn asks_once(are_flushes: &[bool]) -> bool {
     let mut sink = ToWrite::new(FailsFirst { calls: 0 });
-    for _ in 0..3 {
-        assert_eq!(rt; sink.write(b"chr1"), Err(DeviceFailed));
+    let mut is_told = true;
+    for is_flush in are_flushes {
+        let told = if *is_flush {
+            sink.flush().err()
+        } else {
+            sink.write(b"chr1").err()
+        };
+        is_told = is_told && told == Some(DeviceFailed);
     }
-    assert_eq!(rt; sink.flush(), Err(DeviceFailed));
-    assert!(rt; sink.failed());
-    assert_eq!(rt; sink.into_inner().calls, 1);
+    is_told && sink.failed() && sink.into_inner().calls == 1
 }
 
 #[test]
-fn a_flush_that_failed_is_asked_for_no_more(rt: HostRuntime) {
-    let mut sink = ToWrite::new(FailsFirst { calls: 0 });
-    for _ in 0..3 {
-        assert_eq!(rt; sink.flush(), Err(DeviceFailed));
-    }
-    assert_eq!(rt; sink.write(b"chr1"), Err(DeviceFailed));
-    assert!(rt; sink.failed());
-    assert_eq!(rt; sink.into_inner().calls, 1);
+fn a_writer_that_failed_is_asked_no_more(rt: HostRuntime) {
+    assert!(rt; asks_once(&[false, false, false, true]));
+    assert!(rt; asks_once(&[true, true, true, false]));
 }
 
 // A source that failed before, and serves now.
@@ -115,24 +114,13 @@ impl Source for ServesAgain {
 
 #[test]
 fn a_failure_of_before_is_no_failed_read(rt: HostRuntime) -> Result<(), Fail> {
-    let source = ServesAgain {
-        bytes: b"a\nb",
-        end_told: false,
-    };
-    let mut reader = LineReader::new(rt.alloc(), source, Input::First);
+    let (bytes, end_told) = (b"a\nb".as_slice(), false);
+    let mut reader = LineReader::new(rt.alloc(), ServesAgain { bytes, end_told }, Input::First);
     assert_eq!(rt; reader.next()?.ok_or("a line")?.text, b"a".as_slice());
     assert_eq!(rt; reader.next()?.ok_or("a line")?.text, b"b".as_slice());
     assert!(rt; reader.next()?.is_none());
     assert!(rt; reader.into_source().failed());
     Ok(())
-}
-
-#[test]
-fn an_empty_piece_is_served(rt: HostRuntime) {
-    let mut sink = ScriptSink::new(rt.alloc(), 1, Some(0));
-    assert_eq!(rt; sink.write(b""), Ok(0));
-    assert_eq!(rt; sink.write(b"a"), Err(DeviceFailed));
-    assert_eq!(rt; sink.write(b""), Err(DeviceFailed));
 }
 
 // A sink that takes everything, and whose first flush fails.
@@ -166,18 +154,15 @@ impl Sink for FlushFails {
 
 #[test]
 fn a_flush_that_fails(rt: HostRuntime) {
+    let (flushes, has_failed) = (0, false);
     let mut output = Out::new(FlushFails {
-        flushes: 0,
-        has_failed: false,
+        flushes,
+        has_failed,
     });
-    let fault = Fault {
-        kind: Kind::WriteFailed,
-        place: None,
-    };
     assert_eq!(rt; output.put(b"chr1"), Ok(()));
-    assert_eq!(rt; output.flush(), Err(fault));
-    assert_eq!(rt; output.put(b"more"), Err(fault));
-    assert_eq!(rt; output.flush(), Err(fault));
+    assert_eq!(rt; output.flush(), Err(write_failed()));
+    assert_eq!(rt; output.put(b"more"), Err(write_failed()));
+    assert_eq!(rt; output.flush(), Err(write_failed()));
     assert_eq!(rt; output.into_sink().flushes, 1, "the sink was asked once");
 }
 
@@ -185,18 +170,14 @@ fn a_flush_that_fails(rt: HostRuntime) {
 fn devices_of_std(rt: HostRuntime) -> Result<(), Fail> {
     let bytes = b"ab\ncd\n";
     let mut reader = LineReader::new(rt.alloc(), FromRead::new(bytes.as_slice()), Input::First);
-    assert!(rt; reader.next()?.is_some());
-    assert!(rt; reader.next()?.is_some());
-    assert!(rt; reader.next()?.is_none());
+    assert!(rt; gives_some(&mut reader, 2) && has_ended(&mut reader));
     assert_eq!(rt; reader.into_source().into_inner().len(), 0);
     let mut output = Out::new(ToWrite::new(Vec::new(rt.alloc())));
     output.put(b"ab")?;
     output.put(b"c")?;
     output.flush()?;
-    assert_eq!(rt;
-        output.into_sink().into_inner().as_slice(),
-        b"abc".as_slice()
-    );
+    let written = output.into_sink().into_inner();
+    assert_eq!(rt; written.as_slice(), b"abc".as_slice());
     Ok(())
 }
 

@@ -1,7 +1,7 @@
 //! What an output holds back, and what reaches its sink.
 
 use crate::tests::drawn::{Draws, drawn_text, long_line};
-use crate::{BLOCK, Fault, Out, ScriptSink, Sink};
+use crate::{BLOCK, Fault, Out, ScriptSink, Sink, write_failed};
 use std::alloc::Global;
 use std::test::Fail;
 
@@ -15,9 +15,7 @@ fn taken_of(alloc: Global, lengths: &[usize]) -> Result<usize, Fail> {
 }
 
 // The lengths of pieces, and how many bytes of them the sink takes.
-type Held = (&'static [usize], usize);
-
-const HELD_BACK: [Held; 6] = [
+const HELD_BACK: [(&[usize], usize); 6] = [
     (&[10], 0),
     (&[8192], 0),
     (&[8191, 1], 0),
@@ -26,19 +24,11 @@ const HELD_BACK: [Held; 6] = [
     (&[1, 20000], 16384),
 ];
 
-// The first lengths of a table of which another number is taken.
-fn first_mistaken(alloc: Global, rows: &[Held]) -> Result<Option<&'static [usize]>, Fail> {
-    for row in rows {
-        if taken_of(alloc, row.0)? != row.1 {
-            return Ok(Some(row.0));
-        }
-    }
-    Ok(None)
-}
-
 #[test]
 fn a_block_is_held_back(rt: HostRuntime) -> Result<(), Fail> {
-    assert_eq!(rt; first_mistaken(rt.alloc(), &HELD_BACK)?, None);
+    for (lengths, want) in &HELD_BACK {
+        assert_eq!(rt; taken_of(rt.alloc(), lengths)?, *want, "{lengths:?}");
+    }
     Ok(())
 }
 
@@ -53,7 +43,7 @@ fn put_drawn(draws: &mut Draws, text: &[u8], output: &mut Out<ScriptSink>) -> Re
     Ok(())
 }
 
-// Whether a sink that takes this many bytes at once has six texts, put in drawn pieces, in their order.
+// Whether a sink that takes this many bytes at once has six texts, put in drawn pieces, in order.
 fn are_put_in_order(alloc: Global, draws: &mut Draws, step: usize) -> Result<bool, Fail> {
     let mut output = Out::new(ScriptSink::new(alloc, step.max(1), None));
     let mut whole = Vec::new(alloc);
@@ -70,35 +60,36 @@ fn are_put_in_order(alloc: Global, draws: &mut Draws, step: usize) -> Result<boo
 fn pieces_reach_the_sink_in_order(rt: HostRuntime) -> Result<(), Fail> {
     let mut draws = Draws { state: 10 };
     for step in [7, 8191, 8192, 8193] {
-        assert!(rt;
-            are_put_in_order(rt.alloc(), &mut draws, step)?,
-            "at {step}"
-        );
+        let are_put = are_put_in_order(rt.alloc(), &mut draws, step)?;
+        assert!(rt; are_put, "at {step}");
     }
     Ok(())
 }
 
-// Whether a sink that takes this many bytes of a text that is put in four pieces has the first ones, and the
-// failure is reported from then on.
-fn takes_front(alloc: Global, text: &[u8], good: usize) -> bool {
-    let mut output = Out::new(ScriptSink::new(alloc, 700, Some(good)));
-    for (from, to) in [
-        (0, 5000),
-        (5000, 10_000),
-        (10_000, 24_000),
-        (24_000, 25_000),
-    ] {
-        let _ = output.put(text.get(from..to).unwrap_or(b""));
+// A text, and the lengths of the pieces in which it is put.
+type Pieces<'a> = (&'a [u8], &'a [usize]);
+
+// Whether a sink that takes this many bytes, in pieces of this many, has the first bytes of the text,
+// and a failure is reported from then on if that isn't all.
+fn takes_front(alloc: Global, text: Pieces<'_>, step: usize, good: usize) -> bool {
+    let mut output = Out::new(ScriptSink::new(alloc, step.max(1), Some(good)));
+    let mut rest = text.0;
+    for length in text.1 {
+        let (piece, behind) = rest.split_at((*length).min(rest.len()));
+        let _ = output.put(piece);
+        rest = behind;
     }
-    let is_told = output.flush().is_err() && output.put(b"more").is_err();
+    let is_cut = good < text.0.len();
+    let want = if is_cut { Some(write_failed()) } else { None };
+    let is_told = output.flush().err() == want && output.put(b"more").err() == want;
     let sink = output.into_sink();
-    is_told && Some(sink.taken()) == text.get(..good)
+    is_told && sink.failed() == is_cut && Some(sink.taken()) == text.0.get(..good)
 }
 
 // The first number of good bytes with which it goes otherwise.
-fn first_not_taken(alloc: Global, text: &[u8], counts: &[usize]) -> Option<usize> {
+fn first_not_taken(alloc: Global, text: Pieces, step: usize, counts: &[usize]) -> Option<usize> {
     for good in counts {
-        if !takes_front(alloc, text, *good) {
+        if !takes_front(alloc, text, step, *good) {
             return Some(*good);
         }
     }
@@ -106,11 +97,22 @@ fn first_not_taken(alloc: Global, text: &[u8], counts: &[usize]) -> Option<usize
 }
 
 #[test]
+fn a_sink_that_fails_at_each_byte(rt: HostRuntime) {
+    let counts = [0, 1, 2, 3, 4, 5, 6, 7, 8, 9, 10, 11];
+    for step in [1, 7, 8192] {
+        let text: Pieces = (b"chr1\t10\t20\n", &[4, 0, 4, 3]);
+        let found = first_not_taken(rt.alloc(), text, step, &counts);
+        assert_eq!(rt; found, None, "in pieces of {step}");
+    }
+}
+
+#[test]
 fn a_sink_that_fails_round_a_block(rt: HostRuntime) -> Result<(), Fail> {
     let text = drawn_text(rt.alloc(), &mut Draws { state: 5 })?;
+    let text = text.get(..25_000).ok_or("a long text")?;
     let counts = [0, 1, 5000, 8191, 8192, 8193, 10_000, 15_000, 24_999];
-    let found = first_not_taken(rt.alloc(), text.as_slice(), &counts);
-    assert_eq!(rt; (text.len() > 25_000, found), (true, None));
+    let pieces = (text, [5000, 5000, 14_000, 1000].as_slice());
+    assert_eq!(rt; first_not_taken(rt.alloc(), pieces, 700, &counts), None);
     Ok(())
 }
 
@@ -124,8 +126,8 @@ fn a_block_that_failed_is_not_sent_again(rt: HostRuntime) -> Result<(), Fail> {
     Ok(())
 }
 
-// How many bytes there is room for after `before` bytes, whether a line and its line feed are held back there, and how
-// many bytes the sink has then.
+// How many bytes there is room for after so many, whether a line and its line feed are held back
+// there, and how many bytes the sink has then.
 fn held_behind(alloc: Global, before: usize) -> Result<(usize, bool, usize), Fail> {
     let mut output = Out::new(ScriptSink::new(alloc, BLOCK, None));
     output.put(long_line(alloc, before, b"")?.as_slice())?;
@@ -135,152 +137,68 @@ fn held_behind(alloc: Global, before: usize) -> Result<(usize, bool, usize), Fai
     Ok((room, is_held, output.into_sink().taken().len()))
 }
 
-// The first number of bytes before it at which it isn't held or put as it should be.
-fn first_misheld(
-    alloc: Global,
-    rows: &[(usize, usize, bool, usize)],
-) -> Result<Option<usize>, Fail> {
-    for (before, room, is_held, whole) in rows {
-        if held_behind(alloc, *before)? != (*room, *is_held, *whole) {
-            return Ok(Some(*before));
-        }
-    }
-    Ok(None)
-}
-
-const BOTH: [(usize, usize, bool, usize); 4] = [
-    (0, 8192, true, 5),
-    (8187, 5, true, 8192),
-    (8188, 4, false, 8188),
-    (8192, 0, false, 8192),
+const BOTH: [(usize, (usize, bool, usize)); 4] = [
+    (0, (8192, true, 5)),
+    (8187, (5, true, 8192)),
+    (8188, (4, false, 8188)),
+    (8192, (0, false, 8192)),
 ];
 
 // A piece and its line feed are held back if both fit into the block, also to its last byte.
 #[test]
 fn both_are_held_where_both_fit(rt: HostRuntime) -> Result<(), Fail> {
-    assert_eq!(rt; first_misheld(rt.alloc(), &BOTH)?, None);
+    for (before, want) in &BOTH {
+        assert_eq!(rt; held_behind(rt.alloc(), *before)?, *want, "behind {before}");
+    }
     Ok(())
 }
 
-// Whether a name, a start and a stop are held back behind so many bytes, and what the sink has of them then.
-fn span_behind(
-    alloc: Global,
-    before: usize,
-    name: &[u8],
-    start: u64,
-    stop: u64,
-) -> Result<(bool, Vec<u8>), Fail> {
+// A name, a start and a stop.
+type Span = (&'static [u8], u64, u64);
+
+// Whether a span is held back behind so many bytes, and what the sink has of it then.
+fn span_behind(alloc: Global, before: usize, span: Span, end: u8) -> Result<(bool, Vec<u8>), Fail> {
     let mut output = Out::new(ScriptSink::new(alloc, BLOCK, None));
     output.put(long_line(alloc, before, b"")?.as_slice())?;
-    let is_held = output.try_put_interval(name, start, stop, b'\n');
+    let is_held = output.try_put_interval(span.0, span.1, span.2, end);
     output.flush()?;
     let sink = output.into_sink();
-    let mut taken = Vec::new(alloc);
-    taken.extend_from_slice(sink.taken().get(before..).unwrap_or(b""))?;
+    let taken = Vec::from_slice(alloc, sink.taken().get(before..).unwrap_or(b""))?;
     Ok((is_held, taken))
 }
 
-// Bytes before it, a name, a start and a stop, and the line that is held, which is empty if none is.
-type SpanRow = (usize, &'static [u8], u64, u64, &'static [u8]);
-
-// Numbers of few digits and of many, names of each length that is copied otherwise, and the longest that is held. Then
-// the last places of a block if there is room.
-const SPANS: [SpanRow; 14] = [
-    (0, b"c", 0, 7, b"c\t0\t7\n"),
-    (0, b"22", 9, 10, b"22\t9\t10\n"),
-    (
-        0,
-        b"chr",
-        99_999_999,
-        100_000_000,
-        b"chr\t99999999\t100000000\n",
-    ),
-    (
-        0,
-        b"chr1",
-        248_956_421,
-        248_956_422,
-        b"chr1\t248956421\t248956422\n",
-    ),
-    (
-        0,
-        b"chromosome",
-        5,
-        999_999_999,
-        b"chromosome\t5\t999999999\n",
-    ),
-    (
-        0,
-        b"chromosome_of_20_chr",
-        5,
-        9,
-        b"chromosome_of_20_chr\t5\t9\n",
-    ),
-    (
-        0,
-        b"a_name_of_sixty-four_bytes_a_name_of_sixty-four_bytes_a_name_of_",
-        5,
-        9,
-        b"a_name_of_sixty-four_bytes_a_name_of_sixty-four_bytes_a_name_of_\t5\t9\n",
-    ),
-    (
-        0,
-        b"c",
-        1_000_000_000,
-        999_999_999_999,
-        b"c\t1000000000\t999999999999\n",
-    ),
-    (
-        0,
-        b"c",
-        u64::MAX,
-        u64::MAX,
-        b"c\t18446744073709551615\t18446744073709551615\n",
-    ),
-    (0, b"", 5, 9, b""),
-    (
-        0,
-        b"a_name_of_sixty-four_bytes_a_name_of_sixty-four_bytes_a_name_of_s",
-        5,
-        9,
-        b"",
-    ),
-    (
-        8082,
-        b"chr1",
-        100_000_000_000,
-        999_999_999_999,
-        b"chr1\t100000000000\t999999999999\n",
-    ),
-    (8083, b"chr1", 100_000_000_000, 999_999_999_999, b""),
-    (8083, b"chr1", 5, 9, b""),
+// Bytes before it, a span, what ends its line, and the line that is held, which is empty if none is.
+// Numbers of few digits and of many, names of each length that is copied otherwise, and the longest
+// that is held. Then the last places of a block if there is room, and another end.
+#[rattlefmt::skip]
+const SPANS: [(usize, Span, u8, &[u8]); 15] = [
+    (0, (b"c", 0, 7), b'\n', b"c\t0\t7\n"),
+    (0, (b"22", 9, 10), b'\n', b"22\t9\t10\n"),
+    (0, (b"chr", 99_999_999, 100_000_000), b'\n', b"chr\t99999999\t100000000\n"),
+    (0, (b"chr1", 248_956_421, 248_956_422), b'\n', b"chr1\t248956421\t248956422\n"),
+    (0, (b"chromosome", 5, 999_999_999), b'\n', b"chromosome\t5\t999999999\n"),
+    (0, (b"chromosome_of_20_chr", 5, 9), b'\n', b"chromosome_of_20_chr\t5\t9\n"),
+    (0, (b"a_name_of_sixty-four_bytes_a_name_of_sixty-four_bytes_a_name_of_", 5, 9), b'\n',
+        b"a_name_of_sixty-four_bytes_a_name_of_sixty-four_bytes_a_name_of_\t5\t9\n"),
+    (0, (b"c", 1_000_000_000, 999_999_999_999), b'\n', b"c\t1000000000\t999999999999\n"),
+    (0, (b"c", u64::MAX, u64::MAX), b'\n', b"c\t18446744073709551615\t18446744073709551615\n"),
+    (0, (b"", 5, 9), b'\n', b""),
+    (0, (b"a_name_of_sixty-four_bytes_a_name_of_sixty-four_bytes_a_name_of_s", 5, 9), b'\n',
+        b""),
+    (8082, (b"chr1", 100_000_000_000, 999_999_999_999), b'\n',
+        b"chr1\t100000000000\t999999999999\n"),
+    (8083, (b"chr1", 100_000_000_000, 999_999_999_999), b'\n', b""),
+    (8083, (b"chr1", 5, 9), b'\n', b""),
+    (0, (b"chr1", 5, 9), b'\t', b"chr1\t5\t9\t"),
 ];
-
-// The first row whose span is held otherwise.
-fn first_misheld_span(alloc: Global, rows: &[SpanRow]) -> Result<Option<SpanRow>, Fail> {
-    for row in rows {
-        let (before, name, start, stop, line) = *row;
-        let (is_held, taken) = span_behind(alloc, before, name, start, stop)?;
-        if is_held == line.is_empty() || taken.as_slice() != line {
-            return Ok(Some(*row));
-        }
-    }
-    Ok(None)
-}
 
 #[test]
 fn short_spans_are_held_where_there_is_room(rt: HostRuntime) -> Result<(), Fail> {
-    assert_eq!(rt; first_misheld_span(rt.alloc(), &SPANS)?, None);
-    Ok(())
-}
-
-#[test]
-fn a_span_ends_as_it_is_told_to(rt: HostRuntime) -> Result<(), Fail> {
-    let mut output = Out::new(ScriptSink::new(rt.alloc(), BLOCK, None));
-    let is_held = output.try_put_interval(b"chr1", 5, 9, b'\t');
-    output.flush()?;
-    let sink = output.into_sink();
-    assert!(rt; is_held && sink.taken() == b"chr1\t5\t9\t".as_slice());
+    for (before, span, end, line) in &SPANS {
+        let (is_held, taken) = span_behind(rt.alloc(), *before, *span, *end)?;
+        let is_right = is_held != line.is_empty() && taken.as_slice() == *line;
+        assert!(rt; is_right, "{span:?} behind {before}");
+    }
     Ok(())
 }
 
@@ -294,5 +212,3 @@ fn nothing_is_held_behind_a_failure(rt: HostRuntime) -> Result<(), Fail> {
     assert!(rt; is_told && !is_held);
     Ok(())
 }
-
-// The lines that are buffered are given in order, each kind of line end among them.

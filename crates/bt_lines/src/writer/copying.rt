@@ -131,18 +131,11 @@ fn copy_ends<const N: usize>(to: &mut [u8], piece: &[u8])
 mod tests {
     use super::*;
 
+    const LETTERS: &[u8] =
+        b"abcdefghijklmnopqrstuvwxyz0123456789abcdefghijklmnopqrstuvwxyz0123456789";
+
     // No byte, as many as each way copies, and more than all of them.
-    const PIECES: [&[u8]; 9] = [
-        b"",
-        b"a",
-        b"ab",
-        b"abc",
-        b"abcd",
-        b"abcdefghi",
-        b"abcdefghijklmnopq",
-        b"abcdefghijklmnopqrstuvwxyz0123456789",
-        b"abcdefghijklmnopqrstuvwxyz0123456789abcdefghijklmnopqrstuvwxyz0123456789",
-    ];
+    const LENGTHS: [usize; 9] = [0, 1, 2, 3, 4, 9, 17, 36, 72];
 
     // Whether a piece was copied after the first byte of a text, and nothing else was changed.
     fn is_copied(text: &[u8; 80], piece: &[u8]) -> bool {
@@ -150,39 +143,24 @@ mod tests {
         text[0] == b'.' && text.get(1..piece.len() + 1) == Some(piece) && behind[0] == b'.'
     }
 
-    // The first piece of a table that is copied otherwise, or with bytes beside it.
-    fn first_miscopied(pieces: &[&'static [u8]]) -> Option<&'static [u8]> {
-        for piece in pieces {
-            let mut text = [b'.'; 80];
-            if let Some(to) = text.get_mut(1..piece.len() + 1) {
-                copy_piece(to, piece);
-            }
-            if !is_copied(&text, piece) {
-                return Some(*piece);
+    // Whether a piece is copied, and also as a short one if it has 1 to 64 bytes.
+    fn copies(piece: &[u8]) -> bool {
+        let (mut any, mut short) = ([b'.'; 80], [b'.'; 80]);
+        if let Some(to) = any.get_mut(1..piece.len() + 1) {
+            copy_piece(to, piece);
+        }
+        if let Some(to) = short.get_mut(1..piece.len() + 1) {
+            if is_short(piece.len()) {
+                copy_short(to, piece);
             }
         }
-        None
-    }
-
-    // The first piece of a table that isn't short, or is copied otherwise as a short one.
-    fn first_miscopied_short(pieces: &[&'static [u8]]) -> Option<&'static [u8]> {
-        for piece in pieces {
-            let mut text = [b'.'; 80];
-            if let Some(to) = text.get_mut(1..piece.len() + 1) {
-                if is_short(piece.len()) {
-                    copy_short(to, piece);
-                }
-            }
-            if !is_copied(&text, piece) {
-                return Some(*piece);
-            }
-        }
-        None
+        is_copied(&any, piece) && (piece.len() > 64 || is_copied(&short, piece))
     }
 
     #[test]
     fn pieces_of_each_way_are_copied(rt: HostRuntime) {
-        assert_eq!(rt; first_miscopied(&PIECES), None);
-        assert_eq!(rt; first_miscopied_short(&PIECES[1..8]), None);
+        for length in &LENGTHS {
+            assert!(rt; LETTERS.get(..*length).is_some_and(copies), "of {length}");
+        }
     }
 }

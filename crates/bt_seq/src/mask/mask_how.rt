@@ -102,21 +102,9 @@ mod tests {
         mask_slice(&mut [], MaskHow::Soft);
     }
 
-    // The 256 values of a byte, twice over.
-    fn each_byte_twice() -> [u8; 512] {
-        let mut bytes = [0; 512];
-        let mut value = 0u8;
-        for byte in bytes.iter_mut() {
-            *byte = value;
-            value = value.wrapping_add(1);
-        }
-        bytes
-    }
-
     // Whether a slice is masked as each of its bytes is alone, in lower case and by an `x`.
     fn masks_each_byte(slice: &[u8]) -> bool {
-        let mut soft = [0; 512];
-        let mut hard = [0; 512];
+        let (mut soft, mut hard) = ([0; 512], [0; 512]);
         let count = slice.len().min(512);
         soft[..count].copy_from_slice(&slice[..count]);
         hard[..count].copy_from_slice(&slice[..count]);
@@ -144,7 +132,13 @@ mod tests {
 
     #[test]
     fn slices_of_all_bytes_are_masked_byte_by_byte(rt: HostRuntime) {
-        let bytes = each_byte_twice();
+        // The 256 values of a byte, twice over.
+        let mut bytes = [0; 512];
+        let mut value = 0u8;
+        for byte in bytes.iter_mut() {
+            *byte = value;
+            value = value.wrapping_add(1);
+        }
         for length in 0..=100 {
             assert!(rt; masks_each_slice(&bytes, length), "of {length}");
         }

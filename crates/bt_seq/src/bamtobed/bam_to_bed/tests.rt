@@ -2,117 +2,35 @@
 
 use super::*;
 use crate::sam::sam_text::sam_line;
-use bt_lines::{Input, Kind, LineReader, ScriptSink, ScriptSource};
+use crate::tests::{R001, R001_AGAIN, R002, R003, R003_AGAIN, R004};
+use bt_lines::{Kind, ScriptSink};
 use std::alloc::Global;
-use std::test::Fail;
 
 // A line, the options -split and -cigar, and what is written.
 type Case = (&'static [u8], bool, bool, &'static [u8]);
 
-// The example of the SAM specification, section 1.1, and lines at the edges.
+// The example of the SAM specification, and lines at the edges.
+#[rattlefmt::skip]
 const CASES: [Case; 20] = [
-    (
-        b"r001\t99\tref\t7\t30\t8M2I4M1D3M\t=\t37\t39\tTTAGATAAAGGATACTG\t*",
-        false,
-        false,
-        b"ref\t6\t22\tr001/1\t30\t+\n",
-    ),
-    (
-        b"r001\t99\tref\t7\t30\t8M2I4M1D3M\t=\t37\t39\tTTAGATAAAGGATACTG\t*",
-        false,
-        true,
-        b"ref\t6\t22\tr001/1\t30\t+\t8M2I4M1D3M\n",
-    ),
-    (
-        b"r002\t0\tref\t9\t30\t3S6M1P1I4M\t*\t0\t0\tAAAAGATAAGGATA\t*",
-        false,
-        false,
-        b"ref\t8\t18\tr002\t30\t+\n",
-    ),
-    (
-        b"r003\t0\tref\t9\t30\t5S6M\t*\t0\t0\tGCCTAAGCTAA\t*\tSA:Z:ref,29,-,6H5M,17,0;",
-        true,
-        true,
-        b"ref\t8\t14\tr003\t30\t+\t5S6M\n",
-    ),
-    (
-        b"r004\t0\tref\t16\t30\t6M14N5M\t*\t0\t0\tATAGCTTCAGC\t*",
-        false,
-        false,
-        b"ref\t15\t40\tr004\t30\t+\n",
-    ),
-    (
-        b"r004\t0\tref\t16\t30\t6M14N5M\t*\t0\t0\tATAGCTTCAGC\t*",
-        true,
-        false,
-        b"ref\t15\t21\tr004\t30\t+\nref\t35\t40\tr004\t30\t+\n",
-    ),
-    (
-        b"r004\t0\tref\t16\t30\t6M14N5M\t*\t0\t0\tATAGCTTCAGC\t*",
-        true,
-        true,
-        b"ref\t15\t21\tr004\t30\t+\t6M14N5M\nref\t35\t40\tr004\t30\t+\t6M14N5M\n",
-    ),
-    (
-        b"r003\t2064\tref\t29\t17\t6H5M\t*\t0\t0\tTAGGC\t*\tSA:Z:ref,9,+,5S6M,30,1;",
-        false,
-        false,
-        b"ref\t28\t33\tr003\t17\t-\n",
-    ),
-    (
-        b"r001\t147\tref\t37\t30\t9M\t=\t7\t-39\tCAGCGGCAT\t*\tNM:i:1",
-        false,
-        false,
-        b"ref\t36\t45\tr001/2\t30\t-\n",
-    ),
-    (
-        b"r001\t147\tref\t37\t030\t09M\t=\t7\t-39\tCAGCGGCAT\t*",
-        false,
-        true,
-        b"ref\t36\t45\tr001/2\t30\t-\t09M\n",
-    ),
-    (
-        b"r004\t4\tref\t16\t30\t6M14N5M\t*\t0\t0\tATAGCTTCAGC\t*",
-        true,
-        false,
-        b"",
-    ),
-    (
-        b"r\t0\tref\t16\t30\t*\t*\t0\t0\tATAGCTTCAGC\t*",
-        false,
-        false,
-        b"",
-    ),
-    (
-        b"r\t192\tref\t1\t0\t5M\t*\t0\t0\t*\t*",
-        false,
-        false,
-        b"ref\t0\t5\tr/1/2\t0\t+\n",
-    ),
-    (
-        b"r\t208\tref\t1\t0\t5M\t*\t0\t0\t*\t*",
-        false,
-        true,
-        b"ref\t0\t5\tr/1/2\t0\t-\t5M\n",
-    ),
-    (
-        b"r\t0\tref\t1\t255\t5N5M\t*\t0\t0\t*\t*",
-        false,
-        false,
-        b"ref\t0\t10\tr\t255\t+\n",
-    ),
-    (
-        b"r\t0\tref\t1\t255\t5N5M\t*\t0\t0\t*\t*",
-        true,
-        false,
-        b"ref\t5\t10\tr\t255\t+\n",
-    ),
-    (
-        b"r\t0\tref\t1\t30\t999999999999M\t*\t0\t0\t*\t*",
-        true,
-        false,
-        b"ref\t0\t999999999999\tr\t30\t+\n",
-    ),
+    (R001, false, false, b"ref\t6\t22\tr001/1\t30\t+\n"),
+    (R001, false, true, b"ref\t6\t22\tr001/1\t30\t+\t8M2I4M1D3M\n"),
+    (R002, false, false, b"ref\t8\t18\tr002\t30\t+\n"),
+    (R003, true, true, b"ref\t8\t14\tr003\t30\t+\t5S6M\n"),
+    (R004, false, false, b"ref\t15\t40\tr004\t30\t+\n"),
+    (R004, true, false, b"ref\t15\t21\tr004\t30\t+\nref\t35\t40\tr004\t30\t+\n"),
+    (R004, true, true, b"ref\t15\t21\tr004\t30\t+\t6M14N5M\nref\t35\t40\tr004\t30\t+\t6M14N5M\n"),
+    (R003_AGAIN, false, false, b"ref\t28\t33\tr003\t17\t-\n"),
+    (R001_AGAIN, false, false, b"ref\t36\t45\tr001/2\t30\t-\n"),
+    (b"r001\t147\tref\t37\t030\t09M\t=\t7\t-39\tCAGCGGCAT\t*", false, true,
+        b"ref\t36\t45\tr001/2\t30\t-\t09M\n"),
+    (b"r004\t4\tref\t16\t30\t6M14N5M\t*\t0\t0\tATAGCTTCAGC\t*", true, false, b""),
+    (b"r\t0\tref\t16\t30\t*\t*\t0\t0\tATAGCTTCAGC\t*", false, false, b""),
+    (b"r\t192\tref\t1\t0\t5M\t*\t0\t0\t*\t*", false, false, b"ref\t0\t5\tr/1/2\t0\t+\n"),
+    (b"r\t208\tref\t1\t0\t5M\t*\t0\t0\t*\t*", false, true, b"ref\t0\t5\tr/1/2\t0\t-\t5M\n"),
+    (b"r\t0\tref\t1\t255\t5N5M\t*\t0\t0\t*\t*", false, false, b"ref\t0\t10\tr\t255\t+\n"),
+    (b"r\t0\tref\t1\t255\t5N5M\t*\t0\t0\t*\t*", true, false, b"ref\t5\t10\tr\t255\t+\n"),
+    (b"r\t0\tref\t1\t30\t999999999999M\t*\t0\t0\t*\t*", true, false,
+        b"ref\t0\t999999999999\tr\t30\t+\n"),
     (b"r\t0\tref\t1\t30\t5N\t*\t0\t0\t*\t*", true, false, b""),
     (b"r\t0\t*\t1\t30\t5M\t*\t0\t0\t*\t*", false, false, b""),
     (b"r\t0\tref\t0\t30\t5M\t*\t0\t0\t*\t*", false, false, b""),
@@ -134,37 +52,26 @@ fn writes(alloc: Global, case: &Case) -> bool {
     let mut engine = BamToBed::new(split, cigar);
     let is_fed = feed_text(&mut engine, text, &mut out) == Ok(true);
     let is_flushed = out.flush().is_ok();
-    let is_wanted = out.into_sink().taken() == want;
-    is_fed && is_flushed && is_wanted
-}
-
-// The first line that is written otherwise.
-fn first_miswritten(alloc: Global, cases: &[Case]) -> Option<&'static [u8]> {
-    for case in cases {
-        if !writes(alloc, case) {
-            return Some(case.0);
-        }
-    }
-    None
+    is_fed && is_flushed && out.into_sink().taken() == want
 }
 
 #[test]
 fn alignments_are_written(rt: HostRuntime) {
-    assert_eq!(rt; first_miswritten(rt.alloc(), &CASES), None);
+    for case in &CASES {
+        assert!(rt; writes(rt.alloc(), case), "{:?}", case.0);
+    }
 }
 
 // Two lines, of which the second is at fault, and what is written of the first.
 #[test]
 fn a_line_at_fault_comes_behind_what_was_written(rt: HostRuntime) {
-    let line = b"r001\t99\tref\t7\t30\t8M2I4M1D3M\t=\t37\t39\tTTAGATAAAGGATACTG\t*";
     let cut = b"r001\t99\tref\t7\t30\t8M2I4M1D3M\t=\t37\t39\tTTAGATAAAGGATACTG";
     let mut out = Out::new(ScriptSink::new(rt.alloc(), 3, None));
     let mut engine = BamToBed::new(false, false);
-    let is_fed = feed_text(&mut engine, line, &mut out) == Ok(true);
+    let is_fed = feed_text(&mut engine, R001, &mut out) == Ok(true);
     let is_told = feed_text(&mut engine, cut, &mut out) == Err(Kind::TooFewColumns);
     let is_flushed = out.flush().is_ok();
-    let want: &[u8] = b"ref\t6\t22\tr001/1\t30\t+\n";
-    let is_wanted = out.into_sink().taken() == want;
+    let is_wanted = out.into_sink().taken() == b"ref\t6\t22\tr001/1\t30\t+\n".as_slice();
     assert!(rt; is_fed && is_told && is_flushed && is_wanted);
 }
 
@@ -192,7 +99,5 @@ fn a_failed_write_is_told_from_then_on(rt: HostRuntime) {
     let mut engine = BamToBed::new(false, false);
     let line = b"r\t0\tref\t1\t30\t5M\t*\t0\t0\t*\t*";
     let has_failed = fails_from_then_on(&mut engine, line, &mut out);
-    let want: &[u8] = b"ref\t0";
-    let is_front = out.into_sink().taken() == want;
-    assert!(rt; has_failed && is_front);
+    assert!(rt; has_failed && out.into_sink().taken() == b"ref\t0".as_slice());
 }
