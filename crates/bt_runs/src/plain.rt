@@ -114,6 +114,7 @@ mod tests {
 
     const FOUR: Bounds = &[(100, 200), (180, 250), (250, 500), (501, 1000)];
 
+    #[rattlefmt::skip]
     const CASES: [Case; 13] = [
         ("no record", &[], 0, &[]),
         ("one record", &[(3, 8)], 0, &[(3, 8)]),
@@ -123,12 +124,7 @@ mod tests {
         ("one within another", &[(0, 9), (3, 5)], 0, &[(0, 9)]),
         ("a gap of one", &[(0, 5), (6, 9)], 0, &[(0, 5), (6, 9)]),
         ("a gap of one, bridged", &[(0, 5), (6, 9)], 1, &[(0, 9)]),
-        (
-            "a gap of two, by one",
-            &[(0, 5), (7, 9)],
-            1,
-            &[(0, 5), (7, 9)],
-        ),
+        ("a gap of two, by one", &[(0, 5), (7, 9)], 1, &[(0, 5), (7, 9)]),
         ("a gap of two, bridged", &[(0, 5), (7, 9)], 2, &[(0, 9)]),
         ("out of order", &[(7, 9), (0, 5)], 0, &[(0, 5), (7, 9)]),
         ("four records", FOUR, 0, &[(100, 500), (501, 1000)]),

@@ -13,16 +13,13 @@ pub(crate) fn holds(rt: &impl Abort, it: bool, name: &str) {
     assert!(rt; it, "{name}");
 }
 
-pub(crate) fn same_count(rt: &impl Abort, given: usize, wanted: usize, name: &str) {
+fn same_count(rt: &impl Abort, given: usize, wanted: usize, name: &str) {
     assert_eq!(rt; given, wanted, "{name}");
 }
 
-pub(crate) fn same_answer(
-    rt: &impl Abort,
-    given: Result<(), Fault>,
-    wanted: Result<(), Fault>,
-    name: &str,
-) {
+type Answer = Result<(), Fault>;
+
+pub(crate) fn same_answer(rt: &impl Abort, given: Answer, wanted: Answer, name: &str) {
     assert_eq!(rt; given, wanted, "{name}");
 }
 
@@ -31,17 +28,11 @@ fn same_bytes(rt: &impl Abort, given: &[u8], wanted: &[u8], name: &str) {
 }
 
 // The line of a record, and how many items an engine keeps once it has taken it.
-pub(crate) type KeptLine<'a> = (&'a [u8], usize);
+type KeptLine<'a> = (&'a [u8], usize);
 
-// The lines that an engine is fed, the output that is written with them, and that which is written at
-// the end.
-#[derive(Clone, Copy)]
-pub(crate) struct Row<'a> {
-    pub(crate) name: &'a str,
-    pub(crate) lines: &'a [KeptLine<'static>],
-    pub(crate) settled: &'a [u8],
-    pub(crate) left: &'a [u8],
-}
+// A case: its name, the lines that an engine is fed, what is written with them, and what at the end.
+#[rattlefmt::skip]
+pub(crate) type Row = (&'static str, &'static [KeptLine<'static>], &'static [u8], &'static [u8]);
 
 // The genome file of this text.
 pub(crate) fn genome(alloc: Global, text: &[u8]) -> Result<Genome, Fault> {
@@ -51,12 +42,17 @@ pub(crate) fn genome(alloc: Global, text: &[u8]) -> Result<Genome, Fault> {
     genome
 }
 
+// An output to a sink that takes so many bytes at a time, all of them.
+pub(crate) fn output(alloc: Global, step: usize) -> Out<ScriptSink> {
+    Out::new(ScriptSink::new(alloc, step.max(1), None))
+}
+
 // Feeds the record of a line.
 pub(crate) fn feed_line<E: Engine, K: Sink>(
     engine: &mut E,
     line: &[u8],
     out: &mut Out<K>,
-) -> Result<(), Fault> {
+) -> Answer {
     match parse_bed(line) {
         Ok(Some(bed)) => engine.feed(&bed, out),
         _ => Ok(()),
@@ -75,16 +71,31 @@ pub(crate) fn feed_kept<E: Engine, K: Sink>(
     same_count(rt, engine.kept_len(), kept, name);
 }
 
-// Feeds the lines of a row.
-pub(crate) fn feed_row<E: Engine, K: Sink>(
+// A line with the number in its second column, in five digits.
+fn numbered(number: u64) -> [u8; 16] {
+    let mut line = *b"chr1\t00000\t20000";
+    let mut rest = number;
+    for at in [9, 8, 7, 6, 5] {
+        line[at] = b'0' + (rest % 10) as u8;
+        rest /= 10;
+    }
+    line
+}
+
+// Feeds ten thousand records that settle nothing, of which one item is kept. Only the first may be refused.
+pub(crate) fn feed_many<E: Engine>(
     rt: &impl Abort,
     engine: &mut E,
-    row: &Row<'_>,
-    out: &mut Out<K>,
-) {
-    for item in row.lines {
-        feed_kept(rt, engine, *item, out, row.name);
+    out: &mut Out<ScriptSink>,
+) -> Result<(), Fail> {
+    if feed_line(engine, &numbered(0), out).is_err() {
+        return Err(Fail::from(AllocError));
     }
+    for number in 1..10_000 {
+        let line = numbered(number);
+        feed_kept(rt, engine, (line.as_slice(), 1), out, "one of many");
+    }
+    Ok(())
 }
 
 // What was put has to be these bytes.
@@ -105,32 +116,16 @@ pub(crate) fn expect_end<E: Engine>(
     expect_put(rt, out, wanted, name);
 }
 
-// An engine that has taken all its records, and its output.
-pub(crate) struct Fed<E> {
-    pub(crate) engine: E,
-    pub(crate) out: Out<ScriptSink>,
-}
-
-// Lets two engines finish, which have to have written the same.
-pub(crate) fn expect_same<E: Engine>(rt: &impl Abort, one: Fed<E>, other: Fed<E>, name: &str) {
-    let Fed { engine, out } = other;
-    let mut wanted = out;
-    same_answer(rt, engine.finish(&mut wanted), Ok(()), name);
-    same_answer(rt, wanted.flush(), Ok(()), name);
-    let sink = wanted.into_sink();
-    holds(rt, !sink.taken().is_empty(), name);
-    let Fed { engine, out } = one;
-    expect_end(rt, engine, out, sink.taken(), name);
-}
-
 // An engine that has taken no record has to keep and to write what the row says.
-pub(crate) fn check_row<E: Engine>(rt: &impl Abort, alloc: Global, mut engine: E, row: &Row<'_>) {
-    same_count(rt, engine.kept_len(), 0, row.name);
-    let mut out = Out::new(ScriptSink::new(alloc, 3, None));
-    feed_row(rt, &mut engine, row, &mut out);
-    expect_put(rt, out, row.settled, row.name);
-    let out = Out::new(ScriptSink::new(alloc, 3, None));
-    expect_end(rt, engine, out, row.left, row.name);
+pub(crate) fn check_row<E: Engine>(rt: &impl Abort, alloc: Global, mut engine: E, row: &Row) {
+    let (name, lines, settled, left) = *row;
+    same_count(rt, engine.kept_len(), 0, name);
+    let mut out = output(alloc, 3);
+    for line in lines {
+        feed_kept(rt, &mut engine, *line, &mut out, name);
+    }
+    expect_put(rt, out, settled, name);
+    expect_end(rt, engine, output(alloc, 3), left, name);
 }
 
 const WRITE_FAILED: Fault = Fault {
@@ -143,22 +138,27 @@ const WRITE_FAILED: Fault = Fault {
 fn feed_failing<E: Engine, K: Sink>(
     rt: &impl Abort,
     mut engine: E,
-    row: &Row<'_>,
+    (name, lines, _, _): &Row,
     out: &mut Out<K>,
 ) {
     let mut has_failed = false;
-    for (line, _) in row.lines {
+    for (line, _) in *lines {
         let answer = feed_line(&mut engine, line, out);
-        holds(rt, !has_failed || answer == Err(WRITE_FAILED), row.name);
+        holds(rt, !has_failed || answer == Err(WRITE_FAILED), name);
         has_failed = answer.is_err();
     }
     if has_failed {
         let answer = feed_line(&mut engine, b"chr9\t5\t6", out);
-        same_answer(rt, answer, Err(WRITE_FAILED), row.name);
+        same_answer(rt, answer, Err(WRITE_FAILED), name);
     }
     let answer = engine.finish(out);
-    holds(rt, !has_failed || answer == Err(WRITE_FAILED), row.name);
-    same_answer(rt, answer.and(out.flush()), Err(WRITE_FAILED), row.name);
+    holds(rt, !has_failed || answer == Err(WRITE_FAILED), name);
+    same_answer(rt, answer.and(out.flush()), Err(WRITE_FAILED), name);
+}
+
+// How many bytes are written in a case.
+pub(crate) fn written_len((_, _, settled, left): &Row) -> usize {
+    settled.len().saturating_add(left.len())
 }
 
 // The same engine over a sink that takes this many bytes, fewer than all, which have to be the first.
@@ -166,15 +166,15 @@ pub(crate) fn check_failing<E: Engine + Drop>(
     rt: &impl Abort,
     alloc: Global,
     engine: E,
-    row: &Row<'_>,
+    row: &Row,
     good: usize,
 ) -> Result<(), Fail> {
-    let mut wanted = Vec::from_slice(alloc, row.settled)?;
-    wanted.extend_from_slice(row.left)?;
+    let mut wanted = Vec::from_slice(alloc, row.2)?;
+    wanted.extend_from_slice(row.3)?;
     let mut out = Out::new(ScriptSink::new(alloc, 4, Some(good)));
     feed_failing(rt, engine, row, &mut out);
     let prefix = wanted.as_slice().get(..good).unwrap_or(b"");
-    same_bytes(rt, out.into_sink().taken(), prefix, row.name);
+    same_bytes(rt, out.into_sink().taken(), prefix, row.0);
     Ok(())
 }
 
@@ -190,23 +190,16 @@ pub(crate) fn spans_of(alloc: Global, bounds: &[(u64, u64)]) -> Result<Vec<Plain
     Ok(spans)
 }
 
-// Spans on a chromosome.
-#[derive(Clone, Copy)]
-pub(crate) struct ChromSpans<'a> {
-    pub(crate) chrom: &'a str,
-    pub(crate) spans: &'a [PlainSpan],
-}
-
 // Feeds spans on a chromosome, and says whether they were taken.
-pub(crate) fn feed_spans<E: Engine, K: Sink>(
+fn feed_spans<E: Engine, K: Sink>(
     alloc: Global,
     engine: &mut E,
-    fed: ChromSpans<'_>,
+    (chrom, spans): (&str, Bounds),
     out: &mut Out<K>,
 ) -> Result<bool, AllocError> {
-    let chrom = fed.chrom;
-    for span in fed.spans {
-        let line = format!(in alloc; "{chrom}\t{}\t{}", span.start, span.stop)?;
+    for (start, stop) in spans {
+        let (start, stop) = (*start, *stop);
+        let line = format!(in alloc; "{chrom}\t{start}\t{stop}")?;
         if feed_line(engine, line.as_bytes(), out).is_err() {
             return Ok(false);
         }
@@ -214,30 +207,16 @@ pub(crate) fn feed_spans<E: Engine, K: Sink>(
     Ok(true)
 }
 
-// The lines of spans on a chromosome.
-pub(crate) fn lines_of(
-    alloc: Global,
-    chrom: &str,
-    spans: &[PlainSpan],
-) -> Result<Vec<u8>, AllocError> {
-    let mut text = Vec::new(alloc);
-    for span in spans {
-        let line = format!(in alloc; "{chrom}\t{}\t{}\n", span.start, span.stop)?;
-        text.extend_from_slice(line.as_bytes())?;
-    }
-    Ok(text)
-}
-
-// Feeds an engine that has taken no record with spans, and lets it finish. It has to write these bytes.
+// Feeds an engine that has taken no record with spans on a chromosome, and lets it finish. It has to write these bytes.
 pub(crate) fn check_spans<E: Engine + Drop>(
     rt: &impl Abort,
     alloc: Global,
     mut engine: E,
-    fed: ChromSpans<'_>,
+    spans: (&str, Bounds),
     wanted: &[u8],
 ) -> Result<(), Fail> {
-    let mut out = Out::new(ScriptSink::new(alloc, 3, None));
-    let taken = feed_spans(alloc, &mut engine, fed, &mut out)?;
+    let mut out = output(alloc, 3);
+    let taken = feed_spans(alloc, &mut engine, spans, &mut out)?;
     holds(rt, taken, "spans are taken");
     expect_end(rt, engine, out, wanted, "spans");
     Ok(())

@@ -2,6 +2,7 @@
 use crate::active::held::Held;
 use crate::active::held_index::HeldIndex;
 use crate::active::held_list::HeldList;
+use crate::tests::{nested_line, start_of};
 use bt_bed::parse_bed;
 use std::alloc::Global;
 use std::process::Abort;
@@ -23,14 +24,6 @@ fn push_all<H: Held>(alloc: Global, held: &mut H, lines: &[&[u8]]) -> Result<boo
         }
     }
     Ok(true)
-}
-
-// The start of the record at this index.
-fn start_of<H: Held>(held: &H, index: usize) -> Option<u64> {
-    match held.nth(index) {
-        Some(rec) => Some(rec.as_bed().start),
-        None => None,
-    }
 }
 
 // A place, and what is left once the records that ended there are dropped: how many, and the starts of the
@@ -56,74 +49,53 @@ fn first_otherwise<H: Held>(held: &mut H, rows: &[Left]) -> Option<u64> {
     None
 }
 
-const NOTHING: Left = (0, 0, None, None);
-
 // Of these records, once they are added, that has to be left at these places, and nothing once they are
 // cleared.
 fn check<H: Held>(
     rt: &impl Abort,
     alloc: Global,
     mut held: H,
-    lines: &[&[u8]],
-    rows: &[Left],
+    cases: &[(&[&[u8]], &[Left])],
 ) -> Result<(), Fail> {
-    let are_added = push_all(alloc, &mut held, lines)?;
-    let found = first_otherwise(&mut held, rows);
-    held.clear();
-    let is_clear = leaves(&mut held, &NOTHING);
-    assert_eq!(rt; (are_added, found, is_clear), (true, None, true));
+    for (lines, rows) in cases {
+        let are_added = push_all(alloc, &mut held, lines)?;
+        let found = first_otherwise(&mut held, rows);
+        held.clear();
+        let is_clear = leaves(&mut held, &(0, 0, None, None));
+        assert_eq!(rt; (are_added, found, is_clear), (true, None, true));
+    }
     Ok(())
 }
 
-const RISING: [&[u8]; 5] = [
-    b"c\t0\t100",
-    b"c\t1\t20",
-    b"c\t2\t50\tn",
-    b"c\t3\t51",
-    b"c\t3\t20",
-];
-
-const LEFT_OF_RISING: [Left; 4] = [
-    (19, 5, Some(0), Some(3)),
-    (20, 3, Some(0), Some(3)),
-    (50, 2, Some(0), Some(3)),
-    (99, 1, Some(0), Some(0)),
+// Also those that don't come by their starts are dropped.
+#[rattlefmt::skip]
+const CASES: [(&[&[u8]], &[Left]); 2] = [
+    (&[b"c\t0\t100", b"c\t1\t20", b"c\t2\t50\tn", b"c\t3\t51", b"c\t3\t20"],
+        &[(19, 5, Some(0), Some(3)), (20, 3, Some(0), Some(3)), (50, 2, Some(0), Some(3)),
+          (99, 1, Some(0), Some(0))]),
+    (&[b"c\t50\t60", b"c\t10\t20", b"c\t30\t90"],
+        &[(20, 2, Some(50), Some(30)), (60, 1, Some(30), Some(30))]),
 ];
 
 #[test]
 fn ended_records_are_dropped(rt: HostRuntime) -> Result<(), Fail> {
-    let (list, index) = (HeldList::new(rt.alloc()), HeldIndex::new(rt.alloc()));
-    check(&rt, rt.alloc(), list, &RISING, &LEFT_OF_RISING)?;
-    check(&rt, rt.alloc(), index, &RISING, &LEFT_OF_RISING)
-}
-
-// Records that don't come by their starts are dropped as the others are.
-const IN_ANY_ORDER: [&[u8]; 3] = [b"c\t50\t60", b"c\t10\t20", b"c\t30\t90"];
-
-const LEFT_IN_ANY_ORDER: [Left; 2] = [(20, 2, Some(50), Some(30)), (60, 1, Some(30), Some(30))];
-
-#[test]
-fn ended_records_are_dropped_in_any_order(rt: HostRuntime) -> Result<(), Fail> {
-    let (list, index) = (HeldList::new(rt.alloc()), HeldIndex::new(rt.alloc()));
-    check(&rt, rt.alloc(), list, &IN_ANY_ORDER, &LEFT_IN_ANY_ORDER)?;
-    check(&rt, rt.alloc(), index, &IN_ANY_ORDER, &LEFT_IN_ANY_ORDER)
+    check(&rt, rt.alloc(), HeldList::new(rt.alloc()), &CASES)?;
+    check(&rt, rt.alloc(), HeldIndex::new(rt.alloc()), &CASES)
 }
 
 // Adds a thousand records, each within the one before it.
 fn push_nested<H: Held>(alloc: Global, held: &mut H) -> Result<bool, Fail> {
-    for start in 0u32..1000 {
-        let line = format!(in alloc; "chr1\t{start}\t{}", 10_000 - start)?;
-        if !push(alloc, held, line.as_bytes())? {
+    for number in 0..1000 {
+        if !push(alloc, held, nested_line(alloc, number)?.as_bytes())? {
             return Ok(false);
         }
     }
     Ok(true)
 }
 
+#[rattlefmt::skip]
 const LEFT_OF_NESTED: [Left; 4] = [
-    (9000, 1000, Some(0), Some(999)),
-    (9500, 500, Some(0), Some(499)),
-    (9999, 1, Some(0), Some(0)),
+    (9000, 1000, Some(0), Some(999)), (9500, 500, Some(0), Some(499)), (9999, 1, Some(0), Some(0)),
     (10_000, 0, None, None),
 ];
 

@@ -1,5 +1,5 @@
 use super::*;
-use crate::tests::worked::{ANY_OVERLAP, FRACTIONS, RuledCase, STRANDS, SUBTRACTED, records_of};
+use crate::tests::worked::{ANY_OVERLAP, RULED, RuledCase, records_of};
 use std::test::Fail;
 
 // The name of the first case that is written otherwise.
@@ -21,8 +21,6 @@ fn first_miswritten(
 #[test]
 fn worked_rows(rt: HostRuntime) -> Result<(), Fail> {
     assert_eq!(rt; first_miswritten(rt.alloc(), &ANY_OVERLAP)?, None);
-    assert_eq!(rt; first_miswritten(rt.alloc(), &FRACTIONS)?, None);
-    assert_eq!(rt; first_miswritten(rt.alloc(), &STRANDS)?, None);
-    assert_eq!(rt; first_miswritten(rt.alloc(), &SUBTRACTED)?, None);
+    assert_eq!(rt; first_miswritten(rt.alloc(), &RULED)?, None);
     Ok(())
 }

@@ -1,9 +1,12 @@
 //! Growths that are refused, by `rt try --test --fail-alloc N -- refused_growth` for each N from 1. Each
 //! test checks what is left when its call was refused, and then ends with out of memory.
 
+ghost use Rattle.std.specs.Prelude.{◌≡◌, []};
+
 use crate::active::held::Held;
 use crate::active::held_index::HeldIndex;
 use crate::active::held_list::HeldList;
+use crate::tests::output;
 use crate::{HitRule, Shape, Sweep, Want};
 use bt_bed::{ByteOrder, Taken, parse_bed};
 use bt_lines::{Out, ScriptSink};
@@ -30,16 +33,10 @@ fn push_or_check<H: Held>(
         return Ok(());
     };
     let back = back.as_bed();
-    holds(
-        rt,
-        back.chrom == bed.chrom && back.rest == bed.rest,
-        "the record comes back",
-    );
-    holds(
-        rt,
-        (back.start, back.stop) == (bed.start, bed.stop),
-        "with its bounds",
-    );
+    let is_back = back.chrom == bed.chrom && back.rest == bed.rest;
+    holds(rt, is_back, "the record comes back");
+    let are_bounds = (back.start, back.stop) == (bed.start, bed.stop);
+    holds(rt, are_bounds, "with its bounds");
     holds(rt, held.len() == count, "the list is as it was");
     Err(Fail::from(AllocError))
 }
@@ -76,7 +73,7 @@ fn numbered(number: u64) -> [u8; 16] {
     line
 }
 
-// Gives ten thousand records that end before the one that waits. Nothing is held, and none is refused.
+// Gives ten thousand records that end before the one that waits. None is held, and none is refused.
 fn give_short<H: Held>(
     rt: &impl Abort,
     sweep: &mut Sweep<'_, H, ByteOrder>,
@@ -90,30 +87,20 @@ fn give_short<H: Held>(
         let is_asked = sweep.want() == Want::B;
         holds(rt, is_asked, "the second input is asked for");
         if is_asked {
-            holds(
-                rt,
-                sweep.give_b(&bed, start + 1, out) == Ok(Taken::Yes),
-                "it is taken",
-            );
+            let given = sweep.give_b(&bed, start + 1, out);
+            holds(rt, given == Ok(Taken::Yes), "it is taken");
         }
+        holds(rt, sweep.held().len() == 0, "nothing is held");
     }
-    holds(rt, sweep.held().len() == 0, "nothing is held");
 }
 
 // Only the record of the first input needs memory.
-#[test]
-fn refused_growth_beside_records_that_are_not_held(rt: HostRuntime) -> Result<(), Fail> {
-    let order = ByteOrder;
-    let held = HeldIndex::new(rt.alloc());
-    let mut sweep = Sweep::new(
-        rt.alloc(),
-        held,
-        Shape::Count,
-        HitRule::any_overlap(),
-        None,
-        &order,
-    );
-    let mut out = Out::new(ScriptSink::new(rt.alloc(), 512, None));
+fn give_beside_one<H: Held>(rt: &impl Abort, alloc: Global, held: H) -> Result<(), Fail>
+    requires { H.records held ≡ [] }
+{
+    let rule = HitRule::any_overlap();
+    let mut sweep = Sweep::new(alloc, held, Shape::Count, rule, None, &ByteOrder);
+    let mut out = output(alloc, 512);
     let Ok(Some(bed)) = parse_bed(b"chr1\t50000\t50001\tmore columns than stand inside a record")
     else {
         return Err(Fail::new("a record"));
@@ -121,6 +108,12 @@ fn refused_growth_beside_records_that_are_not_held(rt: HostRuntime) -> Result<()
     if sweep.want() == Want::A && sweep.give_a(&bed, &mut out).is_err() {
         return Err(Fail::from(AllocError));
     }
-    give_short(&rt, &mut sweep, &mut out);
+    give_short(rt, &mut sweep, &mut out);
     Ok(())
+}
+
+#[test]
+fn refused_growth_beside_records_that_are_not_held(rt: HostRuntime) -> Result<(), Fail> {
+    give_beside_one(&rt, rt.alloc(), HeldList::new(rt.alloc()))?;
+    give_beside_one(&rt, rt.alloc(), HeldIndex::new(rt.alloc()))
 }

@@ -7,8 +7,9 @@ ghost use Rattle.bt_sweep.specs.calls.Sweeping.{GivesKnown};
 ghost use Rattle.bt_sweep.specs.calls.SweepView.{order_of};
 
 use super::*;
-use bt_bed::{Records, Single};
-use bt_lines::Source;
+use crate::output::shape::Shape::*;
+use bt_bed::{Genome, Records, Single};
+use bt_lines::{Input, LineReader, ScriptSource, Source};
 
 // Gives the end of the second input, if that is wanted.
 fn end_second_if_wanted<H: Held, O: ChromOrder, K: Sink>(
@@ -71,22 +72,16 @@ fn give_buffered<A: Source, B: Source, K: Sink>(
 fn sweep_sources<A: Source + Drop, B: Source + Drop, K: Sink>(
     alloc: Global,
     genome: &Genome,
-    how: (Shape, Option<u64>),
+    (shape, limit): (Shape, Option<u64>),
     sources: (A, B),
     out: &mut Out<K>,
 ) -> (Result<(), Fault>, bool) {
-    let mut first = Records::new(
-        alloc,
-        LineReader::new(alloc, sources.0, Input::First),
-        genome,
-    );
-    let mut second = Records::new(
-        alloc,
-        LineReader::new(alloc, sources.1, Input::Second),
-        genome,
-    );
-    let rule = HitRule::any_overlap();
-    let mut sweep = Sweep::new(alloc, HeldIndex::new(alloc), how.0, rule, how.1, genome);
+    let first = LineReader::new(alloc, sources.0, Input::First);
+    let second = LineReader::new(alloc, sources.1, Input::Second);
+    let mut first = Records::new(alloc, first, genome);
+    let mut second = Records::new(alloc, second, genome);
+    let (held, rule) = (HeldIndex::new(alloc), HitRule::any_overlap());
+    let mut sweep = Sweep::new(alloc, held, shape, rule, limit, genome);
     let given = give_buffered(&mut first, &mut second, &mut sweep, out);
     let is_done = sweep.want() == Want::Nothing;
     let _ = first.into_reader().into_source();
@@ -99,116 +94,102 @@ type Texts<'a> = (&'a [u8], &'a [u8], &'a [u8]);
 
 // What a sink takes that fails after `good` bytes, and the fault, once a text was put and two texts were swept.
 fn sweep_texts(
-    rt: &HostRuntime,
-    how: (Shape, Option<u64>, Option<usize>),
+    alloc: Global,
+    how: (Shape, Option<u64>),
     texts: Texts<'_>,
+    good: Option<usize>,
 ) -> Result<(Vec<u8>, Option<Fault>), Fail> {
-    let (shape, limit, good) = how;
-    let genome = read_genome(rt.alloc())?;
-    let mut out = Out::new(ScriptSink::new(rt.alloc(), 100, good));
+    let genome = genome(alloc)?;
+    let mut out = Out::new(ScriptSink::new(alloc, 100, good));
     let is_put = out.put(texts.0).is_ok();
     let first = ScriptSource::new(texts.1, 8192, None);
     let second = ScriptSource::new(texts.2, 8192, None);
-    let (given, is_done) = sweep_sources(
-        rt.alloc(),
-        &genome,
-        (shape, limit),
-        (first, second),
-        &mut out,
-    );
+    let (given, is_done) = sweep_sources(alloc, &genome, how, (first, second), &mut out);
     if !is_put || !is_done {
         return Err("a sweep that wants nothing".into());
     }
-    let fault = match given {
-        Ok(()) => out.flush().err(),
-        Err(fault) => {
-            let _ = out.flush();
-            Some(fault)
-        }
-    };
-    let mut taken = Vec::new(rt.alloc());
+    let flushed = out.flush();
+    let mut taken = Vec::new(alloc);
     taken.extend_from_slice(out.into_sink().taken())?;
-    Ok((taken, fault))
+    Ok((taken, given.and(flushed).err()))
 }
 
 // Some are hit, two have lines that aren't what is written, and some end before or after all of the second input.
-const FIRST: &[u8] =
-    b"chr1\t1\t5\nchr1\t2\t6\tn\nchr1\t03\t7\nchr1\t8\t9\nchr1\t20\t30\nchr1\t40\t50\nchr1\t60\t70\r\nchr1\t75\t76\tm\nchr1\t80\t90\n";
+const FIRST: &[u8] = b"chr1\t1\t5\nchr1\t2\t6\tn\nchr1\t03\t7\nchr1\t8\t9\nchr1\t20\t30\n\
+    chr1\t40\t50\nchr1\t60\t70\r\nchr1\t75\t76\tm\nchr1\t80\t90\n";
 
 const SECOND: &[u8] = b"chr1\t10\t12\nchr1\t25\t26\nchr1\t52\t53\nchr1\t70\t71\n";
 
 // A shape, and what is written in it.
+#[rattlefmt::skip]
 const WRITTEN: [(Shape, &[u8]); 10] = [
-    (Shape::Cut, b"chr1\t25\t26\n"),
-    (Shape::OrigA, b"chr1\t20\t30\n"),
-    (Shape::CutAndB, b"chr1\t25\t26\tchr1\t25\t26\n"),
-    (Shape::OrigBoth, b"chr1\t20\t30\tchr1\t25\t26\n"),
-    (Shape::Overlap, b"chr1\t20\t30\tchr1\t25\t26\t1\n"),
-    (Shape::Once, b"chr1\t20\t30\n"),
-    (
-        Shape::Missing,
-        b"chr1\t1\t5\nchr1\t2\t6\tn\nchr1\t3\t7\nchr1\t8\t9\nchr1\t40\t50\nchr1\t60\t70\nchr1\t75\t76\tm\nchr1\t80\t90\n",
-    ),
-    (
-        Shape::Count,
-        b"chr1\t1\t5\t0\nchr1\t2\t6\tn\t0\nchr1\t3\t7\t0\nchr1\t8\t9\t0\nchr1\t20\t30\t1\nchr1\t40\t50\t0\nchr1\t60\t70\t0\nchr1\t75\t76\tm\t0\nchr1\t80\t90\t0\n",
-    ),
-    (
-        Shape::Pieces,
-        b"chr1\t1\t5\nchr1\t2\t6\tn\nchr1\t3\t7\nchr1\t8\t9\nchr1\t20\t25\nchr1\t26\t30\nchr1\t40\t50\nchr1\t60\t70\nchr1\t75\t76\tm\nchr1\t80\t90\n",
-    ),
-    (
-        Shape::Whole,
-        b"chr1\t1\t5\nchr1\t2\t6\tn\nchr1\t3\t7\nchr1\t8\t9\nchr1\t40\t50\nchr1\t60\t70\nchr1\t75\t76\tm\nchr1\t80\t90\n",
-    ),
+    (Cut, b"chr1\t25\t26\n"),
+    (OrigA, b"chr1\t20\t30\n"),
+    (CutAndB, b"chr1\t25\t26\tchr1\t25\t26\n"),
+    (OrigBoth, b"chr1\t20\t30\tchr1\t25\t26\n"),
+    (Overlap, b"chr1\t20\t30\tchr1\t25\t26\t1\n"),
+    (Once, b"chr1\t20\t30\n"),
+    (Missing,
+        b"chr1\t1\t5\nchr1\t2\t6\tn\nchr1\t3\t7\nchr1\t8\t9\nchr1\t40\t50\nchr1\t60\t70\n\
+          chr1\t75\t76\tm\nchr1\t80\t90\n"),
+    (Count,
+        b"chr1\t1\t5\t0\nchr1\t2\t6\tn\t0\nchr1\t3\t7\t0\nchr1\t8\t9\t0\nchr1\t20\t30\t1\n\
+          chr1\t40\t50\t0\nchr1\t60\t70\t0\nchr1\t75\t76\tm\t0\nchr1\t80\t90\t0\n"),
+    (Pieces,
+        b"chr1\t1\t5\nchr1\t2\t6\tn\nchr1\t3\t7\nchr1\t8\t9\nchr1\t20\t25\nchr1\t26\t30\n\
+          chr1\t40\t50\nchr1\t60\t70\nchr1\t75\t76\tm\nchr1\t80\t90\n"),
+    (Whole,
+        b"chr1\t1\t5\nchr1\t2\t6\tn\nchr1\t3\t7\nchr1\t8\t9\nchr1\t40\t50\nchr1\t60\t70\n\
+          chr1\t75\t76\tm\nchr1\t80\t90\n"),
 ];
 
 // Whether these bytes are written up to where the sink fails, which is an error only if it doesn't take all.
 fn writes_up_to(
-    rt: &HostRuntime,
+    alloc: Global,
     shape: Shape,
     good: usize,
     texts: Texts<'_>,
     want: &[u8],
 ) -> Result<bool, Fail> {
-    let (taken, fault) = sweep_texts(rt, (shape, None, Some(good)), texts)?;
-    if want.len() <= good {
-        return Ok(fault.is_none() && taken.as_slice() == want);
-    }
-    let kind = fault.map(|fault| fault.kind);
-    Ok(kind == Some(Kind::WriteFailed) && Some(taken.as_slice()) == want.get(..good))
+    let (taken, fault) = sweep_texts(alloc, (shape, None), texts, Some(good))?;
+    Ok(is_taken(taken.as_slice(), fault, want, good))
 }
 
-#[test]
-fn buffered_records_in_each_shape(rt: HostRuntime) -> Result<(), Fail> {
-    for (shape, want) in &WRITTEN {
+// The first shape in which something else is written of these inputs, wherever the sink fails.
+fn first_miswritten_in(
+    alloc: Global,
+    rows: &[(Shape, &[u8])],
+    first: &[u8],
+    second: &[u8],
+) -> Result<Option<Shape>, Fail> {
+    for (shape, want) in rows {
         for good in 0..want.len().saturating_add(1) {
-            let is_written = writes_up_to(&rt, *shape, good, (b"", FIRST, SECOND), want)?;
-            assert!(rt; is_written);
+            if !writes_up_to(alloc, *shape, good, (b"", first, second), want)? {
+                return Ok(Some(*shape));
+            }
         }
     }
-    Ok(())
+    Ok(None)
 }
 
 // What is written of a last line without a line feed, which is a batch of its own. It gets one, and is copied through,
 // except in the last shape.
 const LAST: [(Shape, &[u8]); 4] = [
-    (Shape::Missing, b"chr1\t80\t90\n"),
-    (Shape::Pieces, b"chr1\t80\t90\n"),
-    (Shape::Whole, b"chr1\t80\t90\n"),
-    (Shape::Count, b"chr1\t80\t90\t0\n"),
+    (Missing, b"chr1\t80\t90\n"),
+    (Pieces, b"chr1\t80\t90\n"),
+    (Whole, b"chr1\t80\t90\n"),
+    (Count, b"chr1\t80\t90\t0\n"),
 ];
 
 #[test]
-fn last_line_without_a_line_feed(rt: HostRuntime) -> Result<(), Fail> {
-    for (shape, want) in &LAST {
-        for second in [SECOND, b"chr1\t10\t20\n", b"chr1\t900\t910\n", b""] {
-            for good in 0..want.len().saturating_add(1) {
-                let texts: Texts<'_> = (b"", b"chr1\t80\t90", second);
-                let is_written = writes_up_to(&rt, *shape, good, texts, want)?;
-                assert!(rt; is_written);
-            }
-        }
+fn buffered_records_in_each_shape(rt: HostRuntime) -> Result<(), Fail> {
+    assert_eq!(rt;
+        first_miswritten_in(rt.alloc(), &WRITTEN, FIRST, SECOND)?,
+        None
+    );
+    for second in [SECOND, b"chr1\t10\t20\n", b"chr1\t900\t910\n", b""] {
+        let found = first_miswritten_in(rt.alloc(), &LAST, b"chr1\t80\t90", second)?;
+        assert_eq!(rt; found, None);
     }
     Ok(())
 }
@@ -229,15 +210,14 @@ fn lines_are_cut_where_the_sink_fails(rt: HostRuntime) -> Result<(), Fail> {
     let text = many_lines(rt.alloc())?;
     let mut twice = many_lines(rt.alloc())?;
     twice.push_str(text.as_str())?;
-    let lines = text.as_bytes();
+    let (lines, twice) = (text.as_bytes(), twice.as_bytes());
     for good in [0, 1, 30, 4000, 7000, 8000, 8191, 8192, 10000] {
         for second in [
             b"chr1\t10\t20\n".as_slice(),
             b"chr1\t10\t20\nchr1\t900\t910\n",
         ] {
             let texts = (lines, lines, second);
-            let is_written = writes_up_to(&rt, Shape::Missing, good, texts, twice.as_bytes())?;
-            assert!(rt; is_written);
+            assert!(rt; writes_up_to(rt.alloc(), Missing, good, texts, twice)?);
         }
     }
     Ok(())
@@ -250,16 +230,16 @@ const TWO: &[u8] = b"chr1\t10\t12\nchr1\t21\t22\nchr1\t23\t24\n";
 // Lines that are copied through are put before a fault of a record that comes after them.
 #[test]
 fn lines_are_put_before_a_fault(rt: HostRuntime) -> Result<(), Fail> {
-    let how = (Shape::Missing, Some(1), None);
-    let (taken, fault) = sweep_texts(&rt, how, (b"", BEFORE_TWO, TWO))?;
+    let how = (Missing, Some(1));
+    let (taken, fault) = sweep_texts(rt.alloc(), how, (b"", BEFORE_TWO, TWO), None)?;
     assert_eq!(rt; taken.as_slice(), b"chr1\t1\t5\nchr1\t2\t6\n".as_slice());
     let fault = fault.ok_or("too many held")?;
     assert_eq!(rt; fault.kind, Kind::TooManyHeld);
     let place = fault.place.ok_or("a place")?;
     assert_eq!(rt; place.line, 3);
     let block = [b'x'; 8192];
-    let how = (Shape::Missing, Some(1), Some(8191));
-    let (taken, fault) = sweep_texts(&rt, how, (block.as_slice(), BEFORE_TWO, TWO))?;
+    let texts = (block.as_slice(), BEFORE_TWO, TWO);
+    let (taken, fault) = sweep_texts(rt.alloc(), how, texts, Some(8191))?;
     assert_eq!(rt; Some(taken.as_slice()), block.get(..8191));
     assert_eq!(rt; fault.map(|fault| fault.kind), Some(Kind::WriteFailed));
     Ok(())
@@ -279,55 +259,34 @@ fn single_of<'a, O: ChromOrder>(order: &O, line: &'a [u8]) -> Option<Single<'a>>
 }
 
 // What a sweep writes of one record of each input.
-fn sweep_two(rt: &HostRuntime, shape: Shape, first: &[u8], second: &[u8]) -> Result<Vec<u8>, Fail> {
-    let genome = read_genome(rt.alloc())?;
-    let mut sweep = any_overlap(rt.alloc(), shape, &genome);
-    let mut out = Out::new(ScriptSink::new(rt.alloc(), 100, None));
+fn sweep_two(alloc: Global, shape: Shape, first: &[u8], second: &[u8]) -> Result<Vec<u8>, Fail> {
+    let genome = genome(alloc)?;
+    let mut sweep = any_overlap(alloc, HeldList::new(alloc), shape, &genome);
+    let mut out = output(alloc, 100);
     let mut a = single_of(sweep.order, first).ok_or("a record")?;
     let mut b = single_of(sweep.order, second).ok_or("a record")?;
-    let given = give_both(&mut sweep, &mut a, &mut b, &mut out).is_ok();
-    let is_flushed = given && out.flush().is_ok();
-    let mut taken = Vec::new(rt.alloc());
-    if is_flushed {
-        taken.extend_from_slice(out.into_sink().taken())?;
-    }
+    give_both(&mut sweep, &mut a, &mut b, &mut out)?;
+    out.flush()?;
+    let mut taken = Vec::new(alloc);
+    taken.extend_from_slice(out.into_sink().taken())?;
     Ok(taken)
 }
 
 // A shape, a record of each input, and what is written.
+#[rattlefmt::skip]
 const SINGLES: [(Shape, &[u8], &[u8], &[u8]); 6] = [
-    (
-        Shape::Missing,
-        b"chr1\t1\t5",
-        b"chr1\t7\t9",
-        b"chr1\t1\t5\n",
-    ),
-    (
-        Shape::Pieces,
-        b"chr1\t01\t5\tn",
-        b"chr2\t7\t9",
-        b"chr1\t1\t5\tn\n",
-    ),
-    (
-        Shape::Count,
-        b"chr1\t10\t15",
-        b"chr1\t7\t9",
-        b"chr1\t10\t15\t0\n",
-    ),
-    (Shape::Once, b"chr1\t1\t5", b"chr1\t7\t9", b""),
-    (
-        Shape::Pieces,
-        b"chr1\t1\t5",
-        b"chr1\t2\t3",
-        b"chr1\t1\t2\nchr1\t3\t5\n",
-    ),
-    (Shape::OrigA, b"chr2\t1\t5", b"chr2\t4\t9", b"chr2\t1\t5\n"),
+    (Missing, b"chr1\t1\t5", b"chr1\t7\t9", b"chr1\t1\t5\n"),
+    (Pieces, b"chr1\t01\t5\tn", b"chr2\t7\t9", b"chr1\t1\t5\tn\n"),
+    (Count, b"chr1\t10\t15", b"chr1\t7\t9", b"chr1\t10\t15\t0\n"),
+    (Once, b"chr1\t1\t5", b"chr1\t7\t9", b""),
+    (Pieces, b"chr1\t1\t5", b"chr1\t2\t3", b"chr1\t1\t2\nchr1\t3\t5\n"),
+    (OrigA, b"chr2\t1\t5", b"chr2\t4\t9", b"chr2\t1\t5\n"),
 ];
 
 #[test]
 fn one_record_of_each_input(rt: HostRuntime) -> Result<(), Fail> {
     for (shape, first, second, want) in &SINGLES {
-        let written = sweep_two(&rt, *shape, first, second)?;
+        let written = sweep_two(rt.alloc(), *shape, first, second)?;
         assert_eq!(rt; written.as_slice(), *want);
     }
     Ok(())
@@ -337,9 +296,10 @@ fn one_record_of_each_input(rt: HostRuntime) -> Result<(), Fail> {
 // one's line, which the second one decides.
 #[test]
 fn records_after_the_end_are_left(rt: HostRuntime) -> Result<(), Fail> {
-    let genome = read_genome(rt.alloc())?;
-    let mut sweep = any_overlap(rt.alloc(), Shape::Missing, &genome);
-    let mut out = Out::new(ScriptSink::new(rt.alloc(), 100, None));
+    let genome = genome(rt.alloc())?;
+    let held = HeldList::new(rt.alloc());
+    let mut sweep = any_overlap(rt.alloc(), held, Missing, &genome);
+    let mut out = output(rt.alloc(), 100);
     end_first_if_wanted(&mut sweep);
     let mut a = single_of(sweep.order, b"chr1\t1\t5").ok_or("a record")?;
     let mut b = single_of(sweep.order, b"chr1\t7\t9").ok_or("a record")?;

@@ -1,6 +1,8 @@
 //! Tests with random inputs.
 
 use super::*;
+use crate::tests::worked::RULES;
+use bt_bed::ByteOrder;
 
 // Numbers that look random, by a linear congruence.
 #[derive(Drop)]
@@ -35,11 +37,7 @@ fn lines_from(
         for _ in 0..numbers.below(5) {
             start = start.saturating_add(numbers.below(6));
             let stop = start.saturating_add(numbers.below(9)).saturating_add(1);
-            let strand = match numbers.below(3) {
-                0 => "+",
-                1 => "-",
-                _ => ".",
-            };
+            let strand = ["+", "-", "."][(numbers.below(3) % 3) as usize];
             let line = format!(in alloc; "{chrom}\t{start}\t{stop}\tn\t0\t{strand}")?;
             lines.push(line)?;
         }
@@ -56,45 +54,19 @@ fn bytes_of(alloc: Global, lines: &[String]) -> Result<Vec<&[u8]>, AllocError> {
     Ok(views)
 }
 
-const RULES: [HitRule; 5] = [
-    HitRule {
-        billionths: 0,
-        both: false,
-        same_strand: false,
-    },
-    HitRule {
-        billionths: 500_000_000,
-        both: false,
-        same_strand: false,
-    },
-    HitRule {
-        billionths: 333_333_333,
-        both: true,
-        same_strand: false,
-    },
-    HitRule {
-        billionths: 0,
-        both: false,
-        same_strand: true,
-    },
-    HitRule {
-        billionths: 250_000_000,
-        both: true,
-        same_strand: true,
-    },
-];
-
 // The first shape and rule by which a sweep writes something else.
+type Otherwise = Option<(Shape, HitRule)>;
+
 fn first_not_plain<O: ChromOrder>(
-    rt: &HostRuntime,
+    alloc: Global,
     order: &O,
     shapes: &[Shape],
     first: &[&[u8]],
     second: &[&[u8]],
-) -> Result<Option<(Shape, HitRule)>, AllocError> {
+) -> Result<Otherwise, AllocError> {
     for shape in shapes {
         for rule in &RULES {
-            if !writes_like_plain(rt, order, (*shape, *rule), first, second)? {
+            if !writes_like_plain(alloc, order, (*shape, *rule), first, second)? {
                 return Ok(Some((*shape, *rule)));
             }
         }
@@ -102,23 +74,22 @@ fn first_not_plain<O: ChromOrder>(
     Ok(None)
 }
 
-// The first shape and rule by which a sweep writes something else than the plain program. It joins some of forty
-// pairs of small inputs on these chromosomes, which come in this order.
-fn found_in<O: ChromOrder>(
-    rt: &HostRuntime,
+// That by which it writes something else than the plain program. It joins some of forty pairs of small inputs on these
+// chromosomes, which come in this order.
+fn found_at<O: ChromOrder>(
+    alloc: Global,
     order: &O,
     chroms: &[&str],
     place: u64,
     shapes: &[Shape],
-) -> Result<Option<(Shape, HitRule)>, Fail> {
-    let alloc = rt.alloc();
+) -> Result<Otherwise, Fail> {
     let mut numbers = Numbers { state: 1 };
     for _ in 0..40 {
         let first = lines_from(alloc, &mut numbers, chroms, place)?;
         let second = lines_from(alloc, &mut numbers, chroms, place)?;
         let first = bytes_of(alloc, first.as_slice())?;
         let second = bytes_of(alloc, second.as_slice())?;
-        let found = first_not_plain(rt, order, shapes, first.as_slice(), second.as_slice())?;
+        let found = first_not_plain(alloc, order, shapes, first.as_slice(), second.as_slice())?;
         if found.is_some() {
             return Ok(found);
         }
@@ -126,19 +97,24 @@ fn found_in<O: ChromOrder>(
     Ok(None)
 }
 
-// Small inputs in all shapes, by rules of fractions and strands. The plain program tries all positions
-// up to a record's end for its pieces, so it isn't run on those at the greatest positions.
+// The plain program tries all positions up to a record's end for its pieces, so it isn't run on those at the greatest
+// positions.
+fn found_in<O: ChromOrder>(
+    alloc: Global,
+    order: &O,
+    chroms: &[&str],
+) -> Result<(Otherwise, Otherwise), Fail> {
+    let low = found_at(alloc, order, chroms, 0, &SHAPES)?;
+    let high = found_at(alloc, order, chroms, 999_999_999_900, &SHAPES[..8])?;
+    Ok((low, high))
+}
+
+// Small inputs in all shapes, by rules of fractions and strands.
 #[test]
 fn small_inputs_give_what_the_plain_program_gives(rt: HostRuntime) -> Result<(), Fail> {
-    let Ok(genome) = read_genome(rt.alloc()) else {
-        assert!(rt; false);
-        return Ok(());
-    };
-    let chroms = ["chr1", "chr2"];
-    let found = found_in(&rt, &genome, &chroms, 0, &SHAPES)?;
-    assert_eq!(rt; found, None);
-    let found = found_in(&rt, &genome, &chroms, 999_999_999_900, &SHAPES[..8])?;
-    assert_eq!(rt; found, None);
+    let genome = genome(rt.alloc())?;
+    let found = found_in(rt.alloc(), &genome, &["chr1", "chr2"])?;
+    assert_eq!(rt; found, (None, None));
     Ok(())
 }
 
@@ -146,9 +122,7 @@ fn small_inputs_give_what_the_plain_program_gives(rt: HostRuntime) -> Result<(),
 #[test]
 fn small_inputs_without_a_genome_file_give_it_too(rt: HostRuntime) -> Result<(), Fail> {
     let chroms = ["Chr2", "chr", "chr1", "chr10", "chr2"];
-    let found = found_in(&rt, &ByteOrder, &chroms, 0, &SHAPES)?;
-    assert_eq!(rt; found, None);
-    let found = found_in(&rt, &ByteOrder, &chroms, 999_999_999_900, &SHAPES[..8])?;
-    assert_eq!(rt; found, None);
+    let found = found_in(rt.alloc(), &ByteOrder, &chroms)?;
+    assert_eq!(rt; found, (None, None));
     Ok(())
 }
