@@ -351,9 +351,9 @@ fn drive_buffered(
 }
 
 // Whether the texts give their bytes and this fault, if all lines are given together.
-fn agrees_together(alloc: Global, texts: Texts, want: Option<Told>) -> bool {
-    let mut reader = lines_of(alloc, Input::First, texts.0, 64);
-    let mut beds = lines_of(alloc, Input::Second, texts.1, 64);
+fn agrees_together(alloc: Global, texts: &Texts, want: Option<Told>) -> bool {
+    let mut reader = LineReader::new(alloc, ScriptSource::new(texts.0, 64, None), Input::First);
+    let mut beds = LineReader::new(alloc, ScriptSource::new(texts.1, 64, None), Input::Second);
     let mut out = Out::new(ScriptSink::new(alloc, 7, None));
     let mut mask = Mask::new(alloc, MaskHow::Hard(b'N'), false);
     let _ = reader.fill().is_ok();
@@ -369,10 +369,10 @@ fn agrees_together(alloc: Global, texts: Texts, want: Option<Told>) -> bool {
 #[test]
 fn lines_given_together_are_masked(rt: HostRuntime) {
     for row in &TOGETHER {
-        assert!(rt; agrees_together(rt.alloc(), *row, None), "{row:?}");
+        assert!(rt; agrees_together(rt.alloc(), row, None), "{row:?}");
     }
     for (texts, told) in &TOGETHER_AT_FAULT {
-        let agrees = agrees_together(rt.alloc(), *texts, Some(*told));
+        let agrees = agrees_together(rt.alloc(), texts, Some(*told));
         assert!(rt; agrees, "{texts:?}");
     }
 }
