@@ -6,3 +6,4 @@ pub mod CursorLaws
 pub mod GenomeTable
 pub mod Reading
 pub mod Records
+pub mod SortedReader

@@ -4,3 +4,6 @@ pub mod Genome
 pub mod Good
 pub mod Order
 pub mod Sorted
+pub mod Meeting
+pub mod BedLine
+pub mod Positions

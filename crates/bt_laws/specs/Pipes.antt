@@ -2,7 +2,8 @@
 use Rattle.std.specs.Prelude.{◌≡◌, ℕ, ◌<◌, ◌≤◌, Bool, not, List, [], ◌++◌, None, codes, decimal, zero, suc, true, false, ⊤, ◌∷◌, flat_map, length, map, replicate, ◌≢◌, filter, Option, if◌then◌else◌, Some}
 use Rattle.bt_lines.specs.model.Lines.{whole_text}
 use Rattle.bt_lines.specs.declared.fault.Input.{Input}
-use Rattle.bt_bed.specs.model.Feature.{Feature, is_header, Interval, bed_text, columns_in, cut_to, strand_named, strand_of, intervals_of, interval_lines, kept_columns, fault_at_line}
+use Rattle.bt_bed.specs.model.Feature.{Feature, Interval, intervals_of}
+use Rattle.bt_bed.specs.model.BedLine.{is_header, bed_text, columns_in, cut_to, strand_named, strand_of, interval_lines, kept_columns, fault_at_line}
 use Rattle.bt_bed.specs.model.Good.{items_in, bed_good}
 use Rattle.bt_bed.specs.model.Order.{Order, IsTotal, byte_order}
 use Rattle.bt_bed.specs.declared.record.strand.Strand.TheVariants.{Dot, Plus, Minus}

@@ -1,11 +1,14 @@
 -- Lines, records and their orders.
 use Rattle.std.specs.Prelude.{◌≡◌, ℕ, ◌<◌, ◌≤◌, List, max, min, Bool, IsTrue, false, Some, Ok, All, ◌++◌, length, take, Option, None, ◌≢◌, IfSome, IfErr, ◌∷◌, ◌⊎◌, IsFalse, []}
-use Rattle.bt_bed.specs.model.Feature.{Interval, Span, AreStretchesOf, Feature, is_header, IsFeature, bed_text, record_of, intervals_of, AreNonEmpty, IsBedKind, last_of}
+use Rattle.bt_bed.specs.model.Feature.{Interval, Span, Feature, intervals_of, AreNonEmpty, last_of}
+use Rattle.bt_bed.specs.model.Positions.{AreStretchesOf}
+use Rattle.bt_bed.specs.model.BedLine.{is_header, IsFeature, bed_text, record_of, IsBedKind}
 use Rattle.bt_lines.specs.model.Lines.{Handed, text_lines, TextLine}
 use Rattle.bt_lines.specs.model.Fault.{FaultValue}
 use Rattle.bt_lines.specs.declared.fault.Input.{Input}
 use Rattle.bt_lines.specs.declared.fault.Kind.TheVariants.{UnknownChrom}
-use Rattle.bt_bed.specs.model.Good.{Member, good, items_in, bed_format, block_format, block_good, Rule, join_report, written}
+use Rattle.bt_bed.specs.model.Good.{Member, good, items_in, bed_format, block_format, block_good}
+use Rattle.bt_bed.specs.model.Meeting.{Rule, join_report, written}
 use Rattle.bt_bed.specs.calls.Reading.{AreAscending, IsBeyond, IsFaultBeyond}
 use Rattle.bt_bed.specs.model.Order.{Order, AreDistinct, byte_order}
 use Rattle.bt_bed.specs.model.Sorted.{sorting_of, AreContiguous, has_records}

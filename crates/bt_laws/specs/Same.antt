@@ -1,6 +1,7 @@
 -- The same bytes by another way.
 use Rattle.std.specs.Prelude.{◌≡◌, ◌≢◌, ◌==◌, ℕ, Bool, true, false, List, ◌∷◌, ◌++◌, Option, None, map, filter, nat_lt, IsPermutation, ◌≤◌, Some, [], flat_map, cond, min, decimal, replicate, ◌<◌, ◌||◌, ⊤, length, bytes_eq, codes}
-use Rattle.bt_bed.specs.model.Feature.{Feature, Interval, interval_lines, is_header, bed_text}
+use Rattle.bt_bed.specs.model.Feature.{Feature, Interval}
+use Rattle.bt_bed.specs.model.BedLine.{interval_lines, is_header, bed_text}
 use Rattle.bt_bed.specs.model.Genome.{Entry}
 use Rattle.bt_bed.specs.declared.record.strand.Strand.{Strand}
 use Rattle.bt_runs.specs.model.Depth.{DepthInterval, coverage, depth_lines}

@@ -5,11 +5,13 @@ use Rattle.bt_bed.specs.model.Feature.{Span, Feature}
 use Rattle.bt_seq.specs.model.Alignment.{Alignment, EndsAt, reference_length, Part, each_operation, is_letter, operations_in, alignment_blocks, blocks_of, is_skip, with_bases}
 use Rattle.bt_seq.specs.declared.sam.operation.Operation.{Operation}
 use Rattle.bt_lines.specs.model.Lines.{is_number}
-use Rattle.bt_bed.specs.model.Good.{Good, items_in, AreInBlocks, Rule, join_report, written}
+use Rattle.bt_bed.specs.model.Good.{Good, items_in, AreInBlocks}
+use Rattle.bt_bed.specs.model.Meeting.{Rule, join_report, written}
 use Rattle.bt_lines.specs.model.Fault.{FaultValue}
 use Rattle.bt_seq.specs.model.Masked.{decided, mask_rule, masked_line, held_for, SequenceLine, Block, blocks_by, left_after, names_behind}
 use Rattle.bt_seq.specs.declared.mask.mask_how.MaskHow.{MaskHow}
-use Rattle.bt_seq.specs.calls.MaskStage.{MaskStage, Masking}
+use Rattle.bt_seq.specs.calls.MaskStage.{MaskStage}
+use Rattle.bt_seq.specs.calls.MaskState.{Masking}
 use Rattle.bt_seq.specs.calls.MaskSteps.{IsOpen, GivesBed}
 use Rattle.bt_lines.specs.calls.Output.{Output}
 use Rattle.bt_lines.specs.declared.fault.Fault.{Fault}

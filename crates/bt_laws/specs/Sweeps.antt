@@ -3,8 +3,10 @@ use Rattle.std.specs.Prelude.{◌≡◌, ℕ, ◌<◌, false, true, List, [], �
 use Rattle.std.specs.List.{list_all, take_while}
 use Rattle.bt_lines.specs.declared.fault.Input.TheVariants.{Second}
 use Rattle.bt_lines.specs.declared.fault.Kind.TheVariants.{TooManyHeld}
-use Rattle.bt_bed.specs.model.Feature.{Feature, fault_at_line, intervals_of}
-use Rattle.bt_bed.specs.model.Good.{Good, Member, items_in, Rule, join_report, written, Met}
+use Rattle.bt_bed.specs.model.Feature.{Feature, intervals_of}
+use Rattle.bt_bed.specs.model.BedLine.{fault_at_line}
+use Rattle.bt_bed.specs.model.Good.{Good, Member, items_in}
+use Rattle.bt_bed.specs.model.Meeting.{Rule, join_report, written, Met}
 use Rattle.bt_bed.specs.model.Order.{Order, IsTotal, rank_order}
 use Rattle.bt_sweep.specs.model.Hits.{decided, is_held, limited, decides, held_for, hits, any_overlap}
 use Rattle.bt_sweep.specs.model.Lines.{intersect, intersect_met, sweep_rule, subtract}

@@ -4,3 +4,4 @@ pub mod Device
 pub mod Names
 pub mod Output
 pub mod Reader
+pub mod Line

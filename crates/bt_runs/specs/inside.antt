@@ -4,3 +4,4 @@ pub mod GapRule
 pub mod PlainRuns
 pub mod Walk
 pub mod merge
+pub mod GapStep

@@ -2,3 +2,4 @@
 pub mod MaskStage
 pub mod MaskSteps
 pub mod Sam
+pub mod MaskState

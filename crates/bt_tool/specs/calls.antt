@@ -3,3 +3,4 @@ pub mod Given
 pub mod Lent
 pub mod Plan
 pub mod Run
+pub mod Limits

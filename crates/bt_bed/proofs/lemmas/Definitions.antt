@@ -4,8 +4,11 @@ use Rattle.bt_lines.specs.model.Lines.{lines_handed, TextLine}
 use Rattle.bt_lines.specs.declared.fault.Input.{Input}
 use Rattle.bt_lines.specs.declared.fault.Kind.{Kind}
 use Rattle.bt_lines.specs.declared.fault.Kind.TheVariants.{UnknownChrom, OutOfOrder}
-use Rattle.bt_bed.specs.model.Feature.{Feature, interval_of, intervals_of, AreNonEmpty, record_of, Span, IsCovered, AreApartFrom, with_position, stretches_from, scan_finds_stretches, AreStretchesOf}
-use Rattle.bt_bed.specs.model.Good.{good, Good, good_from, good_with, items_in, bed_format, good_are_placed, good_are_non_empty, line_says, said_after, locus_at, AreInBlocks, IsBlockUpTo, block_format, good_are_in_blocks, Rule, Met, join_report, written}
+use Rattle.bt_bed.specs.model.Feature.{Feature, interval_of, intervals_of, AreNonEmpty, Span}
+use Rattle.bt_bed.specs.model.Positions.{IsCovered, AreApartFrom, with_position, stretches_from, scan_finds_stretches, AreStretchesOf}
+use Rattle.bt_bed.specs.model.BedLine.{record_of}
+use Rattle.bt_bed.specs.model.Good.{good, Good, good_from, good_with, items_in, bed_format, good_are_placed, good_are_non_empty, line_says, said_after, locus_at, AreInBlocks, IsBlockUpTo, block_format, good_are_in_blocks}
+use Rattle.bt_bed.specs.model.Meeting.{Rule, Met, join_report, written}
 use Rattle.bt_bed.specs.model.Order.{Order, IsTotal}
 use Rattle.bt_bed.specs.model.Sorted.{Locus, IsUpTo, ArePlaced, IsPlacedBefore, Sorting, falls_in, sorting_of, block_sorting}
 use Rattle.bt_bed.proofs.lemmas.read.good.SaidLemmas.{said_features}

@@ -10,7 +10,7 @@ use Rattle.bt_lines.specs.declared.fault.Fault.{Fault}
 use Rattle.bt_lines.specs.declared.fault.Kind.{Kind}
 use Rattle.bt_lines.specs.declared.reader.line_reader.LineReader.{LineReader}
 use Rattle.bt_bed.specs.model.Genome.{Entry, entry_of, genome_names, genome_of, new_entry}
-use Rattle.bt_bed.specs.model.Feature.{fault_at_line, is_genome_kind}
+use Rattle.bt_bed.specs.model.BedLine.{fault_at_line, is_genome_kind}
 use Rattle.bt_bed.specs.model.Order.{AreDistinct}
 use Rattle.bt_bed.specs.calls.Reading.{ReadingFails, MemoryRanOut, TellsOwnFailure}
 use Rattle.bt_bed.specs.declared.order.entry.EntryRef.{EntryRef}

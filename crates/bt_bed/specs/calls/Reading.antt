@@ -12,7 +12,7 @@ use Rattle.bt_lines.specs.declared.fault.Kind.{Kind}
 use Rattle.bt_lines.specs.declared.fault.Place.{Place}
 use Rattle.bt_lines.specs.declared.reader.line_reader.LineReader.{LineReader}
 use Rattle.bt_bed.specs.model.Good.{Format, Good, Member, ends_with, good_from}
-use Rattle.bt_bed.specs.model.Feature.{fault_at_line, is_of_line}
+use Rattle.bt_bed.specs.model.BedLine.{fault_at_line, is_of_line}
 
 -- each member's line comes after that of the one before, and none before the line given
 abbrev pub AreAscending : {A : Type 0} → ℕ → List (Member A) → Type 0

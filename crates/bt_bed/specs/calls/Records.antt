@@ -4,7 +4,7 @@ use Rattle.bt_lines.specs.declared.device.Source.{Ghosts as Source}
 use Rattle.bt_lines.specs.model.Fault.{FaultValue}
 use Rattle.bt_lines.specs.declared.fault.Fault.{Fault}
 use Rattle.bt_lines.specs.declared.reader.line_reader.LineReader.{LineReader}
-use Rattle.bt_bed.specs.calls.Batch.{FillsSorted, IsTaken as IsTakenIn, Lends as LendsFrom, PeeksSorted, TakesSorted, count_in as count_from, view_in}
+use Rattle.bt_bed.specs.calls.SortedReader.{FillsSorted, IsTaken as IsTakenIn, Lends as LendsFrom, PeeksSorted, TakesSorted, count_in as count_from, view_in}
 use Rattle.bt_bed.specs.model.Feature.{Feature}
 use Rattle.bt_bed.specs.model.Good.{locus_at}
 use Rattle.bt_bed.specs.model.Order.{Order}

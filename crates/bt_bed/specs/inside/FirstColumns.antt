@@ -4,7 +4,7 @@ use Rattle.std.specs.Char.{is_ascii_digit}
 use Rattle.std.specs.List.{All, list_all}
 use Rattle.std.specs.Str.Parse.{digits_value}
 use Rattle.bt_lines.specs.model.Lines.{value_of}
-use Rattle.bt_bed.specs.model.Feature.{is_header, IsName}
+use Rattle.bt_bed.specs.model.BedLine.{is_header, IsName}
 use Rattle.bt_bed.specs.declared.parse.parsed_number.ParsedNumber.{ParsedNumber}
 use Rattle.std.specs.Int.{from_le_bytes, w64}
 use Rattle.bt_bed.specs.declared.parse.packed_name.PackedName.{PackedName}

@@ -7,7 +7,7 @@ use Rattle.bt_lines.specs.model.Lines.{Handed, cut_fault, lines_handed, TextLine
 use Rattle.bt_lines.specs.declared.fault.Input.{Input}
 use Rattle.bt_lines.specs.declared.fault.Kind.{Kind}
 use Rattle.bt_lines.specs.declared.fault.Kind.TheVariants.{TooFewColumns, EmptyName, BadLength, RepeatedChrom}
-use Rattle.bt_bed.specs.model.Feature.{fault_at_line, not_skipped}
+use Rattle.bt_bed.specs.model.BedLine.{fault_at_line, not_skipped}
 use Rattle.bt_bed.specs.model.Order.{is_among}
 
 -- a chromosome's name and its length

@@ -1,15 +1,14 @@
 -- What a complete input gives: its good members, and the first line at fault.
-use Rattle.std.specs.Prelude.{ℕ, List, [], ◌∷◌, map, Option, Some, None, Result, Ok, Err, ◌≡◌, if◌then◌else◌, ◌≤◌, ⊤, Bool, flat_map}
+use Rattle.std.specs.Prelude.{ℕ, List, [], ◌∷◌, map, Option, Some, None, Result, Ok, Err, ◌≡◌, if◌then◌else◌, ◌≤◌, ⊤}
 use Rattle.bt_lines.specs.model.Fault.{FaultValue}
 use Rattle.bt_lines.specs.model.Lines.{Handed, cut_fault, lines_handed, TextLine}
 use Rattle.bt_lines.specs.declared.fault.Input.{Input}
 use Rattle.bt_lines.specs.declared.fault.Kind.{Kind}
-use Rattle.bt_bed.specs.model.Feature.{fault_at_line, Feature, interval_of, intervals_of, AreNonEmpty, IsBedKind, record_of}
+use Rattle.bt_bed.specs.model.Feature.{Feature, interval_of, intervals_of, AreNonEmpty}
+use Rattle.bt_bed.specs.model.BedLine.{fault_at_line, IsBedKind, record_of}
 use Rattle.bt_lines.specs.declared.fault.Kind.TheVariants.{UnknownChrom, OutOfOrder}
 use Rattle.bt_bed.specs.model.Order.{Order, IsTotal}
 use Rattle.bt_bed.specs.model.Sorted.{Locus, locus_of, ArePlaced, Sorting, falls_in, sorting_of, block_sorting}
-use Rattle.std.specs.List.{list_all, take_while}
-use Rattle.std.specs.Option.{option_or}
 
 -- What an input gives: its members (records, sequences' lines, alignments) up to its first line at
 -- fault.
@@ -162,38 +161,3 @@ AreInBlocks (r ∷ s ∷ rs) = IsBlockUpTo (locus_at r) (locus_at s) × AreInBlo
 abbrev pub good_are_in_blocks : Type 0
 good_are_in_blocks = (input : Input) (handed : Handed)
     → AreInBlocks (items_in (block_good input handed))
-
--- How two inputs meet: which lines are written, and which fault is reported.
---
--- A member of the first input (a record, or a line of a sequence) is decided once nothing that may
--- still come of the second input changes its lines.
--- A faulty line of the second input decides nothing.
-
--- what the second input makes of the members of the first
-pub record Rule (A L F : Type 0) : Type 0 where
-  -- whether its good members, or its end without a fault, decide a member
-  pub decided : A → Bool
-  -- the lines of a member against all of its good members
-  pub lines : A → List L
-  -- its fault
-  pub fault : Option F
-  -- what is reported at the end, when all members are written and the first input has no fault
-  pub last : Option F
-
--- the lines that are written, and the fault that is reported
-pub record Met (L F : Type 0) : Type 0 where
-  pub lines : List L
-  pub fault : Option F
-
-module _ {A L F : Type 0} where
-  -- the lines of the members before the first that isn't decided
-  abbrev pub written : Rule A L F → List A → List L
-  written rule members = flat_map rule.lines (take_while rule.decided members)
-
-  -- The good members of the first input, and its fault, meet the second input. If a member isn't
-  -- decided, the lines of those before it are written and the second input's fault is reported. Else
-  -- all lines are written, and the first input's fault is reported, or `last`.
-  abbrev pub join_report : Rule A L F → List A → Option F → Met L F
-  join_report rule members fault = if list_all rule.decided members
-      then record { lines = flat_map rule.lines members; fault = option_or fault rule.last }
-      else record { lines = written rule members; fault = rule.fault }

@@ -2,7 +2,7 @@
 
 ghost use Rattle.std.specs.Prelude.{◌≡◌, false, bytes_eq};
 ghost use Rattle.std.specs.List.{All};
-ghost use Rattle.bt_bed.specs.model.Feature.{ends_word, first_word, is_header};
+ghost use Rattle.bt_bed.specs.model.BedLine.{ends_word, first_word, is_header};
 
 /// Whether a line is blank or a header: a comment, or a line whose first word is `track` or `browser`
 /// (UCSC custom tracks description). A space or a tab ends the word, and `trackX` is another one.

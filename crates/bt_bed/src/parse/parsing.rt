@@ -2,7 +2,7 @@
 
 ghost use Rattle.std.specs.Prelude.{◌≡◌, ◌-◌, ◌≤◌, IfOk, IfSome, List, drop, length, ℕ};
 ghost use Rattle.bt_bed.specs.calls.Bed.{feature_between, record_seen};
-ghost use Rattle.bt_bed.specs.model.Feature.{feature_of, record_of};
+ghost use Rattle.bt_bed.specs.model.BedLine.{feature_of, record_of};
 ghost use Rattle.bt_lines.specs.model.Lines.{pieces, value_of};
 
 use crate::parse::header::is_header;

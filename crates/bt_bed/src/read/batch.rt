@@ -5,7 +5,7 @@ ghost use Rattle.std.specs.Io.BufRead.{strip_last};
 ghost use Rattle.bt_lines.specs.calls.Reader.{rest_in};
 ghost use Rattle.bt_bed.specs.inside.FirstColumns.{IsRecordName, HasKey};
 ghost use Rattle.bt_bed.specs.calls.Bed.{is_on};
-ghost use Rattle.bt_bed.specs.model.Feature.{record_of};
+ghost use Rattle.bt_bed.specs.model.BedLine.{record_of};
 
 use crate::parse::columns::{LOOKAHEAD, begins_with_long, scan_columns};
 use crate::parse::names::is_same_name;
@@ -49,7 +49,7 @@ impl<'a> Batch<'a> {
     ghost use Rattle.bt_bed.specs.calls.Batch.{IsWhere, Passes, StandsFirst, chrom_in, consumed_in, cursor_in, left, line_in, start_in};
     ghost use Rattle.bt_bed.specs.inside.FirstColumns.{IsRecordName};
     ghost use Rattle.bt_bed.specs.calls.Bed.{IsOnLine, raw_in, record_in, is_on, run_of};
-    ghost use Rattle.bt_bed.specs.model.Feature.{record_of};
+    ghost use Rattle.bt_bed.specs.model.BedLine.{record_of};
 
     // The records of these lines on the chromosome of this name, from this start on.
     pub(crate) fn new(lines: BufferedLines<'a>, name: &'a [u8], start: u64) -> Batch<'a>

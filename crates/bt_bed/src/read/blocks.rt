@@ -1,6 +1,6 @@
 //! The records of a BED input whose chromosomes come in any order.
 
-ghost use Rattle.bt_bed.specs.calls.Batch.{IsPlaced, view_in};
+ghost use Rattle.bt_bed.specs.calls.SortedReader.{IsPlaced, view_in};
 ghost use Rattle.bt_bed.specs.model.Sorted.{block_sorting};
 
 use crate::read::batch::{Batch, Consumed};
@@ -22,7 +22,7 @@ pub struct Blocks<S> {
     ghost placed: { IsPlaced block_sorting (view_in block_sorting sorted) },
 }
 
-#[tactic(auto, unfolding(crate::specs::calls::Batch::view_with, crate::specs::calls::Blocks::view_of))]
+#[tactic(auto, unfolding(crate::specs::calls::SortedReader::view_with, crate::specs::calls::Blocks::view_of))]
 impl<S: Source> Blocks<S> {
     ghost use Rattle.std.specs.Prelude.{◌≡◌, [], None, Some, IsSome, option_map};
     ghost use Rattle.std.specs.Borrow.{sem};
@@ -34,7 +34,7 @@ impl<S: Source> Blocks<S> {
     ghost use Rattle.bt_bed.specs.calls.Blocks.{FillsBlocks, IsTaken, Lends, PeeksBlocks, TakesBlocks, below, buffered_in, count_in, fault_kept, view_of};
 
     /// A reader of the records that the reader of lines has left.
-    #[tactic(auto, using(crate::proofs::lemmas::read::batch::RecordsLemmas::good_at_start, crate::proofs::lemmas::read::batch::RecordsLemmas::placed_at_start), unfolding(crate::specs::calls::Batch::view_with, crate::specs::calls::Blocks::view_of))]
+    #[tactic(auto, using(crate::proofs::lemmas::read::batch::RecordsLemmas::good_at_start, crate::proofs::lemmas::read::batch::RecordsLemmas::placed_at_start), unfolding(crate::specs::calls::SortedReader::view_with, crate::specs::calls::Blocks::view_of))]
     pub fn new(alloc: Global, reader: LineReader<S>) -> Blocks<S>
         ensures below { below result ≡ reader }
         ensures fault { fault_kept result ≡ line_fault reader }

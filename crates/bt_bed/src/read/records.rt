@@ -1,6 +1,6 @@
 //! The records of a BED input, as many at a time as were read.
 
-ghost use Rattle.bt_bed.specs.calls.Batch.{IsPlaced, view_in};
+ghost use Rattle.bt_bed.specs.calls.SortedReader.{IsPlaced, view_in};
 ghost use Rattle.bt_bed.specs.model.Sorted.{sorting_of};
 
 use crate::order::ChromOrder;
@@ -23,7 +23,7 @@ pub struct Records<'o, S, O: ChromOrder> {
         (view_in (sorting_of (O.order sorted.lookahead.rule.order.now)) sorted) },
 }
 
-#[tactic(auto, unfolding(crate::specs::calls::Batch::view_with, crate::specs::calls::Records::view_of, crate::specs::calls::Records::order_in))]
+#[tactic(auto, unfolding(crate::specs::calls::SortedReader::view_with, crate::specs::calls::Records::view_of, crate::specs::calls::Records::order_in))]
 impl<'o, S: Source, O: ChromOrder> Records<'o, S, O> {
     ghost use Rattle.std.specs.Prelude.{◌≡◌, [], ◌∷◌, List, None, Some, IsSome, option_map};
     ghost use Rattle.std.specs.Borrow.{sem};

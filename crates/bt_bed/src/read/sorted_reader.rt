@@ -25,7 +25,7 @@ pub(crate) struct SortedReader<S, Q> {
     ghost going: { is_ahead ≡ true → fault ≡ None },
 }
 
-#[tactic(auto, unfolding(crate::specs::calls::Batch::view_with, crate::specs::calls::Batch::buffered_in))]
+#[tactic(auto, unfolding(crate::specs::calls::SortedReader::view_with, crate::specs::calls::SortedReader::buffered_in))]
 impl<S: Source, Q: Sorted + Drop> SortedReader<S, Q> {
     ghost use Rattle.std.specs.Prelude.{◌≡◌, ◌+◌, ◌<◌, ◌∷◌, [], List, None, Ok, false, true, IfSome, IfNone, length, take};
     ghost use Rattle.bt_lines.specs.calls.Reader.{buffered_bytes, fault_kept as line_fault, lines_given};
@@ -33,7 +33,7 @@ impl<S: Source, Q: Sorted + Drop> SortedReader<S, Q> {
     ghost use Rattle.bt_bed.specs.model.Feature.{Feature};
     ghost use Rattle.bt_bed.specs.inside.OrderedLookahead.{IsKnownLast, last_in};
     ghost use Rattle.bt_bed.specs.calls.Reading.{Fills, Takes, TellsOwnFailure};
-    ghost use Rattle.bt_bed.specs.calls.Batch.{IsPlaced, IsTaken, Lends, TakesFirst, buffered_in, count_in, fault_in, view_in, view_with};
+    ghost use Rattle.bt_bed.specs.calls.SortedReader.{IsPlaced, IsTaken, Lends, TakesFirst, buffered_in, count_in, fault_in, view_in, view_with};
 
     // No record yet.
     pub(crate) fn new(alloc: Global, reader: LineReader<S>, rule: Q) -> SortedReader<S, Q>

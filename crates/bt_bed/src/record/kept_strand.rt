@@ -2,7 +2,7 @@
 
 ghost use Rattle.std.specs.Prelude.{◌≡◌, ◌≤◌, ◌∷◌, [], List, ℕ, drop, length};
 ghost use Rattle.bt_lines.specs.model.Lines.{pieces};
-ghost use Rattle.bt_bed.specs.model.Feature.{columns_in, strand_named, strand_of};
+ghost use Rattle.bt_bed.specs.model.BedLine.{columns_in, strand_named, strand_of};
 
 use crate::parse::parsing::behind;
 use crate::record::strand::Strand;

@@ -10,7 +10,8 @@ pub(crate) mod taken;
 
 ghost use Rattle.std.specs.Prelude.{◌≡◌, ◌∷◌, ◌++◌, ℕ, List, [], IfSome, IsTrue};
 ghost use Rattle.bt_bed.specs.calls.Bed.{feature_lent, raw_in, record_in};
-ghost use Rattle.bt_bed.specs.model.Feature.{Feature, IsFeature, bed_text};
+ghost use Rattle.bt_bed.specs.model.Feature.{Feature};
+ghost use Rattle.bt_bed.specs.model.BedLine.{IsFeature, bed_text};
 
 use crate::record::bed::BedRef;
 use crate::record::kept_strand::kept_strand;

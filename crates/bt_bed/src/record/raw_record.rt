@@ -3,7 +3,7 @@
 ghost use Rattle.std.specs.Prelude.{◌≡◌, IsTrue, Ok, Some, false, get_or, length};
 ghost use Rattle.std.specs.Io.BufRead.{strip_last};
 ghost use Rattle.bt_bed.specs.inside.FirstColumns.{AreBounds, EndsName};
-ghost use Rattle.bt_bed.specs.model.Feature.{is_header};
+ghost use Rattle.bt_bed.specs.model.BedLine.{is_header};
 
 use crate::parse::parsed_number::ParsedNumber;
 use crate::parse::parsing::behind;
@@ -30,7 +30,8 @@ pub struct RawRecord<'a> {
 #[tactic(auto, unfolding(crate::specs::calls::Bed::text_in, crate::specs::calls::Bed::raw_in, crate::specs::calls::Bed::record_in, crate::specs::calls::Bed::kept_in))]
 impl<'a> RawRecord<'a> {
     ghost use Rattle.bt_bed.specs.calls.Bed.{feature_lent, raw_in, record_in, text_in};
-    ghost use Rattle.bt_bed.specs.model.Feature.{Feature, bed_text, record_of};
+    ghost use Rattle.bt_bed.specs.model.Feature.{Feature};
+    ghost use Rattle.bt_bed.specs.model.BedLine.{bed_text, record_of};
 
     /// The text of the line.
     #[inline(always)]

@@ -3,7 +3,7 @@
 ghost use Rattle.std.specs.Prelude.{◌++◌};
 ghost use Rattle.bt_lines.specs.calls.Output.{Puts};
 ghost use Rattle.bt_bed.specs.calls.Bed.{feature_lent};
-ghost use Rattle.bt_bed.specs.model.Feature.{bed_text, cut_to};
+ghost use Rattle.bt_bed.specs.model.BedLine.{bed_text, cut_to};
 
 use crate::record::bed::BedRef;
 use crate::write::interval_line::{put_columns, put_ended};

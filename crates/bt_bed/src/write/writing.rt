@@ -2,7 +2,7 @@
 
 ghost use Rattle.std.specs.Prelude.{◌≡◌, ◌++◌, OnOk, OnErr, length, take};
 ghost use Rattle.bt_bed.specs.calls.Bed.{feature_lent};
-ghost use Rattle.bt_bed.specs.model.Feature.{bed_text, cut_to};
+ghost use Rattle.bt_bed.specs.model.BedLine.{bed_text, cut_to};
 
 use crate::record::bed::BedRef;
 use itoa::Buffer;

@@ -1,6 +1,8 @@
 -- Sums, pairs and bases.
 use Rattle.bt_lines.proofs.Std.{◌≡◌, ◌&&◌, ℕ, zero, suc, ◌+◌, ◌-◌, ◌*◌, ◌<◌, ◌≤◌, Bool, true, false, cond, List, [], ◌∷◌, map, filter, length, max, min, Option, Some, None, inl, inr, refl, sym, ap, ap₂, ◌∙◌, arith, eqb, ◌⊎◌, bytes_eq, flat_map, nat_lt, sum_by, cases_lt, eqb-true, le-leb, le-ltb, lt-leb, lt-ltb, or_parts, nat_tests, mul-suc, sum_by-append, sum_by-cons, ◌||◌, not, ◌++◌, append_assoc, subst, ltb, IsPermutation, flat_map-append, map-append, IsPermutation-append_comm, IsPermutation-append_left, IsPermutation-append_right, IsPermutation-refl, IsPermutation-trans, flat_map-map, cases_Bool, false≢true}
-use Rattle.bt_bed.specs.model.Feature.{Feature, interval_of, intervals_of, Interval, Span, span_of, spans_on, is_strand, placed_on, cut_to, IsCovered}
+use Rattle.bt_bed.specs.model.Feature.{Feature, interval_of, intervals_of, Interval, Span, span_of, spans_on, is_strand, placed_on}
+use Rattle.bt_bed.specs.model.Positions.{IsCovered}
+use Rattle.bt_bed.specs.model.BedLine.{cut_to}
 use Rattle.bt_bed.specs.model.Genome.{Entry, genome_names}
 use Rattle.bt_bed.specs.model.Order.{AreDistinct, is_among, Order}
 use Rattle.bt_bed.specs.declared.record.strand.Strand.{Strand}

@@ -3,7 +3,8 @@
 ghost use Rattle.std.specs.Prelude.{◌≡◌, [], ◌∷◌, ◌++◌, Some, None, Ok, Err, codes};
 ghost use Rattle.bt_laws.specs.Records.{shared_are_common, read_are_rewritten, written_are_read, stretches_are_one, first_lines_have_the_first, good_stand_on_lines, EarlyLinesBegin};
 ghost use Rattle.bt_bed.specs.model.Good.{wrong_lines_are_of_bed};
-ghost use Rattle.bt_bed.specs.model.Feature.{record_of, said_are_features, scan_finds_stretches};
+ghost use Rattle.bt_bed.specs.model.Positions.{scan_finds_stretches};
+ghost use Rattle.bt_bed.specs.model.BedLine.{record_of, said_are_features};
 
 use bt_bed::Strand;
 use bt_lines::Kind;
@@ -43,7 +44,7 @@ pub fn early_lines_begin_the_whole<A, L, F>()
 {}
 
 /// What small texts say.
-#[tactic(auto, unfolding(bt_bed::specs::model::Feature::record_of, bt_lines::specs::model::Lines::value_of))]
+#[tactic(auto, unfolding(bt_bed::specs::model::BedLine::record_of, bt_lines::specs::model::Lines::value_of))]
 pub fn records_of_small_texts()
     ensures blank { record_of [] ≡ Ok None }
     ensures comment { record_of (codes "#chr1\t1\t2") ≡ Ok None }

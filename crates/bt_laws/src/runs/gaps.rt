@@ -1,7 +1,8 @@
 //! Laws of gaps.
 
 ghost use Rattle.std.specs.Prelude.{◌≡◌, ℕ, List};
-ghost use Rattle.bt_bed.specs.model.Feature.{Span, AreStretchesOf};
+ghost use Rattle.bt_bed.specs.model.Feature.{Span};
+ghost use Rattle.bt_bed.specs.model.Positions.{AreStretchesOf};
 ghost use Rattle.bt_runs.specs.model.Gaps.{IsBare, gaps_of};
 ghost use Rattle.bt_laws.specs.Runs.{one_place_is_kept, settled_gaps_begin, settled_gaps_stay};
 

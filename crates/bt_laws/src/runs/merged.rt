@@ -1,7 +1,8 @@
 //! Laws of merged runs.
 
 ghost use Rattle.std.specs.Prelude.{◌≡◌, ℕ, List};
-ghost use Rattle.bt_bed.specs.model.Feature.{Feature, intervals_of, Span, AreStretchesOf};
+ghost use Rattle.bt_bed.specs.model.Feature.{Feature, intervals_of, Span};
+ghost use Rattle.bt_bed.specs.model.Positions.{AreStretchesOf};
 ghost use Rattle.bt_bed.specs.model.Sorted.{ArePlaced};
 ghost use Rattle.bt_bed.specs.model.Order.{IsTotal, Order, AreDistinct, rank_order};
 ghost use Rattle.bt_runs.specs.calls.Engine.{SettledBegins, SettledStays};

@@ -1,8 +1,9 @@
 //! Laws of masked sequences.
 
 ghost use Rattle.std.specs.Prelude.{◌≡◌, [], ◌∷◌, Some, None, codes, true, false};
-ghost use Rattle.bt_bed.specs.model.Feature.{fault_at_line};
-ghost use Rattle.bt_seq.specs.calls.MaskStage.{decided_lines_stay, first_unowned_is_told, held_mask_alone, masked_lines_are_before, masked_lines_stay, owned_lack_none, owners_are_found};
+ghost use Rattle.bt_bed.specs.model.BedLine.{fault_at_line};
+ghost use Rattle.bt_seq.specs.calls.MaskStage.{decided_lines_stay, first_unowned_is_told, held_mask_alone, masked_lines_are_before, masked_lines_stay, owned_lack_none};
+ghost use Rattle.bt_seq.specs.calls.MaskState.{owners_are_found};
 ghost use Rattle.bt_laws.specs.Sequences.{faultless_are_masked, masked_are_a_prefix, taken_are_first, quiet_records_are_taken, blocks_are_maximal_runs, owners_are_first, owners_stay, owners_were, unowned_find_no_name};
 ghost use Rattle.bt_seq.specs.model.Masked.{mask_texts, next_goes_on_or_begins};
 
@@ -74,7 +75,7 @@ pub fn held_records_mask_alone()
 {}
 
 /// The masked text of small inputs.
-#[tactic(auto, unfolding(bt_bed::specs::model::Good::good_from, bt_bed::specs::model::Good::line_says, bt_bed::specs::model::Feature::record_of, bt_lines::specs::model::Lines::lines_from, bt_lines::specs::model::Lines::value_of))]
+#[tactic(auto, unfolding(bt_bed::specs::model::Good::good_from, bt_bed::specs::model::Good::line_says, bt_bed::specs::model::BedLine::record_of, bt_lines::specs::model::Lines::lines_from, bt_lines::specs::model::Lines::value_of))]
 pub fn masked_small_texts()
     ensures over_two_lines { mask_texts (MaskHow.Hard 78) false (codes ">s d\nACGTAC\nGTAC") (codes "s\t4\t8\n")
         ≡ record { lines = codes ">s d\nACGTNN\nNNAC"; fault = None } }
@@ -93,7 +94,7 @@ pub fn masked_small_texts()
 {}
 
 /// Which sequence is masked if several have a name, or a block has none.
-#[tactic(auto, unfolding(bt_bed::specs::model::Good::good_from, bt_bed::specs::model::Good::line_says, bt_bed::specs::model::Feature::record_of, bt_lines::specs::model::Lines::lines_from, bt_lines::specs::model::Lines::value_of))]
+#[tactic(auto, unfolding(bt_bed::specs::model::Good::good_from, bt_bed::specs::model::Good::line_says, bt_bed::specs::model::BedLine::record_of, bt_lines::specs::model::Lines::lines_from, bt_lines::specs::model::Lines::value_of))]
 pub fn masked_sequences_of_blocks()
     ensures each_in_turn { mask_texts (MaskHow.Hard 78) false (codes ">s\nAAAA\n>t\nCCCC\n>s\nGGGG\n") (codes "s\t0\t1\nt\t0\t1\ns\t0\t1\n")
         ≡ record { lines = codes ">s\nNAAA\n>t\nNCCC\n>s\nNGGG\n"; fault = None } }
@@ -108,7 +109,7 @@ pub fn masked_sequences_of_blocks()
 {}
 
 /// What is written before a fault.
-#[tactic(auto, unfolding(bt_bed::specs::model::Good::good_from, bt_bed::specs::model::Good::line_says, bt_bed::specs::model::Feature::record_of, bt_lines::specs::model::Lines::lines_from, bt_lines::specs::model::Lines::value_of))]
+#[tactic(auto, unfolding(bt_bed::specs::model::Good::good_from, bt_bed::specs::model::Good::line_says, bt_bed::specs::model::BedLine::record_of, bt_lines::specs::model::Lines::lines_from, bt_lines::specs::model::Lines::value_of))]
 pub fn masked_lines_before_a_fault()
     ensures no_sequence { mask_texts (MaskHow.Hard 78) false (codes ">s\nACGT\n") (codes "t\t0\t2\n")
         ≡ record { lines = codes ">s\nACGT\n"; fault = Some (fault_at_line Input.Second 1 Kind.NoSequence) } }

@@ -1,6 +1,6 @@
 -- What a reader keeps.
 use Rattle.std.specs.Prelude.{◌≡◌, ◌<◌, length, drop, ℕ, Bool, true, false, List, [], ◌∷◌, ◌++◌, cond, Result, Ok, Err, slice_range, suc, Option, Some, None}
-use Rattle.bt_lines.specs.calls.Columns.{NoLineFeed}
+use Rattle.bt_lines.specs.calls.Line.{NoLineFeed}
 use Rattle.bt_lines.specs.declared.reader.read_buffer.ReadBuffer.{ReadBuffer}
 use Rattle.bt_lines.specs.model.Fault.{FaultValue, read_failed, no_memory}
 use Rattle.bt_lines.specs.declared.fault.Input.{Input}

@@ -2,7 +2,7 @@
 
 ghost use Rattle.std.specs.Prelude.{◌≡◌, ◌+◌, ◌≤◌, ◌^◌, [], drop, length, option_map, true};
 ghost use Rattle.std.specs.Io.BufRead.{ends_with_byte, strip_last};
-ghost use Rattle.bt_lines.specs.calls.Columns.{IsFirst, ending_at, line_shown};
+ghost use Rattle.bt_lines.specs.calls.Line.{IsFirst, ending_at, line_shown};
 ghost use Rattle.bt_lines.specs.inside.Shape.{IsLast, is_fed};
 
 use crate::reader::line::{Line, LineEnd};
@@ -46,7 +46,7 @@ pub struct LineText<'a> {
 impl<'a> BufferedLines<'a> {
     ghost use Rattle.std.specs.Prelude.{◌≡◌, ◌+◌, ◌-◌, ◌≤◌, ◌<◌, ◌^◌, ◌∷◌, [], IfNone, IfSome, drop, length, nat_eq, slice_range, take, true};
     ghost use Rattle.bt_lines.specs.calls.Reader.{BeginsLines, IsWhere, PassesLine, PassesLines, lines_after, lines_in, line_of, rest_in};
-    ghost use Rattle.bt_lines.specs.calls.Columns.{Cut, Shown, shown_of, line_seen};
+    ghost use Rattle.bt_lines.specs.calls.Line.{Cut, Shown, shown_of, line_seen};
     ghost use Rattle.bt_lines.specs.inside.Shape.{IsLast, is_fed};
 
     // Those of these bytes.

@@ -61,7 +61,7 @@ impl<S: Source> LineReader<S> {
     ghost use Rattle.std.specs.Io.BufRead.{Rests};
     ghost use Rattle.bt_lines.specs.contracts.reader.line_reader.LineReader.{the_row};
     ghost use Rattle.bt_lines.specs.calls.Reader.{FillsLines, GivesLine, IsKept, IsPrefix, IsTaken, TakesLines, buffered_bytes, buffered_in, is_open, HasRead, IsSound, NextLine, TellsOwnFailure, line_at, feeds_taken, source_of, input_of, lines_given, bytes_taken, held, fault_kept, has_ended, lines_left, BeginsLines, lines_in};
-    ghost use Rattle.bt_lines.specs.calls.Columns.{line_seen};
+    ghost use Rattle.bt_lines.specs.calls.Line.{line_seen};
     ghost use Rattle.bt_lines.specs.model.Lines.{text_lines};
     ghost use Rattle.bt_lines.specs.model.Fault.{read_failed};
     ghost use Rattle.bt_lines.specs.calls.Names.{fault_value};

@@ -3,7 +3,7 @@
 ghost use Rattle.std.specs.Prelude.{◌≡◌, ◌<◌, ◌^◌, [], false, length};
 ghost use Rattle.bt_lines.specs.calls.Output.{block_size};
 ghost use Rattle.bt_lines.specs.inside.ReadBuffer.{complete, unread};
-ghost use Rattle.bt_lines.specs.calls.Columns.{NoLineFeed};
+ghost use Rattle.bt_lines.specs.calls.Line.{NoLineFeed};
 ghost use Rattle.bt_lines.specs.inside.Spill.{AreCounted, AsksMore, Buffers, IsCounted};
 
 use crate::device::Source;

@@ -1,6 +1,7 @@
 -- The rule of a complement as its callers see it.
 use Rattle.std.specs.Prelude.{◌≡◌, ℕ, Bool, List, length, Option}
-use Rattle.bt_bed.specs.model.Feature.{Feature, interval_lines}
+use Rattle.bt_bed.specs.model.Feature.{Feature}
+use Rattle.bt_bed.specs.model.BedLine.{interval_lines}
 use Rattle.bt_bed.specs.model.Genome.{Entry}
 use Rattle.bt_bed.specs.model.Sorted.{Locus}
 use Rattle.bt_runs.specs.calls.Engine.{IsQuiet}

@@ -1,6 +1,7 @@
 -- What a merge that keeps the strands apart holds after the records of the past.
 use Rattle.std.specs.Prelude.{◌≡◌, ℕ, List, [], ◌∷◌, ◌++◌, length}
-use Rattle.bt_bed.specs.model.Feature.{Feature, interval_lines}
+use Rattle.bt_bed.specs.model.Feature.{Feature}
+use Rattle.bt_bed.specs.model.BedLine.{interval_lines}
 use Rattle.bt_runs.specs.calls.Engine.{IsOnLast, IsQuiet}
 use Rattle.bt_runs.specs.model.Merged.{StrandRun, kept_strand_runs, places_of, settled_strand_runs, strand_runs}
 

@@ -1,6 +1,7 @@
 -- What a merge of all its records together holds after the records of the past.
 use Rattle.std.specs.Prelude.{◌≡◌, ℕ, List, [], ◌∷◌, ◌++◌, length}
-use Rattle.bt_bed.specs.model.Feature.{Feature, Interval, interval_lines}
+use Rattle.bt_bed.specs.model.Feature.{Feature, Interval}
+use Rattle.bt_bed.specs.model.BedLine.{interval_lines}
 use Rattle.bt_runs.specs.calls.Engine.{IsOnLast, IsQuiet}
 use Rattle.bt_runs.specs.model.Merged.{AreTaken, kept_runs, merged_runs, settled_runs}
 use Rattle.bt_runs.specs.declared.merge.merge_strand.MergeStrand.{MergeStrand}

@@ -1,12 +1,14 @@
 -- What the rule of a complement does with a record, exactly, and how far its cursor says that gaps are settled.
 use Rattle.std.specs.Prelude.{◌≡◌, ◌⊎◌, ℕ, Bool, true, List, None, max, min, Option, option_map}
-use Rattle.bt_bed.specs.model.Feature.{Feature, interval_lines}
+use Rattle.bt_bed.specs.model.Feature.{Feature}
+use Rattle.bt_bed.specs.model.BedLine.{interval_lines}
 use Rattle.bt_bed.specs.model.Genome.{genome_names}
 use Rattle.bt_bed.specs.calls.GenomeTable.{entries}
 use Rattle.bt_bed.specs.model.Order.{rank_of}
 use Rattle.bt_runs.specs.calls.Complementing.{Complementing}
 use Rattle.bt_runs.specs.model.Gaps.{length_in}
-use Rattle.bt_runs.specs.inside.Walk.{gap_walk, is_on, walk_step, Place}
+use Rattle.bt_runs.specs.inside.Walk.{is_on, walk_step, Place}
+use Rattle.bt_runs.specs.inside.GapStep.{gap_walk}
 use Rattle.bt_runs.specs.declared.complement.gap_cursor.GapCursor.{GapCursor}
 
 -- the chromosome that was reached, if one was, and the position up to which its gaps are settled

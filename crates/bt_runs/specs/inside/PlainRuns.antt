@@ -1,7 +1,8 @@
 -- What the plain program is said to do, in the words of the definitions.
 use Rattle.std.specs.Prelude.{ℕ, ◌+◌, ◌-◌, ◌≤◌, cond, ◌==◌, List, [], ◌∷◌, map}
 use Rattle.bt_runs.specs.declared.plain.PlainSpan.{PlainSpan}
-use Rattle.bt_bed.specs.model.Feature.{Span, IsCovered}
+use Rattle.bt_bed.specs.model.Feature.{Span}
+use Rattle.bt_bed.specs.model.Positions.{IsCovered}
 
 -- a span of the program as one of the definitions
 abbrev pub span_in : PlainSpan → Span

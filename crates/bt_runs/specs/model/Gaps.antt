@@ -5,7 +5,8 @@ use Rattle.std.specs.Prelude.{ℕ, ◌<◌, Bool, true, false, not, ◌||◌, Li
 use Rattle.std.specs.Option.{option_map_or}
 use Rattle.std.specs.declared.cmp.Ordering.{Ordering}
 use Rattle.std.specs.declared.cmp.Ordering.TheVariants.{Less, Equal, Greater}
-use Rattle.bt_bed.specs.model.Feature.{Feature, intervals_of, Interval, Span, AreNonEmpty, last_of, placed_on, spans_on, IsCovered, stretches_from}
+use Rattle.bt_bed.specs.model.Feature.{Feature, intervals_of, Interval, Span, AreNonEmpty, last_of, placed_on, spans_on}
+use Rattle.bt_bed.specs.model.Positions.{IsCovered, stretches_from}
 use Rattle.bt_bed.specs.model.Genome.{Entry, genome_names}
 use Rattle.bt_bed.specs.model.Sorted.{Locus, ArePlaced, has_records}
 use Rattle.bt_bed.specs.model.Order.{AreDistinct, rank_order}

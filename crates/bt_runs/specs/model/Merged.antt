@@ -1,6 +1,7 @@
 -- What `bedtools merge` gives, with its options.
 use Rattle.std.specs.Prelude.{ℕ, zero, suc, ◌+◌, ◌-◌, ◌≤◌, Bool, false, not, ◌&&◌, ◌||◌, List, [], ◌∷◌, map, filter, flat_map, max, nat_le, nat_lt, bytes_eq, true, drop, length, Option, Some, None, if◌then◌else◌, ◌++◌}
-use Rattle.bt_bed.specs.model.Feature.{Interval, Span, spans_on, placed_on, IsCovered, stretches_from, Feature, intervals_of, is_strand, AreNonEmpty, last_of}
+use Rattle.bt_bed.specs.model.Feature.{Interval, Span, spans_on, placed_on, Feature, intervals_of, is_strand, AreNonEmpty, last_of}
+use Rattle.bt_bed.specs.model.Positions.{IsCovered, stretches_from}
 use Rattle.bt_bed.specs.declared.record.strand.Strand.{Strand}
 use Rattle.bt_runs.specs.declared.merge.merge_strand.MergeStrand.{MergeStrand}
 use Rattle.bt_runs.specs.declared.merge.merge_strand.MergeStrand.TheVariants.{All, Each, One}

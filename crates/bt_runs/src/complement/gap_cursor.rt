@@ -3,8 +3,9 @@
 ghost use Rattle.std.specs.Prelude.{◌≡◌, ℕ, Some};
 ghost use Rattle.bt_lines.specs.calls.Output.{Adds};
 ghost use Rattle.bt_bed.specs.calls.GenomeTable.{entries};
-ghost use Rattle.bt_bed.specs.model.Feature.{interval_lines};
-ghost use Rattle.bt_runs.specs.inside.Walk.{gap_between, IsNamed};
+ghost use Rattle.bt_bed.specs.model.BedLine.{interval_lines};
+ghost use Rattle.bt_runs.specs.inside.Walk.{IsNamed};
+ghost use Rattle.bt_runs.specs.inside.GapStep.{gap_between};
 
 use bt_bed::{Genome, put_interval};
 use bt_lines::{Fault, Out, Sink};

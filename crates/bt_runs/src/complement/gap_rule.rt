@@ -4,11 +4,12 @@
 ghost use Rattle.std.specs.Prelude.{◌≡◌, ◌≤◌, [], flat_map, length, slice_range};
 ghost use Rattle.bt_lines.specs.calls.Output.{Adds};
 ghost use Rattle.bt_bed.specs.calls.GenomeTable.{entries};
-ghost use Rattle.bt_bed.specs.model.Feature.{interval_lines};
+ghost use Rattle.bt_bed.specs.model.BedLine.{interval_lines};
 ghost use Rattle.bt_runs.specs.calls.Complementing.{IsAfter, held_count, is_quiet, kept_in, may_take, settled_lines, whole_output};
 ghost use Rattle.bt_runs.specs.calls.Engine.{KeepsHeld};
 ghost use Rattle.bt_runs.specs.inside.GapRule.{seen, IsOnChrom, complement_at, next_lines, with_record};
-ghost use Rattle.bt_runs.specs.inside.Walk.{bare_gap, last_gap, left_before};
+ghost use Rattle.bt_runs.specs.inside.Walk.{left_before};
+ghost use Rattle.bt_runs.specs.inside.GapStep.{bare_gap, last_gap};
 
 use crate::complement::gap_cursor::{GapCursor, put_gap};
 use crate::engine::rule::Rule;

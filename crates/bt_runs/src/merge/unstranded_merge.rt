@@ -2,7 +2,7 @@
 
 ghost use Rattle.std.specs.Prelude.{◌≡◌, ◌<◌, ℕ, List, [], cond, length, true, IfOk};
 ghost use Rattle.bt_lines.specs.calls.Output.{Adds};
-ghost use Rattle.bt_bed.specs.model.Feature.{interval_lines};
+ghost use Rattle.bt_bed.specs.model.BedLine.{interval_lines};
 ghost use Rattle.bt_runs.specs.model.Merged.{is_counted};
 ghost use Rattle.bt_runs.specs.calls.Engine.{KeepsHeld};
 ghost use Rattle.bt_runs.specs.calls.Unstranded.{IsAfter, held_count, is_quiet, may_take, settled_lines, whole_output};

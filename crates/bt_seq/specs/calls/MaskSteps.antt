@@ -1,9 +1,11 @@
 -- What the calls of a masking engine do.
 use Rattle.std.specs.Prelude.{◌≡◌, ◌⊎◌, Bool, true, false, List, [], map, Option, Some, None, is_some, option_map, ◌||◌, ℕ, length, nat_lt, not, cond, ◌∷◌, ◌++◌, Result, Ok, Err, ⊤, ◌+◌, ◌*◌}
 use Rattle.std.specs.List.{last_or}
-use Rattle.bt_bed.specs.model.Feature.{Feature, fault_at_line}
+use Rattle.bt_bed.specs.model.Feature.{Feature}
+use Rattle.bt_bed.specs.model.BedLine.{fault_at_line}
 use Rattle.bt_bed.specs.model.Good.{AreInBlocks}
-use Rattle.bt_seq.specs.calls.MaskStage.{extent_of, MaskStage, given, held_by, reached_by, want_at, Masking, Waiting, is_written_at_once, reached, with_bed_ended, with_decided, with_line, with_record, LineBefore, GoesOn, PassesLines, IsNext}
+use Rattle.bt_seq.specs.calls.MaskStage.{extent_of, MaskStage, given, held_by, reached_by, want_at, is_written_at_once, reached, with_bed_ended, with_decided, with_line, with_record, LineBefore, GoesOn, PassesLines, IsNext}
+use Rattle.bt_seq.specs.calls.MaskState.{Masking, Waiting}
 use Rattle.bt_seq.specs.inside.Masking.{KnowsStage}
 use Rattle.bt_seq.specs.model.Masked.{decided, is_unnamed, left_after, SequenceLine, is_header, held_for, masked_line, line_says}
 use Rattle.bt_seq.specs.declared.mask.mask_how.MaskHow.{MaskHow}

@@ -5,7 +5,8 @@ use Rattle.bt_seq.specs.declared.sam.operation.Operation.{Operation}
 use Rattle.bt_lines.specs.declared.fault.Kind.{Kind}
 use Rattle.bt_lines.specs.declared.fault.Kind.TheVariants.{TooFewColumns, EmptyName, BadFlag, BadPosition, BadQuality, BadCigar, StopTooLarge}
 use Rattle.std.specs.List.{take_while, join_with_byte}
-use Rattle.bt_bed.specs.model.Feature.{Span, is_of_line}
+use Rattle.bt_bed.specs.model.Feature.{Span}
+use Rattle.bt_bed.specs.model.BedLine.{is_of_line}
 use Rattle.bt_lines.specs.declared.fault.Input.{Input}
 use Rattle.bt_bed.specs.model.Good.{Format, Good, good_handed}
 

@@ -2,8 +2,10 @@
 use Rattle.std.specs.Prelude.{◌++◌, ◌≡◌, ℕ, Bool, true, false, List, [], ◌∷◌, Option, Some, None, bytes_eq, flat_map, nat_le, option_and_then, if◌then◌else◌, ◌+◌, ◌==◌, ◌||◌, not, drop, length, Result, Ok, Err, suc, ◌&&◌, filter, find, is_none, nat_lt}
 use Rattle.std.specs.List.{last_or, list_any, take_while}
 use Rattle.std.specs.Option.{option_map_or}
-use Rattle.bt_bed.specs.model.Feature.{Feature, fault_at_line}
-use Rattle.bt_bed.specs.model.Good.{Format, Good, good_handed, Member, items_in, or_else, block_good, Met, Rule, join_report}
+use Rattle.bt_bed.specs.model.Feature.{Feature}
+use Rattle.bt_bed.specs.model.BedLine.{fault_at_line}
+use Rattle.bt_bed.specs.model.Good.{Format, Good, good_handed, Member, items_in, or_else, block_good}
+use Rattle.bt_bed.specs.model.Meeting.{Met, Rule, join_report}
 use Rattle.bt_lines.specs.model.Lines.{Handed, TextLine, whole_text, end_bytes}
 use Rattle.bt_lines.specs.declared.fault.Input.{Input}
 use Rattle.bt_lines.specs.declared.fault.Kind.{Kind}

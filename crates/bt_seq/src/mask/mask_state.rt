@@ -4,11 +4,11 @@ ghost use Rattle.std.specs.Prelude.{◌≡◌, ◌<◌, ◌&&◌, None, Some, []
 ghost use Rattle.bt_lines.specs.model.Fault.{no_memory};
 ghost use Rattle.bt_lines.specs.calls.Names.{fault_value};
 ghost use Rattle.bt_bed.specs.calls.Bed.{feature_lent};
-ghost use Rattle.bt_bed.specs.model.Feature.{fault_at_line};
+ghost use Rattle.bt_bed.specs.model.BedLine.{fault_at_line};
 ghost use Rattle.bt_lines.specs.calls.Reader.{lines_in};
 ghost use Rattle.bt_seq.specs.inside.Masking.{CopiesThrough};
 ghost use Rattle.bt_seq.specs.calls.MaskSteps.{GivesBoth};
-ghost use Rattle.bt_seq.specs.calls.MaskStage.{ChecksBed, Keeps, Moves, TakesBed, TakesLine, Waiting, Writes, WritesGiven, decides_by, decides_up_to, with_extent, writes_at_once};
+ghost use Rattle.bt_seq.specs.calls.MaskState.{ChecksBed, Keeps, Moves, TakesBed, TakesLine, Waiting, Writes, WritesGiven, decides_by, decides_up_to, with_extent, writes_at_once};
 ghost use Rattle.bt_seq.specs.model.Masked.{is_header};
 ghost use Rattle.bt_seq.specs.inside.Window.{limit, no_bases};
 
@@ -53,7 +53,7 @@ pub(crate) struct MaskState {
 
 impl Model for MaskState {
     ghost use Rattle.std.specs.Prelude.{None, Some, if◌then◌else◌};
-    ghost use Rattle.bt_seq.specs.calls.MaskStage.{Masking};
+    ghost use Rattle.bt_seq.specs.calls.MaskState.{Masking};
     ghost use Rattle.bt_seq.specs.inside.Masking.{waits_in, want_in};
 
     ghost Value = { Masking };

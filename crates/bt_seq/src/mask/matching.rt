@@ -1,7 +1,7 @@
 //! Which sequence a block of records belongs to.
 
 ghost use Rattle.std.specs.Prelude.{◌≡◌, None, false, OnOk, is_some};
-ghost use Rattle.bt_seq.specs.calls.MaskStage.{is_it, matched_with, named, owner_of};
+ghost use Rattle.bt_seq.specs.calls.MaskState.{is_it, matched_with, named, owner_of};
 
 use std::alloc::{AllocError, Global};
 use std::marker::Model;
@@ -36,7 +36,7 @@ pub(crate) struct Matching {
 
 impl Model for Matching {
     ghost use Rattle.std.specs.Prelude.{None, Some, if◌then◌else◌};
-    ghost use Rattle.bt_seq.specs.calls.MaskStage.{Matched};
+    ghost use Rattle.bt_seq.specs.calls.MaskState.{Matched};
 
     ghost Value = { Matched };
 

@@ -13,7 +13,7 @@ ghost use Rattle.std.specs.Prelude.{◌≡◌, ◌<◌, ◌⊎◌, [], Bool, Non
 ghost use Rattle.std.specs.List.{last_or};
 ghost use Rattle.bt_bed.specs.calls.Bed.{feature_lent};
 ghost use Rattle.bt_bed.specs.model.Good.{AreInBlocks};
-ghost use Rattle.bt_lines.specs.calls.Columns.{line_seen};
+ghost use Rattle.bt_lines.specs.calls.Line.{line_seen};
 ghost use Rattle.bt_lines.specs.declared.reader.buffered_lines.BufferedLines.{BufferedLines};
 ghost use Rattle.bt_seq.specs.calls.MaskStage.{IsNext, MaskStage, first_stage, given, held_by, want_at, with_lines_ended};
 ghost use Rattle.bt_seq.specs.calls.MaskSteps.{MaskMovesTo, MaskStandsAt, GivesBoth, Stays, StopsAt, left_to_give, ChecksRecord, EndsCheck, EndsRecords, GivesNextLine, GivesBed};
@@ -40,7 +40,7 @@ pub struct Mask {
 }
 
 impl Model for Mask {
-    ghost use Rattle.bt_seq.specs.calls.MaskStage.{Masking};
+    ghost use Rattle.bt_seq.specs.calls.MaskState.{Masking};
 
     ghost Value = { Masking };
 

@@ -1,6 +1,7 @@
 -- Lemmas on what is written of a record.
 use Rattle.bt_lines.proofs.Std.{◌≡◌, ℕ, ◌+◌, ◌<◌, ◌≤◌, Bool, true, false, ◌||◌, List, [], ◌∷◌, zero, suc, add-one, arith, drop, length, nat_le, leb-true, option_to_list, take, AllByRecursion, list_any, slice_get, leb-false, or_parts, All-from_recursion, cond, ◌++◌, Option, Err, refl, sym, ap, ◌∙◌, subst, append_assoc, filter, flat_map, length-append, or_left, or_right, or_from, take-append-drop, filter-append, list_any-append, ◌-◌, not, ◌&&◌, ltb, min, max, All, and_from, lt-ltb, length-take-le, All-take, recursion_from_All, Result, Ok, ◌⊎◌, inl, inr, bytes_eq, decimal}
-use Rattle.bt_bed.specs.model.Feature.{Feature, is_strand, bed_text}
+use Rattle.bt_bed.specs.model.Feature.{Feature, is_strand}
+use Rattle.bt_bed.specs.model.BedLine.{bed_text}
 use Rattle.bt_sweep.specs.calls.Held.{AreRising, AreRisingFrom, StartBefore, StartFrom, AreOn, CanHit}
 use Rattle.bt_lines.specs.calls.Names.{fault_value}
 use Rattle.bt_lines.specs.calls.Output.{Output, Adds, FailsToAdd, Grown, Puts}

@@ -1,6 +1,8 @@
 -- Lemmas on the plain program.
 use Rattle.bt_lines.proofs.Std.{◌≡◌, ◌⊎◌, inl, inr, ℕ, List, [], ◌∷◌, ◌++◌, refl, sym, ap, ◌∙◌, subst, arith, append_assoc, decimal, flat_map, length, ◌+◌, ◌-◌, ◌<◌, ◌≤◌, le-leb, suc, Bool, not, ◌&&◌, ◌||◌, cond, ap₂, add-one, map, ◌==◌, list_any, ne_eqb, eq-eqb, cond-true, cond-false, reverse-append}
-use Rattle.bt_bed.specs.model.Feature.{Feature, bed_text, Span, stretches_from, with_position}
+use Rattle.bt_bed.specs.model.Feature.{Feature, Span}
+use Rattle.bt_bed.specs.model.Positions.{stretches_from, with_position}
+use Rattle.bt_bed.specs.model.BedLine.{bed_text}
 use Rattle.bt_sweep.specs.model.Hits.{hits_among, hits}
 use Rattle.bt_sweep.specs.model.Lines.{hit_line, line_with, lines_for, lines_of, piece_line, pieces, has_position, is_left}
 use Rattle.bt_sweep.specs.declared.hits.hit_rule.HitRule.{HitRule}

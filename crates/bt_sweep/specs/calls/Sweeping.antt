@@ -1,6 +1,7 @@
 -- What a sweep holds, and what its calls do.
 use Rattle.std.specs.Prelude.{◌≡◌, ℕ, Bool, true, false, List, Option, is_some, ◌≤◌, not, IfSome, IsTrue, cond, [], ◌∷◌, ◌++◌, length, Some, None, option_to_list, ◌⊎◌, ⊤, filter, nat_lt, Result, Ok, Err, ◌<◌}
-use Rattle.bt_bed.specs.model.Feature.{Feature, intervals_of, fault_at_line}
+use Rattle.bt_bed.specs.model.Feature.{Feature, intervals_of}
+use Rattle.bt_bed.specs.model.BedLine.{fault_at_line}
 use Rattle.bt_sweep.specs.declared.hits.hit_rule.HitRule.{HitRule}
 use Rattle.bt_sweep.specs.declared.sweep.phase.Phase.{Phase}
 use Rattle.bt_sweep.specs.declared.sweep.phase.Phase.TheVariants.{Both, First, Over}

@@ -1,6 +1,7 @@
 -- Which records hit one another, which decide one, and which are held.
 use Rattle.std.specs.Prelude.{ℕ, ◌*◌, Bool, false, not, ◌&&◌, ◌||◌, List, filter, nat_le, nat_lt, [], ◌∷◌, ◌++◌, Option, None, Some, bytes_eq, if◌then◌else◌, length, map}
-use Rattle.bt_bed.specs.model.Feature.{length_of, shared, Feature, interval_of, is_strand, fault_at_line}
+use Rattle.bt_bed.specs.model.Feature.{length_of, shared, Feature, interval_of, is_strand}
+use Rattle.bt_bed.specs.model.BedLine.{fault_at_line}
 use Rattle.bt_sweep.specs.declared.hits.hit_rule.HitRule.{HitRule}
 use Rattle.std.specs.List.{list_any, find}
 use Rattle.bt_bed.specs.model.Good.{locus_at, Good, Member}
@@ -55,9 +56,7 @@ decides order a b = not (is_below order (locus_at b) (record { chrom = a.chrom; 
 abbrev pub decided : Order → Feature → List Feature → Bool
 decided order a bs = list_any (decides order a) bs
 
--- A limit on how many records of the second input are held at a time, which is this program's own
--- (option -held of intersect and subtract). If more would have to be held, that line of the
--- second input is at fault.
+-- Which records of the second input are held.
 
 -- Whether a or a later record of the first input can be hit by b, as far as a tells. It can if b lies on
 -- the chromosome of a, and ends above its start.
@@ -68,6 +67,10 @@ is_held a b = bytes_eq a.chrom b.chrom && nat_lt a.start b.stop
 abbrev pub held_for : Option Feature → List Feature → List Feature
 held_for None taken = []
 held_for (Some a) taken = filter (is_held a) taken
+
+-- A limit on how many records of the second input are held at a time, which is this program's own
+-- (option -held of intersect and subtract). If more would have to be held, that line of the
+-- second input is at fault.
 
 -- the first record that those of the second input leave undecided, if there is one
 abbrev pub first_open : Order → List Feature → List Feature → Option Feature

@@ -1,7 +1,9 @@
 -- What intersect and subtract write.
 use Rattle.std.specs.Prelude.{◌≡◌, ℕ, ◌<◌, ◌≤◌, Bool, not, ◌&&◌, List, map, nat_le, nat_lt, IsTrue, [], ◌∷◌, ◌++◌, codes, decimal, flat_map, length, max, min, ◌||◌, Option, None, is_none, true, false}
 use Rattle.std.specs.List.{list_any}
-use Rattle.bt_bed.specs.model.Feature.{Feature, interval_of, Span, span_of, IsCovered, AreStretchesOf, stretches_from, intervals_of, bed_text, cut_to}
+use Rattle.bt_bed.specs.model.Feature.{Feature, interval_of, Span, span_of, intervals_of}
+use Rattle.bt_bed.specs.model.Positions.{IsCovered, AreStretchesOf, stretches_from}
+use Rattle.bt_bed.specs.model.BedLine.{bed_text, cut_to}
 use Rattle.bt_bed.specs.model.Sorted.{ArePlaced}
 use Rattle.bt_bed.specs.model.Order.{Order, IsTotal}
 use Rattle.bt_sweep.specs.model.Hits.{decided, decides, hits_among, shared_bases}
@@ -9,7 +11,8 @@ use Rattle.bt_sweep.specs.declared.hits.hit_rule.HitRule.{HitRule}
 use Rattle.bt_sweep.specs.declared.output.shape.Shape.{Shape}
 use Rattle.bt_sweep.specs.declared.output.shape.Shape.TheVariants.{Cut, OrigA, CutAndB, OrigBoth, Overlap, Once, Missing, Count, Pieces, Whole}
 use Rattle.bt_lines.specs.model.Fault.{FaultValue}
-use Rattle.bt_bed.specs.model.Good.{Good, items_in, Rule, Met, join_report}
+use Rattle.bt_bed.specs.model.Good.{Good, items_in}
+use Rattle.bt_bed.specs.model.Meeting.{Rule, Met, join_report}
 
 -- What is left of a record without the bases of others (bedtools manual, subtract).
 

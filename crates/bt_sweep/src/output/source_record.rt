@@ -4,7 +4,7 @@ ghost use Rattle.std.specs.Prelude.{◌≡◌, ◌++◌};
 ghost use Rattle.std.specs.Option.{ForSome};
 ghost use Rattle.bt_lines.specs.calls.Output.{Puts};
 ghost use Rattle.bt_bed.specs.calls.Bed.{feature_lent};
-ghost use Rattle.bt_bed.specs.model.Feature.{bed_text};
+ghost use Rattle.bt_bed.specs.model.BedLine.{bed_text};
 
 use bt_bed::{BedRef, Record, put_bed};
 use bt_lines::{Fault, Out, Sink, put_line};

@@ -2,7 +2,7 @@
 
 ghost use Rattle.std.specs.Prelude.{[], ◌<◌, ◌++◌};
 ghost use Rattle.bt_lines.specs.calls.Output.{Adds, Puts};
-ghost use Rattle.bt_bed.specs.model.Feature.{bed_text};
+ghost use Rattle.bt_bed.specs.model.BedLine.{bed_text};
 ghost use Rattle.bt_sweep.specs.model.Lines.{lines_of};
 ghost use Rattle.bt_sweep.specs.inside.Joining.{IsUnmatched};
 

@@ -3,7 +3,7 @@
 ghost use Rattle.std.specs.Prelude.{◌≡◌, ◌∷◌, [], ◌<◌, All, IsTrue, cond, decimal, not, flat_map, option_copied, option_to_list, take};
 ghost use Rattle.bt_lines.specs.calls.Output.{Adds, Puts};
 ghost use Rattle.bt_bed.specs.calls.Bed.{feature_lent};
-ghost use Rattle.bt_bed.specs.model.Feature.{bed_text, cut_to};
+ghost use Rattle.bt_bed.specs.model.BedLine.{bed_text, cut_to};
 ghost use Rattle.bt_sweep.specs.calls.Held.{AreOn, AreRising, CanHit};
 ghost use Rattle.std.specs.List.{list_any};
 ghost use Rattle.bt_sweep.specs.model.Hits.{hits, hits_among, shared_bases};

@@ -5,7 +5,7 @@ pub(crate) mod plain_pieces;
 
 ghost use Rattle.std.specs.Prelude.{◌≡◌, ◌∷◌, ◌++◌, [], OnOk, IfOk, decimal, filter, flat_map, length};
 ghost use Rattle.bt_bed.specs.calls.Bed.{feature_lent};
-ghost use Rattle.bt_bed.specs.model.Feature.{bed_text, cut_to};
+ghost use Rattle.bt_bed.specs.model.BedLine.{bed_text, cut_to};
 ghost use Rattle.bt_sweep.specs.model.Hits.{hits, hits_among, shared_bases};
 ghost use Rattle.bt_sweep.specs.model.Lines.{hit_line, intersect, line_with, lines_for, piece_line, pieces};
 

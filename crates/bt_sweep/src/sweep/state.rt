@@ -4,7 +4,7 @@ ghost use Rattle.std.specs.Prelude.{◌≡◌, ◌∷◌, ◌++◌, ◌<◌, [],
 ghost use Rattle.bt_lines.specs.calls.Names.{fault_value};
 ghost use Rattle.bt_lines.specs.model.Lines.{max_number};
 ghost use Rattle.bt_lines.specs.calls.Output.{Adds};
-ghost use Rattle.bt_bed.specs.model.Feature.{fault_at_line};
+ghost use Rattle.bt_bed.specs.model.BedLine.{fault_at_line};
 ghost use Rattle.bt_bed.specs.model.Order.{IsTotal};
 ghost use Rattle.bt_sweep.specs.calls.Held.{AreReady, AreRising, CanHit, CanHitAt};
 ghost use Rattle.bt_sweep.specs.model.Lines.{lines_for};

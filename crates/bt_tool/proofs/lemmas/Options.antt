@@ -13,7 +13,8 @@ use Rattle.bt_tool.specs.declared.options.usage.Refusal.TheVariants.{Usage as In
 use Rattle.std.specs.declared.alloc.Global.{Global}
 use Rattle.bt_lines.specs.model.Lines.{is_number, max_number, value_of as number_of}
 use Rattle.bt_tool.specs.calls.Given.{items_in}
-use Rattle.bt_tool.specs.calls.Lent.{table_lent, is_limit}
+use Rattle.bt_tool.specs.calls.Lent.{table_lent}
+use Rattle.bt_tool.specs.calls.Limits.{is_limit}
 use Rattle.bt_tool.specs.declared.options.given.Given.{Given}
 use Rattle.bt_tool.specs.declared.options.table.Table.{Table as Lent}
 use Rattle.bt_tool.specs.declared.options.takes.Takes.TheVariants.{FileName, Nothing, Number, Fraction, Strand, Character}

@@ -7,7 +7,7 @@ use Rattle.bt_lines.specs.model.Lines.{TextLine, bytes_in, text_lines, Handed}
 use Rattle.bt_lines.specs.calls.Output.{Output, block_size, IsPrefixOf, Grows}
 use Rattle.bt_lines.specs.declared.fault.Input.{Input}
 use Rattle.bt_lines.specs.declared.fault.Kind.{Kind}
-use Rattle.bt_bed.specs.model.Feature.{fault_at_line, is_genome_kind}
+use Rattle.bt_bed.specs.model.BedLine.{fault_at_line, is_genome_kind}
 use Rattle.bt_tool.specs.model.Written.{Report, IsOneOf}
 use Rattle.bt_lines.specs.calls.Names.{fault_value}
 use Rattle.bt_lines.specs.declared.fault.Fault.{Fault}

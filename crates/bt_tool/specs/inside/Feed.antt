@@ -10,7 +10,8 @@ use Rattle.bt_lines.specs.declared.fault.Kind.{Kind}
 use Rattle.bt_lines.specs.declared.reader.line_reader.LineReader.{LineReader}
 use Rattle.bt_bed.specs.model.Good.{Format, Good, Member}
 use Rattle.bt_bed.specs.calls.Reading.{IsBeyond, AreSaid, MemberReader, Takes, ahead_in, good_coming, state_behind}
-use Rattle.bt_bed.specs.model.Feature.{fault_at_line, Feature, intervals_of, AreNonEmpty}
+use Rattle.bt_bed.specs.model.Feature.{Feature, intervals_of, AreNonEmpty}
+use Rattle.bt_bed.specs.model.BedLine.{fault_at_line}
 use Rattle.bt_lines.specs.calls.Names.{fault_value}
 use Rattle.bt_lines.specs.declared.fault.Fault.{Fault}
 use Rattle.bt_bed.specs.model.Sorted.{ArePlaced}

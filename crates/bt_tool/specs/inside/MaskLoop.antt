@@ -13,7 +13,8 @@ use Rattle.bt_bed.specs.model.Good.{Member, AreInBlocks, block_format}
 use Rattle.bt_bed.specs.model.Sorted.{Locus}
 use Rattle.bt_bed.specs.calls.Blocks.{view_of}
 use Rattle.bt_bed.specs.calls.Reading.{MemberReader, room}
-use Rattle.bt_seq.specs.calls.MaskStage.{MaskStage, Masking}
+use Rattle.bt_seq.specs.calls.MaskStage.{MaskStage}
+use Rattle.bt_seq.specs.calls.MaskState.{Masking}
 use Rattle.bt_seq.specs.calls.MaskSteps.{MaskStandsAt}
 use Rattle.bt_seq.specs.model.Masked.{decided, masked_line, names_of, no_sequence, left_after, Reached, SequenceLine, sequence_format}
 use Rattle.bt_seq.specs.declared.mask.mask_how.MaskHow.{MaskHow}

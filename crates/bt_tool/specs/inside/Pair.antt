@@ -12,7 +12,7 @@ use Rattle.bt_bed.specs.calls.Reading.{MemberReader, ahead_in, good_coming}
 use Rattle.bt_tool.specs.inside.Feed.{HasPut, member_items, AreAll, IsReadFor, Passes, CutsLines, PutsLines, TookButBlock, HasFaultBehind, IsReadTo, KeepsOwnFault}
 use Rattle.bt_lines.specs.declared.fault.Input.{Input}
 use Rattle.bt_lines.specs.declared.fault.Input.TheVariants.{Second}
-use Rattle.bt_bed.specs.model.Feature.{fault_at_line}
+use Rattle.bt_bed.specs.model.BedLine.{fault_at_line}
 use Rattle.bt_tool.specs.calls.Run.{IsFaultButWrite, TellsNoRead}
 
 -- Two readers of members, what a command makes of the members of the first by those of the

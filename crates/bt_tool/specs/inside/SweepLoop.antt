@@ -10,7 +10,8 @@ use Rattle.bt_lines.specs.calls.Reader.{end_told, lines_given}
 use Rattle.bt_lines.specs.declared.fault.Fault.{Fault}
 use Rattle.bt_lines.specs.declared.fault.Input.{Input}
 use Rattle.bt_lines.specs.declared.fault.Kind.{Kind}
-use Rattle.bt_bed.specs.model.Feature.{Feature, intervals_of, IsBedKind}
+use Rattle.bt_bed.specs.model.Feature.{Feature, intervals_of}
+use Rattle.bt_bed.specs.model.BedLine.{IsBedKind}
 use Rattle.bt_bed.specs.model.Good.{Member, bed_format}
 use Rattle.bt_bed.specs.model.Sorted.{ArePlaced, Locus, sorting_of}
 use Rattle.bt_bed.specs.model.Order.{IsTotal, Order}

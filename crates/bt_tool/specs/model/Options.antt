@@ -2,7 +2,7 @@
 use Rattle.std.specs.Prelude.{◌≡◌, ℕ, ◌+◌, Bool, List, [], ◌∷◌, ◌++◌, ◌||◌, ◌&&◌, false, true, not, Option, Some, None, Result, Ok, Err, MatchOption, bytes_eq, codes, count_by, drop, if◌then◌else◌, is_some, length, nat_lt, option_and_then, option_map, option_to_list, unwrap_or}
 use Rattle.std.specs.List.{list_any}
 use Rattle.std.specs.Option.{option_map_or, option_or}
-use Rattle.bt_bed.specs.model.Feature.{strand_named}
+use Rattle.bt_bed.specs.model.BedLine.{strand_named}
 use Rattle.bt_lines.specs.model.Lines.{value_of as number_of}
 use Rattle.bt_runs.specs.declared.merge.merge_strand.MergeStrand.{MergeStrand}
 use Rattle.bt_runs.specs.declared.merge.merge_strand.MergeStrand.TheVariants.{All, Each, One}

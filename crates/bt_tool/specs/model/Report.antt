@@ -5,7 +5,8 @@ use Rattle.bt_lines.specs.declared.device.Source.{Ghosts as Source}
 use Rattle.bt_lines.specs.model.Lines.{Handed, whole_text, TextLine}
 use Rattle.bt_lines.specs.declared.fault.Kind.{Kind}
 use Rattle.bt_bed.specs.model.Order.{byte_order, Order, rank_order}
-use Rattle.bt_bed.specs.model.Feature.{Feature, IsBedKind}
+use Rattle.bt_bed.specs.model.Feature.{Feature}
+use Rattle.bt_bed.specs.model.BedLine.{IsBedKind}
 use Rattle.bt_bed.specs.model.Genome.{Entry, genome_names, genome_handed}
 use Rattle.bt_bed.specs.model.Good.{Format, bed_format}
 use Rattle.bt_bed.specs.model.Sorted.{sorting_of}

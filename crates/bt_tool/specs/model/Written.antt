@@ -1,6 +1,7 @@
 -- The reports of the commands: of one input, of two, of maskfasta.
 use Rattle.std.specs.Prelude.{ℕ, Bool, List, Option, flat_map, ◌≡◌, true, Some, None, ◌⊎◌, [], ◌∷◌, take, if◌then◌else◌, is_some, false, ◌++◌}
-use Rattle.bt_bed.specs.model.Feature.{Feature, intervals_of, last_of, interval_lines, IsBedKind}
+use Rattle.bt_bed.specs.model.Feature.{Feature, intervals_of, last_of}
+use Rattle.bt_bed.specs.model.BedLine.{interval_lines, IsBedKind}
 use Rattle.bt_bed.specs.model.Genome.{Entry}
 use Rattle.bt_bed.specs.model.Order.{Order}
 use Rattle.bt_bed.specs.declared.record.strand.Strand.{Strand}
@@ -14,7 +15,8 @@ use Rattle.bt_lines.specs.model.Fault.{FaultValue}
 use Rattle.bt_lines.specs.model.Lines.{Handed, TextLine, bytes_in, text_lines}
 use Rattle.bt_lines.specs.declared.fault.Input.TheVariants.{First, Second}
 use Rattle.bt_lines.specs.declared.fault.Kind.{Kind}
-use Rattle.bt_bed.specs.model.Good.{Format, Good, good, good_handed, items_in, Member, bed_format, bed_good, Met, block_good}
+use Rattle.bt_bed.specs.model.Good.{Format, Good, good, good_handed, items_in, Member, bed_format, bed_good, block_good}
+use Rattle.bt_bed.specs.model.Meeting.{Met}
 use Rattle.std.specs.List.{list_all}
 use Rattle.bt_lines.specs.declared.fault.Kind.TheVariants.{TooManyHeld, TextBeforeHeader, TooFewColumns, EmptyName, BadStart, BadStop, EmptyFeature, OutOfOrder, NoSequence}
 use Rattle.bt_bed.specs.model.Sorted.{sorting_of}

@@ -1,7 +1,7 @@
 //! The loop over the alignments of a SAM input: each is written as soon as its line was read.
 
 ghost use Rattle.std.specs.Prelude.{◌≡◌, None, option_map};
-ghost use Rattle.bt_lines.specs.calls.Columns.{line_seen};
+ghost use Rattle.bt_lines.specs.calls.Line.{line_seen};
 ghost use Rattle.bt_lines.specs.calls.Names.{fault_value};
 ghost use Rattle.bt_lines.specs.calls.Output.{HoldsBlock};
 ghost use Rattle.bt_lines.specs.calls.Reader.{HasRead, fault_kept};

@@ -6,7 +6,7 @@ ghost use Rattle.bt_lines.specs.calls.Output.{Output};
 ghost use Rattle.bt_lines.specs.model.Fault.{FaultValue};
 ghost use Rattle.bt_sweep.specs.declared.sweep.want.Want.{Want};
 ghost use Rattle.bt_tool.specs.inside.Rounds.{FillsWanted, Finishes, Gives, Wants};
-ghost use Rattle.bt_bed.specs.calls.Batch.{fault_in};
+ghost use Rattle.bt_bed.specs.calls.SortedReader.{fault_in};
 
 use bt_lines::{Fault, Out, Sink};
 use bt_sweep::Want;

@@ -1,6 +1,6 @@
 //! What the words of a command line mean.
 
-ghost use Rattle.bt_tool.specs.calls.Lent.{is_within_limits};
+ghost use Rattle.bt_tool.specs.calls.Limits.{is_within_limits};
 ghost use Rattle.bt_tool.specs.model.Table.{table_of, tool_of, IsNamedBy};
 ghost use Rattle.std.specs.Prelude.{IsTrue};
 

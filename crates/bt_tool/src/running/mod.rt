@@ -13,7 +13,7 @@ ghost use Rattle.bt_bed.specs.model.Order.{AreDistinct};
 ghost use Rattle.bt_sweep.specs.model.Lines.{subtract_shape};
 ghost use Rattle.bt_tool.specs.model.Report.{behaviour_of, entries_in, of_intersect, of_maskfasta, of_records, order_of, OfBoth};
 ghost use Rattle.bt_tool.specs.calls.Run.{ReadsChromosomes, Runs, AnswersNoRead, IsOwnFailure, IsOwnFailureIf, ReadsServe, TellsNoRead, TellsOwnReads, RunsAlone, RunsBy};
-ghost use Rattle.bt_tool.specs.calls.Lent.{is_within_limits};
+ghost use Rattle.bt_tool.specs.calls.Limits.{is_within_limits};
 ghost use Rattle.bt_tool.specs.model.Table.{IsNamedBy, table_of, tool_of};
 ghost use Rattle.bt_tool.specs.model.Written.{complement_written, coverage_written, merge_written};
 

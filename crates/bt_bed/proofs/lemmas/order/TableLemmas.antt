@@ -9,7 +9,7 @@ use Rattle.bt_bed.specs.model.Genome.{Entry, genome_names, genome_from, genome_w
 use Rattle.bt_bed.proofs.lemmas.parse.NameLemmas.{name_ne-sym, name_eq-sym}
 use Rattle.bt_lines.specs.declared.fault.Place.{Place}
 use Rattle.bt_bed.specs.calls.Reading.{IsLost, LinesPass}
-use Rattle.bt_bed.specs.model.Feature.{fault_at_line, is_genome_kind}
+use Rattle.bt_bed.specs.model.BedLine.{fault_at_line, is_genome_kind}
 use Rattle.bt_lines.specs.declared.device.Source.{Ghosts as Source}
 use Rattle.bt_lines.proofs.lemmas.reader.lines.TakingLemmas.{given_drops, hands_none, hands_both, sound_near, taken_below, not_told}
 use Rattle.bt_lines.proofs.lemmas.reader.lines.TextLemmas.{bytes_in-drop, line_feeds-append}
@@ -17,7 +17,7 @@ use Rattle.bt_lines.specs.calls.Output.{block_size}
 use Rattle.bt_lines.specs.calls.Reader.{CutsOff, GivesFault, GivesLine, Hands, IsNear, IsSound, bytes_taken, fault_kept, input_of, lines_given, lines_left, source_of, end_told, GivesEnd, FailsToRead}
 use Rattle.bt_lines.specs.declared.reader.line_reader.LineReader.{LineReader}
 use Rattle.bt_bed.proofs.lemmas.read.good.ReadingLemmas.{front_of_both, near_pass, no_pass, pass_more}
-use Rattle.bt_lines.specs.calls.Columns.{GivesFirst}
+use Rattle.bt_lines.specs.calls.Line.{GivesFirst}
 use Rattle.bt_lines.specs.declared.fault.Kind.TheVariants.{RepeatedChrom}
 use Rattle.bt_bed.proofs.lemmas.order.OrderLemmas.{among_ranked}
 use Rattle.std.specs.declared.alloc.Global.{Global}

@@ -2,7 +2,8 @@
 use Rattle.bt_lines.proofs.Std.{◌≡◌, ℕ, ◌+◌, ◌≤◌, Bool, List, [], ◌∷◌, ◌++◌, length, drop, refl, sym, ap, ◌∙◌, eqb, append_assoc, append-nil, arith, length-append, drop_at, slice_split_at, slice_split_none, join_with_byte-slice_split, AllByRecursion, join_with_byte, ◌<◌, true, false, ◌&&◌, cond, Option, Some, None, Result, Ok, subst, ltb, leb, leb-true, and_parts, list_all, is_ascii_digit, digits_value, ◌||◌, bytes_eq, take, get_or, false_from_ne_true, take-append-drop, All-head, All-tail, bytes_eq-Decides, All}
 use Rattle.bt_lines.specs.model.Lines.{pieces, value_of, is_number}
 use Rattle.bt_lines.proofs.lemmas.reader.lines.TextLemmas.{IsColumn}
-use Rattle.bt_bed.specs.model.Feature.{kept_columns, Feature, is_header, IsFeature, IsName, is_kept, record_of, not_skipped, columns_in, columns_say, feature_of, strand_of, ends_word, first_word, is_header_word}
+use Rattle.bt_bed.specs.model.Feature.{Feature}
+use Rattle.bt_bed.specs.model.BedLine.{kept_columns, is_header, IsFeature, IsName, is_kept, record_of, not_skipped, columns_in, columns_say, feature_of, strand_of, ends_word, first_word, is_header_word}
 use Rattle.bt_lines.specs.declared.fault.Kind.{Kind}
 use Rattle.bt_bed.specs.calls.Bed.{feature_between}
 use Rattle.bt_bed.specs.declared.record.strand.Strand.{Strand}

@@ -4,7 +4,8 @@ use Rattle.bt_lines.proofs.lemmas.reader.lines.TextLemmas.{cut_at, IsColumn, IsI
 use Rattle.bt_lines.proofs.lemmas.numbers.NumberLemmas.{digits_below, value_of_digits, all_digits_in, digits_denoting}
 use Rattle.bt_lines.specs.model.Lines.{pieces, value_of}
 use Rattle.bt_bed.proofs.lemmas.parse.FeatureLemmas.{cut_and_kept, record_said, said_is_feature, said_stands, header_before_tab, pieces_are_columns, IsWhole, of_whole, said_by_columns}
-use Rattle.bt_bed.specs.model.Feature.{Feature, is_header, IsName, columns_in, columns_say, feature_of, is_kept, kept_columns, record_of, strand_of, IsFeature, bed_text}
+use Rattle.bt_bed.specs.model.Feature.{Feature}
+use Rattle.bt_bed.specs.model.BedLine.{is_header, IsName, columns_in, columns_say, feature_of, is_kept, kept_columns, record_of, strand_of, IsFeature, bed_text}
 use Rattle.bt_bed.specs.inside.FirstColumns.{AreBounds, BeginsWith, BeginsWithName, EndsName, IsRecordName, Leads, EndsFirst, HasColumns}
 use Rattle.bt_bed.specs.declared.parse.parsed_number.ParsedNumber.{ParsedNumber}
 use Rattle.bt_bed.specs.declared.record.strand.Strand.{Strand}

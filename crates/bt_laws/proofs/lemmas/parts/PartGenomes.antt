@@ -10,7 +10,8 @@ use Rattle.bt_lines.specs.model.Lines.{TextLine, lines_from, text_lines}
 use Rattle.bt_lines.specs.declared.fault.Input.{Input}
 use Rattle.bt_lines.specs.declared.fault.Kind.{Kind}
 use Rattle.bt_lines.specs.declared.fault.Kind.TheVariants.{UnknownChrom, OutOfOrder}
-use Rattle.bt_bed.specs.model.Feature.{Feature, record_of, interval_of, intervals_of, Interval, last_from, last_of, spans_on}
+use Rattle.bt_bed.specs.model.Feature.{Feature, interval_of, intervals_of, Interval, last_from, last_of, spans_on}
+use Rattle.bt_bed.specs.model.BedLine.{record_of}
 use Rattle.bt_bed.specs.model.Genome.{Entry, genome_names}
 use Rattle.bt_bed.specs.model.Good.{Good, good_from, good_with, bed_format, in_order, line_says, locus_at, said_after}
 use Rattle.bt_bed.specs.model.Sorted.{Locus, falls_in, sorting_of, ArePlaced, IsPlacedBefore, has_records}

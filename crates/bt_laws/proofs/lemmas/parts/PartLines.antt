@@ -1,7 +1,7 @@
 -- Lines of two concatenated texts, of which the first is empty or ends with a line feed.
 use Rattle.bt_lines.proofs.Std.{◌≡◌, ℕ, suc, true, false, List, [], ◌∷◌, ◌++◌, refl, sym, ap, ◌∙◌, append-nil, append_assoc, eqb, inl, inr, IsTrue, All-head, All-tail, Option, Some, None, Result, Ok, Err, subst, is_none, AllByRecursion, map-append}
 use Rattle.bt_lines.specs.model.Lines.{TextLine, fed_line, last_line, lines_from, numbered, pieces, text_lines}
-use Rattle.bt_lines.specs.calls.Columns.{NoLineFeed}
+use Rattle.bt_lines.specs.calls.Line.{NoLineFeed}
 use Rattle.bt_lines.proofs.lemmas.reader.lines.TextLemmas.{lines_from-fed, lines_from-nil, by_lines}
 use Rattle.bt_laws.specs.Parts.{StandsBefore, ends_line}
 use Rattle.bt_lines.specs.model.Fault.{FaultValue}

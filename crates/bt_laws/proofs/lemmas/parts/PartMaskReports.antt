@@ -6,7 +6,8 @@ use Rattle.bt_lines.specs.model.Fault.{FaultValue}
 use Rattle.bt_lines.specs.model.Lines.{text_lines, end_bytes}
 use Rattle.bt_lines.specs.declared.fault.Input.TheVariants.{First, Second}
 use Rattle.bt_bed.specs.model.Feature.{Feature}
-use Rattle.bt_bed.specs.model.Good.{Good, good, items_in, or_else, block_format, Rule, join_report, written}
+use Rattle.bt_bed.specs.model.Good.{Good, good, items_in, or_else, block_format}
+use Rattle.bt_bed.specs.model.Meeting.{Rule, join_report, written}
 use Rattle.bt_seq.proofs.lemmas.definitions.KnowsLemmas.{leave, leave_all}
 use Rattle.bt_seq.proofs.lemmas.definitions.MaskPrefixLemmas.{none_leaves, decided_by_tags, unnamed_own}
 use Rattle.bt_seq.proofs.lemmas.Sam.{last_from, tag_decides, tags_of}

@@ -4,8 +4,10 @@ use Rattle.bt_lines.specs.model.Fault.{FaultValue}
 use Rattle.bt_lines.specs.model.Lines.{end_bytes, text_lines}
 use Rattle.bt_lines.specs.declared.fault.Input.TheVariants.{First, Second}
 use Rattle.bt_lines.specs.declared.fault.Kind.TheVariants.{NoSequence}
-use Rattle.bt_bed.specs.model.Feature.{Feature, fault_at_line}
-use Rattle.bt_bed.specs.model.Good.{Good, Member, good, items_in, or_else, block_format, Rule, join_report}
+use Rattle.bt_bed.specs.model.Feature.{Feature}
+use Rattle.bt_bed.specs.model.BedLine.{fault_at_line}
+use Rattle.bt_bed.specs.model.Good.{Good, Member, good, items_in, or_else, block_format}
+use Rattle.bt_bed.specs.model.Meeting.{Rule, join_report}
 use Rattle.bt_bed.proofs.lemmas.Definitions.{met_fault_all, met_fault_stop}
 use Rattle.bt_seq.proofs.lemmas.definitions.KnowsLemmas.{leave, leave_all}
 use Rattle.bt_laws.proofs.lemmas.single.Sequences.{faultless_masked}

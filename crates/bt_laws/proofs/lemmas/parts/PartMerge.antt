@@ -1,6 +1,7 @@
 -- Merged runs of records of two parts, and those of each strand.
 use Rattle.bt_lines.proofs.Std.{◌≡◌, ℕ, Bool, false, List, [], ◌∷◌, ◌++◌, map, filter, append-nil, refl, sym, ap, ap₂, ◌∙◌, subst, true, ◌&&◌, not, cond, append_assoc, bytes_eq, flat_map, nat_le, AllByRecursion, list_any, take_while, flat_map-append, map-append, filter-append, take_while-cons, and_left}
-use Rattle.bt_bed.specs.model.Feature.{Feature, interval_of, intervals_of, AreNonEmpty, Interval, last_from, last_of, placed_on, spans_on, interval_lines, interval_line, is_strand}
+use Rattle.bt_bed.specs.model.Feature.{Feature, interval_of, intervals_of, AreNonEmpty, Interval, last_from, last_of, placed_on, spans_on, is_strand}
+use Rattle.bt_bed.specs.model.BedLine.{interval_lines, interval_line}
 use Rattle.bt_bed.specs.model.Sorted.{ArePlaced, has_records}
 use Rattle.bt_bed.specs.model.Order.{Order, IsTotal}
 use Rattle.bt_bed.proofs.lemmas.order.OrderLemmas.{placed_contiguous}

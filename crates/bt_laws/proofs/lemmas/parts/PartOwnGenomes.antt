@@ -5,9 +5,11 @@ use Rattle.bt_lines.specs.model.Fault.{FaultValue}
 use Rattle.bt_lines.specs.model.Lines.{Handed, whole_text, lines_from, text_lines, TextLine}
 use Rattle.bt_lines.specs.declared.fault.Input.{Input}
 use Rattle.bt_lines.specs.declared.fault.Input.TheVariants.{First, Second}
-use Rattle.bt_bed.specs.model.Feature.{Feature, record_of}
+use Rattle.bt_bed.specs.model.Feature.{Feature}
+use Rattle.bt_bed.specs.model.BedLine.{record_of}
 use Rattle.bt_bed.specs.model.Genome.{Entry, genome_names}
-use Rattle.bt_bed.specs.model.Good.{Good, good, items_in, good_from, good_with, bed_format, line_says, locus_at, said_after, join_report}
+use Rattle.bt_bed.specs.model.Good.{Good, good, items_in, good_from, good_with, bed_format, line_says, locus_at, said_after}
+use Rattle.bt_bed.specs.model.Meeting.{join_report}
 use Rattle.bt_bed.specs.model.Sorted.{is_below_at, Locus, sorting_of, falls_in}
 use Rattle.bt_bed.specs.model.Order.{AreDistinct, is_among, rank_order, Order}
 use Rattle.bt_bed.specs.inside.RankTotal.{ranks_total}

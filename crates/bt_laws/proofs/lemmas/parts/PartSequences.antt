@@ -10,7 +10,8 @@ use Rattle.bt_bed.specs.model.Good.{Format, Good, Member, good, good_from, good_
 use Rattle.bt_seq.specs.model.Masked.{is_unnamed, names_of, Reached, SequenceLine, header_behind, is_header, line_behind, line_says, may_stand, name_in, sequence_format}
 use Rattle.bt_laws.specs.Parts.{begins_sequence, name_on, sequence_names, StandsBefore, said_record, said_records}
 use Rattle.bt_laws.proofs.lemmas.parts.PartLines.{like_from, none_like, alike_lines, lines_join, IsLike}
-use Rattle.bt_bed.specs.model.Feature.{Feature, record_of}
+use Rattle.bt_bed.specs.model.Feature.{Feature}
+use Rattle.bt_bed.specs.model.BedLine.{record_of}
 use Rattle.bt_bed.specs.model.Sorted.{Locus, block_sorting, falls_in}
 use Rattle.bt_seq.proofs.lemmas.definitions.KnowsLemmas.{is_last}
 use Rattle.bt_seq.proofs.lemmas.Sam.{last_from}

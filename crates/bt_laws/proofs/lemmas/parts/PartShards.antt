@@ -3,7 +3,8 @@ use Rattle.bt_lines.proofs.Std.{◌≡◌, ℕ, Bool, true, false, List, [], ◌
 use Rattle.std.specs.Option.{option_map_or}
 use Rattle.std.specs.declared.cmp.Ordering.{Ordering}
 use Rattle.std.specs.declared.cmp.Ordering.TheVariants.{Less, Equal, Greater}
-use Rattle.bt_bed.specs.model.Feature.{Feature, interval_of, intervals_of, Interval, last_from, last_of, placed_on, spans_on, interval_line, interval_lines}
+use Rattle.bt_bed.specs.model.Feature.{Feature, interval_of, intervals_of, Interval, last_from, last_of, placed_on, spans_on}
+use Rattle.bt_bed.specs.model.BedLine.{interval_line, interval_lines}
 use Rattle.bt_bed.specs.model.Genome.{Entry, genome_names, genome_cut, genome_handed, genome_of}
 use Rattle.bt_bed.specs.model.Order.{AreDistinct, is_among, rank_order, IsTotal, Order}
 use Rattle.bt_bed.specs.inside.RankTotal.{ranks_total}

@@ -7,7 +7,7 @@ use Rattle.bt_sweep.proofs.lemmas.definitions.HitLemmas.{later_at, apart_misses}
 use Rattle.bt_lines.specs.model.Fault.{FaultValue}
 use Rattle.bt_bed.specs.model.Feature.{Feature}
 use Rattle.bt_bed.specs.model.Sorted.{is_below_at}
-use Rattle.bt_bed.specs.model.Good.{Rule, join_report, written}
+use Rattle.bt_bed.specs.model.Meeting.{Rule, join_report, written}
 use Rattle.bt_bed.specs.model.Order.{Order, IsTotal}
 use Rattle.bt_bed.proofs.lemmas.Definitions.{all_written, met_fault_all, met_fault_stop, met_lines, written_past}
 use Rattle.bt_sweep.specs.model.Hits.{decided, decides, hits, hits_among}

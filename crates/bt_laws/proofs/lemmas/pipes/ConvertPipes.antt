@@ -3,14 +3,14 @@ use Rattle.bt_lines.proofs.Std.{◌≡◌, ◌||◌, ℕ, ◌+◌, ◌-◌, ◌<
 use Rattle.bt_lines.specs.model.Fault.{FaultValue}
 use Rattle.std.specs.Prelude.{option_and_then}
 use Rattle.bt_lines.specs.model.Lines.{lines_handed, TextLine, pieces, end_bytes, fed_line, last_line, lines_from}
-use Rattle.bt_lines.specs.calls.Columns.{NoLineFeed}
+use Rattle.bt_lines.specs.calls.Line.{NoLineFeed}
 use Rattle.bt_lines.specs.declared.fault.Input.{Input}
 use Rattle.bt_lines.specs.declared.fault.Input.TheVariants.{First}
 use Rattle.bt_lines.specs.declared.fault.Kind.{Kind}
 use Rattle.bt_lines.specs.declared.fault.Kind.TheVariants.{StopTooLarge, TextBeforeHeader}
 use Rattle.bt_lines.proofs.lemmas.reader.lines.TextLemmas.{IsColumn, IsInside, strip_last-other, strip_last-push, lines_from-fed, lines_from-last, lines_from-nil, by_lines}
 use Rattle.bt_bed.specs.model.Good.{Good, good_from, good_with, items_in}
-use Rattle.bt_bed.specs.model.Feature.{IsName, columns_in, kept_columns, strand_named, strand_of}
+use Rattle.bt_bed.specs.model.BedLine.{IsName, columns_in, kept_columns, strand_named, strand_of}
 use Rattle.bt_bed.specs.declared.record.strand.Strand.TheVariants.{Plus, Minus}
 use Rattle.bt_bed.proofs.lemmas.parse.FeatureLemmas.{kept_is_cut, pieces_are_columns}
 use Rattle.bt_bed.proofs.lemmas.parse.NameLemmas.{name_ne}

@@ -1,11 +1,12 @@
 -- Lines and numbers have no line feed.
 use Rattle.bt_lines.proofs.Std.{◌≡◌, ℕ, Bool, true, false, List, [], ◌∷◌, ◌++◌, refl, sym, subst, eqb, zero, suc, ◌+◌, ◌/◌, ◌%◌, ◌<◌, ◌≤◌, cond, arith, decimal, AllByRecursion, ends_with_byte, strip_last, All-append, All-cons, All-head, All-tail, All-nil, All-from_recursion, digit_glyph, digits_onto, lt-ltb, nat_tests, ◌-◌, ◌||◌, length, Option, Some, None, Ok, ap, ◌∙◌, append_assoc, append-nil, IsTrue, ◌==◌, codes, nat_lt, decimal_is_IsNumeral, append_cancel_right, get_or-append-add, length-append, Err, inl, inr, not, map, filter, flat_map, flat_map-map, ◌&&◌, Result, ltb, leb, if◌then◌else◌, list_all, join_with_byte, is_ascii_digit, digits_value, and_parts, leb-true, join_with_byte-slice_split}
-use Rattle.bt_lines.specs.calls.Columns.{NoLineFeed}
+use Rattle.bt_lines.specs.calls.Line.{NoLineFeed}
 use Rattle.bt_lines.specs.model.Lines.{TextLine, last_line, lines_from, whole_lines_from, fed_line, text_lines, Handed, lines_handed, pieces, whole_lines, is_number, value_of}
 use Rattle.bt_lines.proofs.lemmas.reader.lines.TextLemmas.{lines_from-fed, lines_from-last, strip_last-other, strip_last-push, by_lines, whole_lines_from-fed, whole_lines_from-last, IsColumn, IsInside, lines_from-nil}
 use Rattle.std.specs.Fmt.{digits}
 use Rattle.bt_laws.proofs.lemmas.Lists.{all_back, all_so, all_any, all_map, map_map, flat_map_same}
-use Rattle.bt_bed.specs.model.Feature.{Feature, ends_word, first_word, is_header, is_header_word, IsName, columns_in, is_kept, record_of, strand_of, interval_of, intervals_of, Interval, IsFeature, not_skipped}
+use Rattle.bt_bed.specs.model.Feature.{Feature, interval_of, intervals_of, Interval}
+use Rattle.bt_bed.specs.model.BedLine.{ends_word, first_word, is_header, is_header_word, IsName, columns_in, is_kept, record_of, strand_of, IsFeature, not_skipped}
 use Rattle.bt_bed.proofs.lemmas.parse.FeatureLemmas.{header_says, of_word, record_said, said_is_feature, said_stands, pieces_are_columns}
 use Rattle.bt_laws.proofs.lemmas.single.Records.{written_feature}
 use Rattle.std.specs.declared.cmp.Ordering.{Ordering}

@@ -4,9 +4,12 @@ use Rattle.bt_lines.specs.model.Fault.{FaultValue}
 use Rattle.bt_lines.specs.model.Lines.{Handed}
 use Rattle.bt_lines.specs.declared.fault.Input.TheVariants.{First, Genome, Second}
 use Rattle.bt_bed.specs.model.Order.{byte_order, bytes_total, Order, IsTotal, AreDistinct}
-use Rattle.bt_bed.specs.model.Feature.{Feature, intervals_of, interval_of, Interval, interval_lines, fault_at_line, Span, IsCovered}
+use Rattle.bt_bed.specs.model.Feature.{Feature, intervals_of, interval_of, Interval, Span}
+use Rattle.bt_bed.specs.model.Positions.{IsCovered}
+use Rattle.bt_bed.specs.model.BedLine.{interval_lines, fault_at_line}
 use Rattle.bt_bed.specs.model.Genome.{Entry, genome_handed, genome_names}
-use Rattle.bt_bed.specs.model.Good.{Good, Member, items_in, bed_good, Met, join_report, written}
+use Rattle.bt_bed.specs.model.Good.{Good, Member, items_in, bed_good}
+use Rattle.bt_bed.specs.model.Meeting.{Met, join_report, written}
 use Rattle.bt_bed.specs.model.Sorted.{ArePlaced}
 use Rattle.bt_lines.specs.declared.fault.Kind.TheVariants.{TooManyHeld}
 use Rattle.bt_bed.specs.declared.record.strand.Strand.{Strand}

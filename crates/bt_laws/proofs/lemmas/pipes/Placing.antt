@@ -1,7 +1,8 @@
 -- Intervals chromosome by chromosome: they are in order, and those of different chromosomes have nothing in common.
 use Rattle.bt_lines.proofs.Std.{◌≡◌, ℕ, suc, ◌+◌, ◌<◌, ◌≤◌, Bool, true, false, cond, List, [], ◌∷◌, ◌++◌, map, filter, Option, Some, None, refl, sym, ap, ◌∙◌, subst, inl, inr, arith, IsTrue, flat_map, bytes_eq, is_some, option_map, AllByRecursion, or_parts}
 use Rattle.std.specs.declared.cmp.Ordering.TheVariants.{Less, Equal}
-use Rattle.bt_bed.specs.model.Feature.{Interval, Span, placed_on, AreApartFrom}
+use Rattle.bt_bed.specs.model.Feature.{Interval, Span, placed_on}
+use Rattle.bt_bed.specs.model.Positions.{AreApartFrom}
 use Rattle.bt_bed.specs.model.Sorted.{ArePlaced, IsPlacedBefore}
 use Rattle.bt_bed.specs.model.Order.{Order, IsTotal, AreDistinct, compare_ranks, is_among, rank_of, rank_order}
 use Rattle.bt_bed.proofs.lemmas.parse.NameLemmas.{name_ne-sym}

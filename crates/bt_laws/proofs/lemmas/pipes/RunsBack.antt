@@ -1,7 +1,9 @@
 -- What merge, complement and genomecov write is an input of the next command.
 use Rattle.bt_lines.proofs.Std.{◌≡◌, ℕ, ◌+◌, ◌-◌, ◌<◌, ◌≤◌, Bool, true, false, cond, not, List, [], ◌∷◌, ◌++◌, map, filter, refl, sym, ap, ◌∙◌, subst, inl, inr, arith, eqb, append-nil, decimal, Option, ap₂, append_assoc, IsTrue, codes, if◌then◌else◌, bytes_eq, flat_map, AllByRecursion, is_lt, All-nil, map-id, map-append, slice_split_none}
-use Rattle.bt_lines.specs.calls.Columns.{NoLineFeed}
-use Rattle.bt_bed.specs.model.Feature.{Feature, interval_of, intervals_of, is_header, Interval, Span, placed_on, spans_on, span_of, interval_line, interval_lines, IsName, columns_in, strand_of, AreApartFrom, IsCovered, stretches_from}
+use Rattle.bt_lines.specs.calls.Line.{NoLineFeed}
+use Rattle.bt_bed.specs.model.Feature.{Feature, interval_of, intervals_of, Interval, Span, placed_on, spans_on, span_of}
+use Rattle.bt_bed.specs.model.Positions.{AreApartFrom, IsCovered, stretches_from}
+use Rattle.bt_bed.specs.model.BedLine.{is_header, interval_line, interval_lines, IsName, columns_in, strand_of}
 use Rattle.bt_bed.specs.model.Sorted.{ArePlaced, IsPlacedBefore}
 use Rattle.bt_bed.specs.model.Order.{Order, IsTotal, AreDistinct, rank_order}
 use Rattle.bt_bed.proofs.lemmas.Definitions.{scan_finds}

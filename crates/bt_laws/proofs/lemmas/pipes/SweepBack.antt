@@ -1,8 +1,10 @@
 -- What intersect and subtract write is an input of the next command.
 use Rattle.bt_lines.proofs.Std.{◌≡◌, ℕ, zero, suc, ◌+◌, ◌-◌, ◌<◌, ◌≤◌, Bool, true, false, cond, not, List, [], ◌∷◌, ◌++◌, map, filter, length, max, min, refl, sym, ap, ap₂, ◌∙◌, subst, inl, inr, arith, append_assoc, append-nil, decimal, IsTrue, flat_map, replicate, AllByRecursion, bytes_decides, flat_map-append}
 use Rattle.std.specs.declared.cmp.Ordering.TheVariants.{Less, Equal}
-use Rattle.bt_lines.specs.calls.Columns.{NoLineFeed}
-use Rattle.bt_bed.specs.model.Feature.{Feature, interval_of, intervals_of, is_header, Interval, Span, bed_text, cut_to, is_kept, AreApartFrom, IsCovered}
+use Rattle.bt_lines.specs.calls.Line.{NoLineFeed}
+use Rattle.bt_bed.specs.model.Feature.{Feature, interval_of, intervals_of, Interval, Span}
+use Rattle.bt_bed.specs.model.Positions.{AreApartFrom, IsCovered}
+use Rattle.bt_bed.specs.model.BedLine.{is_header, bed_text, cut_to, is_kept}
 use Rattle.bt_bed.specs.model.Sorted.{ArePlaced, IsPlacedBefore, IsUpTo, locus_of}
 use Rattle.bt_bed.specs.model.Order.{Order, IsTotal}
 use Rattle.bt_runs.proofs.lemmas.order.FileOrder.{skips}

@@ -2,7 +2,8 @@
 use Rattle.bt_lines.proofs.Std.{◌≡◌, ℕ, ◌<◌, Bool, true, false, List, [], ◌∷◌, ◌++◌, map, length, refl, sym, ap, ap₂, ◌∙◌, subst, arith, append_assoc, append-nil, decimal, eqb, IsTrue, bytes_eq, flat_map, replicate, if◌then◌else◌, AllByRecursion, ends_with_byte, strip_last, map-append, slice_split_at}
 use Rattle.bt_lines.specs.model.Lines.{pieces as columns_of}
 use Rattle.bt_lines.proofs.lemmas.reader.lines.TextLemmas.{IsColumn, strip_last-other}
-use Rattle.bt_bed.specs.model.Feature.{Span, Feature, interval_of, intervals_of, IsName, bed_text, columns_in, cut_to, is_kept, kept_columns, strand_named, strand_of}
+use Rattle.bt_bed.specs.model.Feature.{Span, Feature, interval_of, intervals_of}
+use Rattle.bt_bed.specs.model.BedLine.{IsName, bed_text, columns_in, cut_to, is_kept, kept_columns, strand_named, strand_of}
 use Rattle.bt_bed.specs.declared.record.strand.Strand.TheVariants.{Plus, Minus, Dot}
 use Rattle.bt_bed.proofs.lemmas.parse.FeatureLemmas.{kept_is_cut, pieces_are_columns}
 use Rattle.bt_bed.proofs.lemmas.parse.NameLemmas.{name_ne}

@@ -2,7 +2,9 @@
 use Rattle.bt_lines.proofs.Std.{◌≡◌, ℕ, ◌+◌, ◌<◌, ◌≤◌, true, false, cond, not, List, [], ◌∷◌, ◌++◌, append-nil, map, filter, max, min, Some, None, Ok, refl, sym, ap, ap₂, ◌∙◌, subst, inl, inr, arith, bytes_eq, flat_map, AllByRecursion, cases_Bool, false≢true, or_parts, flat_map-map}
 use Rattle.bt_lines.specs.model.Lines.{whole_text}
 use Rattle.bt_lines.specs.declared.fault.Input.TheVariants.{First, Second}
-use Rattle.bt_bed.specs.model.Feature.{Feature, interval_of, intervals_of, is_header, Interval, Span, span_of, spans_on, interval_lines, AreApartFrom, IsCovered, stretches_from}
+use Rattle.bt_bed.specs.model.Feature.{Feature, interval_of, intervals_of, Interval, Span, span_of, spans_on}
+use Rattle.bt_bed.specs.model.Positions.{AreApartFrom, IsCovered, stretches_from}
+use Rattle.bt_bed.specs.model.BedLine.{is_header, interval_lines}
 use Rattle.bt_bed.specs.model.Genome.{Entry, genome_names}
 use Rattle.bt_bed.specs.model.Good.{items_in, bed_good}
 use Rattle.bt_bed.specs.model.Order.{Order, AreDistinct, is_among}

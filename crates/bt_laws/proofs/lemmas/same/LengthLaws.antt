@@ -1,7 +1,9 @@
 -- Gaps of gaps, and merged depths.
 use Rattle.bt_lines.proofs.Std.{◌≡◌, ℕ, ◌+◌, ◌<◌, ◌≤◌, true, false, cond, List, [], ◌∷◌, ◌++◌, map, filter, min, Some, None, refl, sym, ap, ap₂, ◌∙◌, subst, inl, inr, arith, append-nil, bytes_eq, flat_map, nat_lt, AllByRecursion, cases_Bool, cases_lt, false≢true, le-ltb, lt-ltb, or_parts, flat_map-append, map-append}
 use Rattle.bt_lines.specs.declared.fault.Input.TheVariants.{First}
-use Rattle.bt_bed.specs.model.Feature.{Feature, intervals_of, interval_of, is_header, Interval, Span, placed_on, spans_on, span_of, interval_lines, AreApartFrom, IsCovered}
+use Rattle.bt_bed.specs.model.Feature.{Feature, intervals_of, interval_of, Interval, Span, placed_on, spans_on, span_of}
+use Rattle.bt_bed.specs.model.Positions.{AreApartFrom, IsCovered}
+use Rattle.bt_bed.specs.model.BedLine.{is_header, interval_lines}
 use Rattle.bt_bed.specs.model.Genome.{Entry, genome_names}
 use Rattle.bt_bed.specs.model.Good.{items_in, bed_good}
 use Rattle.bt_bed.specs.model.Sorted.{ArePlaced}

@@ -2,11 +2,13 @@
 use Rattle.bt_lines.proofs.Std.{◌≡◌, ◌||◌, ℕ, suc, ◌+◌, ◌≤◌, Bool, true, false, List, [], ◌∷◌, ◌++◌, map, length, Option, Some, None, refl, sym, ap, ap₂, ◌∙◌, arith, eqb, leb, flat_map, if◌then◌else◌, is_none, list_all, list_any, option_or, ends_with_byte, and_parts, false≢true, leb-true, ne_eqb, nat_tests, All-cons, All-head, All-nil, All-tail, ◌<◌, Result, Ok, Err, subst, ltb, bytes_eq, is_some, AllByRecursion, flat_map-map}
 use Rattle.bt_lines.specs.model.Fault.{FaultValue, read_failed}
 use Rattle.bt_lines.specs.model.Lines.{Handed, cut_fault, lines_handed, whole_text, TextLine, end_bytes, text_lines, whole_lines}
-use Rattle.bt_lines.specs.calls.Columns.{NoLineFeed}
+use Rattle.bt_lines.specs.calls.Line.{NoLineFeed}
 use Rattle.bt_lines.specs.declared.fault.Input.TheVariants.{First, Second}
-use Rattle.bt_bed.specs.model.Feature.{Feature, intervals_of, Interval, spans_on, record_of}
+use Rattle.bt_bed.specs.model.Feature.{Feature, intervals_of, Interval, spans_on}
+use Rattle.bt_bed.specs.model.BedLine.{record_of}
 use Rattle.bt_bed.specs.model.Genome.{Entry}
-use Rattle.bt_bed.specs.model.Good.{Good, good, items_in, or_else, block_good, Met, Rule, join_report, written, good_from, good_with, block_format, bed_format, bed_good, line_says, locus_at, said_after}
+use Rattle.bt_bed.specs.model.Good.{Good, good, items_in, or_else, block_good, good_from, good_with, block_format, bed_format, bed_good, line_says, locus_at, said_after}
+use Rattle.bt_bed.specs.model.Meeting.{Met, Rule, join_report, written}
 use Rattle.std.specs.Char.{is_ascii_uppercase}
 use Rattle.bt_seq.specs.model.Masked.{covers, decided, mask_met, mask_rule, masked_byte, masked_from, masked_line, masked_text, names_of, no_sequence, own_records, SequenceLine, is_header, sequence_format, sequence_good, bases_up_to}
 use Rattle.bt_seq.specs.declared.mask.mask_how.MaskHow.{MaskHow}

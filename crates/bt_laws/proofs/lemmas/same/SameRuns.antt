@@ -11,7 +11,9 @@ use Rattle.bt_laws.proofs.lemmas.pipes.LinesBack.{placed_known, IsSaid, good_are
 use Rattle.bt_laws.proofs.lemmas.pipes.RunsBack.{ordered_all, merge_back, merge_placed}
 use Rattle.bt_laws.proofs.lemmas.parts.PartMerge.{named_all}
 use Rattle.bt_laws.proofs.lemmas.pipes.Placing.{Earlier, ascending_pairs}
-use Rattle.bt_bed.specs.model.Feature.{Feature, interval_of, intervals_of, Interval, placed_on, spans_on, interval_lines, Span, span_of, IsCovered}
+use Rattle.bt_bed.specs.model.Feature.{Feature, interval_of, intervals_of, Interval, placed_on, spans_on, Span, span_of}
+use Rattle.bt_bed.specs.model.Positions.{IsCovered}
+use Rattle.bt_bed.specs.model.BedLine.{interval_lines}
 use Rattle.bt_bed.specs.model.Genome.{Entry}
 use Rattle.bt_bed.specs.model.Order.{Order, IsTotal, is_among, AreDistinct}
 use Rattle.bt_bed.specs.declared.record.strand.Strand.{Strand}

@@ -3,9 +3,12 @@ use Rattle.bt_lines.proofs.Std.{◌≡◌, ℕ, Bool, true, false, cond, List, [
 use Rattle.bt_lines.specs.model.Fault.{FaultValue, read_failed}
 use Rattle.bt_lines.specs.model.Lines.{Handed, cut_fault, lines_handed, whole_text, TextLine, whole_lines}
 use Rattle.bt_lines.specs.declared.fault.Input.TheVariants.{First, Second}
-use Rattle.bt_bed.specs.model.Feature.{Feature, interval_of, intervals_of, bed_text, Interval, span_of, spans_on, interval_lines, IsCovered}
+use Rattle.bt_bed.specs.model.Feature.{Feature, interval_of, intervals_of, Interval, span_of, spans_on}
+use Rattle.bt_bed.specs.model.Positions.{IsCovered}
+use Rattle.bt_bed.specs.model.BedLine.{bed_text, interval_lines}
 use Rattle.bt_bed.specs.model.Genome.{Entry}
-use Rattle.bt_bed.specs.model.Good.{Good, items_in, good, good_from, good_with, or_else, bed_good, bed_format, line_says, Met, Rule, join_report, written}
+use Rattle.bt_bed.specs.model.Good.{Good, items_in, good, good_from, good_with, or_else, bed_good, bed_format, line_says}
+use Rattle.bt_bed.specs.model.Meeting.{Met, Rule, join_report, written}
 use Rattle.bt_bed.specs.model.Order.{Order, is_among}
 use Rattle.bt_sweep.specs.model.Hits.{hits_among, any_overlap, hits, shared_bases, strands_agree, limited}
 use Rattle.bt_sweep.specs.model.Lines.{hit_line, intersect, line_with, lines_for, lines_of, piece_line, sweep_rule, IsLeft, pieces, spans_of}

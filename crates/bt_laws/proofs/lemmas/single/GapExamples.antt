@@ -1,6 +1,7 @@
 -- The definition of complement at small inputs, worked by hand.
 use Rattle.bt_lines.proofs.Std.{◌≡◌, ℕ, List, [], ◌∷◌, true, false, refl}
-use Rattle.bt_bed.specs.model.Feature.{Feature, Interval, with_position, stretches_from}
+use Rattle.bt_bed.specs.model.Feature.{Feature, Interval}
+use Rattle.bt_bed.specs.model.Positions.{with_position, stretches_from}
 use Rattle.bt_bed.specs.model.Genome.{Entry}
 use Rattle.bt_bed.specs.model.Sorted.{Locus}
 use Rattle.bt_bed.specs.declared.record.strand.Strand.TheVariants.{Dot}

@@ -1,6 +1,7 @@
 -- A scan of the positions finds the intervals of equal value, and no other list has them; scans in parts, and scans that see the same values.
 use Rattle.bt_lines.proofs.Std.{◌≡◌, ℕ, zero, suc, ◌+◌, ◌<◌, ◌≤◌, inl, inr, List, [], ◌∷◌, ◌++◌, refl, sym, ap, ap₂, ◌∙◌, subst, arith, map, cond, Bool, true, false, ◌==◌, Option, Some, None, IsTrue, cases_Bool, cases_lt, cases_eq, cond-true, eq-eqb, eqb-true, filter, flat_map, length, not, ◌||◌, nat_lt, cond-false, lt-ltb, ltb-false, not-true, or_left, map-append, filter-append, min}
-use Rattle.bt_bed.specs.model.Feature.{Span, AreApartFrom, IsCovered, Feature, intervals_of, Interval, placed_on, spans_on, last_of}
+use Rattle.bt_bed.specs.model.Feature.{Span, Feature, intervals_of, Interval, placed_on, spans_on, last_of}
+use Rattle.bt_bed.specs.model.Positions.{AreApartFrom, IsCovered}
 use Rattle.bt_laws.specs.Runs.{AreDisjointFrom, DiffersFromNext, HasValue, level_on, levels_are, levels_only, stretches_are_levels, covered_have_depth, gaps_are_levels, gaps_have_depth_0, interval_at, is_bare, one_value, touching_runs_are_levels, runs_are_levels, one_place_is_kept}
 use Rattle.bt_runs.specs.model.Depth.{Begun, Level, begun_after, ended_after, ended_at, levels_from, levels_of, next_begun, next_ended, DepthInterval, coverage, covers, depth_at, depth_of, depth_on, depths_on}
 use Rattle.bt_runs.proofs.lemmas.coverage.LevelLemmas.{levels_more}

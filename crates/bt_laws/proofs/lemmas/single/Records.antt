@@ -5,8 +5,10 @@ use Rattle.bt_lines.specs.model.Lines.{cut_fault, lines_handed, TextLine, pieces
 use Rattle.bt_lines.specs.declared.fault.Input.{Input}
 use Rattle.bt_lines.specs.declared.fault.Kind.{Kind}
 use Rattle.bt_lines.specs.declared.fault.Kind.TheVariants.{EmptyFeature, OutOfOrder, UnknownChrom}
-use Rattle.bt_bed.specs.model.Feature.{Feature, is_header, columns_say, feature_of, not_skipped, record_of, ends_word, first_word, is_header_word, IsFeature, bed_text, columns_in, kept_columns, said_are_features, Interval, last_from}
-use Rattle.bt_bed.specs.model.Good.{Good, good_from, good_with, or_else, line_says, locus_at, said_after, block_format, block_good, bed_format, Rule, join_report, written}
+use Rattle.bt_bed.specs.model.Feature.{Feature, Interval, last_from}
+use Rattle.bt_bed.specs.model.BedLine.{is_header, columns_say, feature_of, not_skipped, record_of, ends_word, first_word, is_header_word, IsFeature, bed_text, columns_in, kept_columns, said_are_features}
+use Rattle.bt_bed.specs.model.Good.{Good, good_from, good_with, or_else, line_says, locus_at, said_after, block_format, block_good, bed_format}
+use Rattle.bt_bed.specs.model.Meeting.{Rule, join_report, written}
 use Rattle.bt_laws.specs.Records.{blocks_know_each_chromosome, good_stand_on_lines, first_lines_have_the_first, good_in_blocks_are_non_empty, good_in_blocks_stand_on_lines, genome_names_are_distinct, first_lines_make_entries, read_are_rewritten, written_are_read, StaysDecided, bytes_know_each_chromosome, first_difference_decides, prefixes_come_first, HasBase, HasShared, shared_are_common, stretches_are_one, contiguous_grows}
 use Rattle.bt_bed.specs.model.Sorted.{Locus, block_sorting, falls_in, sorting_of, has_records, IsFollowed, AreContiguous}
 use Rattle.bt_lines.proofs.lemmas.reader.lines.TextLemmas.{lines_are_numbered, IsColumn, IsInside}

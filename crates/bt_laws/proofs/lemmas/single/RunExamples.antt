@@ -1,6 +1,7 @@
 -- The definitions at small inputs, worked by hand.
 use Rattle.bt_lines.proofs.Std.{◌≡◌, ℕ, List, [], ◌∷◌, refl}
-use Rattle.bt_bed.specs.model.Feature.{Feature, Interval, Span, with_position, stretches_from}
+use Rattle.bt_bed.specs.model.Feature.{Feature, Interval, Span}
+use Rattle.bt_bed.specs.model.Positions.{with_position, stretches_from}
 use Rattle.bt_bed.specs.declared.record.strand.Strand.{Strand}
 use Rattle.bt_bed.specs.declared.record.strand.Strand.TheVariants.{Plus, Minus, Dot}
 use Rattle.bt_runs.specs.model.Merged.{is_bridged, runs_of, merged, merged_runs, settled_runs, kept_runs, StrandRun, kept_strand_runs, settled_strand_runs, strand_runs}

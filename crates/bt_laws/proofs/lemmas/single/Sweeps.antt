@@ -1,7 +1,8 @@
 -- Lemmas on what a sweep decides, takes and writes.
 use Rattle.bt_lines.proofs.Std.{false, List, [], ◌∷◌, ◌++◌, Option, refl, sym, ◌∙◌, not, ◌||◌, ap, ◌-◌, ◌&&◌, ltb, is_none, AllByRecursion, or_right, or_left, list_any-append, inl, inr, ◌≡◌, Bool, true, cond, subst, append_assoc, IsTrue, list_all, take_while, and_parts, or_from, cases_Bool, take_while-cons, ℕ, Some, filter, length, map, nat_lt, find, false≢true, and_from, lt-ltb, ltb-true, false_from_ne_true, Ok, Err}
 use Rattle.bt_lines.specs.model.Fault.{FaultValue}
-use Rattle.bt_bed.specs.model.Feature.{Feature, intervals_of, is_strand, fault_at_line}
+use Rattle.bt_bed.specs.model.Feature.{Feature, intervals_of, is_strand}
+use Rattle.bt_bed.specs.model.BedLine.{fault_at_line}
 use Rattle.bt_bed.specs.model.Sorted.{ArePlaced}
 use Rattle.bt_bed.specs.model.Order.{Order, IsTotal}
 use Rattle.bt_laws.proofs.lemmas.single.Records.{written_begins}
@@ -16,7 +17,8 @@ use Rattle.bt_sweep.proofs.lemmas.Output.{only_one}
 use Rattle.bt_sweep.specs.calls.Sweeping.{leaves_some}
 use Rattle.bt_lines.specs.declared.fault.Input.TheVariants.{Second}
 use Rattle.bt_lines.specs.declared.fault.Kind.TheVariants.{TooManyHeld}
-use Rattle.bt_bed.specs.model.Good.{Good, items_in, Met, join_report}
+use Rattle.bt_bed.specs.model.Good.{Good, items_in}
+use Rattle.bt_bed.specs.model.Meeting.{Met, join_report}
 use Rattle.bt_bed.proofs.lemmas.Definitions.{all_stop, met_fault_stop, met_lines, written_stop}
 use Rattle.bt_bed.specs.declared.record.taken.Taken.TheVariants.{Yes, No}
 

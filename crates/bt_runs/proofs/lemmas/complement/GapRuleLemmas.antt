@@ -3,12 +3,14 @@
 use Rattle.bt_lines.proofs.Std.{Option, ◌≡◌, ℕ, ◌<◌, inl, inr, List, [], ◌∷◌, ◌++◌, refl, ap, ◌∙◌, map, filter, flat_map, cond, not, nat_le, nat_lt, Bool, true, false, bytes_eq, ◌≤◌, sym, arith, max, min, cases_Bool, cases_lt, cond-true, or_right, lt-ltb, le-ltb, lt-leb, le-leb, map-append, subst, Some, ap₂, length, None, ◌⊎◌, suc, eqb, Result, Ok, Err, OnOk, option_map, option_eq, cond-false, eqb-false, eqb-true, flat_map-append}
 use Rattle.std.specs.Option.{option_map_or}
 use Rattle.std.specs.declared.cmp.Ordering.TheVariants.{Less, Equal, Greater}
-use Rattle.bt_bed.specs.model.Feature.{Feature, intervals_of, interval_of, Interval, Span, placed_on, spans_on, span_of, last_of, interval_line, interval_lines}
+use Rattle.bt_bed.specs.model.Feature.{Feature, intervals_of, interval_of, Interval, Span, placed_on, spans_on, span_of, last_of}
+use Rattle.bt_bed.specs.model.BedLine.{interval_line, interval_lines}
 use Rattle.bt_bed.specs.model.Genome.{Entry, genome_names}
 use Rattle.bt_bed.specs.model.Order.{rank_order, AreDistinct, rank_of}
 use Rattle.bt_bed.specs.model.Sorted.{has_records, Locus}
 use Rattle.bt_runs.specs.model.Gaps.{gaps_of, gaps_on, is_asked, is_over, is_over_at, complement, settled_gaps, AreTaken, kept_place, length_in}
-use Rattle.bt_runs.specs.inside.Walk.{bare_gap, gap_between, gap_walk, last_gap, AreReached, Place, left_before, places, Does, EnterAnswers, FitsPast, PutsRestAtEnd, IsNamed, IsPlaced, entry_at, going, is_on, step_from, walk_step}
+use Rattle.bt_runs.specs.inside.Walk.{AreReached, Place, left_before, places, Does, EnterAnswers, FitsPast, PutsRestAtEnd, IsNamed, IsPlaced, entry_at, going, is_on, step_from, walk_step}
+use Rattle.bt_runs.specs.inside.GapStep.{bare_gap, gap_between, gap_walk, last_gap}
 use Rattle.bt_runs.proofs.lemmas.definitions.Standing.{filter_map_all, filter_map_none, has_records-push, compare_same, apart, found}
 use Rattle.bt_runs.proofs.lemmas.order.FileOrder.{spans_on-push_elsewhere, spans_on-none, spans_on-push_here}
 use Rattle.bt_runs.proofs.lemmas.complement.Walks.{OneGap, no_gap, one_gaps, span_between, EndBy, cover_gap, end_between, end_both, end_later, Walked, form_of, Held, Steps, ends, rank_entry, reaches, same_place, settles_items, steps, taken_front, entered_steps, going_on, going_to, step_goes, step_starts}

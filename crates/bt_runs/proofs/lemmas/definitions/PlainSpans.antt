@@ -1,7 +1,8 @@
 -- What the plain programs ask of their spans, and the scans of a chromosome's positions, against the definitions of runs and gaps.
 use Rattle.bt_lines.proofs.Std.{◌≡◌, ℕ, ◌+◌, ◌-◌, ◌<◌, ◌≤◌, ◌⊎◌, inl, inr, List, [], ◌∷◌, ◌++◌, append_assoc, refl, sym, ap, ◌∙◌, subst, arith, Bool, true, false, ◌&&◌, Decides, nat_le, nat_lt, All, ◌==◌, list_any, cases_eq, false≢true, cond-true, cond-false, eq-eqb, ne_eqb, Decides-and, Decides-or, Decides-ltb, map-append, All-head, All-tail}
 use Rattle.bt_runs.specs.declared.plain.PlainSpan.{PlainSpan}
-use Rattle.bt_bed.specs.model.Feature.{Span, IsCovered, AreApartFrom, AreStretchesOf}
+use Rattle.bt_bed.specs.model.Feature.{Span}
+use Rattle.bt_bed.specs.model.Positions.{IsCovered, AreApartFrom, AreStretchesOf}
 use Rattle.bt_runs.specs.model.Merged.{Bridged, runs_of}
 use Rattle.bt_runs.specs.inside.PlainRuns.{span_in, spans_in, with_next_after, with_next}
 use Rattle.bt_runs.proofs.lemmas.merge.Bridging.{Decides-le, only_runs}

@@ -4,7 +4,8 @@ use Rattle.bt_lines.specs.model.Fault.{no_memory}
 use Rattle.bt_lines.specs.calls.Names.{fault_value}
 use Rattle.bt_lines.specs.calls.Output.{Output, Adds, FailsToAdd, FailsToPut, Grown}
 use Rattle.bt_lines.specs.declared.fault.Fault.{Fault}
-use Rattle.bt_bed.specs.model.Feature.{Feature, interval_of, Interval, interval_line, interval_lines, is_strand}
+use Rattle.bt_bed.specs.model.Feature.{Feature, interval_of, Interval, is_strand}
+use Rattle.bt_bed.specs.model.BedLine.{interval_line, interval_lines}
 use Rattle.bt_bed.proofs.lemmas.Writing.{adds_line}
 use Rattle.bt_bed.proofs.lemmas.parse.NameLemmas.{name_eq, name_ne, other_name}
 use Rattle.bt_runs.specs.calls.Engine.{AfterEach, fault_of}

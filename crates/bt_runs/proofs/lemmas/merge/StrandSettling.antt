@@ -1,6 +1,7 @@
 -- The settled runs of several strands and the kept ones, and what one more record does to them.
 use Rattle.bt_lines.proofs.Std.{◌≡◌, ℕ, ◌+◌, ◌≤◌, inl, inr, List, [], ◌∷◌, ◌++◌, append_assoc, append-nil, refl, sym, ap, ap₂, ◌∙◌, subst, arith, cond, drop, filter, get_or, length, map, set, take, Bool, true, false, not, ◌||◌, bytes_eq, nat_lt, Option, Some, None, list_any, prefix_len, take_while, ⊤, is_some, and_from, and_left, and_right, cases_Bool, cond-true, cond-false, false≢true, ltb-true, not-true, not_from_true, not_from_false, or_cases, or_left, drop_at, map-append, take-append-drop, take_at, length-prefix_len, list_any-append, take_while-cons, ◌<◌, ◌-◌, lt-ltb, le-ltb, zero, suc, ◌⊎◌, Result, Err, slice_get, or_from, or_right, set-get_or, get_or_from_slice_get, slice_get_read, slice_get_within}
-use Rattle.bt_bed.specs.model.Feature.{Feature, interval_of, intervals_of, Interval, last_from, last_of, is_strand, interval_line}
+use Rattle.bt_bed.specs.model.Feature.{Feature, interval_of, intervals_of, Interval, last_from, last_of, is_strand}
+use Rattle.bt_bed.specs.model.BedLine.{interval_line}
 use Rattle.bt_bed.specs.model.Sorted.{AreContiguous}
 use Rattle.bt_bed.proofs.lemmas.parse.NameLemmas.{cases_name, name_eq}
 use Rattle.bt_bed.proofs.lemmas.order.OrderLemmas.{last_of-push}

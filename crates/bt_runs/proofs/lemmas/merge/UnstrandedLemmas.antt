@@ -4,7 +4,8 @@ use Rattle.bt_lines.specs.model.Fault.{no_memory}
 use Rattle.bt_lines.specs.calls.Names.{fault_value}
 use Rattle.bt_lines.specs.calls.Output.{Output, Adds, FailsToAdd, Grown}
 use Rattle.bt_lines.specs.declared.fault.Fault.{Fault}
-use Rattle.bt_bed.specs.model.Feature.{Feature, interval_of, Interval, interval_line, interval_lines}
+use Rattle.bt_bed.specs.model.Feature.{Feature, interval_of, Interval}
+use Rattle.bt_bed.specs.model.BedLine.{interval_line, interval_lines}
 use Rattle.bt_runs.specs.calls.Engine.{AfterEach}
 use Rattle.bt_runs.specs.model.Merged.{kept_runs, settled_runs}
 use Rattle.bt_runs.specs.inside.merge.UnstrandedStep.{left_by, settled_by, Takes, kept_at, lines_by}

@@ -1,6 +1,7 @@
 -- The records of one chromosome, and the names of the chromosomes that have some, in a past that grows at its end.
 use Rattle.bt_lines.proofs.Std.{◌≡◌, ℕ, inl, inr, List, [], ◌∷◌, ◌++◌, append-nil, refl, sym, ap, ◌∙◌, map, false, not, ◌||◌, bytes_eq, cond-true, cond-false, or_parts, or_left, not_from_true, not_from_false, suc, ◌<◌, ◌≤◌, ◌⊎◌, subst, arith, filter, cond, Bool, true, Option, Some, option_map, IsTrue, ranked, cases_Bool, or_from, if◌then◌else◌, is_lt, None, is_some}
-use Rattle.bt_bed.specs.model.Feature.{Interval, span_of, placed_on, spans_on, Feature, interval_of, intervals_of, stretches_from}
+use Rattle.bt_bed.specs.model.Feature.{Interval, span_of, placed_on, spans_on, Feature, interval_of, intervals_of}
+use Rattle.bt_bed.specs.model.Positions.{stretches_from}
 use Rattle.bt_bed.specs.model.Order.{is_among, Order, IsTotal, AreDistinct, rank_of, compare_ranks, rank_order}
 use Rattle.bt_bed.specs.model.Sorted.{has_records, locus_of, IsUpTo, IsPlacedBefore, ArePlaced, AreContiguous}
 use Rattle.bt_bed.proofs.lemmas.parse.NameLemmas.{name_eq, name_ne, other_name, cases_name, name_ne-sym}

@@ -1,6 +1,7 @@
 -- What one more record does to the runs that a merge of all its records together keeps, exactly.
 use Rattle.std.specs.Prelude.{ℕ, not, cond, List, [], ◌∷◌, max, filter, Some, ◌≡◌, ◌==◌}
-use Rattle.bt_bed.specs.model.Feature.{Feature, interval_of, Interval, interval_lines}
+use Rattle.bt_bed.specs.model.Feature.{Feature, interval_of, Interval}
+use Rattle.bt_bed.specs.model.BedLine.{interval_lines}
 use Rattle.bt_runs.specs.model.Merged.{is_counted, is_closed, passed_by}
 use Rattle.bt_runs.specs.declared.merge.merge_strand.MergeStrand.{MergeStrand}
 use Rattle.bt_runs.specs.calls.Unstranded.{Unstranded}

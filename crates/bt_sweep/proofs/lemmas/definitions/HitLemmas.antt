@@ -1,6 +1,7 @@
 -- Lemmas on the rule of what hits a record.
 use Rattle.bt_lines.proofs.Std.{◌≡◌, ℕ, ◌-◌, ◌*◌, ◌<◌, Bool, true, false, not, ◌&&◌, ◌||◌, le-leb, cond, refl, ap, ◌∙◌, ltb, arith, max, min, bytes_eq, false≢true, and_from, and_parts, ltb-true, or_right, ◌≤◌, ◌⊎◌, inl, inr, List, [], ◌∷◌, ◌++◌, sym, subst, IsTrue, list_all, ltb-false, le-ltb, or_from, list_any-append, list_all-append, ordering_reverse, filter, append-nil, take, drop, AllByRecursion, list_any, take-append-drop, filter-append, recursion_from_All, Some, map-append, suc, Option, None, append_assoc, length, length-append, map, IfSome, if◌then◌else◌, nat_lt, find, ap₂}
-use Rattle.bt_bed.specs.model.Feature.{Feature, interval_of, length_of, intervals_of, Interval, last_from, fault_at_line}
+use Rattle.bt_bed.specs.model.Feature.{Feature, interval_of, length_of, intervals_of, Interval, last_from}
+use Rattle.bt_bed.specs.model.BedLine.{fault_at_line}
 use Rattle.bt_sweep.specs.model.Hits.{has_fraction, hits, is_enough, shared_bases, strands_agree, decides, decided, hits_among, are_too_many, cut_behind, first_open, held_for, is_held}
 use Rattle.bt_sweep.specs.declared.hits.hit_rule.HitRule.{HitRule}
 use Rattle.std.specs.declared.cmp.Ordering.{Ordering}

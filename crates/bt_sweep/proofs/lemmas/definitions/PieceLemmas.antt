@@ -1,7 +1,8 @@
 -- Lemmas on records whose starts don't fall.
 use Rattle.bt_lines.proofs.Std.{◌≡◌, ℕ, ◌≤◌, inl, inr, Bool, true, false, cond, List, [], ◌∷◌, refl, sym, ◌∙◌, subst, ltb, arith, filter, bytes_eq, IsTrue, and_parts, ◌+◌, ◌<◌, not, ◌&&◌, ◌++◌, ap, append_assoc, append-nil, flat_map, max, Decides, nat_le, nat_lt, leb-true, le-leb, list_any, cases_lt, false≢true, ltb-true, ltb-false, Decides-and, Decides-or, Decides-ltb, Decides-not}
 use Rattle.std.specs.declared.cmp.Ordering.TheVariants.{Less, Equal}
-use Rattle.bt_bed.specs.model.Feature.{Feature, intervals_of, Span, AreApartFrom, IsCovered}
+use Rattle.bt_bed.specs.model.Feature.{Feature, intervals_of, Span}
+use Rattle.bt_bed.specs.model.Positions.{AreApartFrom, IsCovered}
 use Rattle.bt_bed.specs.model.Good.{locus_at}
 use Rattle.bt_bed.specs.model.Sorted.{ArePlaced, IsUpTo}
 use Rattle.bt_bed.specs.model.Order.{Order, IsTotal}

@@ -1,6 +1,7 @@
 -- What is held is all that the lines of a record come from.
 use Rattle.bt_lines.proofs.Std.{◌≡◌, true, List, ap, ltb, arith, filter, bytes_eq, lt-ltb, and_from, ◌<◌, ℕ, Bool, cond, [], ◌∷◌, length, Option, Some, None, refl, sym, ◌∙◌, All, IfSome, slice_index_or, AllByRecursion, false≢true, All-filter, All-from_recursion, recursion_from_All, ◌⊎◌, inl, inr, false, ◌++◌, Ok, Err, Result, subst, append-nil, append_assoc, decimal, OnOk, is_ok, decimal_digit, ◌≤◌, not, ◌||◌, IsTrue, list_all, and_parts, or_left, or_right, cases_Bool, flat_map-append, list_any-append, list_all-append, ◌&&◌}
-use Rattle.bt_bed.specs.model.Feature.{Feature, bed_text, intervals_of}
+use Rattle.bt_bed.specs.model.Feature.{Feature, intervals_of}
+use Rattle.bt_bed.specs.model.BedLine.{bed_text}
 use Rattle.bt_sweep.specs.model.Hits.{hits, decided, decides}
 use Rattle.bt_sweep.specs.model.Lines.{lines_of, lines_for, line_with, piece_line, intersect}
 use Rattle.bt_sweep.specs.calls.Sweeping.{is_held, Sweeping, AreDecided, has_room, HoldsFor, held_for, last_given, GivesKnown}
@@ -24,7 +25,8 @@ use Rattle.std.specs.declared.cmp.Ordering.TheVariants.{Equal}
 use Rattle.bt_bed.specs.model.Sorted.{ArePlaced, is_below_at, Locus, Sorting, falls_in, sorting_of}
 use Rattle.bt_bed.specs.model.Order.{Order, IsTotal}
 use Rattle.bt_sweep.proofs.lemmas.sweep.HoldLemmas.{held_behind, held_is_behind, holds_a, holds_b}
-use Rattle.bt_bed.specs.calls.Batch.{Passes, left as records_left, are_in_order, view_with}
+use Rattle.bt_bed.specs.calls.Batch.{Passes, left as records_left}
+use Rattle.bt_bed.specs.calls.SortedReader.{are_in_order, view_with}
 use Rattle.bt_bed.specs.model.Good.{locus_at}
 use Rattle.bt_bed.specs.calls.Records.{Lends, buffered_in, order_in, view_of}
 use Rattle.bt_bed.specs.calls.Bed.{GivesSingle, single_left}

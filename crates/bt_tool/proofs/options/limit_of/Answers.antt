@@ -1,5 +1,5 @@
 use Rattle.bt_lines.proofs.Std.{sym, subst, IsTrue}
-use Rattle.bt_tool.specs.calls.Lent.{is_limit}
+use Rattle.bt_tool.specs.calls.Limits.{is_limit}
 use Rattle.bt_tool.proofs.lemmas.Options.{number-is_limit}
 use Rattle.bt_tool.proofs.options.limit_of.Goals as goal
 

@@ -6,8 +6,9 @@ use Rattle.bt_bed.proofs.lemmas.Definitions.{line_said, block_up_to}
 use Rattle.bt_bed.proofs.lemmas.read.good.SaidLemmas.{said_features}
 use Rattle.bt_bed.proofs.lemmas.read.batch.RecordsLemmas.{ahead_is, none_ahead}
 use Rattle.bt_bed.specs.calls.Blocks.{FillsBlocks, IsNext, TakesBlocks, view_of}
-use Rattle.bt_bed.specs.calls.Batch.{buffered_in as records_in, view_in, view_with}
-use Rattle.bt_bed.specs.model.Feature.{Feature, IsFeature}
+use Rattle.bt_bed.specs.calls.SortedReader.{buffered_in as records_in, view_in, view_with}
+use Rattle.bt_bed.specs.model.Feature.{Feature}
+use Rattle.bt_bed.specs.model.BedLine.{IsFeature}
 use Rattle.bt_bed.specs.model.Good.{Member, locus_at}
 use Rattle.bt_bed.specs.calls.Reading.{Fills, FillAnswers, GivesMember, Takes, TellsOwnFailure, ahead_in}
 use Rattle.bt_bed.specs.model.Sorted.{block_sorting}

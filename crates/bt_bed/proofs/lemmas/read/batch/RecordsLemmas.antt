@@ -8,8 +8,10 @@ use Rattle.bt_bed.proofs.lemmas.Definitions.{line_said}
 use Rattle.bt_bed.proofs.lemmas.read.good.ReadingLemmas.{good_at_first}
 use Rattle.bt_bed.proofs.lemmas.read.good.SaidLemmas.{said_features, wrong_is_of_line, wrong_is_of_record}
 use Rattle.bt_bed.proofs.lemmas.order.OrderLemmas.{sorted_up_to}
-use Rattle.bt_bed.specs.calls.Batch.{IsPlaced, buffered_in as records_in, view_in, view_with, StandsFirst, chrom_in, cursor_in, left, left_after, start_in}
-use Rattle.bt_bed.specs.model.Feature.{Feature, IsFeature, is_bed_kind, is_record_kind, record_of}
+use Rattle.bt_bed.specs.calls.Batch.{StandsFirst, chrom_in, cursor_in, left, left_after, start_in}
+use Rattle.bt_bed.specs.calls.SortedReader.{IsPlaced, buffered_in as records_in, view_in, view_with}
+use Rattle.bt_bed.specs.model.Feature.{Feature}
+use Rattle.bt_bed.specs.model.BedLine.{IsFeature, is_bed_kind, is_record_kind, record_of}
 use Rattle.bt_bed.specs.model.Good.{Member, good, bed_format, line_says, locus_at, said_after, in_order, wrong_lines_are_of_bed}
 use Rattle.bt_bed.specs.inside.OrderedLookahead.{last_in, start_after}
 use Rattle.bt_bed.specs.model.Order.{Order, IsTotal}
@@ -24,7 +26,7 @@ use Rattle.bt_bed.specs.declared.read.records.Records.{Records}
 use Rattle.bt_lines.specs.declared.fault.Kind.{Kind}
 use Rattle.bt_lines.specs.declared.fault.Kind.TheVariants.{UnknownChrom, OutOfOrder}
 use Rattle.bt_lines.specs.model.Lines.{TextLine}
-use Rattle.bt_lines.specs.calls.Columns.{Cut, shown_of}
+use Rattle.bt_lines.specs.calls.Line.{Cut, shown_of}
 use Rattle.bt_bed.proofs.lemmas.read.ColumnLemmas.{name_within}
 use Rattle.bt_bed.specs.declared.read.batch.Batch.{Batch}
 use Rattle.bt_bed.specs.declared.record.raw_record.RawRecord.{RawRecord}

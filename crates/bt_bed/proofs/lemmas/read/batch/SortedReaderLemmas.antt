@@ -11,13 +11,14 @@ use Rattle.bt_bed.proofs.lemmas.read.good.ReadingLemmas.{drops_pass, left_number
 use Rattle.bt_bed.proofs.lemmas.Definitions.{line_said}
 use Rattle.bt_bed.proofs.lemmas.read.batch.RecordsLemmas.{fits_above, placed_there, run_some, says_of_line}
 use Rattle.bt_bed.proofs.lemmas.read.good.SaidRuns.{LinesSay, good_said, order_behind, order_is_said, place_behind, run_behind, run_is_said, run_says, said_fewer, said_in_order, say_fewer, say_front, FirstOfRun, first_of_run, says_again}
-use Rattle.bt_bed.specs.model.Feature.{Feature, fault_at_line}
+use Rattle.bt_bed.specs.model.Feature.{Feature}
+use Rattle.bt_bed.specs.model.BedLine.{fault_at_line}
 use Rattle.bt_bed.specs.model.Good.{Format, Good, Member, good_from, or_else, bed_format, line_says, locus_at}
 use Rattle.bt_bed.specs.model.Sorted.{Locus, Sorting}
 use Rattle.bt_bed.specs.inside.OrderedLookahead.{HoldsChrom, LineTaken, MakesLast, ahead_of, last_in, name_in, start_in, KeepsLast}
 use Rattle.bt_bed.specs.calls.Reading.{AreSaid, BeginsComing, MemberReader, Takes, good_behind, good_coming, members_from, state_behind, with_members, AnswersFault, Fills, IsLost, TellsOwnFailure}
 use Rattle.bt_bed.specs.calls.Bed.{is_some_left, last_start, run_of}
-use Rattle.bt_bed.specs.calls.Batch.{IsPlaced, IsTaken, are_in_order, buffered_in, count_in, view_in, view_with, FindsRecord, LosesLine, SkipsLine, TakesFirst, TakesOne}
+use Rattle.bt_bed.specs.calls.SortedReader.{IsPlaced, IsTaken, are_in_order, buffered_in, count_in, view_in, view_with, FindsRecord, LosesLine, SkipsLine, TakesFirst, TakesOne}
 use Rattle.bt_bed.specs.declared.read.batch.Consumed.{Consumed}
 use Rattle.bt_bed.specs.declared.read.lookahead.OrderedLookahead.{OrderedLookahead}
 use Rattle.bt_bed.specs.declared.read.sorted_reader.SortedReader.{SortedReader}

@@ -2,7 +2,7 @@
 use Rattle.bt_lines.proofs.Std.{arith, ◌≡◌, ℕ, true, List, Err, zero, suc, ◌+◌, ◌<◌, ◌≤◌, [], ◌∷◌, ◌++◌, take, length, Option, Some, None, Result, Ok, refl, sym, ap, subst, All, IfSome, All-nil, All-cons, All-head, All-tail}
 use Rattle.bt_lines.specs.declared.fault.Kind.{Kind}
 use Rattle.bt_bed.proofs.lemmas.parse.FeatureLemmas.{said_is_feature, record_said}
-use Rattle.bt_bed.specs.model.Feature.{is_bed_kind, is_genome_kind, is_of_line, is_record_kind, record_of, said_are_features}
+use Rattle.bt_bed.specs.model.BedLine.{is_bed_kind, is_genome_kind, is_of_line, is_record_kind, record_of, said_are_features}
 use Rattle.bt_lines.specs.model.Fault.{FaultValue}
 use Rattle.bt_lines.specs.model.Lines.{TextLine, AreNumbered}
 use Rattle.bt_lines.specs.declared.fault.Input.{Input}

@@ -1,12 +1,14 @@
 -- Lemmas on records that lines say one after another, and on what is good of such lines.
 use Rattle.bt_lines.proofs.Std.{◌≡◌, ℕ, suc, ◌≤◌, Bool, true, false, cond, List, [], ◌∷◌, ◌++◌, length, take, drop, Option, Some, None, Result, Ok, Err, refl, sym, ap, ◌∙◌, subst, arith, bytes_eq, nat_lt, ⊤, ◌&&◌, not, IsTrue, false≢true, nat_tests, bytes_eq-Decides, ◌+◌, ◌-◌, length-append, length-take, IfNone, IfSome, take-append_seam, drop_at, length-drop}
-use Rattle.bt_bed.specs.calls.Batch.{are_in_order, IsWhere, Passes, cursor_in, left, IsTaken, Lends, buffered_in, count_in}
+use Rattle.bt_bed.specs.calls.Batch.{IsWhere, Passes, cursor_in, left}
+use Rattle.bt_bed.specs.calls.SortedReader.{are_in_order, IsTaken, Lends, buffered_in, count_in}
 use Rattle.bt_lines.specs.model.Lines.{AreNumbered, TextLine}
 use Rattle.bt_lines.specs.declared.fault.Input.{Input}
 use Rattle.bt_lines.specs.declared.fault.Kind.{Kind}
 use Rattle.bt_lines.specs.declared.fault.Kind.TheVariants.{OutOfOrder, UnknownChrom}
 use Rattle.bt_bed.proofs.lemmas.Definitions.{line_said}
-use Rattle.bt_bed.specs.model.Feature.{Feature, record_of}
+use Rattle.bt_bed.specs.model.Feature.{Feature}
+use Rattle.bt_bed.specs.model.BedLine.{record_of}
 use Rattle.bt_bed.specs.model.Good.{Format, good_from, bed_format, line_says, locus_at, said_after}
 use Rattle.bt_bed.specs.model.Sorted.{Locus, Sorting, falls_in}
 use Rattle.bt_bed.specs.calls.Reading.{AreSaid, members_from, state_behind, with_members}

@@ -1,6 +1,6 @@
 use Rattle.bt_lines.proofs.Std.{err_from_is_err_and}
 use Rattle.bt_bed.specs.calls.Bed.{feature_lent}
-use Rattle.bt_bed.specs.model.Feature.{cut_to}
+use Rattle.bt_bed.specs.model.BedLine.{cut_to}
 use Rattle.bt_bed.proofs.lemmas.Writing.{cut_in_front, puts_record}
 use Rattle.bt_bed.proofs.write.putting.put_cut.Goals as goal
 

@@ -6,7 +6,8 @@ use Rattle.bt_lines.proofs.lemmas.reader.block.ReadsLemmas.{has_read_then, some_
 use Rattle.bt_lines.proofs.lemmas.reader.lines.StepLemmas.{some_state, none_told, some_length}
 use Rattle.bt_lines.proofs.lemmas.reader.lines.TextLemmas.{line_feeds-append}
 use Rattle.bt_lines.specs.model.Fault.{FaultValue}
-use Rattle.bt_lines.specs.calls.Columns.{GivesFirst, line_seen, IsBefore, IsFirstOf, Lacks}
+use Rattle.bt_lines.specs.calls.Columns.{IsBefore, IsFirstOf, Lacks}
+use Rattle.bt_lines.specs.calls.Line.{GivesFirst, line_seen}
 use Rattle.bt_lines.specs.model.Lines.{TextLine, line_feeds, lines_from}
 use Rattle.bt_lines.specs.calls.Names.{fault_value}
 use Rattle.bt_lines.specs.inside.ReadBuffer.{complete, unread, ended_at, fault_at, lends_at, open_at, taken_at}

@@ -4,7 +4,8 @@ use Rattle.bt_lines.specs.declared.device.Source.{Ghosts as Source}
 use Rattle.bt_lines.proofs.lemmas.reader.block.BufferLemmas.{unread_fits, fed_none, fed_clear, fed_drop, fed_after, fed_push}
 use Rattle.bt_lines.proofs.lemmas.reader.lines.StepLemmas.{some_state, goes, told_last, gives_fed, sound_fed, gives_last, sound_last, last_line-some}
 use Rattle.bt_lines.proofs.lemmas.reader.lines.TextLemmas.{line_feeds-fed, lines_from-last, lines_from-nil, strip_last-other, strip_last-push, whole_lines_from-fed, whole_lines_from-last, line_feeds-append}
-use Rattle.bt_lines.specs.calls.Columns.{Cut, Shown, ending_at, NoLineFeed, line_seen, IsBefore, IsFirst, shown_of}
+use Rattle.bt_lines.specs.calls.Columns.{IsBefore}
+use Rattle.bt_lines.specs.calls.Line.{Cut, Shown, ending_at, NoLineFeed, line_seen, IsFirst, shown_of}
 use Rattle.bt_lines.specs.model.Lines.{TextLine, fed_line, line_feeds, lines_from, whole_lines_from}
 use Rattle.bt_lines.specs.calls.Output.{block_size}
 use Rattle.bt_lines.specs.inside.ReadBuffer.{complete, text_in, unread, lends_at, open_at, told_at}

@@ -9,7 +9,7 @@ use Rattle.bt_lines.specs.model.Fault.{FaultValue, read_failed, no_memory}
 use Rattle.bt_lines.specs.inside.Shape.{held_at, IsLast}
 use Rattle.bt_lines.specs.inside.Spill.{Buffers, closed}
 use Rattle.bt_lines.specs.calls.Output.{block_size}
-use Rattle.bt_lines.specs.calls.Columns.{GivesFirst, NoLineFeed}
+use Rattle.bt_lines.specs.calls.Line.{GivesFirst, NoLineFeed}
 use Rattle.bt_lines.specs.calls.Names.{fault_value}
 use Rattle.bt_lines.specs.calls.Reader.{FillsLines, IsKept, IsSound, MakesLine, DropsLines, buffered_bytes, Hands, IsNear, FailsToRead, end_told, GivesLine, line_at, source_of, input_of, lines_given, bytes_taken, held, fault_kept, has_ended, bytes_left, feeds_taken}
 use Rattle.bt_lines.specs.declared.fault.Fault.{Fault}

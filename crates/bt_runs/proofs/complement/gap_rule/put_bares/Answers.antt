@@ -1,9 +1,10 @@
 use Rattle.bt_lines.proofs.Std.{false, ◌≡◌, ℕ, Err, List, arith, slice_range, subst, sym, err_from_is_err_and}
 use Rattle.bt_bed.specs.calls.GenomeTable.{entries}
-use Rattle.bt_bed.specs.model.Feature.{interval_line, interval_lines}
+use Rattle.bt_bed.specs.model.BedLine.{interval_line, interval_lines}
 use Rattle.bt_lines.specs.calls.Output.{Adds, Grown}
 use Rattle.bt_lines.proofs.lemmas.Writer.{grown_none}
-use Rattle.bt_runs.specs.inside.Walk.{bare_gap, gap_between, entry_at}
+use Rattle.bt_runs.specs.inside.Walk.{entry_at}
+use Rattle.bt_runs.specs.inside.GapStep.{bare_gap, gap_between}
 use Rattle.bt_runs.proofs.lemmas.complement.GapRuleLemmas.{no_bares}
 use Rattle.bt_runs.proofs.lemmas.order.ByChromosome.{bare_cut, length_read, name_read, one_bare}
 use Rattle.bt_runs.proofs.complement.gap_rule.put_bares.Goals as goal

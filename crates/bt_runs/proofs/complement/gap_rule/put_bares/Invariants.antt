@@ -1,7 +1,7 @@
 use Rattle.bt_lines.proofs.Std.{false, flat_map, slice_range}
 use Rattle.bt_bed.specs.calls.GenomeTable.{entries}
-use Rattle.bt_runs.specs.inside.Walk.{bare_gap}
-use Rattle.bt_bed.specs.model.Feature.{interval_lines}
+use Rattle.bt_runs.specs.inside.GapStep.{bare_gap}
+use Rattle.bt_bed.specs.model.BedLine.{interval_lines}
 use Rattle.bt_lines.specs.calls.Output.{Grown}
 use Rattle.bt_runs.proofs.complement.gap_rule.put_bares.Given as goal
 

@@ -7,7 +7,7 @@ use Rattle.bt_lines.proofs.lemmas.Writer.{grown_none}
 use Rattle.bt_lines.specs.model.Lines.{end_bytes}
 use Rattle.bt_lines.specs.declared.fault.Fault.{Fault}
 use Rattle.bt_seq.proofs.lemmas.Sam.{none_masked}
-use Rattle.bt_seq.specs.calls.MaskStage.{Keeps, Masking, TakesLine, Waiting, Writes, WritesGiven, decides, decides_by, decides_up_to, is_stray, line_bytes, moved_to, passed, stays_as_given, with_owner, writes_at_once, Matched, matched_with, named, owner_of}
+use Rattle.bt_seq.specs.calls.MaskState.{Keeps, Masking, TakesLine, Waiting, Writes, WritesGiven, decides, decides_by, decides_up_to, is_stray, line_bytes, moved_to, passed, stays_as_given, with_owner, writes_at_once, Matched, matched_with, named, owner_of}
 use Rattle.bt_seq.specs.model.Masked.{is_header, name_in, ends_name}
 use Rattle.bt_seq.specs.inside.Window.{gone_on, no_bases, masked_in}
 use Rattle.bt_seq.specs.declared.mask.mask_want.MaskWant.TheVariants.{Line, Bed, Nothing}

@@ -15,7 +15,8 @@ use Rattle.bt_seq.proofs.lemmas.mask.steps.LineStepLemmas.{gives_line}
 use Rattle.bt_seq.proofs.lemmas.mask.bases.MaskingLemmas.{passes_line}
 use Rattle.bt_seq.proofs.lemmas.mask.steps.BedStepLemmas.{decided_goes, goes_more, goes_nowhere, line_goes, record_goes}
 use Rattle.bt_seq.specs.inside.Masking.{CopiesThrough, StayEach, passed_all}
-use Rattle.bt_seq.specs.calls.MaskStage.{PassesLines, GoesOn, IsNext, MaskStage, is_written_at_once, reached, want_of, with_decided, with_line, with_record, Masking, TakesLine, passed, stays_as_given}
+use Rattle.bt_seq.specs.calls.MaskStage.{PassesLines, GoesOn, IsNext, MaskStage, is_written_at_once, reached, want_of, with_decided, with_line, with_record}
+use Rattle.bt_seq.specs.calls.MaskState.{Masking, TakesLine, passed, stays_as_given}
 use Rattle.bt_seq.specs.calls.MaskSteps.{BothCome, ComesAfter, ComesNext, FailsAtRecord, GivesBoth, HasCome, asks_more, left_to_give, MaskMovesTo, MaskStandsAt, ChecksRecord, GivesBed, GivesNextLine, TakesNextLine, bytes_with}
 use Rattle.bt_seq.specs.model.Masked.{masked_line, SequenceLine, line_says}
 use Rattle.bt_seq.specs.declared.mask.mask_how.MaskHow.{MaskHow}

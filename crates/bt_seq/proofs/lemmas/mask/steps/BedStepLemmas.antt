@@ -1,7 +1,8 @@
 -- Lemmas on a masking engine that is given a record, or the end of the records.
 use Rattle.bt_lines.proofs.Std.{◌≡◌, ℕ, ◌≤◌, ◌<◌, min, Bool, true, false, cond, ◌&&◌, ◌||◌, nat_le, nat_lt, List, [], ◌∷◌, ◌++◌, map, filter, Option, Some, None, Result, Ok, Err, refl, sym, ap, ◌∙◌, subst, append-nil, inl, inr, ◌⊎◌, arith, is_some, option_map, option_to_list, nat_tests, map-append, filter-append, not, append_assoc, flat_map, list_all, and_from, and_parts, false≢true, or_left, flat_map-append, list_all-append}
 use Rattle.std.specs.List.{last_or}
-use Rattle.bt_bed.specs.model.Feature.{Feature, fault_at_line}
+use Rattle.bt_bed.specs.model.Feature.{Feature}
+use Rattle.bt_bed.specs.model.BedLine.{fault_at_line}
 use Rattle.bt_bed.specs.model.Good.{AreInBlocks}
 use Rattle.bt_lines.specs.calls.Names.{fault_value}
 use Rattle.bt_lines.specs.model.Lines.{max_number, TextLine}
@@ -13,7 +14,8 @@ use Rattle.bt_seq.proofs.lemmas.mask.steps.LineStepLemmas.{decides_alike, range_
 use Rattle.bt_seq.proofs.lemmas.mask.bases.KnownLemmas.{MayTake, never, next_can_be, nobody_left, none_ahead, own_ahead, owner_next, take_next}
 use Rattle.bt_seq.proofs.lemmas.definitions.MaskPrefixLemmas.{blocks_front, decided_stays, held_before, masked_before, masked_stay}
 use Rattle.bt_seq.proofs.lemmas.mask.steps.CopyLemmas.{decided_more, own_more, last_waits, stands_at, wants_bed, last_more}
-use Rattle.bt_seq.specs.calls.MaskStage.{extent_of, owner_by, Matched, matched_with, owner_of, IsNext, MaskStage, given, held_by, reached, want_of, with_bed_ended, with_decided, with_record, Masking, TakesBed, Writes, decides, decides_by, decides_up_to, holding, holds, holds_by, line_bytes, with_owner, with_extent, SayEach, GoesOn, MayFollow, SettlesLines, is_written_ahead, is_written_at_once, reached_by, with_line}
+use Rattle.bt_seq.specs.calls.MaskStage.{extent_of, IsNext, MaskStage, given, held_by, reached, want_of, with_bed_ended, with_decided, with_record, SayEach, GoesOn, MayFollow, SettlesLines, is_written_ahead, is_written_at_once, reached_by, with_line}
+use Rattle.bt_seq.specs.calls.MaskState.{owner_by, Matched, matched_with, owner_of, Masking, TakesBed, Writes, decides, decides_by, decides_up_to, holding, holds, holds_by, line_bytes, with_owner, with_extent}
 use Rattle.bt_seq.specs.inside.Masking.{Counts, IsDecided, KnowsLast, KnowsNone, decided_up_to}
 use Rattle.bt_seq.specs.calls.MaskSteps.{MaskMovesTo, IsAtStage, Waits, kept_line, ChecksRecord, EndsRecords, GivesBed, LacksSequence, WritesLine, bytes_with}
 use Rattle.bt_seq.specs.model.Masked.{decided, held_for, masked_line, block_decides, items_if_last, left_after, own_records, SequenceLine, bases_up_to, is_unnamed, Reached, is_header, line_says}

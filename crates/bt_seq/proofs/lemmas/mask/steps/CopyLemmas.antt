@@ -3,13 +3,14 @@ use Rattle.bt_lines.proofs.Std.{◌≡◌, ℕ, suc, ◌+◌, ◌-◌, ◌≤◌
 use Rattle.bt_lines.proofs.lemmas.reader.lines.TextLemmas.{spelled-fed}
 use Rattle.bt_lines.proofs.lemmas.Writer.{adds_some}
 use Rattle.bt_lines.specs.calls.Reader.{PassesLine, line_of, lines_in, rest_in}
-use Rattle.bt_lines.specs.calls.Columns.{Cut, Shown, ending_at}
+use Rattle.bt_lines.specs.calls.Line.{Cut, Shown, ending_at}
 use Rattle.bt_lines.specs.model.Lines.{TextLine, end_bytes, spelled}
 use Rattle.bt_lines.specs.calls.Output.{Output, Adds, Puts}
 use Rattle.bt_lines.specs.declared.reader.buffered_lines.BufferedLines.{BufferedLines}
 use Rattle.bt_lines.specs.declared.fault.Fault.{Fault}
 use Rattle.bt_seq.specs.inside.Masking.{CopiesLine, CopiesLines, CopiesThrough, StayEach, WritesAll, bounds_of, passed_all}
-use Rattle.bt_seq.specs.calls.MaskStage.{PassesLines, Masking, passed, stays_as_given, MaskStage, given, reached_by, want_of}
+use Rattle.bt_seq.specs.calls.MaskStage.{PassesLines, MaskStage, given, reached_by, want_of}
+use Rattle.bt_seq.specs.calls.MaskState.{Masking, passed, stays_as_given}
 use Rattle.bt_seq.specs.model.Masked.{is_header, decided, is_unnamed, block_decides, items_if_last, left_after, names_behind, own_records, SequenceLine, bases_up_to}
 use Rattle.bt_seq.specs.inside.Window.{Bounds, gone_on, limit}
 use Rattle.bt_seq.specs.declared.mask.copy_through.CopyThrough.{CopyThrough}

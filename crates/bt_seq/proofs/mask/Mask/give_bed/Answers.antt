@@ -4,7 +4,7 @@ use Rattle.bt_seq.proofs.lemmas.mask.steps.BedStepLemmas.{checks_bed, lacks_sequ
 use Rattle.bt_seq.proofs.lemmas.mask.steps.CopyLemmas.{stays_at}
 use Rattle.bt_seq.proofs.mask.Mask.give_bed.Goals as goal
 use Rattle.bt_seq.specs.calls.MaskSteps.{MaskMovesTo}
-use Rattle.bt_seq.specs.calls.MaskStage.{Masking}
+use Rattle.bt_seq.specs.calls.MaskState.{Masking}
 
 pub returns-in_err-check_bed-clause-none_waits : goal.returns-in_err-check_bed-clause-none_waits
 returns-in_err-check_bed-clause-none_waits g c = λ stage stands none next.

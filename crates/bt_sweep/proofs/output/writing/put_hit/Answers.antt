@@ -1,7 +1,7 @@
 use Rattle.bt_lines.proofs.Std.{◌≡◌, ℕ, [], ◌∷◌, subst, decimal}
 use Rattle.bt_lines.specs.calls.Output.{Puts}
 use Rattle.bt_bed.specs.calls.Bed.{feature_lent}
-use Rattle.bt_bed.specs.model.Feature.{bed_text}
+use Rattle.bt_bed.specs.model.BedLine.{bed_text}
 use Rattle.bt_sweep.specs.model.Hits.{shared_bases}
 use Rattle.bt_sweep.specs.model.Lines.{line_with}
 use Rattle.bt_sweep.proofs.lemmas.Output.{hit_shares, line_adds}

@@ -10,14 +10,15 @@ use Rattle.bt_lines.specs.calls.Reader.{Hands, source_of, input_of, lines_given,
 use Rattle.bt_lines.specs.declared.fault.Input.TheVariants.{First}
 use Rattle.bt_lines.specs.declared.fault.Kind.{Kind}
 use Rattle.bt_lines.specs.declared.fault.Kind.TheVariants.{ReadFailed}
-use Rattle.bt_bed.specs.model.Feature.{Feature, intervals_of, AreNonEmpty, fault_at_line, Interval, last_of, interval_line, interval_lines}
+use Rattle.bt_bed.specs.model.Feature.{Feature, intervals_of, AreNonEmpty, Interval, last_of}
+use Rattle.bt_bed.specs.model.BedLine.{fault_at_line, interval_line, interval_lines}
 use Rattle.bt_bed.specs.model.Good.{Format, Good, Member, good, good_handed, items_in, bed_format, bed_good}
 use Rattle.bt_bed.proofs.lemmas.read.good.SaidLemmas.{first_from}
 use Rattle.bt_lines.proofs.lemmas.reader.lines.TextLemmas.{lines_are_numbered}
 use Rattle.bt_bed.specs.calls.Reading.{IsBeyond, MemberReader, good_coming}
 use Rattle.bt_bed.specs.model.Order.{Order, IsTotal}
 use Rattle.bt_bed.specs.model.Sorted.{ArePlaced, sorting_of}
-use Rattle.bt_bed.specs.calls.Batch.{view_with}
+use Rattle.bt_bed.specs.calls.SortedReader.{view_with}
 use Rattle.bt_bed.specs.calls.Records.{order_in, view_of}
 use Rattle.bt_lines.specs.calls.Names.{fault_value}
 use Rattle.bt_lines.specs.declared.fault.Fault.{Fault}

@@ -9,7 +9,8 @@ use Rattle.bt_lines.specs.calls.Reader.{Hands, fault_kept as line_fault, lines_g
 use Rattle.bt_lines.specs.declared.fault.Kind.{Kind}
 use Rattle.bt_lines.specs.declared.fault.Fault.{Fault}
 use Rattle.bt_lines.specs.calls.Names.{fault_value}
-use Rattle.bt_bed.specs.model.Feature.{Feature, interval_of, intervals_of, IsBedKind, AreNonEmpty, Interval}
+use Rattle.bt_bed.specs.model.Feature.{Feature, interval_of, intervals_of, AreNonEmpty, Interval}
+use Rattle.bt_bed.specs.model.BedLine.{IsBedKind}
 use Rattle.bt_bed.specs.model.Good.{Format, Member, bed_format}
 use Rattle.bt_bed.specs.model.Sorted.{sorting_of, ArePlaced, Locus}
 use Rattle.bt_bed.proofs.lemmas.read.batch.RecordsLemmas.{wrong_of_bed}

@@ -14,7 +14,7 @@ use Rattle.bt_tool.specs.declared.planning.plan_type.Command.{Command}
 use Rattle.bt_lines.specs.declared.fault.Input.{Input}
 use Rattle.bt_lines.specs.declared.fault.Kind.{Kind}
 use Rattle.bt_lines.specs.declared.fault.Kind.TheVariants.{ReadFailed, WriteFailed, NoMemory}
-use Rattle.bt_bed.specs.model.Feature.{fault_at_line, is_of_line}
+use Rattle.bt_bed.specs.model.BedLine.{fault_at_line, is_of_line}
 use Rattle.bt_lines.specs.calls.Reader.{CutsOff, Hands, bytes_taken, end_told}
 use Rattle.bt_lines.specs.declared.reader.line_reader.LineReader.{LineReader}
 use Rattle.bt_lines.proofs.lemmas.reader.lines.TakingLemmas.{hands_both}

@@ -11,11 +11,13 @@ use Rattle.bt_lines.specs.declared.fault.Input.TheVariants.{First}
 use Rattle.bt_lines.specs.declared.fault.Kind.{Kind}
 use Rattle.bt_lines.specs.declared.reader.line_reader.LineReader.{LineReader}
 use Rattle.bt_bed.specs.calls.Blocks.{view_of}
-use Rattle.bt_bed.specs.model.Feature.{Feature, fault_at_line, is_of_line}
+use Rattle.bt_bed.specs.model.Feature.{Feature}
+use Rattle.bt_bed.specs.model.BedLine.{fault_at_line, is_of_line}
 use Rattle.bt_bed.specs.model.Good.{Member}
 use Rattle.bt_bed.specs.model.Sorted.{Locus}
 use Rattle.bt_bed.specs.calls.Reading.{MemberReader, members_from, state_behind}
-use Rattle.bt_seq.specs.calls.MaskStage.{SayEach, GoesOn, MaskStage, given, reached, Masking}
+use Rattle.bt_seq.specs.calls.MaskStage.{SayEach, GoesOn, MaskStage, given, reached}
+use Rattle.bt_seq.specs.calls.MaskState.{Masking}
 use Rattle.bt_seq.specs.calls.MaskSteps.{MaskMovesTo}
 use Rattle.bt_seq.specs.model.Masked.{Reached, SequenceLine, line_says, sequence_format}
 use Rattle.bt_tool.specs.inside.Feed.{member_items, HasTaken}

@@ -20,7 +20,8 @@ use Rattle.bt_bed.specs.calls.Reading.{MemberReader, state_behind}
 use Rattle.bt_bed.specs.declared.read.batch.Batch.{Batch}
 use Rattle.bt_seq.proofs.lemmas.mask.steps.BedStepLemmas.{goes_more, line_goes}
 use Rattle.bt_seq.proofs.lemmas.mask.steps.CopyLemmas.{wants_line}
-use Rattle.bt_seq.specs.calls.MaskStage.{SayEach, GoesOn, IsNext, MaskStage, given, is_written_at_once, reached, want_at, want_of, with_line, Masking}
+use Rattle.bt_seq.specs.calls.MaskStage.{SayEach, GoesOn, IsNext, MaskStage, given, is_written_at_once, reached, want_at, want_of, with_line}
+use Rattle.bt_seq.specs.calls.MaskState.{Masking}
 use Rattle.bt_seq.specs.calls.MaskSteps.{BothCome, ComesAfter, ComesNext, FailsAfter, FailsAtLines, FailsAtRecord, HasCome, StopsAt, MaskStandsAt, kept_line, FailsWithLine, RefusesLine, bytes_with}
 use Rattle.bt_seq.specs.model.Masked.{Reached, SequenceLine, sequence_format}
 use Rattle.bt_seq.specs.declared.mask.mask_how.MaskHow.{MaskHow}

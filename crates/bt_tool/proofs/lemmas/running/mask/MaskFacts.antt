@@ -1,7 +1,8 @@
 -- The facts of masking that its report and its reading rest on.
 use Rattle.bt_lines.proofs.Std.{◌≡◌, ℕ, suc, ◌<◌, ◌≤◌, Bool, true, false, not, List, [], ◌∷◌, ◌++◌, take, refl, sym, ap, ◌∙◌, subst, append-nil, append_assoc, inl, inr, Option, Some, None, Result, Ok, Err, cond, ◌⊎◌, ◌||◌, All, IsTrue, list_all, false≢true, or_left, or_right, All-head, All-tail, list_any-append, flat_map, option_to_list, is_none, option_map, and_from, flat_map-append, list_all-append}
 use Rattle.bt_lines.specs.model.Lines.{TextLine, bytes_in}
-use Rattle.bt_bed.specs.model.Feature.{Feature, is_record_kind, record_of}
+use Rattle.bt_bed.specs.model.Feature.{Feature}
+use Rattle.bt_bed.specs.model.BedLine.{is_record_kind, record_of}
 use Rattle.bt_bed.specs.model.Good.{Member, line_says, locus_at, said_after}
 use Rattle.bt_seq.specs.model.Masked.{decided, SequenceLine, masked_line}
 use Rattle.bt_seq.specs.declared.mask.mask_how.MaskHow.{MaskHow}

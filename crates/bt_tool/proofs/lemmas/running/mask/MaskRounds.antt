@@ -11,7 +11,8 @@ use Rattle.bt_lines.specs.declared.reader.line_reader.LineReader.{LineReader}
 use Rattle.bt_bed.specs.calls.Blocks.{FillsBlocks, below, fault_kept, view_of}
 use Rattle.bt_bed.specs.declared.read.blocks.Blocks.{Blocks}
 use Rattle.bt_bed.proofs.lemmas.order.TableLemmas.{passed_on}
-use Rattle.bt_seq.specs.calls.MaskStage.{MaskStage, with_lines_ended, want_of, first_stage, Masking}
+use Rattle.bt_seq.specs.calls.MaskStage.{MaskStage, with_lines_ended, want_of, first_stage}
+use Rattle.bt_seq.specs.calls.MaskState.{Masking}
 use Rattle.bt_seq.specs.calls.MaskSteps.{MaskMovesTo, MaskStandsAt, EndsCheck, EndsRecords}
 use Rattle.bt_seq.specs.model.Masked.{SequenceLine, Reached}
 use Rattle.bt_seq.specs.declared.mask.mask_want.MaskWant.{MaskWant}
@@ -34,7 +35,7 @@ use Rattle.bt_bed.specs.model.Sorted.{Locus}
 use Rattle.bt_bed.specs.calls.Reading.{MemberReader, first_from}
 use Rattle.bt_tool.proofs.lemmas.running.mask.MaskBoth.{rounds_few, waits_is}
 use Rattle.bt_lines.specs.declared.fault.Input.TheVariants.{First}
-use Rattle.bt_bed.specs.calls.Batch.{view_with}
+use Rattle.bt_bed.specs.calls.SortedReader.{view_with}
 use Rattle.bt_seq.specs.declared.mask.mask_how.MaskHow.{MaskHow}
 use Rattle.bt_tool.specs.inside.Pair.{IsOverWith}
 use Rattle.bt_tool.proofs.lemmas.running.pair.PairTurns.{comes_start}

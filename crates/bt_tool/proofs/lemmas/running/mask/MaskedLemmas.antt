@@ -7,10 +7,12 @@ use Rattle.bt_lines.specs.calls.Output.{Output, FailsToAdd, Grown}
 use Rattle.bt_lines.specs.calls.Reader.{buffered_bytes, room as line_room, GivesEnd, GivesFault, IsKept, MakesLine, has_ended, lines_given}
 use Rattle.bt_lines.specs.declared.fault.Fault.{Fault}
 use Rattle.bt_lines.specs.declared.reader.line_reader.LineReader.{LineReader}
-use Rattle.bt_bed.specs.model.Feature.{Feature, fault_at_line}
+use Rattle.bt_bed.specs.model.Feature.{Feature}
+use Rattle.bt_bed.specs.model.BedLine.{fault_at_line}
 use Rattle.bt_bed.specs.model.Sorted.{Locus}
 use Rattle.bt_bed.specs.calls.Reading.{MemberReader, room, ahead_in, first_from, good_coming, state_behind}
-use Rattle.bt_seq.specs.calls.MaskStage.{Masking, MaskStage, given, reached, reached_by, want_of, with_bed_ended, with_lines_ended}
+use Rattle.bt_seq.specs.calls.MaskStage.{MaskStage, given, reached, reached_by, want_of, with_bed_ended, with_lines_ended}
+use Rattle.bt_seq.specs.calls.MaskState.{Masking}
 use Rattle.bt_seq.specs.model.Masked.{Reached, SequenceLine, decided, is_unnamed, masked_line, names_of, no_sequence, left_after, line_says, sequence_format}
 use Rattle.bt_seq.specs.declared.mask.mask_want.MaskWant.{MaskWant}
 use Rattle.bt_tool.specs.declared.loops.masking.MaskRun.{MaskRun}

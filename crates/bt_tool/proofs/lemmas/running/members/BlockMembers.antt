@@ -10,10 +10,12 @@ use Rattle.bt_lines.specs.declared.reader.line_reader.LineReader.{LineReader}
 use Rattle.bt_lines.specs.declared.reader.line_reader.State.{State}
 use Rattle.bt_lines.specs.declared.reader.line_reader.State.TheVariants.{Reading, LastLine, Ended, ReadFailed, TooLong, NoMemory}
 use Rattle.bt_bed.proofs.lemmas.read.good.SaidRuns.{taken_are, LinesSay, good_said, say_front}
-use Rattle.bt_bed.specs.calls.Batch.{IsWhere, Passes as PassesBatch, cursor_in, left, view_with}
+use Rattle.bt_bed.specs.calls.Batch.{IsWhere, Passes as PassesBatch, cursor_in, left}
+use Rattle.bt_bed.specs.calls.SortedReader.{view_with}
 use Rattle.bt_bed.specs.declared.read.batch.Consumed.{Consumed}
 use Rattle.bt_bed.specs.calls.Blocks.{FillsBlocks, count_in, Lends, TakesBlocks, below, buffered_in as records_in, fault_kept, view_of}
-use Rattle.bt_bed.specs.model.Feature.{Feature, fault_at_line}
+use Rattle.bt_bed.specs.model.Feature.{Feature}
+use Rattle.bt_bed.specs.model.BedLine.{fault_at_line}
 use Rattle.bt_bed.specs.calls.Reading.{BeginsComing, Takes, IsBeyond, IsFaultBeyond, AreSaid, MemberReader, first_from, good_behind, good_coming, members_from, state_behind, with_members}
 use Rattle.bt_bed.specs.declared.read.batch.Batch.{Batch}
 use Rattle.bt_bed.specs.declared.read.blocks.Blocks.{Blocks}

@@ -19,7 +19,7 @@ use Rattle.bt_bed.specs.calls.Reading.{IsBeyond, MemberReader, good_coming}
 use Rattle.bt_bed.proofs.lemmas.read.good.SaidLemmas.{first_from}
 use Rattle.bt_tool.specs.calls.Run.{PassesBound, TellsInput}
 use Rattle.bt_lines.specs.declared.fault.Kind.{Kind}
-use Rattle.bt_bed.specs.model.Feature.{fault_at_line}
+use Rattle.bt_bed.specs.model.BedLine.{fault_at_line}
 use Rattle.bt_tool.specs.inside.Feed.{IsFresh, HasFaultBehind, IsUnreadBehind}
 
 -- after a piece and its line feed complete lines go on

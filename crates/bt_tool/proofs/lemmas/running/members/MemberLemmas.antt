@@ -17,12 +17,12 @@ use Rattle.bt_lines.specs.inside.ReadBuffer.{complete, unread, ended_at, lends_a
 use Rattle.bt_lines.specs.inside.Shape.{held_at}
 use Rattle.bt_lines.proofs.lemmas.reader.lines.TakingLemmas.{hands_none, hands_both, sound_near, given_drops}
 use Rattle.bt_lines.proofs.lemmas.reader.lines.TextLemmas.{bytes_in-append}
-use Rattle.bt_bed.specs.model.Feature.{fault_at_line}
+use Rattle.bt_bed.specs.model.BedLine.{fault_at_line}
 use Rattle.bt_tool.specs.inside.Feed.{IsFresh, AreAll, ComeFirst, HasFaultBehind, HasTaken, IsReadFor, LacksMemory, Passes, StopsAfter, member_items}
 use Rattle.bt_bed.proofs.lemmas.read.good.ReadingLemmas.{near_pass, LineCame}
 use Rattle.bt_tool.proofs.lemmas.running.feed.WritingLemmas.{line_no_read, begins_beyond, begins_with, come_none, cuts_both, lines_on, near_from_start, none_passed, up_to, whole_with}
 use Rattle.bt_tool.proofs.lemmas.running.pair.StopLemmas.{beyond_less, beyond_now, stops_faulty, coming_is}
-use Rattle.bt_lines.specs.calls.Columns.{GivesFirst}
+use Rattle.bt_lines.specs.calls.Line.{GivesFirst}
 
 module _ {S A State : Type 0} (device : Source S) where
   -- the reader has a member buffered

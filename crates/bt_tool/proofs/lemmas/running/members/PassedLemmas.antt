@@ -7,7 +7,7 @@ use Rattle.bt_lines.specs.calls.Reader.{HasRead, bytes_taken, fault_kept as line
 use Rattle.bt_lines.proofs.lemmas.reader.block.ReadsLemmas.{counts_none}
 use Rattle.bt_lines.specs.declared.fault.Fault.{Fault}
 use Rattle.bt_bed.specs.model.Feature.{Feature, interval_of, intervals_of, Interval, last_of}
-use Rattle.bt_bed.specs.calls.Batch.{view_with}
+use Rattle.bt_bed.specs.calls.SortedReader.{view_with}
 use Rattle.bt_bed.specs.model.Good.{Good, Member, or_else, bed_format, locus_at}
 use Rattle.bt_bed.specs.model.Sorted.{IsUpTo, Locus, locus_of, sorting_of}
 use Rattle.bt_bed.specs.model.Order.{IsTotal, Order}

@@ -1,7 +1,8 @@
 -- What all members of two inputs give.
 use Rattle.bt_lines.proofs.Std.{ℕ, ◌||◌, List, is_none, ◌≡◌, suc, ◌+◌, ◌≤◌, ◌<◌, Bool, true, false, [], ◌∷◌, ◌++◌, Option, None, Some, refl, sym, ap, ◌∙◌, subst, append_assoc, append-nil, arith, flat_map, inl, inr, ◌⊎◌, ◌≢◌, All, IfSome, IsSome, option_to_list, take, list_all, option_or, false≢true, or_from, map-append, All-head, All-tail}
 use Rattle.bt_lines.specs.model.Fault.{FaultValue, no_memory, write_failed}
-use Rattle.bt_bed.specs.model.Good.{Good, items_in, or_else, Met, Rule, join_report, Format, Member, good_handed, written}
+use Rattle.bt_bed.specs.model.Good.{Good, items_in, or_else, Format, Member, good_handed}
+use Rattle.bt_bed.specs.model.Meeting.{Met, Rule, join_report, written}
 use Rattle.bt_tool.specs.inside.Pair.{JoinDef, MayCome, Pair, Serves, PairEnds, FirstStops, InputsEnd, LimitStops, RestStops, SecondFails, SecondStops, Why}
 use Rattle.bt_lines.specs.declared.device.Source.{Ghosts as Source}
 use Rattle.bt_lines.proofs.lemmas.reader.block.ReadsLemmas.{some_is}

@@ -21,7 +21,8 @@ use Rattle.bt_tool.proofs.lemmas.running.members.CursorLemmas.{BeginsAt, at_whol
 use Rattle.bt_tool.proofs.lemmas.running.pair.PairMet.{may_come}
 use Rattle.bt_lines.specs.declared.device.Source.{Ghosts as Source}
 use Rattle.bt_lines.specs.declared.fault.Fault.{Fault}
-use Rattle.bt_bed.specs.calls.Batch.{HasEnded, IsWhere, Passes, batch_room, cursor_in, left as left_in, line_in, view_with}
+use Rattle.bt_bed.specs.calls.Batch.{HasEnded, IsWhere, Passes, batch_room, cursor_in, left as left_in, line_in}
+use Rattle.bt_bed.specs.calls.SortedReader.{view_with}
 use Rattle.bt_bed.specs.calls.CursorLaws.{batch_gives_more, batch_gives_none}
 use Rattle.bt_bed.specs.calls.Records.{IsTaken, Lends, TakesRecords, below, buffered_in, count_in, view_of}
 use Rattle.bt_bed.specs.declared.read.batch.Batch.{Batch}

@@ -10,7 +10,7 @@ use Rattle.bt_lines.specs.declared.fault.Input.{Input}
 use Rattle.bt_lines.specs.declared.fault.Input.TheVariants.{Second}
 use Rattle.bt_lines.specs.declared.fault.Kind.{Kind}
 use Rattle.bt_bed.specs.model.Good.{Good, Member, items_in}
-use Rattle.bt_bed.specs.model.Feature.{fault_at_line}
+use Rattle.bt_bed.specs.model.BedLine.{fault_at_line}
 use Rattle.bt_bed.specs.calls.Reading.{MemberReader, ahead_in, first_from, good_coming}
 use Rattle.bt_tool.specs.inside.Feed.{ComeFirst, CutsLines, HasPut, member_items, AreAll, IsReadFor, IsReadTo, Passes, StopsAfter}
 use Rattle.bt_tool.specs.inside.Pair.{IsKnown, JoinDef, Pair, Serves, SettlesPair, item_ahead, Comes, PairStage, firsts_given, AsksFor, PairEnds, LastTold, SecondFails, StaysNear, Why, Wrote}

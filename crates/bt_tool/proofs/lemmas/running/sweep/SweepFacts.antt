@@ -1,7 +1,8 @@
 -- The facts of a sweep that its report and its reading rest on.
 use Rattle.bt_lines.proofs.Std.{◌≡◌, ap, ℕ, Option, suc, ◌<◌, ◌≤◌, not, List, [], ◌∷◌, ◌++◌, take, refl, sym, ◌∙◌, subst, ◌+◌, Bool, true, false, cond, Some, None, arith, append_assoc, append-nil, filter, length, length-append, option_to_list, ◌||◌, inl, inr, All, IsTrue, IfSome, is_some, is_none, list_all, list_any, and_from, or_left, and_parts, false≢true, le-ltb, lt-ltb, ltb-false, or_right, cases_Bool, All-head, All-tail, filter-append, list_any-append, list_all-append, map-append}
 use Rattle.bt_lines.specs.model.Lines.{TextLine, bytes_in}
-use Rattle.bt_bed.specs.model.Feature.{Feature, intervals_of, fault_at_line}
+use Rattle.bt_bed.specs.model.Feature.{Feature, intervals_of}
+use Rattle.bt_bed.specs.model.BedLine.{fault_at_line}
 use Rattle.bt_bed.specs.model.Good.{Member, Good, items_in}
 use Rattle.bt_bed.specs.model.Order.{Order, IsTotal}
 use Rattle.bt_sweep.specs.model.Hits.{decides, decided, are_too_many, cut_behind, is_held, limited}

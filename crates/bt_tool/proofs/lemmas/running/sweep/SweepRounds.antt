@@ -15,9 +15,11 @@ use Rattle.bt_lines.proofs.lemmas.reader.block.ReadsLemmas.{has_read_then, reads
 use Rattle.bt_lines.specs.calls.Names.{fault_value}
 use Rattle.bt_lines.specs.calls.Reader.{HasRead}
 use Rattle.bt_lines.specs.declared.fault.Fault.{Fault}
-use Rattle.bt_bed.specs.calls.Batch.{HasEnded, Passes, line_in, fault_in}
+use Rattle.bt_bed.specs.calls.Batch.{HasEnded, Passes, line_in}
+use Rattle.bt_bed.specs.calls.SortedReader.{fault_in}
 use Rattle.bt_bed.specs.declared.read.batch.Batch.{Batch}
-use Rattle.bt_bed.specs.model.Feature.{Feature, IsBedKind}
+use Rattle.bt_bed.specs.model.Feature.{Feature}
+use Rattle.bt_bed.specs.model.BedLine.{IsBedKind}
 use Rattle.bt_bed.specs.model.Order.{Order}
 use Rattle.bt_bed.specs.calls.Records.{FillsRecords, below, fault_kept, order_in, room, view_of}
 use Rattle.bt_bed.proofs.lemmas.order.TableLemmas.{passed_on}

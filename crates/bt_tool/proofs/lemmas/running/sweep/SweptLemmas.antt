@@ -4,8 +4,10 @@ use Rattle.bt_lines.specs.declared.device.Source.{Ghosts as Source}
 use Rattle.bt_lines.specs.calls.Output.{Output, FailsToAdd, Grown}
 use Rattle.bt_lines.specs.calls.Reader.{lines_given}
 use Rattle.bt_lines.specs.declared.fault.Fault.{Fault}
-use Rattle.bt_bed.specs.calls.Batch.{HasEnded, Passes as PassesBatch, line_in, are_in_order, fault_in}
-use Rattle.bt_bed.specs.model.Feature.{Feature, interval_of, intervals_of, last_of, IsBedKind, fault_at_line}
+use Rattle.bt_bed.specs.calls.Batch.{HasEnded, Passes as PassesBatch, line_in}
+use Rattle.bt_bed.specs.calls.SortedReader.{are_in_order, fault_in}
+use Rattle.bt_bed.specs.model.Feature.{Feature, interval_of, intervals_of, last_of}
+use Rattle.bt_bed.specs.model.BedLine.{IsBedKind, fault_at_line}
 use Rattle.bt_bed.specs.model.Good.{Member, bed_format, locus_at, Format}
 use Rattle.bt_bed.specs.model.Sorted.{ArePlaced, IsUpTo, Locus, locus_of, falls_in, sorting_of}
 use Rattle.bt_bed.specs.model.Order.{IsTotal, Order}

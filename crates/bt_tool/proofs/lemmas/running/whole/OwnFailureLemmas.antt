@@ -16,7 +16,7 @@ use Rattle.bt_lines.specs.declared.fault.Place.{Place}
 use Rattle.bt_lines.specs.declared.reader.line.Line.{Line}
 use Rattle.bt_lines.specs.declared.reader.line_reader.LineReader.{LineReader}
 use Rattle.bt_bed.specs.model.Good.{Format, Member}
-use Rattle.bt_bed.specs.model.Feature.{IsBedKind, fault_at_line, is_genome_kind}
+use Rattle.bt_bed.specs.model.BedLine.{IsBedKind, fault_at_line, is_genome_kind}
 use Rattle.bt_bed.specs.model.Order.{Order}
 use Rattle.bt_bed.specs.calls.Reading.{MemberReader, TellsOwnFailure}
 use Rattle.bt_bed.specs.declared.order.genome.Genome.{Genome as GenomeTable}

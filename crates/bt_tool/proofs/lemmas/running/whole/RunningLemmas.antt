@@ -17,7 +17,7 @@ use Rattle.bt_lines.specs.declared.fault.Place.{Place}
 use Rattle.bt_bed.specs.model.Genome.{Entry}
 use Rattle.bt_bed.specs.calls.GenomeTable.{entries}
 use Rattle.bt_bed.specs.model.Good.{good_from}
-use Rattle.bt_bed.specs.model.Feature.{is_genome_kind}
+use Rattle.bt_bed.specs.model.BedLine.{is_genome_kind}
 use Rattle.bt_bed.specs.declared.order.genome.Genome.{Genome}
 use Rattle.bt_runs.specs.model.Depth.{settled_depths}
 use Rattle.bt_runs.specs.model.Gaps.{settled_gaps}

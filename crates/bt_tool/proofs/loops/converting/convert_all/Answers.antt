@@ -1,6 +1,6 @@
 use Rattle.bt_lines.proofs.Std.{◌∙◌, ap, arith, refl, subst, ⊎_elim}
 use Rattle.bt_lines.proofs.lemmas.reader.block.ReadsLemmas.{has_read_then, reads_same}
-use Rattle.bt_lines.specs.calls.Columns.{line_seen}
+use Rattle.bt_lines.specs.calls.Line.{line_seen}
 use Rattle.bt_lines.specs.calls.Names.{fault_value}
 use Rattle.bt_lines.specs.declared.fault.Input.{Input}
 use Rattle.bt_lines.specs.calls.Reader.{HasRead}

@@ -2,7 +2,8 @@ use Rattle.bt_lines.proofs.Std.{◌∙◌, ap, refl, sym, subst, None}
 use Rattle.bt_lines.specs.calls.Names.{fault_value}
 use Rattle.bt_lines.specs.calls.Reader.{source_of}
 use Rattle.bt_lines.specs.declared.fault.Input.TheVariants.{First}
-use Rattle.bt_bed.specs.model.Feature.{Feature, intervals_of, IsBedKind}
+use Rattle.bt_bed.specs.model.Feature.{Feature, intervals_of}
+use Rattle.bt_bed.specs.model.BedLine.{IsBedKind}
 use Rattle.bt_bed.specs.model.Good.{bed_format}
 use Rattle.bt_bed.specs.model.Sorted.{ArePlaced, sorting_of}
 use Rattle.bt_bed.specs.calls.Records.{below, order_in, view_of}

@@ -3,7 +3,7 @@ use Rattle.bt_lines.proofs.lemmas.reader.block.ReadsLemmas.{has_read_then, reads
 use Rattle.bt_lines.specs.calls.Names.{fault_value}
 use Rattle.bt_lines.specs.calls.Reader.{HasRead}
 use Rattle.bt_bed.specs.calls.Records.{below, order_in, view_of}
-use Rattle.bt_bed.specs.model.Feature.{IsBedKind}
+use Rattle.bt_bed.specs.model.BedLine.{IsBedKind}
 use Rattle.bt_bed.proofs.lemmas.order.TableLemmas.{passed_on}
 use Rattle.bt_tool.specs.inside.Feed.{AreInOrder, FeedsMembers}
 use Rattle.bt_tool.specs.calls.Run.{AnswersNoRead}

@@ -1,7 +1,7 @@
 use Rattle.bt_bed.proofs.lemmas.order.TableLemmas.{passed_on}
 use Rattle.bt_lines.proofs.Std.{ℕ, ◌<◌, inl, inr, arith}
 use Rattle.bt_tool.specs.inside.Rounds.{IsLessIfReady, IsLessOrReady}
-use Rattle.bt_bed.specs.calls.Batch.{fault_in}
+use Rattle.bt_bed.specs.calls.SortedReader.{fault_in}
 use Rattle.bt_tool.proofs.loops.two_inputs.give_all.Goals as goal
 
 -- a round leaves less to be wanted

@@ -4,7 +4,7 @@ use Rattle.bt_bed.proofs.lemmas.read.ColumnLemmas.{front_is_name, parsed_begins,
 use Rattle.bt_bed.specs.calls.Batch.{chrom_in}
 use Rattle.bt_bed.specs.inside.FirstColumns.{EndsFirst}
 use Rattle.bt_bed.specs.calls.Bed.{is_on}
-use Rattle.bt_bed.specs.model.Feature.{record_of}
+use Rattle.bt_bed.specs.model.BedLine.{record_of}
 use Rattle.bt_bed.proofs.read.batch.Batch.read.Goals as goal
 
 pub parse_number-start-requires : goal.parse_number-start-requires

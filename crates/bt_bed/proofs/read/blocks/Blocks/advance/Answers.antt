@@ -1,5 +1,5 @@
 use Rattle.bt_bed.specs.calls.Blocks.{view_of}
-use Rattle.bt_bed.specs.calls.Batch.{view_with}
+use Rattle.bt_bed.specs.calls.SortedReader.{view_with}
 use Rattle.bt_bed.proofs.lemmas.read.batch.BlocksLemmas.{takes_blocks}
 use Rattle.bt_bed.proofs.lemmas.read.batch.RecordsLemmas.{passed_last, some_first}
 use Rattle.bt_bed.specs.model.Sorted.{block_sorting}

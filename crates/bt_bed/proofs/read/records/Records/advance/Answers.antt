@@ -1,5 +1,5 @@
 use Rattle.bt_bed.specs.calls.Records.{view_of}
-use Rattle.bt_bed.specs.calls.Batch.{view_with}
+use Rattle.bt_bed.specs.calls.SortedReader.{view_with}
 use Rattle.bt_bed.proofs.lemmas.read.batch.RecordsLemmas.{passed_last, placed_by, some_first, takes_records}
 use Rattle.bt_bed.specs.model.Sorted.{sorting_of}
 use Rattle.bt_bed.proofs.read.records.Records.advance.Goals as goal

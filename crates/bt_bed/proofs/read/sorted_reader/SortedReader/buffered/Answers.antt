@@ -2,7 +2,7 @@ use Rattle.bt_lines.proofs.Std.{◌≡◌, [], List, ◌∙◌, ap, sym, false�
 use Rattle.bt_bed.proofs.lemmas.read.batch.SortedReaderLemmas.{name_is_record}
 use Rattle.bt_bed.specs.model.Feature.{Feature}
 use Rattle.bt_bed.specs.calls.Bed.{is_some_left, run_of}
-use Rattle.bt_bed.specs.calls.Batch.{buffered_in}
+use Rattle.bt_bed.specs.calls.SortedReader.{buffered_in}
 use Rattle.bt_bed.proofs.read.sorted_reader.SortedReader.buffered.Goals as goal
 
 pub returns-then-not-self : goal.returns-then-not-self

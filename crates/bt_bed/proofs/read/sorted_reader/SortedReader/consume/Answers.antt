@@ -3,7 +3,7 @@ use Rattle.bt_lines.proofs.lemmas.reader.lines.BufferedLemmas.{no_lines, some_li
 use Rattle.bt_bed.proofs.lemmas.read.good.ReadingLemmas.{takes_none}
 use Rattle.bt_bed.proofs.lemmas.read.batch.SortedReaderLemmas.{sorted_ahead, sorted_placed, sorted_takes, was_ahead}
 use Rattle.bt_bed.specs.calls.Reading.{Takes}
-use Rattle.bt_bed.specs.calls.Batch.{buffered_in, count_in, view_in}
+use Rattle.bt_bed.specs.calls.SortedReader.{buffered_in, count_in, view_in}
 use Rattle.bt_bed.proofs.read.sorted_reader.SortedReader.consume.Goals as goal
 
 pub returns-then-consumed-eq0-clause-takes : goal.returns-then-consumed-eq0-clause-takes

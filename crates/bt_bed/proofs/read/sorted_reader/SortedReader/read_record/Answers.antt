@@ -3,7 +3,7 @@ use Rattle.bt_lines.proofs.lemmas.reader.block.ReadsLemmas.{has_read_then, reads
 use Rattle.bt_lines.specs.calls.Reader.{fault_kept as line_fault}
 use Rattle.bt_bed.proofs.lemmas.read.good.ReadingLemmas.{read_is_own}
 use Rattle.bt_bed.proofs.lemmas.read.batch.SortedReaderLemmas.{read_fault, read_nothing, read_record, sorted_end, sorted_start, sorted_unread, still_going, taken_fault, taken_nothing, taken_record, view_before}
-use Rattle.bt_bed.specs.calls.Batch.{buffered_in}
+use Rattle.bt_bed.specs.calls.SortedReader.{buffered_in}
 use Rattle.bt_bed.proofs.read.sorted_reader.SortedReader.read_record.Goals as goal
 
 pub loop-self-init : goal.loop-self-init

@@ -1,7 +1,7 @@
 use Rattle.bt_lines.proofs.Std.{◌≡◌, None, [], false}
 use Rattle.bt_lines.specs.calls.Reader.{HasRead, room}
 use Rattle.bt_bed.proofs.lemmas.read.good.ReadingLemmas.{Going}
-use Rattle.bt_bed.specs.calls.Batch.{view_with}
+use Rattle.bt_bed.specs.calls.SortedReader.{view_with}
 use Rattle.bt_bed.specs.inside.OrderedLookahead.{last_in}
 use Rattle.bt_bed.proofs.read.sorted_reader.SortedReader.read_record.Given as goal
 

@@ -2,11 +2,11 @@ use Rattle.bt_lines.proofs.Std.{◌≡◌, ◌∷◌, refl, sym, ◌∙◌}
 use Rattle.bt_lines.proofs.lemmas.reader.lines.BufferedLemmas.{lines_taken}
 use Rattle.bt_lines.proofs.lemmas.reader.lines.TakingLemmas.{some_buffered}
 use Rattle.bt_lines.specs.calls.Reader.{lines_in, buffered_in as lines_buffered}
-use Rattle.bt_lines.specs.calls.Columns.{line_seen}
+use Rattle.bt_lines.specs.calls.Line.{line_seen}
 use Rattle.bt_bed.proofs.lemmas.read.batch.SortedReaderLemmas.{found_buffered, found_in_order, found_of, found_some, skipped_of}
 use Rattle.bt_bed.specs.inside.OrderedLookahead.{name_in}
 use Rattle.bt_bed.specs.calls.Bed.{run_of}
-use Rattle.bt_bed.specs.calls.Batch.{buffered_in}
+use Rattle.bt_bed.specs.calls.SortedReader.{buffered_in}
 use Rattle.bt_bed.proofs.read.sorted_reader.SortedReader.take_line.Goals as goal
 
 pub returns-in_default-clause-takes : goal.returns-in_default-clause-takes

@@ -2,7 +2,7 @@ use Rattle.bt_lines.proofs.Std.{◌∙◌, ◌+◌, ◌∷◌, ◌++◌, None, S
 use Rattle.bt_lines.proofs.lemmas.reader.block.BufferLemmas.{fed_clear}
 use Rattle.bt_lines.proofs.lemmas.reader.lines.BufferedLemmas.{begins_first, are_fed, cut_gives, cut_within, cuts_first, last_cut, quiet_cut, some_at, spaced_cut}
 use Rattle.bt_lines.proofs.lemmas.reader.block.ReadsLemmas.{counts_none}
-use Rattle.bt_lines.specs.calls.Columns.{ending_at, line_shown}
+use Rattle.bt_lines.specs.calls.Line.{ending_at, line_shown}
 use Rattle.bt_lines.specs.inside.ReadBuffer.{complete, unread}
 use Rattle.bt_lines.specs.calls.Reader.{buffered_bytes, bytes_taken, source_of}
 use Rattle.bt_lines.proofs.reader.line_reader.LineReader.cut_line.Goals as goal

@@ -1,7 +1,8 @@
 use Rattle.bt_lines.proofs.Std.{◌≡◌, ◌∙◌, ℕ, Some, arith, refl, subst, sym, err_from_is_err_and}
 use Rattle.bt_bed.specs.calls.GenomeTable.{entries}
 use Rattle.bt_runs.specs.inside.GapRule.{seen, complement_at}
-use Rattle.bt_runs.specs.inside.Walk.{bare_gap, last_gap, IsNamed, left_before}
+use Rattle.bt_runs.specs.inside.Walk.{IsNamed, left_before}
+use Rattle.bt_runs.specs.inside.GapStep.{bare_gap, last_gap}
 use Rattle.bt_runs.proofs.lemmas.complement.GapRuleLemmas.{cursor_reached, enters_failing, enters_here, enters_next, goes_other, has_chrom, lacks_chrom, on_found, other_rank, rank_placed, same_rank}
 use Rattle.bt_runs.proofs.lemmas.order.ByChromosome.{length_read, name_read}
 use Rattle.bt_runs.proofs.complement.gap_rule.GapRuleRule.enter.Goals as goal

@@ -3,7 +3,7 @@ use Rattle.bt_lines.specs.calls.Names.{fault_value}
 use Rattle.bt_lines.specs.calls.Output.{FailsToPut}
 use Rattle.bt_lines.specs.declared.fault.Fault.{Fault}
 use Rattle.bt_bed.proofs.lemmas.order.TableLemmas.{passed_on}
-use Rattle.bt_bed.specs.model.Feature.{interval_line}
+use Rattle.bt_bed.specs.model.BedLine.{interval_line}
 use Rattle.bt_runs.specs.inside.merge.StrandStep.{kept_in, placed_run, placed_runs, JoinsAmong}
 use Rattle.bt_runs.specs.calls.Stranding.{Stranding}
 use Rattle.bt_runs.specs.declared.engine.failure.Failure.{Failure}

@@ -1,6 +1,6 @@
 use Rattle.bt_lines.proofs.Std.{◌∷◌, ◌∙◌, List, ap, arith, refl, sym}
 use Rattle.bt_lines.specs.calls.Reader.{PassesLine, line_of}
-use Rattle.bt_lines.specs.calls.Columns.{Shown, line_shown}
+use Rattle.bt_lines.specs.calls.Line.{Shown, line_shown}
 use Rattle.bt_lines.specs.model.Lines.{TextLine}
 use Rattle.bt_seq.proofs.lemmas.mask.steps.CopyLemmas.{copied_line}
 use Rattle.bt_seq.proofs.mask.copy_through.CopyThrough.consume_next.Goals as goal

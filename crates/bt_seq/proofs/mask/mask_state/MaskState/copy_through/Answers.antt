@@ -3,7 +3,7 @@ use Rattle.bt_seq.proofs.lemmas.mask.steps.CopyLemmas.{bounds_are, copied_throug
 use Rattle.bt_seq.proofs.lemmas.mask.bases.MaskingLemmas.{none_held}
 use Rattle.bt_seq.proofs.mask.mask_state.MaskState.copy_through.Goals as goal
 use Rattle.bt_seq.specs.inside.Masking.{CopiesThrough}
-use Rattle.bt_seq.specs.calls.MaskStage.{Masking}
+use Rattle.bt_seq.specs.calls.MaskState.{Masking}
 use Rattle.bt_seq.specs.inside.Window.{limit}
 use Rattle.bt_seq.specs.contracts.mask.mask_state.MaskState.{the_view}
 

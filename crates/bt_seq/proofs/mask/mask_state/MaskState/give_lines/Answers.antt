@@ -1,5 +1,5 @@
 use Rattle.bt_lines.proofs.Std.{false, true, err_from_is_err_and}
-use Rattle.bt_lines.specs.calls.Columns.{line_seen}
+use Rattle.bt_lines.specs.calls.Line.{line_seen}
 use Rattle.bt_seq.proofs.lemmas.mask.steps.AdvanceLemmas.{failed_copy, failed_line, gave_copied, gave_line}
 use Rattle.bt_seq.proofs.mask.mask_state.MaskState.give_lines.Goals as goal
 

@@ -1,6 +1,6 @@
 use Rattle.bt_lines.proofs.Std.{◌∙◌, ap, sym}
 use Rattle.bt_bed.specs.calls.Bed.{feature_lent}
-use Rattle.bt_seq.specs.calls.MaskStage.{Masking}
+use Rattle.bt_seq.specs.calls.MaskState.{Masking}
 use Rattle.bt_seq.proofs.lemmas.mask.bases.MaskingLemmas.{wrote_line}
 use Rattle.bt_seq.proofs.mask.mask_state.MaskState.take_bed.Goals as goal
 
