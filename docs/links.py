@@ -21,7 +21,7 @@ PAGES = [*sorted(TOP.glob("*.md")), *sorted((TOP / "docs").glob("*.md")), *sorte
 LINK = re.compile(r"\[[^\]]*\]\(([^)\s]+)\)")
 CODE = re.compile(r"`[^`]*`")
 # Definitions that stand in a file: their names, and the link to it.
-CITED = re.compile(r"((?:`\w+`(?:, | and ))*`\w+`) (?:in|of) \[\w+\.antt\]\(([^)\s#]+)\)")
+CITED = re.compile(r"((?:`\w+`(?:, | and ))*`\w+`) (?:in|of) \[[\w/]+\.antt\]\(([^)\s#]+)\)")
 
 # Files of definitions that are named by their crate, as those of a question are in ARCHITECTURE.md.
 FILES = re.compile(r"(?:`(bt_\w+)/specs/|\[(bt_\w+)/specs/[\w/]+\.antt\]\([^)]*\), `)([A-Z]\w*`(?:,(?: [a-z ]+)? `[A-Z]\w*`)*)")
