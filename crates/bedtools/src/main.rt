@@ -238,7 +238,7 @@ mod tests {
     #[test]
     fn ends(rt: HostRuntime) -> Result<(), Fail> {
         for row in &ENDS {
-            let (command, end) = row.split_once("=> ").ok_or("a row")?;
+            let (command, end) = row.split_once("=> ").ok_or(*row)?;
             let message = message_of(&rt, command)?;
             expect(&rt, &message, end, row);
         }

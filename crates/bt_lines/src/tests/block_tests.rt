@@ -94,15 +94,18 @@ fn drawn_texts_by_a_plain_split(rt: HostRuntime) -> Result<(), Fail> {
     Ok(())
 }
 
-fn is_wanted(line: Option<Line<'_>>, want: Option<Want<'_>>) -> bool {
-    line.map(|line| (line.text, line.ending)) == want
+// A line's number, its text and how it ends.
+type Numbered<'a> = (u64, &'a [u8], LineEnd);
+
+fn is_wanted(line: Option<Line<'_>>, want: Option<Numbered<'_>>) -> bool {
+    line.map(|line| (line.number, line.text, line.ending)) == want
 }
 
 // Whether these two lines, or none, are the next ones that are buffered. They are consumed.
 fn takes_two<S: Source>(
     reader: &mut LineReader<S>,
-    first: Option<Want<'_>>,
-    second: Option<Want<'_>>,
+    first: Option<Numbered<'_>>,
+    second: Option<Numbered<'_>>,
 ) -> bool {
     let mut lines = reader.buffered();
     let is_first = is_wanted(lines.next(), first);
@@ -116,8 +119,9 @@ fn takes_two<S: Source>(
 fn buffered_lines_are_given_in_order(rt: HostRuntime) -> Result<(), Fail> {
     let mut reader = reader_of(rt.alloc(), b"a\nbc\r\n\nd\n", BLOCK);
     let is_filled = reader.fill()?;
-    let (first, second): (Want, Want) = ((b"a", LineEnd::Lf), (b"bc", LineEnd::CrLf));
-    let are_given = takes_two(&mut reader, Some(first), Some(second));
+    let first = Some((1, b"a".as_slice(), LineEnd::Lf));
+    let second = Some((2, b"bc".as_slice(), LineEnd::CrLf));
+    let are_given = takes_two(&mut reader, first, second);
     let given = reader.lines();
     let third = matches!(reader.next()?, Some(line) if line.text.is_empty() && line.number == 3);
     let is_still_filled = reader.fill()?;
@@ -134,7 +138,7 @@ fn a_last_line_is_buffered(rt: HostRuntime) -> Result<(), Fail> {
     let mut reader = reader_of(rt.alloc(), b"a\nb\r", BLOCK);
     let is_first = matches!(reader.next()?, Some(line) if line.text == b"a".as_slice());
     let is_filled = reader.fill()?;
-    let is_last = takes_two(&mut reader, Some((b"b", LineEnd::Cr)), None);
+    let is_last = takes_two(&mut reader, Some((2, b"b", LineEnd::Cr)), None);
     let has_ended = !reader.fill()? && reader.next()?.is_none();
     let _ = reader.into_source();
     assert!(rt; is_first && is_filled && is_last && has_ended);

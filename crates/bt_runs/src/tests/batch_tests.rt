@@ -95,7 +95,7 @@ fn feed_each<E: Engine, K: Sink>(
     for number in 0..RECORDS {
         let line = line_of(alloc, layout, number)?;
         let is_fed = feed_line(engine, line.as_bytes(), out).is_ok();
-        holds(rt, is_fed, "a record");
+        holds(rt, is_fed, line.as_str());
     }
     Ok(())
 }
@@ -221,7 +221,8 @@ fn check_room(
     let taken = feed_text(alloc, text, &mut merge, &mut out);
     let _ = out.into_sink();
     let wanted = Ok((false, Some(start)));
-    holds(rt, taken == wanted, "the record after the fault");
+    let name = format!(in alloc; "room for {room}")?;
+    holds(rt, taken == wanted, name.as_str());
     Ok(())
 }
 

@@ -4,7 +4,7 @@
 use crate::engine::Engine;
 use crate::plain::PlainSpan;
 use bt_bed::{Genome, parse_bed};
-use bt_lines::{Fault, Input, Kind, LineReader, Out, ScriptSink, ScriptSource, Sink};
+use bt_lines::{Fault, Input, Kind, LineReader, Out, Place, ScriptSink, ScriptSource, Sink};
 use std::alloc::{AllocError, Global};
 use std::process::Abort;
 use std::test::Fail;
@@ -47,6 +47,15 @@ pub(crate) fn output(alloc: Global, step: usize) -> Out<ScriptSink> {
     Out::new(ScriptSink::new(alloc, step.max(1), None))
 }
 
+// Of a line in a test that is no record: no engine gives it.
+const NO_RECORD: Fault = Fault {
+    kind: Kind::BadStart,
+    place: Some(Place {
+        input: Input::Genome,
+        line: 0,
+    }),
+};
+
 // Feeds the record of a line.
 pub(crate) fn feed_line<E: Engine, K: Sink>(
     engine: &mut E,
@@ -55,7 +64,7 @@ pub(crate) fn feed_line<E: Engine, K: Sink>(
 ) -> Answer {
     match parse_bed(line) {
         Ok(Some(bed)) => engine.feed(&bed, out),
-        _ => Ok(()),
+        _ => Err(NO_RECORD),
     }
 }
 
@@ -215,9 +224,10 @@ pub(crate) fn check_spans<E: Engine + Drop>(
     spans: (&str, Bounds),
     wanted: &[u8],
 ) -> Result<(), Fail> {
+    let name = format!(in alloc; "{spans:?}")?;
     let mut out = output(alloc, 3);
     let taken = feed_spans(alloc, &mut engine, spans, &mut out)?;
-    holds(rt, taken, "spans are taken");
-    expect_end(rt, engine, out, wanted, "spans");
+    holds(rt, taken, name.as_str());
+    expect_end(rt, engine, out, wanted, name.as_str());
     Ok(())
 }

@@ -62,7 +62,11 @@ fn check<H: Held>(
         let found = first_otherwise(&mut held, rows);
         held.clear();
         let is_clear = leaves(&mut held, &(0, 0, None, None));
-        assert_eq!(rt; (are_added, found, is_clear), (true, None, true));
+        assert_eq!(rt;
+            (are_added, found, is_clear),
+            (true, None, true),
+            "{lines:?}"
+        );
     }
     Ok(())
 }

@@ -55,3 +55,56 @@ pub(crate) fn put_record<K: Sink>(
         Some(text) => put_line(text, end, out),
     }
 }
+
+#[cfg(test)]
+mod tests {
+    use super::*;
+    use bt_bed::{Genome, Records};
+    use bt_lines::{Input, LineReader, ScriptSink, ScriptSource};
+    use std::test::Fail;
+
+    // Puts a record with its line and without it.
+    fn put_both_ways<R: Record, K: Sink>(record: &R, out: &mut Out<K>) -> Result<(), Fault> {
+        put_record(&SourceRecord::of(record), b"\n", out)?;
+        put_record(&SourceRecord::of_bed(record.bed()), b"\n", out)
+    }
+
+    // Puts the two records after the first of those that are buffered.
+    fn put_two<K: Sink>(
+        records: &Records<'_, ScriptSource<'_>, Genome>,
+        out: &mut Out<K>,
+    ) -> Result<(), Fault> {
+        let mut batch = records.buffered();
+        let _ = batch.next();
+        let (Some(second), Some(third)) = (batch.next(), batch.next()) else {
+            return Ok(());
+        };
+        put_both_ways(&second, out)?;
+        put_both_ways(&third, out)?;
+        out.flush()
+    }
+
+    #[test]
+    fn line_is_put_if_it_is_what_is_written(rt: HostRuntime) -> Result<(), Fail> {
+        let lengths = ScriptSource::new(b"chr1\t90\n", 7, None);
+        let mut lengths = LineReader::new(rt.alloc(), lengths, Input::Genome);
+        let genome = Genome::read(rt.alloc(), &mut lengths)?;
+        let text = b"chr1\t1\t5\nchr1\t2\t4\tn\t0\t-\nchr1\t02\t06\tm\nchr1\t7\t8\n";
+        let lines = LineReader::new(
+            rt.alloc(),
+            ScriptSource::new(text, 8192, None),
+            Input::First,
+        );
+        let mut records = Records::new(rt.alloc(), lines, &genome);
+        let is_some = records.fill()?;
+        assert!(rt; is_some);
+        let mut out = Out::new(ScriptSink::new(rt.alloc(), 7, None));
+        let put = put_two(&records, &mut out);
+        let _ = records.into_reader().into_source();
+        assert!(rt; put.is_ok());
+        let want: &[u8] =
+            b"chr1\t2\t4\tn\t0\t-\nchr1\t2\t4\tn\t0\t-\nchr1\t2\t6\tm\nchr1\t2\t6\tm\n";
+        assert_eq!(rt; out.into_sink().taken(), want);
+        Ok(())
+    }
+}

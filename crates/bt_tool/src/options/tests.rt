@@ -217,7 +217,7 @@ fn check_all(
     rows: &[&'static str],
 ) -> Result<(), Fail> {
     for row in rows {
-        let (words, wanted) = row.split_once("=> ").ok_or("a row")?;
+        let (words, wanted) = row.split_once("=> ").ok_or(*row)?;
         let words = owned(alloc, command, words)?;
         let given = answer(alloc, words.as_slice())?;
         assert_eq!(rt; given.as_str(), wanted, "at {row}");

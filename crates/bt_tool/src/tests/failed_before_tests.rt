@@ -2,7 +2,7 @@
 
 ghost use Rattle.std.specs.Prelude.{◌≡◌, IsSome, None, is_some, true};
 
-use crate::tests::tables::{Table, run_of};
+use crate::tests::tables::{Table, rows_of, run_of};
 use crate::tests::{Answer, strings};
 use crate::{plan, run};
 use bt_lines::{DeviceFailed, ScriptSink, Source};
@@ -80,7 +80,7 @@ fn failed_if<'a>(name: &Option<String>, bytes: &'a [u8]) -> Option<FailedBefore<
 fn check_row(rt: &impl Abort, alloc: Global, row: &'static str) -> Result<(), Fail> {
     let asked = run_of(alloc, &RUNS, row)?;
     let words = strings(alloc, asked.words.as_slice())?;
-    let plan = plan(alloc, words.as_slice()).ok().ok_or("a plan")?;
+    let plan = plan(alloc, words.as_slice()).ok().ok_or(row)?;
     let ended = run(
         alloc,
         &plan,
@@ -99,7 +99,7 @@ fn check_row(rt: &impl Abort, alloc: Global, row: &'static str) -> Result<(), Fa
 
 #[test]
 fn a_failure_before_the_run_is_no_fault(rt: HostRuntime) -> Result<(), Fail> {
-    for row in RUNS.rows {
+    for row in rows_of(&RUNS)? {
         check_row(&rt, rt.alloc(), row)?;
     }
     Ok(())

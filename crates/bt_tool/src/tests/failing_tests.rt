@@ -6,7 +6,7 @@ use self::runs::{
     ALIGNMENTS, DEPTHS, GAPS, INTERSECT_FAILS, INTERSECTED, MASKED, MASKED_HEADERS, MERGE_FAILS,
     MERGED, STRANDS, SUBTRACTED, WRITING_FAILS,
 };
-use crate::tests::tables::{Failing, Run, Table, check_tables, run_of};
+use crate::tests::tables::{Failing, Run, Table, check_tables, rows_of, run_of};
 use crate::tests::{Answer, GENOME, expect, expect_size, source_if, source_of, strings, whole};
 use crate::{plan, run};
 use bt_lines::{DeviceFailed, Sink};
@@ -29,8 +29,13 @@ fn input_of<'a>(run: &'a Run, input: &str) -> (&'a [u8], &'a str, &'a str) {
     }
 }
 
-// This many lines of a text.
-fn first_lines(text: &[u8], count: usize) -> &[u8] {
+// How many complete lines a text has.
+fn line_count(text: &[u8]) -> usize {
+    text.iter().filter(|byte| **byte == b'\n').count()
+}
+
+// This many lines of a text, None if it has fewer.
+fn first_lines(text: &[u8], count: usize) -> Option<&[u8]> {
     let mut left = count;
     let mut end = 0;
     for (at, byte) in text.iter().enumerate() {
@@ -39,7 +44,10 @@ fn first_lines(text: &[u8], count: usize) -> &[u8] {
             end = at.saturating_add(1);
         }
     }
-    text.get(..end).unwrap_or(b"")
+    if left > 0 {
+        return None;
+    }
+    text.get(..end)
 }
 
 // The input fails to serve more than these bytes.
@@ -51,26 +59,25 @@ fn check_cut(
     step: usize,
 ) -> Result<(), Fail> {
     let (text, name, cuts) = input_of(run, input);
-    let lines = text
-        .iter()
-        .take(good)
-        .filter(|byte| **byte == b'\n')
-        .count();
+    let lines = line_count(text.get(..good).ok_or(run.parts.row)?);
     let cut = cuts.split(' ').nth(lines).ok_or(run.parts.row)?;
     let number = cut.strip_suffix("!");
     let written = number.unwrap_or(cut).parse::<usize>().ok();
-    let failed = format!(in alloc; "{name}:{}: reading failed", lines + 1)?;
+    let written = written.ok_or(run.parts.row)?;
+    let line = lines.saturating_add(1);
+    let failed = format!(in alloc; "{name}:{line}: reading failed")?;
     let fault = if number.is_some() {
         run.parts.fault
     } else {
         failed.as_str()
     };
     let answer = run.answer(alloc, (input, good), step)?;
-    let output = first_lines(run.output.as_slice(), written.ok_or(run.parts.row)?);
+    let output = first_lines(run.output.as_slice(), written).ok_or(run.parts.row)?;
     run.expect(rt, alloc, &answer, (output, fault))
 }
 
-// Whatever byte of an input fails to come.
+// Whatever byte of an input fails to come. The row has to have a number for each of its lines, and
+// one for none.
 fn check_cuts(
     rt: &impl Abort,
     alloc: Global,
@@ -78,7 +85,10 @@ fn check_cuts(
     input: &str,
     step: usize,
 ) -> Result<(), Fail> {
-    let (text, _, _) = input_of(run, input);
+    let (text, _, cuts) = input_of(run, input);
+    if cuts.split(' ').count() != line_count(text).saturating_add(1) {
+        return Err(run.parts.row.into());
+    }
     for good in 0..=text.len() {
         check_cut(rt, alloc, run, (input, good), step)?;
     }
@@ -115,7 +125,7 @@ fn check_run(rt: &impl Abort, alloc: Global, run: &Run, step: usize) -> Result<(
 
 fn check_all(rt: &impl Abort, alloc: Global, tables: &[Table]) -> Result<(), Fail> {
     for table in tables {
-        for row in table.rows {
+        for row in rows_of(table)? {
             let run = run_of(alloc, table, row)?;
             for step in [1, 7] {
                 check_run(rt, alloc, &run, step)?;

@@ -112,14 +112,14 @@ pub(crate) fn run_both(
     words: &[&str],
     devices: Devices<'_>,
 ) -> Result<Answer, Fail> {
-    let words = strings(alloc, words)?;
+    let owned = strings(alloc, words)?;
     let Devices {
         genome,
         first,
         second,
         out,
     } = devices;
-    let plan = plan(alloc, words.as_slice()).ok().ok_or("a plan")?;
+    let plan = plan(alloc, owned.as_slice()).ok().ok_or(words)?;
     let ended = run(
         alloc,
         &plan,

@@ -73,6 +73,36 @@ fn put_part(parts: &mut Parts, column: &str, part: &'static str) -> Option<()> {
     Some(())
 }
 
+// The name of a column, and what stands in it in all rows.
+fn column_of(part: &'static str) -> (&'static str, Option<&'static str>) {
+    match part.split_once(" = ") {
+        Some((name, shared)) => (name.trim_matches(' '), Some(shared)),
+        None => (part.trim_matches(' '), None),
+    }
+}
+
+// Whether a head names a column twice.
+fn names_twice(head: &'static str) -> bool {
+    for (at, part) in head.split('|').enumerate() {
+        let name = column_of(part).0;
+        for other in head.split('|').take(at) {
+            if column_of(other).0 == name {
+                return true;
+            }
+        }
+    }
+    false
+}
+
+// The rows of a table. Without rows it would show nothing, and of two parts of one name one would
+// be lost.
+pub(crate) fn rows_of(table: &Table) -> Result<&'static [&'static str], Fail> {
+    if table.rows.is_empty() || names_twice(table.head) {
+        return Err(table.head.into());
+    }
+    Ok(table.rows)
+}
+
 // None if the row doesn't fit the head.
 fn parts_of(head: &'static str, row: &'static str) -> Option<Parts> {
     let mut parts = Parts {
@@ -89,11 +119,12 @@ fn parts_of(head: &'static str, row: &'static str) -> Option<Parts> {
     };
     let mut rest = row.split('|');
     for column in head.split('|') {
-        let (column, part) = match column.split_once(" = ") {
-            Some(shared) => shared,
-            None => (column, rest.next()?),
+        let (name, shared) = column_of(column);
+        let part = match shared {
+            Some(part) => part,
+            None => rest.next()?,
         };
-        put_part(&mut parts, column.trim_matches(' '), part.trim_matches(' '))?;
+        put_part(&mut parts, name, part.trim_matches(' '))?;
     }
     if rest.next().is_some() {
         return None;
@@ -125,6 +156,18 @@ fn words_of(
 
 // A device that fails, and how many bytes it moves before.
 pub(crate) type Failing<'a> = (&'a str, usize);
+
+// What a row says of the device that fails. None if there is no such device, or no number.
+fn failing_of(fails: &str) -> Option<Failing<'_>> {
+    if fails.is_empty() {
+        return Some(("", 0));
+    }
+    let (device, good) = fails.split_once(' ')?;
+    match device {
+        "genome" | "first" | "second" | "out" => Some((device, good.parse::<usize>().ok()?)),
+        _ => None,
+    }
+}
 
 fn script_of(device: &str, failing: Failing<'_>, step: usize) -> Script {
     if device == failing.0 {
@@ -200,10 +243,7 @@ pub(crate) fn run_of(alloc: Global, table: &Table, row: &'static str) -> Result<
 // By devices that move bytes one by one, seven a call, and all at once.
 fn check_row(rt: &impl Abort, alloc: Global, table: &Table, row: &'static str) -> Result<(), Fail> {
     let run = run_of(alloc, table, row)?;
-    let failing = match run.parts.fails.split_once(' ') {
-        Some((device, good)) => (device, good.parse::<usize>().ok().ok_or(row)?),
-        None => ("", 0),
-    };
+    let failing = failing_of(run.parts.fails).ok_or(row)?;
     for step in [1, 7, 8192] {
         let answer = run.answer(alloc, failing, step)?;
         run.expect(rt, alloc, &answer, (run.output.as_slice(), run.parts.fault))?;
@@ -214,7 +254,7 @@ fn check_row(rt: &impl Abort, alloc: Global, table: &Table, row: &'static str) -
 // Runs the commands of these tables.
 pub(crate) fn check_tables(rt: &impl Abort, alloc: Global, tables: &[Table]) -> Result<(), Fail> {
     for table in tables {
-        for row in table.rows {
+        for row in rows_of(table)? {
             check_row(rt, alloc, table, row)?;
         }
     }

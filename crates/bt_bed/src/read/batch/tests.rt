@@ -69,8 +69,8 @@ fn none_is_buffered_before_fill_and_at_the_end(rt: HostRuntime) -> Result<(), Fa
     Ok(())
 }
 
-// The bounds of the record of the second line, if it is in one batch with that of the first, and
-// texts with which it is so.
+// The bounds of the record of the second line, if it is in one batch with that of the first, or
+// None if that one is alone in its batch; and texts with which it is so.
 #[rattlefmt::skip]
 const PAIRS: [(Option<(u64, u64)>, &[&[u8]]); 7] = [
     (Some((1234567, 12345678)), &[b"chr1\t1\t5\nchr1\t1234567\t12345678\tn\n"]),
@@ -94,17 +94,17 @@ const PAIRS: [(Option<(u64, u64)>, &[&[u8]]); 7] = [
     ]),
 ];
 
-// The bounds of the second record of the first batch, and whether the batch has just these two then.
-fn second_of(alloc: Global, text: &[u8]) -> Result<Option<(u64, u64)>, Fail> {
+// Whether the first batch has one record and, if bounds are wanted, just one more, of those bounds.
+fn has_second(alloc: Global, text: &[u8], want: Option<(u64, u64)>) -> Result<bool, Fail> {
     let order = ByteOrder;
     let mut records = records_of(alloc, text, 8192, &order);
     let is_some = records.fill()?;
     let mut batch = records.buffered();
     let (first, second, third) = (batch.next(), batch.next(), batch.next());
     let bounds = second.map(|record| (record.start(), record.stop()));
-    let is_pair = is_some && first.is_some() && third.is_none();
+    let is_it = is_some && first.is_some() && bounds == want && third.is_none();
     let _ = records.into_reader().into_source();
-    Ok(bounds.filter(|_| is_pair))
+    Ok(is_it)
 }
 
 // The first text whose second record is given otherwise.
@@ -114,7 +114,7 @@ fn first_misgiven(
     texts: &[&'static [u8]],
 ) -> Result<Option<&'static [u8]>, Fail> {
     for text in texts {
-        if second_of(alloc, text)? != want {
+        if !has_second(alloc, text, want)? {
             return Ok(Some(*text));
         }
     }

@@ -217,7 +217,8 @@ fn lines_are_cut_where_the_sink_fails(rt: HostRuntime) -> Result<(), Fail> {
             b"chr1\t10\t20\nchr1\t900\t910\n",
         ] {
             let texts = (lines, lines, second);
-            assert!(rt; writes_up_to(rt.alloc(), Missing, good, texts, twice)?);
+            let are_cut = writes_up_to(rt.alloc(), Missing, good, texts, twice)?;
+            assert!(rt; are_cut, "at {good} of {second:?}");
         }
     }
     Ok(())
@@ -287,7 +288,7 @@ const SINGLES: [(Shape, &[u8], &[u8], &[u8]); 6] = [
 fn one_record_of_each_input(rt: HostRuntime) -> Result<(), Fail> {
     for (shape, first, second, want) in &SINGLES {
         let written = sweep_two(rt.alloc(), *shape, first, second)?;
-        assert_eq!(rt; written.as_slice(), *want);
+        assert_eq!(rt; written.as_slice(), *want, "{shape:?}");
     }
     Ok(())
 }

@@ -45,27 +45,36 @@ const TABLE: Table = Table {
     output: Some("-o"),
 };
 
-/// The words after the command, and the number of their fault, 0 without one.
+// The number of a fault.
+const NONE: u8 = 0;
+
+const MISSING: u8 = 5;
+
+const EXCLUSIVE: u8 = 6;
+
+const NAMED_TWICE: u8 = 7;
+
+/// The words after the command, and the number of their fault.
 const CASES: [(&[&str], u8); 19] = [
-    (&["-a", "1", "-b", "2", "-x"], 0),
-    (&["-a", "1", "-b", "2", "-x", "-y"], 0),
-    (&["-a", "1", "-b", "2", "-y", "-z"], 0),
-    (&["-a", "1", "-b", "2"], 5),
-    (&["-a", "1", "-b", "2", "-z"], 5),
-    (&["-a", "1", "-x"], 5),
-    (&["-b", "1", "-x"], 5),
-    (&["-a", "1", "-b", "2", "-x", "-z"], 6),
-    (&["-a", "1", "-b", "2", "-x", "-o", "1"], 6),
-    (&["-a", "1", "-b", "2", "-x", "-o", "2"], 6),
-    (&["-a", "1", "-b", "2", "-x", "-o", "3"], 0),
-    (&["-a", "-", "-b", "2", "-x", "-o", "-"], 0),
-    (&["-a", "1", "-b", "stdout", "-x", "-o", "stdout"], 0),
-    (&["-a", "1", "-b", "2", "-x", "-o", "stdin"], 0),
-    (&["-a", "-", "-b", "-", "-x"], 7),
-    (&["-a", "-", "-b", "stdin", "-x"], 7),
-    (&["-a", "1", "-b", "stdin", "-x", "-g", "-"], 7),
-    (&["-a", "stdin", "-b", "2", "-x", "-g", "-"], 7),
-    (&["-a", "stdin", "-b", "2", "-x", "-g", "g"], 0),
+    (&["-a", "1", "-b", "2", "-x"], NONE),
+    (&["-a", "1", "-b", "2", "-x", "-y"], NONE),
+    (&["-a", "1", "-b", "2", "-y", "-z"], NONE),
+    (&["-a", "1", "-b", "2"], MISSING),
+    (&["-a", "1", "-b", "2", "-z"], MISSING),
+    (&["-a", "1", "-x"], MISSING),
+    (&["-b", "1", "-x"], MISSING),
+    (&["-a", "1", "-b", "2", "-x", "-z"], EXCLUSIVE),
+    (&["-a", "1", "-b", "2", "-x", "-o", "1"], EXCLUSIVE),
+    (&["-a", "1", "-b", "2", "-x", "-o", "2"], EXCLUSIVE),
+    (&["-a", "1", "-b", "2", "-x", "-o", "3"], NONE),
+    (&["-a", "-", "-b", "2", "-x", "-o", "-"], NONE),
+    (&["-a", "1", "-b", "stdout", "-x", "-o", "stdout"], NONE),
+    (&["-a", "1", "-b", "2", "-x", "-o", "stdin"], NONE),
+    (&["-a", "-", "-b", "-", "-x"], NAMED_TWICE),
+    (&["-a", "-", "-b", "stdin", "-x"], NAMED_TWICE),
+    (&["-a", "1", "-b", "stdin", "-x", "-g", "-"], NAMED_TWICE),
+    (&["-a", "stdin", "-b", "2", "-x", "-g", "-"], NAMED_TWICE),
+    (&["-a", "stdin", "-b", "2", "-x", "-g", "g"], NONE),
 ];
 
 #[test]
@@ -77,13 +86,13 @@ fn options_together(rt: HostRuntime) -> Result<(), Fail> {
             all.push(String::from_str(alloc, word)?)?;
         }
         let Ok(given) = Given::read(&TABLE, all.as_slice()) else {
-            return Err(Fail::new("the words don't divide"));
+            return Err((*words).into());
         };
         let fault = match check(given) {
-            Ok(()) => 0,
+            Ok(()) => NONE,
             Err(usage) => usage.number,
         };
-        assert_eq!(rt; fault, *number);
+        assert_eq!(rt; fault, *number, "{words:?}");
     }
     Ok(())
 }
