@@ -5,12 +5,14 @@ use Rattle.bt_lines.specs.calls.Names.{fault_value}
 use Rattle.bt_lines.specs.calls.Output.{Output, FailsToAdd, Grown, Grows, PutsRest}
 use Rattle.bt_lines.specs.declared.fault.Fault.{Fault}
 use Rattle.bt_bed.specs.model.Feature.{Feature}
-use Rattle.bt_runs.specs.calls.Engine.{KeepsFault, WritesFirst, WritesLeft, WritesLeftPrefix, WritesPrefix, WritesSettled, Feeds, Finishes, IsWanted, FeedAnswers, FeedsBatch, TakesEach, fault_of, of_rule, ruled_fault, ruled_stands}
+use Rattle.bt_runs.specs.calls.Engine.{EngineDef, KeepsFault, WritesFirst, WritesLeft, WritesLeftPrefix, WritesPrefix, WritesSettled, Feeds, Finishes, IsWanted, FeedAnswers, FeedsBatch, TakesEach, fault_of, ruled, ruled_fault}
 use Rattle.bt_lines.proofs.lemmas.Writer.{cut_off, fails_then, grown_more, grown_works, grows_nothing}
-use Rattle.bt_runs.specs.inside.Walk.{Does, EnterAnswers, FitsPast, DoesAll, DoesEach, DoesUpTo, Follows, PutsRestAtEnd, Taken}
+use Rattle.bt_runs.specs.inside.Walk.{Does, EnterAnswers, FitsPast, Follows, PutsRestAtEnd, RuleDef, Taken, TakenAll, TakenEach, TakenUpTo}
 use Rattle.bt_runs.specs.declared.engine.failure.Failure.{Failure}
 use Rattle.bt_runs.specs.declared.engine.rule.Ruled.{Ruled}
-use Rattle.bt_bed.specs.calls.Bed.{GivesSingle, HasNone, single_left}
+use Rattle.bt_bed.specs.calls.Bed.{single_left}
+use Rattle.bt_bed.specs.calls.CursorOf.{single_cursor}
+use Rattle.bt_bed.specs.declared.read.cursor.Cursor.{Ghosts as Cursor}
 use Rattle.bt_bed.specs.declared.read.cursor.Single.{Single}
 
 -- What a call of an engine does, taken apart: from `Feeds` and `Finishes` to a fact for each clause, and back.
@@ -21,21 +23,20 @@ other_fault memory write = let apart : no_memory.kind ≡ write_failed.kind = ap
 none_before : {A : Type 0} {o : Option A} {x : A} → o ≡ None → o ≡ Some x → ⊥
 none_before none some = cc
 
-module _ {E A : Type 0} {MayTake : E → List Feature → Type 0} {Stands : E → List Feature → E → Type 0} {fault : E → Option FaultValue} {settled : E → List Feature → List ℕ}
-    {old : E} {r : Feature} {out : Output} {Quiet : E → List Feature → Feature → Type 0} {new : E} {grown : Output} where
-  pub feeds_settled : (result : Result A Fault) → Feeds MayTake Stands fault settled old r out Quiet result new grown → WritesSettled MayTake Stands fault settled old r out result new grown
+module _ {E A : Type 0} {engine : EngineDef E} {old : E} {r : Feature} {out : Output} {new : E} {grown : Output} where
+  pub feeds_settled : (result : Result A Fault) → Feeds engine old r out result new grown → WritesSettled engine old r out result new grown
   feeds_settled (Ok done) fed = fed.answers
   feeds_settled (Err answer) fed = tt
 
-  pub feeds_fault : (result : Result A Fault) → Feeds MayTake Stands fault settled old r out Quiet result new grown → KeepsFault fault result new
+  pub feeds_fault : (result : Result A Fault) → Feeds engine old r out result new grown → KeepsFault engine result new
   feeds_fault (Ok done) fed = tt
   feeds_fault (Err answer) fed = elim fed.answers [
-    | inl repeats ↦ (repeats.kind, ap fault repeats.same ∙ repeats.is)
+    | inl repeats ↦ (repeats.kind, ap engine.fault repeats.same ∙ repeats.is)
     | inr (inl fails) ↦ (inl fails.is, fails.kept ∙ ap Some (sym fails.is))
     | inr (inr ran) ↦ (inr ran.is, ran.kept ∙ ap Some (sym ran.is))
   ]
 
-  pub feeds_prefix : (result : Result A Fault) → Feeds MayTake Stands fault settled old r out Quiet result new grown → WritesPrefix MayTake Stands fault settled old r out result new grown
+  pub feeds_prefix : (result : Result A Fault) → Feeds engine old r out result new grown → WritesPrefix engine old r out result new grown
   feeds_prefix (Ok done) fed = tt
   feeds_prefix (Err answer) fed = λ none is. elim fed.answers [
     | inl repeats ↦ absurd (none_before none repeats.is)
@@ -43,7 +44,7 @@ module _ {E A : Type 0} {MayTake : E → List Feature → Type 0} {Stands : E �
     | inr (inr ran) ↦ absurd (other_fault ran.is is)
   ]
 
-  pub feeds_first : (result : Result A Fault) → Feeds MayTake Stands fault settled old r out Quiet result new grown → WritesFirst MayTake Stands fault settled old r out result new grown
+  pub feeds_first : (result : Result A Fault) → Feeds engine old r out result new grown → WritesFirst engine old r out result new grown
   feeds_first (Ok done) fed = tt
   feeds_first (Err answer) fed = λ none is. elim fed.answers [
     | inl repeats ↦ absurd (none_before none repeats.is)
@@ -52,7 +53,7 @@ module _ {E A : Type 0} {MayTake : E → List Feature → Type 0} {Stands : E �
   ]
 
   -- a fault that was returned before is returned again, and nothing happens
-  pub feeds_again : (result : Result A Fault) → Feeds MayTake Stands fault settled old r out Quiet result new grown → (before : FaultValue) → fault old ≡ Some before
+  pub feeds_again : (result : Result A Fault) → Feeds engine old r out result new grown → (before : FaultValue) → engine.fault old ≡ Some before
       → MatchResult result (λ done. ⊥) (λ answer. fault_value answer ≡ before) × ((new ≡ old) × (grown ≡ out))
   feeds_again (Ok done) fed = λ before some. absurd (none_before fed.answers.was_going some)
   feeds_again (Err answer) fed = λ before some. elim fed.answers [
@@ -61,37 +62,34 @@ module _ {E A : Type 0} {MayTake : E → List Feature → Type 0} {Stands : E �
     | inr (inr ran) ↦ absurd (none_before ran.was_going some)
   ]
 
-module _ {E A : Type 0} {MayTake : E → List Feature → Type 0} {Stands : E → List Feature → E → Type 0} {fault : E → Option FaultValue} {settled whole : E → List Feature → List ℕ}
-    {last : E} {out grown : Output} where
-  pub finishes_left : (result : Result A Fault) → Finishes MayTake Stands fault settled whole last out result grown → WritesLeft MayTake Stands fault settled whole last out result grown
+  -- an engine that wants no memory fails only if a write fails
+  pub only_writes : (result : Result A Fault) → (engine.wants old r → ⊥) → engine.fault old ≡ None → Feeds engine old r out result new grown → IsWanted engine old r result
+      → IfErr result (λ answer. fault_value answer ≡ write_failed)
+  only_writes (Ok done) none going fed wanted = tt
+  only_writes (Err answer) none going fed wanted = elim fed.answers [
+    | inl repeats ↦ absurd (none_before going repeats.is)
+    | inr (inl fails) ↦ fails.is
+    | inr (inr ran) ↦ absurd (none (wanted ran.is going))
+  ]
+
+module _ {E A : Type 0} {engine : EngineDef E} {last : E} {out grown : Output} where
+  pub finishes_left : (result : Result A Fault) → Finishes engine last out result grown → WritesLeft engine last out result grown
   finishes_left (Ok done) ends = ends.answers
   finishes_left (Err answer) ends = tt
 
-  pub finishes_prefix : (result : Result A Fault) → Finishes MayTake Stands fault settled whole last out result grown → WritesLeftPrefix MayTake Stands fault settled whole last out result grown
+  pub finishes_prefix : (result : Result A Fault) → Finishes engine last out result grown → WritesLeftPrefix engine last out result grown
   finishes_prefix (Ok done) ends = tt
   finishes_prefix (Err answer) ends = λ none. elim ends.answers [
     | inl repeats ↦ absurd (none_before none repeats.is)
     | inr fails ↦ fails
   ]
 
-  pub finishes_again : (result : Result A Fault) → Finishes MayTake Stands fault settled whole last out result grown → (before : FaultValue) → fault last ≡ Some before
+  pub finishes_again : (result : Result A Fault) → Finishes engine last out result grown → (before : FaultValue) → engine.fault last ≡ Some before
       → MatchResult result (λ done. ⊥) (λ answer. fault_value answer ≡ before) × (grown ≡ out)
   finishes_again (Ok done) ends = λ before some. absurd (none_before ends.answers.was_going some)
   finishes_again (Err answer) ends = λ before some. elim ends.answers [
     | inl repeats ↦ (let is = repeats.is in cc, repeats.same_output)
     | inr fails ↦ absurd (none_before fails.was_going some)
-  ]
-
--- an engine that wants no memory fails only if a write fails
-module _ {E A : Type 0} {MayTake : E → List Feature → Type 0} {Stands : E → List Feature → E → Type 0} {fault : E → Option FaultValue} {settled : E → List Feature → List ℕ}
-    {old : E} {r : Feature} {out : Output} {Quiet : E → List Feature → Feature → Type 0} {new : E} {grown : Output} where
-  pub only_writes : (result : Result A Fault) → fault old ≡ None → Feeds MayTake Stands fault settled old r out Quiet result new grown → IsWanted (λ old r. ⊥) fault old r result
-      → IfErr result (λ answer. fault_value answer ≡ write_failed)
-  only_writes (Ok done) going fed wanted = tt
-  only_writes (Err answer) going fed wanted = elim fed.answers [
-    | inl repeats ↦ absurd (none_before going repeats.is)
-    | inr (inl fails) ↦ fails.is
-    | inr (inr ran) ↦ absurd (wanted ran.is going)
   ]
 
 -- A rule enters a chromosome: the lines that come first of those of each record on it are put. Then it does with a record what it would have
@@ -101,102 +99,93 @@ module _ {E A : Type 0} {MayTake : E → List Feature → Type 0} {Stands : E �
 pub none_more : (before lines after : List ℕ) → after ≡ before ++ lines → after ≡ before → lines ≡ []
 none_more before lines after more same = append_cancel_left before lines [] (sym more ∙ same ∙ sym (append-nil before))
 
-module _ {E : Type 0} {lines : E → Feature → List ℕ} {has : E → Feature → E → Type 0} {wants : E → Feature → Type 0}
-    {takes : E → List Feature → Type 0} {stands : E → List Feature → E → Type 0} {settled : E → List Feature → List ℕ} {quiet : E → List Feature → Feature → Type 0}
-    {old : E} (fits : (r : Feature) → FitsPast lines has wants takes stands settled quiet old r) where
+module _ {E : Type 0} {rule : RuleDef E} {old : E} (fits : (r : Feature) → FitsPast rule old r) where
   -- it is on the chromosome already
-  pub stays_on : (chrom : List ℕ) (out : Output) → EnterAnswers lines has wants takes stands settled quiet old chrom out (Ok tt) old out
+  pub stays_on : (chrom : List ℕ) (out : Output) → EnterAnswers rule old chrom out (Ok tt) old out
   stays_on chrom out r at result next later does = record { does = does; fits = fits r }
 
   module _ {chrom : List ℕ} {out : Output} (first : List ℕ) where
-    module _ {mid : E} {through : Output} (put : Grown out first through) (lines_are : (r : Feature) → r.chrom ≡ chrom → lines old r ≡ first ++ lines mid r)
-        (has_so : (r : Feature) → r.chrom ≡ chrom → (new : E) → has mid r new → has old r new) (wants_so : (r : Feature) → r.chrom ≡ chrom → wants mid r → wants old r) where
-      does_so : (r : Feature) → r.chrom ≡ chrom → (result : Result (Unit {0}) Fault) (next : E) (later : Output) → Does lines has wants mid r through result next later → Does lines has wants old r out result next later
-      does_so r at (Ok done) next later d = (has_so r at next d.0, subst (λ l. Grown out l later) (sym (lines_are r at)) (grown_more out through later first (lines mid r) put d.1))
+    module _ {mid : E} {through : Output} (put : Grown out first through) (lines_are : (r : Feature) → r.chrom ≡ chrom → rule.lines old r ≡ first ++ rule.lines mid r)
+        (has_so : (r : Feature) → r.chrom ≡ chrom → (new : E) → rule.has mid r new → rule.has old r new) (wants_so : (r : Feature) → r.chrom ≡ chrom → rule.engine.wants mid r → rule.engine.wants old r) where
+      does_so : (r : Feature) → r.chrom ≡ chrom → (result : Result (Unit {0}) Fault) (next : E) (later : Output) → Does rule mid r through result next later → Does rule old r out result next later
+      does_so r at (Ok done) next later d = (has_so r at next d.0, subst (λ l. Grown out l later) (sym (lines_are r at)) (grown_more out through later first (rule.lines mid r) put d.1))
       does_so r at (Err fault) next later (inl d) =
-          inl (subst (λ l. FailsToAdd out l (fault_value fault) later) (sym (lines_are r at)) (fails_then out through later first (lines mid r) (fault_value fault) put d))
+          inl (subst (λ l. FailsToAdd out l (fault_value fault) later) (sym (lines_are r at)) (fails_then out through later first (rule.lines mid r) (fault_value fault) put d))
       does_so r at (Err fault) next later (inr d) =
-          inr (d.0, (wants_so r at d.1.0, subst (λ l. Grown out l later) (sym (lines_are r at)) (grown_more out through later first (lines mid r) put d.1.1)))
+          inr (d.0, (wants_so r at d.1.0, subst (λ l. Grown out l later) (sym (lines_are r at)) (grown_more out through later first (rule.lines mid r) put d.1.1)))
 
       -- it goes on as another one
-      pub enters : EnterAnswers lines has wants takes stands settled quiet old chrom out (Ok tt) mid through
+      pub enters : EnterAnswers rule old chrom out (Ok tt) mid through
       enters r at result next later does = record { does = does_so r at result next later does; fits = fits r }
 
     -- those lines couldn't be written
-    pub enters_cut : (fault : Fault) (new : E) (grown : Output) → FailsToAdd out first (fault_value fault) grown → ((r : Feature) → r.chrom ≡ chrom → (rest : List ℕ) × (lines old r ≡ first ++ rest))
-        → EnterAnswers lines has wants takes stands settled quiet old chrom out (Err fault) new grown
+    pub enters_cut : (fault : Fault) (new : E) (grown : Output) → FailsToAdd out first (fault_value fault) grown → ((r : Feature) → r.chrom ≡ chrom → (rest : List ℕ) × (rule.lines old r ≡ first ++ rest))
+        → EnterAnswers rule old chrom out (Err fault) new grown
     enters_cut fault new grown cut lines_are r at =
         let more = lines_are r at in
         record { does = inl (subst (λ l. FailsToAdd out l (fault_value fault) grown) (sym more.1) (cut_off out grown first more.0 (fault_value fault) cut)); fits = fits r }
 
     -- they were all, and memory ran out that a record on the chromosome needs
-    pub enters_short : (fault : Fault) (new : E) (grown : Output) → fault_value fault ≡ no_memory → Grown out first grown → ((r : Feature) → r.chrom ≡ chrom → wants old r × (lines old r ≡ first))
-        → EnterAnswers lines has wants takes stands settled quiet old chrom out (Err fault) new grown
+    pub enters_short : (fault : Fault) (new : E) (grown : Output) → fault_value fault ≡ no_memory → Grown out first grown → ((r : Feature) → r.chrom ≡ chrom → rule.engine.wants old r × (rule.lines old r ≡ first))
+        → EnterAnswers rule old chrom out (Err fault) new grown
     enters_short fault new grown is put wanted r at =
         let w = wanted r at in
         record { does = inr (is, (w.0, subst (λ l. Grown out l grown) (sym w.1) put)); fits = fits r }
 
 -- The loop over a cursor: what a rule does with the records that the cursor gives, one after another.
 
-module _ {E : Type 0} (does : E → Feature → Output → Result (Unit {0}) Fault → E → Output → Type 0) where
+module _ {E : Type 0} (rule : RuleDef E) where
   -- one more record
-  does_more : (old : E) (out : Output) (records : List Feature) (r : Feature) (mid : E) (through : Output) (new : E) (grown : Output)
-      → DoesEach does old out records mid through → does mid r through (Ok tt) new grown → DoesEach does old out (records ++ r ∷ []) new grown
-  does_more old out [] r mid through new grown is next =
-      (new, grown, subst (λ (m : E). does m r out (Ok tt) new grown) is.0 (subst (λ (o : Output). does mid r o (Ok tt) new grown) is.1 next), (refl, refl))
-  does_more old out (x ∷ records) r mid through new grown more next =
-      (more.0, more.1, more.2, does_more more.0 more.1 records r mid through new grown more.3 next)
-
-  -- what is done with a record here is done with it there
-  abbrev pub DoesAs : E → Output → E → Output → Feature → Type 0
-  DoesAs now out mid through r =
-      (result : Result (Unit {0}) Fault) (next : E) (later : Output) → does now r out result next later → does mid r through result next later
+  taken_more : (old : E) (out : Output) (records : List Feature) (r : Feature) (mid : E) (through : Output) (new : E) (grown : Output)
+      → TakenEach rule old out records mid through → Taken rule mid r through (Ok tt) new grown → TakenEach rule old out (records ++ r ∷ []) new grown
+  taken_more old out [] r mid through new grown is next = rw (← is.0, ← is.1) (new, grown, next, (refl, refl))
+  taken_more old out (x ∷ records) r mid through new grown more next =
+      (more.0, more.1, more.2, taken_more more.0 more.1 records r mid through new grown more.3 next)
 
   -- records were taken, and the next one is available: on its chromosome the rule does with it what it would have done before entering that
-  pub record Following {C : Type 0} (gives : C → List Feature → C → Type 0) (is_on : E → List ℕ → Type 0) (old : E) (cursor : C) (out : Output)
-      (name : List ℕ) (now : E) (grown : Output) (r : Feature) (ahead : C) : Type 0 where
+  pub record Following {C R : Type 0} (cursor : Cursor C R) (old : E) (start : C) (out : Output) (now : E) (grown : Output) (r : Feature)
+      (ahead : C) : Type 0 where
     pub records : List Feature
     pub before : C
-    pub given : gives cursor records before
-    pub next : gives before (r ∷ []) ahead
-    pub on : r.chrom ≡ name
-    pub entered : is_on now name
+    pub given : cursor.gives start records before
+    pub next : cursor.gives before (r ∷ []) ahead
+    pub on : r.chrom ≡ cursor.name start
+    pub entered : rule.is_on now (cursor.name start)
     pub mid : E
     pub through : Output
-    pub each : DoesEach does old out records mid through
-    pub does_so : DoesAs now grown mid through r
+    pub each : TakenEach rule old out records mid through
+    pub does_so : (result : Result (Unit {0}) Fault) (next : E) (later : Output) → Taken rule now r grown result next later → Taken rule mid r through result next later
 
-module _ {E : Type 0} {does : E → Feature → Output → Result (Unit {0}) Fault → E → Output → Type 0} {C : Type 0} {gives : C → List Feature → C → Type 0}
-    {is_on : E → List ℕ → Type 0} {old : E} {cursor : C} {out : Output} {name : List ℕ} {now : E} {grown : Output} {r : Feature} {ahead : C}
-    (more_given : (first mid last : C) (xs ys : List Feature) → gives first xs mid → gives mid ys last → gives first (xs ++ ys) last)
-    (f : Following does gives is_on old cursor out name now grown r ahead) where
+module _ {E C R : Type 0} {rule : RuleDef E} {cursor : Cursor C R} {old : E} {start : C} {out : Output} {now : E} {grown : Output} {r : Feature} {ahead : C}
+    (more_given : (first mid last : C) (xs ys : List Feature) → cursor.gives first xs mid → cursor.gives mid ys last → cursor.gives first (xs ++ ys) last)
+    (f : Following rule cursor old start out now grown r ahead) where
   -- the available record was taken, and the next one is available
-  pub follows_on : (new : E) (later : Output) (next : Feature) (last : C) → does now r grown (Ok tt) new later → is_on new name → gives ahead (next ∷ []) last → next.chrom ≡ name
-      → Following does gives is_on old cursor out name new later next last
+  pub follows_on : (new : E) (later : Output) (next : Feature) (last : C) → Taken rule now r grown (Ok tt) new later → rule.is_on new (cursor.name start) → cursor.gives ahead (next ∷ []) last → next.chrom ≡ cursor.name start
+      → Following rule cursor old start out new later next last
   follows_on new later next last done entered given on = record {
     records = f.records ++ r ∷ [];
     before = ahead;
-    given = more_given cursor f.before ahead f.records (r ∷ []) f.given f.next;
+    given = more_given start f.before ahead f.records (r ∷ []) f.given f.next;
     next = given;
     on = on;
     entered = entered;
     mid = new;
     through = later;
-    each = does_more does old out f.records r f.mid f.through new later f.each (f.does_so (Ok tt) new later done);
+    each = taken_more rule old out f.records r f.mid f.through new later f.each (f.does_so (Ok tt) new later done);
     does_so = λ result next later d. d;
   }
 
   -- it was the last one
-  pub follows_all : {has_ended : C → Type 0} (new : E) (later : Output) → does now r grown (Ok tt) new later → has_ended ahead → DoesAll does gives has_ended old cursor out new ahead later
+  pub follows_all : (new : E) (later : Output) → Taken rule now r grown (Ok tt) new later → cursor.has_ended ahead → TakenAll rule cursor old start out new ahead later
   follows_all new later done ended = record {
     records = f.records ++ r ∷ [];
-    given = more_given cursor f.before ahead f.records (r ∷ []) f.given f.next;
+    given = more_given start f.before ahead f.records (r ∷ []) f.given f.next;
     ended = ended;
-    each = does_more does old out f.records r f.mid f.through new later f.each (f.does_so (Ok tt) new later done);
+    each = taken_more rule old out f.records r f.mid f.through new later f.each (f.does_so (Ok tt) new later done);
   }
 
   -- it wasn't taken
-  pub follows_up_to : {has_ended : C → Type 0} (fault : Fault) (new : E) (later : Output) → does now r grown (Err fault) new later → DoesUpTo does gives has_ended old cursor out fault new ahead later
+  pub follows_up_to : (fault : Fault) (new : E) (later : Output) → Taken rule now r grown (Err fault) new later → TakenUpTo rule cursor old start out fault new ahead later
   follows_up_to fault new later fails = record {
     records = f.records;
     before = f.before;
@@ -211,33 +200,32 @@ module _ {E : Type 0} {does : E → Feature → Output → Result (Unit {0}) Fau
 
 -- What an engine does that goes by a rule: what the rule does, until it has failed.
 
-module _ {E : Type 0} (lines : E → Feature → List ℕ) (has : E → Feature → E → Type 0) (wants : E → Feature → Type 0)
-    (takes : E → List Feature → Type 0) (stands : E → List Feature → E → Type 0) (settled : E → List Feature → List ℕ) (quiet : E → List Feature → Feature → Type 0) where
+module _ {E : Type 0} (rule : RuleDef E) where
   -- an engine with a rule that hasn't failed
   abbrev going : E → Ruled E
-  going rule = record { rule = rule; failure = None }
+  going now = record { rule = now; failure = None }
 
   -- one record
-  module _ (old : E) (r : Feature) (out : Output) (fits : FitsPast lines has wants takes stands settled quiet old r) where
-    puts_rest : (first : Ruled E) (past : List Feature) → ruled_stands stands first past (going old) → of_rule takes first (past ++ r ∷ []) → (grown : Output) → Grown out (lines old r) grown
-        → PutsRest (of_rule settled first past) (of_rule settled first (past ++ r ∷ [])) out grown
-    puts_rest first past s t grown p = record { bytes = lines old r; goes_on = fits.settles first.rule past s.0 t; appends = p.appends }
+  module _ (old : E) (r : Feature) (out : Output) (fits : FitsPast rule old r) where
+    puts_rest : (first : Ruled E) (past : List Feature) → (ruled rule.engine).is_after first past (going old) → rule.engine.takes first.rule (past ++ r ∷ []) → (grown : Output) → Grown out (rule.lines old r) grown
+        → PutsRest (rule.engine.settled first.rule past) (rule.engine.settled first.rule (past ++ r ∷ [])) out grown
+    puts_rest first past s t grown p = record { bytes = rule.lines old r; goes_on = fits.settles first.rule past s.0 t; appends = p.appends }
 
-    answers : (result : Result (Unit {0}) Fault) (new : Ruled E) (grown : Output) → Does lines has wants old r out result new.rule grown
+    answers : (result : Result (Unit {0}) Fault) (new : Ruled E) (grown : Output) → Does rule old r out result new.rule grown
         → ((done : Unit {0}) → result ≡ Ok done → new.failure ≡ None) → ((fault : Fault) → result ≡ Err fault → ruled_fault new ≡ Some (fault_value fault))
-        → FeedAnswers (of_rule takes) (ruled_stands stands) ruled_fault (of_rule settled) (going old) r out result new grown
+        → FeedAnswers (ruled rule.engine) (going old) r out result new grown
     answers (Ok done) new grown p none kept = record {
       was_going = refl;
       going = ap (option_map fault_of) (none done refl);
       stands = λ first past s t. (fits.next new.rule p.0 first.rule past s.0 t, ap (option_map fault_of) (none done refl));
       puts = λ first past s t. puts_rest first past s t grown p.1;
-      works = grown_works out grown (lines old r) p.1;
+      works = grown_works out grown (rule.lines old r) p.1;
     }
     answers (Err fault) new grown (inl p) none kept = inr (inl (record {
       is = p.puts.is;
       was_going = refl;
       kept = kept fault refl ∙ ap Some p.puts.is;
-      cuts = λ first past s t. record { bytes = lines old r; goes_on = fits.settles first.rule past s.0 t; front = p.puts.front };
+      cuts = λ first past s t. record { bytes = rule.lines old r; goes_on = fits.settles first.rule past s.0 t; front = p.puts.front };
       failed = p.puts.failed;
       sink_failed = p.puts.sink_failed;
     }))
@@ -246,26 +234,26 @@ module _ {E : Type 0} (lines : E → Feature → List ℕ) (has : E → Feature 
       was_going = refl;
       kept = kept fault refl ∙ ap Some p.0;
       puts = λ first past s t. puts_rest first past s t grown p.1.1;
-      works = grown_works out grown (lines old r) p.1.1;
+      works = grown_works out grown (rule.lines old r) p.1.1;
     }))
 
-    is_quiet : (result : Result (Unit {0}) Fault) (new : E) (grown : Output) → Does lines has wants old r out result new grown → (lines old r ≡ []) × (wants old r → ⊥) → IsOk result × (grown ≡ out)
+    is_quiet : (result : Result (Unit {0}) Fault) (new : E) (grown : Output) → Does rule old r out result new grown → (rule.lines old r ≡ []) × (rule.engine.wants old r → ⊥) → IsOk result × (grown ≡ out)
     is_quiet (Ok done) new grown p q = (refl, p.1.nothing q.0)
     is_quiet (Err fault) new grown (inl p) q = absurd (p.some q.0)
     is_quiet (Err fault) new grown (inr p) q = absurd (q.1 p.1.0)
 
-    grows : (result : Result (Unit {0}) Fault) (new : E) (grown : Output) → Does lines has wants old r out result new grown → Grows out.took grown.took × (out.has_failed ≡ true → grown ≡ out)
+    grows : (result : Result (Unit {0}) Fault) (new : E) (grown : Output) → Does rule old r out result new grown → Grows out.took grown.took × (out.has_failed ≡ true → grown ≡ out)
     grows (Ok done) new grown p = (p.1.grows, p.1.again)
     grows (Err fault) new grown (inl p) = (p.puts.grows, p.puts.again)
     grows (Err fault) new grown (inr p) = (p.1.1.grows, p.1.1.again)
 
-    memory : (fault : Fault) (new : E) (grown : Output) → Does lines has wants old r out (Err fault) new grown → fault_value fault ≡ no_memory → wants old r
+    memory : (fault : Fault) (new : E) (grown : Output) → Does rule old r out (Err fault) new grown → fault_value fault ≡ no_memory → rule.engine.wants old r
     memory fault new grown (inl p) is = absurd (other_fault is p.puts.is)
     memory fault new grown (inr p) is = p.1.0
 
-    feeds_by : (result : Result (Unit {0}) Fault) (new : Ruled E) (grown : Output) → Does lines has wants old r out result new.rule grown
+    feeds_by : (result : Result (Unit {0}) Fault) (new : Ruled E) (grown : Output) → Does rule old r out result new.rule grown
         → ((done : Unit {0}) → result ≡ Ok done → new.failure ≡ None) → ((fault : Fault) → result ≡ Err fault → ruled_fault new ≡ Some (fault_value fault))
-        → Feeds (of_rule takes) (ruled_stands stands) ruled_fault (of_rule settled) (going old) r out (of_rule quiet) result new grown
+        → Feeds (ruled rule.engine) (going old) r out result new grown
     feeds_by result new grown p none kept = record {
       going = λ first past s. s.1;
       answers = answers result new grown p none kept;
@@ -274,8 +262,8 @@ module _ {E : Type 0} (lines : E → Feature → List ℕ) (has : E → Feature 
       after_failure = (grows result new.rule grown p).1;
     }
 
-  taken_each : (old : E) (out : Output) (records : List Feature) (new : E) (grown : Output) → DoesEach (Taken lines has wants takes stands settled quiet) old out records new grown
-      → TakesEach (of_rule takes) (ruled_stands stands) ruled_fault (of_rule settled) (of_rule quiet) (going old) out records (going new) grown
+  taken_each : (old : E) (out : Output) (records : List Feature) (new : E) (grown : Output) → TakenEach rule old out records new grown
+      → TakesEach (ruled rule.engine) (going old) out records (going new) grown
   taken_each old out [] new grown each = (ap going each.0, each.1)
   taken_each old out (r ∷ records) new grown each = (
     going each.0,
@@ -284,24 +272,24 @@ module _ {E : Type 0} (lines : E → Feature → List ℕ) (has : E → Feature 
     taken_each each.0 each.1 records new grown each.3,
   )
 
-  module _ {C : Type 0} (gives : C → List Feature → C → Type 0) (has_ended : C → Type 0) (cursor : C) (out : Output) where
-    batch_going : (rule : E) (result : Result (Unit {0}) Fault) (new : Ruled E) (passed : C) (grown : Output) → Follows (Taken lines has wants takes stands settled quiet) gives has_ended rule cursor out result new.rule passed grown
+  module _ {C R : Type 0} (cursor : Cursor C R) (start : C) (out : Output) where
+    batch_going : (old : E) (result : Result (Unit {0}) Fault) (new : Ruled E) (passed : C) (grown : Output) → Follows rule cursor old start out result new.rule passed grown
         → ((done : Unit {0}) → result ≡ Ok done → new.failure ≡ None) → ((fault : Fault) → result ≡ Err fault → ruled_fault new ≡ Some (fault_value fault))
-        → FeedsBatch (of_rule takes) (ruled_stands stands) ruled_fault (of_rule settled) (of_rule quiet) (of_rule wants) gives has_ended (going rule) cursor out result new passed grown
-    batch_going rule (Ok done) new passed grown f none kept = (
+        → FeedsBatch (ruled rule.engine) cursor (going old) start out result new passed grown
+    batch_going old (Ok done) new passed grown f none kept = (
       record {
         records = f.records;
         given = f.given;
-        taken = subst (λ (failure : Option Failure). TakesEach (of_rule takes) (ruled_stands stands) ruled_fault (of_rule settled) (of_rule quiet) (going rule) out f.records (record { rule = new.rule; failure = failure }) grown)
-            (sym (none done refl)) (taken_each rule out f.records new.rule grown f.each);
+        taken = subst (λ (failure : Option Failure). TakesEach (ruled rule.engine) (going old) out f.records (record { rule = new.rule; failure = failure }) grown)
+            (sym (none done refl)) (taken_each old out f.records new.rule grown f.each);
       },
       f.ended,
     )
-    batch_going rule (Err fault) new passed grown f none kept = inr (record {
+    batch_going old (Err fault) new passed grown f none kept = inr (record {
       mid = going f.mid;
       before = f.before;
       through = f.through;
-      takes = record { records = f.records; given = f.given; taken = taken_each rule out f.records f.mid f.through f.each };
+      takes = record { records = f.records; given = f.given; taken = taken_each old out f.records f.mid f.through f.each };
       r = f.r;
       given = f.last;
       fails = feeds_by f.mid f.r f.through f.fails.fits (Err fault) new grown f.fails.does (λ done e. absurd (cc)) kept;
@@ -309,17 +297,16 @@ module _ {E : Type 0} (lines : E → Feature → List ℕ) (has : E → Feature 
     })
 
     -- the same for an engine that hasn't failed
-    pub batch_fed : (old : Ruled E) (result : Result (Unit {0}) Fault) (new : Ruled E) (passed : C) (grown : Output) → old.failure ≡ None → Follows (Taken lines has wants takes stands settled quiet) gives has_ended old.rule cursor out result new.rule passed grown
+    pub batch_fed : (old : Ruled E) (result : Result (Unit {0}) Fault) (new : Ruled E) (passed : C) (grown : Output) → old.failure ≡ None → Follows rule cursor old.rule start out result new.rule passed grown
         → ((done : Unit {0}) → result ≡ Ok done → new.failure ≡ None) → ((fault : Fault) → result ≡ Err fault → ruled_fault new ≡ Some (fault_value fault))
-        → FeedsBatch (of_rule takes) (ruled_stands stands) ruled_fault (of_rule settled) (of_rule quiet) (of_rule wants) gives has_ended old cursor out result new passed grown
+        → FeedsBatch (ruled rule.engine) cursor old start out result new passed grown
     batch_fed old result new passed grown was f none kept =
-        subst (λ (failure : Option Failure). FeedsBatch (of_rule takes) (ruled_stands stands) ruled_fault (of_rule settled) (of_rule quiet) (of_rule wants) gives has_ended (record { rule = old.rule; failure = failure }) cursor out result new passed grown)
+        subst (λ (failure : Option Failure). FeedsBatch (ruled rule.engine) cursor (record { rule = old.rule; failure = failure }) start out result new passed grown)
         (sym was) (batch_going old.rule result new passed grown f none kept)
 
 -- at the end
-pub ruled_finishes : {E A : Type 0} {takes : E → List Feature → Type 0} {stands : E → List Feature → E → Type 0} {settled whole : E → List Feature → List ℕ} (last : Ruled E) {out grown : Output}
-    (result : Result A Fault) → last.failure ≡ None → PutsRestAtEnd takes stands settled whole last.rule out result grown
-    → Finishes (of_rule takes) (ruled_stands stands) ruled_fault (of_rule settled) (of_rule whole) last out result grown
+pub ruled_finishes : {E A : Type 0} {rule : RuleDef E} (last : Ruled E) {out grown : Output} (result : Result A Fault) → last.failure ≡ None
+    → PutsRestAtEnd rule last.rule out result grown → Finishes (ruled rule.engine) last out result grown
 ruled_finishes last {out = out} {grown = grown} (Ok done) none p = record {
   going = λ first past s. s.1;
   answers = record {
@@ -351,15 +338,15 @@ first_of_one r x [] more e = let first : r ≡ x = cc in (refl, sym first)
 first_of_one r x (y ∷ []) more e = absurd (cc)
 first_of_one r x (y ∷ z ∷ xs) more e = absurd (cc)
 
-module _ {E : Type 0} (MayTake : E → List Feature → Type 0) (Stands : E → List Feature → E → Type 0) (fault : E → Option FaultValue) (settled : E → List Feature → List ℕ) (Quiet : E → List Feature → Feature → Type 0) (wants : E → Feature → Type 0) (old : E) (r : Feature) (out : Output) where
-  one_taken : (records : List Feature) (new : E) (grown : Output) → records ≡ r ∷ [] → TakesEach MayTake Stands fault settled Quiet old out records new grown → Feeds MayTake Stands fault settled old r out {A = Unit {0}} Quiet (Ok tt) new grown
+module _ {E : Type 0} (engine : EngineDef E) (old : E) (r : Feature) (out : Output) where
+  one_taken : (records : List Feature) (new : E) (grown : Output) → records ≡ r ∷ [] → TakesEach engine old out records new grown → Feeds engine old r out {A = Unit {0}} (Ok tt) new grown
   one_taken records new grown is taken =
-      let t = subst (λ (l : List Feature). TakesEach MayTake Stands fault settled Quiet old out l new grown) is taken in
-      subst (λ (e : E). Feeds MayTake Stands fault settled old r out {A = Unit {0}} Quiet (Ok tt) e grown) (sym t.3.0)
-      (subst (λ (o : Output). Feeds MayTake Stands fault settled old r out {A = Unit {0}} Quiet (Ok tt) t.0 o) (sym t.3.1) t.2)
+      let t = subst (λ (l : List Feature). TakesEach engine old out l new grown) is taken in
+      subst (λ (e : E). Feeds engine old r out {A = Unit {0}} (Ok tt) e grown) (sym t.3.0)
+      (subst (λ (o : Output). Feeds engine old r out {A = Unit {0}} (Ok tt) t.0 o) (sym t.3.1) t.2)
 
-  pub single_fed : (one passed : Single) (result : Result (Unit {0}) Fault) (new : E) (grown : Output) → single_left one ≡ r ∷ [] → FeedsBatch MayTake Stands fault settled Quiet wants GivesSingle HasNone old one out result new passed grown
-      → Feeds MayTake Stands fault settled old r out Quiet result new grown
+  pub single_fed : (one passed : Single) (result : Result (Unit {0}) Fault) (new : E) (grown : Output) → single_left one ≡ r ∷ [] → FeedsBatch engine single_cursor old one out result new passed grown
+      → Feeds engine old r out result new grown
   single_fed one passed (Ok done) new grown is f =
       one_taken f.0.records new grown (sym (append-nil f.0.records) ∙ ap (λ l. f.0.records ++ l) (sym f.1.none) ∙ sym f.0.given.left ∙ is) f.0.taken
   single_fed one passed (Err answer) new grown is (inl p) = record {
@@ -371,17 +358,17 @@ module _ {E : Type 0} (MayTake : E → List Feature → Type 0) (Stands : E → 
   }
   single_fed one passed (Err answer) new grown is (inr p) =
       let at = first_of_one r p.r p.takes.records (single_left passed) (sym is ∙ p.takes.given.left ∙ ap (λ l. p.takes.records ++ l) p.given.left) in
-      let none = subst (λ (l : List Feature). TakesEach MayTake Stands fault settled Quiet old out l p.mid p.through) at.0 p.takes.taken in
-      subst (λ (x : Feature). Feeds MayTake Stands fault settled old x out {A = Unit {0}} Quiet (Err answer) new grown) at.1
-      (subst (λ (e : E). Feeds MayTake Stands fault settled e p.r out {A = Unit {0}} Quiet (Err answer) new grown) none.0
-      (subst (λ (o : Output). Feeds MayTake Stands fault settled p.mid p.r o {A = Unit {0}} Quiet (Err answer) new grown) none.1 p.fails))
+      let none = subst (λ (l : List Feature). TakesEach engine old out l p.mid p.through) at.0 p.takes.taken in
+      subst (λ (x : Feature). Feeds engine old x out {A = Unit {0}} (Err answer) new grown) at.1
+      (subst (λ (e : E). Feeds engine e p.r out {A = Unit {0}} (Err answer) new grown) none.0
+      (subst (λ (o : Output). Feeds engine p.mid p.r o {A = Unit {0}} (Err answer) new grown) none.1 p.fails))
 
   -- if memory ran out, it was for that record
-  pub single_wants : (one passed : Single) (result : Result (Unit {0}) Fault) (new : E) (grown : Output) → single_left one ≡ r ∷ [] → FeedsBatch MayTake Stands fault settled Quiet wants GivesSingle HasNone old one out result new passed grown
-      → IsWanted wants fault old r result
+  pub single_wants : (one passed : Single) (result : Result (Unit {0}) Fault) (new : E) (grown : Output) → single_left one ≡ r ∷ [] → FeedsBatch engine single_cursor old one out result new passed grown
+      → IsWanted engine old r result
   single_wants one passed (Ok done) new grown is f = tt
   single_wants one passed (Err answer) new grown is (inl p) = λ memory going. let some = p.is in absurd (cc)
   single_wants one passed (Err answer) new grown is (inr p) = λ memory going.
       let at = first_of_one r p.r p.takes.records (single_left passed) (sym is ∙ p.takes.given.left ∙ ap (λ l. p.takes.records ++ l) p.given.left) in
-      let none = subst (λ (l : List Feature). TakesEach MayTake Stands fault settled Quiet old out l p.mid p.through) at.0 p.takes.taken in
-      subst (wants old) at.1 (subst (λ (e : E). wants e p.r) none.0 (p.memory memory))
+      let none = subst (λ (l : List Feature). TakesEach engine old out l p.mid p.through) at.0 p.takes.taken in
+      subst (engine.wants old) at.1 (subst (λ (e : E). engine.wants e p.r) none.0 (p.memory memory))

@@ -1,12 +1,13 @@
 -- The rule of a complement as its callers see it.
-use Rattle.std.specs.Prelude.{◌≡◌, ℕ, Bool, List, length, Option}
+use Rattle.std.specs.Prelude.{◌≡◌, ℕ, Bool, List, length, Option, None}
 use Rattle.bt_bed.specs.model.Feature.{Feature}
 use Rattle.bt_bed.specs.model.BedLine.{interval_lines}
 use Rattle.bt_bed.specs.model.Genome.{Entry}
 use Rattle.bt_bed.specs.model.Sorted.{Locus}
-use Rattle.bt_runs.specs.calls.Engine.{IsQuiet}
+use Rattle.bt_runs.specs.calls.Engine.{EngineDef, IsQuiet, ruled}
 use Rattle.bt_runs.specs.model.Gaps.{AreTaken, complement, kept_place, settled_gaps}
 use Rattle.bt_runs.specs.inside.Walk.{Place, places}
+use Rattle.bt_runs.specs.declared.engine.rule.Ruled.{Ruled}
 
 -- The chromosomes, whether those without records are left out, the one that was reached and how far its
 -- gaps are settled. Last, how many bases the chromosome of the records has, of those that are known.
@@ -26,22 +27,30 @@ pub record IsAfter (first : Complementing) (past : List Feature) (now : Compleme
   pub same_limit : now.limit ≡ first.limit
   pub kept : kept_in now ≡ kept_place first.entries past
 
--- the records that may be taken
-abbrev pub may_take : Complementing → List Feature → Type 0
-may_take first past = AreTaken first.entries past
-
 -- the lines of the settled gaps
 abbrev pub settled_lines : Complementing → List Feature → List ℕ
 settled_lines first past = interval_lines (settled_gaps first.limit first.entries past)
-
--- the lines of all gaps
-abbrev pub whole_output : Complementing → List Feature → List ℕ
-whole_output first past = interval_lines (complement first.limit first.entries past)
 
 -- how many places are kept
 abbrev pub held_count : Complementing → List Feature → ℕ
 held_count first past = length (kept_place first.entries past)
 
--- a record that settles no gap, with which no more places are kept
-abbrev pub is_quiet : Complementing → List Feature → Feature → Type 0
-is_quiet first past r = IsQuiet (settled_lines first) (held_count first) past r
+-- what is said of a complement, until it has failed
+abbrev pub complementing : EngineDef Complementing
+complementing = record {
+  takes = λ first past. AreTaken first.entries past;
+  settled = settled_lines;
+  -- the lines of all gaps
+  output = λ first past. interval_lines (complement first.limit first.entries past);
+  held = held_count;
+  is_after = IsAfter;
+  fault = λ now. None;
+  -- a record that settles no gap, with which no more places are kept
+  quiet = λ first past r. IsQuiet (settled_lines first) (held_count first) past r;
+  -- it doesn't allocate
+  wants = λ old r. ⊥;
+}
+
+-- a complement
+abbrev pub complement_engine : EngineDef (Ruled Complementing)
+complement_engine = ruled complementing

@@ -2,15 +2,16 @@
 use Rattle.std.specs.Prelude.{◌≡◌, ℕ, ◌<◌, Bool, true, false, List, [], length, Option, Some, None, cond, nat_lt}
 use Rattle.bt_bed.specs.model.Feature.{Feature, Span}
 use Rattle.bt_bed.specs.model.Genome.{Entry, genome_names}
-use Rattle.bt_bed.specs.model.Sorted.{Locus}
 use Rattle.bt_bed.specs.declared.record.strand.Strand.{Strand}
 use Rattle.bt_bed.specs.model.Order.{rank_of}
+use Rattle.bt_runs.specs.calls.Engine.{EngineDef, ruled}
 use Rattle.bt_runs.specs.inside.Coverage.{begun_seen, Known, begun_to, depth_walk, still_open}
 use Rattle.bt_runs.specs.model.Depth.{DepthInterval, coverage, depth_lines, is_counted_by, kept_records, known_place, settled_depths, unfinished, Begun}
 use Rattle.bt_runs.specs.model.Gaps.{AreTaken, length_in}
-use Rattle.bt_runs.specs.inside.Walk.{AreReached, Place, entry_at, is_on, places, walk_step}
+use Rattle.bt_runs.specs.inside.Walk.{AreReached, Place, RuleDef, entry_at, is_on, places, walk_step}
 use Rattle.bt_runs.specs.declared.coverage.depth_rule.CurrentChrom.{CurrentChrom}
 use Rattle.bt_runs.specs.declared.coverage.depths.OpenInterval.{OpenInterval}
+use Rattle.bt_runs.specs.declared.engine.rule.Ruled.{Ruled}
 
 -- The chromosomes, whether depth 0 is reported, the strand that is counted. Then the chromosome that was
 -- reached with what is known of it, whether the last record lies there, and its name and length.
@@ -46,29 +47,29 @@ pub record IsAfter (first : Covering) (past : List Feature) (now : Covering) : T
   pub kept : kept_in now ≡ kept_records first.strand first.entries past
   pub reached : AreReached now.entries now.current
 
--- the records that may be taken
-abbrev pub may_take : Covering → List Feature → Type 0
-may_take first past = AreTaken first.entries past
-
--- the lines of the settled intervals
-abbrev pub settled_lines : Covering → List Feature → List ℕ
-settled_lines first past = depth_lines (settled_depths first.zeros first.strand first.entries past)
-
--- the lines of all intervals
-abbrev pub whole_output : Covering → List Feature → List ℕ
-whole_output first past = depth_lines (coverage first.zeros first.strand first.entries past)
-
--- how many records are kept
-abbrev pub held_count : Covering → List Feature → ℕ
-held_count first past = length (kept_records first.strand first.entries past)
-
--- no record is said to be taken quietly: `wants_memory` says when memory may be needed
-abbrev pub is_quiet : Covering → List Feature → Feature → Type 0
-is_quiet first past r = ⊥
-
 -- memory is needed for a record that has to be kept: it is counted, and starts below its chromosome's length
 abbrev pub wants_memory : Covering → Feature → Type 0
 wants_memory old r = (is_counted_by old.strand r.strand ≡ true) × (r.start < length_in old.entries r.chrom)
+
+-- what is said of a coverage, until it has failed
+abbrev pub covering : EngineDef Covering
+covering = record {
+  takes = λ first past. AreTaken first.entries past;
+  -- the lines of the settled intervals, and of all
+  settled = λ first past. depth_lines (settled_depths first.zeros first.strand first.entries past);
+  output = λ first past. depth_lines (coverage first.zeros first.strand first.entries past);
+  -- how many records are kept
+  held = λ first past. length (kept_records first.strand first.entries past);
+  is_after = IsAfter;
+  fault = λ now. None;
+  -- no record is said to be taken quietly: `wants_memory` says when memory may be needed
+  quiet = λ first past r. ⊥;
+  wants = wants_memory;
+}
+
+-- a coverage
+abbrev pub coverage_engine : EngineDef (Ruled Covering)
+coverage_engine = ruled covering
 
 -- what is known once the depths are settled by a record's start, before the record is counted
 abbrev pub settled_known : Bool → ℕ → Known → ℕ → Known
@@ -122,3 +123,7 @@ pub record CountsRecord (old : Covering) (r : Feature) (new : Covering) : Type 0
   pub same_strand : new.strand ≡ old.strand
   pub current : new.current ≡ (depth_step old r).0
   pub at : AreReached old.entries old.current → AreReached old.entries new.current
+
+-- the rule
+abbrev pub depth_rule : RuleDef Covering
+depth_rule = record { engine = covering; lines = next_lines; has = CountsRecord; is_on = IsOnChrom }

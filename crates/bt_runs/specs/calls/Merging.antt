@@ -1,13 +1,12 @@
 -- What a merge holds after the records of the past: with one set of records one open run, and with
 -- each strand separately the runs that wait.
-use Rattle.std.specs.Prelude.{◌≡◌, ℕ, List, [], Option, None}
+use Rattle.std.specs.Prelude.{ℕ, List, [], Option, None}
 use Rattle.bt_lines.specs.model.Fault.{FaultValue}
 use Rattle.bt_bed.specs.model.Feature.{Feature, Interval}
-use Rattle.bt_runs.specs.calls.Engine.{ruled_fault, ruled_stands}
-use Rattle.bt_runs.specs.calls.Stranding as strands
-use Rattle.bt_runs.specs.model.Merged.{places_of}
-use Rattle.bt_runs.specs.inside.merge.StrandStep as strand_step
-use Rattle.bt_runs.specs.calls.Unstranded as unstranded
+use Rattle.bt_runs.specs.calls.Engine.{EngineDef, ruled, ruled_fault}
+use Rattle.bt_runs.specs.model.Merged.{AreTaken, places_of}
+use Rattle.bt_runs.specs.inside.merge.StrandStep.{stranding}
+use Rattle.bt_runs.specs.calls.Unstranded.{unstranded}
 use Rattle.bt_runs.specs.declared.merge.merge_strand.MergeStrand.{MergeStrand}
 use Rattle.bt_runs.specs.declared.merge.merge_strand.MergeStrand.TheVariants.{Each}
 use Rattle.bt_runs.specs.declared.merge.Kind.{Kind}
@@ -22,8 +21,8 @@ merge_begun gap strand =
 
 -- what the merge has become after the records
 abbrev pub IsAfter : Kind → List Feature → Kind → Type 0
-IsAfter (Unstranded first) past (Unstranded now) = ruled_stands unstranded.IsAfter first past now
-IsAfter (PerStrand first) past (PerStrand now) = ruled_stands strands.IsAfter first past now
+IsAfter (Unstranded first) past (Unstranded now) = (ruled unstranded).is_after first past now
+IsAfter (PerStrand first) past (PerStrand now) = (ruled stranding).is_after first past now
 IsAfter (Unstranded first) past (PerStrand now) = ⊥
 IsAfter (PerStrand first) past (Unstranded now) = ⊥
 
@@ -34,23 +33,23 @@ kept_fault (PerStrand merge) = ruled_fault merge
 
 -- the lines of the settled runs
 abbrev pub settled_lines : Kind → List Feature → List ℕ
-settled_lines (Unstranded first) past = unstranded.settled_lines first.rule past
-settled_lines (PerStrand first) past = strands.settled_lines first.rule past
+settled_lines (Unstranded first) past = unstranded.settled first.rule past
+settled_lines (PerStrand first) past = stranding.settled first.rule past
 
 -- the lines of all runs
 abbrev pub whole_output : Kind → List Feature → List ℕ
-whole_output (Unstranded first) past = unstranded.whole_output first.rule past
-whole_output (PerStrand first) past = strands.whole_output first.rule past
+whole_output (Unstranded first) past = unstranded.output first.rule past
+whole_output (PerStrand first) past = stranding.output first.rule past
 
 -- how many runs are kept
 abbrev pub held_count : Kind → List Feature → ℕ
-held_count (Unstranded first) past = unstranded.held_count first.rule past
-held_count (PerStrand first) past = strands.held_count first.rule past
+held_count (Unstranded first) past = unstranded.held first.rule past
+held_count (PerStrand first) past = stranding.held first.rule past
 
 -- a record on the last chromosome that settles no run, with which no more are kept
 abbrev pub is_quiet : Kind → List Feature → Feature → Type 0
-is_quiet (Unstranded first) past r = unstranded.is_quiet first.rule past r
-is_quiet (PerStrand first) past r = strands.is_quiet first.rule past r
+is_quiet (Unstranded first) past r = unstranded.quiet first.rule past r
+is_quiet (PerStrand first) past r = stranding.quiet first.rule past r
 
 -- the runs that are kept
 abbrev pub kept_places : Kind → List Interval
@@ -59,5 +58,18 @@ kept_places (PerStrand merge) = places_of merge.rule.kept
 
 -- what needs memory: the name of another chromosome, and with each strand separately a run that has to be opened
 abbrev pub wants_memory : Kind → Feature → Type 0
-wants_memory (Unstranded old) r = old.rule.chrom ≡ r.chrom → ⊥
-wants_memory (PerStrand old) r = strand_step.wants_memory old.rule r
+wants_memory (Unstranded old) r = unstranded.wants old.rule r
+wants_memory (PerStrand old) r = stranding.wants old.rule r
+
+-- a merge
+abbrev pub merge_engine : EngineDef Kind
+merge_engine = record {
+  takes = λ first past. AreTaken past;
+  settled = settled_lines;
+  output = whole_output;
+  held = held_count;
+  is_after = IsAfter;
+  fault = kept_fault;
+  quiet = is_quiet;
+  wants = wants_memory;
+}

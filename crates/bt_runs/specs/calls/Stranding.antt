@@ -2,8 +2,7 @@
 use Rattle.std.specs.Prelude.{◌≡◌, ℕ, List, [], ◌∷◌, ◌++◌, length}
 use Rattle.bt_bed.specs.model.Feature.{Feature}
 use Rattle.bt_bed.specs.model.BedLine.{interval_lines}
-use Rattle.bt_runs.specs.calls.Engine.{IsOnLast, IsQuiet}
-use Rattle.bt_runs.specs.model.Merged.{StrandRun, kept_strand_runs, places_of, settled_strand_runs, strand_runs}
+use Rattle.bt_runs.specs.model.Merged.{StrandRun, kept_strand_runs, places_of, settled_strand_runs}
 
 -- the gap that it bridges, the chromosome that it is on, and the runs that it keeps
 pub record Stranding : Type 0 where
@@ -28,15 +27,6 @@ strand_lines items = interval_lines (places_of items)
 abbrev pub settled_lines : Stranding → List Feature → List ℕ
 settled_lines first past = strand_lines (settled_strand_runs first.gap past)
 
--- the lines of all runs
-abbrev pub whole_output : Stranding → List Feature → List ℕ
-whole_output first past = strand_lines (strand_runs first.gap past)
-
 -- how many runs are kept
 abbrev pub held_count : Stranding → List Feature → ℕ
 held_count first past = length (kept_strand_runs first.gap past)
-
--- a record on the chromosome of the one before it that settles no run, with which no more are kept
-abbrev pub is_quiet : Stranding → List Feature → Feature → Type 0
-is_quiet first past r =
-    IsQuiet (settled_lines first) (held_count first) past r × IsOnLast past r

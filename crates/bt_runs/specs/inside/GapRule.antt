@@ -5,9 +5,9 @@ use Rattle.bt_bed.specs.model.BedLine.{interval_lines}
 use Rattle.bt_bed.specs.model.Genome.{genome_names}
 use Rattle.bt_bed.specs.calls.GenomeTable.{entries}
 use Rattle.bt_bed.specs.model.Order.{rank_of}
-use Rattle.bt_runs.specs.calls.Complementing.{Complementing}
+use Rattle.bt_runs.specs.calls.Complementing.{Complementing, complementing}
 use Rattle.bt_runs.specs.model.Gaps.{length_in}
-use Rattle.bt_runs.specs.inside.Walk.{is_on, walk_step, Place}
+use Rattle.bt_runs.specs.inside.Walk.{is_on, walk_step, Place, RuleDef}
 use Rattle.bt_runs.specs.inside.GapStep.{gap_walk}
 use Rattle.bt_runs.specs.declared.complement.gap_cursor.GapCursor.{GapCursor}
 
@@ -46,4 +46,13 @@ abbrev pub with_record : Complementing → Feature → Complementing
 with_record old r = record old {
   current = (walk_step (gap_walk old.limit) old.entries old.current r).0;
   bases = length_in old.entries r.chrom;
+}
+
+-- the rule
+abbrev pub gap_rule : RuleDef Complementing
+gap_rule = record {
+  engine = complementing;
+  lines = next_lines;
+  has = λ old r new. new ≡ with_record old r;
+  is_on = IsOnChrom;
 }

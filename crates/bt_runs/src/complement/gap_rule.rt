@@ -5,9 +5,8 @@ ghost use Rattle.std.specs.Prelude.{◌≡◌, ◌≤◌, [], flat_map, length, 
 ghost use Rattle.bt_lines.specs.calls.Output.{Adds};
 ghost use Rattle.bt_bed.specs.calls.GenomeTable.{entries};
 ghost use Rattle.bt_bed.specs.model.BedLine.{interval_lines};
-ghost use Rattle.bt_runs.specs.calls.Complementing.{IsAfter, held_count, is_quiet, kept_in, may_take, settled_lines, whole_output};
-ghost use Rattle.bt_runs.specs.calls.Engine.{KeepsHeld};
-ghost use Rattle.bt_runs.specs.inside.GapRule.{seen, IsOnChrom, complement_at, next_lines, with_record};
+ghost use Rattle.bt_runs.specs.calls.Complementing.{IsAfter};
+ghost use Rattle.bt_runs.specs.inside.GapRule.{complement_at, gap_rule, seen};
 ghost use Rattle.bt_runs.specs.inside.Walk.{left_before};
 ghost use Rattle.bt_runs.specs.inside.GapStep.{bare_gap, last_gap};
 
@@ -55,24 +54,7 @@ impl<'g> GapRule<'g> {
 impl<'g> Rule for GapRule<'g> {
     type OnChrom = GapCursor<'g>;
 
-    ghost takes = { may_take };
-
-    ghost settled = { settled_lines };
-
-    ghost output = { whole_output };
-
-    ghost is_after = { IsAfter };
-
-    ghost quiet = { is_quiet };
-
-    // It doesn't allocate.
-    ghost wants = { λ rule r. ⊥ };
-
-    ghost lines = { next_lines };
-
-    ghost has = { λ old r new. new ≡ with_record old r };
-
-    ghost is_on = { IsOnChrom };
+    ghost definition = { gap_rule };
 
     ghost with_on = { λ complement cursor. complement_at complement.limit cursor };
 

@@ -9,8 +9,8 @@ ghost use Rattle.bt_lines.specs.calls.Names.{fault_value};
 ghost use Rattle.bt_lines.specs.calls.Output.{Grows};
 ghost use Rattle.bt_bed.specs.calls.Bed.{feature_lent};
 ghost use Rattle.bt_bed.specs.calls.GenomeTable.{entries};
-ghost use Rattle.bt_runs.specs.calls.Engine.{AnswersAgain, IsFaultless, KeepsFault, TakesQuiet, WritesLeft, WritesLeftPrefix, WritesPrefix, WritesSettled, KeepsHeld, of_rule, ruled_fault, ruled_stands};
-ghost use Rattle.bt_runs.specs.calls.Complementing.{IsAfter, held_count, is_quiet, kept_in, may_take, settled_lines, whole_output};
+ghost use Rattle.bt_runs.specs.calls.Engine.{AnswersAgain, IsFaultless, KeepsFault, TakesQuiet, WritesLeft, WritesLeftPrefix, WritesPrefix, WritesSettled, KeepsHeld, ruled_fault};
+ghost use Rattle.bt_runs.specs.calls.Complementing.{IsAfter, complement_engine, kept_in};
 
 use crate::complement::gap_rule::GapRule;
 use crate::engine::Engine;
@@ -54,18 +54,15 @@ impl<'g> Complement<'g> {
     /// fails, and returns that from then on.
     #[tactic(auto, using(crate::proofs::lemmas::Engine::feeds_again, crate::proofs::lemmas::Engine::feeds_fault, crate::proofs::lemmas::Engine::feeds_prefix, crate::proofs::lemmas::Engine::feeds_settled, crate::proofs::lemmas::Engine::only_writes))]
     pub fn feed<K: Sink>(&mut self, bed: &BedRef<'_>, out: &mut Out<K>) -> Result<(), Fault>
-        ensures going { IsFaultless (ruled_stands IsAfter) ruled_fault self.old }
-        ensures written { WritesSettled (of_rule may_take) (ruled_stands IsAfter) ruled_fault (of_rule settled_lines) self.old
-            (feature_lent bed.now) out.old.output result self.new out.new.output }
-        ensures fault { KeepsFault ruled_fault result self.new }
-        ensures prefix { WritesPrefix (of_rule may_take) (ruled_stands IsAfter) ruled_fault (of_rule settled_lines) self.old
-            (feature_lent bed.now) out.old.output result self.new out.new.output }
+        ensures going { IsFaultless complement_engine self.old }
+        ensures written { WritesSettled complement_engine self.old (feature_lent bed.now) out.old.output result self.new out.new.output }
+        ensures fault { KeepsFault complement_engine result self.new }
+        ensures prefix { WritesPrefix complement_engine self.old (feature_lent bed.now) out.old.output result self.new out.new.output }
         ensures memory { ruled_fault self.old ≡ None → IfErr result (λ fault. fault_value fault ≡ write_failed) }
-        ensures again { AnswersAgain (ruled_fault self.old) result }
+        ensures again { AnswersAgain complement_engine self.old result }
         ensures stays { (before : FaultValue) → ruled_fault self.old ≡ Some before
             → (self.new ≡ self.old) × (out.new.output ≡ out.old.output) }
-        ensures quiet { TakesQuiet (of_rule may_take) (ruled_stands IsAfter) ruled_fault (of_rule settled_lines) self.old
-            (feature_lent bed.now) out.old.output (of_rule is_quiet) result out.new.output }
+        ensures quiet { TakesQuiet complement_engine self.old (feature_lent bed.now) out.old.output result out.new.output }
         ensures grows { Grows out.old.output.took out.new.output.took }
         ensures after_failure { out.old.output.has_failed ≡ true → out.new.output ≡ out.old.output }
     {
@@ -76,12 +73,10 @@ impl<'g> Complement<'g> {
     /// fault that was returned before.
     #[tactic(auto, using(crate::proofs::lemmas::Engine::finishes_again, crate::proofs::lemmas::Engine::finishes_left, crate::proofs::lemmas::Engine::finishes_prefix))]
     pub fn finish<K: Sink>(self, out: &mut Out<K>) -> Result<(), Fault>
-        ensures going { IsFaultless (ruled_stands IsAfter) ruled_fault self.entry }
-        ensures written { WritesLeft (of_rule may_take) (ruled_stands IsAfter) ruled_fault (of_rule settled_lines)
-            (of_rule whole_output) self.entry out.old.output result out.new.output }
-        ensures prefix { WritesLeftPrefix (of_rule may_take) (ruled_stands IsAfter) ruled_fault (of_rule settled_lines)
-            (of_rule whole_output) self.entry out.old.output result out.new.output }
-        ensures again { AnswersAgain (ruled_fault self.entry) result }
+        ensures going { IsFaultless complement_engine self.entry }
+        ensures written { WritesLeft complement_engine self.entry out.old.output result out.new.output }
+        ensures prefix { WritesLeftPrefix complement_engine self.entry out.old.output result out.new.output }
+        ensures again { AnswersAgain complement_engine self.entry result }
         ensures stays { (before : FaultValue) → ruled_fault self.entry ≡ Some before → out.new.output ≡ out.old.output }
         ensures grows { Grows out.old.output.took out.new.output.took }
         ensures after_failure { out.old.output.has_failed ≡ true → out.new.output ≡ out.old.output }
@@ -92,29 +87,14 @@ impl<'g> Complement<'g> {
     /// How many positions it keeps: 0 or 1.
     pub fn kept_len(&self) -> usize
         ensures list { result ≡ length (kept_in self.now.rule) }
-        ensures held { KeepsHeld (of_rule may_take) (ruled_stands IsAfter) self.now (of_rule held_count) result }
+        ensures held { KeepsHeld complement_engine self.now result }
     {
         Engine::kept_len(self)
     }
 }
 
 impl Engine for Complement<'_> {
-    ghost takes = { of_rule may_take };
-
-    ghost settled = { of_rule settled_lines };
-
-    ghost output = { of_rule whole_output };
-
-    ghost held = { of_rule held_count };
-
-    ghost is_after = { ruled_stands IsAfter };
-
-    ghost fault = { ruled_fault };
-
-    ghost quiet = { of_rule is_quiet };
-
-    // It doesn't allocate.
-    ghost wants = { λ complement r. ⊥ };
+    ghost definition = { complement_engine };
 
     fn feed_batch<C: Cursor, K: Sink>(
         &mut self,
@@ -132,7 +112,7 @@ impl Engine for Complement<'_> {
     /// How many positions it keeps: 0 or 1.
     fn kept_len(&self) -> usize
         ensures list { result ≡ length (kept_in self.now.rule) }
-        ensures held { KeepsHeld (of_rule may_take) (ruled_stands IsAfter) self.now (of_rule held_count) result }
+        ensures held { KeepsHeld complement_engine self.now result }
     {
         usize::from(self.rule.rule.cursor.rank.is_some())
     }

@@ -5,9 +5,8 @@ ghost use Rattle.bt_runs.specs.declared.engine.failure.Failure.TheVariants.{Memo
 ghost use Rattle.bt_lines.specs.calls.Output.{Adds};
 ghost use Rattle.bt_bed.specs.calls.GenomeTable.{entries};
 ghost use Rattle.bt_runs.specs.inside.Coverage.{known_seen, seen, CountAnswers, bare_of, depths_left, known_by, levels_by, levels_left, levels_on};
-ghost use Rattle.bt_runs.specs.calls.Covering.{CountsRecord, IsAfter, IsOnChrom, held_count, is_quiet, kept_in, may_take, next_lines, settled_known, settled_lines, wants_memory, whole_output, with_chrom};
+ghost use Rattle.bt_runs.specs.calls.Covering.{IsAfter, depth_rule, settled_known, with_chrom};
 ghost use Rattle.bt_runs.specs.model.Depth.{depth_lines, is_counted_by};
-ghost use Rattle.bt_runs.specs.calls.Engine.{KeepsHeld};
 ghost use Rattle.bt_runs.specs.inside.Walk.{AreReached, begun, is_on, left_before, left_of};
 
 use crate::coverage::depth_line::put_depth;
@@ -113,23 +112,7 @@ impl<'g> DepthRule<'g> {
 impl<'g> Rule for DepthRule<'g> {
     type OnChrom = CurrentChrom<'g>;
 
-    ghost takes = { may_take };
-
-    ghost settled = { settled_lines };
-
-    ghost output = { whole_output };
-
-    ghost is_after = { IsAfter };
-
-    ghost quiet = { is_quiet };
-
-    ghost wants = { wants_memory };
-
-    ghost lines = { next_lines };
-
-    ghost has = { CountsRecord };
-
-    ghost is_on = { IsOnChrom };
+    ghost definition = { depth_rule };
 
     ghost with_on = { with_chrom };
 

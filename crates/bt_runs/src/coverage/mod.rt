@@ -11,8 +11,8 @@ ghost use Rattle.bt_lines.specs.model.Fault.{FaultValue};
 ghost use Rattle.bt_lines.specs.calls.Output.{Grows};
 ghost use Rattle.bt_bed.specs.calls.Bed.{feature_lent};
 ghost use Rattle.bt_bed.specs.calls.GenomeTable.{entries};
-ghost use Rattle.bt_runs.specs.calls.Engine.{AnswersAgain, IsFaultless, KeepsFault, TakesQuiet, WritesFirst, WritesLeft, WritesLeftPrefix, WritesPrefix, WritesSettled, IsWanted, KeepsHeld, of_rule, ruled_fault, ruled_stands};
-ghost use Rattle.bt_runs.specs.calls.Covering.{IsAfter, held_count, is_quiet, kept_in, may_take, settled_lines, wants_memory, whole_output};
+ghost use Rattle.bt_runs.specs.calls.Engine.{AnswersAgain, IsFaultless, KeepsFault, TakesQuiet, WritesFirst, WritesLeft, WritesLeftPrefix, WritesPrefix, WritesSettled, IsWanted, KeepsHeld, ruled_fault};
+ghost use Rattle.bt_runs.specs.calls.Covering.{IsAfter, coverage_engine, kept_in};
 
 use crate::coverage::depth_rule::DepthRule;
 use crate::engine::Engine;
@@ -63,20 +63,16 @@ impl<'g> Coverage<'g> {
     /// on: `WriteFailed`, or `NoMemory`, only if the record has to be kept.
     #[tactic(auto, using(crate::proofs::lemmas::Engine::feeds_again, crate::proofs::lemmas::Engine::feeds_fault, crate::proofs::lemmas::Engine::feeds_first, crate::proofs::lemmas::Engine::feeds_prefix, crate::proofs::lemmas::Engine::feeds_settled))]
     pub fn feed<K: Sink>(&mut self, bed: &BedRef<'_>, out: &mut Out<K>) -> Result<(), Fault>
-        ensures going { IsFaultless (ruled_stands IsAfter) ruled_fault self.old }
-        ensures written { WritesSettled (of_rule may_take) (ruled_stands IsAfter) ruled_fault (of_rule settled_lines) self.old
-            (feature_lent bed.now) out.old.output result self.new out.new.output }
-        ensures fault { KeepsFault ruled_fault result self.new }
-        ensures prefix { WritesPrefix (of_rule may_take) (ruled_stands IsAfter) ruled_fault (of_rule settled_lines) self.old
-            (feature_lent bed.now) out.old.output result self.new out.new.output }
-        ensures ran_out { WritesFirst (of_rule may_take) (ruled_stands IsAfter) ruled_fault (of_rule settled_lines) self.old
-            (feature_lent bed.now) out.old.output result self.new out.new.output }
-        ensures memory { IsWanted (of_rule wants_memory) ruled_fault self.old (feature_lent bed.now) result }
-        ensures again { AnswersAgain (ruled_fault self.old) result }
+        ensures going { IsFaultless coverage_engine self.old }
+        ensures written { WritesSettled coverage_engine self.old (feature_lent bed.now) out.old.output result self.new out.new.output }
+        ensures fault { KeepsFault coverage_engine result self.new }
+        ensures prefix { WritesPrefix coverage_engine self.old (feature_lent bed.now) out.old.output result self.new out.new.output }
+        ensures ran_out { WritesFirst coverage_engine self.old (feature_lent bed.now) out.old.output result self.new out.new.output }
+        ensures memory { IsWanted coverage_engine self.old (feature_lent bed.now) result }
+        ensures again { AnswersAgain coverage_engine self.old result }
         ensures stays { (before : FaultValue) → ruled_fault self.old ≡ Some before
             → (self.new ≡ self.old) × (out.new.output ≡ out.old.output) }
-        ensures quiet { TakesQuiet (of_rule may_take) (ruled_stands IsAfter) ruled_fault (of_rule settled_lines) self.old
-            (feature_lent bed.now) out.old.output (of_rule is_quiet) result out.new.output }
+        ensures quiet { TakesQuiet coverage_engine self.old (feature_lent bed.now) out.old.output result out.new.output }
         ensures grows { Grows out.old.output.took out.new.output.took }
         ensures after_failure { out.old.output.has_failed ≡ true → out.new.output ≡ out.old.output }
     {
@@ -87,12 +83,10 @@ impl<'g> Coverage<'g> {
     /// fault that was returned before.
     #[tactic(auto, using(crate::proofs::lemmas::Engine::finishes_again, crate::proofs::lemmas::Engine::finishes_left, crate::proofs::lemmas::Engine::finishes_prefix))]
     pub fn finish<K: Sink>(self, out: &mut Out<K>) -> Result<(), Fault>
-        ensures going { IsFaultless (ruled_stands IsAfter) ruled_fault self.entry }
-        ensures written { WritesLeft (of_rule may_take) (ruled_stands IsAfter) ruled_fault (of_rule settled_lines) (of_rule whole_output) self.entry
-            out.old.output result out.new.output }
-        ensures prefix { WritesLeftPrefix (of_rule may_take) (ruled_stands IsAfter) ruled_fault (of_rule settled_lines) (of_rule whole_output)
-            self.entry out.old.output result out.new.output }
-        ensures again { AnswersAgain (ruled_fault self.entry) result }
+        ensures going { IsFaultless coverage_engine self.entry }
+        ensures written { WritesLeft coverage_engine self.entry out.old.output result out.new.output }
+        ensures prefix { WritesLeftPrefix coverage_engine self.entry out.old.output result out.new.output }
+        ensures again { AnswersAgain coverage_engine self.entry result }
         ensures stays { (before : FaultValue) → ruled_fault self.entry ≡ Some before → out.new.output ≡ out.old.output }
         ensures grows { Grows out.old.output.took out.new.output.took }
         ensures after_failure { out.old.output.has_failed ≡ true → out.new.output ≡ out.old.output }
@@ -103,28 +97,14 @@ impl<'g> Coverage<'g> {
     /// How many counted records end at the last start or past it.
     pub fn kept_len(&self) -> usize
         ensures list { result ≡ length (kept_in self.now.rule) }
-        ensures held { KeepsHeld (of_rule may_take) (ruled_stands IsAfter) self.now (of_rule held_count) result }
+        ensures held { KeepsHeld coverage_engine self.now result }
     {
         Engine::kept_len(self)
     }
 }
 
 impl Engine for Coverage<'_> {
-    ghost takes = { of_rule may_take };
-
-    ghost settled = { of_rule settled_lines };
-
-    ghost output = { of_rule whole_output };
-
-    ghost held = { of_rule held_count };
-
-    ghost is_after = { ruled_stands IsAfter };
-
-    ghost fault = { ruled_fault };
-
-    ghost quiet = { of_rule is_quiet };
-
-    ghost wants = { of_rule wants_memory };
+    ghost definition = { coverage_engine };
 
     fn feed_batch<C: Cursor, K: Sink>(
         &mut self,
@@ -142,7 +122,7 @@ impl Engine for Coverage<'_> {
     /// How many counted records end at the last start or past it.
     fn kept_len(&self) -> usize
         ensures list { result ≡ length (kept_in self.now.rule) }
-        ensures held { KeepsHeld (of_rule may_take) (ruled_stands IsAfter) self.now (of_rule held_count) result }
+        ensures held { KeepsHeld coverage_engine self.now result }
     {
         match self.rule.rule.current {
             None => 0,

@@ -1,8 +1,7 @@
 //! The rules by which engines take records, and the loop that all of them share.
 
-ghost use Rattle.std.specs.Prelude.{◌≡◌, ℕ, List, None, Option, Result, Some, OnOk};
-ghost use Rattle.bt_bed.specs.model.Feature.{Feature};
-ghost use Rattle.bt_runs.specs.inside.Walk.{Does, EnterAnswers, FitsPast, Follows, PutsRestAtEnd, Taken};
+ghost use Rattle.std.specs.Prelude.{◌≡◌, None, Option, Result, Some, OnOk};
+ghost use Rattle.bt_runs.specs.inside.Walk.{Does, EnterAnswers, FitsPast, Follows, PutsRestAtEnd, RuleDef};
 
 use crate::engine::failure::Failure;
 use bt_bed::{Cursor, Record};
@@ -13,42 +12,16 @@ pub(crate) trait Rule {
     // What it keeps of the chromosome that it is on, in a local while it takes a batch.
     type OnChrom;
 
-    // The records that a rule that began like this may be given, one after another.
-    ghost takes: { Self → List Feature → Type 0 };
-
-    // The lines that the records settle: no later record can change them.
-    ghost settled: { Self → List Feature → List ℕ };
-
-    // The lines of the output, if these are all records.
-    ghost output: { Self → List Feature → List ℕ };
-
-    // What a rule that began like this has become once it has taken these records.
-    ghost is_after: { Self → List Feature → Self → Type 0 };
-
-    // If this holds of the records and of one more, that one is taken without a fault and the
-    // output stays as it is.
-    ghost quiet: { Self → List Feature → Feature → Type 0 };
-
-    // What needs memory: if it runs out, this holds of the rule and the record.
-    ghost wants: { Self → Feature → Type 0 };
-
-    // The lines that a record settles.
-    ghost lines: { Self → Feature → List ℕ };
-
-    // What the rule has become once it has taken the record.
-    ghost has: { Self → Feature → Self → Type 0 };
-
-    // It has entered this chromosome.
-    ghost is_on: { Self → List ℕ → Type 0 };
+    // What it does, by what it began as and by the records that it has taken.
+    ghost definition: { RuleDef Self };
 
     // What it becomes when it keeps what was in the local.
     ghost with_on: { Self → Self.OnChrom → Self };
 
     // Goes on to the chromosome of this name, which may be the one that it is on, and writes the lines that this settles.
     fn enter<K: Sink>(&mut self, chrom: &[u8], out: &mut Out<K>) -> Result<(), Fault>
-        ensures on { OnOk result (is_on self.new chrom.now) }
-        ensures enters { EnterAnswers lines has wants takes is_after settled quiet self.old chrom.now out.old.output result self.new
-            out.new.output };
+        ensures on { OnOk result (definition.is_on self.new chrom.now) }
+        ensures enters { EnterAnswers definition self.old chrom.now out.old.output result self.new out.new.output };
 
     // What it keeps of the chromosome that it is on.
     fn on_chrom(&self) -> Self::OnChrom
@@ -61,11 +34,11 @@ pub(crate) trait Rule {
         record: &R,
         out: &mut Out<K>,
     ) -> Result<(), Fault>
-        requires { is_on (with_on self.old on.old) (R.feature «record».now).chrom }
-        ensures on { OnOk result (is_on (with_on self.new on.new) (R.feature «record».now).chrom) }
-        ensures does { Does lines has wants (with_on self.old on.old) (R.feature «record».now) out.old.output result
+        requires { definition.is_on (with_on self.old on.old) (R.feature «record».now).chrom }
+        ensures on { OnOk result (definition.is_on (with_on self.new on.new) (R.feature «record».now).chrom) }
+        ensures does { Does definition (with_on self.old on.old) (R.feature «record».now) out.old.output result
             (with_on self.new on.new) out.new.output }
-        ensures fits { FitsPast lines has wants takes is_after settled quiet (with_on self.old on.old) (R.feature «record».now) };
+        ensures fits { FitsPast definition (with_on self.old on.old) (R.feature «record».now) };
 
     // Keeps what was in the local.
     fn leave(&mut self, on: Self::OnChrom)
@@ -73,7 +46,7 @@ pub(crate) trait Rule {
 
     // Writes the lines that are still unsettled, after the last record.
     fn finish<K: Sink>(self, out: &mut Out<K>) -> Result<(), Fault>
-        ensures { PutsRestAtEnd takes is_after settled output self out.old.output result out.new.output };
+        ensures { PutsRestAtEnd definition self out.old.output result out.new.output };
 }
 
 // A rule, and the failure that ended it, if there was one.
@@ -85,7 +58,7 @@ pub(crate) struct Ruled<E> {
 }
 
 impl<E: Rule + Drop> Ruled<E> {
-    ghost use Rattle.bt_runs.specs.calls.Engine.{FeedsBatch, Finishes, of_rule, ruled_fault, ruled_stands};
+    ghost use Rattle.bt_runs.specs.calls.Engine.{FeedsBatch, Finishes, ruled};
 
     // A rule that has taken no record.
     pub(crate) fn new(rule: E) -> Ruled<E>
@@ -104,8 +77,8 @@ impl<E: Rule + Drop> Ruled<E> {
         records: &mut C,
         out: &mut Out<K>,
     ) -> Result<(), Fault>
-        ensures { FeedsBatch (of_rule E.takes) (ruled_stands E.is_after) ruled_fault (of_rule E.settled) (of_rule E.quiet)
-            (of_rule E.wants) C.gives C.has_ended self.old records.old out.old.output result self.new records.new out.new.output }
+        ensures { FeedsBatch (ruled E.definition.engine) C.Cursor self.old records.old out.old.output result self.new records.new
+            out.new.output }
     {
         if let Some(failure) = self.failure {
             return Err(failure.fault());
@@ -120,8 +93,7 @@ impl<E: Rule + Drop> Ruled<E> {
     // Writes the lines that are still unsettled, unless it has failed.
     #[tactic(auto, using(crate::proofs::lemmas::Engine::ruled_finishes))]
     pub(crate) fn finish<K: Sink>(self, out: &mut Out<K>) -> Result<(), Fault>
-        ensures { Finishes (of_rule E.takes) (ruled_stands E.is_after) ruled_fault (of_rule E.settled) (of_rule E.output)
-            self out.old.output result out.new.output }
+        ensures { Finishes (ruled E.definition.engine) self out.old.output result out.new.output }
     {
         let Ruled { rule, failure } = self;
         match failure {
@@ -138,8 +110,7 @@ fn follow<E: Rule, C: Cursor, K: Sink>(
     records: &mut C,
     out: &mut Out<K>,
 ) -> Result<(), Fault>
-    ensures { Follows (Taken E.lines E.has E.wants E.takes E.is_after E.settled E.quiet) C.gives C.has_ended rule.old records.old out.old.output result rule.new records.new
-        out.new.output }
+    ensures { Follows E.definition C.Cursor rule.old records.old out.old.output result rule.new records.new out.new.output }
 {
     let mut ahead = *records;
     let Some(mut record) = ahead.next() else {

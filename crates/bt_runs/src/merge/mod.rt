@@ -12,8 +12,7 @@ ghost use Rattle.bt_lines.specs.model.Fault.{FaultValue};
 ghost use Rattle.bt_bed.specs.calls.Bed.{feature_lent};
 ghost use Rattle.bt_lines.specs.model.Lines.{max_number};
 ghost use Rattle.bt_runs.specs.calls.Engine.{AnswersAgain, IsFaultless, KeepsFault, TakesQuiet, WritesFirst, WritesLeft, WritesLeftPrefix, WritesPrefix, WritesSettled, IsWanted, KeepsHeld};
-ghost use Rattle.bt_runs.specs.calls.Unstranded.{may_take};
-ghost use Rattle.bt_runs.specs.calls.Merging.{IsAfter, held_count, is_quiet, kept_fault, kept_places, merge_begun, settled_lines, wants_memory, whole_output};
+ghost use Rattle.bt_runs.specs.calls.Merging.{IsAfter, kept_fault, kept_places, merge_begun, merge_engine};
 
 use crate::engine::Engine;
 use crate::engine::rule::{Rule, Ruled};
@@ -78,20 +77,16 @@ impl Merge {
     /// another than that of the record before, and with [`MergeStrand::Each`] if a run has to be opened too.
     #[tactic(auto, using(crate::proofs::lemmas::Engine::feeds_again, crate::proofs::lemmas::Engine::feeds_fault, crate::proofs::lemmas::Engine::feeds_first, crate::proofs::lemmas::Engine::feeds_prefix, crate::proofs::lemmas::Engine::feeds_settled))]
     pub fn feed<K: Sink>(&mut self, bed: &BedRef<'_>, out: &mut Out<K>) -> Result<(), Fault>
-        ensures going { IsFaultless IsAfter kept_fault self.old }
-        ensures written { WritesSettled may_take IsAfter kept_fault settled_lines self.old
-            (feature_lent bed.now) out.old.output result self.new out.new.output }
-        ensures fault { KeepsFault kept_fault result self.new }
-        ensures prefix { WritesPrefix may_take IsAfter kept_fault settled_lines self.old
-            (feature_lent bed.now) out.old.output result self.new out.new.output }
-        ensures ran_out { WritesFirst may_take IsAfter kept_fault settled_lines self.old
-            (feature_lent bed.now) out.old.output result self.new out.new.output }
-        ensures memory { IsWanted wants_memory kept_fault self.old (feature_lent bed.now) result }
-        ensures again { AnswersAgain (kept_fault self.old) result }
+        ensures going { IsFaultless merge_engine self.old }
+        ensures written { WritesSettled merge_engine self.old (feature_lent bed.now) out.old.output result self.new out.new.output }
+        ensures fault { KeepsFault merge_engine result self.new }
+        ensures prefix { WritesPrefix merge_engine self.old (feature_lent bed.now) out.old.output result self.new out.new.output }
+        ensures ran_out { WritesFirst merge_engine self.old (feature_lent bed.now) out.old.output result self.new out.new.output }
+        ensures memory { IsWanted merge_engine self.old (feature_lent bed.now) result }
+        ensures again { AnswersAgain merge_engine self.old result }
         ensures stays { (before : FaultValue) → kept_fault self.old ≡ Some before
             → (self.new ≡ self.old) × (out.new.output ≡ out.old.output) }
-        ensures quiet { TakesQuiet may_take IsAfter kept_fault settled_lines self.old
-            (feature_lent bed.now) out.old.output is_quiet result out.new.output }
+        ensures quiet { TakesQuiet merge_engine self.old (feature_lent bed.now) out.old.output result out.new.output }
         ensures grows { Grows out.old.output.took out.new.output.took }
         ensures after_failure { out.old.output.has_failed ≡ true → out.new.output ≡ out.old.output }
     {
@@ -102,12 +97,10 @@ impl Merge {
     /// fault that was returned before.
     #[tactic(auto, using(crate::proofs::lemmas::Engine::finishes_again, crate::proofs::lemmas::Engine::finishes_left, crate::proofs::lemmas::Engine::finishes_prefix))]
     pub fn finish<K: Sink>(self, out: &mut Out<K>) -> Result<(), Fault>
-        ensures going { IsFaultless IsAfter kept_fault self }
-        ensures written { WritesLeft may_take IsAfter kept_fault settled_lines whole_output self
-            out.old.output result out.new.output }
-        ensures prefix { WritesLeftPrefix may_take IsAfter kept_fault settled_lines whole_output
-            self out.old.output result out.new.output }
-        ensures again { AnswersAgain (kept_fault self) result }
+        ensures going { IsFaultless merge_engine self }
+        ensures written { WritesLeft merge_engine self out.old.output result out.new.output }
+        ensures prefix { WritesLeftPrefix merge_engine self out.old.output result out.new.output }
+        ensures again { AnswersAgain merge_engine self result }
         ensures stays { (before : FaultValue) → kept_fault self ≡ Some before → out.new.output ≡ out.old.output }
         ensures grows { Grows out.old.output.took out.new.output.took }
         ensures after_failure { out.old.output.has_failed ≡ true → out.new.output ≡ out.old.output }
@@ -118,28 +111,14 @@ impl Merge {
     /// How many runs it keeps: 0 or 1, and with each strand separately as many as wait to be written.
     pub fn kept_len(&self) -> usize
         ensures list { result ≡ length (kept_places self.now) }
-        ensures held { KeepsHeld may_take IsAfter self.now held_count result }
+        ensures held { KeepsHeld merge_engine self.now result }
     {
         Engine::kept_len(self)
     }
 }
 
 impl Engine for Merge {
-    ghost takes = { may_take };
-
-    ghost settled = { settled_lines };
-
-    ghost output = { whole_output };
-
-    ghost held = { held_count };
-
-    ghost is_after = { IsAfter };
-
-    ghost fault = { kept_fault };
-
-    ghost quiet = { is_quiet };
-
-    ghost wants = { wants_memory };
+    ghost definition = { merge_engine };
 
     fn feed_batch<C: Cursor, K: Sink>(
         &mut self,
@@ -163,7 +142,7 @@ impl Engine for Merge {
     /// How many runs it keeps: 0 or 1, and with each strand separately as many as wait to be written.
     fn kept_len(&self) -> usize
         ensures list { result ≡ length (kept_places self.now) }
-        ensures held { KeepsHeld may_take IsAfter self.now held_count result }
+        ensures held { KeepsHeld merge_engine self.now result }
     {
         match &self.kind {
             // No run is open if its end is 0.

@@ -3,10 +3,8 @@
 
 ghost use Rattle.std.specs.Prelude.{◌≡◌, ◌∷◌, [], length, true, OnOk};
 ghost use Rattle.bt_lines.specs.calls.Output.{Adds};
-ghost use Rattle.bt_runs.specs.calls.Engine.{KeepsHeld};
-ghost use Rattle.bt_runs.specs.inside.merge.StrandStep.{left_runs, passed_runs, placed_runs, JoinsAmong, Takes, lines_by, wants_memory};
-ghost use Rattle.bt_runs.specs.calls.Unstranded.{may_take};
-ghost use Rattle.bt_runs.specs.calls.Stranding.{IsAfter, held_count, is_quiet, settled_lines, strand_lines, whole_output};
+ghost use Rattle.bt_runs.specs.inside.merge.StrandStep.{left_runs, passed_runs, placed_runs, JoinsAmong, strand_rule};
+ghost use Rattle.bt_runs.specs.calls.Stranding.{strand_lines};
 ghost use Rattle.bt_runs.specs.inside.Walk.{Does};
 
 use crate::engine::failure::Failure;
@@ -102,7 +100,7 @@ impl PerStrandMerge {
     ) -> Result<(), Fault>
         requires { self.old.chrom ≡ (R.feature «record».now).chrom }
         ensures on { OnOk result (self.new.chrom ≡ (R.feature «record».now).chrom) }
-        ensures does { Does lines_by Takes wants_memory (with_on self.old on.old) (R.feature «record».now) out.old.output result
+        ensures does { Does strand_rule (with_on self.old on.old) (R.feature «record».now) out.old.output result
             (with_on self.new on.new) out.new.output }
     {
         let run = PendingRun {
@@ -143,23 +141,7 @@ impl Rule for PerStrandMerge {
 
     type OnChrom = OnlyRun;
 
-    ghost takes = { may_take };
-
-    ghost settled = { settled_lines };
-
-    ghost output = { whole_output };
-
-    ghost is_after = { IsAfter };
-
-    ghost quiet = { is_quiet };
-
-    ghost wants = { wants_memory };
-
-    ghost lines = { lines_by };
-
-    ghost has = { Takes };
-
-    ghost is_on = { λ merge chrom. merge.chrom ≡ chrom };
+    ghost definition = { strand_rule };
 
     ghost with_on = { with_on };
 

@@ -4,9 +4,7 @@ ghost use Rattle.std.specs.Prelude.{◌≡◌, ◌<◌, ℕ, List, [], cond, len
 ghost use Rattle.bt_lines.specs.calls.Output.{Adds};
 ghost use Rattle.bt_bed.specs.model.BedLine.{interval_lines};
 ghost use Rattle.bt_runs.specs.model.Merged.{is_counted};
-ghost use Rattle.bt_runs.specs.calls.Engine.{KeepsHeld};
-ghost use Rattle.bt_runs.specs.calls.Unstranded.{IsAfter, held_count, is_quiet, may_take, settled_lines, whole_output};
-ghost use Rattle.bt_runs.specs.inside.merge.UnstrandedStep.{left_by, settled_by, with_record, kept_at};
+ghost use Rattle.bt_runs.specs.inside.merge.UnstrandedStep.{left_by, settled_by, unstranded_rule, with_record, kept_at};
 
 use crate::engine::rule::Rule;
 use crate::merge::merge_strand::MergeStrand;
@@ -69,28 +67,9 @@ impl UnstrandedMerge {
 }
 
 impl Rule for UnstrandedMerge {
-    ghost use Rattle.bt_runs.specs.inside.merge.UnstrandedStep.{Takes, lines_by};
-
     type OnChrom = OpenRun;
 
-    ghost takes = { may_take };
-
-    ghost settled = { settled_lines };
-
-    ghost output = { whole_output };
-
-    ghost is_after = { IsAfter };
-
-    ghost quiet = { is_quiet };
-
-    // The name of another chromosome has to be kept.
-    ghost wants = { λ merge r. merge.chrom ≡ r.chrom → ⊥ };
-
-    ghost lines = { lines_by };
-
-    ghost has = { Takes };
-
-    ghost is_on = { λ merge name. merge.chrom ≡ name };
+    ghost definition = { unstranded_rule };
 
     ghost with_on = { λ merge run. record merge { kept = kept_at merge.chrom run } };
 

@@ -3,7 +3,7 @@
 use Rattle.bt_lines.proofs.Std.{Option, ◌≡◌, ℕ, ◌<◌, inl, inr, List, [], ◌∷◌, ◌++◌, refl, ap, ◌∙◌, map, filter, flat_map, cond, not, nat_le, nat_lt, Bool, true, false, bytes_eq, ◌≤◌, sym, arith, max, min, cases_Bool, cases_lt, cond-true, or_right, lt-ltb, le-ltb, lt-leb, le-leb, map-append, subst, Some, ap₂, length, None, ◌⊎◌, suc, eqb, Result, Ok, Err, OnOk, option_map, option_eq, cond-false, eqb-false, eqb-true, flat_map-append}
 use Rattle.std.specs.Option.{option_map_or}
 use Rattle.std.specs.declared.cmp.Ordering.TheVariants.{Less, Equal, Greater}
-use Rattle.bt_bed.specs.model.Feature.{Feature, intervals_of, interval_of, Interval, Span, placed_on, spans_on, span_of, last_of}
+use Rattle.bt_bed.specs.model.Feature.{Feature, intervals_of, interval_of, Interval, Span, placed_on, spans_on, span_of}
 use Rattle.bt_bed.specs.model.BedLine.{interval_line, interval_lines}
 use Rattle.bt_bed.specs.model.Genome.{Entry, genome_names}
 use Rattle.bt_bed.specs.model.Order.{rank_order, AreDistinct, rank_of}
@@ -22,8 +22,8 @@ use Rattle.bt_lines.specs.declared.fault.Fault.{Fault}
 use Rattle.bt_lines.proofs.lemmas.Writer.{grown_none}
 use Rattle.bt_bed.specs.calls.GenomeTable.{entries}
 use Rattle.bt_bed.proofs.lemmas.parse.NameLemmas.{name_eq, name_ne, same_name}
-use Rattle.bt_runs.specs.calls.Complementing.{Complementing, IsAfter, is_quiet, kept_in, may_take, settled_lines, whole_output}
-use Rattle.bt_runs.specs.inside.GapRule.{Covers, seen, IsOnChrom, complement_at, next_lines, with_record}
+use Rattle.bt_runs.specs.calls.Complementing.{Complementing, IsAfter, complementing, kept_in, settled_lines}
+use Rattle.bt_runs.specs.inside.GapRule.{Covers, seen, IsOnChrom, complement_at, gap_rule, next_lines, with_record}
 use Rattle.bt_runs.specs.declared.complement.gap_cursor.GapCursor.{GapCursor}
 use Rattle.bt_runs.proofs.lemmas.Engine.{enters, enters_cut, none_more}
 
@@ -315,13 +315,6 @@ cursor_reached cursor = reached_at (entries cursor.genome.now) cursor.name.now c
 same_complement : (a b : Complementing) → a.entries ≡ b.entries → a.limit ≡ b.limit → a.current ≡ b.current → a.bases ≡ b.bases → a ≡ b
 same_complement a b e l c n = rw (e, l, c, n) refl
 
-abbrev IsWith : Complementing → Feature → Complementing → Type 0
-IsWith old r new = new ≡ with_record old r
-
--- no record needs memory
-abbrev none_wanted : Complementing → Feature → Type 0
-none_wanted rule r = ⊥
-
 -- a rule of gaps
 module _ (old : Complementing) (at : AreReached old.entries old.current) where
   -- whatever complement took the records of the past, it has this table and limit, and its place is the one that is kept
@@ -338,9 +331,9 @@ module _ (old : Complementing) (at : AreReached old.entries old.current) where
   }
 
   -- what is done with a record exactly is done after every past
-  pub fits : (r : Feature) → FitsPast next_lines IsWith none_wanted may_take IsAfter settled_lines is_quiet old r
+  pub fits : (r : Feature) → FitsPast gap_rule old r
   fits r =
-      let settles : AfterEach may_take IsAfter old r (λ first past. settled_lines first (past ++ r ∷ []) ≡ settled_lines first past ++ next_lines old r) = λ first past stands taken.
+      let settles : AfterEach complementing old r (λ first past. settled_lines first (past ++ r ∷ []) ≡ settled_lines first past ++ next_lines old r) = λ first past stands taken.
       let s = same first past stands in
       rw (s.same_entries, s.same_limit) (ap interval_lines (moves old.limit old.entries past r old.current (rw s.same_entries at taken) at s.kept).settles
       ∙ flat_map-append interval_line (settled_gaps old.limit old.entries past) (walk_step (gap_walk old.limit) old.entries old.current r).1) in
@@ -362,7 +355,7 @@ module _ (old : Complementing) (at : AreReached old.entries old.current) where
   left stop = left_before last_gap (bare_gap old.limit) old.entries old.current stop
 
   pub gap_finishes : {A : Type 0} (out : Output) (stop : ℕ) (result : Result A Fault) (grown : Output) → stop ≡ length old.entries → Adds out (interval_lines (left stop)) result grown
-      → PutsRestAtEnd may_take IsAfter settled_lines whole_output old out result grown
+      → PutsRestAtEnd gap_rule old out result grown
   gap_finishes out stop result grown all p = record {
     left = interval_lines (left stop);
     is = λ first past stands taken.
@@ -375,7 +368,7 @@ module _ (old : Complementing) (at : AreReached old.entries old.current) where
   -- a chromosome is entered
   module _ (chrom : List ℕ) (out : Output) where
     abbrev Enters : Result (Unit {0}) Fault → Complementing → Output → Type 0
-    Enters result new grown = EnterAnswers next_lines IsWith none_wanted may_take IsAfter settled_lines is_quiet old chrom out result new grown
+    Enters result new grown = EnterAnswers gap_rule old chrom out result new grown
 
     -- the one that was reached, or one that the genome file lacks
     pub enters_here : (bases : ℕ) → Enters (Ok tt) (record { entries = old.entries; limit = old.limit; current = old.current; bases = bases }) out
@@ -409,7 +402,7 @@ module _ (limit : Bool) (old : GapCursor) (r : Feature) (on : IsOnChrom (complem
       (ap₂ (λ (end : ℕ) (rank : Option ℕ). place_at end rank) c.end c.same_rank ∙ sym (ap (λ s. s.0) step_is)) (c.same_length ∙ on.bases)
 
   pub cursor_covers : (out : Output) (result : Result (Unit {0}) Fault) (new : GapCursor) (grown : Output) → Adds out (interval_lines (gap_between old.name.now old.end (min r.start old.length))) result grown → OnOk result (Covers old r.stop new)
-      → Does next_lines IsWith none_wanted (complement_at limit old) r out result (complement_at limit new) grown
+      → Does gap_rule (complement_at limit old) r out result (complement_at limit new) grown
   cursor_covers out (Ok done) new grown p c = (covered new c, rw step_is p)
   cursor_covers out (Err fault) new grown p c = inl (rw step_is p)
 

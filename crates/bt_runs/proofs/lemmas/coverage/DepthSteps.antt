@@ -2,7 +2,7 @@
 use Rattle.bt_lines.proofs.Std.{max, ◌≡◌, ℕ, ◌<◌, ◌≤◌, ◌+◌, List, [], ◌∷◌, ◌++◌, refl, sym, ap, ap₂, ◌∙◌, filter, nat_lt, Bool, true, false, append-nil, Option, lt-ltb, le-ltb, map-append, length, inl, inr, subst, arith, min, Some, None, Result, Ok, Err, cases_lt, flat_map-append, append_assoc, codes, decimal, length-append, ◌-◌, All}
 use Rattle.std.specs.Option.{option_map_or}
 use Rattle.std.specs.declared.cmp.Ordering.TheVariants.{Equal}
-use Rattle.bt_bed.specs.model.Feature.{Feature, interval_of, intervals_of, Interval, span_of, Span, last_of}
+use Rattle.bt_bed.specs.model.Feature.{Feature, interval_of, intervals_of, Interval, span_of, Span}
 use Rattle.bt_bed.specs.model.Genome.{Entry, genome_names}
 use Rattle.bt_bed.specs.model.Order.{rank_order, AreDistinct, rank_of}
 use Rattle.bt_bed.specs.model.Sorted.{has_records}
@@ -21,7 +21,7 @@ use Rattle.bt_lines.proofs.lemmas.Writer.{grown_none, line_alone, adds_lines, cu
 use Rattle.bt_lines.specs.calls.Output.{Output, Adds, FailsToAdd, Grown, Puts}
 use Rattle.bt_lines.specs.calls.Names.{fault_value}
 use Rattle.bt_lines.specs.declared.fault.Fault.{Fault}
-use Rattle.bt_runs.specs.calls.Covering.{CountsRecord, Covering, IsAfter, IsOnBy, begun_of, depth_step, held_of, is_quiet, may_take, next_lines, settled_lines, wants_memory, whole_output, IsOnChrom, with_begun, with_chrom}
+use Rattle.bt_runs.specs.calls.Covering.{Covering, IsAfter, IsOnBy, begun_of, depth_rule, depth_step, held_of, next_lines, wants_memory, IsOnChrom, with_begun, with_chrom}
 use Rattle.bt_runs.proofs.lemmas.complement.GapRuleLemmas.{on_found}
 use Rattle.bt_runs.proofs.lemmas.Engine.{enters, enters_cut}
 use Rattle.bt_bed.specs.declared.parse.bounds.Bounds.{Bounds}
@@ -227,7 +227,7 @@ module _ (zeros : Bool) (strand : Option Strand) (entries : List Entry) where
 
 -- entering a chromosome
 abbrev pub Enters : Covering → List ℕ → Output → Result (Unit {0}) Fault → Covering → Output → Type 0
-Enters = EnterAnswers next_lines CountsRecord wants_memory may_take IsAfter settled_lines is_quiet
+Enters = EnterAnswers depth_rule
 
 module _ (old : Covering) where
   -- whatever coverage took the records of the past, it has this table and these rules, and keeps what is to be kept
@@ -248,7 +248,7 @@ module _ (old : Covering) where
       record { same_entries = entries; same_zeros = rules; same_strand = wanted; reached = λ t. held_is old.zeros old.strand old.entries past old.current t stands.reached place begun kept }
 
   -- what is done with a record exactly is done after every past
-  pub fits : (r : Feature) → FitsPast next_lines CountsRecord wants_memory may_take IsAfter settled_lines is_quiet old r
+  pub fits : (r : Feature) → FitsPast depth_rule old r
   fits r = record {
     settles = λ first past stands taken.
         let s = same first past stands in
@@ -273,7 +273,7 @@ module _ (old : Covering) where
   }
 
   -- a record of a chromosome that the genome file doesn't have changes nothing
-  pub counts_none : (r : Feature) (out : Output) → IsOnBy false old.entries old.current old.name old.length r.chrom → Does next_lines CountsRecord wants_memory old r out (Ok tt) old out
+  pub counts_none : (r : Feature) (out : Output) → IsOnBy false old.entries old.current old.name old.length r.chrom → Does depth_rule old r out (Ok tt) old out
   counts_none r out off =
       let here : depth_step old r ≡ (old.current, []) = ap (step_from (depth_walk old.zeros old.strand) old.entries old.current r) (going_to (depth_walk old.zeros old.strand) old.entries old.current r.chrom None off.0 (sym off.1)) in
       (record { same_entries = refl; same_zeros = refl; same_strand = refl; current = sym (ap (λ s. s.0) here); at = λ at. at }, rw here (grown_none out))
@@ -331,7 +331,7 @@ module _ (old : Covering) where
 
   -- the lines that are left
   pub finishes_left : (out : Output) {A : Type 0} (stop : ℕ) (result : Result A Fault) (grown : Output) → stop ≡ length old.entries → Adds out (depth_lines (left_before (depths_left old.zeros) (bare_of old.zeros) old.entries old.current stop)) result grown
-      → PutsRestAtEnd may_take IsAfter settled_lines whole_output old out result grown
+      → PutsRestAtEnd depth_rule old out result grown
   finishes_left out stop result grown all p = record {
     left = depth_lines (left_before (depths_left old.zeros) (bare_of old.zeros) old.entries old.current stop);
     is = λ first past stands taken.
@@ -363,7 +363,7 @@ module _ (old : Covering) (place : Place Known) (reached : old.current ≡ Some 
 
   -- it was taken
   pub counts_ok : (begun : Option OpenInterval) (held : OpenAt) (grown : Output) → CountAnswers chrom (levels_by old.zeros size place.known (max bounds.start place.known.to)) (known_by old.zeros counted size place.known (max bounds.start place.known.to) bounds.stop) (Ok begun) held out grown
-      → Does next_lines CountsRecord wants_memory old r out (Ok tt) (record { entries = old.entries; zeros = old.zeros; strand = old.strand; current = Some (place_seen (record { rank = place.rank; begun = begun }) held); is_known = old.is_known; name = old.name; length = old.length }) grown
+      → Does depth_rule old r out (Ok tt) (record { entries = old.entries; zeros = old.zeros; strand = old.strand; current = Some (place_seen (record { rank = place.rank; begun = begun }) held); is_known = old.is_known; name = old.name; length = old.length }) grown
   counts_ok begun held grown c =
       let current = ap (λ k. Some (record { rank = place.rank; known = k })) c.1 ∙ sym (ap (λ s. s.0) step_is) in
       (record { same_entries = refl; same_zeros = refl; same_strand = refl; current = current; at = λ at. placed }, rw step_is c.0)
@@ -376,7 +376,7 @@ module _ (old : Covering) (place : Place Known) (reached : old.current ≡ Some 
 
   -- it couldn't be
   pub counts_err : (failure : Failure) (fault : Fault) (new : Covering) (held : OpenAt) (grown : Output) → fault_value fault ≡ fault_of failure → CountAnswers chrom (levels_by old.zeros size place.known (max bounds.start place.known.to)) (known_by old.zeros counted size place.known (max bounds.start place.known.to) bounds.stop) (Err failure) held out grown
-      → (failure ≡ Memory → (counted ≡ true) × (bounds.start < size)) → Does next_lines CountsRecord wants_memory old r out (Err fault) new grown
+      → (failure ≡ Memory → (counted ≡ true) × (bounds.start < size)) → Does depth_rule old r out (Err fault) new grown
   counts_err Write fault new held grown is cut want = inl (rw (step_is, is) cut)
   counts_err Memory fault new held grown is puts want = inr (is, (to_keep (want refl), rw step_is puts))
 
@@ -392,7 +392,7 @@ module _ (table : List Entry) (zeros : Bool) (strand : Option Strand) (is_known 
 
   pub step_ok : (current : Option DepthCursor) (held : OpenAt) → AreReached table (seen current held) → IsOnChrom (with_chrom (covering current held) on) r.chrom → (begun : Option OpenInterval) (now_held : OpenAt)
       → CountAnswers on.name.now (levels_by zeros on.length (known_seen on.begun held) (max bounds.start held.at)) (known_by zeros counted on.length (known_seen on.begun held) (max bounds.start held.at) bounds.stop) (Ok begun) now_held out grown
-      → Does next_lines CountsRecord wants_memory (with_chrom (covering current held) on) r out (Ok tt) (with_chrom (covering current now_held) (ended_with begun)) grown
+      → Does depth_rule (with_chrom (covering current held) on) r out (Ok tt) (with_chrom (covering current now_held) (ended_with begun)) grown
   step_ok None held placed lies begun now_held c = absurd (on_here table None on.name.now on.length r.chrom on.is_known here lies).1
   step_ok (Some reached) held placed lies begun now_held c =
       let place = place_seen (record { rank = reached.rank; begun = on.begun }) held in
@@ -401,7 +401,7 @@ module _ (table : List Entry) (zeros : Bool) (strand : Option Strand) (is_known 
 
   pub step_err : (current : Option DepthCursor) (held : OpenAt) → AreReached table (seen current held) → IsOnChrom (with_chrom (covering current held) on) r.chrom → (failure : Failure) (fault : Fault) (new : Covering) (now_held : OpenAt) → fault_value fault ≡ fault_of failure
       → CountAnswers on.name.now (levels_by zeros on.length (known_seen on.begun held) (max bounds.start held.at)) (known_by zeros counted on.length (known_seen on.begun held) (max bounds.start held.at) bounds.stop) (Err failure) now_held out grown
-      → (failure ≡ Memory → (counted ≡ true) × (bounds.start < on.length)) → Does next_lines CountsRecord wants_memory (with_chrom (covering current held) on) r out (Err fault) new grown
+      → (failure ≡ Memory → (counted ≡ true) × (bounds.start < on.length)) → Does depth_rule (with_chrom (covering current held) on) r out (Err fault) new grown
   step_err None held placed lies failure fault new now_held is c want = absurd (on_here table None on.name.now on.length r.chrom on.is_known here lies).1
   step_err (Some reached) held placed lies failure fault new now_held is c want =
       let place = place_seen (record { rank = reached.rank; begun = on.begun }) held in

@@ -1,15 +1,15 @@
 -- What the calls of a merge do is what those of the engine inside it do, of whichever of the two kinds it is.
-use Rattle.bt_lines.proofs.Std.{◌≡◌, ℕ, inl, inr, List, [], ◌∷◌, ◌++◌, ap, refl, sym, subst, Option, None, Result, Ok, Err, IsOk}
+use Rattle.bt_lines.proofs.Std.{◌≡◌, ℕ, inl, inr, List, [], ◌∷◌, ◌++◌, ap, refl, sym, subst, Result, Ok, Err, IsOk}
 use Rattle.bt_lines.specs.model.Fault.{FaultValue}
 use Rattle.bt_lines.specs.calls.Names.{fault_value}
 use Rattle.bt_lines.specs.calls.Output.{Output, CutsRest, PutsRest}
 use Rattle.bt_lines.specs.declared.fault.Fault.{Fault}
 use Rattle.bt_bed.specs.model.Feature.{Feature}
-use Rattle.bt_runs.specs.calls.Engine.{AfterEach, AtEnd, FeedAnswers, Feeds, FeedsBatch, FinishAnswers, Finishes, NotTaken, TakesEach, TakesGiven}
+use Rattle.bt_runs.specs.calls.Engine.{AfterEach, AtEnd, EngineDef, FeedAnswers, Feeds, FeedsBatch, FinishAnswers, Finishes, IsFaultless, NotTaken, TakesEach, TakesGiven}
 use Rattle.bt_runs.specs.declared.merge.Kind.{Kind}
 use Rattle.bt_runs.specs.declared.merge.Kind.TheVariants.{PerStrand, Unstranded}
-use Rattle.bt_runs.specs.calls.Unstranded.{may_take}
-use Rattle.bt_runs.specs.calls.Merging.{IsAfter, is_quiet, kept_fault, merge_begun, settled_lines, wants_memory, whole_output}
+use Rattle.bt_runs.specs.calls.Merging.{IsAfter, is_quiet, merge_begun, merge_engine, settled_lines, whole_output}
+use Rattle.bt_bed.specs.declared.read.cursor.Cursor.{Ghosts as Cursor}
 use Rattle.bt_runs.specs.calls.Unstranded as unstranded
 use Rattle.bt_runs.specs.declared.merge.merge_strand.MergeStrand.{MergeStrand}
 use Rattle.bt_runs.specs.declared.merge.merge_strand.MergeStrand.TheVariants.{All, Each, One}
@@ -20,45 +20,37 @@ use Rattle.bt_runs.specs.declared.engine.rule.Ruled.{Ruled}
 
 -- A merge of one kind is after records only if it began as one of that kind. All that is said of the engine inside it holds of the merge.
 module _ {E : Type 0} (merge : E → Kind) (only : (first : Kind) (past : List Feature) (old : E) → IsAfter first past (merge old) → (inner : E) × (merge inner ≡ first)) where
-  abbrev MayTake : E → List Feature → Type 0
-  MayTake first past = may_take (merge first) past
-
-  abbrev Stands : E → List Feature → E → Type 0
-  Stands first past now = IsAfter (merge first) past (merge now)
-
-  abbrev fault : E → Option FaultValue
-  fault inner = kept_fault (merge inner)
-
-  abbrev settled : E → List Feature → List ℕ
-  settled first past = settled_lines (merge first) past
-
-  abbrev whole : E → List Feature → List ℕ
-  whole first past = whole_output (merge first) past
-
-  abbrev Quiet : E → List Feature → Feature → Type 0
-  Quiet first past r = is_quiet (merge first) past r
-
-  abbrev wants : E → Feature → Type 0
-  wants inner r = wants_memory (merge inner) r
+  -- what is said of the engine inside, as of the merge
+  abbrev inside : EngineDef E
+  inside = record {
+    takes = λ first past. merge_engine.takes (merge first) past;
+    settled = λ first past. merge_engine.settled (merge first) past;
+    output = λ first past. merge_engine.output (merge first) past;
+    held = λ first past. merge_engine.held (merge first) past;
+    is_after = λ first past now. merge_engine.is_after (merge first) past (merge now);
+    fault = λ inner. merge_engine.fault (merge inner);
+    quiet = λ first past r. merge_engine.quiet (merge first) past r;
+    wants = λ inner r. merge_engine.wants (merge inner) r;
+  }
 
   module _ (old : E) where
-    after_each : (r : Feature) (P : Kind → List Feature → Type 0) → AfterEach MayTake Stands old r (λ first past. P (merge first) past) → AfterEach may_take IsAfter (merge old) r P
+    after_each : (r : Feature) (P : Kind → List Feature → Type 0) → AfterEach inside old r (λ first past. P (merge first) past) → AfterEach merge_engine (merge old) r P
     after_each r P h first past s =
         let inner = only first past old s in
-        subst (λ (m : Kind). IsAfter m past (merge old) → may_take m (past ++ r ∷ []) → P m past) inner.1 (h inner.0 past) s
+        subst (λ (m : Kind). IsAfter m past (merge old) → merge_engine.takes m (past ++ r ∷ []) → P m past) inner.1 (h inner.0 past) s
 
-    at_end : (P : Kind → List Feature → Type 0) → AtEnd MayTake Stands old (λ first past. P (merge first) past) → AtEnd may_take IsAfter (merge old) P
+    at_end : (P : Kind → List Feature → Type 0) → AtEnd inside old (λ first past. P (merge first) past) → AtEnd merge_engine (merge old) P
     at_end P h first past s =
         let inner = only first past old s in
-        subst (λ (m : Kind). IsAfter m past (merge old) → may_take m past → P m past) inner.1 (h inner.0 past) s
+        subst (λ (m : Kind). IsAfter m past (merge old) → merge_engine.takes m past → P m past) inner.1 (h inner.0 past) s
 
-    going : ((first : E) (past : List Feature) → Stands first past old → fault old ≡ None) → (first : Kind) (past : List Feature) → IsAfter first past (merge old) → kept_fault (merge old) ≡ None
+    going : IsFaultless inside old → IsFaultless merge_engine (merge old)
     going h first past s =
         let inner = only first past old s in
         h inner.0 past (subst (λ (m : Kind). IsAfter m past (merge old)) (sym inner.1) s)
 
     module _ (r : Feature) (out : Output) (new : E) (grown : Output) where
-      not_taken : (e : FaultValue) → NotTaken MayTake Stands fault settled old r out e new grown → NotTaken may_take IsAfter kept_fault settled_lines (merge old) r out e (merge new) grown
+      not_taken : (e : FaultValue) → NotTaken inside old r out e new grown → NotTaken merge_engine (merge old) r out e (merge new) grown
       not_taken e (inl p) = inl (record { is = p.is; kind = p.kind; same = ap merge p.same; same_output = p.same_output })
       not_taken e (inr (inl p)) = inr (inl (record {
         is = p.is;
@@ -76,7 +68,7 @@ module _ {E : Type 0} (merge : E → Kind) (only : (first : Kind) (past : List F
         works = p.works;
       }))
 
-      answers : {A : Type 0} (result : Result A Fault) → FeedAnswers MayTake Stands fault settled old r out result new grown → FeedAnswers may_take IsAfter kept_fault settled_lines (merge old) r out result (merge new) grown
+      answers : {A : Type 0} (result : Result A Fault) → FeedAnswers inside old r out result new grown → FeedAnswers merge_engine (merge old) r out result (merge new) grown
       answers (Ok done) p = record {
         was_going = p.was_going;
         going = p.going;
@@ -86,7 +78,7 @@ module _ {E : Type 0} (merge : E → Kind) (only : (first : Kind) (past : List F
       }
       answers (Err e) p = not_taken (fault_value e) p
 
-      pub feeds_inside : {A : Type 0} (result : Result A Fault) → Feeds MayTake Stands fault settled old r out Quiet result new grown → Feeds may_take IsAfter kept_fault settled_lines (merge old) r out is_quiet result (merge new) grown
+      pub feeds_inside : {A : Type 0} (result : Result A Fault) → Feeds inside old r out result new grown → Feeds merge_engine (merge old) r out result (merge new) grown
       feeds_inside result p = record {
         going = going p.going;
         answers = answers result p.answers;
@@ -96,7 +88,7 @@ module _ {E : Type 0} (merge : E → Kind) (only : (first : Kind) (past : List F
       }
 
     module _ (out grown : Output) where
-      end_answers : {A : Type 0} (result : Result A Fault) → FinishAnswers MayTake Stands fault settled whole old out result grown → FinishAnswers may_take IsAfter kept_fault settled_lines whole_output (merge old) out result grown
+      end_answers : {A : Type 0} (result : Result A Fault) → FinishAnswers inside old out result grown → FinishAnswers merge_engine (merge old) out result grown
       end_answers (Ok done) p = record {
         was_going = p.was_going;
         puts = at_end (λ first past. PutsRest (settled_lines first past) (whole_output first past) out grown) p.puts;
@@ -111,7 +103,7 @@ module _ {E : Type 0} (merge : E → Kind) (only : (first : Kind) (past : List F
         sink_failed = p.sink_failed;
       })
 
-      pub finishes_inside : {A : Type 0} (result : Result A Fault) → Finishes MayTake Stands fault settled whole old out result grown → Finishes may_take IsAfter kept_fault settled_lines whole_output (merge old) out result grown
+      pub finishes_inside : {A : Type 0} (result : Result A Fault) → Finishes inside old out result grown → Finishes merge_engine (merge old) out result grown
       finishes_inside result p = record {
         going = going p.going;
         answers = end_answers result p.answers;
@@ -120,21 +112,21 @@ module _ {E : Type 0} (merge : E → Kind) (only : (first : Kind) (past : List F
       }
 
   -- what several records do
-  each_inside : (records : List Feature) (old : E) (out : Output) (new : E) (grown : Output) → TakesEach MayTake Stands fault settled Quiet old out records new grown
-      → TakesEach may_take IsAfter kept_fault settled_lines is_quiet (merge old) out records (merge new) grown
+  each_inside : (records : List Feature) (old : E) (out : Output) (new : E) (grown : Output) → TakesEach inside old out records new grown
+      → TakesEach merge_engine (merge old) out records (merge new) grown
   each_inside [] old out new grown is = (ap merge is.0, is.1)
   each_inside (r ∷ records) old out new grown more =
       (merge more.0, more.1, feeds_inside old r out more.0 more.1 (Ok tt) more.2, each_inside records more.0 more.1 new grown more.3)
 
-  module _ {C : Type 0} (gives : C → List Feature → C → Type 0) (has_ended : C → Type 0) where
-    given_inside : (old : E) (cursor : C) (out : Output) (new : E) (passed : C) (grown : Output) → TakesGiven MayTake Stands fault settled Quiet wants gives has_ended old cursor out new passed grown
-        → TakesGiven may_take IsAfter kept_fault settled_lines is_quiet wants_memory gives has_ended (merge old) cursor out (merge new) passed grown
-    given_inside old cursor out new passed grown p = record { records = p.records; given = p.given; taken = each_inside p.records old out new grown p.taken }
+  module _ {C R : Type 0} (cursor : Cursor C R) where
+    given_inside : (old : E) (start : C) (out : Output) (new : E) (passed : C) (grown : Output) → TakesGiven inside cursor old start out new passed grown
+        → TakesGiven merge_engine cursor (merge old) start out (merge new) passed grown
+    given_inside old start out new passed grown p = record { records = p.records; given = p.given; taken = each_inside p.records old out new grown p.taken }
 
-    pub batch_inside : {A : Type 0} (old : E) (cursor : C) (out : Output) (new : E) (passed : C) (grown : Output) (result : Result A Fault) → FeedsBatch MayTake Stands fault settled Quiet wants gives has_ended old cursor out result new passed grown
-        → FeedsBatch may_take IsAfter kept_fault settled_lines is_quiet wants_memory gives has_ended (merge old) cursor out result (merge new) passed grown
-    batch_inside old cursor out new passed grown (Ok done) p = (given_inside old cursor out new passed grown p.0, p.1)
-    batch_inside old cursor out new passed grown (Err answer) (inl p) = inl (record {
+    pub batch_inside : {A : Type 0} (old : E) (start : C) (out : Output) (new : E) (passed : C) (grown : Output) (result : Result A Fault) → FeedsBatch inside cursor old start out result new passed grown
+        → FeedsBatch merge_engine cursor (merge old) start out result (merge new) passed grown
+    batch_inside old start out new passed grown (Ok done) p = (given_inside old start out new passed grown p.0, p.1)
+    batch_inside old start out new passed grown (Err answer) (inl p) = inl (record {
       going = going old p.going;
       is = p.is;
       kind = p.kind;
@@ -142,11 +134,11 @@ module _ {E : Type 0} (merge : E → Kind) (only : (first : Kind) (past : List F
       same_cursor = p.same_cursor;
       same_output = p.same_output;
     })
-    batch_inside old cursor out new passed grown (Err answer) (inr p) = inr (record {
+    batch_inside old start out new passed grown (Err answer) (inr p) = inr (record {
       mid = merge p.mid;
       before = p.before;
       through = p.through;
-      takes = given_inside old cursor out p.mid p.before p.through p.takes;
+      takes = given_inside old start out p.mid p.before p.through p.takes;
       r = p.r;
       given = p.given;
       fails = feeds_inside p.mid p.r p.through new grown (Err answer) p.fails;

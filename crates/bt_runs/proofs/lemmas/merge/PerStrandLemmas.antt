@@ -10,10 +10,9 @@ use Rattle.bt_bed.proofs.lemmas.Writing.{adds_line}
 use Rattle.bt_bed.proofs.lemmas.parse.NameLemmas.{name_eq, name_ne, other_name}
 use Rattle.bt_runs.specs.calls.Engine.{AfterEach, fault_of}
 use Rattle.bt_runs.specs.model.Merged.{is_closed, StrandRun, kept_strand_runs, places_of, settled_strand_runs}
-use Rattle.bt_runs.specs.inside.merge.StrandStep.{joined_here, left_runs, lengthened, passed_runs, place_of, placed_run, placed_runs, with_joined, kept_in, added_at, left_unsettled, settled_prefix, last_place, place_among, run_from, run_with, with_added, JoinsAmong, Takes, joined_among, lines_by, wants_memory}
+use Rattle.bt_runs.specs.inside.merge.StrandStep.{joined_here, left_runs, lengthened, passed_runs, place_of, placed_run, placed_runs, with_joined, kept_in, added_at, left_unsettled, settled_prefix, last_place, place_among, run_from, run_with, with_added, JoinsAmong, joined_among, lines_by, strand_rule, stranding}
 use Rattle.bt_runs.specs.inside.Walk.{Does, EnterAnswers, FitsPast, PutsRestAtEnd}
-use Rattle.bt_runs.specs.calls.Unstranded.{may_take}
-use Rattle.bt_runs.specs.calls.Stranding.{IsAfter, Stranding, held_count, is_quiet, settled_lines, strand_lines, whole_output}
+use Rattle.bt_runs.specs.calls.Stranding.{Stranding, held_count, settled_lines, strand_lines}
 use Rattle.bt_runs.specs.declared.engine.failure.Failure.{Failure}
 use Rattle.bt_runs.specs.declared.engine.failure.Failure.TheVariants.{Write, Memory}
 use Rattle.bt_runs.specs.declared.merge.pending_runs.PendingRun.{PendingRun}
@@ -28,7 +27,7 @@ pending_from r = record { strand = r.strand; start = r.start; stop = r.stop }
 
 -- what is done with a record
 abbrev pub TakesNext : Stranding → Feature → Output → Result (Unit {0}) Fault → Stranding → Output → Type 0
-TakesNext = Does lines_by Takes wants_memory
+TakesNext = Does strand_rule
 
 -- tests that agree
 prefix_same : {A : Type 0} (test other : A → Bool) → ((x : A) → test x ≡ other x) → (xs : List A) → prefix_len test xs ≡ prefix_len other xs
@@ -271,15 +270,15 @@ no_items [] e = refl
 no_items (x ∷ xs) e = absurd (cc)
 
 module _ (merge : Stranding) (r : Feature) where
-  next : AfterEach may_take IsAfter merge r (λ first past. settled_lines first (past ++ r ∷ []) ≡ settled_lines first past ++ lines_by merge r)
+  next : AfterEach stranding merge r (λ first past. settled_lines first (past ++ r ∷ []) ≡ settled_lines first past ++ lines_by merge r)
   next first past stands taken =
       rw (stands.same_gap, stands.kept) (ap strand_lines (strand_next first.gap past r taken).settled ∙ places-append (settled_strand_runs first.gap past) (settled_prefix first.gap (kept_strand_runs first.gap past) r))
 
-  keeps : AfterEach may_take IsAfter merge r (λ first past. kept_strand_runs first.gap (past ++ r ∷ []) ≡ with_added merge.gap (left_unsettled merge.gap merge.kept r) r)
+  keeps : AfterEach stranding merge r (λ first past. kept_strand_runs first.gap (past ++ r ∷ []) ≡ with_added merge.gap (left_unsettled merge.gap merge.kept r) r)
   keeps first past stands taken = rw (stands.same_gap, stands.kept) (strand_next first.gap past r taken).kept
 
   -- if a run has to be opened and none was settled, the record isn't quiet
-  loud : with_added merge.gap (left_unsettled merge.gap merge.kept r) r ≡ left_unsettled merge.gap merge.kept r ++ run_from r ∷ [] → lines_by merge r ≡ [] → AfterEach may_take IsAfter merge r (λ first past. held_count first (past ++ r ∷ []) ≤ held_count first past → ⊥)
+  loud : with_added merge.gap (left_unsettled merge.gap merge.kept r) r ≡ left_unsettled merge.gap merge.kept r ++ run_from r ∷ [] → lines_by merge r ≡ [] → AfterEach stranding merge r (λ first past. held_count first (past ++ r ∷ []) ≤ held_count first past → ⊥)
   loud opens none first past stands taken more =
       let settled = no_items (settled_prefix merge.gap merge.kept r) (no_lines (places_of (settled_prefix merge.gap merge.kept r)) none) in
       let stay : left_unsettled merge.gap merge.kept r ≡ merge.kept = ap (λ (l : List StrandRun). drop (length l) merge.kept) settled in
@@ -290,7 +289,7 @@ module _ (merge : Stranding) (r : Feature) where
       absurd (omega arith)
 
   -- what is done with a record exactly is done after every past
-  pub fits : FitsPast lines_by Takes wants_memory may_take IsAfter settled_lines is_quiet merge r
+  pub fits : FitsPast strand_rule merge r
   fits = record {
     settles = next;
     next = λ new takes first past stands taken. record {
@@ -310,7 +309,7 @@ module _ (merge : Stranding) (r : Feature) where
 
 -- the kept runs' lines are those that are left
 pub finishes_kept : {A : Type 0} (merge : Stranding) (out : Output) (result : Result A Fault) (grown : Output) → Adds out (strand_lines merge.kept) result grown
-    → PutsRestAtEnd may_take IsAfter settled_lines whole_output merge out result grown
+    → PutsRestAtEnd strand_rule merge out result grown
 finishes_kept merge out result grown p = record {
   left = strand_lines merge.kept;
   is = λ first past stands taken. rw stands.kept (ap strand_lines (strand_runs_are_all first.gap past) ∙ places-append (settled_strand_runs first.gap past) (kept_strand_runs first.gap past));
@@ -318,7 +317,7 @@ finishes_kept merge out result grown p = record {
 }
 
 abbrev pub Enters : Stranding → List ℕ → Output → Result (Unit {0}) Fault → Stranding → Output → Type 0
-Enters = EnterAnswers lines_by Takes wants_memory may_take IsAfter settled_lines is_quiet
+Enters = EnterAnswers strand_rule
 
 -- another chromosome is entered
 module _ (old : Stranding) (out : Output) (runs : List PendingRun) (kept_is : old.kept ≡ placed_runs old.chrom runs) (chrom : List ℕ) (other : bytes_eq old.chrom chrom ≡ false) where

@@ -8,9 +8,9 @@ use Rattle.bt_bed.specs.model.Feature.{Feature, interval_of, Interval}
 use Rattle.bt_bed.specs.model.BedLine.{interval_line, interval_lines}
 use Rattle.bt_runs.specs.calls.Engine.{AfterEach}
 use Rattle.bt_runs.specs.model.Merged.{kept_runs, settled_runs}
-use Rattle.bt_runs.specs.inside.merge.UnstrandedStep.{left_by, settled_by, Takes, kept_at, lines_by}
+use Rattle.bt_runs.specs.inside.merge.UnstrandedStep.{left_by, settled_by, kept_at, lines_by, unstranded_rule}
 use Rattle.bt_runs.specs.inside.Walk.{EnterAnswers, FitsPast, PutsRestAtEnd}
-use Rattle.bt_runs.specs.calls.Unstranded.{IsAfter, Unstranded, is_quiet, may_take, settled_lines, whole_output}
+use Rattle.bt_runs.specs.calls.Unstranded.{Unstranded, settled_lines, unstranded}
 use Rattle.bt_runs.specs.declared.merge.unstranded_merge.OpenRun.{OpenRun}
 use Rattle.bt_runs.proofs.lemmas.Engine.{enters, enters_cut, enters_short, none_more}
 use Rattle.bt_runs.proofs.lemmas.merge.SettledRuns.{next_taken, whole_taken}
@@ -24,14 +24,11 @@ last_is (z ∷ []) [] x y e = absurd (cc)
 last_is (z ∷ w ∷ xs) [] x y e = absurd (cc)
 last_is (z ∷ xs) (w ∷ ys) x y e = last_is xs ys x y (cc)
 
-abbrev IsElsewhere : Unstranded → Feature → Type 0
-IsElsewhere old r = old.chrom ≡ r.chrom → ⊥
-
 module _ (old : Unstranded) where
   -- what is done with a record exactly is done after every past
-  pub fits : (r : Feature) → FitsPast lines_by Takes IsElsewhere may_take IsAfter settled_lines is_quiet old r
+  pub fits : (r : Feature) → FitsPast unstranded_rule old r
   fits r =
-      let settles : AfterEach may_take IsAfter old r (λ first past. settled_lines first (past ++ r ∷ []) ≡ settled_lines first past ++ lines_by old r) = λ first past stands taken.
+      let settles : AfterEach unstranded old r (λ first past. settled_lines first (past ++ r ∷ []) ≡ settled_lines first past ++ lines_by old r) = λ first past stands taken.
       rw (stands.same_gap, stands.kept) (ap interval_lines (next_taken first.gap first.strand past r taken).settles
       ∙ flat_map-append interval_line (settled_runs first.gap first.strand past) (settled_by first.gap (kept_runs first.gap first.strand past) (interval_of r))) in
       record {
@@ -50,7 +47,7 @@ module _ (old : Unstranded) where
 
   -- the kept run's line is the one that is left
   pub finishes_kept : {A : Type 0} (out : Output) (result : Result A Fault) (grown : Output) → Adds out (interval_lines old.kept) result grown
-      → PutsRestAtEnd may_take IsAfter settled_lines whole_output old out result grown
+      → PutsRestAtEnd unstranded_rule old out result grown
   finishes_kept out result grown p = record {
     left = interval_lines old.kept;
     is = λ first past stands taken. rw stands.kept (ap interval_lines (whole_taken first.gap first.strand past taken).all
@@ -75,7 +72,7 @@ module _ (old : Unstranded) (run : OpenRun) (is : kept_at old.chrom run ≡ old.
 
   -- once the kept run is written
   pub enters_other : (now : Unstranded) (through : Output) → now.gap ≡ old.gap → now.strand ≡ old.strand → now.chrom ≡ name → now.kept ≡ [] → Grown out (interval_lines old.kept) through
-      → EnterAnswers lines_by Takes IsElsewhere may_take IsAfter settled_lines is_quiet old name out (Ok tt) now through
+      → EnterAnswers unstranded_rule old name out (Ok tt) now through
   enters_other now through gap strand on none put = enters (fits old) (interval_lines old.kept) {mid = now} put
       (λ r at. (passes r at).0 ∙ sym (append-nil (interval_lines old.kept)) ∙ ap (λ kept. interval_lines old.kept ++ interval_lines (settled_by now.gap kept (interval_of r))) (sym none))
       (λ r at new p. record {
@@ -88,10 +85,10 @@ module _ (old : Unstranded) (run : OpenRun) (is : kept_at old.chrom run ≡ old.
 
   -- or the run couldn't be written
   pub enters_failing : (fault : Fault) (new : Unstranded) (grown : Output) → FailsToAdd out (interval_lines old.kept) (fault_value fault) grown
-      → EnterAnswers lines_by Takes IsElsewhere may_take IsAfter settled_lines is_quiet old name out (Err fault) new grown
+      → EnterAnswers unstranded_rule old name out (Err fault) new grown
   enters_failing fault new grown p = enters_cut (fits old) (interval_lines old.kept) fault new grown p (λ r at. ([], (passes r at).0 ∙ sym (append-nil (interval_lines old.kept))))
 
   -- or the name couldn't be kept
   pub enters_unnamed : (elsewhere : old.chrom ≡ name → ⊥) (fault : Fault) (new : Unstranded) (grown : Output) → fault_value fault ≡ no_memory → Grown out (interval_lines old.kept) grown
-      → EnterAnswers lines_by Takes IsElsewhere may_take IsAfter settled_lines is_quiet old name out (Err fault) new grown
+      → EnterAnswers unstranded_rule old name out (Err fault) new grown
   enters_unnamed elsewhere fault new grown memory p = enters_short (fits old) (interval_lines old.kept) fault new grown memory p (λ r at. (λ e. elsewhere (e ∙ at), (passes r at).0))

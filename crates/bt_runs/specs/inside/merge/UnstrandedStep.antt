@@ -4,7 +4,8 @@ use Rattle.bt_bed.specs.model.Feature.{Feature, interval_of, Interval}
 use Rattle.bt_bed.specs.model.BedLine.{interval_lines}
 use Rattle.bt_runs.specs.model.Merged.{is_counted, is_closed, passed_by}
 use Rattle.bt_runs.specs.declared.merge.merge_strand.MergeStrand.{MergeStrand}
-use Rattle.bt_runs.specs.calls.Unstranded.{Unstranded}
+use Rattle.bt_runs.specs.calls.Unstranded.{Unstranded, unstranded}
+use Rattle.bt_runs.specs.inside.Walk.{RuleDef}
 use Rattle.bt_runs.specs.declared.merge.unstranded_merge.OpenRun.{OpenRun}
 
 -- the run with the record joined to it
@@ -45,3 +46,7 @@ pub record Takes (old : Unstranded) (r : Feature) (new : Unstranded) : Type 0 wh
   pub strand : new.strand ≡ old.strand
   pub chrom : new.chrom ≡ r.chrom
   pub kept : new.kept ≡ kept_by old.gap old.strand old.kept r
+
+-- the rule
+abbrev pub unstranded_rule : RuleDef Unstranded
+unstranded_rule = record { engine = unstranded; lines = lines_by; has = Takes; is_on = λ merge name. merge.chrom ≡ name }

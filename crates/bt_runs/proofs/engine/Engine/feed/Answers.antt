@@ -4,10 +4,10 @@ use Rattle.bt_runs.proofs.engine.Engine.feed.Goals as goal
 
 pub returns-clause-feeds : goal.returns-clause-feeds
 returns-clause-feeds g c =
-    single_fed g.Self.Engine.takes g.Self.Engine.is_after g.Self.Engine.fault g.Self.Engine.settled g.Self.Engine.quiet g.Self.Engine.wants c.args.self.now (feature_lent c.args.bed.now) c.args.out.now.output
+    single_fed g.Self.Engine.definition c.args.self.now (feature_lent c.args.bed.now) c.args.out.now.output
     c.new-one.result c.feed_batch.new.records c.feed_batch.result c.feed_batch.new.self c.feed_batch.new.out.output c.new-one.ensures.left c.feed_batch.ensures
 
 pub returns-clause-memory : goal.returns-clause-memory
 returns-clause-memory g c =
-    single_wants g.Self.Engine.takes g.Self.Engine.is_after g.Self.Engine.fault g.Self.Engine.settled g.Self.Engine.quiet g.Self.Engine.wants c.args.self.now (feature_lent c.args.bed.now) c.args.out.now.output
+    single_wants g.Self.Engine.definition c.args.self.now (feature_lent c.args.bed.now) c.args.out.now.output
     c.new-one.result c.feed_batch.new.records c.feed_batch.result c.feed_batch.new.self c.feed_batch.new.out.output c.new-one.ensures.left c.feed_batch.ensures

@@ -23,7 +23,7 @@ loop-fault-init g c = record {
     given = g.met.C.Cursor.gives_none c.args.records.now;
     next = c.in-Some.ensures.some;
     on = c.in-Some.ensures.on;
-    entered = subst (g.E.Rule.is_on c.enter.new.self) c.chrom.ensures c.in_default-enter.ensures.on;
+    entered = subst (g.E.Rule.definition.is_on c.enter.new.self) c.chrom.ensures c.in_default-enter.ensures.on;
     mid = _;
     through = _;
     each = (refl, refl);
@@ -41,7 +41,7 @@ loop-fault-preserved g c =
     let f = c.loop-fault.invariant.following in
     let name = c.loop-fault.invariant.same_name in
     record {
-      following = follows_on g.met.C.Cursor.gives_more f _ _ _ _ (record { does = c.in_default-step.ensures.does; fits = c.in_default-step.ensures.fits }) (subst (g.E.Rule.is_on (g.E.Rule.with_on c.step.new.self c.step.new.on)) f.on c.in_default-step.ensures.on)
+      following = follows_on g.met.C.Cursor.gives_more f _ _ _ _ (record { does = c.in_default-step.ensures.does; fits = c.in_default-step.ensures.fits }) (subst (g.E.Rule.definition.is_on (g.E.Rule.with_on c.step.new.self c.step.new.on)) f.on c.in_default-step.ensures.on)
           c.in-Some-next.ensures.some (c.in-Some-next.ensures.on ∙ name);
       same_name = c.in-Some-next.ensures.same ∙ name;
     }
