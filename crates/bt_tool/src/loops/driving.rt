@@ -10,7 +10,7 @@ ghost use Rattle.bt_bed.specs.model.Order.{IsTotal};
 ghost use Rattle.bt_bed.specs.model.Sorted.{ArePlaced, sorting_of};
 ghost use Rattle.bt_bed.specs.model.Good.{bed_format};
 ghost use Rattle.bt_bed.specs.calls.Records.{below, last_locus, order_in, view_of};
-ghost use Rattle.bt_bed.specs.calls.Batch.{HasEnded, Passes};
+ghost use Rattle.bt_bed.specs.calls.CursorOf.{batch_cursor};
 ghost use Rattle.bt_bed.specs.declared.read.batch.Batch.{Batch};
 ghost use Rattle.bt_runs.specs.calls.Engine.{FeedsBatch, SettledBegins, SettledStays};
 ghost use Rattle.bt_tool.specs.model.Report.{of_records};
@@ -32,13 +32,13 @@ fn feed_all<S: Source, O: ChromOrder, E: Engine, K: Sink>(
     requires sorted { (view_of records.old).format ≡ bed_format (sorting_of (order_in records.old)) }
     requires none_last { last_locus records.old ≡ None }
     requires total { IsTotal (order_in records.old) }
-    requires stands { E.is_after engine.old [] engine.old }
-    requires nothing { E.settled engine.old [] ≡ [] }
+    requires stands { E.definition.is_after engine.old [] engine.old }
+    requires nothing { E.definition.settled engine.old [] ≡ [] }
     requires takes { (past : List Feature) → ArePlaced (order_in records.old) (intervals_of past)
-        → AreNonEmpty (intervals_of past) → E.takes engine.old past }
+        → AreNonEmpty (intervals_of past) → E.definition.takes engine.old past }
     requires block { HoldsBlock out.old.output.took out.old.output.put }
-    ensures feeds { FeedsMembers (E.settled engine.old) (IsBedKind (order_in records.old)) (AreInOrder (order_in records.old)) S.Source
-        (λ past. E.is_after engine.old past engine.new) (view_of records.old) out.old.output result (view_of records.new) out.new.output }
+    ensures feeds { FeedsMembers (E.definition.settled engine.old) (IsBedKind (order_in records.old)) (AreInOrder (order_in records.old)) S.Source
+        (λ past. E.definition.is_after engine.old past engine.new) (view_of records.old) out.old.output result (view_of records.new) out.new.output }
     ensures reads { AnswersNoRead result → HasRead S.is_read (below records.old) (below records.new) }
     ensures own_failure { KeepsOwnFault S.is_read (below records.old) (view_of records.new) }
 {
@@ -55,8 +55,7 @@ fn feed_buffered<S: Source, O: ChromOrder, E: Engine, K: Sink>(
     out: &mut Out<K>,
 ) -> Result<(), Fault>
     ensures { (first : Batch) × (last : Batch) × ConsumesGiven S.Source records.old first last records.new
-        × FeedsBatch E.takes E.is_after E.fault E.settled E.quiet E.wants Passes HasEnded
-        engine.old first out.old.output result engine.new last out.new.output }
+        × FeedsBatch E.definition batch_cursor engine.old first out.old.output result engine.new last out.new.output }
 {
     let mut batch = records.buffered();
     let fed = engine.feed_batch(&mut batch, out);
@@ -74,15 +73,15 @@ pub(crate) fn drive<A: Source, O: ChromOrder, E: Engine + Drop, K: Sink>(
     first: A,
     out: &mut Out<K>,
 ) -> (Option<Fault>, A)
-    requires stands { E.is_after engine [] engine }
-    requires nothing { E.settled engine [] ≡ [] }
+    requires stands { E.definition.is_after engine [] engine }
+    requires nothing { E.definition.settled engine [] ≡ [] }
     requires takes { (past : List Feature) → ArePlaced (O.order order.now) (intervals_of past)
-        → AreNonEmpty (intervals_of past) → E.takes engine past }
-    requires stays { SettledStays (E.settled engine) (E.takes engine) }
-    requires begins { SettledBegins (E.settled engine) (E.output engine) (E.takes engine) }
+        → AreNonEmpty (intervals_of past) → E.definition.takes engine past }
+    requires stays { SettledStays (E.definition.settled engine) (E.definition.takes engine) }
+    requires begins { SettledBegins (E.definition.settled engine) (E.definition.output engine) (E.definition.takes engine) }
     requires block { HoldsBlock out.old.output.took out.old.output.put }
     ensures { RunsAlone A.Source
-        (of_records (O.order order.now) (record { whole = E.output engine; settled = E.settled engine }))
+        (of_records (O.order order.now) (record { whole = E.definition.output engine; settled = E.definition.settled engine }))
         first out.old.output (option_map fault_value result.0) result.1 out.new.output }
 {
     let reader = LineReader::new(alloc, first, Input::First);

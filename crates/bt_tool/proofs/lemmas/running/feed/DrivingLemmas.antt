@@ -1,11 +1,11 @@
 -- Lemmas on driving an engine, from the records that it takes to the report on what its input hands over.
-use Rattle.bt_lines.proofs.Std.{◌≡◌, ℕ, suc, ◌-◌, true, List, [], ◌++◌, take, Option, None, Some, Ok, Err, refl, sym, ap, ◌∙◌, subst, append-nil, append_assoc, arith, inl, inr, ◌⊎◌, ◌≢◌, ⊤, IfSome, map-append, Appends, Consumes, Bool, ◌∷◌, option_map, flat_map-append, Appends-nil, false≢true}
+use Rattle.bt_lines.proofs.Std.{◌≡◌, ℕ, suc, ◌-◌, true, List, [], ◌++◌, take, Option, None, Some, Ok, refl, sym, ap, ◌∙◌, subst, append-nil, append_assoc, arith, inl, inr, ◌⊎◌, ◌≢◌, ⊤, IfSome, map-append, Appends, Consumes, Bool, ◌∷◌, option_map, flat_map-append, Appends-nil, false≢true}
 use Rattle.bt_lines.specs.declared.device.Source.{Ghosts as Source}
 use Rattle.bt_lines.proofs.lemmas.reader.block.ReadsLemmas.{some_is}
 use Rattle.bt_lines.proofs.lemmas.Writer.{grows_both}
 use Rattle.bt_lines.specs.model.Fault.{FaultValue, write_failed, no_memory, read_failed}
 use Rattle.bt_lines.specs.model.Lines.{Handed, whole_text, text_lines, TextLine}
-use Rattle.bt_lines.specs.calls.Output.{Output, IsPrefixOf, CutsRest, PutsRest, HoldsBlock, FailsToAdd, Grown}
+use Rattle.bt_lines.specs.calls.Output.{Output, IsPrefixOf, HoldsBlock, FailsToAdd, Grown}
 use Rattle.bt_lines.specs.calls.Reader.{Hands, source_of, input_of, lines_given, GivesEnd, GivesFault, GivesLine, IsKept, IsSound, bytes_taken, fault_kept, feeds_taken, lines_left}
 use Rattle.bt_lines.specs.declared.fault.Input.TheVariants.{First}
 use Rattle.bt_lines.specs.declared.fault.Kind.{Kind}
@@ -20,9 +20,7 @@ use Rattle.bt_bed.specs.model.Order.{Order, IsTotal}
 use Rattle.bt_bed.specs.model.Sorted.{ArePlaced, sorting_of}
 use Rattle.bt_bed.specs.calls.SortedReader.{view_with}
 use Rattle.bt_bed.specs.calls.Records.{order_in, view_of}
-use Rattle.bt_lines.specs.calls.Names.{fault_value}
-use Rattle.bt_lines.specs.declared.fault.Fault.{Fault}
-use Rattle.bt_runs.specs.calls.Engine.{FailsToPutLeft, Finishes, RepeatsAtEnd, SettledBegins, SettledStays}
+use Rattle.bt_runs.specs.calls.Engine.{SettledBegins, SettledStays}
 use Rattle.bt_bed.specs.declared.order.ChromOrder.{Ghosts}
 use Rattle.bt_bed.specs.declared.read.records.Records.{Records}
 use Rattle.bt_bed.proofs.lemmas.Definitions.{placed_good, non_empty_good, placed_lines}
@@ -31,7 +29,7 @@ use Rattle.bt_tool.specs.model.Report.{of_members, Holds, OfBoth, of_records}
 use Rattle.bt_tool.proofs.lemmas.running.members.CursorLemmas.{Came, BeginsAt, at_whole, came_whole, good_whole, handed_to, says_fault, tells_fault, begins_over}
 use Rattle.bt_tool.specs.inside.Feed.{StopCause, CutsLines, PutsLines, FeedsAll, FeedsUpTo, TookButBlock, IsReadFor, member_items, LineRefused, sam_reader, IsFresh, KeepsOwnFault, Passes}
 use Rattle.bt_tool.specs.model.Written.{Report, members_report, members_settle, report_by, Written, IsOneOf, alignment_lines, alignments_written, merge_written, pooled_written, coverage_written}
-use Rattle.bt_tool.proofs.lemmas.running.feed.FeedLemmas.{GoesOn, front_all, goes_works, text_grows, took_later, Fed, fails_writing, fed_all, fed_none, fed_up_to, goes_same, put_more}
+use Rattle.bt_tool.proofs.lemmas.running.feed.FeedLemmas.{GoesOn, front_all, text_grows, took_later, Fed, fails_writing, fed_all, fed_none, fed_up_to, goes_same, put_more}
 use Rattle.bt_tool.proofs.lemmas.running.feed.WritingLemmas.{memory_no_write, placed_no_write, is_whole, named_alone, line_no_read, alone_writes}
 use Rattle.bt_tool.proofs.lemmas.running.members.SeenLemmas.{PutsFront, puts_front}
 use Rattle.std.specs.Option.{option_map_or}
@@ -65,35 +63,6 @@ items_both past rest = map-append (λ m. m.item) past rest
 pub sorted_start : {S O : Type 0} {ghosts : Ghosts O} (records : Records S O ghosts) → (view_of records).format ≡ bed_format (sorting_of (order_in records))
 unfolding view_of view_with order_in
 sorted_start records = refl
-
--- what the end of an engine did
-module _ {E : Type 0} (MayTake : E → List Feature → Type 0) (Stands : E → List Feature → E → Type 0) (engine_fault : E → Option FaultValue) (settled whole : E → List Feature → List ℕ) (first last : E) (past : List Feature) (out : Output) (grown : Output) where
-  pub finish_put : {A : Type 0} {done : A} → Stands first past last → MayTake first past → Finishes MayTake Stands engine_fault settled whole last out (Ok done) grown
-      → PutsRest (settled first past) (whole first past) out grown
-  finish_put stands takes finished = finished.answers.puts first past stands takes
-
-  pub finish_serves : {A : Type 0} {done : A} → Finishes MayTake Stands engine_fault settled whole last out (Ok done) grown → grown.sink_has_failed ≡ out.sink_has_failed
-  finish_serves finished = finished.answers.works.sink_served
-
-  -- the output goes on
-  pub finish_goes : {A : Type 0} {done : A} → Finishes MayTake Stands engine_fault settled whole last out (Ok done) grown → GoesOn out grown
-  finish_goes finished = goes_works out grown finished.grows finished.answers.works
-
-  -- the lines that were left couldn't be put
-  pub record CutAtEnd (fault : FaultValue) : Type 0 where
-    pub is : fault ≡ write_failed
-    pub cuts : CutsRest (settled first past) (whole first past) out grown
-    pub failed : grown.has_failed ≡ true
-    pub sink_failed : grown.sink_has_failed ≡ true
-
-  cut_at_end : (fault : FaultValue) → Stands first past last → MayTake first past → engine_fault last ≡ None
-      → RepeatsAtEnd MayTake Stands engine_fault settled whole last out fault grown ⊎ FailsToPutLeft MayTake Stands engine_fault settled whole last out fault grown → CutAtEnd fault
-  cut_at_end fault stands takes going (inl again) = absurd (let apart : None ≡ Some fault = sym going ∙ again.is in cc)
-  cut_at_end fault stands takes going (inr fails) = record { is = fails.is; cuts = fails.cuts first past stands takes; failed = fails.failed; sink_failed = fails.sink_failed }
-
-  pub finish_cut : {A : Type 0} (fault : Fault) → Stands first past last → MayTake first past → Finishes MayTake Stands engine_fault settled whole last out {A = A} (Err fault) grown
-      → CutAtEnd (fault_value fault)
-  finish_cut fault stands takes finished = cut_at_end (fault_value fault) stands takes (finished.going first past stands) finished.answers
 
 -- the good records of a text are in order
 pub records_sorted : (Taken : List Feature → Type 0) (order : Order) → IsTotal order → ((past : List Feature) → ArePlaced order (intervals_of past) → AreNonEmpty (intervals_of past) → Taken past)

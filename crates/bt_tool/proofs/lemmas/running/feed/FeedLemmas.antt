@@ -1,5 +1,5 @@
 -- What was taken of a reader's members and written of them so far, whatever they are, and what is so when the reading stops. By it, feeding an engine with the records of a reader.
-use Rattle.bt_lines.proofs.Std.{◌≡◌, ℕ, suc, ◌+◌, ◌<◌, ◌≤◌, true, List, [], ◌∷◌, ◌++◌, length, Option, None, Some, Err, refl, sym, ap, ◌∙◌, subst, append-nil, append_assoc, length-append, arith, inl, inr, ◌⊎◌, IfSome, map-append, All-cons, All-head, All-nil, All-tail, Appends}
+use Rattle.bt_lines.proofs.Std.{◌≡◌, ℕ, suc, ◌+◌, ◌<◌, ◌≤◌, true, List, [], ◌∷◌, ◌++◌, length, Option, None, Some, Result, Ok, Err, refl, sym, ap, ◌∙◌, subst, append-nil, append_assoc, length-append, arith, inl, inr, ◌⊎◌, IfSome, map-append, All-cons, All-head, All-nil, All-tail, Appends}
 use Rattle.bt_lines.specs.declared.device.Source.{Ghosts as Source}
 use Rattle.bt_lines.proofs.lemmas.Writer.{grown_works, grows_nothing, grows_both}
 use Rattle.bt_lines.specs.model.Fault.{FaultValue, write_failed, no_memory}
@@ -20,10 +20,11 @@ use Rattle.bt_bed.specs.calls.Reading.{AreSaid, MemberReader, good_coming, membe
 use Rattle.bt_bed.specs.calls.Records.{below, last_locus, order_in, view_of}
 use Rattle.bt_bed.specs.declared.order.ChromOrder.{Ghosts}
 use Rattle.bt_bed.specs.declared.read.records.Records.{Records}
-use Rattle.bt_bed.specs.calls.Batch.{HasEnded, Passes as PassesBatch}
-use Rattle.bt_bed.specs.calls.CursorLaws.{batch_gives_more}
+use Rattle.bt_bed.specs.calls.Batch.{Passes as PassesBatch}
+use Rattle.bt_bed.specs.calls.CursorLaws.{batch_gives_more, batch_gives_none}
+use Rattle.bt_bed.specs.calls.CursorOf.{batch_cursor}
 use Rattle.bt_bed.specs.declared.read.batch.Batch.{Batch}
-use Rattle.bt_runs.specs.calls.Engine.{FailsAtGiven, FeedsBatch, NotTaken, TakesEach}
+use Rattle.bt_runs.specs.calls.Engine.{EngineDef, FailsAtGiven, FeedsBatch, NotTaken, TakesEach}
 use Rattle.bt_tool.specs.calls.Run.{IsPutTo}
 use Rattle.bt_tool.specs.inside.Feed.{HasPut, AreInOrder, IsFresh, Took, TookButBlock, FeedsAll, FeedsUpTo, ConsumesGiven, HasTaken, IsReadFor, Passes, member_items}
 use Rattle.bt_tool.proofs.lemmas.running.members.MemberLemmas.{IsFilled, IsOver, IsStopped, bytes_more, items_take, passes_all, passes_end, passes_fill, passes_start, passes_stop, passes_take, read_alone, read_at_stop, read_before, read_here}
@@ -268,9 +269,9 @@ module _ {S A State : Type 0} (settled : List A → List ℕ) (Kinds : Kind → 
 -- ---- an engine that is given records one after another
 
 -- it is after these, and the lines that they settle were put
-pub record EngineAt {E : Type 0} (Stands : E → List Feature → E → Type 0) (settled : E → List Feature → List ℕ) (first : E) (out : Output) (past : List Feature) (engine : E) (grown : Output) : Type 0 where
-  pub stands : Stands first past engine
-  pub put : HasPut out (settled first past) grown
+pub record EngineAt {E : Type 0} (definition : EngineDef E) (first : E) (out : Output) (past : List Feature) (engine : E) (grown : Output) : Type 0 where
+  pub stands : definition.is_after first past engine
+  pub put : HasPut out (definition.settled first past) grown
 
 full_front : (front rest : List Interval) → AreNonEmpty (front ++ rest) → AreNonEmpty front
 full_front [] rest full = All-nil (λ (r : Interval). r.start < r.stop)
@@ -285,61 +286,55 @@ order_front order front rest sorted =
       full_front (intervals_of front) (intervals_of rest) (subst AreNonEmpty parts sorted.1),
     )
 
-module _ {E : Type 0} (MayTake : E → List Feature → Type 0) (Stands : E → List Feature → E → Type 0) (engine_fault : E → Option FaultValue) (settled : E → List Feature → List ℕ) (Quiet : E → List Feature → Feature → Type 0) (first : E) (out : Output)
-    (order : Order) (takes : (past : List Feature) → ArePlaced order (intervals_of past) → AreNonEmpty (intervals_of past) → MayTake first past) where
-  abbrev At : List Feature → E → Output → Type 0
-  At = EngineAt Stands settled first out
-
-  may_take : (past : List Feature) (r : Feature) (more : List Feature) → AreInOrder order (past ++ r ∷ more) → MayTake first (past ++ r ∷ [])
-  may_take past r more sorted =
-      let one = order_front order (past ++ r ∷ []) more (subst (AreInOrder order) (sym (append_assoc past (r ∷ []) more)) sorted) in
-      takes (past ++ r ∷ []) one.0 one.1
-
-  pub at_each : (past records : List Feature) (engine fed : E) (grown later : Output) → AreInOrder order (past ++ records) → At past engine grown
-      → TakesEach MayTake Stands engine_fault settled Quiet engine grown records fed later → At (past ++ records) fed later
-  at_each past [] engine fed grown later sorted at t = rw (append-nil past, t.0, t.1) at
-  at_each past (r ∷ records) engine fed grown later sorted at t =
-      let may = may_take past r records sorted in
-      let fed_one = t.2 in
-      let puts = fed_one.answers.puts first past at.stands may in
-      subst (λ (l : List Feature). At l fed later) (append_assoc past (r ∷ []) records)
-      (at_each (past ++ r ∷ []) records t.0 fed t.1 later (subst (AreInOrder order) (sym (append_assoc past (r ∷ []) records)) sorted)
-      (record {
-        stands = fed_one.answers.stands first past at.stands may;
-        put = record {
-          puts = λ before e. text_grows grown.put (t.1).put before (settled first past) puts.bytes (settled first (past ++ r ∷ [])) puts.goes_on puts.appends (at.put.puts before e);
-          works = works_both out grown t.1 at.put.works fed_one.answers.works;
-          block = fed_one.answers.works.block at.put.block;
-          grows = grows_both out.took grown.took (t.1).took at.put.grows fed_one.grows;
-        };
-      })
-      t.3)
+pub at_each : {E : Type 0} {definition : EngineDef E} {first : E} {out : Output} (order : Order)
+    → ((past : List Feature) → ArePlaced order (intervals_of past) → AreNonEmpty (intervals_of past) → definition.takes first past)
+    → (past records : List Feature) (engine fed : E) (grown later : Output) → AreInOrder order (past ++ records) → EngineAt definition first out past engine grown
+    → TakesEach definition engine grown records fed later → EngineAt definition first out (past ++ records) fed later
+at_each order takes past [] engine fed grown later sorted at t = rw (append-nil past, t.0, t.1) at
+at_each {definition = definition} {first = first} {out = out} order takes past (r ∷ records) engine fed grown later sorted at t =
+    let all : AreInOrder order ((past ++ r ∷ []) ++ records) = rw append_assoc sorted in
+    let one = order_front order (past ++ r ∷ []) records all in
+    let may = takes (past ++ r ∷ []) one.0 one.1 in
+    let fed_one = t.2 in
+    let puts = fed_one.answers.puts first past at.stands may in
+    subst (λ (l : List Feature). EngineAt definition first out l fed later) (append_assoc past (r ∷ []) records)
+    (at_each order takes (past ++ r ∷ []) records t.0 fed t.1 later all
+    (record {
+      stands = fed_one.answers.stands first past at.stands may;
+      put = record {
+        puts = λ before e. text_grows grown.put (t.1).put before (definition.settled first past) puts.bytes (definition.settled first (past ++ r ∷ [])) puts.goes_on puts.appends (at.put.puts before e);
+        works = works_both out grown t.1 at.put.works fed_one.answers.works;
+        block = fed_one.answers.works.block at.put.block;
+        grows = grows_both out.took grown.took (t.1).took at.put.grows fed_one.grows;
+      };
+    })
+    t.3)
 
 -- ---- the run
 
-module _ {S O E : Type 0} {ghosts : Ghosts O} (MayTake : E → List Feature → Type 0) (Stands : E → List Feature → E → Type 0) (engine_fault : E → Option FaultValue) (settled : E → List Feature → List ℕ) (first : E)
-    (device : Source S) (old : Records S O ghosts) (out : Output) where
+module _ {S O E : Type 0} {ghosts : Ghosts O} (definition : EngineDef E) (first : E) (device : Source S) (old : Records S O ghosts) (out : Output) where
   -- the records so far were taken
   pub record Going (now : Records S O ghosts) (engine : E) (grown : Output) : Type 0 where
     pub past : List (Member Feature)
-    pub fed : Fed (settled first) device (view_of old) out past (view_of now) grown
+    pub fed : Fed (definition.settled first) device (view_of old) out past (view_of now) grown
     pub order : order_in now ≡ order_in old
-    pub stands : Stands first (member_items past) engine
+    pub stands : definition.is_after first (member_items past) engine
 
+module _ {S O E : Type 0} {ghosts : Ghosts O} {definition : EngineDef E} {first : E} {device : Source S} {old : Records S O ghosts} {out : Output} where
   -- before the first record
-  pub going_start : IsFresh device (view_of old) → Stands first [] first → settled first [] ≡ [] → HoldsBlock out.took out.put → Going old first out
+  pub going_start : IsFresh device (view_of old) → definition.is_after first [] first → definition.settled first [] ≡ [] → HoldsBlock out.took out.put → Going definition first device old out old first out
   going_start fresh stands nothing block = record {
     past = [];
-    fed = fed_none (settled first) device (view_of old) out fresh (line_going old fresh.going) nothing block;
+    fed = fed_none (definition.settled first) device (view_of old) out fresh (line_going old fresh.going) nothing block;
     order = refl;
     stands = stands;
   }
 
   module _ (is_bed : (view_of old).format ≡ bed_format (sorting_of (order_in old))) (total : IsTotal (order_in old)) (none_last : last_locus old ≡ None)
-      (takes : (past : List Feature) → ArePlaced (order_in old) (intervals_of past) → AreNonEmpty (intervals_of past) → MayTake first past)
-      (now : Records S O ghosts) (engine : E) (grown : Output) (g : Going now engine grown) where
+      (takes : (past : List Feature) → ArePlaced (order_in old) (intervals_of past) → AreNonEmpty (intervals_of past) → definition.takes first past)
+      {now : Records S O ghosts} {engine : E} {grown : Output} (g : Going definition first device old out now engine grown) where
     abbrev StopsUpTo : FaultValue → Records S O ghosts → Output → Type 0
-    StopsUpTo fault new later = FeedsUpTo (settled first) (IsBedKind (order_in old)) (AreInOrder (order_in old)) device (view_of old) out fault (view_of new) later
+    StopsUpTo fault new later = FeedsUpTo (definition.settled first) (IsBedKind (order_in old)) (AreInOrder (order_in old)) device (view_of old) out fault (view_of new) later
 
     in_order : (past : List (Member Feature)) (new : MemberReader S Feature (Option Locus)) → Passes device (view_of old) past new → AreInOrder (order_in old) (member_items past)
     in_order past new passes =
@@ -347,39 +342,39 @@ module _ {S O E : Type 0} {ghosts : Ghosts O} (MayTake : E → List Feature → 
         (subst (λ (f : Format Feature (Option Locus)). AreSaid f None (member_items past)) is_bed (subst (λ (s : Option Locus). AreSaid (view_of old).format s (member_items past)) none_last passes.said))
 
     -- a record is buffered
-    pub going_fill : (new : Records S O ghosts) → IsFilled device (view_of now) (view_of new) → order_in new ≡ order_in now → Going new engine grown
+    pub going_fill : (new : Records S O ghosts) → IsFilled device (view_of now) (view_of new) → order_in new ≡ order_in now → Going definition first device old out new engine grown
     going_fill new fills same = record {
       past = g.past;
-      fed = fed_fill (settled first) (IsBedKind (order_in old)) (AreInOrder (order_in old)) device (view_of old) out g.past (view_of now) grown g.fed (view_of new) fills;
+      fed = fed_fill (definition.settled first) (IsBedKind (order_in old)) (AreInOrder (order_in old)) device (view_of old) out g.past (view_of now) grown g.fed (view_of new) fills;
       order = same ∙ g.order;
       stands = g.stands;
     }
 
     -- after the last record
     pub feeds_all : (new : Records S O ghosts) → IsOver device (view_of now) (view_of new)
-        → FeedsAll (settled first) (IsBedKind (order_in old)) (AreInOrder (order_in old)) device (λ past. Stands first past engine) (view_of old) out (view_of new) grown
+        → FeedsAll (definition.settled first) (IsBedKind (order_in old)) (AreInOrder (order_in old)) device (λ past. definition.is_after first past engine) (view_of old) out (view_of new) grown
     feeds_all new over =
-        fed_all (settled first) (IsBedKind (order_in old)) (AreInOrder (order_in old)) device (view_of old) out g.past (view_of now) grown g.fed (λ past. Stands first past engine) (view_of new) over
+        fed_all (definition.settled first) (IsBedKind (order_in old)) (AreInOrder (order_in old)) device (view_of old) out g.past (view_of now) grown g.fed (λ past. definition.is_after first past engine) (view_of new) over
         (in_order g.past (view_of now) g.fed.passes) g.stands
 
     -- the reader reported a fault
     pub stops_reading : (new : Records S O ghosts) (fault : FaultValue) → IsStopped device (view_of now) fault (view_of new) → StopsUpTo fault new grown
     stops_reading new fault stopped =
-        fed_up_to (settled first) (IsBedKind (order_in old)) (AreInOrder (order_in old)) device (view_of old) out g.past (view_of now) grown g.fed
+        fed_up_to (definition.settled first) (IsBedKind (order_in old)) (AreInOrder (order_in old)) device (view_of old) out g.past (view_of now) grown g.fed
         (λ state line kind says. wrong_of_bed (order_in old) state line.text kind (ap (λ (f : Format Feature (Option Locus)). f.says state line) (sym is_bed) ∙ says))
         (view_of new) fault stopped (in_order g.past (view_of now) g.fed.passes)
 
-    at_now : EngineAt Stands settled first out (member_items g.past) engine grown
+    at_now : EngineAt definition first out (member_items g.past) engine grown
     at_now = record { stands = g.stands; put = g.fed.put }
 
     -- records that were buffered were taken
-    pub going_taken : (Quiet : E → List Feature → Feature → Type 0) (new : Records S O ghosts) (fed : E) (later : Output) (records : List Feature) → HasTaken device (view_of now) records (view_of new) → order_in new ≡ order_in now
-        → TakesEach MayTake Stands engine_fault settled Quiet engine grown records fed later → Going new fed later
-    going_taken Quiet new fed later records has same taken =
+    pub going_taken : (new : Records S O ghosts) (fed : E) (later : Output) (records : List Feature) → HasTaken device (view_of now) records (view_of new) → order_in new ≡ order_in now
+        → TakesEach definition engine grown records fed later → Going definition first device old out new fed later
+    going_taken new fed later records has same taken =
         let more = members_from (suc (lines_given (below now))) records in
         let passes = passes_take device (view_of old) g.past (view_of now) g.fed.passes records (view_of new) has in
         let items = items_take g.past (suc (lines_given (below now))) records in
-        let at = at_each MayTake Stands engine_fault settled Quiet first out (order_in old) takes (member_items g.past) records engine fed grown later (subst (AreInOrder (order_in old)) items (in_order (g.past ++ more) (view_of new) passes)) at_now taken in
+        let at = at_each (order_in old) takes (member_items g.past) records engine fed grown later (subst (AreInOrder (order_in old)) items (in_order (g.past ++ more) (view_of new) passes)) at_now taken in
         record {
           past = g.past ++ more;
           fed = record { passes = passes; put = rw items at.put };
@@ -388,8 +383,8 @@ module _ {S O E : Type 0} {ghosts : Ghosts O} (MayTake : E → List Feature → 
         }
 
     -- one of them wasn't
-    module _ (Quiet : E → List Feature → Feature → Type 0) (wants : E → Feature → Type 0) (fault : Fault) (new : Records S O ghosts) (fed : E) (later : Output) (first_batch last_batch : Batch) (consumes : ConsumesGiven device now first_batch last_batch new)
-        (f : FailsAtGiven MayTake Stands engine_fault settled Quiet wants PassesBatch HasEnded engine first_batch grown fault fed last_batch later) where
+    module _ {fault : Fault} {new : Records S O ghosts} {fed : E} {later : Output} {first_batch last_batch : Batch} (consumes : ConsumesGiven device now first_batch last_batch new)
+        (f : FailsAtGiven definition batch_cursor engine first_batch grown fault fed last_batch later) where
       abbrev records : List Feature
       records = f.takes.records
 
@@ -417,24 +412,24 @@ module _ {S O E : Type 0} {ghosts : Ghosts O} (MayTake : E → List Feature → 
       sorted_given : AreInOrder (order_in old) (member_items before ++ f.r ∷ [])
       sorted_given = subst (AreInOrder (order_in old)) given_items (in_order given (view_of new) passes)
 
-      at_mid : EngineAt Stands settled first out (member_items before) f.mid f.through
+      at_mid : EngineAt definition first out (member_items before) f.mid f.through
       at_mid =
-          subst (λ (l : List Feature). EngineAt Stands settled first out l f.mid f.through) (sym before_items)
-          (at_each MayTake Stands engine_fault settled Quiet first out (order_in old) takes (member_items g.past) records engine f.mid grown f.through
+          subst (λ (l : List Feature). EngineAt definition first out l f.mid f.through) (sym before_items)
+          (at_each (order_in old) takes (member_items g.past) records engine f.mid grown f.through
           (subst (AreInOrder (order_in old)) before_items (order_front (order_in old) (member_items before) (f.r ∷ []) sorted_given)) at_now f.takes.taken)
 
       read : IsReadFor device (view_of old) before given (view_of new)
       read = read_before device (view_of old) g.past (view_of now) g.fed.passes records f.r (view_of new) has
 
-      not_taken : MayTake first (member_items before ++ f.r ∷ []) → engine_fault f.mid ≡ None → Grows (f.through).took later.took → NotTaken MayTake Stands engine_fault settled f.mid f.r f.through (fault_value fault) fed later → StopsUpTo (fault_value fault) new later
+      not_taken : definition.takes first (member_items before ++ f.r ∷ []) → definition.fault f.mid ≡ None → Grows (f.through).took later.took → NotTaken definition f.mid f.r f.through (fault_value fault) fed later → StopsUpTo (fault_value fault) new later
       not_taken may going grows (inl again) = absurd (let apart : None ≡ Some (fault_value fault) = sym going ∙ again.is in cc)
       not_taken may going grows (inr (inl fails)) =
           let cuts = fails.cuts first (member_items before) at_mid.stands may in
-          fails_writing (settled first) (IsBedKind (order_in old)) (AreInOrder (order_in old)) device (view_of old) out before given f.r given_items (view_of new) passes read
+          fails_writing (definition.settled first) (IsBedKind (order_in old)) (AreInOrder (order_in old)) device (view_of old) out before given f.r given_items (view_of new) passes read
           f.through at_mid.put sorted_given (fault_value fault) later cuts.bytes cuts.goes_on fails.is cuts.front fails.failed fails.sink_failed grows
       not_taken may going grows (inr (inr out_of)) =
           let puts = out_of.puts first (member_items before) at_mid.stands may in
-          fails_growing (settled first) (IsBedKind (order_in old)) (AreInOrder (order_in old)) device (view_of old) out before given f.r given_items (view_of new) passes read
+          fails_growing (definition.settled first) (IsBedKind (order_in old)) (AreInOrder (order_in old)) device (view_of old) out before given f.r given_items (view_of new) passes read
           f.through at_mid.put sorted_given (fault_value fault) later puts.bytes puts.goes_on out_of.is puts.appends out_of.works grows
 
       pub stops_feeding : StopsUpTo (fault_value fault) new later
@@ -442,9 +437,15 @@ module _ {S O E : Type 0} {ghosts : Ghosts O} (MayTake : E → List Feature → 
           not_taken (takes (member_items before ++ f.r ∷ []) sorted_given.0 sorted_given.1) (f.fails.going first (member_items before) at_mid.stands) f.fails.grows f.fails.answers
 
 -- an engine that is after some records has failed at one
-pub failed_at : {E : Type 0} {MayTake : E → List Feature → Type 0} {Stands : E → List Feature → E → Type 0} {engine_fault : E → Option FaultValue} {settled : E → List Feature → List ℕ} {Quiet : E → List Feature → Feature → Type 0} {wants : E → Feature → Type 0}
-    {engine : E} {batch : Batch} {out : Output} {fault : Fault} {fed : E} {last : Batch} {grown : Output}
-    → FeedsBatch MayTake Stands engine_fault settled Quiet wants PassesBatch HasEnded engine batch out {A = Unit {0}} (Err fault) fed last grown → (first : E) (past : List Feature) → Stands first past engine
-    → FailsAtGiven MayTake Stands engine_fault settled Quiet wants PassesBatch HasEnded engine batch out fault fed last grown
+pub failed_at : {E : Type 0} {definition : EngineDef E} {engine : E} {batch : Batch} {out : Output} {fault : Fault} {fed : E} {last : Batch} {grown : Output}
+    → FeedsBatch definition batch_cursor engine batch out {A = Unit {0}} (Err fault) fed last grown → (first : E) (past : List Feature) → definition.is_after first past engine
+    → FailsAtGiven definition batch_cursor engine batch out fault fed last grown
 failed_at (inl f) first past stands = let none = f.going first past stands in let some = f.is in absurd (cc)
 failed_at (inr f) first past stands = f
+
+-- the records of a batch that an engine was given
+pub given_by : {E A : Type 0} (definition : EngineDef E) (engine : E) (first : Batch) (out : Output) (result : Result A Fault) (fed : E) (last : Batch) (grown : Output)
+    → FeedsBatch definition batch_cursor engine first out result fed last grown → (records : List Feature) × PassesBatch first records last
+given_by definition engine first out (Ok done) fed last grown f = (f.0.records, f.0.given)
+given_by definition engine first out (Err fault) fed last grown (inl f) = ([], rw f.same_cursor (batch_gives_none first))
+given_by definition engine first out (Err fault) fed last grown (inr f) = (f.takes.records ++ f.r ∷ [], batch_gives_more first f.before last f.takes.records (f.r ∷ []) f.takes.given f.given)

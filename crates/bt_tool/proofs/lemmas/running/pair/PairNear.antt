@@ -20,17 +20,14 @@ use Rattle.bt_tool.specs.inside.Pair.{HasNoMore, JoinDef, MayCome, Pair, AsksFor
 use Rattle.bt_tool.proofs.lemmas.running.members.CursorLemmas.{BeginsAt, at_whole, good_whole, handed_to, is_known, some_of}
 use Rattle.bt_tool.proofs.lemmas.running.pair.PairMet.{may_come}
 use Rattle.bt_lines.specs.declared.device.Source.{Ghosts as Source}
-use Rattle.bt_lines.specs.declared.fault.Fault.{Fault}
-use Rattle.bt_bed.specs.calls.Batch.{HasEnded, IsWhere, Passes, batch_room, cursor_in, left as left_in, line_in}
+use Rattle.bt_bed.specs.calls.Batch.{IsWhere, Passes, batch_room, cursor_in, left as left_in, line_in}
 use Rattle.bt_bed.specs.calls.SortedReader.{view_with}
-use Rattle.bt_bed.specs.calls.CursorLaws.{batch_gives_more, batch_gives_none}
 use Rattle.bt_bed.specs.calls.Records.{IsTaken, Lends, TakesRecords, below, buffered_in, count_in, view_of}
 use Rattle.bt_bed.specs.declared.read.batch.Batch.{Batch}
 use Rattle.bt_bed.specs.declared.read.batch.Consumed.{Consumed}
 use Rattle.bt_bed.specs.declared.order.ChromOrder.{Ghosts}
 use Rattle.bt_bed.specs.declared.read.records.Records.{Records}
 use Rattle.bt_bed.proofs.lemmas.read.good.SaidRuns.{taken_are, token_is}
-use Rattle.bt_runs.specs.calls.Engine.{FeedsBatch}
 use Rattle.bt_sweep.specs.calls.Sweeping.{ComesNext}
 use Rattle.bt_tool.proofs.lemmas.running.members.PassedLemmas.{has_taken}
 
@@ -253,13 +250,6 @@ consumes_given now batch lends last records passes consumed is device comes new 
   line_is = line_is now batch lends last records passes consumed is device comes new takes;
   order = takes.order;
 }
-
--- the records of a batch that an engine was given
-pub given_by : {E A : Type 0} (MayTake : E → List Feature → Type 0) (Stands : E → List Feature → E → Type 0) (engine_fault : E → Option FaultValue) (settled : E → List Feature → List ℕ) (Quiet : E → List Feature → Feature → Type 0) (wants : E → Feature → Type 0)
-    (engine : E) (first : Batch) (out : Output) (result : Result A Fault) (fed : E) (last : Batch) (grown : Output) → FeedsBatch MayTake Stands engine_fault settled Quiet wants Passes HasEnded engine first out result fed last grown → (records : List Feature) × Passes first records last
-given_by MayTake Stands engine_fault settled Quiet wants engine first out (Ok done) fed last grown f = (f.0.records, f.0.given)
-given_by MayTake Stands engine_fault settled Quiet wants engine first out (Err fault) fed last grown (inl f) = ([], subst (λ (b : Batch). Passes first [] b) (sym f.same_cursor) (batch_gives_none first))
-given_by MayTake Stands engine_fault settled Quiet wants engine first out (Err fault) fed last grown (inr f) = (f.takes.records ++ f.r ∷ [], batch_gives_more first f.before last f.takes.records (f.r ∷ []) f.takes.given f.given)
 
 module _ {S O : Type 0} {g : Ghosts O} (device : Source S) (old new : Records S O g) (first last : Batch) (consumes : ConsumesGiven device old first last new) where
   -- the next record of the batch is ahead

@@ -9,10 +9,11 @@ use Rattle.bt_bed.specs.model.Sorted.{ArePlaced, sorting_of}
 use Rattle.bt_bed.specs.calls.Records.{below, order_in, view_of}
 use Rattle.bt_tool.specs.inside.Feed.{AreInOrder, member_items}
 use Rattle.bt_tool.specs.model.Written.{Written}
-use Rattle.bt_tool.proofs.lemmas.running.feed.FeedLemmas.{goes_failed}
-use Rattle.bt_tool.proofs.lemmas.running.feed.DrivingLemmas.{drives_all, drives_cut, drives_fault, finish_cut, finish_goes, finish_put, finish_serves, records_sorted, sorted_start}
+use Rattle.bt_tool.proofs.lemmas.running.feed.FeedLemmas.{goes_failed, goes_works}
+use Rattle.bt_tool.proofs.lemmas.running.feed.DrivingLemmas.{drives_all, drives_cut, drives_fault, records_sorted, sorted_start}
 use Rattle.bt_tool.proofs.lemmas.running.members.CursorLemmas.{begins_over, fresh_over}
 use Rattle.bt_tool.proofs.lemmas.running.whole.OwnFailureLemmas.{bed_no_read, feeds_own, served_of, tells_nothing, tells_write}
+use Rattle.bt_runs.proofs.lemmas.Engine.{finishes_prefix}
 use Rattle.bt_tool.proofs.loops.driving.drive.Goals as goal
 
 pub feed_all-fed-requires-clause-fresh : goal.feed_all-fed-requires-clause-fresh
@@ -29,12 +30,12 @@ returns-in-Err g c =
     let reader = c.new-reader.ensures in
     let records = c.new-records.ensures in
     let order = g.O.ChromOrder.order c.args.order.now in
-    let written : Written Feature = record { whole = g.E.Engine.output c.args.engine; settled = g.E.Engine.settled c.args.engine } in
+    let written : Written Feature = record { whole = g.E.Engine.definition.output c.args.engine; settled = g.E.Engine.definition.settled c.args.engine } in
     let starts = begins_over g.A.Source c.new-reader.result (view_of c.new-records.result) records.below reader.none_taken.0 reader.none_fed (bed_format (sorting_of order)) First c.args.first reader.source reader.input reader.going.0 reader.lines records.good in
     let ended = sym (c.into_source-first.ensures ∙ ap source_of c.into_reader.ensures) in
     record {
-      written = rw records.order at (drives_fault written (IsBedKind (order_in c.new-records.result)) (AreInOrder (order_in c.new-records.result)) (g.E.Engine.takes c.args.engine) c.requires.stays c.requires.begins g.A.Source (bed_format (sorting_of order))
-          (records_sorted (g.E.Engine.takes c.args.engine) order (g.met.O.ChromOrder.total c.args.order.now) c.requires.takes) (view_of c.new-records.result) c.args.first c.args.out.now.output starts (view_of c.feed_all-fed.new.records) c.into_source-first.result ended
+      written = rw records.order at (drives_fault written (IsBedKind (order_in c.new-records.result)) (AreInOrder (order_in c.new-records.result)) (g.E.Engine.definition.takes c.args.engine) c.requires.stays c.requires.begins g.A.Source (bed_format (sorting_of order))
+          (records_sorted (g.E.Engine.definition.takes c.args.engine) order (g.met.O.ChromOrder.total c.args.order.now) c.requires.takes) (view_of c.new-records.result) c.args.first c.args.out.now.output starts (view_of c.feed_all-fed.new.records) c.into_source-first.result ended
           (fault_value c.in-Err.fault) c.feed_all-fed.new.out.output c.in-Err.ensures.feeds);
       reads = λ never. (
         served_of g.A.Source.is_read c.args.first c.into_source-first.result (below c.new-records.result) (below c.feed_all-fed.new.records)
@@ -42,7 +43,7 @@ returns-in-Err g c =
         tt,
       );
       own_failure = feeds_own g.A.Source (bed_format (sorting_of order)) c.args.first (view_of c.new-records.result) starts (view_of c.feed_all-fed.new.records) c.into_source-first.result ended c.feed_all-fed.ensures.own_failure
-          (g.E.Engine.settled c.args.engine) (IsBedKind (order_in c.new-records.result)) (bed_no_read (order_in c.new-records.result)) (AreInOrder (order_in c.new-records.result)) c.args.out.now.output (fault_value c.in-Err.fault) c.feed_all-fed.new.out.output c.in-Err.ensures.feeds;
+          (g.E.Engine.definition.settled c.args.engine) (IsBedKind (order_in c.new-records.result)) (bed_no_read (order_in c.new-records.result)) (AreInOrder (order_in c.new-records.result)) c.args.out.now.output (fault_value c.in-Err.fault) c.feed_all-fed.new.out.output c.in-Err.ensures.feeds;
     }
 
 pub returns-in-Err-finish : goal.returns-in-Err-finish
@@ -50,17 +51,18 @@ returns-in-Err-finish g c =
     let reader = c.new-reader.ensures in
     let records = c.new-records.ensures in
     let order = g.O.ChromOrder.order c.args.order.now in
-    let written : Written Feature = record { whole = g.E.Engine.output c.args.engine; settled = g.E.Engine.settled c.args.engine } in
+    let written : Written Feature = record { whole = g.E.Engine.definition.output c.args.engine; settled = g.E.Engine.definition.settled c.args.engine } in
     let starts = begins_over g.A.Source c.new-reader.result (view_of c.new-records.result) records.below reader.none_taken.0 reader.none_fed (bed_format (sorting_of order)) First c.args.first reader.source reader.input reader.going.0 reader.lines records.good in
     let ended = sym (c.into_source-first.ensures ∙ ap source_of c.into_reader.ensures) in
     let fed = c.in_default.ensures.feeds in
     let takes = c.requires.takes (member_items fed.past) (subst (λ o. ArePlaced o (intervals_of (member_items fed.past))) records.order fed.took.sorted.0) fed.took.sorted.1 in
-    let said = finish_cut g.E.Engine.takes g.E.Engine.is_after g.E.Engine.fault g.E.Engine.settled g.E.Engine.output c.args.engine c.feed_all-fed.new.engine (member_items fed.past) c.feed_all-fed.new.out.output c.finish.new.out.output c.in-Err-finish.fault fed.stands takes c.in-Err-finish.ensures in
+    let said = finishes_prefix _ c.in-Err-finish.ensures (c.in-Err-finish.ensures.going _ _ fed.stands) in
+    let cuts = said.cuts _ _ fed.stands takes in
     record {
-      written = rw records.order at (drives_cut written (IsBedKind (order_in c.new-records.result)) (AreInOrder (order_in c.new-records.result)) (g.E.Engine.takes c.args.engine) c.requires.stays c.requires.begins g.A.Source (bed_format (sorting_of order))
-          (records_sorted (g.E.Engine.takes c.args.engine) order (g.met.O.ChromOrder.total c.args.order.now) c.requires.takes) (view_of c.new-records.result) c.args.first c.args.out.now.output starts (view_of c.feed_all-fed.new.records) c.into_source-first.result ended
-          (λ past. g.E.Engine.is_after c.args.engine past c.feed_all-fed.new.engine) c.feed_all-fed.new.out.output fed c.finish.new.out.output (goes_failed c.feed_all-fed.new.out.output c.finish.new.out.output c.in-Err-finish.ensures.grows said.failed)
-          (fault_value c.in-Err-finish.fault) said.is said.cuts.bytes said.cuts.goes_on said.cuts.front said.sink_failed);
+      written = rw records.order at (drives_cut written (IsBedKind (order_in c.new-records.result)) (AreInOrder (order_in c.new-records.result)) (g.E.Engine.definition.takes c.args.engine) c.requires.stays c.requires.begins g.A.Source (bed_format (sorting_of order))
+          (records_sorted (g.E.Engine.definition.takes c.args.engine) order (g.met.O.ChromOrder.total c.args.order.now) c.requires.takes) (view_of c.new-records.result) c.args.first c.args.out.now.output starts (view_of c.feed_all-fed.new.records) c.into_source-first.result ended
+          (λ past. g.E.Engine.definition.is_after c.args.engine past c.feed_all-fed.new.engine) c.feed_all-fed.new.out.output fed c.finish.new.out.output (goes_failed c.feed_all-fed.new.out.output c.finish.new.out.output c.in-Err-finish.ensures.grows said.failed)
+          (fault_value c.in-Err-finish.fault) said.is cuts.bytes cuts.goes_on cuts.front said.sink_failed);
       reads = λ never. (
         served_of g.A.Source.is_read c.args.first c.into_source-first.result (below c.new-records.result) (below c.feed_all-fed.new.records)
             (ap source_of records.below ∙ reader.source) ended (c.in_default.ensures.reads tt),
@@ -74,18 +76,18 @@ returns g c =
     let reader = c.new-reader.ensures in
     let records = c.new-records.ensures in
     let order = g.O.ChromOrder.order c.args.order.now in
-    let written : Written Feature = record { whole = g.E.Engine.output c.args.engine; settled = g.E.Engine.settled c.args.engine } in
+    let written : Written Feature = record { whole = g.E.Engine.definition.output c.args.engine; settled = g.E.Engine.definition.settled c.args.engine } in
     let starts = begins_over g.A.Source c.new-reader.result (view_of c.new-records.result) records.below reader.none_taken.0 reader.none_fed (bed_format (sorting_of order)) First c.args.first reader.source reader.input reader.going.0 reader.lines records.good in
     let ended = sym (c.into_source-first.ensures ∙ ap source_of c.into_reader.ensures) in
     let fed = c.in_default.ensures.feeds in
     let takes = c.requires.takes (member_items fed.past) (subst (λ o. ArePlaced o (intervals_of (member_items fed.past))) records.order fed.took.sorted.0) fed.took.sorted.1 in
-    let puts = finish_put g.E.Engine.takes g.E.Engine.is_after g.E.Engine.fault g.E.Engine.settled g.E.Engine.output c.args.engine c.feed_all-fed.new.engine (member_items fed.past) c.feed_all-fed.new.out.output c.finish.new.out.output fed.stands takes c.in_default-finish.ensures in
+    let puts = c.in_default-finish.ensures.answers.puts _ _ fed.stands takes in
     record {
-      written = rw records.order at (drives_all written (IsBedKind (order_in c.new-records.result)) (AreInOrder (order_in c.new-records.result)) (g.E.Engine.takes c.args.engine) c.requires.stays c.requires.begins g.A.Source (bed_format (sorting_of order))
-          (records_sorted (g.E.Engine.takes c.args.engine) order (g.met.O.ChromOrder.total c.args.order.now) c.requires.takes) (view_of c.new-records.result) c.args.first c.args.out.now.output starts (view_of c.feed_all-fed.new.records) c.into_source-first.result ended
-          (λ past. g.E.Engine.is_after c.args.engine past c.feed_all-fed.new.engine) c.feed_all-fed.new.out.output fed c.finish.new.out.output (finish_goes g.E.Engine.takes g.E.Engine.is_after g.E.Engine.fault g.E.Engine.settled g.E.Engine.output c.args.engine c.feed_all-fed.new.engine (member_items fed.past) c.feed_all-fed.new.out.output c.finish.new.out.output c.in_default-finish.ensures)
+      written = rw records.order at (drives_all written (IsBedKind (order_in c.new-records.result)) (AreInOrder (order_in c.new-records.result)) (g.E.Engine.definition.takes c.args.engine) c.requires.stays c.requires.begins g.A.Source (bed_format (sorting_of order))
+          (records_sorted (g.E.Engine.definition.takes c.args.engine) order (g.met.O.ChromOrder.total c.args.order.now) c.requires.takes) (view_of c.new-records.result) c.args.first c.args.out.now.output starts (view_of c.feed_all-fed.new.records) c.into_source-first.result ended
+          (λ past. g.E.Engine.definition.is_after c.args.engine past c.feed_all-fed.new.engine) c.feed_all-fed.new.out.output fed c.finish.new.out.output (goes_works _ _ c.in_default-finish.ensures.grows c.in_default-finish.ensures.answers.works)
           puts.bytes puts.goes_on puts.appends
-          (finish_serves g.E.Engine.takes g.E.Engine.is_after g.E.Engine.fault g.E.Engine.settled g.E.Engine.output c.args.engine c.feed_all-fed.new.engine (member_items fed.past) c.feed_all-fed.new.out.output c.finish.new.out.output c.in_default-finish.ensures));
+          (c.in_default-finish.ensures.answers.works.sink_served));
       reads = λ never. (
         served_of g.A.Source.is_read c.args.first c.into_source-first.result (below c.new-records.result) (below c.feed_all-fed.new.records)
             (ap source_of records.below ∙ reader.source) ended (c.in_default.ensures.reads tt),

@@ -7,8 +7,7 @@ use Rattle.bt_bed.specs.model.BedLine.{IsBedKind}
 use Rattle.bt_bed.proofs.lemmas.order.TableLemmas.{passed_on}
 use Rattle.bt_tool.specs.inside.Feed.{AreInOrder, FeedsMembers}
 use Rattle.bt_tool.specs.calls.Run.{AnswersNoRead}
-use Rattle.bt_tool.proofs.lemmas.running.feed.FeedLemmas.{failed_at, feeds_all, going_fill, going_start, going_taken, stops_feeding, stops_reading}
-use Rattle.bt_tool.proofs.lemmas.running.pair.PairNear.{given_by}
+use Rattle.bt_tool.proofs.lemmas.running.feed.FeedLemmas.{failed_at, feeds_all, given_by, going_fill, going_start, going_taken, stops_feeding, stops_reading}
 use Rattle.bt_tool.proofs.lemmas.running.pair.PairTurns.{some_buffered}
 use Rattle.bt_tool.proofs.lemmas.running.whole.OwnFailureLemmas.{none_kept, own_then, told_kept}
 use Rattle.bt_tool.proofs.lemmas.running.members.PassedLemmas.{is_filled, is_over, is_stopped, taken_reads}
@@ -16,15 +15,15 @@ use Rattle.bt_tool.proofs.loops.driving.feed_all.Goals as goal
 
 pub loop-records-init : goal.loop-records-init
 loop-records-init g c = (
-  going_start g.E.Engine.takes g.E.Engine.is_after g.E.Engine.fault g.E.Engine.settled c.args.engine.now g.S.Source c.args.records.now c.args.out.now.output c.requires.fresh c.requires.stands c.requires.nothing c.requires.block,
+  going_start c.requires.fresh c.requires.stands c.requires.nothing c.requires.block,
   reads_same g.S.Source.is_read (below c.args.records.now) (below c.args.records.now) refl,
 )
 
 pub returns-in_err-fill-clause-feeds : goal.returns-in_err-fill-clause-feeds
 returns-in_err-fill-clause-feeds g c =
-    passed_on (λ r. FeedsMembers (g.E.Engine.settled c.args.engine.now) (IsBedKind (order_in c.args.records.now)) (AreInOrder (order_in c.args.records.now)) g.S.Source (λ past. g.E.Engine.is_after c.args.engine.now past c.loop-records.engine) (view_of c.args.records.now) c.args.out.now.output r (view_of c.fill.new.self) c.loop-records.out.output) c.from_residual.result c.in_err-fill.field-0.0 c.from_residual.ensures.1
-    (stops_reading g.E.Engine.takes g.E.Engine.is_after g.E.Engine.fault g.E.Engine.settled c.args.engine.now g.S.Source c.args.records.now c.args.out.now.output c.requires.sorted c.requires.total c.requires.none_last c.requires.takes
-    c.loop-records.records c.loop-records.engine c.loop-records.out.output c.loop-records.invariant.0 c.fill.new.self (fault_value c.in_err-fill.field-0.0)
+    passed_on (λ r. FeedsMembers (g.E.Engine.definition.settled c.args.engine.now) (IsBedKind (order_in c.args.records.now)) (AreInOrder (order_in c.args.records.now)) g.S.Source (λ past. g.E.Engine.definition.is_after c.args.engine.now past c.loop-records.engine) (view_of c.args.records.now) c.args.out.now.output r (view_of c.fill.new.self) c.loop-records.out.output) c.from_residual.result c.in_err-fill.field-0.0 c.from_residual.ensures.1
+    (stops_reading c.requires.sorted c.requires.total c.requires.none_last c.requires.takes
+    c.loop-records.invariant.0 c.fill.new.self (fault_value c.in_err-fill.field-0.0)
     (is_stopped g.S.Source c.loop-records.records c.fill.new.self c.in_err-fill.field-0.0 c.in_err-fill.ensures))
 
 pub returns-in_err-fill-clause-reads : goal.returns-in_err-fill-clause-reads
@@ -41,11 +40,11 @@ returns-in_err-fill-clause-own_failure g c =
 pub loop-records-preserved : goal.loop-records-preserved
 loop-records-preserved g c =
     let fills = rw c.if-branch.true at c.in_ok-fill.ensures in
-    let filled = going_fill g.E.Engine.takes g.E.Engine.is_after g.E.Engine.fault g.E.Engine.settled c.args.engine.now g.S.Source c.args.records.now c.args.out.now.output c.requires.sorted c.requires.total c.requires.none_last c.requires.takes
-    c.loop-records.records c.loop-records.engine c.loop-records.out.output c.loop-records.invariant.0 c.fill.new.self (is_filled g.S.Source c.loop-records.records c.fill.new.self fills) fills.order in
+    let filled = going_fill c.requires.sorted c.requires.total c.requires.none_last c.requires.takes
+    c.loop-records.invariant.0 c.fill.new.self (is_filled g.S.Source c.loop-records.records c.fill.new.self fills) fills.order in
     let takes = c.in_ok-feed_buffered.ensures in (
-      going_taken g.E.Engine.takes g.E.Engine.is_after g.E.Engine.fault g.E.Engine.settled c.args.engine.now g.S.Source c.args.records.now c.args.out.now.output c.requires.sorted c.requires.total c.requires.none_last c.requires.takes
-          c.fill.new.self c.loop-records.engine c.loop-records.out.output filled g.E.Engine.quiet c.feed_buffered.new.records c.feed_buffered.new.engine c.feed_buffered.new.out.output takes.3.0.records (takes.2.takes takes.3.0.records takes.3.0.given) takes.2.order takes.3.0.taken,
+      going_taken c.requires.sorted c.requires.total c.requires.none_last c.requires.takes
+          filled c.feed_buffered.new.records c.feed_buffered.new.engine c.feed_buffered.new.out.output takes.3.0.records (takes.2.takes takes.3.0.records takes.3.0.given) takes.2.order takes.3.0.taken,
       has_read_then g.S.Source.is_read (below c.args.records.now) (below c.loop-records.records) (below c.feed_buffered.new.records) c.loop-records.invariant.1
           (has_read_then g.S.Source.is_read (below c.loop-records.records) (below c.fill.new.self) (below c.feed_buffered.new.records) fills.own_failure
           (taken_reads g.S.Source (view_of c.fill.new.self) takes.3.0.records (view_of c.feed_buffered.new.records) (takes.2.takes takes.3.0.records takes.3.0.given))),
@@ -63,24 +62,24 @@ pub returns-in_err-feed_buffered-clause-own_failure : goal.returns-in_err-feed_b
 returns-in_err-feed_buffered-clause-own_failure g c =
     let filled = is_filled g.S.Source c.loop-records.records c.fill.new.self (rw c.if-branch.true at c.in_ok-fill.ensures) in
     let gives = c.in_err-feed_buffered.ensures in
-    let given = given_by {A = Unit {0}} g.E.Engine.takes g.E.Engine.is_after g.E.Engine.fault g.E.Engine.settled g.E.Engine.quiet g.E.Engine.wants c.loop-records.engine gives.0 c.loop-records.out.output (Err c.in_err-feed_buffered.field-0.0) c.feed_buffered.new.engine gives.1 c.feed_buffered.new.out.output gives.3 in
+    let given = given_by {A = Unit {0}} g.E.Engine.definition _ _ _ (Err c.in_err-feed_buffered.field-0.0) _ _ _ gives.3 in
     none_kept g.S.Source.is_read _ _ _ ((gives.2.takes given.0 given.1).takes.goes ∙ filled.gives.goes ∙ c.loop-records.invariant.0.fed.passes.going)
 
 pub returns-in_err-feed_buffered-clause-feeds : goal.returns-in_err-feed_buffered-clause-feeds
 returns-in_err-feed_buffered-clause-feeds g c =
     let fills = rw c.if-branch.true at c.in_ok-fill.ensures in
-    let filled = going_fill g.E.Engine.takes g.E.Engine.is_after g.E.Engine.fault g.E.Engine.settled c.args.engine.now g.S.Source c.args.records.now c.args.out.now.output c.requires.sorted c.requires.total c.requires.none_last c.requires.takes
-    c.loop-records.records c.loop-records.engine c.loop-records.out.output c.loop-records.invariant.0 c.fill.new.self (is_filled g.S.Source c.loop-records.records c.fill.new.self fills) fills.order in
+    let filled = going_fill c.requires.sorted c.requires.total c.requires.none_last c.requires.takes
+    c.loop-records.invariant.0 c.fill.new.self (is_filled g.S.Source c.loop-records.records c.fill.new.self fills) fills.order in
     let gives = c.in_err-feed_buffered.ensures in
-    passed_on (λ r. FeedsMembers (g.E.Engine.settled c.args.engine.now) (IsBedKind (order_in c.args.records.now)) (AreInOrder (order_in c.args.records.now)) g.S.Source (λ past. g.E.Engine.is_after c.args.engine.now past c.feed_buffered.new.engine) (view_of c.args.records.now) c.args.out.now.output r (view_of c.feed_buffered.new.records) c.feed_buffered.new.out.output) c.from_residual-in_err-feed_buffered.result c.in_err-feed_buffered.field-0.0 c.from_residual-in_err-feed_buffered.ensures.1
-    (stops_feeding g.E.Engine.takes g.E.Engine.is_after g.E.Engine.fault g.E.Engine.settled c.args.engine.now g.S.Source c.args.records.now c.args.out.now.output c.requires.sorted c.requires.total c.requires.none_last c.requires.takes
-    c.fill.new.self c.loop-records.engine c.loop-records.out.output filled g.E.Engine.quiet g.E.Engine.wants c.in_err-feed_buffered.field-0.0 c.feed_buffered.new.records c.feed_buffered.new.engine c.feed_buffered.new.out.output gives.0 gives.1 gives.2 (failed_at gives.3 c.args.engine.now _ filled.stands))
+    passed_on (λ r. FeedsMembers (g.E.Engine.definition.settled c.args.engine.now) (IsBedKind (order_in c.args.records.now)) (AreInOrder (order_in c.args.records.now)) g.S.Source (λ past. g.E.Engine.definition.is_after c.args.engine.now past c.feed_buffered.new.engine) (view_of c.args.records.now) c.args.out.now.output r (view_of c.feed_buffered.new.records) c.feed_buffered.new.out.output) c.from_residual-in_err-feed_buffered.result c.in_err-feed_buffered.field-0.0 c.from_residual-in_err-feed_buffered.ensures.1
+    (stops_feeding c.requires.sorted c.requires.total c.requires.none_last c.requires.takes
+    filled gives.2 (failed_at gives.3 c.args.engine.now _ filled.stands))
 
 pub returns-in_err-feed_buffered-clause-reads : goal.returns-in_err-feed_buffered-clause-reads
 returns-in_err-feed_buffered-clause-reads g c = λ never.
     let fills = rw c.if-branch.true at c.in_ok-fill.ensures in
     let gives = c.in_err-feed_buffered.ensures in
-    let given = given_by {A = Unit {0}} g.E.Engine.takes g.E.Engine.is_after g.E.Engine.fault g.E.Engine.settled g.E.Engine.quiet g.E.Engine.wants c.loop-records.engine gives.0 c.loop-records.out.output (Err c.in_err-feed_buffered.field-0.0) c.feed_buffered.new.engine gives.1 c.feed_buffered.new.out.output gives.3 in
+    let given = given_by {A = Unit {0}} g.E.Engine.definition _ _ _ (Err c.in_err-feed_buffered.field-0.0) _ _ _ gives.3 in
     has_read_then g.S.Source.is_read (below c.args.records.now) (below c.loop-records.records) (below c.feed_buffered.new.records) c.loop-records.invariant.1
     (has_read_then g.S.Source.is_read (below c.loop-records.records) (below c.fill.new.self) (below c.feed_buffered.new.records) fills.own_failure
     (taken_reads g.S.Source (view_of c.fill.new.self) given.0 (view_of c.feed_buffered.new.records) (gives.2.takes given.0 given.1)))
@@ -88,8 +87,8 @@ returns-in_err-feed_buffered-clause-reads g c = λ never.
 pub returns-clause-feeds : goal.returns-clause-feeds
 returns-clause-feeds g c =
     let fills = rw c.if-branch.false at c.in_ok-fill.ensures in
-    feeds_all g.E.Engine.takes g.E.Engine.is_after g.E.Engine.fault g.E.Engine.settled c.args.engine.now g.S.Source c.args.records.now c.args.out.now.output c.requires.sorted c.requires.total c.requires.none_last c.requires.takes
-    c.loop-records.records c.loop-records.engine c.loop-records.out.output c.loop-records.invariant.0 c.fill.new.self (is_over g.S.Source c.loop-records.records c.fill.new.self fills)
+    feeds_all c.requires.sorted c.requires.total c.requires.none_last c.requires.takes
+    c.loop-records.invariant.0 c.fill.new.self (is_over g.S.Source c.loop-records.records c.fill.new.self fills)
 
 pub returns-clause-reads : goal.returns-clause-reads
 returns-clause-reads g c = λ never.

@@ -6,7 +6,7 @@ use Rattle.bt_tool.proofs.loops.driving.feed_all.Given as goal
 -- the records so far were taken
 abbrev pub invariant-loop-records : goal.invariant-loop-records
 invariant-loop-records g l =
-    Going g.E.Engine.takes g.E.Engine.is_after g.E.Engine.fault g.E.Engine.settled l.initial.engine
+    Going g.E.Engine.definition l.initial.engine
     g.S.Source l.initial.records l.initial.out.output l.records l.engine l.out.output
     × HasRead g.S.Source.is_read (below l.initial.records) (below l.records)
 
