@@ -5,9 +5,9 @@ use Rattle.bt_lines.specs.calls.Names.{fault_value}
 use Rattle.bt_lines.specs.calls.Output.{Output, FailsToAdd, Grown, Grows, PutsRest}
 use Rattle.bt_lines.specs.declared.fault.Fault.{Fault}
 use Rattle.bt_bed.specs.model.Feature.{Feature}
-use Rattle.bt_runs.specs.calls.Engine.{EngineDef, KeepsFault, WritesFirst, WritesLeft, WritesLeftPrefix, WritesPrefix, WritesSettled, Feeds, Finishes, IsWanted, FeedAnswers, FeedsBatch, TakesEach, fault_of, ruled, ruled_fault}
+use Rattle.bt_runs.specs.calls.Engine.{EngineDef, FailsAtGiven, KeepsFault, PutsSettled, TakesGiven, WritesFirst, WritesLeft, WritesLeftPrefix, WritesPrefix, WritesSettled, Feeds, Finishes, IsWanted, FeedAnswers, FeedsBatch, TakesEach, fault_of, ruled, ruled_fault}
 use Rattle.bt_lines.proofs.lemmas.Writer.{cut_off, fails_then, grown_more, grown_works, grows_nothing}
-use Rattle.bt_runs.specs.inside.Walk.{Does, EnterAnswers, FitsPast, Follows, PutsRestAtEnd, RuleDef, Taken, TakenAll, TakenEach, TakenUpTo}
+use Rattle.bt_runs.specs.inside.Walk.{Does, EnterAnswers, FitsPast, Follows, PutsRestAtEnd, RuleDef, Taken, TakenEach, TakenGiven, TakenUpTo}
 use Rattle.bt_runs.specs.declared.engine.failure.Failure.{Failure}
 use Rattle.bt_runs.specs.declared.engine.rule.Ruled.{Ruled}
 use Rattle.bt_bed.specs.calls.Bed.{single_left}
@@ -108,11 +108,9 @@ module _ {E : Type 0} {rule : RuleDef E} {old : E} (fits : (r : Feature) → Fit
     module _ {mid : E} {through : Output} (put : Grown out first through) (lines_are : (r : Feature) → r.chrom ≡ chrom → rule.lines old r ≡ first ++ rule.lines mid r)
         (has_so : (r : Feature) → r.chrom ≡ chrom → (new : E) → rule.has mid r new → rule.has old r new) (wants_so : (r : Feature) → r.chrom ≡ chrom → rule.engine.wants mid r → rule.engine.wants old r) where
       does_so : (r : Feature) → r.chrom ≡ chrom → (result : Result (Unit {0}) Fault) (next : E) (later : Output) → Does rule mid r through result next later → Does rule old r out result next later
-      does_so r at (Ok done) next later d = (has_so r at next d.0, subst (λ l. Grown out l later) (sym (lines_are r at)) (grown_more out through later first (rule.lines mid r) put d.1))
-      does_so r at (Err fault) next later (inl d) =
-          inl (subst (λ l. FailsToAdd out l (fault_value fault) later) (sym (lines_are r at)) (fails_then out through later first (rule.lines mid r) (fault_value fault) put d))
-      does_so r at (Err fault) next later (inr d) =
-          inr (d.0, (wants_so r at d.1.0, subst (λ l. Grown out l later) (sym (lines_are r at)) (grown_more out through later first (rule.lines mid r) put d.1.1)))
+      does_so r at (Ok done) next later d = (has_so r at next d.0, rw (lines_are r at) (grown_more out through later first (rule.lines mid r) put d.1))
+      does_so r at (Err fault) next later (inl d) = inl (rw (lines_are r at) (fails_then out through later first (rule.lines mid r) (fault_value fault) put d))
+      does_so r at (Err fault) next later (inr d) = inr (d.0, (wants_so r at d.1.0, rw (lines_are r at) (grown_more out through later first (rule.lines mid r) put d.1.1)))
 
       -- it goes on as another one
       pub enters : EnterAnswers rule old chrom out (Ok tt) mid through
@@ -123,14 +121,12 @@ module _ {E : Type 0} {rule : RuleDef E} {old : E} (fits : (r : Feature) → Fit
         → EnterAnswers rule old chrom out (Err fault) new grown
     enters_cut fault new grown cut lines_are r at =
         let more = lines_are r at in
-        record { does = inl (subst (λ l. FailsToAdd out l (fault_value fault) grown) (sym more.1) (cut_off out grown first more.0 (fault_value fault) cut)); fits = fits r }
+        record { does = inl (rw more.1 (cut_off out grown first more.0 (fault_value fault) cut)); fits = fits r }
 
     -- they were all, and memory ran out that a record on the chromosome needs
     pub enters_short : (fault : Fault) (new : E) (grown : Output) → fault_value fault ≡ no_memory → Grown out first grown → ((r : Feature) → r.chrom ≡ chrom → rule.engine.wants old r × (rule.lines old r ≡ first))
         → EnterAnswers rule old chrom out (Err fault) new grown
-    enters_short fault new grown is put wanted r at =
-        let w = wanted r at in
-        record { does = inr (is, (w.0, subst (λ l. Grown out l grown) (sym w.1) put)); fits = fits r }
+    enters_short fault new grown is put wanted r at = record { does = inr (is, ((wanted r at).0, rw (wanted r at).1 put)); fits = fits r }
 
 -- The loop over a cursor: what a rule does with the records that the cursor gives, one after another.
 
@@ -145,95 +141,99 @@ module _ {E : Type 0} (rule : RuleDef E) where
   -- records were taken, and the next one is available: on its chromosome the rule does with it what it would have done before entering that
   pub record Following {C R : Type 0} (cursor : Cursor C R) (old : E) (start : C) (out : Output) (now : E) (grown : Output) (r : Feature)
       (ahead : C) : Type 0 where
-    pub records : List Feature
+    pub mid : E
     pub before : C
-    pub given : cursor.gives start records before
+    pub through : Output
+    pub takes : TakenGiven rule cursor old start out mid before through
     pub next : cursor.gives before (r ∷ []) ahead
     pub on : r.chrom ≡ cursor.name start
     pub entered : rule.is_on now (cursor.name start)
-    pub mid : E
-    pub through : Output
-    pub each : TakenEach rule old out records mid through
     pub does_so : (result : Result (Unit {0}) Fault) (next : E) (later : Output) → Taken rule now r grown result next later → Taken rule mid r through result next later
 
 module _ {E C R : Type 0} {rule : RuleDef E} {cursor : Cursor C R} {old : E} {start : C} {out : Output} {now : E} {grown : Output} {r : Feature} {ahead : C}
-    (more_given : (first mid last : C) (xs ys : List Feature) → cursor.gives first xs mid → cursor.gives mid ys last → cursor.gives first (xs ++ ys) last)
-    (f : Following rule cursor old start out now grown r ahead) where
-  -- the available record was taken, and the next one is available
-  pub follows_on : (new : E) (later : Output) (next : Feature) (last : C) → Taken rule now r grown (Ok tt) new later → rule.is_on new (cursor.name start) → cursor.gives ahead (next ∷ []) last → next.chrom ≡ cursor.name start
-      → Following rule cursor old start out new later next last
-  follows_on new later next last done entered given on = record {
-    records = f.records ++ r ∷ [];
-    before = ahead;
-    given = more_given start f.before ahead f.records (r ∷ []) f.given f.next;
-    next = given;
-    on = on;
-    entered = entered;
-    mid = new;
-    through = later;
-    each = taken_more rule old out f.records r f.mid f.through new later f.each (f.does_so (Ok tt) new later done);
-    does_so = λ result next later d. d;
-  }
+    (f : Following rule cursor old start out now grown r ahead) {new : E} {later : Output} where
+  module _ (more_given : (first mid last : C) (xs ys : List Feature) → cursor.gives first xs mid → cursor.gives mid ys last → cursor.gives first (xs ++ ys) last)
+      (done : Taken rule now r grown (Ok tt) new later) where
+    -- the available record was taken
+    pub follows : TakenGiven rule cursor old start out new ahead later
+    follows = record {
+      records = f.takes.records ++ r ∷ [];
+      given = more_given start f.before ahead f.takes.records (r ∷ []) f.takes.given f.next;
+      each = taken_more rule old out f.takes.records r f.mid f.through new later f.takes.each (f.does_so (Ok tt) new later done);
+    }
 
-  -- it was the last one
-  pub follows_all : (new : E) (later : Output) → Taken rule now r grown (Ok tt) new later → cursor.has_ended ahead → TakenAll rule cursor old start out new ahead later
-  follows_all new later done ended = record {
-    records = f.records ++ r ∷ [];
-    given = more_given start f.before ahead f.records (r ∷ []) f.given f.next;
-    ended = ended;
-    each = taken_more rule old out f.records r f.mid f.through new later f.each (f.does_so (Ok tt) new later done);
-  }
+    -- and the next one is available
+    pub follows_on : {next : Feature} {last : C} → rule.is_on new (cursor.name start) → cursor.gives ahead (next ∷ []) last → next.chrom ≡ cursor.name start
+        → Following rule cursor old start out new later next last
+    follows_on entered given on = record {
+      mid = new;
+      before = ahead;
+      through = later;
+      takes = follows;
+      next = given;
+      on = on;
+      entered = entered;
+      does_so = λ result next later d. d;
+    }
 
   -- it wasn't taken
-  pub follows_up_to : (fault : Fault) (new : E) (later : Output) → Taken rule now r grown (Err fault) new later → TakenUpTo rule cursor old start out fault new ahead later
-  follows_up_to fault new later fails = record {
-    records = f.records;
-    before = f.before;
-    given = f.given;
+  pub follows_up_to : {fault : Fault} → Taken rule now r grown (Err fault) new later → TakenUpTo rule cursor old start out fault new ahead later
+  follows_up_to {fault} fails = record {
     mid = f.mid;
+    before = f.before;
     through = f.through;
-    each = f.each;
+    takes = f.takes;
     r = r;
-    last = f.next;
+    given = f.next;
     fails = f.does_so (Err fault) new later fails;
   }
 
 -- What an engine does that goes by a rule: what the rule does, until it has failed.
 
-module _ {E : Type 0} (rule : RuleDef E) where
-  -- an engine with a rule that hasn't failed
-  abbrev going : E → Ruled E
-  going now = record { rule = now; failure = None }
+-- an engine with a rule that hasn't failed
+abbrev going : {E : Type 0} → E → Ruled E
+going now = record { rule = now; failure = None }
 
+going_is : {E : Type 0} (now : Ruled E) → now.failure ≡ None → now ≡ going now.rule
+going_is now was = ap (λ (failure : Option Failure). record { rule = now.rule; failure = failure }) was
+
+-- the engine keeps the failure that the result reports
+abbrev pub Keeps : {E : Type 0} → Result (Unit {0}) Fault → Ruled E → Type 0
+Keeps (Ok done) new = new.failure ≡ None
+Keeps (Err fault) new = ruled_fault new ≡ Some (fault_value fault)
+
+pub keeps_none : {E : Type 0} (result : Result (Unit {0}) Fault) (new : Ruled E) → ((fault : Fault) → result ≡ Err fault → ⊥) → new.failure ≡ None → Keeps result new
+keeps_none (Ok done) new never none = none
+keeps_none (Err fault) new never none = absurd (never fault refl)
+
+module _ {E : Type 0} (rule : RuleDef E) where
   -- one record
   module _ (old : E) (r : Feature) (out : Output) (fits : FitsPast rule old r) where
-    puts_rest : (first : Ruled E) (past : List Feature) → (ruled rule.engine).is_after first past (going old) → rule.engine.takes first.rule (past ++ r ∷ []) → (grown : Output) → Grown out (rule.lines old r) grown
-        → PutsRest (rule.engine.settled first.rule past) (rule.engine.settled first.rule (past ++ r ∷ [])) out grown
-    puts_rest first past s t grown p = record { bytes = rule.lines old r; goes_on = fits.settles first.rule past s.0 t; appends = p.appends }
+    puts : (grown : Output) → Grown out (rule.lines old r) grown → PutsSettled (ruled rule.engine) (going old) r out grown
+    puts grown p first past s t = record { bytes = rule.lines old r; goes_on = fits.settles first.rule past s.0 t; appends = p.appends }
 
-    answers : (result : Result (Unit {0}) Fault) (new : Ruled E) (grown : Output) → Does rule old r out result new.rule grown
-        → ((done : Unit {0}) → result ≡ Ok done → new.failure ≡ None) → ((fault : Fault) → result ≡ Err fault → ruled_fault new ≡ Some (fault_value fault))
+    answers : (result : Result (Unit {0}) Fault) (new : Ruled E) (grown : Output) → Does rule old r out result new.rule grown → Keeps result new
         → FeedAnswers (ruled rule.engine) (going old) r out result new grown
-    answers (Ok done) new grown p none kept = record {
+    answers (Ok done) new grown p kept = let going = ap (option_map fault_of) kept in record {
       was_going = refl;
-      going = ap (option_map fault_of) (none done refl);
-      stands = λ first past s t. (fits.next new.rule p.0 first.rule past s.0 t, ap (option_map fault_of) (none done refl));
-      puts = λ first past s t. puts_rest first past s t grown p.1;
+      going = going;
+      stands = λ first past s t. (fits.next new.rule p.0 first.rule past s.0 t, going);
+      puts = puts grown p.1;
       works = grown_works out grown (rule.lines old r) p.1;
     }
-    answers (Err fault) new grown (inl p) none kept = inr (inl (record {
+    answers (Err fault) new grown (inl p) kept = inr (inl (record {
       is = p.puts.is;
       was_going = refl;
-      kept = kept fault refl ∙ ap Some p.puts.is;
+      kept = kept ∙ ap Some p.puts.is;
       cuts = λ first past s t. record { bytes = rule.lines old r; goes_on = fits.settles first.rule past s.0 t; front = p.puts.front };
       failed = p.puts.failed;
       sink_failed = p.puts.sink_failed;
     }))
-    answers (Err fault) new grown (inr p) none kept = inr (inr (record {
+    answers (Err fault) new grown (inr p) kept = inr (inr (record {
       is = p.0;
       was_going = refl;
-      kept = kept fault refl ∙ ap Some p.0;
-      puts = λ first past s t. puts_rest first past s t grown p.1.1;
+      kept = kept ∙ ap Some p.0;
+      puts = puts grown p.1.1;
       works = grown_works out grown (rule.lines old r) p.1.1;
     }))
 
@@ -251,12 +251,11 @@ module _ {E : Type 0} (rule : RuleDef E) where
     memory fault new grown (inl p) is = absurd (other_fault is p.puts.is)
     memory fault new grown (inr p) is = p.1.0
 
-    feeds_by : (result : Result (Unit {0}) Fault) (new : Ruled E) (grown : Output) → Does rule old r out result new.rule grown
-        → ((done : Unit {0}) → result ≡ Ok done → new.failure ≡ None) → ((fault : Fault) → result ≡ Err fault → ruled_fault new ≡ Some (fault_value fault))
+    feeds_by : (result : Result (Unit {0}) Fault) (new : Ruled E) (grown : Output) → Does rule old r out result new.rule grown → Keeps result new
         → Feeds (ruled rule.engine) (going old) r out result new grown
-    feeds_by result new grown p none kept = record {
+    feeds_by result new grown p kept = record {
       going = λ first past s. s.1;
-      answers = answers result new grown p none kept;
+      answers = answers result new grown p kept;
       quiet = λ first past s t q. is_quiet result new.rule grown p (fits.quiet first.rule past s.0 t q);
       grows = (grows result new.rule grown p).0;
       after_failure = (grows result new.rule grown p).1;
@@ -265,44 +264,27 @@ module _ {E : Type 0} (rule : RuleDef E) where
   taken_each : (old : E) (out : Output) (records : List Feature) (new : E) (grown : Output) → TakenEach rule old out records new grown
       → TakesEach (ruled rule.engine) (going old) out records (going new) grown
   taken_each old out [] new grown each = (ap going each.0, each.1)
-  taken_each old out (r ∷ records) new grown each = (
-    going each.0,
-    each.1,
-    feeds_by old r out each.2.fits (Ok tt) (going each.0) each.1 each.2.does (λ done e. refl) (λ fault e. absurd (cc)),
-    taken_each each.0 each.1 records new grown each.3,
-  )
+  taken_each old out (r ∷ records) new grown each =
+      (going each.0, each.1, feeds_by old r out each.2.fits (Ok tt) (going each.0) each.1 each.2.does refl, taken_each each.0 each.1 records new grown each.3)
 
   module _ {C R : Type 0} (cursor : Cursor C R) (start : C) (out : Output) where
-    batch_going : (old : E) (result : Result (Unit {0}) Fault) (new : Ruled E) (passed : C) (grown : Output) → Follows rule cursor old start out result new.rule passed grown
-        → ((done : Unit {0}) → result ≡ Ok done → new.failure ≡ None) → ((fault : Fault) → result ≡ Err fault → ruled_fault new ≡ Some (fault_value fault))
-        → FeedsBatch (ruled rule.engine) cursor (going old) start out result new passed grown
-    batch_going old (Ok done) new passed grown f none kept = (
-      record {
-        records = f.records;
-        given = f.given;
-        taken = subst (λ (failure : Option Failure). TakesEach (ruled rule.engine) (going old) out f.records (record { rule = new.rule; failure = failure }) grown)
-            (sym (none done refl)) (taken_each old out f.records new.rule grown f.each);
-      },
-      f.ended,
-    )
-    batch_going old (Err fault) new passed grown f none kept = inr (record {
+    taken_given : (old new : E) (passed : C) (grown : Output) → TakenGiven rule cursor old start out new passed grown → TakesGiven (ruled rule.engine) cursor (going old) start out (going new) passed grown
+    taken_given old new passed grown t = record { records = t.records; given = t.given; taken = taken_each old out t.records new grown t.each }
+
+    -- an engine that hasn't failed takes the records of a cursor
+    pub batch_fed : (old : Ruled E) (result : Result (Unit {0}) Fault) (new : Ruled E) (passed : C) (grown : Output) → old.failure ≡ None → Follows rule cursor old.rule start out result new.rule passed grown
+        → Keeps result new → FeedsBatch (ruled rule.engine) cursor old start out result new passed grown
+    batch_fed old (Ok done) new passed grown was f kept = (rw (going_is old was, going_is new kept) (taken_given old.rule new.rule passed grown f.0), f.1)
+    batch_fed old (Err fault) new passed grown was f kept = inr (rw (going_is old was) (record {
       mid = going f.mid;
       before = f.before;
       through = f.through;
-      takes = record { records = f.records; given = f.given; taken = taken_each old out f.records f.mid f.through f.each };
+      takes = taken_given old.rule f.mid f.before f.through f.takes;
       r = f.r;
-      given = f.last;
-      fails = feeds_by f.mid f.r f.through f.fails.fits (Err fault) new grown f.fails.does (λ done e. absurd (cc)) kept;
+      given = f.given;
+      fails = feeds_by f.mid f.r f.through f.fails.fits (Err fault) new grown f.fails.does kept;
       memory = memory f.mid f.r f.through f.fails.fits fault new.rule grown f.fails.does;
-    })
-
-    -- the same for an engine that hasn't failed
-    pub batch_fed : (old : Ruled E) (result : Result (Unit {0}) Fault) (new : Ruled E) (passed : C) (grown : Output) → old.failure ≡ None → Follows rule cursor old.rule start out result new.rule passed grown
-        → ((done : Unit {0}) → result ≡ Ok done → new.failure ≡ None) → ((fault : Fault) → result ≡ Err fault → ruled_fault new ≡ Some (fault_value fault))
-        → FeedsBatch (ruled rule.engine) cursor old start out result new passed grown
-    batch_fed old result new passed grown was f none kept =
-        subst (λ (failure : Option Failure). FeedsBatch (ruled rule.engine) cursor (record { rule = old.rule; failure = failure }) start out result new passed grown)
-        (sym was) (batch_going old.rule result new passed grown f none kept)
+    }))
 
 -- at the end
 pub ruled_finishes : {E A : Type 0} {rule : RuleDef E} (last : Ruled E) {out grown : Output} (result : Result A Fault) → last.failure ≡ None
@@ -338,37 +320,32 @@ first_of_one r x [] more e = let first : r ≡ x = cc in (refl, sym first)
 first_of_one r x (y ∷ []) more e = absurd (cc)
 first_of_one r x (y ∷ z ∷ xs) more e = absurd (cc)
 
-module _ {E : Type 0} (engine : EngineDef E) (old : E) (r : Feature) (out : Output) where
-  one_taken : (records : List Feature) (new : E) (grown : Output) → records ≡ r ∷ [] → TakesEach engine old out records new grown → Feeds engine old r out {A = Unit {0}} (Ok tt) new grown
-  one_taken records new grown is taken =
-      let t = subst (λ (l : List Feature). TakesEach engine old out l new grown) is taken in
-      subst (λ (e : E). Feeds engine old r out {A = Unit {0}} (Ok tt) e grown) (sym t.3.0)
-      (subst (λ (o : Output). Feeds engine old r out {A = Unit {0}} (Ok tt) t.0 o) (sym t.3.1) t.2)
+module _ {E : Type 0} (engine : EngineDef E) (old : E) (r : Feature) (out : Output) (one passed : Single) where
+  -- it failed at the only one
+  at_first : single_left one ≡ r ∷ [] → {fault : Fault} {new : E} {grown : Output} → (p : FailsAtGiven engine single_cursor old one out fault new passed grown) → (p.r ≡ r) × (p.mid ≡ old) × (p.through ≡ out)
+  at_first is p =
+      let at = first_of_one r p.r p.takes.records (single_left passed) (sym is ∙ p.takes.given.left ∙ ap (λ l. p.takes.records ++ l) p.given.left) in
+      let none = rw at.0 at p.takes.taken in
+      (at.1, none.0, none.1)
 
-  pub single_fed : (one passed : Single) (result : Result (Unit {0}) Fault) (new : E) (grown : Output) → single_left one ≡ r ∷ [] → FeedsBatch engine single_cursor old one out result new passed grown
-      → Feeds engine old r out result new grown
-  single_fed one passed (Ok done) new grown is f =
-      one_taken f.0.records new grown (sym (append-nil f.0.records) ∙ ap (λ l. f.0.records ++ l) (sym f.1.none) ∙ sym f.0.given.left ∙ is) f.0.taken
-  single_fed one passed (Err answer) new grown is (inl p) = record {
+  one_taken : {new : E} {grown : Output} → TakesEach engine old out (r ∷ []) new grown → Feeds engine old r out {A = Unit {0}} (Ok tt) new grown
+  one_taken t = rw (t.3.0, t.3.1) t.2
+
+  pub single_fed : (result : Result (Unit {0}) Fault) (new : E) (grown : Output) → single_left one ≡ r ∷ [] → FeedsBatch engine single_cursor old one out result new passed grown → Feeds engine old r out result new grown
+  single_fed (Ok done) new grown is f =
+      let only : f.0.records ≡ r ∷ [] = sym (append-nil f.0.records) ∙ ap (λ l. f.0.records ++ l) (sym f.1.none) ∙ sym f.0.given.left ∙ is in
+      one_taken (rw only at f.0.taken)
+  single_fed (Err answer) new grown is (inl p) = record {
     going = p.going;
     answers = inl (record { is = p.is; kind = p.kind; same = p.same; same_output = p.same_output });
     quiet = λ first past s t q. let none = p.going first past s in let some = p.is in absurd (cc);
-    grows = subst (Grows out.took) (ap (λ (o : Output). o.took) (sym p.same_output)) (grows_nothing out.took);
+    grows = rw p.same_output (grows_nothing out.took);
     after_failure = λ failed. p.same_output;
   }
-  single_fed one passed (Err answer) new grown is (inr p) =
-      let at = first_of_one r p.r p.takes.records (single_left passed) (sym is ∙ p.takes.given.left ∙ ap (λ l. p.takes.records ++ l) p.given.left) in
-      let none = subst (λ (l : List Feature). TakesEach engine old out l p.mid p.through) at.0 p.takes.taken in
-      subst (λ (x : Feature). Feeds engine old x out {A = Unit {0}} (Err answer) new grown) at.1
-      (subst (λ (e : E). Feeds engine e p.r out {A = Unit {0}} (Err answer) new grown) none.0
-      (subst (λ (o : Output). Feeds engine p.mid p.r o {A = Unit {0}} (Err answer) new grown) none.1 p.fails))
+  single_fed (Err answer) new grown is (inr p) = let at = at_first is p in rw (← at.0, ← at.1, ← at.2) p.fails
 
   -- if memory ran out, it was for that record
-  pub single_wants : (one passed : Single) (result : Result (Unit {0}) Fault) (new : E) (grown : Output) → single_left one ≡ r ∷ [] → FeedsBatch engine single_cursor old one out result new passed grown
-      → IsWanted engine old r result
-  single_wants one passed (Ok done) new grown is f = tt
-  single_wants one passed (Err answer) new grown is (inl p) = λ memory going. let some = p.is in absurd (cc)
-  single_wants one passed (Err answer) new grown is (inr p) = λ memory going.
-      let at = first_of_one r p.r p.takes.records (single_left passed) (sym is ∙ p.takes.given.left ∙ ap (λ l. p.takes.records ++ l) p.given.left) in
-      let none = subst (λ (l : List Feature). TakesEach engine old out l p.mid p.through) at.0 p.takes.taken in
-      subst (engine.wants old) at.1 (subst (λ (e : E). engine.wants e p.r) none.0 (p.memory memory))
+  pub single_wants : (result : Result (Unit {0}) Fault) (new : E) (grown : Output) → single_left one ≡ r ∷ [] → FeedsBatch engine single_cursor old one out result new passed grown → IsWanted engine old r result
+  single_wants (Ok done) new grown is f = tt
+  single_wants (Err answer) new grown is (inl p) = λ memory going. let some = p.is in absurd (cc)
+  single_wants (Err answer) new grown is (inr p) = λ memory going. let at = at_first is p in rw (← at.0, ← at.1) (p.memory memory)

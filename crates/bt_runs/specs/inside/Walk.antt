@@ -169,26 +169,23 @@ module _ {E : Type 0} (rule : RuleDef E) where
       × TakenEach mid through records new grown
 
   module _ {C R : Type 0} (cursor : Cursor C R) (old : E) (start : C) (out : Output) where
-    -- all records that the cursor gives were taken
-    pub record TakenAll (new : E) (passed : C) (grown : Output) : Type 0 where
+    -- records were given, and each of them was taken
+    pub record TakenGiven (new : E) (passed : C) (grown : Output) : Type 0 where
       pub records : List Feature
       pub given : cursor.gives start records passed
-      pub ended : cursor.has_ended passed
       pub each : TakenEach old out records new grown
 
     -- those before the last one that was given were taken, and that one wasn't
     pub record TakenUpTo (fault : Fault) (new : E) (passed : C) (grown : Output) : Type 0 where
-      pub records : List Feature
-      pub before : C
-      pub given : cursor.gives start records before
       pub mid : E
+      pub before : C
       pub through : Output
-      pub each : TakenEach old out records mid through
+      pub takes : TakenGiven mid before through
       pub r : Feature
-      pub last : cursor.gives before (r ∷ []) passed
+      pub given : cursor.gives before (r ∷ []) passed
       pub fails : Taken mid r through (Err fault) new grown
 
-    -- what the loop over a cursor does
+    -- what the loop over a cursor does: it takes all records that the cursor gives
     abbrev pub Follows : Result (Unit {0}) Fault → E → C → Output → Type 0
-    Follows (Ok done) new passed grown = TakenAll new passed grown
+    Follows (Ok done) new passed grown = TakenGiven new passed grown × cursor.has_ended passed
     Follows (Err fault) new passed grown = TakenUpTo fault new passed grown

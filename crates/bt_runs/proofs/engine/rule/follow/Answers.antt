@@ -1,32 +1,28 @@
 use Rattle.bt_lines.proofs.Std.{◌∙◌, refl, subst, sym}
-use Rattle.bt_runs.proofs.lemmas.Engine.{follows_all, follows_on, follows_up_to}
+use Rattle.bt_runs.proofs.lemmas.Engine.{follows, follows_on, follows_up_to}
 use Rattle.bt_runs.proofs.engine.rule.follow.Goals as goal
 
 pub returns-in-Err : goal.returns-in-Err
 returns-in-Err g c = record {
-  records = _;
-  before = _;
-  given = g.met.C.Cursor.gives_none c.args.records.now;
   mid = _;
+  before = _;
   through = _;
-  each = (refl, refl);
+  takes = record { records = _; given = g.met.C.Cursor.gives_none c.args.records.now; each = (refl, refl) };
   r = _;
-  last = c.in-Some.ensures.some;
+  given = c.in-Some.ensures.some;
   fails = c.in-Err.ensures.enters _ (c.in-Some.ensures.on ∙ sym c.chrom.ensures);
 }
 
 pub loop-fault-init : goal.loop-fault-init
 loop-fault-init g c = record {
   following = rw c.on_chrom-on.ensures (record {
-    records = _;
+    mid = _;
     before = _;
-    given = g.met.C.Cursor.gives_none c.args.records.now;
+    through = _;
+    takes = record { records = _; given = g.met.C.Cursor.gives_none c.args.records.now; each = (refl, refl) };
     next = c.in-Some.ensures.some;
     on = c.in-Some.ensures.on;
     entered = subst (g.E.Rule.definition.is_on c.enter.new.self) c.chrom.ensures c.in_default-enter.ensures.on;
-    mid = _;
-    through = _;
-    each = (refl, refl);
     does_so = λ result next later d. c.in_default-enter.ensures.enters _ (c.in-Some.ensures.on ∙ sym c.chrom.ensures) result next later d.does;
   });
   same_name = c.in-Some.ensures.same;
@@ -34,19 +30,21 @@ loop-fault-init g c = record {
 
 pub returns-in-Err-step : goal.returns-in-Err-step
 returns-in-Err-step g c =
-    rw c.leave.ensures (follows_up_to g.met.C.Cursor.gives_more c.loop-fault.invariant.following _ _ _ (record { does = c.in-Err-step.ensures.does; fits = c.in-Err-step.ensures.fits }))
+    rw c.leave.ensures (follows_up_to c.loop-fault.invariant.following (record { does = c.in-Err-step.ensures.does; fits = c.in-Err-step.ensures.fits }))
 
 pub loop-fault-preserved : goal.loop-fault-preserved
 loop-fault-preserved g c =
     let f = c.loop-fault.invariant.following in
     let name = c.loop-fault.invariant.same_name in
+    let step = c.in_default-step.ensures in
     record {
-      following = follows_on g.met.C.Cursor.gives_more f _ _ _ _ (record { does = c.in_default-step.ensures.does; fits = c.in_default-step.ensures.fits }) (subst (g.E.Rule.definition.is_on (g.E.Rule.with_on c.step.new.self c.step.new.on)) f.on c.in_default-step.ensures.on)
-          c.in-Some-next.ensures.some (c.in-Some-next.ensures.on ∙ name);
+      following = follows_on f g.met.C.Cursor.gives_more (record { does = step.does; fits = step.fits })
+          (subst (g.E.Rule.definition.is_on (g.E.Rule.with_on c.step.new.self c.step.new.on)) f.on step.on) c.in-Some-next.ensures.some (c.in-Some-next.ensures.on ∙ name);
       same_name = c.in-Some-next.ensures.same ∙ name;
     }
 
 pub returns : goal.returns
 returns g c =
+    let step = c.in_default-step.ensures in
     rw (c.leave-2.ensures, c.in-None.ensures.unchanged)
-    (follows_all g.met.C.Cursor.gives_more c.loop-fault.invariant.following _ _ (record { does = c.in_default-step.ensures.does; fits = c.in_default-step.ensures.fits }) c.in-None.ensures.none)
+    (follows c.loop-fault.invariant.following g.met.C.Cursor.gives_more (record { does = step.does; fits = step.fits }), c.in-None.ensures.none)
