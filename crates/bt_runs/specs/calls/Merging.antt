@@ -1,9 +1,8 @@
 -- What a merge holds after the records of the past: with one set of records one open run, and with
 -- each strand separately the runs that wait.
-use Rattle.std.specs.Prelude.{ℕ, List, [], Option, None}
-use Rattle.bt_lines.specs.model.Fault.{FaultValue}
+use Rattle.std.specs.Prelude.{ℕ, List, [], None}
 use Rattle.bt_bed.specs.model.Feature.{Feature, Interval}
-use Rattle.bt_runs.specs.calls.Engine.{EngineDef, ruled, ruled_fault}
+use Rattle.bt_runs.specs.calls.Engine.{EngineDef, ruled}
 use Rattle.bt_runs.specs.model.Merged.{AreTaken, places_of}
 use Rattle.bt_runs.specs.inside.merge.StrandStep.{stranding}
 use Rattle.bt_runs.specs.calls.Unstranded.{unstranded}
@@ -19,6 +18,11 @@ merge_begun gap Each =
 merge_begun gap strand =
     Unstranded (record { rule = record { gap = gap; strand = strand; chrom = []; kept = [] }; failure = None })
 
+-- the runs that are kept
+abbrev pub kept_places : Kind → List Interval
+kept_places (Unstranded merge) = merge.rule.kept
+kept_places (PerStrand merge) = places_of merge.rule.kept
+
 -- what the merge has become after the records
 abbrev pub IsAfter : Kind → List Feature → Kind → Type 0
 IsAfter (Unstranded first) past (Unstranded now) = (ruled unstranded).is_after first past now
@@ -26,50 +30,20 @@ IsAfter (PerStrand first) past (PerStrand now) = (ruled stranding).is_after firs
 IsAfter (Unstranded first) past (PerStrand now) = ⊥
 IsAfter (PerStrand first) past (Unstranded now) = ⊥
 
--- the fault that it returned, if one
-abbrev pub kept_fault : Kind → Option FaultValue
-kept_fault (Unstranded merge) = ruled_fault merge
-kept_fault (PerStrand merge) = ruled_fault merge
-
--- the lines of the settled runs
-abbrev pub settled_lines : Kind → List Feature → List ℕ
-settled_lines (Unstranded first) past = unstranded.settled first.rule past
-settled_lines (PerStrand first) past = stranding.settled first.rule past
-
--- the lines of all runs
-abbrev pub whole_output : Kind → List Feature → List ℕ
-whole_output (Unstranded first) past = unstranded.output first.rule past
-whole_output (PerStrand first) past = stranding.output first.rule past
-
--- how many runs are kept
-abbrev pub held_count : Kind → List Feature → ℕ
-held_count (Unstranded first) past = unstranded.held first.rule past
-held_count (PerStrand first) past = stranding.held first.rule past
-
--- a record on the last chromosome that settles no run, with which no more are kept
-abbrev pub is_quiet : Kind → List Feature → Feature → Type 0
-is_quiet (Unstranded first) past r = unstranded.quiet first.rule past r
-is_quiet (PerStrand first) past r = stranding.quiet first.rule past r
-
--- the runs that are kept
-abbrev pub kept_places : Kind → List Interval
-kept_places (Unstranded merge) = merge.rule.kept
-kept_places (PerStrand merge) = places_of merge.rule.kept
-
--- what needs memory: the name of another chromosome, and with each strand separately a run that has to be opened
-abbrev pub wants_memory : Kind → Feature → Type 0
-wants_memory (Unstranded old) r = unstranded.wants old.rule r
-wants_memory (PerStrand old) r = stranding.wants old.rule r
+-- what is said of the engine inside, of whichever kind it is
+abbrev pub of_kind {ℓ} : {A : Type ℓ} → ((E : Type 0) → EngineDef E → E → A) → Kind → A
+of_kind said (Unstranded merge) = said _ (ruled unstranded) merge
+of_kind said (PerStrand merge) = said _ (ruled stranding) merge
 
 -- a merge
 abbrev pub merge_engine : EngineDef Kind
 merge_engine = record {
   takes = λ first past. AreTaken past;
-  settled = settled_lines;
-  output = whole_output;
-  held = held_count;
+  settled = of_kind (λ E engine. engine.settled);
+  output = of_kind (λ E engine. engine.output);
+  held = of_kind (λ E engine. engine.held);
   is_after = IsAfter;
-  fault = kept_fault;
-  quiet = is_quiet;
-  wants = wants_memory;
+  fault = of_kind (λ E engine. engine.fault);
+  quiet = of_kind (λ E engine. engine.quiet);
+  wants = of_kind (λ E engine. engine.wants);
 }

@@ -12,7 +12,7 @@ ghost use Rattle.bt_lines.specs.model.Fault.{FaultValue};
 ghost use Rattle.bt_bed.specs.calls.Bed.{feature_lent};
 ghost use Rattle.bt_lines.specs.model.Lines.{max_number};
 ghost use Rattle.bt_runs.specs.calls.Engine.{AnswersAgain, IsFaultless, KeepsFault, TakesQuiet, WritesFirst, WritesLeft, WritesLeftPrefix, WritesPrefix, WritesSettled, IsWanted, KeepsHeld};
-ghost use Rattle.bt_runs.specs.calls.Merging.{IsAfter, kept_fault, kept_places, merge_begun, merge_engine};
+ghost use Rattle.bt_runs.specs.calls.Merging.{IsAfter, kept_places, merge_begun, merge_engine};
 
 use crate::engine::Engine;
 use crate::engine::rule::{Rule, Ruled};
@@ -84,7 +84,7 @@ impl Merge {
         ensures ran_out { WritesFirst merge_engine self.old (feature_lent bed.now) out.old.output result self.new out.new.output }
         ensures memory { IsWanted merge_engine self.old (feature_lent bed.now) result }
         ensures again { AnswersAgain merge_engine self.old result }
-        ensures stays { (before : FaultValue) → kept_fault self.old ≡ Some before
+        ensures stays { (before : FaultValue) → merge_engine.fault self.old ≡ Some before
             → (self.new ≡ self.old) × (out.new.output ≡ out.old.output) }
         ensures quiet { TakesQuiet merge_engine self.old (feature_lent bed.now) out.old.output result out.new.output }
         ensures grows { Grows out.old.output.took out.new.output.took }
@@ -101,7 +101,7 @@ impl Merge {
         ensures written { WritesLeft merge_engine self out.old.output result out.new.output }
         ensures prefix { WritesLeftPrefix merge_engine self out.old.output result out.new.output }
         ensures again { AnswersAgain merge_engine self result }
-        ensures stays { (before : FaultValue) → kept_fault self ≡ Some before → out.new.output ≡ out.old.output }
+        ensures stays { (before : FaultValue) → merge_engine.fault self ≡ Some before → out.new.output ≡ out.old.output }
         ensures grows { Grows out.old.output.took out.new.output.took }
         ensures after_failure { out.old.output.has_failed ≡ true → out.new.output ≡ out.old.output }
     {

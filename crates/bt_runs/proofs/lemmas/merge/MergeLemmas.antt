@@ -8,7 +8,7 @@ use Rattle.bt_bed.specs.model.Feature.{Feature}
 use Rattle.bt_runs.specs.calls.Engine.{AfterEach, AtEnd, EngineDef, FeedAnswers, Feeds, FeedsBatch, FinishAnswers, Finishes, IsFaultless, NotTaken, TakesEach, TakesGiven}
 use Rattle.bt_runs.specs.declared.merge.Kind.{Kind}
 use Rattle.bt_runs.specs.declared.merge.Kind.TheVariants.{PerStrand, Unstranded}
-use Rattle.bt_runs.specs.calls.Merging.{IsAfter, is_quiet, merge_begun, merge_engine, settled_lines, whole_output}
+use Rattle.bt_runs.specs.calls.Merging.{IsAfter, merge_begun, merge_engine}
 use Rattle.bt_bed.specs.declared.read.cursor.Cursor.{Ghosts as Cursor}
 use Rattle.bt_runs.specs.calls.Unstranded as unstranded
 use Rattle.bt_runs.specs.declared.merge.merge_strand.MergeStrand.{MergeStrand}
@@ -56,7 +56,7 @@ module _ {E : Type 0} (merge : E → Kind) (only : (first : Kind) (past : List F
         is = p.is;
         was_going = p.was_going;
         kept = p.kept;
-        cuts = after_each r (λ first past. CutsRest (settled_lines first past) (settled_lines first (past ++ r ∷ [])) out grown) p.cuts;
+        cuts = after_each r (λ first past. CutsRest (merge_engine.settled first past) (merge_engine.settled first (past ++ r ∷ [])) out grown) p.cuts;
         failed = p.failed;
         sink_failed = p.sink_failed;
       }))
@@ -64,7 +64,7 @@ module _ {E : Type 0} (merge : E → Kind) (only : (first : Kind) (past : List F
         is = p.is;
         was_going = p.was_going;
         kept = p.kept;
-        puts = after_each r (λ first past. PutsRest (settled_lines first past) (settled_lines first (past ++ r ∷ [])) out grown) p.puts;
+        puts = after_each r (λ first past. PutsRest (merge_engine.settled first past) (merge_engine.settled first (past ++ r ∷ [])) out grown) p.puts;
         works = p.works;
       }))
 
@@ -73,7 +73,7 @@ module _ {E : Type 0} (merge : E → Kind) (only : (first : Kind) (past : List F
         was_going = p.was_going;
         going = p.going;
         stands = after_each r (λ first past. IsAfter first (past ++ r ∷ []) (merge new)) p.stands;
-        puts = after_each r (λ first past. PutsRest (settled_lines first past) (settled_lines first (past ++ r ∷ [])) out grown) p.puts;
+        puts = after_each r (λ first past. PutsRest (merge_engine.settled first past) (merge_engine.settled first (past ++ r ∷ [])) out grown) p.puts;
         works = p.works;
       }
       answers (Err e) p = not_taken (fault_value e) p
@@ -82,7 +82,7 @@ module _ {E : Type 0} (merge : E → Kind) (only : (first : Kind) (past : List F
       feeds_inside result p = record {
         going = going p.going;
         answers = answers result p.answers;
-        quiet = after_each r (λ first past. is_quiet first past r → IsOk result × (grown ≡ out)) p.quiet;
+        quiet = after_each r (λ first past. merge_engine.quiet first past r → IsOk result × (grown ≡ out)) p.quiet;
         grows = p.grows;
         after_failure = p.after_failure;
       }
@@ -91,14 +91,14 @@ module _ {E : Type 0} (merge : E → Kind) (only : (first : Kind) (past : List F
       end_answers : {A : Type 0} (result : Result A Fault) → FinishAnswers inside old out result grown → FinishAnswers merge_engine (merge old) out result grown
       end_answers (Ok done) p = record {
         was_going = p.was_going;
-        puts = at_end (λ first past. PutsRest (settled_lines first past) (whole_output first past) out grown) p.puts;
+        puts = at_end (λ first past. PutsRest (merge_engine.settled first past) (merge_engine.output first past) out grown) p.puts;
         works = p.works;
       }
       end_answers (Err e) (inl p) = inl (record { is = p.is; same_output = p.same_output })
       end_answers (Err e) (inr p) = inr (record {
         is = p.is;
         was_going = p.was_going;
-        cuts = at_end (λ first past. CutsRest (settled_lines first past) (whole_output first past) out grown) p.cuts;
+        cuts = at_end (λ first past. CutsRest (merge_engine.settled first past) (merge_engine.output first past) out grown) p.cuts;
         failed = p.failed;
         sink_failed = p.sink_failed;
       })

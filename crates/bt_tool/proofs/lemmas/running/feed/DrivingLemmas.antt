@@ -44,7 +44,7 @@ use Rattle.bt_tool.proofs.lemmas.running.whole.OwnFailureLemmas.{feeds_own}
 use Rattle.bt_bed.specs.model.Genome.{Entry}
 use Rattle.bt_runs.specs.model.Gaps.{settled_gaps, AreTaken as AreTakenBy}
 use Rattle.bt_runs.specs.model.Merged.{AreTaken, merged_runs, passed_by, settled_runs, places_of, settled_strand_runs, strand_runs}
-use Rattle.bt_runs.specs.calls.Merging.{merge_begun, settled_lines, whole_output}
+use Rattle.bt_runs.specs.calls.Merging.{merge_begun, merge_engine}
 use Rattle.bt_runs.specs.declared.merge.Kind.{Kind as MergeKind}
 use Rattle.bt_runs.specs.declared.merge.Kind.TheVariants.{PerStrand, Unstranded}
 use Rattle.bt_runs.specs.declared.merge.merge_strand.MergeStrand.{MergeStrand}
@@ -413,10 +413,10 @@ lines_begin settled whole Taken begins past more taken =
 
 -- what a merge writes, chromosomes as they come
 abbrev pub merge_as_they_come : MergeKind → Written Feature
-merge_as_they_come merge = record { whole = whole_output merge; settled = settled_lines merge }
+merge_as_they_come merge = record { whole = merge_engine.output merge; settled = merge_engine.settled merge }
 
 -- a merge that has taken no record has settled nothing
-pub merge_begins : (merge : MergeKind) → settled_lines merge [] ≡ []
+pub merge_begins : (merge : MergeKind) → merge_engine.settled merge [] ≡ []
 unfolding settled_runs
 merge_begins (Unstranded merge) = refl
 merge_begins (PerStrand merge) = ap (λ items. interval_lines (places_of items)) (no_strand_settled merge.rule.gap)
@@ -428,13 +428,13 @@ merge_settles_none order d Each = ap (λ items. interval_lines (places_of items)
 merge_settles_none order d (One strand) = refl
 
 -- what it has settled stays, and begins the whole
-pub merge_stays : (merge : MergeKind) → SettledStays (settled_lines merge) AreTaken
+pub merge_stays : (merge : MergeKind) → SettledStays (merge_engine.settled merge) AreTaken
 merge_stays (Unstranded merge) = lines_stay (settled_runs merge.rule.gap merge.rule.strand) AreTaken (runs_stay merge.rule.gap merge.rule.strand)
 merge_stays (PerStrand merge) = lines_stay (λ records. places_of (settled_strand_runs merge.rule.gap records)) AreTaken (λ past more taken.
     let s = stay merge.rule.gap past more taken in
     (places_of s.0, ap places_of s.1 ∙ map-append (λ item. item.run) (settled_strand_runs merge.rule.gap past) s.0))
 
-pub merge_begins_whole : (merge : MergeKind) → SettledBegins (settled_lines merge) (whole_output merge) AreTaken
+pub merge_begins_whole : (merge : MergeKind) → SettledBegins (merge_engine.settled merge) (merge_engine.output merge) AreTaken
 merge_begins_whole (Unstranded merge) = lines_begin (settled_runs merge.rule.gap merge.rule.strand) (merged_runs merge.rule.gap merge.rule.strand) AreTaken (runs_begin merge.rule.gap merge.rule.strand)
 merge_begins_whole (PerStrand merge) = lines_begin (λ records. places_of (settled_strand_runs merge.rule.gap records)) (λ records. places_of (strand_runs merge.rule.gap records)) AreTaken (λ past more taken.
     let s = begin merge.rule.gap past more taken in
@@ -459,13 +459,13 @@ module _ (order : Order) (total : IsTotal order) where
       ap (λ runs. interval_lines (passed_by d runs (last_of (intervals_of records)))) (sym (ordered_come order d strand records total placed))
 
   merged_same : (d : ℕ) (strand : MergeStrand) (records : List Feature) → ArePlaced order (intervals_of records)
-      → whole_output (merge_begun d strand) records ≡ (merge_written order d strand).whole records
+      → merge_engine.output (merge_begun d strand) records ≡ (merge_written order d strand).whole records
   merged_same d All records placed = pooled_same d All records placed
   merged_same d Each records placed = refl
   merged_same d (One strand) records placed = pooled_same d (One strand) records placed
 
   settled_same : (d : ℕ) (strand : MergeStrand) (records : List Feature) → ArePlaced order (intervals_of records)
-      → settled_lines (merge_begun d strand) records ≡ (merge_written order d strand).settled records
+      → merge_engine.settled (merge_begun d strand) records ≡ (merge_written order d strand).settled records
   settled_same d All records placed = pooled_settled d All records placed
   settled_same d Each records placed = refl
   settled_same d (One strand) records placed = pooled_settled d (One strand) records placed
