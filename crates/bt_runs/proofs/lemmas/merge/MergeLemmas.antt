@@ -5,7 +5,7 @@ use Rattle.bt_lines.specs.calls.Names.{fault_value}
 use Rattle.bt_lines.specs.calls.Output.{Output, CutsRest, PutsRest}
 use Rattle.bt_lines.specs.declared.fault.Fault.{Fault}
 use Rattle.bt_bed.specs.model.Feature.{Feature}
-use Rattle.bt_runs.specs.calls.Engine.{AfterEach, AtEnd, EngineDef, FeedAnswers, Feeds, FeedsBatch, FinishAnswers, Finishes, IsFaultless, NotTaken, TakesEach, TakesGiven}
+use Rattle.bt_runs.specs.calls.Engine.{EngineDef, FeedAnswers, Feeds, FeedsBatch, FinishAnswers, Finishes, TakesEach, TakesGiven}
 use Rattle.bt_runs.specs.declared.merge.Kind.{Kind}
 use Rattle.bt_runs.specs.declared.merge.Kind.TheVariants.{PerStrand, Unstranded}
 use Rattle.bt_runs.specs.calls.Merging.{IsAfter, merge_begun, merge_engine}
@@ -34,82 +34,31 @@ module _ {E : Type 0} (merge : E → Kind) (only : (first : Kind) (past : List F
   }
 
   module _ (old : E) where
-    after_each : (r : Feature) (P : Kind → List Feature → Type 0) → AfterEach inside old r (λ first past. P (merge first) past) → AfterEach merge_engine (merge old) r P
-    after_each r P h first past s =
+    -- what holds after every past that the engine inside is after holds after every one that the merge is after
+    at : (P : Kind → List Feature → Type 0) → ((first : E) (past : List Feature) → inside.is_after first past old → P (merge first) past)
+        → (first : Kind) (past : List Feature) → IsAfter first past (merge old) → P first past
+    at P h first past s =
         let inner = only first past old s in
-        subst (λ (m : Kind). IsAfter m past (merge old) → merge_engine.takes m (past ++ r ∷ []) → P m past) inner.1 (h inner.0 past) s
-
-    at_end : (P : Kind → List Feature → Type 0) → AtEnd inside old (λ first past. P (merge first) past) → AtEnd merge_engine (merge old) P
-    at_end P h first past s =
-        let inner = only first past old s in
-        subst (λ (m : Kind). IsAfter m past (merge old) → merge_engine.takes m past → P m past) inner.1 (h inner.0 past) s
-
-    going : IsFaultless inside old → IsFaultless merge_engine (merge old)
-    going h first past s =
-        let inner = only first past old s in
-        h inner.0 past (subst (λ (m : Kind). IsAfter m past (merge old)) (sym inner.1) s)
+        subst (λ (m : Kind). IsAfter m past (merge old) → P m past) inner.1 (h inner.0 past) s
 
     module _ (r : Feature) (out : Output) (new : E) (grown : Output) where
-      not_taken : (e : FaultValue) → NotTaken inside old r out e new grown → NotTaken merge_engine (merge old) r out e (merge new) grown
-      not_taken e (inl p) = inl (record { is = p.is; kind = p.kind; same = ap merge p.same; same_output = p.same_output })
-      not_taken e (inr (inl p)) = inr (inl (record {
-        is = p.is;
-        was_going = p.was_going;
-        kept = p.kept;
-        cuts = after_each r (λ first past. CutsRest (merge_engine.settled first past) (merge_engine.settled first (past ++ r ∷ [])) out grown) p.cuts;
-        failed = p.failed;
-        sink_failed = p.sink_failed;
-      }))
-      not_taken e (inr (inr p)) = inr (inr (record {
-        is = p.is;
-        was_going = p.was_going;
-        kept = p.kept;
-        puts = after_each r (λ first past. PutsRest (merge_engine.settled first past) (merge_engine.settled first (past ++ r ∷ [])) out grown) p.puts;
-        works = p.works;
-      }))
-
       answers : {A : Type 0} (result : Result A Fault) → FeedAnswers inside old r out result new grown → FeedAnswers merge_engine (merge old) r out result (merge new) grown
-      answers (Ok done) p = record {
-        was_going = p.was_going;
-        going = p.going;
-        stands = after_each r (λ first past. IsAfter first (past ++ r ∷ []) (merge new)) p.stands;
-        puts = after_each r (λ first past. PutsRest (merge_engine.settled first past) (merge_engine.settled first (past ++ r ∷ [])) out grown) p.puts;
-        works = p.works;
-      }
-      answers (Err e) p = not_taken (fault_value e) p
+      answers (Ok done) p = record { was_going = p.was_going; going = p.going; stands = at _ p.stands; puts = at _ p.puts; works = p.works }
+      answers (Err e) (inl p) = inl (record { is = p.is; kind = p.kind; same = ap merge p.same; same_output = p.same_output })
+      answers (Err e) (inr (inl p)) = inr (inl (record { is = p.is; was_going = p.was_going; kept = p.kept; cuts = at _ p.cuts; failed = p.failed; sink_failed = p.sink_failed }))
+      answers (Err e) (inr (inr p)) = inr (inr (record { is = p.is; was_going = p.was_going; kept = p.kept; puts = at _ p.puts; works = p.works }))
 
       pub feeds_inside : {A : Type 0} (result : Result A Fault) → Feeds inside old r out result new grown → Feeds merge_engine (merge old) r out result (merge new) grown
-      feeds_inside result p = record {
-        going = going p.going;
-        answers = answers result p.answers;
-        quiet = after_each r (λ first past. merge_engine.quiet first past r → IsOk result × (grown ≡ out)) p.quiet;
-        grows = p.grows;
-        after_failure = p.after_failure;
-      }
+      feeds_inside result p = record { going = at _ p.going; answers = answers result p.answers; quiet = at _ p.quiet; grows = p.grows; after_failure = p.after_failure }
 
     module _ (out grown : Output) where
       end_answers : {A : Type 0} (result : Result A Fault) → FinishAnswers inside old out result grown → FinishAnswers merge_engine (merge old) out result grown
-      end_answers (Ok done) p = record {
-        was_going = p.was_going;
-        puts = at_end (λ first past. PutsRest (merge_engine.settled first past) (merge_engine.output first past) out grown) p.puts;
-        works = p.works;
-      }
+      end_answers (Ok done) p = record { was_going = p.was_going; puts = at _ p.puts; works = p.works }
       end_answers (Err e) (inl p) = inl (record { is = p.is; same_output = p.same_output })
-      end_answers (Err e) (inr p) = inr (record {
-        is = p.is;
-        was_going = p.was_going;
-        cuts = at_end (λ first past. CutsRest (merge_engine.settled first past) (merge_engine.output first past) out grown) p.cuts;
-        failed = p.failed;
-        sink_failed = p.sink_failed;
-      })
+      end_answers (Err e) (inr p) = inr (record { is = p.is; was_going = p.was_going; cuts = at _ p.cuts; failed = p.failed; sink_failed = p.sink_failed })
 
       pub finishes_inside : {A : Type 0} (result : Result A Fault) → Finishes inside old out result grown → Finishes merge_engine (merge old) out result grown
-      finishes_inside result p = record {
-        going = going p.going;
-        answers = end_answers result p.answers;
-        grows = p.grows;
-        after_failure = p.after_failure;
-      }
+      finishes_inside result p = record { going = at _ p.going; answers = end_answers result p.answers; grows = p.grows; after_failure = p.after_failure }
 
   -- what several records do
   each_inside : (records : List Feature) (old : E) (out : Output) (new : E) (grown : Output) → TakesEach inside old out records new grown
@@ -127,7 +76,7 @@ module _ {E : Type 0} (merge : E → Kind) (only : (first : Kind) (past : List F
         → FeedsBatch merge_engine cursor (merge old) start out result (merge new) passed grown
     batch_inside old start out new passed grown (Ok done) p = (given_inside old start out new passed grown p.0, p.1)
     batch_inside old start out new passed grown (Err answer) (inl p) = inl (record {
-      going = going old p.going;
+      going = at old _ p.going;
       is = p.is;
       kind = p.kind;
       same = ap merge p.same;
