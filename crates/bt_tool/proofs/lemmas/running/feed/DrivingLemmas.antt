@@ -282,8 +282,7 @@ module _ {S : Type 0} (split cigar : Bool) (device : Source S) where
       pub converts_all : (new : LineReader S) → GivesEnd device now new → (IsSound device now → IsSound device new)
           → FeedsAll lines_of (IsOneOf is_sam_kind) Any device Any (sam_reader old) out (sam_reader new) grown
       converts_all new ends sound =
-          fed_all lines_of (IsOneOf is_sam_kind) Any device (sam_reader old) out g.past (sam_reader now) grown g.fed Any (sam_reader new)
-          (record {
+          fed_all g.fed (record {
             ends = going_end device (sam_reader now) (sam_reader now) (sam_reader new) steps ends refl refl (record { state = refl; format = refl }) (λ same fault. ap sam_reader same);
             kept = λ was. kept_of device new (sound g.sound);
             clear = λ e. e;
@@ -291,7 +290,7 @@ module _ {S : Type 0} (split cigar : Bool) (device : Source S) where
 
       up_to : (new : MemberReader S Alignment ⊤) (fault : FaultValue) → IsStopped device (sam_reader now) fault new → UpTo fault new grown
       up_to new fault stopped =
-          fed_up_to lines_of (IsOneOf is_sam_kind) Any device (sam_reader old) out g.past (sam_reader now) grown g.fed (λ state line kind says. wrong_kinds line.text kind says) new fault stopped tt
+          fed_up_to g.fed (λ state line kind says. wrong_kinds line.text kind says) stopped tt
 
       -- the reader reported a fault
       pub stops_reading : (new : LineReader S) (fault : FaultValue) → GivesFault device now fault new → (IsSound device now → IsSound device new) → UpTo fault (sam_reader new) grown
@@ -334,10 +333,9 @@ module _ {S : Type 0} (split cigar : Bool) (device : Source S) where
             let fails = unwritten.2.puts in
             let lines = bed_lines converting.split converting.with_cigar a in
             let is : lines ≡ bed_lines split cigar a = ap (λ s. bed_lines s converting.with_cigar a) same ∙ ap (λ c. bed_lines split c a) same_cigar in
-            fails_writing lines_of (IsOneOf is_sam_kind) Any device (sam_reader old) out g.past (g.past ++ member_on line a ∷ []) a (map-append (λ m. m.item) g.past (member_on line a ∷ [])) (sam_reader new) (with_it a unwritten.1)
+            fails_writing a (map-append (λ m. m.item) g.past (member_on line a ∷ [])) (with_it a unwritten.1)
             (read_line device (sam_reader old) (sam_reader now) g.past g.fed.passes (sam_reader new) line gives kept refl refl gives.goes a unwritten.1 refl)
-            grown g.fed.put tt fault later lines
-            (pushed a ∙ ap (λ l. lines_of (member_items g.past) ++ l) (sym is)) fails.is fails.front fails.failed fails.sink_failed fails.grows
+            g.fed.put tt lines (pushed a ∙ ap (λ l. lines_of (member_items g.past) ++ l) (sym is)) fails.is fails.front fails.failed fails.sink_failed fails.grows
 
         -- what is settled with these members was put
         goes_with : (past : List (Member Alignment)) (bytes : List ℕ) (later : Output) → Passes device (sam_reader old) past (sam_reader new) → lines_of (member_items past) ≡ lines_of (member_items g.past) ++ bytes → Grown grown bytes later

@@ -154,67 +154,60 @@ fed_none settled device old out fresh clear nothing block = record {
   put = rw nothing (put_none out block);
 }
 
-module _ {S A State : Type 0} (settled : List A → List ℕ) (Kinds : Kind → Type 0) (Sorted : List A → Type 0) (device : Source S) (old : MemberReader S A State) (out : Output)
-    (past : List (Member A)) (now : MemberReader S A State) (grown : Output) (g : Fed settled device old out past now grown) where
-  abbrev UpTo : FaultValue → MemberReader S A State → Output → Type 0
-  UpTo fault new later = FeedsUpTo settled Kinds Sorted device old out fault new later
-
+module _ {S A State : Type 0} {settled : List A → List ℕ} {device : Source S} {old : MemberReader S A State} {out : Output} {past : List (Member A)} {now : MemberReader S A State} {grown : Output}
+    (g : Fed settled device old out past now grown) {new : MemberReader S A State} where
   -- one more member is buffered
-  pub fed_fill : (new : MemberReader S A State) → IsFilled device now new → Fed settled device old out past new grown
-  fed_fill new fills = record { passes = passes_fill device old past now g.passes new fills; put = g.put }
+  pub fed_fill : IsFilled device now new → Fed settled device old out past new grown
+  fed_fill fills = record { passes = passes_fill device old past now g.passes new fills; put = g.put }
 
-  -- these members were taken when the reading stops
-  taken : (new : MemberReader S A State) → (bytes : List ℕ) × Hands device.left now.below bytes new.below → Sorted (member_items past) → IsReadFor device old past past new
-      → Took settled Kinds Sorted device old out past new grown
-  taken new hands sorted read = record {
-    bytes = bytes_more device old past now g.passes new hands;
-    sorted = sorted;
-    grows = g.put.grows;
-    before = past;
-    read = read;
-    kept = took_lines out grown (settled (member_items past)) g.put;
-  }
+  module _ {Kinds : Kind → Type 0} {Sorted : List A → Type 0} where
+    -- these members were taken when the reading stops
+    taken : (bytes : List ℕ) × Hands device.left now.below bytes new.below → Sorted (member_items past) → IsReadFor device old past past new → Took settled Kinds Sorted device old out past new grown
+    taken hands sorted read = record {
+      bytes = bytes_more device old past now g.passes new hands;
+      sorted = sorted;
+      grows = g.put.grows;
+      before = past;
+      read = read;
+      kept = took_lines out grown (settled (member_items past)) g.put;
+    }
 
-  -- the reading stops: at the end of the input
-  pub fed_all : (Stands : List A → Type 0) (new : MemberReader S A State) → IsOver device now new → Sorted (member_items past) → Stands (member_items past)
-      → FeedsAll settled Kinds Sorted device Stands old out new grown
-  fed_all Stands new over sorted stands = record {
-    past = past;
-    took = taken new over.ends.stays.bytes sorted (read_here device old past new (passes_end device old past now g.passes new over));
-    whole = passes_all device old past now g.passes new over;
-    stands = stands;
-    puts = g.put.puts;
-    works = g.put.works;
-    served = over.ends.served ∙ g.passes.served;
-    within = (over.kept g.passes.kept).within (over.clear over.ends.goes);
-  }
+    -- the reading stops: at the end of the input
+    pub fed_all : {Stands : List A → Type 0} → IsOver device now new → Sorted (member_items past) → Stands (member_items past) → FeedsAll settled Kinds Sorted device Stands old out new grown
+    fed_all over sorted stands = record {
+      past = past;
+      took = taken over.ends.stays.bytes sorted (read_here device old past new (passes_end device old past now g.passes new over));
+      whole = passes_all device old past now g.passes new over;
+      stands = stands;
+      puts = g.put.puts;
+      works = g.put.works;
+      served = over.ends.served ∙ g.passes.served;
+      within = (over.kept g.passes.kept).within (over.clear over.ends.goes);
+    }
 
-  -- or at a fault
-  pub fed_up_to : ((state : State) (line : TextLine) (kind : Kind) → old.format.says state line ≡ Err kind → Kinds kind)
-      → (new : MemberReader S A State) (fault : FaultValue) → IsStopped device now fault new → Sorted (member_items past) → UpTo fault new grown
-  unfolding taken
-  fed_up_to of_format new fault stopped sorted =
-      let stops = passes_stop device old past now g.passes Kinds of_format new fault stopped in
-      record {
-        past = past;
-        took = taken new stopped.answers.stays.bytes sorted (read_at_stop device old past now g.passes new fault stopped);
-        begins = begins_with (good_coming device.left old) (good_coming device.left now) past g.passes.come;
-        cause = inl (record { cause = stops.cause; puts = g.put.puts; works = g.put.works });
-        exact = λ other. g.put.puts;
-      }
+    -- or at a fault
+    pub fed_up_to : {fault : FaultValue} → ((state : State) (line : TextLine) (kind : Kind) → old.format.says state line ≡ Err kind → Kinds kind) → IsStopped device now fault new → Sorted (member_items past)
+        → FeedsUpTo settled Kinds Sorted device old out fault new grown
+    unfolding taken
+    fed_up_to {fault} of_format stopped sorted =
+        let stops = passes_stop device old past now g.passes Kinds of_format new fault stopped in
+        record {
+          past = past;
+          took = taken stopped.answers.stays.bytes sorted (read_at_stop device old past now g.passes new fault stopped);
+          begins = begins_with (good_coming device.left old) (good_coming device.left now) past g.passes.come;
+          cause = inl (record { cause = stops.cause; puts = g.put.puts; works = g.put.works });
+          exact = λ other. g.put.puts;
+        }
 
 -- members were taken, what those before the last one settle was written, and the last one failed
-module _ {S A State : Type 0} (settled : List A → List ℕ) (Kinds : Kind → Type 0) (Sorted : List A → Type 0) (device : Source S) (old : MemberReader S A State) (out : Output)
-    (before given : List (Member A)) (a : A) (items : member_items given ≡ member_items before ++ a ∷ []) (new : MemberReader S A State) (passes : Passes device old given new) (read : IsReadFor device old before given new)
-    (through : Output) (put : HasPut out (settled (member_items before)) through)
-    (sorted : Sorted (member_items before ++ a ∷ [])) where
-  begins_given : IfSome (good_coming device.left old) (λ good. (rest : List (Member A)) × (good.members ≡ given ++ rest))
-  begins_given = begins_with (good_coming device.left old) (good_coming device.left new) given passes.come
-
+module _ {S A State : Type 0} {settled : List A → List ℕ} {Kinds : Kind → Type 0} {Sorted : List A → Type 0} {device : Source S} {old : MemberReader S A State} {out : Output}
+    {before given : List (Member A)} (a : A) (items : member_items given ≡ member_items before ++ a ∷ []) {new : MemberReader S A State} (passes : Passes device old given new) (read : IsReadFor device old before given new)
+    {through : Output} (put : HasPut out (settled (member_items before)) through) (sorted : Sorted (member_items before ++ a ∷ [])) {fault : FaultValue} {later : Output} (lines : List ℕ)
+    (more : settled (member_items before ++ a ∷ []) ≡ settled (member_items before) ++ lines) where
   -- what is settled with it couldn't be written
-  pub fails_writing : (fault : FaultValue) (later : Output) (lines : List ℕ) → settled (member_items before ++ a ∷ []) ≡ settled (member_items before) ++ lines → fault ≡ write_failed
-      → IsPrefixOf later.took through.put lines → later.has_failed ≡ true → later.sink_has_failed ≡ true → Grows through.took later.took → FeedsUpTo settled Kinds Sorted device old out fault new later
-  fails_writing fault later lines more is front fails sink grows = record {
+  pub fails_writing : fault ≡ write_failed → IsPrefixOf later.took through.put lines → later.has_failed ≡ true → later.sink_has_failed ≡ true → Grows through.took later.took
+      → FeedsUpTo settled Kinds Sorted device old out fault new later
+  fails_writing is front fails sink grows = record {
     past = given;
     took = record {
       bytes = passes.bytes;
@@ -224,7 +217,7 @@ module _ {S A State : Type 0} (settled : List A → List ℕ) (Kinds : Kind → 
       read = read_alone read;
       kept = took_later out through later (settled (member_items before)) put.grows (goes_failed through later grows fails) (took_lines out through (settled (member_items before)) put);
     };
-    begins = begins_given;
+    begins = begins_with (good_coming device.left old) (good_coming device.left new) given passes.come;
     cause = inr (record {
       is = is;
       cuts = record {
@@ -238,9 +231,8 @@ module _ {S A State : Type 0} (settled : List A → List ℕ) (Kinds : Kind → 
   }
 
   -- what is settled with it was put, but memory ran out with it
-  pub fails_growing : (fault : FaultValue) (later : Output) (lines : List ℕ) → settled (member_items before ++ a ∷ []) ≡ settled (member_items before) ++ lines → fault ≡ no_memory
-      → Appends through.put later.put lines → WorksAsBefore through later → Grows through.took later.took → FeedsUpTo settled Kinds Sorted device old out fault new later
-  fails_growing fault later lines more is appends works grows =
+  pub fails_growing : fault ≡ no_memory → Appends through.put later.put lines → WorksAsBefore through later → Grows through.took later.took → FeedsUpTo settled Kinds Sorted device old out fault new later
+  fails_growing is appends works grows =
       let now : HasPut out (settled (member_items given)) later = record {
         puts = λ bytes e. text_grows through.put later.put bytes (settled (member_items before)) lines (settled (member_items given)) (ap settled items ∙ more) appends (put.puts bytes e);
         works = works_both out through later put.works works;
@@ -257,12 +249,8 @@ module _ {S A State : Type 0} (settled : List A → List ℕ) (Kinds : Kind → 
           read = read_here device old given new passes;
           kept = took_lines out later (settled (member_items given)) now;
         };
-        begins = begins_given;
-        cause = inl (record {
-          cause = inr (record { is = is; served = passes.served });
-          puts = now.puts;
-          works = now.works;
-        });
+        begins = begins_with (good_coming device.left old) (good_coming device.left new) given passes.come;
+        cause = inl (record { cause = inr (record { is = is; served = passes.served }); puts = now.puts; works = now.works });
         exact = λ other. now.puts;
       }
 
@@ -345,7 +333,7 @@ module _ {S O E : Type 0} {ghosts : Ghosts O} {definition : EngineDef E} {first 
     pub going_fill : (new : Records S O ghosts) → IsFilled device (view_of now) (view_of new) → order_in new ≡ order_in now → Going definition first device old out new engine grown
     going_fill new fills same = record {
       past = g.past;
-      fed = fed_fill (definition.settled first) (IsBedKind (order_in old)) (AreInOrder (order_in old)) device (view_of old) out g.past (view_of now) grown g.fed (view_of new) fills;
+      fed = fed_fill g.fed fills;
       order = same ∙ g.order;
       stands = g.stands;
     }
@@ -354,15 +342,14 @@ module _ {S O E : Type 0} {ghosts : Ghosts O} {definition : EngineDef E} {first 
     pub feeds_all : (new : Records S O ghosts) → IsOver device (view_of now) (view_of new)
         → FeedsAll (definition.settled first) (IsBedKind (order_in old)) (AreInOrder (order_in old)) device (λ past. definition.is_after first past engine) (view_of old) out (view_of new) grown
     feeds_all new over =
-        fed_all (definition.settled first) (IsBedKind (order_in old)) (AreInOrder (order_in old)) device (view_of old) out g.past (view_of now) grown g.fed (λ past. definition.is_after first past engine) (view_of new) over
-        (in_order g.past (view_of now) g.fed.passes) g.stands
+        fed_all g.fed over (in_order g.past (view_of now) g.fed.passes) g.stands
 
     -- the reader reported a fault
     pub stops_reading : (new : Records S O ghosts) (fault : FaultValue) → IsStopped device (view_of now) fault (view_of new) → StopsUpTo fault new grown
     stops_reading new fault stopped =
-        fed_up_to (definition.settled first) (IsBedKind (order_in old)) (AreInOrder (order_in old)) device (view_of old) out g.past (view_of now) grown g.fed
+        fed_up_to g.fed
         (λ state line kind says. wrong_of_bed (order_in old) state line.text kind (ap (λ (f : Format Feature (Option Locus)). f.says state line) (sym is_bed) ∙ says))
-        (view_of new) fault stopped (in_order g.past (view_of now) g.fed.passes)
+        stopped (in_order g.past (view_of now) g.fed.passes)
 
     at_now : EngineAt definition first out (member_items g.past) engine grown
     at_now = record { stands = g.stands; put = g.fed.put }
@@ -425,12 +412,10 @@ module _ {S O E : Type 0} {ghosts : Ghosts O} {definition : EngineDef E} {first 
       not_taken may going grows (inl again) = absurd (let apart : None ≡ Some (fault_value fault) = sym going ∙ again.is in cc)
       not_taken may going grows (inr (inl fails)) =
           let cuts = fails.cuts first (member_items before) at_mid.stands may in
-          fails_writing (definition.settled first) (IsBedKind (order_in old)) (AreInOrder (order_in old)) device (view_of old) out before given f.r given_items (view_of new) passes read
-          f.through at_mid.put sorted_given (fault_value fault) later cuts.bytes cuts.goes_on fails.is cuts.front fails.failed fails.sink_failed grows
+          fails_writing f.r given_items passes read at_mid.put sorted_given cuts.bytes cuts.goes_on fails.is cuts.front fails.failed fails.sink_failed grows
       not_taken may going grows (inr (inr out_of)) =
           let puts = out_of.puts first (member_items before) at_mid.stands may in
-          fails_growing (definition.settled first) (IsBedKind (order_in old)) (AreInOrder (order_in old)) device (view_of old) out before given f.r given_items (view_of new) passes read
-          f.through at_mid.put sorted_given (fault_value fault) later puts.bytes puts.goes_on out_of.is puts.appends out_of.works grows
+          fails_growing f.r given_items passes read at_mid.put sorted_given puts.bytes puts.goes_on out_of.is puts.appends out_of.works grows
 
       pub stops_feeding : StopsUpTo (fault_value fault) new later
       stops_feeding =
