@@ -1,8 +1,8 @@
 -- Lemmas on engines and their rules.
-use Rattle.bt_lines.proofs.Std.{◌≡◌, ℕ, List, Option, None, Some, Result, Ok, Err, IfErr, sym, ap, ◌∙◌, inl, inr, MatchResult, [], ◌++◌, subst, append-nil, append_cancel_left, ◌∷◌, refl, option_map, true, IsOk}
+use Rattle.bt_lines.proofs.Std.{◌≡◌, ℕ, List, Option, None, Some, Result, Ok, Err, IfErr, sym, ap, ◌∙◌, inl, inr, MatchResult, [], ◌++◌, append-nil, append_cancel_left, ◌∷◌, refl, option_map, true, IsOk}
 use Rattle.bt_lines.specs.model.Fault.{FaultValue, no_memory, write_failed}
 use Rattle.bt_lines.specs.calls.Names.{fault_value}
-use Rattle.bt_lines.specs.calls.Output.{Output, FailsToAdd, Grown, Grows, PutsRest}
+use Rattle.bt_lines.specs.calls.Output.{Output, FailsToAdd, Grown, Grows}
 use Rattle.bt_lines.specs.declared.fault.Fault.{Fault}
 use Rattle.bt_bed.specs.model.Feature.{Feature}
 use Rattle.bt_runs.specs.calls.Engine.{EngineDef, FailsAtGiven, KeepsFault, PutsSettled, TakesGiven, WritesFirst, WritesLeft, WritesLeftPrefix, WritesPrefix, WritesSettled, Feeds, Finishes, IsWanted, FeedAnswers, FeedsBatch, TakesEach, fault_of, ruled, ruled_fault}
@@ -322,7 +322,8 @@ first_of_one r x (y ∷ z ∷ xs) more e = absurd (cc)
 
 module _ {E : Type 0} (engine : EngineDef E) (old : E) (r : Feature) (out : Output) (one passed : Single) where
   -- it failed at the only one
-  at_first : single_left one ≡ r ∷ [] → {fault : Fault} {new : E} {grown : Output} → (p : FailsAtGiven engine single_cursor old one out fault new passed grown) → (p.r ≡ r) × (p.mid ≡ old) × (p.through ≡ out)
+  at_first : single_left one ≡ r ∷ [] → {fault : Fault} {new : E} {grown : Output}
+      → (p : FailsAtGiven engine single_cursor old one out fault new passed grown) → (p.r ≡ r) × (p.mid ≡ old) × (p.through ≡ out)
   at_first is p =
       let at = first_of_one r p.r p.takes.records (single_left passed) (sym is ∙ p.takes.given.left ∙ ap (λ l. p.takes.records ++ l) p.given.left) in
       let none = rw at.0 at p.takes.taken in
@@ -331,7 +332,8 @@ module _ {E : Type 0} (engine : EngineDef E) (old : E) (r : Feature) (out : Outp
   one_taken : {new : E} {grown : Output} → TakesEach engine old out (r ∷ []) new grown → Feeds engine old r out {A = Unit {0}} (Ok tt) new grown
   one_taken t = rw (t.3.0, t.3.1) t.2
 
-  pub single_fed : (result : Result (Unit {0}) Fault) (new : E) (grown : Output) → single_left one ≡ r ∷ [] → FeedsBatch engine single_cursor old one out result new passed grown → Feeds engine old r out result new grown
+  pub single_fed : (result : Result (Unit {0}) Fault) (new : E) (grown : Output) → single_left one ≡ r ∷ [] → FeedsBatch engine single_cursor old one out result new passed grown
+      → Feeds engine old r out result new grown
   single_fed (Ok done) new grown is f =
       let only : f.0.records ≡ r ∷ [] = sym (append-nil f.0.records) ∙ ap (λ l. f.0.records ++ l) (sym f.1.none) ∙ sym f.0.given.left ∙ is in
       one_taken (rw only at f.0.taken)
@@ -345,7 +347,8 @@ module _ {E : Type 0} (engine : EngineDef E) (old : E) (r : Feature) (out : Outp
   single_fed (Err answer) new grown is (inr p) = let at = at_first is p in rw (← at.0, ← at.1, ← at.2) p.fails
 
   -- if memory ran out, it was for that record
-  pub single_wants : (result : Result (Unit {0}) Fault) (new : E) (grown : Output) → single_left one ≡ r ∷ [] → FeedsBatch engine single_cursor old one out result new passed grown → IsWanted engine old r result
+  pub single_wants : (result : Result (Unit {0}) Fault) (new : E) (grown : Output) → single_left one ≡ r ∷ [] → FeedsBatch engine single_cursor old one out result new passed grown
+      → IsWanted engine old r result
   single_wants (Ok done) new grown is f = tt
   single_wants (Err answer) new grown is (inl p) = λ memory going. let some = p.is in absurd (cc)
   single_wants (Err answer) new grown is (inr p) = λ memory going. let at = at_first is p in rw (← at.0, ← at.1) (p.memory memory)

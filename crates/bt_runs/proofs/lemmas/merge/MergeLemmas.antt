@@ -1,8 +1,6 @@
 -- What the calls of a merge do is what those of the engine inside it do, of whichever of the two kinds it is.
-use Rattle.bt_lines.proofs.Std.{◌≡◌, ℕ, inl, inr, List, [], ◌∷◌, ◌++◌, ap, refl, sym, subst, Result, Ok, Err, IsOk}
-use Rattle.bt_lines.specs.model.Fault.{FaultValue}
-use Rattle.bt_lines.specs.calls.Names.{fault_value}
-use Rattle.bt_lines.specs.calls.Output.{Output, CutsRest, PutsRest}
+use Rattle.bt_lines.proofs.Std.{◌≡◌, ℕ, inl, inr, List, [], ◌∷◌, ◌++◌, ap, refl, sym, subst, Result, Ok, Err}
+use Rattle.bt_lines.specs.calls.Output.{Output}
 use Rattle.bt_lines.specs.declared.fault.Fault.{Fault}
 use Rattle.bt_bed.specs.model.Feature.{Feature}
 use Rattle.bt_runs.specs.calls.Engine.{EngineDef, FeedAnswers, Feeds, FeedsBatch, FinishAnswers, Finishes, TakesEach, TakesGiven}

@@ -32,11 +32,10 @@ returns-in-Err g c =
     let order = g.O.ChromOrder.order c.args.order.now in
     let written : Written Feature = record { whole = g.E.Engine.definition.output c.args.engine; settled = g.E.Engine.definition.settled c.args.engine } in
     let starts = begins_over g.A.Source c.new-reader.result (view_of c.new-records.result) records.below reader.none_taken.0 reader.none_fed (bed_format (sorting_of order)) First c.args.first reader.source reader.input reader.going.0 reader.lines records.good in
+    let sorted = records_sorted (g.E.Engine.definition.takes c.args.engine) order (g.met.O.ChromOrder.total c.args.order.now) c.requires.takes in
     let ended = sym (c.into_source-first.ensures ∙ ap source_of c.into_reader.ensures) in
     record {
-      written = rw records.order at (drives_fault written (IsBedKind (order_in c.new-records.result)) (AreInOrder (order_in c.new-records.result)) (g.E.Engine.definition.takes c.args.engine) c.requires.stays c.requires.begins g.A.Source (bed_format (sorting_of order))
-          (records_sorted (g.E.Engine.definition.takes c.args.engine) order (g.met.O.ChromOrder.total c.args.order.now) c.requires.takes) (view_of c.new-records.result) c.args.first c.args.out.now.output starts (view_of c.feed_all-fed.new.records) c.into_source-first.result ended
-          (fault_value c.in-Err.fault) c.feed_all-fed.new.out.output c.in-Err.ensures.feeds);
+      written = rw records.order at (drives_fault written _ _ (g.E.Engine.definition.takes c.args.engine) c.requires.stays c.requires.begins _ _ sorted _ _ _ starts _ _ ended _ _ c.in-Err.ensures.feeds);
       reads = λ never. (
         served_of g.A.Source.is_read c.args.first c.into_source-first.result (below c.new-records.result) (below c.feed_all-fed.new.records)
             (ap source_of records.below ∙ reader.source) ended (c.in-Err.ensures.reads never),
@@ -53,15 +52,15 @@ returns-in-Err-finish g c =
     let order = g.O.ChromOrder.order c.args.order.now in
     let written : Written Feature = record { whole = g.E.Engine.definition.output c.args.engine; settled = g.E.Engine.definition.settled c.args.engine } in
     let starts = begins_over g.A.Source c.new-reader.result (view_of c.new-records.result) records.below reader.none_taken.0 reader.none_fed (bed_format (sorting_of order)) First c.args.first reader.source reader.input reader.going.0 reader.lines records.good in
+    let sorted = records_sorted (g.E.Engine.definition.takes c.args.engine) order (g.met.O.ChromOrder.total c.args.order.now) c.requires.takes in
     let ended = sym (c.into_source-first.ensures ∙ ap source_of c.into_reader.ensures) in
     let fed = c.in_default.ensures.feeds in
     let takes = c.requires.takes (member_items fed.past) (subst (λ o. ArePlaced o (intervals_of (member_items fed.past))) records.order fed.took.sorted.0) fed.took.sorted.1 in
     let said = finishes_prefix _ c.in-Err-finish.ensures (c.in-Err-finish.ensures.going _ _ fed.stands) in
     let cuts = said.cuts _ _ fed.stands takes in
     record {
-      written = rw records.order at (drives_cut written (IsBedKind (order_in c.new-records.result)) (AreInOrder (order_in c.new-records.result)) (g.E.Engine.definition.takes c.args.engine) c.requires.stays c.requires.begins g.A.Source (bed_format (sorting_of order))
-          (records_sorted (g.E.Engine.definition.takes c.args.engine) order (g.met.O.ChromOrder.total c.args.order.now) c.requires.takes) (view_of c.new-records.result) c.args.first c.args.out.now.output starts (view_of c.feed_all-fed.new.records) c.into_source-first.result ended
-          (λ past. g.E.Engine.definition.is_after c.args.engine past c.feed_all-fed.new.engine) c.feed_all-fed.new.out.output fed c.finish.new.out.output (goes_failed c.feed_all-fed.new.out.output c.finish.new.out.output c.in-Err-finish.ensures.grows said.failed)
+      written = rw records.order at (drives_cut written _ _ (g.E.Engine.definition.takes c.args.engine) c.requires.stays c.requires.begins _ _ sorted _ _ _ starts _ _ ended
+          _ _ fed _ (goes_failed c.feed_all-fed.new.out.output c.finish.new.out.output c.in-Err-finish.ensures.grows said.failed)
           (fault_value c.in-Err-finish.fault) said.is cuts.bytes cuts.goes_on cuts.front said.sink_failed);
       reads = λ never. (
         served_of g.A.Source.is_read c.args.first c.into_source-first.result (below c.new-records.result) (below c.feed_all-fed.new.records)
@@ -78,14 +77,14 @@ returns g c =
     let order = g.O.ChromOrder.order c.args.order.now in
     let written : Written Feature = record { whole = g.E.Engine.definition.output c.args.engine; settled = g.E.Engine.definition.settled c.args.engine } in
     let starts = begins_over g.A.Source c.new-reader.result (view_of c.new-records.result) records.below reader.none_taken.0 reader.none_fed (bed_format (sorting_of order)) First c.args.first reader.source reader.input reader.going.0 reader.lines records.good in
+    let sorted = records_sorted (g.E.Engine.definition.takes c.args.engine) order (g.met.O.ChromOrder.total c.args.order.now) c.requires.takes in
     let ended = sym (c.into_source-first.ensures ∙ ap source_of c.into_reader.ensures) in
     let fed = c.in_default.ensures.feeds in
     let takes = c.requires.takes (member_items fed.past) (subst (λ o. ArePlaced o (intervals_of (member_items fed.past))) records.order fed.took.sorted.0) fed.took.sorted.1 in
     let puts = c.in_default-finish.ensures.answers.puts _ _ fed.stands takes in
     record {
-      written = rw records.order at (drives_all written (IsBedKind (order_in c.new-records.result)) (AreInOrder (order_in c.new-records.result)) (g.E.Engine.definition.takes c.args.engine) c.requires.stays c.requires.begins g.A.Source (bed_format (sorting_of order))
-          (records_sorted (g.E.Engine.definition.takes c.args.engine) order (g.met.O.ChromOrder.total c.args.order.now) c.requires.takes) (view_of c.new-records.result) c.args.first c.args.out.now.output starts (view_of c.feed_all-fed.new.records) c.into_source-first.result ended
-          (λ past. g.E.Engine.definition.is_after c.args.engine past c.feed_all-fed.new.engine) c.feed_all-fed.new.out.output fed c.finish.new.out.output (goes_works _ _ c.in_default-finish.ensures.grows c.in_default-finish.ensures.answers.works)
+      written = rw records.order at (drives_all written _ _ (g.E.Engine.definition.takes c.args.engine) c.requires.stays c.requires.begins _ _ sorted _ _ _ starts _ _ ended
+          _ _ fed _ (goes_works _ _ c.in_default-finish.ensures.grows c.in_default-finish.ensures.answers.works)
           puts.bytes puts.goes_on puts.appends
           (c.in_default-finish.ensures.answers.works.sink_served));
       reads = λ never. (

@@ -1,5 +1,4 @@
-use Rattle.bt_lines.proofs.Std.{◌≡◌, ap, sym, ◌∙◌, Some}
-use Rattle.bt_lines.specs.calls.Names.{fault_value}
+use Rattle.bt_lines.proofs.Std.{ap, sym, Some}
 use Rattle.bt_runs.proofs.lemmas.Engine.{batch_fed, keeps_none}
 use Rattle.bt_runs.proofs.engine.rule.Ruled.feed_batch.Goals as goal
 
