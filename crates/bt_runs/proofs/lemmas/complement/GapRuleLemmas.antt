@@ -211,7 +211,7 @@ module _ (limit : Bool) (entries : List Entry) where
   held_kept past (Some place) distinct (before, key, after, s, rank) =
       let is = rank_entry entries before key after place.rank s.stand.split rank in
       let here : shown_place entries (Some place) ≡ record { chrom = s.last.chrom; start = place.known } ∷ [] = rw (is, s.stand.is) refl in
-      let sides = apart name_at before key after (subst (λ (l : List Entry). AreDistinct (genome_names l)) s.stand.split distinct) in
+      let sides = apart name_at before key after (rw (← s.stand.split) distinct) in
       let size : length_in entries s.last.chrom ≡ key.length = rw (s.stand.split, ← s.stand.is) (size_there before key after key.name refl sides.none_before) in
       let kept : kept_place entries past ≡ record { chrom = s.last.chrom; start = place.known } ∷ [] = rw (s.stand.last_is, size, ← s.stand.is, ← s.at.one.kept_is) refl in
       here ∙ sym kept
@@ -221,7 +221,7 @@ module _ (limit : Bool) (entries : List Entry) where
   held_is past current t at same =
       let other = reaches (gaps limit entries) Own entries (owes limit entries) (written limit entries) past t in
       let kept = held_kept past other.0 t.distinct other.1 in
-      subst (λ (o : Option (Place ℕ)). Held (gaps limit entries) Own entries past o) (sym (same_reached entries current other.0 at other.2 (same ∙ sym kept))) other.1
+      rw (same_reached entries current other.0 at other.2 (same ∙ sym kept)) other.1
 
   -- so one more record moves it as its walk does, and at the end its walk's rest is left
   pub moves : (past : List Feature) (r : Feature) (current : Option (Place ℕ)) → AreTaken entries (past ++ r ∷ []) → AreReached entries current → shown_place entries current ≡ kept_place entries past → Steps (gaps limit entries) Own entries past r current

@@ -185,7 +185,7 @@ module _ (zeros : Bool) (strand : Option Strand) (entries : List Entry) where
       let is = rank_entry entries before key after place.rank s.stand.split rank in
       let last = s.last in
       let spans = counted_on strand key.name past in
-      let sides = apart name_at before key after (subst (λ (l : List Entry). AreDistinct (genome_names l)) s.stand.split distinct) in
+      let sides = apart name_at before key after (rw (← s.stand.split) distinct) in
       let size : length_in entries last.chrom ≡ key.length = rw (s.stand.split, ← s.stand.is) (size_there before key after key.name refl sides.none_before) in
       let known : place.known ≡ known_at zeros key.length spans last.start = s.at.known_is in
       record {
@@ -223,7 +223,7 @@ module _ (zeros : Bool) (strand : Option Strand) (entries : List Entry) where
       let other = reached zeros strand entries past t in
       let k = keeps zeros strand entries past other.0 t.distinct other.1 in
       let one = same_seen entries current other.0 at other.2 (p ∙ sym k.place) (g ∙ sym k.begun) (h ∙ sym k.held) in
-      subst (λ (o : Option (Place Known)). Reaches zeros strand entries past o) (sym one) other.1
+      rw one other.1
 
 -- entering a chromosome
 abbrev pub Enters : Covering → List ℕ → Output → Result (Unit {0}) Fault → Covering → Output → Type 0
@@ -267,7 +267,7 @@ module _ (old : Covering) where
           place = rw s.same_entries (ap₂ (places (λ known. known.to)) c.same_entries c.current ∙ k.place);
           begun = rw (s.same_entries, s.same_zeros, s.same_strand) (ap begun_of c.current ∙ k.begun);
           kept = rw (s.same_entries, s.same_strand) (ap held_of c.current ∙ k.held);
-          reached = subst (λ (e : List Entry). AreReached e new.current) (sym c.same_entries) (c.at stands.reached);
+          reached = rw c.same_entries (c.at stands.reached);
         };
     quiet = λ first past stands taken q. absurd q;
   }
@@ -370,7 +370,7 @@ module _ (old : Covering) (place : Place Known) (reached : old.current ≡ Some 
 
   to_keep : (counted ≡ true) × (bounds.start < size) → wants_memory old r
   to_keep is =
-      let here = subst (λ (o : Option (Place Known)). is_on old.entries o r.chrom ≡ true) reached on in
+      let here = rw reached at on in
       let ranked : rank_of (genome_names old.entries) r.chrom ≡ Some place.rank = ap (rank_of (genome_names old.entries)) (sym (same_name (entry_at old.entries place.rank).name r.chrom here)) ∙ placed.named in
       (counts ∙ is.0, rw (starts, size_ranked old.entries r.chrom place.rank ranked, sized) is.1)
 

@@ -153,12 +153,12 @@ module _ (ends : List ℕ) (spans : List Span) (counts : (test : ℕ → Bool) �
   pub ends_left : (position : ℕ) → All (λ e. position ≤ e) ends → All (λ s. position ≤ s.stop) spans
   ends_left position all =
       let same : length spans ≡ length (still_open position spans) = sym as_many ∙ ap length (sym (all_from (λ e. e) position ends all)) ∙ counts (λ e. nat_le position e) in
-      subst (λ (l : List Span). All (λ s. position ≤ s.stop) l) (all_stay position spans (omega arith)) (all_open position spans)
+      rw (← (all_stay position spans (omega arith))) (all_open position spans)
 
   pub left_ends : (position : ℕ) → All (λ s. position ≤ s.stop) spans → All (λ e. position ≤ e) ends
   left_ends position all =
       let same : length ends ≡ length (filter (λ e. nat_le position e) ends) = as_many ∙ ap length (sym (all_from (λ (s : Span). s.stop) position spans all)) ∙ sym (counts (λ e. nat_le position e)) in
-      subst (λ (l : List ℕ). All (λ e. position ≤ e) l) (filter_full (λ e. nat_le position e) ends (omega arith)) (from_all (λ e. e) position ends)
+      rw (← (filter_full (λ e. nat_le position e) ends (omega arith))) (from_all (λ e. e) position ends)
 
 -- an order of the ends doesn't matter
 pub same_count : (test : ℕ → Bool) (xs ys : List ℕ) → IsPermutation xs ys → length (filter test ys) ≡ length (filter test xs)
@@ -231,14 +231,14 @@ pub top_in : (at : ℕ) (xs : List (Reverse ℕ)) (x : Reverse ℕ) → 0 < leng
 top_in at [] x some is all = absurd (omega arith)
 top_in at (y ∷ ys) x some is all =
     let mine : at ≤ y.0 = All-head (λ e. at ≤ e) y.0 (ends_of ys) all in
-    subst (λ (e : Reverse ℕ). at ≤ e.0) (sym is) mine
+    rw is mine
 
 -- whether it lies before a position
 pub top_before : (position : ℕ) (xs : List (Reverse ℕ)) (x : Reverse ℕ) → 0 < length xs → x ≡ slice_index_or xs 0 x → IsUpperBound (λ x y. nat_cmp y.0 x.0) x xs
     → MatchBool (nat_lt x.0 position) (StartsBelow position (ends_of xs)) (All (λ e. position ≤ e) (ends_of xs))
 top_before position [] x some is h = absurd (omega arith)
 top_before position (y ∷ ys) x some is h = elim (cases_lt x.0 position) [
-  | inl l ↦ rw (lt-ltb x.0 position l) (subst (λ (e : Reverse ℕ). e.0 < position) is l)
+  | inl l ↦ rw (lt-ltb x.0 position l) (rw (← is) l)
   | inr l ↦ rw (le-ltb x.0 position l) (All-weaker (λ e. x.0 ≤ e) (λ e. position ≤ e) (λ e low. omega arith) (ends_of (y ∷ ys)) (top_least (y ∷ ys) x h))
 ]
 
@@ -249,7 +249,7 @@ some_before position (y ∷ ys) below = omega arith
 -- the top is taken out where it lies before the position
 top_below : (position : ℕ) (xs : List (Reverse ℕ)) (x : Reverse ℕ) → StartsBelow position (ends_of xs) → x ≡ slice_index_or xs 0 x → x.0 < position
 top_below position [] x below is = absurd below
-top_below position (y ∷ ys) x below is = subst (λ (e : Reverse ℕ). e.0 < position) (sym is) below
+top_below position (y ∷ ys) x below is = rw is below
 
 module _ (position : ℕ) (first : List ℕ) (old new : List (Reverse ℕ)) (below : StartsBelow position (ends_of old)) (order : IsLeastFirst old) (counts : CountsFrom position first (ends_of old)) where
   pub popped_order : (r : Option (Reverse ℕ)) → IsSome r → IfSome r (λ x. PopsGreatest (λ x y. nat_cmp y.0 x.0) old x new) → IsLeastFirst new
@@ -428,7 +428,7 @@ module _ (zeros : Bool) (size : ℕ) (spans : List Span) (start : ℕ) where
   pub left_end : StopIn start (size + 1) (levels_left zeros size (known_at zeros size spans start))
   left_end = elim (cases_lt size start) [
     | inl past ↦
-        rw (lt-ltb size start past) (subst (λ l. StopIn start (size + 1) l) (sym none_left) tt)
+        rw (lt-ltb size start past) (rw none_left tt)
     | inr within ↦
         let u = depth_of zeros (open_at size start spans) in
         let begun = begun_after (depth_of zeros spans) 0 start None in

@@ -124,7 +124,7 @@ module _ {K : Type 0} (name : K → List ℕ) where
   apart [] e after d = record { none_before = refl; none_after = d.0 }
   apart (b ∷ bs) e after d =
       let rest = apart bs e after d.1 in
-      let off : is_among (map name bs ++ name e ∷ map name after) (name b) ≡ false = subst (λ (l : List (List ℕ)). is_among l (name b) ≡ false) (map-append name bs (e ∷ after)) d.0 in
+      let off : is_among (map name bs ++ name e ∷ map name after) (name b) ≡ false = rw (← (map-append name bs (e ∷ after))) d.0 in
       let behind = (among_both (map name bs) (name e ∷ map name after) (name b) off).1 in
       let other = (or_parts (bytes_eq (name e) (name b)) (is_among (map name after) (name b)) behind).0 in
       record {
@@ -151,7 +151,7 @@ module _ {K : Type 0} (name : K → List ℕ) where
   -- those before a chromosome are less, and those after it greater
   module _ (keys : List K) (distinct : AreDistinct (map name keys)) (other : List ℕ) (n : ℕ) (ranked : rank_of (map name keys) other ≡ Some n) where
     rank_in : (front : List K) (e : K) (rest : List K) → keys ≡ front ++ e ∷ rest → rank_of (map name keys) (name e) ≡ Some (length front)
-    rank_in front e rest split = rw split (rank_at front e rest (subst (λ (l : List K). AreDistinct (map name l)) split distinct))
+    rank_in front e rest split = rw split (rank_at front e rest (rw (← split) distinct))
 
     next_split : (front : List K) (e : K) (es rest : List K) → keys ≡ front ++ (e ∷ es ++ rest) → keys ≡ (front ++ e ∷ []) ++ (es ++ rest)
     next_split front e es rest split = split ∙ sym (append_assoc front (e ∷ []) (es ++ rest))
@@ -245,7 +245,7 @@ module _ {K : Type 0} (name : K → List ℕ) where
       pub elsewhere_of : (records : List Interval) (r : Interval) (before : List K) (key : K) (after : List K) → Arrives records r before key after
           → (is_among (map name before) r.chrom ≡ false) × (is_among (map name after) r.chrom ≡ false)
       elsewhere_of records r before key after a =
-          let sides = apart name before key after (subst (λ (l : List K). AreDistinct (map name l)) a.split distinct) in
+          let sides = apart name before key after (rw (← a.split) distinct) in
           rw (← a.is) (sides.none_before, sides.none_after)
 
       pub stand_at : (records : List Interval) (r : Interval) (before : List K) (key : K) (after : List K) → Arrives records r before key after → Stand (records ++ r ∷ []) r before key after
@@ -258,14 +258,14 @@ module _ {K : Type 0} (name : K → List ℕ) where
       }
 
       pub last_rank : (records : List Interval) (last : Interval) (before : List K) (key : K) (after : List K) → Stand records last before key after → rank_of (map name keys) last.chrom ≡ Some (length before)
-      last_rank records last before key after s = rw (← s.is, s.split) (rank_at name before key after (subst (λ (l : List K). AreDistinct (map name l)) s.split distinct))
+      last_rank records last before key after s = rw (← s.is, s.split) (rank_at name before key after (rw (← s.split) distinct))
 
       -- a chromosome of a higher rank than the last record's lies after it
       further : (records : List Interval) (r : Interval) (before : List K) (key : K) (after : List K) (rank : ℕ) → keys ≡ before ++ key ∷ after → NoneOn records after → (name key ≡ r.chrom → ⊥) → rank_of (map name keys) r.chrom ≡ Some rank → length before < rank
           → Found name keys r.chrom rank → GoesTo records r before key after
       further records r before key after rank split none_after other known higher f =
           let between = later before key after f.before f.key f.after (sym split ∙ f.split) (let a = f.at in omega arith) in
-          let none = none_parts records between.middle (f.key ∷ f.after) (subst (λ (l : List K). NoneOn records l) {y = between.middle ++ f.key ∷ f.after} between.rest none_after) in
+          let none = none_parts records between.middle (f.key ∷ f.after) (rw (← between.rest) none_after) in
           record {
             middle = between.middle;
             next = f.key;

@@ -169,10 +169,10 @@ module _ (old : Stranding) (r : Feature) (out : Output) (runs : List PendingRun)
 
   takes_with : (new : Stranding) (grown : Output) → new.gap ≡ old.gap → new.chrom ≡ old.chrom → with_added old.gap (placed_runs old.chrom left) r ≡ new.kept
       → Grown out (strand_lines (placed_runs old.chrom (passed_runs true near runs))) grown → TakesNext old r out (Ok tt) new grown
-  takes_with new grown gap chrom kept puts = (record { gap = gap; chrom = chrom ∙ on; kept = sym (kept_is_with new.kept kept) }, subst (λ l. Grown out l grown) lines_is puts)
+  takes_with new grown gap chrom kept puts = (record { gap = gap; chrom = chrom ∙ on; kept = sym (kept_is_with new.kept kept) }, rw (← lines_is) puts)
 
   fails_with : (fault : Fault) (new : Stranding) (grown : Output) → FailsToAdd out (strand_lines (placed_runs old.chrom (passed_runs true near runs))) (fault_value fault) grown → TakesNext old r out (Err fault) new grown
-  fails_with fault new grown p = inl (subst (λ l. FailsToAdd out l (fault_value fault) grown) lines_is p)
+  fails_with fault new grown p = inl (rw (← lines_is) p)
 
   -- among the runs that are left
   abbrev joined : Bool × List PendingRun
@@ -195,8 +195,8 @@ module _ (old : Stranding) (r : Feature) (out : Output) (runs : List PendingRun)
       p.1.1
 
   pub fails_among : (failure : Failure) (fault : Fault) (now : List PendingRun) (new : Stranding) (grown : Output) → fault_value fault ≡ fault_of failure → JoinsAmong old.chrom near runs (pending_from r) out (Err failure) now grown → TakesNext old r out (Err fault) new grown
-  fails_among Write fault now new grown is p = fails_with fault new grown (subst (λ t. FailsToAdd out (strand_lines (placed_runs old.chrom (passed_runs true near runs))) t grown) (sym is) p)
-  fails_among Memory fault now new grown is p = inr (is, (inl (rw behind_is (added.more p.0).1), subst (λ l. Grown out l grown) lines_is p.1))
+  fails_among Write fault now new grown is p = fails_with fault new grown (rw is p)
+  fails_among Memory fault now new grown is p = inr (is, (inl (rw behind_is (added.more p.0).1), rw (← lines_is) p.1))
 
 -- the only run couldn't be written
 pub fails_alone : (old : Stranding) (r : Feature) (out : Output) (w : PendingRun) → old.kept ≡ placed_run old.chrom w ∷ [] → old.chrom ≡ r.chrom → w.stop < r.start - old.gap
@@ -204,7 +204,7 @@ pub fails_alone : (old : Stranding) (r : Feature) (out : Output) (w : PendingRun
 fails_alone old r out w kept_is on far fault new grown p =
     let passed : passed_runs true (r.start - old.gap) (w ∷ []) ≡ w ∷ [] = take_goes (is_over true (r.start - old.gap)) w [] (over_so true (r.start - old.gap) w (inr far)) in
     fails_with old r out (w ∷ []) kept_is on fault new grown
-    (subst (λ (l : List PendingRun). FailsToAdd out (strand_lines (placed_runs old.chrom l)) (fault_value fault) grown) (sym passed) (adds_line {A = Unit {0}} (placed_run old.chrom w).run out grown (Err fault) p))
+    (rw passed (adds_line {A = Unit {0}} (placed_run old.chrom w).run out grown (Err fault) p))
 
 -- the kept runs, if one is in a local or none
 abbrev pub pending_in : OnlyRun → List PendingRun → List PendingRun

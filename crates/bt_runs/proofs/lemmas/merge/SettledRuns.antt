@@ -247,9 +247,9 @@ module _ (gap : ℕ) (strand : MergeStrand) where
         keys = names;
         owes = owes gap strand (map (λ name. name) names);
         distinct = subst AreDistinct same distinct;
-        in_order = subst (λ (ns : List (List ℕ)). InOrder ns all) same (record { placed = placed; full = t.full });
+        in_order = rw (← same) (record { placed = placed; full = t.full });
         written = λ past more is. written names past distinct
-            (placed_prefix (rank_order names) (intervals_of past) (intervals_of more) (subst (λ (l : List Interval). ArePlaced (rank_order names) l) (ap intervals_of (sym is) ∙ map-append interval_of past more) placed));
+            (placed_prefix (rank_order names) (intervals_of past) (intervals_of more) (rw (← (ap intervals_of (sym is) ∙ map-append interval_of past more)) placed));
       }
 
   -- what is settled begins what is settled later
@@ -342,7 +342,7 @@ module _ (gap : ℕ) (strand : MergeStrand) where
       let is = kept_is gap strand names distinct past b.before b.key b.after b.state s w in
       record {
         all = all_runs gap strand names distinct past b.before b.key b.after b.state s w ∙ ap (λ runs. settled_runs gap strand past ++ runs) (sym is);
-        few = subst (λ runs. length runs ≤ 1) (sym is) (few gap b.key _ s.last.start s.done b.state s.at);
+        few = rw is (few gap b.key _ s.last.start s.done b.state s.at);
       }
 
   pub whole_taken : (past : List Feature) → AreTaken past → Whole gap strand past

@@ -145,7 +145,7 @@ module _ (gap : ℕ) (past : List Feature) (r : Feature) (taken : AreTaken (past
       let last = ap last_of (intervals_next past r) ∙ last_of-push (intervals_of past) x in
       let is : settled_runs gap strand (past ++ r ∷ []) ≡ filter (is_closed gap x) (merged_runs gap strand (past ++ r ∷ [])) = ap (passed_by gap (merged_runs gap strand (past ++ r ∷ []))) last in
       each_front (IsPassed gap x) (settled_runs gap strand past) (settled_by gap (kept_runs gap strand past) x)
-      (subst (λ (runs : List Interval). Each (IsPassed gap x) runs) (sym is ∙ (next_taken gap strand past r taken).settles) (filter_passes (is_closed gap x) (merged_runs gap strand (past ++ r ∷ []))))
+      (rw (← (sym is ∙ (next_taken gap strand past r taken).settles)) (filter_passes (is_closed gap x) (merged_runs gap strand (past ++ r ∷ []))))
 
   all_one : merged_runs gap (One r.strand) past ≡ settled_runs gap (One r.strand) past ++ kept_runs gap (One r.strand) past
   all_one = (whole_taken gap (One r.strand) past (taken_front past (r ∷ []) taken)).all
@@ -367,7 +367,7 @@ module _ (gap : ℕ) (past : List Feature) (r : Feature) (taken : AreTaken (past
 
   -- what is so of each listed run is so of each run of a strand
   of_strand : (P : StrandRun → Type 0) → Each P (strand_runs gap past) → (strand : Strand) → Each P (runs_of_strand gap past strand)
-  of_strand P each strand = subst (λ (l : List StrandRun). Each P l) (listed.split strand) (each_filter P (λ item. is_strand item.strand strand) (strand_runs gap past) each)
+  of_strand P each strand = rw (← (listed.split strand)) (each_filter P (λ item. is_strand item.strand strand) (strand_runs gap past) each)
 
   -- the record changes nothing about where another lies
   record Stays (p : Feature) : Type 0 where
@@ -444,7 +444,7 @@ module _ (gap : ℕ) (past : List Feature) (r : Feature) (taken : AreTaken (past
   last_begun =
       let runs = runs_of_strand gap past r.strand in
       let each = each_both (λ item. is_strand item.strand r.strand ≡ true) (λ item. Some_of (λ p. Lies item p) past) runs
-      (subst (λ (l : List StrandRun). Each (λ item. is_strand item.strand r.strand ≡ true) l) (listed.split r.strand) (filter_passes (λ item. is_strand item.strand r.strand) (strand_runs gap past)))
+      (rw (← (listed.split r.strand)) (filter_passes (λ item. is_strand item.strand r.strand) (strand_runs gap past)))
       (of_strand (λ item. Some_of (λ p. Lies item p) past) listed.has r.strand) in
       let none = filter_drops begins (map (joined_to gap r) runs) (each_map (λ item. begins item ≡ false) (joined_to gap r) runs
       (each_weaker (λ item. (is_strand item.strand r.strand ≡ true) × Some_of (λ p. Lies item p) past) (λ item. begins (joined_to gap r item) ≡ false) (λ item e. begins_no_old item (same_strand item.strand r.strand e.0) e.1) runs each)) in
@@ -471,8 +471,8 @@ module _ (gap : ℕ) (past : List Feature) (r : Feature) (taken : AreTaken (past
   -- the new run, if there is one
   of_new : (P : StrandRun → Type 0) → (some_reached ≡ false → P (run_from r)) → Each P (new_run some_reached r)
   of_new P new = elim (cases_Bool some_reached) [
-    | inl t ↦ subst (λ b. Each P (new_run b r)) (sym t) tt
-    | inr f ↦ subst (λ b. Each P (new_run b r)) (sym f) (new f, tt)
+    | inl t ↦ rw t tt
+    | inr f ↦ rw f (new f, tt)
   ]
 
   next_lies : Each (λ p. Some_of (λ item. Lies item p) (strand_runs gap (past ++ r ∷ []))) (past ++ r ∷ [])
@@ -493,7 +493,7 @@ module _ (gap : ℕ) (past : List Feature) (r : Feature) (taken : AreTaken (past
             past (some_each (λ p. Lies item p) (λ p. p.chrom ≡ r.chrom → p.start ≤ r.start) (λ p. Lies item p × (p.chrom ≡ r.chrom → p.start ≤ r.start)) (λ p a b. (a, b)) past has up))
             old (any_some (reaches gap r) old t) listed.has))
         | inr f ↦ some_right (λ item. Lies item r) (map (joined_to gap r) old) (new_run some_reached r)
-            (subst (λ b. In r (new_run b r)) (sym f) (inl (record { same = refl; on = refl; from = omega arith; to = omega arith })))
+            (rw f (inl (record { same = refl; on = refl; from = omega arith; to = omega arith })))
       ] in
       rw listing_next (each_append (λ p. In p (map (joined_to gap r) old ++ new_run some_reached r)) past (r ∷ []) before (last, tt))
 
@@ -565,11 +565,11 @@ unfolding strand_runs merged
 listed_none gap = record { lies = tt; has = tt; apart = tt; split = λ strand. refl }
 
 listed_more : (gap : ℕ) (past more : List Feature) → AreTaken (past ++ more) → Listed gap past → Listed gap (past ++ more)
-listed_more gap past [] t l = subst (λ (records : List Feature). Listed gap records) (sym (append-nil past)) l
+listed_more gap past [] t l = rw (append-nil past) l
 listed_more gap past (r ∷ rs) t l =
     let grown : (past ++ r ∷ []) ++ rs ≡ past ++ r ∷ rs = append_assoc past (r ∷ []) rs in
     let t_grown = subst AreTaken (sym grown) t in
-    subst (λ (records : List Feature). Listed gap records) grown (listed_more gap (past ++ r ∷ []) rs t_grown (listed_next gap past r (taken_front (past ++ r ∷ []) rs t_grown) l))
+    rw (← grown) (listed_more gap (past ++ r ∷ []) rs t_grown (listed_next gap past r (taken_front (past ++ r ∷ []) rs t_grown) l))
 
 pub are_listed : (gap : ℕ) (past : List Feature) → AreTaken past → Listed gap past
 are_listed gap past t = listed_more gap [] past t (listed_none gap)

@@ -44,15 +44,15 @@ module _ {A : Type 0} (test : A → Bool) where
   pub front_passes : (xs : List A) → Each (λ x. test x ≡ true) (take_while test xs)
   front_passes [] = tt
   front_passes (x ∷ xs) = elim (cases_Bool (test x)) [
-    | inl t ↦ subst (λ l. Each (λ x. test x ≡ true) l) (sym (take_goes x xs t)) (t, front_passes xs)
-    | inr f ↦ subst (λ l. Each (λ x. test x ≡ true) l) (sym (take_ends x xs f)) tt
+    | inl t ↦ rw (take_goes x xs t) (t, front_passes xs)
+    | inr f ↦ rw (take_ends x xs f) tt
   ]
 
   pub behind_stops : (xs : List A) → Stops (drop (length (take_while test xs)) xs)
   behind_stops [] = tt
   behind_stops (x ∷ xs) = elim (cases_Bool (test x)) [
-    | inl t ↦ subst (λ (l : List A). Stops (drop (length l) (x ∷ xs))) (sym (take_goes x xs t)) (behind_stops xs)
-    | inr f ↦ subst (λ (l : List A). Stops (drop (length l) (x ∷ xs))) (sym (take_ends x xs f)) f
+    | inl t ↦ rw (take_goes x xs t) (behind_stops xs)
+    | inr f ↦ rw (take_ends x xs f) f
   ]
 
   pub front_and_behind : (xs : List A) → xs ≡ take_while test xs ++ drop (length (take_while test xs)) xs
@@ -224,7 +224,7 @@ module _ (gap : ℕ) where
     settled_still (Some last) is =
         let front = closed_prefix gap (strand_runs gap past) (Some last) in
         let Has : StrandRun → Type 0 = λ item. Some_of (λ p. Lies item p) past in
-        let has = each_front Has front (drop (length front) (strand_runs gap past)) (subst (λ (l : List StrandRun). Each Has l) (front_and_behind (passes last) (strand_runs gap past)) listed.has) in
+        let has = each_front Has front (drop (length front) (strand_runs gap past)) (rw (← (front_and_behind (passes last) (strand_runs gap past))) listed.has) in
         each_weaker (λ item. (passes last item ≡ true) × Has item) (λ item. passes (interval_of r) item ≡ true)
         (λ item both. still_passed past last r item (last_near past r last taken is) both.1 both.0) front
         (each_both (λ item. passes last item ≡ true) Has front (front_passes (passes last) (strand_runs gap past)) has)
@@ -280,9 +280,9 @@ module _ (gap : ℕ) where
         let whole : strand_runs gap past ≡ front ++ rest = strand_runs_are_all past ∙ ap (λ l. done ++ l) (front_and_behind (passes x) kept) ∙ sym (append_assoc done more rest) in
         let passed = each_append (λ item. passes x item ≡ true) done more (settled_still (last_of (intervals_of past)) refl) (front_passes (passes x) kept) in
         let stop = behind_stops (passes x) kept in
-        let added = added_is gap r rest (only_behind gap r front rest (subst (λ (l : List StrandRun). OnlyLast gap r l) whole only)) in
+        let added = added_is gap r rest (only_behind gap r front rest (rw (← whole) only)) in
         let next = with_added gap rest r in
-        let stops = subst (λ (l : List StrandRun). Stops (passes x) l) (sym added) (stops_added rest stop) in
+        let stops = rw (← added) at (stops_added rest stop) in
         let all : strand_runs gap (past ++ r ∷ []) ≡ front ++ next =
         listing_next gap past r taken listed
         ∙ ap (λ l. map (joined_to gap r) l ++ new_run (list_any (reaches gap r) l) r) whole

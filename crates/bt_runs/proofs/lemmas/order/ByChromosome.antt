@@ -91,7 +91,7 @@ pub record InOrder (names : List (List ℕ)) (past : List Feature) : Type 0 wher
 
 pub order_front : (names : List (List ℕ)) (past more : List Feature) → InOrder names (past ++ more) → InOrder names past
 order_front names past more o = record {
-  placed = placed_prefix (rank_order names) (intervals_of past) (intervals_of more) (subst (λ (l : List Interval). ArePlaced (rank_order names) l) (map-append interval_of past more) o.placed);
+  placed = placed_prefix (rank_order names) (intervals_of past) (intervals_of more) (rw (← (map-append interval_of past more)) o.placed);
   full = full_front past more o.full;
 }
 
@@ -229,7 +229,7 @@ module _ {K T S : Type 0} (f : Form K T S) (At : K → List Feature → ℕ → 
             let here : Standing (past ++ r ∷ []) before key after (f.after key state r) = record {
               last = interval_of r;
               done = done ++ f.step key state r;
-              stand = subst (λ (l : List Interval). Stand f.name keys l (interval_of r) before key after) (sym (intervals_next past r)) (stand_at f.name keys distinct (intervals_of past) (interval_of r) before key after a);
+              stand = rw (intervals_next past r) (stand_at f.name keys distinct (intervals_of past) (interval_of r) before key after a);
               at = owes.next key past start done state r at a.is up full;
             } in
             record {
@@ -267,7 +267,7 @@ module _ {K T S : Type 0} (f : Form K T S) (At : K → List Feature → ℕ → 
 
         -- it is the one or the other
         pub goes_next : InOrder (map f.name keys) (past ++ r ∷ []) → ((r.chrom ≡ s.last.chrom) × (s.last.start ≤ r.start)) ⊎ GoesTo f.name keys (intervals_of past) (interval_of r) before key after
-        goes_next o = goes f.name keys distinct (intervals_of past) (interval_of r) s.last before key after s.stand (subst (λ (l : List Interval). ArePlaced (rank_order (map f.name keys)) l) (intervals_next past r) o.placed)
+        goes_next o = goes f.name keys distinct (intervals_of past) (interval_of r) s.last before key after s.stand (rw (← (intervals_next past r)) o.placed)
 
       turn : (past : List Feature) (r : Feature) → InOrder (map f.name keys) (past ++ r ∷ []) → Begun past → Turn past r
       turn [] r o b =
@@ -290,7 +290,7 @@ module _ {K T S : Type 0} (f : Form K T S) (At : K → List Feature → ℕ → 
       begun_more past [] o b = subst Begun (sym (append-nil past)) b
       begun_more past (r ∷ rs) o b =
           let grown : (past ++ r ∷ []) ++ rs ≡ past ++ r ∷ rs = append_assoc past (r ∷ []) rs in
-          let o_grown = subst (λ (l : List Feature). InOrder (map f.name keys) l) (sym grown) o in
+          let o_grown = rw (← grown) at o in
           let t = turn past r (order_front (map f.name keys) (past ++ r ∷ []) rs o_grown) b in
           let next = has_begun (past ++ r ∷ []) (record { before = t.before; key = t.key; after = t.after; state = t.state; here = t.moves.here }) in
           subst Begun grown (begun_more (past ++ r ∷ []) rs o_grown next)

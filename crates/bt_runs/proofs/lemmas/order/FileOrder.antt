@@ -76,8 +76,8 @@ runs_on-push_elsewhere name gap past r f = ap (λ spans. map (placed_on name) (r
 -- a record up to the next one but one
 up_to_later : (order : Order) (p q x : Interval) → IsTotal order → IsTrue (order.knows p.chrom) → IsTrue (order.knows q.chrom) → IsTrue (order.knows x.chrom) → IsUpTo order (locus_of p) (locus_of q) → IsUpTo order (locus_of q) (locus_of x) → IsUpTo order (locus_of p) (locus_of x)
 up_to_later order p q x total one two three (inl a) (inl b) = inl (total.ascends p.chrom q.chrom x.chrom one two three a b)
-up_to_later order p q x total one two three (inl a) (inr b) = inl (subst (λ (c : List ℕ). order.compare p.chrom c ≡ Less) b.0 a)
-up_to_later order p q x total one two three (inr a) (inl b) = inl (subst (λ (c : List ℕ). order.compare c x.chrom ≡ Less) (sym a.0) b)
+up_to_later order p q x total one two three (inl a) (inr b) = inl (rw (← b.0) a)
+up_to_later order p q x total one two three (inr a) (inl b) = inl (rw a.0 b)
 up_to_later order p q x total one two three (inr a) (inr b) = inr (a.0 ∙ b.0, let h = a.1 in let g = b.1 in omega arith)
 
 -- the next is left out
@@ -179,14 +179,14 @@ pick_first (n ∷ ns) c i q distinct r low =
     let dropped : filter q (n ∷ ns) ≡ filter q ns = cond-false (q n) (n ∷ filter q ns) (filter q ns) absent in
     elim (cases_name n c) [
       | inl e ↦
-          let out : is_among ns c ≡ false = subst (λ (m : List ℕ). is_among ns m ≡ false) e distinct.0 in
+          let out : is_among ns c ≡ false = rw (← e) distinct.0 in
           let here : p n ≡ true = or_left (bytes_eq c n) (q n) (name_eq c n (sym e)) in
           cond-true (p n) (n ∷ filter p ns) (filter p ns) here ∙ ap (λ ms. n ∷ ms) (pick_absent c q ns out ∙ sym dropped) ∙ ap (λ m. m ∷ filter q (n ∷ ns)) e
       | inr f ↦
           let past = rank_past n c ns i f r in
           let here : p n ≡ false = or_from (bytes_eq c n) (q n) (name_ne-sym n c f) absent in
           let rest = pick_first ns c past.0 q distinct.1 past.1 (λ m j h l. elim (cases_name n m) [
-            | inl e ↦ subst (λ (x : List ℕ). q x ≡ false) e absent
+            | inl e ↦ rw (← e) absent
             | inr g ↦ low m (suc j) (rank_of-later n m ns g ∙ ap (λ o. option_map (λ rank. suc rank) o) h) (omega (arith, past.2))
           ]) in
           cond-false (p n) (n ∷ filter p ns) (filter p ns) here ∙ rest ∙ ap (λ ms. c ∷ ms) (sym dropped)
