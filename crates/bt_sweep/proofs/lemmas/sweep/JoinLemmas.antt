@@ -5,6 +5,7 @@ use Rattle.bt_lines.specs.calls.Names.{fault_value}
 use Rattle.bt_lines.specs.calls.Output.{Output, FailsToAdd, Grown}
 use Rattle.bt_lines.specs.declared.fault.Fault.{Fault}
 use Rattle.bt_bed.specs.model.Feature.{Feature, intervals_of}
+use Rattle.bt_bed.specs.declared.read.cursor.Cursor.{Ghosts as Cursor}
 use Rattle.bt_bed.specs.model.Sorted.{ArePlaced}
 use Rattle.bt_bed.specs.model.Order.{Order, IsTotal}
 use Rattle.bt_sweep.specs.model.Hits.{decided, decides}
@@ -18,8 +19,8 @@ use Rattle.bt_sweep.proofs.lemmas.definitions.HitLemmas.{placed_back, front_plac
 use Rattle.bt_sweep.proofs.lemmas.sweep.KeepLemmas.{cut_both, decided_before, decided_behind, decided_both, decides_beside, keeps_held, keeps_taken, lines_both, lines_stay_so, undecided_beside, fails_again, with_none, with_rest, with_rest_cut, front_of, split_last, split_more, writes_first}
 
 -- the chromosome of the next record is known
-pub known_head : {B : Type 0} (order : Order) (gives : B → List Feature → B → Type 0) (from : B) (b : Feature) (after : B) (name : List ℕ) → GivesKnown gives order from → gives from (b ∷ []) after → b.chrom ≡ name → order.knows name ≡ true
-known_head order gives from b after name known given on =
+pub known_head : {B R : Type 0} (order : Order) (cursor : Cursor B R) (from : B) (b : Feature) (after : B) (name : List ℕ) → GivesKnown cursor order from → cursor.gives from (b ∷ []) after → b.chrom ≡ name → order.knows name ≡ true
+known_head order cursor from b after name known given on =
     subst (λ (c : List ℕ). order.knows c ≡ true) on (and_parts (order.knows b.chrom) true (known (b ∷ []) after given)).0
 
 pub lie_more : (name : List ℕ) (bs : List Feature) (b : Feature) → LieOn name bs → b.chrom ≡ name → LieOn name (bs ++ b ∷ [])
@@ -118,12 +119,12 @@ ends_decided order name b bs (a ∷ newly) total known on end =
     (or_left (decides order a b) false (decides_beside order total a b (subst (λ (c : List ℕ). order.knows c ≡ true) (sym end.0) known) (on ∙ sym end.0) end.1)))
     (ends_decided order name b bs newly total known on end.2)
 
-module _ {A B : Type 0} (a_gives : A → List Feature → A → Type 0) (a_ended : A → Type 0) (a_none : (x : A) → a_gives x [] x)
-    (a_more : (old mid new : A) (xs ys : List Feature) → a_gives old xs mid → a_gives mid ys new → a_gives old (xs ++ ys) new)
-    (b_gives : B → List Feature → B → Type 0) (b_ended : B → Type 0) (b_line : B → ℕ) (b_none : (x : B) → b_gives x [] x)
-    (b_more : (old mid new : B) (xs ys : List Feature) → b_gives old xs mid → b_gives mid ys new → b_gives old (xs ++ ys) new)
+module _ {A B R S : Type 0} (cursor_a : Cursor A R) (a_none : (x : A) → cursor_a.gives x [] x)
+    (a_more : (old mid new : A) (xs ys : List Feature) → cursor_a.gives old xs mid → cursor_a.gives mid ys new → cursor_a.gives old (xs ++ ys) new)
+    (cursor_b : Cursor B S) (b_none : (x : B) → cursor_b.gives x [] x)
+    (b_more : (old mid new : B) (xs ys : List Feature) → cursor_b.gives old xs mid → cursor_b.gives mid ys new → cursor_b.gives old (xs ++ ys) new)
     (old : Sweeping) (first : Feature) (from_a : A) (from_b : B) (pending : List ℕ) (out : Output) where
-  pub joins_first : (For : Order → Type 0) (Settles : List Feature → List Feature → Type 0) → Settles [] [] → All (CanHit first) old.held → (j : JoinsSo a_gives a_ended b_gives b_ended b_line For Settles old first from_a from_b pending out (Some first) old from_a from_b pending out) × (j.proceeds.next ≡ None) × (j.proceeds.seconds ≡ [])
+  pub joins_first : (For : Order → Type 0) (Settles : List Feature → List Feature → Type 0) → Settles [] [] → All (CanHit first) old.held → (j : JoinsSo cursor_a cursor_b For Settles old first from_a from_b pending out (Some first) old from_a from_b pending out) × (j.proceeds.next ≡ None) × (j.proceeds.seconds ≡ [])
   joins_first For Settles settles hits = (
     record {
       proceeds = record {
@@ -150,10 +151,10 @@ module _ {A B : Type 0} (a_gives : A → List Feature → A → Type 0) (a_ended
   Decided = AreDecidedOn first.chrom
 
   abbrev So : Option Feature → Sweeping → A → B → List ℕ → Output → Type 0
-  So = JoinsSo a_gives a_ended b_gives b_ended b_line IsTotal Decided old first from_a from_b pending out
+  So = JoinsSo cursor_a cursor_b IsTotal Decided old first from_a from_b pending out
 
   abbrev BreaksSo : FaultValue → A → B → List ℕ → Output → Type 0
-  BreaksSo = Breaks a_gives a_ended b_gives b_ended b_line IsTotal Decided old first from_a from_b pending out
+  BreaksSo = Breaks cursor_a cursor_b IsTotal Decided old first from_a from_b pending out
 
   -- ---- the lines that are left pending are put at last
 
@@ -198,9 +199,9 @@ module _ {A B : Type 0} (a_gives : A → List Feature → A → Type 0) (a_ended
       cause = inl (λ order shape rule limit before taken total kept pg pt. with_rest_cut pending (intersect shape rule j.proceeds.newly (taken ++ j.proceeds.seconds)) left out grown (j.writes order shape rule limit before taken total kept pg pt) fault now fails);
     }
 
-    module _ {R : Type 0} (feature : R → Feature) (s : Sweeping) where
+    module _ (feature : R → Feature) (s : Sweeping) where
       abbrev Answers : Result (Option R) Fault → List ℕ → Output → Type 0
-      Answers result rest put = Joins a_gives a_ended b_gives b_ended b_line IsTotal Decided LeavesOn feature old first from_a from_b pending out result s to_a to_b rest put
+      Answers result rest put = Joins cursor_a cursor_b IsTotal Decided LeavesOn feature old first from_a from_b pending out result s to_a to_b rest put
 
       pub joins_rest : (result : Result (Option R) Fault) → Answers result left grown → Grown grown left now → Answers result [] now
       joins_rest (Ok waiting) (j, stops, leaves) puts = (
@@ -219,7 +220,7 @@ module _ {A B : Type 0} (a_gives : A → List Feature → A → Type 0) (a_ended
       joins_cut (Ok waiting) failed (j, stops, leaves) fails = stops_cut (option_map feature waiting) s (fault_value failed) j fails
       joins_cut (Err fault) failed b fails = breaks_cut (fault_value fault) failed b fails
 
-  module _ (cur : Feature) (s : Sweeping) (to_a : A) (to_b : B) (left : List ℕ) (grown : Output) (j : So (Some cur) s to_a to_b left grown) (b : Feature) (after : B) (gives_b : b_gives to_b (b ∷ []) after) (on : b.chrom ≡ first.chrom) where
+  module _ (cur : Feature) (s : Sweeping) (to_a : A) (to_b : B) (left : List ℕ) (grown : Output) (j : So (Some cur) s to_a to_b left grown) (b : Feature) (after : B) (gives_b : cursor_b.gives to_b (b ∷ []) after) (on : b.chrom ≡ first.chrom) where
     module _ (front : j.proceeds.next ≡ None) where
       settled : Decided j.proceeds.newly j.proceeds.seconds
       settled = subst (λ (l : List Feature). Decided j.proceeds.newly l) (ap (λ (n : Option Feature). j.proceeds.seconds ++ option_to_list n) front ∙ append-nil j.proceeds.seconds) j.proceeds.settles
@@ -232,8 +233,8 @@ module _ {A B : Type 0} (a_gives : A → List Feature → A → Type 0) (a_ended
       waits_on : (held : List Feature) (waiting : Option Feature) → WaitsOn cur.chrom held waiting → WaitsOn first.chrom held waiting
       waits_on held waiting is = grind arith
 
-      abbrev proceeds_on : (firsts2 newly2 : List Feature) (waiting : Option Feature) (to_a2 : A) → a_gives to_a firsts2 to_a2 → cur ∷ firsts2 ≡ newly2 ++ option_to_list waiting → EndUpTo cur.chrom b.start newly2
-          → Proceeded a_gives a_ended b_gives b_ended b_line IsTotal Decided old first from_a from_b pending out waiting to_a2 to_b
+      abbrev proceeds_on : (firsts2 newly2 : List Feature) (waiting : Option Feature) (to_a2 : A) → cursor_a.gives to_a firsts2 to_a2 → cur ∷ firsts2 ≡ newly2 ++ option_to_list waiting → EndUpTo cur.chrom b.start newly2
+          → Proceeded cursor_a cursor_b IsTotal Decided old first from_a from_b pending out waiting to_a2 to_b
       proceeds_on firsts2 newly2 waiting to_a2 given are end = record {
         firsts = j.proceeds.firsts ++ firsts2;
         seconds = j.proceeds.seconds;
@@ -248,7 +249,7 @@ module _ {A B : Type 0} (a_gives : A → List Feature → A → Type 0) (a_ended
       }
 
       -- records that it decides were written
-      pub joins_write : (s2 : Sweeping) (to_a2 : A) (rest : List ℕ) (now : Output) (waiting : Option Feature) → WritesSo a_gives a_ended b.start s cur to_a left grown waiting s2 to_a2 rest now
+      pub joins_write : (s2 : Sweeping) (to_a2 : A) (rest : List ℕ) (now : Output) (waiting : Option Feature) → WritesSo cursor_a b.start s cur to_a left grown waiting s2 to_a2 rest now
           → (k : So waiting s2 to_a2 to_b rest now) × (k.proceeds.next ≡ Some b)
       joins_write s2 to_a2 rest now waiting w = (
         record {
@@ -262,14 +263,14 @@ module _ {A B : Type 0} (a_gives : A → List Feature → A → Type 0) (a_ended
 
       -- they were, or it decides none
       pub joins_past : (s2 : Sweeping) (to_a2 : A) (rest : List ℕ) (now : Output) (cur2 : Feature)
-          → WritesSo a_gives a_ended b.start s cur to_a left grown (Some cur2) s2 to_a2 rest now ⊎ ((s2 ≡ s) × (to_a2 ≡ to_a) × (rest ≡ left) × (now ≡ grown) × (cur2 ≡ cur))
+          → WritesSo cursor_a b.start s cur to_a left grown (Some cur2) s2 to_a2 rest now ⊎ ((s2 ≡ s) × (to_a2 ≡ to_a) × (rest ≡ left) × (now ≡ grown) × (cur2 ≡ cur))
           → (k : So (Some cur2) s2 to_a2 to_b rest now) × (k.proceeds.next ≡ Some b)
       joins_past s2 to_a2 rest now cur2 (inl w) = joins_write s2 to_a2 rest now (Some cur2) w
       joins_past s2 to_a2 rest now cur2 (inr same) =
-          rw (same.0, same.1, same.2, same.3, same.4) (joins_write s to_a left grown (Some cur) (writes_first a_gives a_ended a_none a_more b.start s cur to_a left grown j.waits.1))
+          rw (same.0, same.1, same.2, same.3, same.4) (joins_write s to_a left grown (Some cur) (writes_first cursor_a a_none a_more b.start s cur to_a left grown j.waits.1))
 
       -- they couldn't all be
-      pub breaks_write : (to_a2 : A) (rest : List ℕ) (now : Output) (fault : FaultValue) → CutsOff a_gives a_ended b.start s cur to_a left grown fault to_a2 now → BreaksSo fault to_a2 to_b rest now
+      pub breaks_write : (to_a2 : A) (rest : List ℕ) (now : Output) (fault : FaultValue) → CutsOff cursor_a b.start s cur to_a left grown fault to_a2 now → BreaksSo fault to_a2 to_b rest now
       breaks_write to_a2 rest now fault cut = record {
         proceeds = proceeds_on cut.firsts cut.newly cut.waiting to_a2 cut.given cut.are cut.end;
         waiting = cut.waiting;
@@ -343,7 +344,7 @@ module _ {A B : Type 0} (a_gives : A → List Feature → A → Type 0) (a_ended
       cannot fault line limit taken room x5 = grind arith
 
       -- b has to be held, and can't be
-      pub breaks_take : (fault : Fault) → is_held cur b ≡ true → CannotHold (has_room_in s) (b_line after) (fault_value fault) → BreaksSo (fault_value fault) to_a to_b left grown
+      pub breaks_take : (fault : Fault) → is_held cur b ≡ true → CannotHold (has_room_in s) (cursor_b.line after) (fault_value fault) → BreaksSo (fault_value fault) to_a to_b left grown
       breaks_take fault held lacks = record {
         proceeds = j.proceeds;
         waiting = Some cur;
@@ -361,6 +362,6 @@ module _ {A B : Type 0} (a_gives : A → List Feature → A → Type 0) (a_ended
           writes = j.writes;
           lacks = λ order shape rule limit before taken total kept pg pt.
               let k = subst (λ (g : List Feature). Keeps order shape rule limit g (taken ++ j.proceeds.seconds) s) (split_last before first j.proceeds.firsts j.proceeds.newly cur j.proceeds.are) (j.goes order shape rule limit before taken total kept pg pt) in
-              cannot fault (b_line after) limit (taken ++ j.proceeds.seconds) (room_is order shape rule limit (before ++ j.proceeds.newly) (taken ++ j.proceeds.seconds) k) lacks;
+              cannot fault (cursor_b.line after) limit (taken ++ j.proceeds.seconds) (room_is order shape rule limit (before ++ j.proceeds.newly) (taken ++ j.proceeds.seconds) k) lacks;
         });
       }

@@ -25,11 +25,13 @@ use Rattle.std.specs.declared.cmp.Ordering.TheVariants.{Equal}
 use Rattle.bt_bed.specs.model.Sorted.{ArePlaced, is_below_at, Locus, Sorting, falls_in, sorting_of}
 use Rattle.bt_bed.specs.model.Order.{Order, IsTotal}
 use Rattle.bt_sweep.proofs.lemmas.sweep.HoldLemmas.{held_behind, held_is_behind, holds_a, holds_b}
-use Rattle.bt_bed.specs.calls.Batch.{Passes, left as records_left}
+use Rattle.bt_bed.specs.calls.Batch.{left as records_left}
 use Rattle.bt_bed.specs.calls.SortedReader.{are_in_order, view_with}
 use Rattle.bt_bed.specs.model.Good.{locus_at}
 use Rattle.bt_bed.specs.calls.Records.{Lends, buffered_in, order_in, view_of}
-use Rattle.bt_bed.specs.calls.Bed.{GivesSingle, single_left}
+use Rattle.bt_bed.specs.calls.Bed.{single_left}
+use Rattle.bt_bed.specs.calls.CursorOf.{batch_cursor, single_cursor}
+use Rattle.bt_bed.specs.declared.read.cursor.Cursor.{Ghosts as Cursor}
 use Rattle.bt_bed.specs.declared.read.batch.Batch.{Batch}
 use Rattle.bt_bed.specs.declared.read.cursor.Single.{Single}
 use Rattle.bt_bed.specs.declared.order.ChromOrder.{Ghosts}
@@ -357,11 +359,11 @@ pub end_more : (name : List ℕ) (place : ℕ) (newly : List Feature) (a : Featu
 end_more name place [] a end on up = (on, up, tt)
 end_more name place (x ∷ newly) a end on up = (end.0, end.1, end_more name place newly a end.2 on up)
 
-module _ {A : Type 0} (gives : A → List Feature → A → Type 0) (has_ended : A → Type 0) (gives_none : (x : A) → gives x [] x)
-    (gives_more : (old mid new : A) (xs ys : List Feature) → gives old xs mid → gives mid ys new → gives old (xs ++ ys) new)
+module _ {A R : Type 0} (cursor : Cursor A R) (gives_none : (x : A) → cursor.gives x [] x)
+    (gives_more : (old mid new : A) (xs ys : List Feature) → cursor.gives old xs mid → cursor.gives mid ys new → cursor.gives old (xs ++ ys) new)
     (place : ℕ) (old : Sweeping) (first : Feature) (from : A) (pending : List ℕ) (out : Output) where
   abbrev So : Option Feature → Sweeping → A → List ℕ → Output → Type 0
-  So = WritesSo gives has_ended place old first from pending out
+  So = WritesSo cursor place old first from pending out
 
   pub writes_first : All (CanHit first) old.held → So (Some first) old from pending out
   writes_first hits = record {
@@ -389,7 +391,7 @@ module _ {A : Type 0} (gives : A → List Feature → A → Type 0) (has_ended :
   }
 
   -- or couldn't all be
-  pub cuts_rest : (waiting : Option Feature) (s : Sweeping) (to : A) (left : List ℕ) (grown now : Output) (fault : FaultValue) → So waiting s to left grown → FailsToAdd grown left fault now → CutsOff gives has_ended place old first from pending out fault to now
+  pub cuts_rest : (waiting : Option Feature) (s : Sweeping) (to : A) (left : List ℕ) (grown now : Output) (fault : FaultValue) → So waiting s to left grown → FailsToAdd grown left fault now → CutsOff cursor place old first from pending out fault to now
   cuts_rest waiting s to left grown now fault so fails = record {
     firsts = so.firsts;
     newly = so.newly;
@@ -430,7 +432,7 @@ module _ {A : Type 0} (gives : A → List Feature → A → Type 0) (has_ended :
       }
 
       -- its lines were written, and the next one waits
-      pub writes_more : (r : Feature) (new : Sweeping) (to' : A) → cur.stop ≤ place → gives to (r ∷ []) to' → r.chrom ≡ first.chrom → new ≡ record s { held = filter (λ b. ltb r.start b.stop) s.held }
+      pub writes_more : (r : Feature) (new : Sweeping) (to' : A) → cur.stop ≤ place → cursor.gives to (r ∷ []) to' → r.chrom ≡ first.chrom → new ≡ record s { held = filter (λ b. ltb r.start b.stop) s.held }
           → So (Some r) new to' rest now
       writes_more r new to' up given on is = record {
         firsts = so.firsts ++ r ∷ [];
@@ -450,7 +452,7 @@ module _ {A : Type 0} (gives : A → List Feature → A → Type 0) (has_ended :
       }
 
     -- its lines couldn't be written
-    pub cuts_off : (fault : FaultValue) (now : Output) → cur.stop ≤ place → (AreRising s.held → FailsToAdd grown (left ++ lines_for s.shape s.rule cur s.held) fault now) → CutsOff gives has_ended place old first from pending out fault to now
+    pub cuts_off : (fault : FaultValue) (now : Output) → cur.stop ≤ place → (AreRising s.held → FailsToAdd grown (left ++ lines_for s.shape s.rule cur s.held) fault now) → CutsOff cursor place old first from pending out fault to now
     cuts_off fault now up fails = record {
       firsts = so.firsts;
       newly = so.newly ++ cur ∷ [];
@@ -468,9 +470,9 @@ module _ {A : Type 0} (gives : A → List Feature → A → Type 0) (has_ended :
 -- Lemmas on cursors that give records on known chromosomes.
 
 -- after some of them
-pub known_later : {A : Type 0} (gives : A → List Feature → A → Type 0) (gives_more : (old mid new : A) (xs ys : List Feature) → gives old xs mid → gives mid ys new → gives old (xs ++ ys) new)
-    (order now : Order) (from mid : A) (fs : List Feature) → now ≡ order → GivesKnown gives order from → gives from fs mid → GivesKnown gives now mid
-known_later gives gives_more order now from mid fs same known given records to more =
+pub known_later : {A R : Type 0} (cursor : Cursor A R) (gives_more : (old mid new : A) (xs ys : List Feature) → cursor.gives old xs mid → cursor.gives mid ys new → cursor.gives old (xs ++ ys) new)
+    (order now : Order) (from mid : A) (fs : List Feature) → now ≡ order → GivesKnown cursor order from → cursor.gives from fs mid → GivesKnown cursor now mid
+known_later cursor gives_more order now from mid fs same known given records to more =
     subst (λ (o : Order). list_all (λ (r : Feature). o.knows r.chrom) records ≡ true) (sym same)
     ((and_parts (list_all (λ (r : Feature). order.knows r.chrom) fs) (list_all (λ (r : Feature). order.knows r.chrom) records)
     (sym (list_all-append (λ (r : Feature). order.knows r.chrom) fs records) ∙ known (fs ++ records) to (gives_more from mid to fs records given more))).1)
@@ -480,10 +482,10 @@ known_front order r [] left known e = refl
 known_front order r (x ∷ []) left known e = let same : r ≡ x = cc in and_from (order.knows x.chrom) true (subst (λ (f : Feature). order.knows f.chrom ≡ true) same known) refl
 known_front order r (x ∷ y ∷ records) left known e = absurd (let apart : [] ≡ y ∷ (records ++ left) = cc in cc)
 
-pub known_single : (order : Order) (one : Single) (r : Feature) → single_left one ≡ r ∷ [] → order.knows r.chrom ≡ true → GivesKnown GivesSingle order one
+pub known_single : (order : Order) (one : Single) (r : Feature) → single_left one ≡ r ∷ [] → order.knows r.chrom ≡ true → GivesKnown single_cursor order one
 known_single order one r is known records to gives = known_front order r records (single_left to) known (sym is ∙ gives.left)
 
-pub known_none : (order : Order) (one : Single) → single_left one ≡ [] → GivesKnown GivesSingle order one
+pub known_none : (order : Order) (one : Single) → single_left one ≡ [] → GivesKnown single_cursor order one
 known_none order one empty [] to gives = refl
 known_none order one empty (r ∷ records) to gives = absurd (let apart : [] ≡ r ∷ (records ++ single_left to) = sym empty ∙ gives.left in cc)
 
@@ -505,7 +507,7 @@ module _ {S O : Type 0} {g : Ghosts O} (now : Records S O g) (batch : Batch) (le
   in_order = now.placed.in_order
 
   -- those that a reader gives do
-  pub known_batch : (order : Order) → order ≡ order_in now → GivesKnown Passes order batch
+  pub known_batch : (order : Order) → order ≡ order_in now → GivesKnown batch_cursor order batch
   known_batch order same records to passes =
       subst (λ (o : Order). list_all (λ r. o.knows r.chrom) records ≡ true) (sym same)
       (known_in (sorting_of (order_in now)) (view_of now).state records (records_left to)

@@ -7,6 +7,7 @@ use Rattle.bt_lines.specs.model.Lines.{max_number}
 use Rattle.bt_lines.specs.calls.Output.{Output, FailsToAdd}
 use Rattle.bt_lines.specs.declared.fault.Fault.{Fault}
 use Rattle.bt_bed.specs.model.Feature.{Feature}
+use Rattle.bt_bed.specs.declared.read.cursor.Cursor.{Ghosts as Cursor}
 use Rattle.bt_bed.specs.model.Sorted.{is_below_at}
 use Rattle.bt_bed.specs.model.Order.{Order, IsTotal}
 use Rattle.bt_bed.proofs.lemmas.parse.NameLemmas.{name_ne}
@@ -14,7 +15,7 @@ use Rattle.bt_sweep.specs.calls.Sweeping.{IsThis, Settles, AreDecided, CannotBeH
 use Rattle.bt_sweep.specs.model.Hits.{decided, decides}
 use Rattle.bt_sweep.specs.calls.Held.{CanHit}
 use Rattle.bt_sweep.specs.model.Lines.{intersect}
-use Rattle.bt_sweep.specs.inside.Joining.{AreDecidedOn, BehindFor, GrownWith, StopsAt, EndUpTo, Joins, Keeps, LeavesOn, LieOn, Proceeded, WaitsOn, SkipsAll, WritesUpTo, Compares, EndsWhile, Relates}
+use Rattle.bt_sweep.specs.inside.Joining.{AreDecidedOn, BehindFor, GrownWith, StopsAt, EndUpTo, Joins, Keeps, LeavesOn, LieOn, Proceeded, WaitsOn, SkipsAll, WritesUpTo, Compares, Relates, going_on}
 use Rattle.bt_sweep.specs.declared.hits.hit_rule.HitRule.{HitRule}
 use Rattle.bt_sweep.specs.declared.sweep.phase.Phase.TheVariants.{First}
 use Rattle.bt_sweep.specs.declared.sweep.relation.Relation.TheVariants.{After}
@@ -61,24 +62,24 @@ after_decided order b name (a ∷ newly) place total known compared end =
     (decides_from order a b total (subst (λ (c : List ℕ). order.knows c ≡ true) (sym end.0) known) (inl (subst (λ (c : List ℕ). order.compare b.chrom c ≡ Greater) (sym end.0) compared))))
     (after_decided order b name newly place total known compared end.2)
 
-module _ {A B R : Type 0} (a_gives : A → List Feature → A → Type 0) (a_ended : A → Type 0) (a_none : (x : A) → a_gives x [] x)
-    (a_more : (old mid new : A) (xs ys : List Feature) → a_gives old xs mid → a_gives mid ys new → a_gives old (xs ++ ys) new)
-    (b_gives : B → List Feature → B → Type 0) (b_ended : B → Type 0) (b_line : B → ℕ) (b_none : (x : B) → b_gives x [] x)
-    (b_more : (old mid new : B) (xs ys : List Feature) → b_gives old xs mid → b_gives mid ys new → b_gives old (xs ++ ys) new)
+module _ {A B R S : Type 0} (cursor_a : Cursor A R) (a_none : (x : A) → cursor_a.gives x [] x)
+    (a_more : (old mid new : A) (xs ys : List Feature) → cursor_a.gives old xs mid → cursor_a.gives mid ys new → cursor_a.gives old (xs ++ ys) new)
+    (cursor_b : Cursor B S) (b_none : (x : B) → cursor_b.gives x [] x)
+    (b_more : (old mid new : B) (xs ys : List Feature) → cursor_b.gives old xs mid → cursor_b.gives mid ys new → cursor_b.gives old (xs ++ ys) new)
     (feature : R → Feature) (order : Order) (total : IsTotal order) (old : Sweeping) (r : R) (from_a : A) (from_b : B) (out : Output) (known : order.knows (feature r).chrom ≡ true) (hits : All (CanHit (feature r)) old.held) where
   abbrev first : Feature
   first = feature r
 
   abbrev Decides : Result (Option R) Fault → Sweeping → A → B → Output → Type 0
-  Decides result new to_a to_b grown = Joins a_gives a_ended b_gives (EndsWhile b_ended old.phase) b_line (IsThis order) (Settles order old.phase) (LeavesLast order) feature old first from_a from_b [] out result new to_a to_b [] grown
+  Decides result new to_a to_b grown = Joins cursor_a (going_on old.phase cursor_b) (IsThis order) (Settles order old.phase) (LeavesLast order) feature old first from_a from_b [] out result new to_a to_b [] grown
 
-  abbrev Lies : List ℕ → Ordering → Type 0
-  Lies name is = Compares b_gives b_ended name order old.phase first.chrom from_b is
+  abbrev Lies : Ordering → Type 0
+  Lies is = Compares cursor_b order old.phase first.chrom from_b is
 
   -- none of the second input was there
-  pub decides_none : b_ended from_b × (old.phase ≡ First → ⊥) → Decides (Ok (Some r)) old from_a from_b out
+  pub decides_none : cursor_b.has_ended from_b × (old.phase ≡ First → ⊥) → Decides (Ok (Some r)) old from_a from_b out
   decides_none ended =
-      let j = joins_first a_gives a_ended a_none a_more b_gives (EndsWhile b_ended old.phase) b_line b_none b_more old first from_a from_b [] out (IsThis order) (Settles order old.phase) (inr refl) hits in
+      let j = joins_first cursor_a a_none a_more (going_on old.phase cursor_b) b_none b_more old first from_a from_b [] out (IsThis order) (Settles order old.phase) (inr refl) hits in
       (j.0, ended, leaves_none order j.0.proceeds.seconds first j.2)
 
   keeps_all : (name : List ℕ) (seconds : List Feature) (other : Order) (shape : Shape) (rule : HitRule) (limit : Option ℕ) (before taken : List Feature) → IsThis order other → order.compare name first.chrom ≡ Less → LieOn name seconds
@@ -114,8 +115,8 @@ module _ {A B R : Type 0} (a_gives : A → List Feature → A → Type 0) (a_end
       )
 
   -- they lie before
-  pub decides_before : (name : List ℕ) (to_b : B) → Lies name Less → SkipsAll b_gives b_ended name from_b to_b → Decides (Ok (Some r)) old from_a to_b out
-  decides_before name to_b lies skip = (
+  pub decides_before : (to_b : B) → Lies Less → SkipsAll cursor_b from_b to_b → Decides (Ok (Some r)) old from_a to_b out
+  decides_before to_b lies skip = (
     record {
       proceeds = record {
         firsts = [];
@@ -127,32 +128,32 @@ module _ {A B R : Type 0} (a_gives : A → List Feature → A → Type 0) (a_end
         next = None;
         comes = tt;
         settles = inr refl;
-        each = λ other shape rule limit before taken this kept pg pt. each_before name skip.seconds other shape rule limit before taken this lies.compared skip.on kept;
+        each = λ other shape rule limit before taken this kept pg pt. each_before (cursor_b.name from_b) skip.seconds other shape rule limit before taken this lies.compared skip.on kept;
       };
       waits = (refl, hits);
-      goes = λ other shape rule limit before taken this kept pg pt. keeps_all name skip.seconds other shape rule limit before taken this lies.compared skip.on kept;
+      goes = λ other shape rule limit before taken this kept pg pt. keeps_all (cursor_b.name from_b) skip.seconds other shape rule limit before taken this lies.compared skip.on kept;
       writes = λ other shape rule limit before taken this kept pg pt. with_none [] out;
     },
     (skip.ended, lies.going),
-    λ before b e. undecided_before order total first known name lies.compared b (lie_last name before b (subst (LieOn name) e skip.on)),
+    λ before b e. undecided_before order total first known (cursor_b.name from_b) lies.compared b (lie_last (cursor_b.name from_b) before b (subst (LieOn (cursor_b.name from_b)) e skip.on)),
   )
 
   to_this : (firsts seconds : List Feature) (P : Order → Shape → HitRule → Option ℕ → List Feature → List Feature → Type 0) → BehindFor IsTotal first firsts seconds old P → BehindFor (IsThis order) first firsts seconds old P
   to_this firsts seconds P behind other shape rule limit before taken this kept pg pt = behind other shape rule limit before taken (subst IsTotal (sym this) total) kept pg pt
 
   abbrev JoinsBeside : Result (Option R) Fault → Sweeping → A → B → Output → Type 0
-  JoinsBeside result new to_a to_b grown = Joins a_gives a_ended b_gives b_ended b_line IsTotal (AreDecidedOn first.chrom) LeavesOn feature old first from_a from_b [] out result new to_a to_b [] grown
+  JoinsBeside result new to_a to_b grown = Joins cursor_a cursor_b IsTotal (AreDecidedOn first.chrom) LeavesOn feature old first from_a from_b [] out result new to_a to_b [] grown
 
   stops_beside : (waiting : Option R) (to_a : A) (to_b : B) → (old.phase ≡ First → ⊥)
-      → StopsAt a_gives a_ended b_gives b_ended b_line IsTotal (AreDecidedOn first.chrom) old first from_a from_b [] out (option_map feature waiting) to_a to_b
-      → StopsAt a_gives a_ended b_gives (EndsWhile b_ended old.phase) b_line (IsThis order) (Settles order old.phase) old first from_a from_b [] out (option_map feature waiting) to_a to_b
+      → StopsAt cursor_a cursor_b IsTotal (AreDecidedOn first.chrom) old first from_a from_b [] out (option_map feature waiting) to_a to_b
+      → StopsAt cursor_a (going_on old.phase cursor_b) (IsThis order) (Settles order old.phase) old first from_a from_b [] out (option_map feature waiting) to_a to_b
   stops_beside waiting to_a to_b going ended = grind arith
 
   leaves_beside : (waiting : Option R) (held seconds : List Feature) → WaitsOn first.chrom held (option_map feature waiting) → IfSome (option_map feature waiting) (LeavesOn seconds) → IfSome (option_map feature waiting) (LeavesLast order seconds)
   leaves_beside waiting held seconds waits leaves = grind arith
 
-  abbrev proceeds_beside : (waiting : Option Feature) (to_a : A) (to_b : B) → Proceeded a_gives a_ended b_gives b_ended b_line IsTotal (AreDecidedOn first.chrom) old first from_a from_b [] out waiting to_a to_b
-      → Proceeded a_gives a_ended b_gives (EndsWhile b_ended old.phase) b_line (IsThis order) (Settles order old.phase) old first from_a from_b [] out waiting to_a to_b
+  abbrev proceeds_beside : (waiting : Option Feature) (to_a : A) (to_b : B) → Proceeded cursor_a cursor_b IsTotal (AreDecidedOn first.chrom) old first from_a from_b [] out waiting to_a to_b
+      → Proceeded cursor_a (going_on old.phase cursor_b) (IsThis order) (Settles order old.phase) old first from_a from_b [] out waiting to_a to_b
   proceeds_beside waiting to_a to_b p = record {
     firsts = p.firsts;
     seconds = p.seconds;
@@ -186,49 +187,49 @@ module _ {A B R : Type 0} (a_gives : A → List Feature → A → Type 0) (a_end
       | inr lack ↦ inr (record {
         shares = lack.shares;
         writes = to_this b.proceeds.firsts b.proceeds.seconds (λ order shape rule limit as_given taken. GrownWith [] out (intersect shape rule b.proceeds.newly taken) [] grown) lack.writes;
-        lacks = to_this b.proceeds.firsts b.proceeds.seconds (λ order shape rule limit as_given taken. CannotBeHeld limit lack.shares.last taken (b_line lack.shares.after) (fault_value fault)) lack.lacks;
+        lacks = to_this b.proceeds.firsts b.proceeds.seconds (λ order shape rule limit as_given taken. CannotBeHeld limit lack.shares.last taken (cursor_b.line lack.shares.after) (fault_value fault)) lack.lacks;
       })
     ];
   }
 
   -- they lie after it, or the input has ended: what comes next then, and that it decides each
-  abbrev IsBehind : List ℕ → Type 0
-  IsBehind name = Relates b_gives b_ended name order old.phase first.chrom from_b After
+  abbrev IsBehind : Type 0
+  IsBehind = Relates cursor_b order old.phase first.chrom from_b After
 
-  abbrev next_of : (name : List ℕ) → IsBehind name → Option Feature
-  next_of name (inl ended) = None
-  next_of name (inr lies) = Some lies.b
+  abbrev next_of : IsBehind → Option Feature
+  next_of (inl ended) = None
+  next_of (inr lies) = Some lies.b
 
-  comes_of : (name : List ℕ) (behind : IsBehind name) → ComesNext b_gives from_b (next_of name behind)
-  comes_of name behind = grind arith
+  comes_of : (behind : IsBehind) → ComesNext cursor_b from_b (next_of behind)
+  comes_of behind = grind arith
 
-  settles_of : (name : List ℕ) (behind : IsBehind name) (newly : List Feature) → EndUpTo first.chrom max_number newly → Settles order old.phase newly ([] ++ option_to_list (next_of name behind))
-  settles_of name (inl ended) newly end = inl ended
-  settles_of name (inr lies) newly end =
+  settles_of : (behind : IsBehind) (newly : List Feature) → EndUpTo first.chrom max_number newly → Settles order old.phase newly ([] ++ option_to_list (next_of behind))
+  settles_of (inl ended) newly end = inl ended
+  settles_of (inr lies) newly end =
       inr (after_decided order lies.b first.chrom newly max_number total known (ap (λ (c : List ℕ). order.compare c first.chrom) lies.on ∙ lies.compares.compared) end)
 
-  abbrev proceeds_after : (name : List ℕ) (firsts newly : List Feature) (waiting : Option Feature) (to_a : A) → IsBehind name → a_gives from_a firsts to_a → first ∷ firsts ≡ newly ++ option_to_list waiting → EndUpTo first.chrom max_number newly
-      → Proceeded a_gives a_ended b_gives (EndsWhile b_ended old.phase) b_line (IsThis order) (Settles order old.phase) old first from_a from_b [] out waiting to_a from_b
-  proceeds_after name firsts newly waiting to_a behind given are end = record {
+  abbrev proceeds_after : (firsts newly : List Feature) (waiting : Option Feature) (to_a : A) → IsBehind → cursor_a.gives from_a firsts to_a → first ∷ firsts ≡ newly ++ option_to_list waiting → EndUpTo first.chrom max_number newly
+      → Proceeded cursor_a (going_on old.phase cursor_b) (IsThis order) (Settles order old.phase) old first from_a from_b [] out waiting to_a from_b
+  proceeds_after firsts newly waiting to_a behind given are end = record {
     firsts = firsts;
     seconds = [];
     newly = newly;
     gives_firsts = given;
     gives_seconds = b_none from_b;
     are = are;
-    next = next_of name behind;
-    comes = comes_of name behind;
-    settles = settles_of name behind newly end;
+    next = next_of behind;
+    comes = comes_of behind;
+    settles = settles_of behind newly end;
     each = λ other shape rule limit before taken this kept pg pt. tt;
   }
 
   -- each is written
-  pub decides_after : (name : List ℕ) (result : Result (Option R) Fault) (new : Sweeping) (to_a : A) (grown : Output) → IsBehind name → WritesUpTo a_gives a_ended feature max_number old first from_a [] out result new to_a [] grown
+  pub decides_after : (result : Result (Option R) Fault) (new : Sweeping) (to_a : A) (grown : Output) → IsBehind → WritesUpTo cursor_a feature max_number old first from_a [] out result new to_a [] grown
       → Decides result new to_a from_b grown
-  decides_after name (Ok (Some a)) new to_a grown behind w = absurd (omega (arith, w.1.0, w.1.1))
-  decides_after name (Ok None) new to_a grown behind (w, ended) = (
+  decides_after (Ok (Some a)) new to_a grown behind w = absurd (omega (arith, w.1.0, w.1.1))
+  decides_after (Ok None) new to_a grown behind (w, ended) = (
     record {
-      proceeds = proceeds_after name w.firsts w.newly None to_a behind w.given w.are w.end;
+      proceeds = proceeds_after w.firsts w.newly None to_a behind w.given w.are w.end;
       waits = tt;
       goes = to_this w.firsts [] (λ order shape rule limit as_given taken. Keeps order shape rule limit as_given taken new) w.goes;
       writes = to_this w.firsts [] (λ order shape rule limit as_given taken. GrownWith [] out (intersect shape rule w.newly taken) [] grown) w.writes;
@@ -236,8 +237,8 @@ module _ {A B R : Type 0} (a_gives : A → List Feature → A → Type 0) (a_end
     ended,
     tt,
   )
-  decides_after name (Err fault) new to_a grown behind cut = record {
-    proceeds = proceeds_after name cut.firsts cut.newly cut.waiting to_a behind cut.given cut.are cut.end;
+  decides_after (Err fault) new to_a grown behind cut = record {
+    proceeds = proceeds_after cut.firsts cut.newly cut.waiting to_a behind cut.given cut.are cut.end;
     waiting = cut.waiting;
     cause = inl (to_this cut.firsts [] (λ order shape rule limit as_given taken. FailsToAdd out ([] ++ intersect shape rule cut.newly taken) (fault_value fault) grown) cut.cuts);
   }

@@ -8,13 +8,14 @@ use Rattle.bt_bed.specs.model.Feature.{Feature, intervals_of}
 use Rattle.bt_bed.specs.model.Sorted.{ArePlaced}
 use Rattle.bt_bed.specs.model.Order.{Order, IsTotal}
 use Rattle.bt_bed.specs.calls.Bed.{GivesSingle, HasNone, single_left, single_line}
+use Rattle.bt_bed.specs.calls.CursorOf.{single_cursor}
 use Rattle.bt_bed.specs.declared.read.cursor.Single.{Single}
 use Rattle.bt_bed.specs.declared.record.taken.Taken.TheVariants.{Yes, No}
 use Rattle.bt_bed.proofs.lemmas.parse.NameLemmas.{name_eq}
 use Rattle.bt_sweep.specs.calls.Sweeping.{AdvancesOn, AdvancesSo, FailsAt, FailsToTake, HasWritten, IsThis, Settles, StopsFor, stage_after, AreDecided, ComesNext, TakenEach, CannotBeHeld, HoldsFor, IsInOrder, MovesTo, Stage, StandsAt, given, is_held, phase_of, with_a, with_b, with_b_ended, with_lines, EndsB, FailsToHold, FailsToKeepA, FailsToWriteA, GivesA, GivesB, Sweeping, want_in}
 use Rattle.bt_sweep.specs.model.Hits.{decides}
 use Rattle.bt_sweep.specs.model.Lines.{intersect, lines_for}
-use Rattle.bt_sweep.specs.inside.Joining.{Breaks, JoinsSo, Keeps, StopsAt, EndsWhile}
+use Rattle.bt_sweep.specs.inside.Joining.{Breaks, JoinsSo, Keeps, StopsAt, going_on}
 use Rattle.bt_sweep.specs.declared.hits.hit_rule.HitRule.{HitRule}
 use Rattle.bt_sweep.specs.declared.sweep.phase.Phase.{Phase}
 use Rattle.bt_sweep.specs.declared.sweep.phase.Phase.TheVariants.{Both, First, Over}
@@ -58,7 +59,7 @@ pub same_some : (a b : Feature) → Some a ≡ Some b → a ≡ b
 same_some a b e = cc
 
 -- none comes of a cursor that is empty
-none_next : (to : Single) → single_left to ≡ [] → (next : Option Feature) → ComesNext GivesSingle to next → next ≡ None
+none_next : (to : Single) → single_left to ≡ [] → (next : Option Feature) → ComesNext single_cursor to next → next ≡ None
 none_next to empty x2 comes = grind arith
 
 -- and only its record of one that isn't
@@ -107,19 +108,19 @@ same_output shape rule newly now out grown n puts = puts.nothing (no_lines shape
 
 module _ (order : Order) (stage : Stage) (old : Sweeping) (st : StandsAt order stage old) (from_a from_b : Single) (out : Output) where
   abbrev Done : Sweeping → Single → Single → Output → Type 0
-  Done new to_a to_b grown = AdvancesSo GivesSingle HasNone GivesSingle HasNone single_line order old from_a from_b out new to_a to_b grown
+  Done new to_a to_b grown = AdvancesSo single_cursor single_cursor order old from_a from_b out new to_a to_b grown
 
   abbrev Stops : Sweeping → Single → Single → Type 0
-  Stops new to_a to_b = StopsFor GivesSingle HasNone GivesSingle HasNone single_line order old from_a from_b out (want_in new) to_a to_b
+  Stops new to_a to_b = StopsFor single_cursor single_cursor order old from_a from_b out (want_in new) to_a to_b
 
   abbrev Failed : FaultValue → Single → Single → Output → Type 0
-  Failed fault to_a to_b grown = FailsAt GivesSingle HasNone GivesSingle HasNone single_line order old from_a from_b out fault to_a to_b grown
+  Failed fault to_a to_b grown = FailsAt single_cursor single_cursor order old from_a from_b out fault to_a to_b grown
 
   abbrev Writes : Sweeping → Type 0
-  Writes new = HasWritten GivesSingle HasNone GivesSingle HasNone single_line order old from_a from_b out new
+  Writes new = HasWritten single_cursor single_cursor order old from_a from_b out new
 
-  stops_for : (new : Sweeping) (to_a to_b : Single) (want : Want) → want_in new ≡ want → Stops new to_a to_b → StopsFor GivesSingle HasNone GivesSingle HasNone single_line order old from_a from_b out want to_a to_b
-  stops_for new to_a to_b want e stops = subst (λ (w : Want). StopsFor GivesSingle HasNone GivesSingle HasNone single_line order old from_a from_b out w to_a to_b) e stops
+  stops_for : (new : Sweeping) (to_a to_b : Single) (want : Want) → want_in new ≡ want → Stops new to_a to_b → StopsFor single_cursor single_cursor order old from_a from_b out want to_a to_b
+  stops_for new to_a to_b want e stops = subst (λ (w : Want). StopsFor single_cursor single_cursor order old from_a from_b out w to_a to_b) e stops
 
   -- ---- a record of the first input
 
@@ -172,7 +173,7 @@ module _ (order : Order) (stage : Stage) (old : Sweeping) (st : StandsAt order s
     seconds_none to_b seconds gives = nothing_left seconds (single_left to_b) (sym empty ∙ gives.left)
 
     -- what is written before the second input has ended is decided by one of its records
-    first_by : (to_b : Single) (newly seconds : List Feature) (next : Option Feature) → newly ≡ a ∷ [] → GivesSingle from_b seconds to_b → ComesNext GivesSingle to_b next → Settles order old.phase newly (seconds ++ option_to_list next) → old.phase ≡ First
+    first_by : (to_b : Single) (newly seconds : List Feature) (next : Option Feature) → newly ≡ a ∷ [] → GivesSingle from_b seconds to_b → ComesNext single_cursor to_b next → Settles order old.phase newly (seconds ++ option_to_list next) → old.phase ≡ First
     first_by to_b newly seconds next n gives comes settles = elim settles [
       | inl first ↦ first
       | inr all ↦ absurd (
@@ -295,7 +296,7 @@ module _ (order : Order) (stage : Stage) (old : Sweeping) (st : StandsAt order s
         ]
 
     pub gives_a : {T : Type 0} (result : Result T Fault) (new : Sweeping) (to_a to_b : Single) (grown : Output) → OnErr result (want_in new ≡ Nothing)
-        → AdvancesOn GivesSingle HasNone GivesSingle HasNone single_line order old from_a from_b out result new to_a to_b grown → GivesA order stage a old out result new grown
+        → AdvancesOn single_cursor single_cursor order old from_a from_b out result new to_a to_b grown → GivesA order stage a old out result new grown
     gives_a (Ok done) new to_a to_b grown stops d = done_a new to_a to_b grown d.0 d.1
     gives_a (Err fault) new to_a to_b grown stops b = (stops, fails_a new to_a to_b grown (fault_value fault) b)
 
@@ -337,7 +338,7 @@ module _ (order : Order) (stage : Stage) (old : Sweeping) (st : StandsAt order s
         ]
 
     -- if that one is written, it decides it
-    decided_all : (to_b : Single) (seconds : List Feature) → GivesSingle from_b seconds to_b → (next : Option Feature) → ComesNext GivesSingle to_b next → AreDecided order (a ∷ []) (seconds ++ option_to_list next) → decides order a b ≡ true
+    decided_all : (to_b : Single) (seconds : List Feature) → GivesSingle from_b seconds to_b → (next : Option Feature) → ComesNext single_cursor to_b next → AreDecided order (a ∷ []) (seconds ++ option_to_list next) → decides order a b ≡ true
     decided_all to_b seconds gives None comes all = elim (seconds_are to_b seconds gives) [
       | inl kept ↦ absurd (undecided_by_none order a (subst (AreDecided order (a ∷ [])) (append-nil seconds ∙ kept.0) all))
       | inr came ↦ decides_one order a b (subst (AreDecided order (a ∷ [])) (append-nil seconds ∙ came.0) all)
@@ -347,7 +348,7 @@ module _ (order : Order) (stage : Stage) (old : Sweeping) (st : StandsAt order s
       | inr came ↦ absurd (let apart : [] ≡ r ∷ single_left comes.0 = sym came.1 ∙ comes.1.left in cc)
     ]
 
-    decided_by : (to_b : Single) (newly seconds : List Feature) (next : Option Feature) → newly ≡ a ∷ [] → GivesSingle from_b seconds to_b → ComesNext GivesSingle to_b next → Settles order old.phase newly (seconds ++ option_to_list next) → decides order a b ≡ true
+    decided_by : (to_b : Single) (newly seconds : List Feature) (next : Option Feature) → newly ≡ a ∷ [] → GivesSingle from_b seconds to_b → ComesNext single_cursor to_b next → Settles order old.phase newly (seconds ++ option_to_list next) → decides order a b ≡ true
     decided_by to_b newly seconds next n gives comes settles = elim settles [
       | inl first ↦ absurd (not_first_by stage.a_ended stage.b_ended old.phase st.phase_is both.1 first)
       | inr all ↦ decided_all to_b seconds gives next comes (subst (λ (l : List Feature). AreDecided order l (seconds ++ option_to_list next)) n all)
@@ -446,7 +447,7 @@ module _ (order : Order) (stage : Stage) (old : Sweeping) (st : StandsAt order s
               ]
         ]
 
-        lack_b : FailsToTake GivesSingle HasNone single_line order old out f.proceeds.firsts f.proceeds.seconds f.proceeds.newly f.waiting to_b fault grown → FailsB
+        lack_b : FailsToTake single_cursor order old out f.proceeds.firsts f.proceeds.seconds f.proceeds.newly f.waiting to_b fault grown → FailsB
         lack_b lack = elim parts [
           | inr written ↦ absurd (let apart : None ≡ Some lack.shares.last = sym written.1 ∙ lack.shares.waits in cc)
           | inl still ↦ elim (seconds_are to_b f.proceeds.seconds f.proceeds.gives_seconds) [
@@ -477,15 +478,15 @@ module _ (order : Order) (stage : Stage) (old : Sweeping) (st : StandsAt order s
           ]
         ]
 
-    pub takes_b : {T : Type 0} (done : T) (new : Sweeping) (to_a to_b : Single) (grown : Output) → AdvancesOn GivesSingle HasNone GivesSingle HasNone single_line order old from_a from_b out (Ok done) new to_a to_b grown → single_left to_b ≡ []
+    pub takes_b : {T : Type 0} (done : T) (new : Sweeping) (to_a to_b : Single) (grown : Output) → AdvancesOn single_cursor single_cursor order old from_a from_b out (Ok done) new to_a to_b grown → single_left to_b ≡ []
         → GivesB order stage a b line old out (Ok Yes) new grown
     takes_b done new to_a to_b grown d gone = taken_now new to_a to_b grown d.0 gone
 
-    pub decides_a : {T : Type 0} (done : T) (new : Sweeping) (to_a to_b : Single) (grown : Output) (r : Feature) → AdvancesOn GivesSingle HasNone GivesSingle HasNone single_line order old from_a from_b out (Ok done) new to_a to_b grown → single_left to_b ≡ r ∷ []
+    pub decides_a : {T : Type 0} (done : T) (new : Sweeping) (to_a to_b : Single) (grown : Output) (r : Feature) → AdvancesOn single_cursor single_cursor order old from_a from_b out (Ok done) new to_a to_b grown → single_left to_b ≡ r ∷ []
         → GivesB order stage a b line old out (Ok No) new grown
     decides_a done new to_a to_b grown r d still = not_taken new to_a to_b grown d.0 r d.1 still
 
-    pub stops_b : (new : Sweeping) (to_a to_b : Single) (grown : Output) (fault : Fault) → want_in new ≡ Nothing → FailsAt GivesSingle HasNone GivesSingle HasNone single_line order old from_a from_b out (fault_value fault) to_a to_b grown
+    pub stops_b : (new : Sweeping) (to_a to_b : Single) (grown : Output) (fault : Fault) → want_in new ≡ Nothing → FailsAt single_cursor single_cursor order old from_a from_b out (fault_value fault) to_a to_b grown
         → GivesB order stage a b line old out (Err fault) new grown
     stops_b new to_a to_b grown fault stops f = (stops, fails_b new to_a to_b grown (fault_value fault) f)
 
@@ -513,19 +514,19 @@ module _ (order : Order) (stage : Stage) (a : Feature) (old : Sweeping) (st : St
 
   module _ (final : Sweeping) (to_a to_b : Single) (grown : Output) where
     abbrev Joined : Option Feature → Type 0
-    Joined waiting = JoinsSo GivesSingle HasNone GivesSingle (EndsWhile HasNone mid.phase) single_line (IsThis order) (Settles order mid.phase) mid a from_a from_b [] out waiting final to_a to_b [] grown
+    Joined waiting = JoinsSo single_cursor (going_on mid.phase single_cursor) (IsThis order) (Settles order mid.phase) mid a from_a from_b [] out waiting final to_a to_b [] grown
 
     abbrev Broken : FaultValue → Type 0
-    Broken fault = Breaks GivesSingle HasNone GivesSingle (EndsWhile HasNone mid.phase) single_line (IsThis order) (Settles order mid.phase) mid a from_a from_b [] out fault to_a to_b [] grown
+    Broken fault = Breaks single_cursor (going_on mid.phase single_cursor) (IsThis order) (Settles order mid.phase) mid a from_a from_b [] out fault to_a to_b [] grown
 
     -- none is left
-    all_decided : (waiting : Option Feature) → StopsAt GivesSingle HasNone GivesSingle (EndsWhile HasNone mid.phase) single_line (IsThis order) (Settles order mid.phase) mid a from_a from_b [] out waiting to_a to_b → waiting ≡ None
+    all_decided : (waiting : Option Feature) → StopsAt single_cursor (going_on mid.phase single_cursor) (IsThis order) (Settles order mid.phase) mid a from_a from_b [] out waiting to_a to_b → waiting ≡ None
     all_decided waiting stops = grind arith
 
     written_is : (newly firsts : List Feature) (waiting : Option Feature) → firsts ≡ [] → waiting ≡ None → a ∷ firsts ≡ newly ++ option_to_list waiting → newly ≡ a ∷ []
     written_is newly firsts waiting e w are = sym (append-nil newly) ∙ ap (λ (o : Option Feature). newly ++ option_to_list o) (sym w) ∙ sym are ∙ ap (λ (l : List Feature). a ∷ l) e
 
-    pub ends_b : (waiting : Option Feature) (j : Joined waiting) → StopsAt GivesSingle HasNone GivesSingle (EndsWhile HasNone mid.phase) single_line (IsThis order) (Settles order mid.phase) mid a from_a from_b [] out waiting to_a to_b
+    pub ends_b : (waiting : Option Feature) (j : Joined waiting) → StopsAt single_cursor (going_on mid.phase single_cursor) (IsThis order) (Settles order mid.phase) mid a from_a from_b [] out waiting to_a to_b
         → final.current ≡ None → final.phase ≡ mid.phase → EndsB {A = Unit {0}} order stage a old out (Ok tt) final grown
     ends_b waiting j stops gone phase =
         let no_firsts = single_none from_a to_a j.proceeds.firsts empty_a j.proceeds.gives_firsts in

@@ -1,5 +1,5 @@
 -- Lemmas on where a sweep is once records of both inputs were given and taken.
-use Rattle.bt_lines.proofs.Std.{◌≡◌, inl, inr, ℕ, Bool, true, false, List, [], ◌∷◌, ◌++◌, Option, Some, None, Ok, Err, Result, refl, sym, ap, ◌∙◌, subst, append-nil, append_assoc, option_to_list, length, ◌≤◌, arith, IfSome, is_some, ◌⊎◌, ⊤}
+use Rattle.bt_lines.proofs.Std.{◌≡◌, inl, inr, ℕ, Bool, true, false, List, [], ◌∷◌, ◌++◌, Option, Some, None, Ok, Err, Result, refl, sym, ap, ◌∙◌, subst, append-nil, append_assoc, option_to_list, length, ◌≤◌, arith, IfSome, is_some, ◌⊎◌}
 use Rattle.bt_lines.specs.model.Fault.{FaultValue, no_memory}
 use Rattle.bt_lines.specs.calls.Names.{fault_value}
 use Rattle.bt_lines.specs.declared.fault.Fault.{Fault}
@@ -9,10 +9,11 @@ use Rattle.bt_bed.specs.model.Feature.{Feature, intervals_of}
 use Rattle.bt_bed.specs.model.Sorted.{ArePlaced}
 use Rattle.bt_bed.specs.model.Order.{Order, IsTotal}
 use Rattle.bt_bed.specs.calls.Bed.{GivesSingle, single_left}
+use Rattle.bt_bed.specs.declared.read.cursor.Cursor.{Ghosts as Cursor}
 use Rattle.bt_bed.specs.declared.read.cursor.Single.{Single}
-use Rattle.bt_sweep.specs.calls.Sweeping.{AdvancesOn, AdvancesSo, AtEach, FailsAt, IsThis, Proceeded, PutsEach, Settles, StopsFor, stage_after, CannotBeHeld, LeavesLast, TakenEach, HoldsFor, MovesTo, Stage, StandsAt, given, phase_of, Sweeping, is_over, want_in, want_of, NoneGiven}
+use Rattle.bt_sweep.specs.calls.Sweeping.{AdvancesOn, AdvancesSo, AtEach, FailsAt, IsThis, Proceeded, PutsEach, Settles, StopsFor, stage_after, CannotBeHeld, LeavesLast, TakenEach, HoldsFor, MovesTo, Stage, StandsAt, given, phase_of, Sweeping, is_over, want_in, want_of, no_cursor}
 use Rattle.bt_sweep.specs.model.Lines.{intersect}
-use Rattle.bt_sweep.specs.inside.Joining.{BehindFor, Breaks, JoinsSo, Keeps, Proceeded as Joined, TakesEachFor, WritesFor, KeepsOne, held_with}
+use Rattle.bt_sweep.specs.inside.Joining.{BehindFor, Breaks, JoinsSo, Keeps, Proceeded as Joined, TakesEachFor, WritesFor, KeepsOne, going_on, held_with}
 use Rattle.bt_sweep.specs.declared.hits.hit_rule.HitRule.{HitRule}
 use Rattle.bt_sweep.specs.declared.sweep.phase.Phase.{Phase}
 use Rattle.bt_sweep.specs.declared.sweep.phase.Phase.TheVariants.{Both, First, Over}
@@ -91,17 +92,17 @@ want_a s none going = want_none s.current s.phase none going
 pub want_b : (s : Sweeping) (a : Feature) → s.current ≡ Some a → want_in s ≡ WantB
 want_b s a some = ap (λ (o : Option Feature). want_of (is_some o) (is_over s.phase)) some
 
-module _ {U V : Type 0} (u_gives : U → List Feature → U → Type 0) (u_ended : U → Type 0) (v_gives : V → List Feature → V → Type 0) (v_ended : V → Type 0) (v_line : V → ℕ) (order : Order) (old : Sweeping) (from_u to_u : U) (from_v to_v : V) (out : Output) (s : Sweeping) where
+module _ {A B R S : Type 0} (cursor_a : Cursor A R) (cursor_b : Cursor B S) (order : Order) (old : Sweeping) (from_u to_u : A) (from_v to_v : B) (out : Output) (s : Sweeping) where
   abbrev Stops : Want → Type 0
-  Stops want = StopsFor u_gives u_ended v_gives v_ended v_line order old from_u from_v out want to_u to_v
+  Stops want = StopsFor cursor_a cursor_b order old from_u from_v out want to_u to_v
 
   pub stops_nothing : want_in s ≡ Nothing → Stops (want_in s)
   stops_nothing e = subst Stops (sym e) tt
 
-  pub stops_a : want_in s ≡ WantA → u_ended to_u → Stops (want_in s)
+  pub stops_a : want_in s ≡ WantA → cursor_a.has_ended to_u → Stops (want_in s)
   stops_a e ended = subst Stops (sym e) ended
 
-  pub stops_b : want_in s ≡ WantB → v_ended to_v → Stops (want_in s)
+  pub stops_b : want_in s ≡ WantB → cursor_b.has_ended to_v → Stops (want_in s)
   stops_b e ended = subst Stops (sym e) ended
 
 -- ---- from there on
@@ -155,10 +156,9 @@ module _ (order : Order) (old mid : Sweeping) (first : Feature) (pre : List Feat
       subst (λ (n : Sweeping). MovesTo order old (stage_after stage newly n.current seconds) n) (sym is)
       (record { stands = here; same = record { shape_is = k.shape_is; rule_is = k.rule_is; limit_is = k.limit_is } })
 
-  module _ {A B U : Type 0} (a_gives : A → List Feature → A → Type 0) (a_ended : A → Type 0) (b_gives : B → List Feature → B → Type 0) (b_ended b_ended' : B → Type 0) (b_line : B → ℕ)
-      (u_gives : U → List Feature → U → Type 0) (u_ended : U → Type 0) (from_u to_u : U) (from_a to_a : A) (from_b to_b : B) (out grown : Output) (new : Sweeping) where
-    abbrev proceeds_from : (waiting now : Option Feature) (p : Joined a_gives a_ended b_gives b_ended' b_line (IsThis order) (Settles order mid.phase) mid first from_a from_b [] out waiting to_a to_b)
-        → u_gives from_u (pre ++ p.firsts) to_u → waiting ≡ now → Proceeded u_gives u_ended b_gives b_ended b_line order old from_u from_b out now to_u to_b
+  module _ {A B U R S Q : Type 0} (cursor_a : Cursor A R) (cursor_b : Cursor B S) (cursor_u : Cursor U Q) (from_u to_u : U) (from_a to_a : A) (from_b to_b : B) (out grown : Output) (new : Sweeping) where
+    abbrev proceeds_from : (waiting now : Option Feature) (p : Joined cursor_a (going_on mid.phase cursor_b) (IsThis order) (Settles order mid.phase) mid first from_a from_b [] out waiting to_a to_b)
+        → cursor_u.gives from_u (pre ++ p.firsts) to_u → waiting ≡ now → Proceeded cursor_u cursor_b order old from_u from_b out now to_u to_b
     proceeds_from waiting now p gives w = record {
       firsts = pre ++ p.firsts;
       seconds = p.seconds;
@@ -172,8 +172,8 @@ module _ (order : Order) (old mid : Sweeping) (first : Feature) (pre : List Feat
       each = each_from p.firsts p.seconds p.each;
     }
 
-    pub advances_from : (waiting : Option Feature) (final : Sweeping) (j : JoinsSo a_gives a_ended b_gives b_ended' b_line (IsThis order) (Settles order mid.phase) mid first from_a from_b [] out waiting new to_a to_b [] grown)
-        → u_gives from_u (pre ++ j.proceeds.firsts) to_u → new.phase ≡ old.phase → final ≡ record new { current = waiting } → IsOpen waiting → IfSome waiting (LeavesLast order j.proceeds.seconds) → AdvancesSo u_gives u_ended b_gives b_ended b_line order old from_u from_b out final to_u to_b grown
+    pub advances_from : (waiting : Option Feature) (final : Sweeping) (j : JoinsSo cursor_a (going_on mid.phase cursor_b) (IsThis order) (Settles order mid.phase) mid first from_a from_b [] out waiting new to_a to_b [] grown)
+        → cursor_u.gives from_u (pre ++ j.proceeds.firsts) to_u → new.phase ≡ old.phase → final ≡ record new { current = waiting } → IsOpen waiting → IfSome waiting (LeavesLast order j.proceeds.seconds) → AdvancesSo cursor_u cursor_b order old from_u from_b out final to_u to_b grown
     advances_from waiting final j gives same is goes_on leaves = record {
       proceeds = proceeds_from waiting final.current j.proceeds gives (ap (λ (n : Sweeping). n.current) (sym is));
       leaves = subst (λ (n : Sweeping). IfSome n.current (LeavesLast order j.proceeds.seconds)) (sym is) leaves;
@@ -184,8 +184,8 @@ module _ (order : Order) (old mid : Sweeping) (first : Feature) (pre : List Feat
     }
 
     -- it failed at one of them
-    pub fails_from : (fault : FaultValue) (b : Breaks a_gives a_ended b_gives b_ended' b_line (IsThis order) (Settles order mid.phase) mid first from_a from_b [] out fault to_a to_b [] grown)
-        → u_gives from_u (pre ++ b.proceeds.firsts) to_u → FailsAt u_gives u_ended b_gives b_ended b_line order old from_u from_b out fault to_u to_b grown
+    pub fails_from : (fault : FaultValue) (b : Breaks cursor_a (going_on mid.phase cursor_b) (IsThis order) (Settles order mid.phase) mid first from_a from_b [] out fault to_a to_b [] grown)
+        → cursor_u.gives from_u (pre ++ b.proceeds.firsts) to_u → FailsAt cursor_u cursor_b order old from_u from_b out fault to_u to_b grown
     fails_from fault b gives = record {
       proceeds = proceeds_from b.waiting b.waiting b.proceeds gives refl;
       waiting = b.waiting;
@@ -194,14 +194,14 @@ module _ (order : Order) (old mid : Sweeping) (first : Feature) (pre : List Feat
         | inr lack ↦ inr (inl (record {
           shares = lack.shares;
           puts = puts_each b.proceeds.firsts b.proceeds.seconds b.proceeds.newly out grown lack.writes;
-          lacks = at_each b.proceeds.firsts b.proceeds.seconds (λ order shape rule limit as_given taken. CannotBeHeld limit lack.shares.last taken (b_line lack.shares.after) fault) lack.lacks;
+          lacks = at_each b.proceeds.firsts b.proceeds.seconds (λ order shape rule limit as_given taken. CannotBeHeld limit lack.shares.last taken (cursor_b.line lack.shares.after) fault) lack.lacks;
         }))
       ];
     }
 
     -- the one that waits can't be kept
-    pub lacks_from : (a : Feature) (fault : FaultValue) (j : JoinsSo a_gives a_ended b_gives b_ended' b_line (IsThis order) (Settles order mid.phase) mid first from_a from_b [] out (Some a) new to_a to_b [] grown)
-        → u_gives from_u (pre ++ j.proceeds.firsts) to_u → old.current ≡ None → old.phase ≡ Both → b_ended to_b → fault ≡ no_memory → FailsAt u_gives u_ended b_gives b_ended b_line order old from_u from_b out fault to_u to_b grown
+    pub lacks_from : (a : Feature) (fault : FaultValue) (j : JoinsSo cursor_a (going_on mid.phase cursor_b) (IsThis order) (Settles order mid.phase) mid first from_a from_b [] out (Some a) new to_a to_b [] grown)
+        → cursor_u.gives from_u (pre ++ j.proceeds.firsts) to_u → old.current ≡ None → old.phase ≡ Both → cursor_b.has_ended to_b → fault ≡ no_memory → FailsAt cursor_u cursor_b order old from_u from_b out fault to_u to_b grown
     lacks_from a fault j gives none both ended is = record {
       proceeds = proceeds_from (Some a) (Some a) j.proceeds gives refl;
       waiting = Some a;
@@ -209,19 +209,19 @@ module _ (order : Order) (old mid : Sweeping) (first : Feature) (pre : List Feat
     }
 
     -- it is kept, or can't be
-    pub kept_or_not : {T : Type 0} (a : Feature) (j : JoinsSo a_gives a_ended b_gives b_ended' b_line (IsThis order) (Settles order mid.phase) mid first from_a from_b [] out (Some a) new to_a to_b [] grown) → old.current ≡ None → b_ended to_b → (mid.phase ≡ First → ⊥)
-        → u_gives from_u (pre ++ j.proceeds.firsts) to_u → new.phase ≡ old.phase → (old.phase ≡ Over → ⊥) → LeavesLast order j.proceeds.seconds a → (result : Result T Fault) (final : Sweeping) → KeepsOne new a result final
-        → AdvancesOn u_gives u_ended b_gives b_ended b_line order old from_u from_b out result final to_u to_b grown
+    pub kept_or_not : {T : Type 0} (a : Feature) (j : JoinsSo cursor_a (going_on mid.phase cursor_b) (IsThis order) (Settles order mid.phase) mid first from_a from_b [] out (Some a) new to_a to_b [] grown) → old.current ≡ None → cursor_b.has_ended to_b → (mid.phase ≡ First → ⊥)
+        → cursor_u.gives from_u (pre ++ j.proceeds.firsts) to_u → new.phase ≡ old.phase → (old.phase ≡ Over → ⊥) → LeavesLast order j.proceeds.seconds a → (result : Result T Fault) (final : Sweeping) → KeepsOne new a result final
+        → AdvancesOn cursor_u cursor_b order old from_u from_b out result final to_u to_b grown
     kept_or_not a j none ended not_first gives same not_over leaves (Ok t) final is = (
       advances_from (Some a) final j gives same is (λ w stage st. both_open stage.a_ended stage.b_ended old.phase st.phase_is (λ e. not_first (phase ∙ e)) not_over) leaves,
-      inl (stops_b u_gives u_ended b_gives b_ended b_line order old from_u to_u from_b to_b out final (want_b final a (ap (λ (s : Sweeping). s.current) is)) ended),
+      inl (stops_b cursor_u cursor_b order old from_u to_u from_b to_b out final (want_b final a (ap (λ (s : Sweeping). s.current) is)) ended),
     )
     kept_or_not a j none ended not_first gives same not_over leaves (Err fault) final is = lacks_from a (fault_value fault) j gives none (still_both old.phase (λ e. not_first (phase ∙ e)) not_over) ended is.1
 
 -- ---- where nothing is given or taken
 
-module _ {U V : Type 0} (u_gives : U → List Feature → U → Type 0) (u_ended : U → Type 0) (v_gives : V → List Feature → V → Type 0) (v_ended : V → Type 0) (v_line : V → ℕ) (order : Order) (old : Sweeping) (from_u : U) (from_v : V) (out : Output)
-    (u_none : u_gives from_u [] from_u) (v_none : v_gives from_v [] from_v) where
+module _ {A B R S : Type 0} (cursor_a : Cursor A R) (cursor_b : Cursor B S) (order : Order) (old : Sweeping) (from_u : A) (from_v : B) (out : Output)
+    (u_none : cursor_a.gives from_u [] from_u) (v_none : cursor_b.gives from_v [] from_v) where
   same_stands : (stage : Stage) → StandsAt order stage old → MovesTo order old (stage_after stage [] old.current []) old
   same_stands stage st =
       let here : StandsAt order (stage_after stage [] old.current []) old = record {
@@ -239,7 +239,7 @@ module _ {U V : Type 0} (u_gives : U → List Feature → U → Type 0) (u_ended
   leaves_nothing None = tt
   leaves_nothing (Some a) = leaves_none order [] a refl
 
-  pub advances_none : AdvancesSo u_gives u_ended v_gives v_ended v_line order old from_u from_v out old from_u from_v out
+  pub advances_none : AdvancesSo cursor_a cursor_b order old from_u from_v out old from_u from_v out
   advances_none = record {
     proceeds = record {
       firsts = [];
@@ -280,13 +280,13 @@ only_first first w (x ∷ newly) e = absurd (some_more newly w (same_heads first
 
 -- Lemmas on what an advance is where one waits, and where none does.
 
-module _ {A V : Type 0} (a_gives : A → List Feature → A → Type 0) (a_ended : A → Type 0) (v_gives : V → List Feature → V → Type 0) (v_ended : V → Type 0) (v_line : V → ℕ) (order : Order) (old : Sweeping) (from_a : A) (from_v to_v : V) (out grown : Output) (a_none : a_gives from_a [] from_a) where
-  abbrev lifts_so : (waiting : Option Feature) → Proceeded NoneGiven (λ u. ⊤) v_gives v_ended v_line order old tt from_v out waiting tt to_v → Proceeded a_gives a_ended v_gives v_ended v_line order old from_a from_v out waiting from_a to_v
+module _ {A B R S : Type 0} (cursor_a : Cursor A R) (cursor_b : Cursor B S) (order : Order) (old : Sweeping) (from_a : A) (from_v to_v : B) (out grown : Output) (a_none : cursor_a.gives from_a [] from_a) where
+  abbrev lifts_so : (waiting : Option Feature) → Proceeded no_cursor cursor_b order old tt from_v out waiting tt to_v → Proceeded cursor_a cursor_b order old from_a from_v out waiting from_a to_v
   lifts_so waiting p = record {
     firsts = p.firsts;
     seconds = p.seconds;
     newly = p.newly;
-    gives_firsts = subst (λ (fs : List Feature). a_gives from_a fs from_a) (sym p.gives_firsts) a_none;
+    gives_firsts = subst (λ (fs : List Feature). cursor_a.gives from_a fs from_a) (sym p.gives_firsts) a_none;
     gives_seconds = p.gives_seconds;
     are = p.are;
     next = p.next;
@@ -296,13 +296,13 @@ module _ {A V : Type 0} (a_gives : A → List Feature → A → Type 0) (a_ended
   }
 
   -- it still waits, and there is none of the second input, or none waits
-  stops_so : (current : Option Feature) (over : Bool) → StopsFor NoneGiven (λ u. ⊤) v_gives v_ended v_line order old tt from_v out (want_of (is_some current) over) tt to_v
-      → StopsFor a_gives a_ended v_gives v_ended v_line order old from_a from_v out (want_of (is_some current) over) from_a to_v ⊎ (current ≡ None)
+  stops_so : (current : Option Feature) (over : Bool) → StopsFor no_cursor cursor_b order old tt from_v out (want_of (is_some current) over) tt to_v
+      → StopsFor cursor_a cursor_b order old from_a from_v out (want_of (is_some current) over) from_a to_v ⊎ (current ≡ None)
   stops_so None over stops = inr refl
   stops_so (Some a) over stops = inl stops
 
-  pub lifts_current : {T : Type 0} (result : Result T Fault) (new : Sweeping) → is_some old.current ≡ true → AdvancesOn NoneGiven (λ u. ⊤) v_gives v_ended v_line order old tt from_v out result new tt to_v grown
-      → AdvancesOn a_gives a_ended v_gives v_ended v_line order old from_a from_v out result new from_a to_v grown
+  pub lifts_current : {T : Type 0} (result : Result T Fault) (new : Sweeping) → is_some old.current ≡ true → AdvancesOn no_cursor cursor_b order old tt from_v out result new tt to_v grown
+      → AdvancesOn cursor_a cursor_b order old from_a from_v out result new from_a to_v grown
   lifts_current (Ok t) new some d = (
     record { proceeds = lifts_so new.current d.0.proceeds; leaves = d.0.leaves; stands = d.0.stands; puts = d.0.puts },
     elim d.1 [
@@ -316,10 +316,10 @@ module _ {A V : Type 0} (a_gives : A → List Feature → A → Type 0) (a_ended
   lifts_current (Err fault) new some b = record { proceeds = lifts_so b.waiting b.proceeds; waiting = b.waiting; cause = b.cause }
 
 -- while none waits, an end isn't asked for that could still come
-module _ {V : Type 0} (v_gives : V → List Feature → V → Type 0) (v_ended : V → Type 0) (v_line : V → ℕ) (order : Order) (old : Sweeping) (from_v : V) (out : Output) where
-  stops_over : (over : Bool) (to_v : V) → StopsFor NoneGiven (λ u. ⊤) v_gives v_ended v_line order old tt from_v out (want_of false over) tt to_v
+module _ {B S : Type 0} (cursor_b : Cursor B S) (order : Order) (old : Sweeping) (from_v : B) (out : Output) where
+  stops_over : (over : Bool) (to_v : B) → StopsFor no_cursor cursor_b order old tt from_v out (want_of false over) tt to_v
   stops_over true to_v = tt
   stops_over false to_v = tt
 
-  pub stops_none : (new : Sweeping) (to_v : V) → new.current ≡ None → StopsFor NoneGiven (λ u. ⊤) v_gives v_ended v_line order old tt from_v out (want_in new) tt to_v
+  pub stops_none : (new : Sweeping) (to_v : B) → new.current ≡ None → StopsFor no_cursor cursor_b order old tt from_v out (want_in new) tt to_v
   stops_none new to_v none = rw none (stops_over (is_over new.phase) to_v)

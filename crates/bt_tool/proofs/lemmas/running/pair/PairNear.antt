@@ -22,6 +22,7 @@ use Rattle.bt_tool.proofs.lemmas.running.pair.PairMet.{may_come}
 use Rattle.bt_lines.specs.declared.device.Source.{Ghosts as Source}
 use Rattle.bt_lines.specs.declared.fault.Fault.{Fault}
 use Rattle.bt_bed.specs.calls.Batch.{HasEnded, IsWhere, Passes, batch_room, cursor_in, left as left_in, line_in}
+use Rattle.bt_bed.specs.calls.CursorOf.{batch_cursor}
 use Rattle.bt_bed.specs.calls.SortedReader.{view_with}
 use Rattle.bt_bed.specs.calls.CursorLaws.{batch_gives_more, batch_gives_none}
 use Rattle.bt_bed.specs.calls.Records.{IsTaken, Lends, TakesRecords, below, buffered_in, count_in, view_of}
@@ -270,6 +271,6 @@ module _ {S O : Type 0} {g : Ghosts O} (device : Source S) (old new : Records S 
   unfolding line_in cursor_in
   line_then b after next = omega (arith, next.lines.given, consumes.line_is)
 
-  pub next_then : (next : Option Feature) → ComesNext Passes last next → IfSome next (λ b. item_ahead (view_of new) ≡ Some b)
+  pub next_then : (next : Option Feature) → ComesNext batch_cursor last next → IfSome next (λ b. item_ahead (view_of new) ≡ Some b)
   next_then None comes = tt
   next_then (Some b) comes = ap (option_map (λ m. m.item)) (first_then b comes.0 comes.1)

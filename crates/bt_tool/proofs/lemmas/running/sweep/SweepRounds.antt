@@ -15,7 +15,8 @@ use Rattle.bt_lines.proofs.lemmas.reader.block.ReadsLemmas.{has_read_then, reads
 use Rattle.bt_lines.specs.calls.Names.{fault_value}
 use Rattle.bt_lines.specs.calls.Reader.{HasRead}
 use Rattle.bt_lines.specs.declared.fault.Fault.{Fault}
-use Rattle.bt_bed.specs.calls.Batch.{HasEnded, Passes, line_in}
+use Rattle.bt_bed.specs.calls.Batch.{Passes}
+use Rattle.bt_bed.specs.calls.CursorOf.{batch_cursor}
 use Rattle.bt_bed.specs.calls.SortedReader.{fault_in}
 use Rattle.bt_bed.specs.declared.read.batch.Batch.{Batch}
 use Rattle.bt_bed.specs.model.Feature.{Feature}
@@ -261,7 +262,7 @@ module _ {A B O : Type 0} {g : Ghosts O} (source_a : Source A) (source_b : Sourc
     have_read : (fs ss : List Feature) → TakesBoth source_a source_b old.first old.second fs ss new.first new.second → HaveRead (records_pair source_a source_b old.first old.second) (view_of new.first) (view_of new.second)
     have_read fs ss takes = (taken_reads source_a (view_of old.first) fs (view_of new.first) takes.first_taken, taken_reads source_b (view_of old.second) ss (view_of new.second) takes.second_taken)
 
-    module _ (gives : AdvancesSo Passes HasEnded Passes HasEnded line_in (order_in start.first) sweep firsts seconds grown (state_of new.sweep) last_firsts last_seconds later) where
+    module _ (gives : AdvancesSo batch_cursor batch_cursor (order_in start.first) sweep firsts seconds grown (state_of new.sweep) last_firsts last_seconds later) where
       takes : TakesBoth source_a source_b old.first old.second gives.proceeds.firsts gives.proceeds.seconds new.first new.second
       takes = taken_both gives.proceeds.firsts gives.proceeds.seconds gives.proceeds.gives_firsts gives.proceeds.gives_seconds
 
@@ -297,7 +298,7 @@ module _ {A B O : Type 0} {g : Ghosts O} (source_a : Source A) (source_b : Sourc
       most = rounds_most swept.current (is_done swept.phase)
 
       abbrev Stops : Want → Type 0
-      Stops want = StopsFor Passes HasEnded Passes HasEnded line_in (order_in start.first) sweep firsts seconds grown want last_firsts last_seconds
+      Stops want = StopsFor batch_cursor batch_cursor (order_in start.first) sweep firsts seconds grown want last_firsts last_seconds
 
       -- none of the first was taken, though one was buffered
       stopped_a : (w : Want) → want_in swept ≡ w → 0 < length (view_of old.first).buffered → want_in sweep ≡ WantA → waits sweep ≡ 0 → length gives.proceeds.firsts ≡ 0 → Stops w → IsLess new
@@ -312,7 +313,7 @@ module _ {A B O : Type 0} {g : Ghosts O} (source_a : Source A) (source_b : Sourc
           omega (arith, rooms, (wants_first swept.current (is_done swept.phase) e).2, (wants_second sweep.current (is_done sweep.phase) wants).2)
       stopped_b Nothing e some wants taken none_left = omega (arith, rooms, (wants_nothing swept.current (is_done swept.phase) e).1, (wants_second sweep.current (is_done sweep.phase) wants).2)
 
-      less_by : Stops (want_in swept) ⊎ HasWritten Passes HasEnded Passes HasEnded line_in (order_in start.first) sweep firsts seconds grown swept → (w : Want) → want_in sweep ≡ w → IsBuffered w (length (view_of old.first).buffered) (length (view_of old.second).buffered) → IsLess new
+      less_by : Stops (want_in swept) ⊎ HasWritten batch_cursor batch_cursor (order_in start.first) sweep firsts seconds grown swept → (w : Want) → want_in sweep ≡ w → IsBuffered w (length (view_of old.first).buffered) (length (view_of old.second).buffered) → IsLess new
       less_by stops WantA wants some =
           let none : waits sweep ≡ 0 = none_of sweep.current (wants_first sweep.current (is_done sweep.phase) wants).0 in
           elim (number_cases (length gives.proceeds.firsts)) [
@@ -332,14 +333,14 @@ module _ {A B O : Type 0} {g : Ghosts O} (source_a : Source A) (source_b : Sourc
           ]
       less_by stops Nothing wants some = absurd some
 
-      came_further : Stops (want_in swept) ⊎ HasWritten Passes HasEnded Passes HasEnded line_in (order_in start.first) sweep firsts seconds grown swept → sweep_order new.sweep ≡ order → Goes new later × Given new
+      came_further : Stops (want_in swept) ⊎ HasWritten batch_cursor batch_cursor (order_in start.first) sweep firsts seconds grown swept → sweep_order new.sweep ≡ order → Goes new later × Given new
       came_further stops same = (
         comes_to new later (goes_both source_a source_b start out s.begun old grown s.sweeps new.first new.second firsts seconds last_firsts last_seconds consumes consumes_second swept later gives) same (have_read gives.proceeds.firsts gives.proceeds.seconds takes),
         (few, less_by stops (want_in sweep) refl),
       )
 
     gave : {T : Type 0} (answer : Result T Fault) → sweep_order new.sweep ≡ order
-        → AdvancesOn Passes HasEnded Passes HasEnded line_in (order_in start.first) sweep firsts seconds grown answer (state_of new.sweep) last_firsts last_seconds later → Leads Given answer new later
+        → AdvancesOn batch_cursor batch_cursor (order_in start.first) sweep firsts seconds grown answer (state_of new.sweep) last_firsts last_seconds later → Leads Given answer new later
     gave (Ok done) same gives = came_further gives.0 gives.1 same
     gave (Err fault) same fails =
         let takes = taken_both fails.proceeds.firsts fails.proceeds.seconds fails.proceeds.gives_firsts fails.proceeds.gives_seconds in
@@ -350,10 +351,10 @@ module _ {A B O : Type 0} {g : Ghosts O} (source_a : Source A) (source_b : Sourc
 
   pub gave_both : {T : Type 0} (new : SweepRun A B O g) (later : Output) (answer : Result T Fault) → sweep_order new.sweep ≡ order
       → ((firsts : Batch) × (seconds : Batch) × (last_firsts : Batch) × (last_seconds : Batch) × ConsumesGiven source_a old.first firsts last_firsts new.first × ConsumesGiven source_b old.second seconds last_seconds new.second
-      × AdvancesOn Passes HasEnded Passes HasEnded line_in order sweep firsts seconds grown answer (state_of new.sweep) last_firsts last_seconds later) → Leads Given answer new later
+      × AdvancesOn batch_cursor batch_cursor order sweep firsts seconds grown answer (state_of new.sweep) last_firsts last_seconds later) → Leads Given answer new later
   gave_both {T} new later answer same gives =
       gave new later gives.0 gives.1 gives.2 gives.3 gives.4 gives.5 answer same
-      (subst (λ (o : Order). AdvancesOn Passes HasEnded Passes HasEnded line_in o sweep gives.0 gives.1 grown answer (state_of new.sweep) gives.2 gives.3 later) s.order_is gives.6)
+      (subst (λ (o : Order). AdvancesOn batch_cursor batch_cursor o sweep gives.0 gives.1 grown answer (state_of new.sweep) gives.2 gives.3 later) s.order_is gives.6)
 
   -- ---- the first input has ended
 

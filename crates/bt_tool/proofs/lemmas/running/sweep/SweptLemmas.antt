@@ -4,7 +4,8 @@ use Rattle.bt_lines.specs.declared.device.Source.{Ghosts as Source}
 use Rattle.bt_lines.specs.calls.Output.{Output, FailsToAdd, Grown}
 use Rattle.bt_lines.specs.calls.Reader.{lines_given}
 use Rattle.bt_lines.specs.declared.fault.Fault.{Fault}
-use Rattle.bt_bed.specs.calls.Batch.{HasEnded, Passes as PassesBatch, line_in}
+use Rattle.bt_bed.specs.calls.Batch.{Passes as PassesBatch}
+use Rattle.bt_bed.specs.calls.CursorOf.{batch_cursor}
 use Rattle.bt_bed.specs.calls.SortedReader.{are_in_order, fault_in}
 use Rattle.bt_bed.specs.model.Feature.{Feature, interval_of, intervals_of, last_of}
 use Rattle.bt_bed.specs.model.BedLine.{IsBedKind, fault_at_line}
@@ -84,7 +85,7 @@ ahead_placed now order is past m total state ahead placed =
 
 -- the records that a sweep took of either batch
 pub passed_both : {T : Type 0} (order : Order) (sweep : Sweeping) (firsts seconds : Batch) (out : Output) (result : Result T Fault) (swept : Sweeping) (last_firsts last_seconds : Batch) (grown : Output)
-    → AdvancesOn PassesBatch HasEnded PassesBatch HasEnded line_in order sweep firsts seconds out result swept last_firsts last_seconds grown
+    → AdvancesOn batch_cursor batch_cursor order sweep firsts seconds out result swept last_firsts last_seconds grown
     → ((records : List Feature) × PassesBatch firsts records last_firsts) × ((records : List Feature) × PassesBatch seconds records last_seconds)
 passed_both order sweep firsts seconds out (Ok done) swept last_firsts last_seconds grown (so, stops) = ((so.proceeds.firsts, so.proceeds.gives_firsts), (so.proceeds.seconds, so.proceeds.gives_seconds))
 passed_both order sweep firsts seconds out (Err fault) swept last_firsts last_seconds grown fails = ((fails.proceeds.firsts, fails.proceeds.gives_firsts), (fails.proceeds.seconds, fails.proceeds.gives_seconds))
@@ -105,7 +106,7 @@ pub record TakesBoth {A B O : Type 0} {g : Ghosts O} (source_a : Source A) (sour
 
 -- what the sweep knows to come next is ahead
 pub seen_then : {S O : Type 0} {g : Ghosts O} (device : Source S) (old new : Records S O g) (first last : Batch) → ConsumesGiven device old first last new → (order : Order) (phase : Phase) (newly seconds : List Feature) (next : Option Feature)
-    → ComesNext PassesBatch last next → Settles order phase newly (seconds ++ option_to_list next) → Settles order phase newly (seconds ++ option_to_list (item_ahead (view_of new)))
+    → ComesNext batch_cursor last next → Settles order phase newly (seconds ++ option_to_list next) → Settles order phase newly (seconds ++ option_to_list (item_ahead (view_of new)))
 seen_then device old new first last consumes order phase newly seconds next comes settles =
     settles_ahead order phase newly seconds next (item_ahead (view_of new)) (next_then device old new first last consumes next comes) settles
 
@@ -511,11 +512,11 @@ module _ {A B O : Type 0} {g : Ghosts O} (source_a : Source A) (source_b : Sourc
       takes_both fs ss passes passes_second =
           record { first_taken = consumes.takes fs passes; second_taken = consumes_second.takes ss passes_second; first_order = consumes.order; second_order = consumes_second.order }
 
-      seen : (newly ss : List Feature) (next : Option Feature) → ComesNext PassesBatch last_seconds next → Settles order sweep.phase newly (ss ++ option_to_list next) → Settles order sweep.phase newly (ss ++ option_to_list (item_ahead (view_of second_now)))
+      seen : (newly ss : List Feature) (next : Option Feature) → ComesNext batch_cursor last_seconds next → Settles order sweep.phase newly (ss ++ option_to_list next) → Settles order sweep.phase newly (ss ++ option_to_list (item_ahead (view_of second_now)))
       seen = seen_then source_b second second_now seconds last_seconds consumes_second order sweep.phase
 
       -- it went on
-      pub goes_both : (swept : Sweeping) (now : Output) → AdvancesSo PassesBatch HasEnded PassesBatch HasEnded line_in order sweep firsts seconds grown swept last_firsts last_seconds now → Going first_now second_now swept now
+      pub goes_both : (swept : Sweeping) (now : Output) → AdvancesSo batch_cursor batch_cursor order sweep firsts seconds grown swept last_firsts last_seconds now → Going first_now second_now swept now
       goes_both swept now gives =
           let fs = gives.proceeds.firsts in
           let ss = gives.proceeds.seconds in
@@ -537,7 +538,7 @@ module _ {A B O : Type 0} {g : Ghosts O} (source_a : Source A) (source_b : Sourc
           }
 
       -- it failed at one of the first
-      pub fails_both : (fault : FaultValue) (now : Output) → FailsAt PassesBatch HasEnded PassesBatch HasEnded line_in order sweep firsts seconds grown fault last_firsts last_seconds now → Ends (Some fault) first_now second_now now
+      pub fails_both : (fault : FaultValue) (now : Output) → FailsAt batch_cursor batch_cursor order sweep firsts seconds grown fault last_firsts last_seconds now → Ends (Some fault) first_now second_now now
       fails_both fault now fails =
           let fs = fails.proceeds.firsts in
           let ss = fails.proceeds.seconds in

@@ -1,4 +1,4 @@
-use Rattle.bt_lines.proofs.Std.{[], ◌<◌, ◌∷◌, Some, None, ℕ, ap, inl, inr, refl, subst, ◌∙◌, err_from_is_err_and}
+use Rattle.bt_lines.proofs.Std.{[], ◌<◌, ◌∷◌, None, ℕ, ap, inl, inr, refl, subst, ◌∙◌, err_from_is_err_and}
 use Rattle.bt_lines.specs.calls.Names.{fault_value}
 use Rattle.bt_bed.specs.model.Order.{IsTotal}
 use Rattle.bt_sweep.specs.inside.Joining.{AreDecidedOn, pending_in, NeedsHit, has_room_in}
@@ -16,7 +16,7 @@ loop-next-init g c = record {
   quiet = c.requires.quiet;
   beside = refl;
   same = refl;
-  going = let first = joins_first g.A.Cursor.gives g.A.Cursor.has_ended g.met.A.Cursor.gives_none g.met.A.Cursor.gives_more g.B.Cursor.gives g.B.Cursor.has_ended g.B.Cursor.line g.met.B.Cursor.gives_none g.met.B.Cursor.gives_more
+  going = let first = joins_first g.A.Cursor g.met.A.Cursor.gives_none g.met.A.Cursor.gives_more g.B.Cursor g.met.B.Cursor.gives_none g.met.B.Cursor.gives_more
       c.args.self.now (g.A.Record.Record.feature c.args.first) c.args.firsts.now.cursor c.args.seconds.now (pending_in (g.A.Cursor.consumed c.args.firsts.now.cursor) c.args.firsts.now.from c.args.firsts.now.to) c.args.out.now.output
       IsTotal (AreDecidedOn (g.A.Record.Record.feature c.args.first).chrom) (λ order total known. refl) c.requires.hits in (first.0, first.1, λ order total known. leaves_none order first.0.proceeds.seconds (g.A.Record.Record.feature c.args.first) first.2);
 }
@@ -33,7 +33,7 @@ returns-in_err-write_up_to-clause-joins g c =
     let e = err_from_is_err_and c.from_residual.result c.from_residual.ensures.1 in
     let cut = rw c.start-then-stop-start.ensures at c.in_err-write_up_to.ensures.writes in
     rw (e.1, e.2)
-    (breaks_write g.A.Cursor.gives g.A.Cursor.has_ended g.met.A.Cursor.gives_none g.met.A.Cursor.gives_more g.B.Cursor.gives g.B.Cursor.has_ended g.B.Cursor.line g.met.B.Cursor.gives_none g.met.B.Cursor.gives_more
+    (breaks_write g.A.Cursor g.met.A.Cursor.gives_none g.met.A.Cursor.gives_more g.B.Cursor g.met.B.Cursor.gives_none g.met.B.Cursor.gives_more
     c.args.self.now (g.A.Record.Record.feature c.args.first) c.args.firsts.now.cursor c.args.seconds.now (pending_in (g.A.Cursor.consumed c.args.firsts.now.cursor) c.args.firsts.now.from c.args.firsts.now.to) c.args.out.now.output
     cur c.loop-next.self c.loop-next.firsts.cursor c.loop-next.seconds left c.loop-next.out.output inv.going.0 b c.next.new.self gives_b on inv.going.1
     c.write_up_to.new.firsts.cursor rest c.write_up_to.new.out.output (fault_value c.in_err-write_up_to.field-0.0) cut)
@@ -48,7 +48,7 @@ returns-then-not-branch-clause-joins g c =
     let gives_b = subst (λ (x : g.row.B.Denot). g.B.Cursor.gives x (b ∷ []) c.next.new.self) inv.same c.in-Some.ensures.some in
     let on = c.in-Some.ensures.on ∙ inv.beside ∙ c.requires.beside in
     let w = rw (c.start-then-stop-start.ensures, c.if-not-branch.true) at c.in_ok-write_up_to.ensures.writes in (
-      (joins_write g.A.Cursor.gives g.A.Cursor.has_ended g.met.A.Cursor.gives_none g.met.A.Cursor.gives_more g.B.Cursor.gives g.B.Cursor.has_ended g.B.Cursor.line g.met.B.Cursor.gives_none g.met.B.Cursor.gives_more
+      (joins_write g.A.Cursor g.met.A.Cursor.gives_none g.met.A.Cursor.gives_more g.B.Cursor g.met.B.Cursor.gives_none g.met.B.Cursor.gives_more
           c.args.self.now (g.A.Record.Record.feature c.args.first) c.args.firsts.now.cursor c.args.seconds.now (pending_in (g.A.Cursor.consumed c.args.firsts.now.cursor) c.args.firsts.now.from c.args.firsts.now.to) c.args.out.now.output
           cur c.loop-next.self c.loop-next.firsts.cursor c.loop-next.seconds left c.loop-next.out.output inv.going.0 b c.next.new.self gives_b on inv.going.1
           c.write_up_to.new.self c.write_up_to.new.firsts.cursor rest c.write_up_to.new.out.output None w.0).0,
@@ -67,7 +67,7 @@ returns-in_err-take-clause-joins g c =
     let cur2 = g.A.Record.Record.feature past.current in
     let gives_b = subst (λ (x : g.row.B.Denot). g.B.Cursor.gives x (b ∷ []) c.next.new.self) inv.same c.in-Some.ensures.some in
     let on = c.in-Some.ensures.on ∙ inv.beside ∙ c.requires.beside in
-    let j = joins_past g.A.Cursor.gives g.A.Cursor.has_ended g.met.A.Cursor.gives_none g.met.A.Cursor.gives_more g.B.Cursor.gives g.B.Cursor.has_ended g.B.Cursor.line g.met.B.Cursor.gives_none g.met.B.Cursor.gives_more
+    let j = joins_past g.A.Cursor g.met.A.Cursor.gives_none g.met.A.Cursor.gives_more g.B.Cursor g.met.B.Cursor.gives_none g.met.B.Cursor.gives_more
     c.args.self.now (g.A.Record.Record.feature c.args.first) c.args.firsts.now.cursor c.args.seconds.now (pending_in (g.A.Cursor.consumed c.args.firsts.now.cursor) c.args.firsts.now.from c.args.firsts.now.to) c.args.out.now.output
     cur c.loop-next.self c.loop-next.firsts.cursor c.loop-next.seconds left c.loop-next.out.output inv.going.0 b c.next.new.self gives_b on inv.going.1
     past.self past.firsts.cursor rest past.out.output cur2
@@ -84,7 +84,7 @@ returns-in_err-take-clause-joins g c =
     let e = err_from_is_err_and c.from_residual-in_err-take.result c.from_residual-in_err-take.ensures.1 in
     let lacks = c.in_err-take.ensures.takes in
     rw (e.1, e.2)
-    (breaks_take g.A.Cursor.gives g.A.Cursor.has_ended g.met.A.Cursor.gives_none g.met.A.Cursor.gives_more g.B.Cursor.gives g.B.Cursor.has_ended g.B.Cursor.line g.met.B.Cursor.gives_none g.met.B.Cursor.gives_more
+    (breaks_take g.A.Cursor g.met.A.Cursor.gives_none g.met.A.Cursor.gives_more g.B.Cursor g.met.B.Cursor.gives_none g.met.B.Cursor.gives_more
     c.args.self.now (g.A.Record.Record.feature c.args.first) c.args.firsts.now.cursor c.args.seconds.now (pending_in (g.A.Cursor.consumed c.args.firsts.now.cursor) c.args.firsts.now.from c.args.firsts.now.to) c.args.out.now.output
     cur2 past.self past.firsts.cursor c.loop-next.seconds rest past.out.output j.0 b c.next.new.self gives_b on j.1 before_end
     c.in_err-take.field-0.0 lacks.1 (subst (λ (n : ℕ). CannotHold (has_room_in past.self) n (fault_value c.in_err-take.field-0.0)) c.line.ensures lacks.2))
@@ -100,7 +100,7 @@ loop-next-preserved g c =
     let cur2 = g.A.Record.Record.feature past.current in
     let gives_b = subst (λ (x : g.row.B.Denot). g.B.Cursor.gives x (b ∷ []) c.next.new.self) inv.same c.in-Some.ensures.some in
     let on = c.in-Some.ensures.on ∙ inv.beside ∙ c.requires.beside in
-    let j = joins_past g.A.Cursor.gives g.A.Cursor.has_ended g.met.A.Cursor.gives_none g.met.A.Cursor.gives_more g.B.Cursor.gives g.B.Cursor.has_ended g.B.Cursor.line g.met.B.Cursor.gives_none g.met.B.Cursor.gives_more
+    let j = joins_past g.A.Cursor g.met.A.Cursor.gives_none g.met.A.Cursor.gives_more g.B.Cursor g.met.B.Cursor.gives_none g.met.B.Cursor.gives_more
     c.args.self.now (g.A.Record.Record.feature c.args.first) c.args.firsts.now.cursor c.args.seconds.now (pending_in (g.A.Cursor.consumed c.args.firsts.now.cursor) c.args.firsts.now.from c.args.firsts.now.to) c.args.out.now.output
     cur c.loop-next.self c.loop-next.firsts.cursor c.loop-next.seconds left c.loop-next.out.output inv.going.0 b c.next.new.self gives_b on inv.going.1
     past.self past.firsts.cursor rest past.out.output cur2
@@ -138,7 +138,7 @@ loop-next-preserved g c =
       ];
       beside = c.next.ensures.same ∙ inv.beside;
       same = refl;
-      going = joins_take g.A.Cursor.gives g.A.Cursor.has_ended g.met.A.Cursor.gives_none g.met.A.Cursor.gives_more g.B.Cursor.gives g.B.Cursor.has_ended g.B.Cursor.line g.met.B.Cursor.gives_none g.met.B.Cursor.gives_more
+      going = joins_take g.A.Cursor g.met.A.Cursor.gives_none g.met.A.Cursor.gives_more g.B.Cursor g.met.B.Cursor.gives_none g.met.B.Cursor.gives_more
           c.args.self.now (g.A.Record.Record.feature c.args.first) c.args.firsts.now.cursor c.args.seconds.now (pending_in (g.A.Cursor.consumed c.args.firsts.now.cursor) c.args.firsts.now.from c.args.firsts.now.to) c.args.out.now.output
           cur2 past.self past.firsts.cursor c.loop-next.seconds rest past.out.output j.0 b c.next.new.self gives_b on j.1 before_end
           c.take.new.self takes.0 takes.1 c.in_ok-take.ensures.hits;

@@ -11,7 +11,7 @@ returns-in_err-write-clause-writes g c =
     let e = err_from_is_err_and c.from_residual.result c.from_residual.ensures.1 in
     let left = pending_in (g.A.Cursor.consumed c.loop-self.firsts.cursor) c.loop-self.firsts.from c.loop-self.firsts.to in
     rw (e.1, e.2, c.write.ensures.cursor)
-    (cuts_off g.A.Cursor.gives g.A.Cursor.has_ended g.met.A.Cursor.gives_none g.met.A.Cursor.gives_more c.args.place c.args.self.now (g.A.Record.Record.feature c.args.first.now)
+    (cuts_off g.A.Cursor g.met.A.Cursor.gives_none g.met.A.Cursor.gives_more c.args.place c.args.self.now (g.A.Record.Record.feature c.args.first.now)
     c.args.firsts.now.cursor (pending_in (g.A.Cursor.consumed c.args.firsts.now.cursor) c.args.firsts.now.from c.args.firsts.now.to) c.args.out.now.output
     (g.A.Record.Record.feature c.loop-self.given) c.loop-self.self c.loop-self.firsts.cursor left c.loop-self.out.output c.loop-self.invariant.going
     (fault_value c.in_err-write.field-0.0) c.write.new.out.output (subst (λ (n : ℕ). n ≤ c.args.place) c.stop.ensures.is c.loop-self-test.true) c.in_err-write.ensures.puts)
@@ -23,7 +23,7 @@ returns-in_default-clause-writes g c =
     let left = pending_in (g.A.Cursor.consumed c.loop-self.firsts.cursor) c.loop-self.firsts.from c.loop-self.firsts.to in
     let rest = pending_in (g.A.Cursor.consumed c.write.new.firsts.cursor) c.write.new.firsts.from c.write.new.firsts.to in (
       rw (c.next.ensures.pending, same, stays)
-          (writes_last g.A.Cursor.gives g.A.Cursor.has_ended g.met.A.Cursor.gives_none g.met.A.Cursor.gives_more c.args.place c.args.self.now (g.A.Record.Record.feature c.args.first.now)
+          (writes_last g.A.Cursor g.met.A.Cursor.gives_none g.met.A.Cursor.gives_more c.args.place c.args.self.now (g.A.Record.Record.feature c.args.first.now)
           c.args.firsts.now.cursor (pending_in (g.A.Cursor.consumed c.args.firsts.now.cursor) c.args.firsts.now.from c.args.firsts.now.to) c.args.out.now.output
           (g.A.Record.Record.feature c.loop-self.given) c.loop-self.self c.loop-self.firsts.cursor left c.loop-self.out.output c.loop-self.invariant.going
           rest c.write.new.out.output c.in_ok-write.ensures.puts (subst (λ (n : ℕ). n ≤ c.args.place) c.stop.ensures.is c.loop-self-test.true)),
@@ -38,7 +38,7 @@ loop-self-preserved g c =
     let rest = pending_in (g.A.Cursor.consumed c.write.new.firsts.cursor) c.write.new.firsts.from c.write.new.firsts.to in
     let given = subst (λ (x : g.row.A.Denot). g.A.Cursor.gives x (r ∷ []) c.next.new.self.cursor) c.write.ensures.cursor c.in-Some.ensures.some in
     let on = c.in-Some.ensures.on ∙ ap (λ (x : g.row.A.Denot). g.A.Cursor.name x) c.write.ensures.cursor ∙ c.loop-self.invariant.on ∙ c.requires.on in
-    let more = writes_more g.A.Cursor.gives g.A.Cursor.has_ended g.met.A.Cursor.gives_none g.met.A.Cursor.gives_more c.args.place c.args.self.now (g.A.Record.Record.feature c.args.first.now)
+    let more = writes_more g.A.Cursor g.met.A.Cursor.gives_none g.met.A.Cursor.gives_more c.args.place c.args.self.now (g.A.Record.Record.feature c.args.first.now)
     c.args.firsts.now.cursor (pending_in (g.A.Cursor.consumed c.args.firsts.now.cursor) c.args.firsts.now.from c.args.firsts.now.to) c.args.out.now.output
     (g.A.Record.Record.feature c.loop-self.given) c.loop-self.self c.loop-self.firsts.cursor left c.loop-self.out.output c.loop-self.invariant.going
     rest c.write.new.out.output c.in_ok-write.ensures.puts r c.drop_ended.new.self c.next.new.self.cursor
