@@ -358,8 +358,18 @@ module _ {B S : Type 0} (cursor_b : Cursor B S) (order : Order) (old : Sweeping)
       (λ stage. FailsToAdd out (intersect old.shape old.rule newly (stage.taken ++ seconds)) fault grown)
       ⊎ (FailsToTake ⊎ FailsToKeep)
 
+-- the input that is asked for gives no more
+abbrev pub StopsFor : {A B R S : Type 0} → Cursor A R → Cursor B S → Want → A → B → Type 0
+StopsFor cursor_a cursor_b WantA to_a to_b = cursor_a.has_ended to_a
+StopsFor cursor_a cursor_b WantB to_a to_b = cursor_b.has_ended to_b
+StopsFor cursor_a cursor_b Nothing to_a to_b = ⊤
+
+-- the one that waited before is written, and what comes after it isn't looked at
+abbrev pub HasWritten : Sweeping → Sweeping → Type 0
+HasWritten old new = (is_some old.current ≡ true) × (new.current ≡ None)
+
 module _ {A B R S : Type 0} (cursor_a : Cursor A R) (cursor_b : Cursor B S) (order : Order) (old : Sweeping)
-    (from_a : A) (from_b : B) (out : Output) where
+    (from_a : A) (from_b : B) where
   -- from the record that waited, and from what was taken, on
   abbrev pub Proceeded : Option Feature → A → B → Type 0
   Proceeded waiting to_a to_b =
@@ -368,37 +378,28 @@ module _ {A B R S : Type 0} (cursor_a : Cursor A R) (cursor_b : Cursor B S) (ord
       (λ stage. TakenEach order old.limit (option_to_list old.current ++ firsts) stage.taken seconds))
       (option_to_list old.current) waiting from_a to_a from_b to_b
 
-  -- the lines of those that are settled are written
-  pub record AdvancesSo (new : Sweeping) (to_a : A) (to_b : B) (grown : Output) : Type 0 where
-    pub proceeds : Proceeded new.current to_a to_b
-    -- the record of the second input that was taken last leaves the one that waits undecided
-    pub leaves : IfSome new.current (LeavesLast order proceeds.seconds)
-    pub stands : AtEach order old proceeds.firsts proceeds.seconds
-        (λ stage. MovesTo order old
-        (stage_after stage proceeds.newly new.current proceeds.seconds) new)
-    pub puts : PutsEach order old proceeds.firsts proceeds.seconds proceeds.newly out grown
+  module _ (out : Output) where
+    -- the lines of those that are settled are written
+    pub record AdvancesSo (new : Sweeping) (to_a : A) (to_b : B) (grown : Output) : Type 0 where
+      pub proceeds : Proceeded new.current to_a to_b
+      -- the record of the second input that was taken last leaves the one that waits undecided
+      pub leaves : IfSome new.current (LeavesLast order proceeds.seconds)
+      pub stands : AtEach order old proceeds.firsts proceeds.seconds
+          (λ stage. MovesTo order old
+          (stage_after stage proceeds.newly new.current proceeds.seconds) new)
+      pub puts : PutsEach order old proceeds.firsts proceeds.seconds proceeds.newly out grown
 
-  -- the input that is asked for then gives no more
-  abbrev pub StopsFor : Want → A → B → Type 0
-  StopsFor WantA to_a to_b = cursor_a.has_ended to_a
-  StopsFor WantB to_a to_b = cursor_b.has_ended to_b
-  StopsFor Nothing to_a to_b = ⊤
+    -- it failed once the lines of these records of the first input were settled
+    pub record FailsAt (fault : FaultValue) (to_a : A) (to_b : B) (grown : Output) : Type 0 where
+      pub waiting : Option Feature
+      pub proceeds : Proceeded waiting to_a to_b
+      pub cause : Fails cursor_b order old out proceeds.firsts proceeds.seconds proceeds.newly waiting to_b fault grown
 
-  -- it failed once the lines of these records of the first input were settled
-  pub record FailsAt (fault : FaultValue) (to_a : A) (to_b : B) (grown : Output) : Type 0 where
-    pub waiting : Option Feature
-    pub proceeds : Proceeded waiting to_a to_b
-    pub cause : Fails cursor_b order old out proceeds.firsts proceeds.seconds proceeds.newly waiting to_b fault grown
-
-  -- the one that waited before is written, and what comes after it isn't looked at
-  abbrev pub HasWritten : Sweeping → Type 0
-  HasWritten new = (is_some old.current ≡ true) × (new.current ≡ None)
-
-  -- what the answer says
-  abbrev pub AdvancesOn : {T : Type 0} → Result T Fault → Sweeping → A → B → Output → Type 0
-  AdvancesOn (Ok done) new to_a to_b grown =
-      AdvancesSo new to_a to_b grown × (StopsFor (want_in new) to_a to_b ⊎ HasWritten new)
-  AdvancesOn (Err fault) new to_a to_b grown = FailsAt (fault_value fault) to_a to_b grown
+    -- what the answer says
+    abbrev pub AdvancesOn : {T : Type 0} → Result T Fault → Sweeping → A → B → Output → Type 0
+    AdvancesOn (Ok done) new to_a to_b grown =
+        AdvancesSo new to_a to_b grown × (StopsFor cursor_a cursor_b (want_in new) to_a to_b ⊎ HasWritten old new)
+    AdvancesOn (Err fault) new to_a to_b grown = FailsAt (fault_value fault) to_a to_b grown
 
 -- a cursor that gives no record
 abbrev pub no_cursor : Cursor (Unit {0}) (Unit {0})

@@ -1,5 +1,5 @@
 -- Lemmas on calls with one record: they are calls with cursors over one record, or over none.
-use Rattle.bt_lines.proofs.Std.{◌≡◌, ◌⊎◌, inl, inr, ℕ, Bool, true, false, cond, ◌&&◌, ◌||◌, List, [], ◌∷◌, ◌++◌, Option, Some, None, Ok, Err, Result, refl, sym, ap, ◌∙◌, subst, append-nil, length, option_to_list, bytes_eq, ltb, ◌<◌, ◌≤◌, arith, OnErr, IfSome, is_some, and_from, false≢true, lt-ltb}
+use Rattle.bt_lines.proofs.Std.{◌≡◌, ◌⊎◌, inl, inr, ℕ, Bool, true, false, cond, ◌&&◌, ◌||◌, List, [], ◌∷◌, ◌++◌, Option, Some, None, Ok, Err, Result, refl, sym, ap, ◌∙◌, subst, append-nil, option_to_list, bytes_eq, ltb, ◌<◌, arith, OnErr, is_some, and_from, false≢true, lt-ltb}
 use Rattle.bt_lines.specs.model.Fault.{FaultValue}
 use Rattle.bt_lines.specs.calls.Names.{fault_value}
 use Rattle.bt_lines.specs.calls.Output.{Output, FailsToAdd, Grown}
@@ -12,10 +12,10 @@ use Rattle.bt_bed.specs.calls.CursorOf.{single_cursor}
 use Rattle.bt_bed.specs.declared.read.cursor.Single.{Single}
 use Rattle.bt_bed.specs.declared.record.taken.Taken.TheVariants.{Yes, No}
 use Rattle.bt_bed.proofs.lemmas.parse.NameLemmas.{name_eq}
-use Rattle.bt_sweep.specs.calls.Sweeping.{AdvancesOn, AdvancesSo, FailsAt, FailsToTake, HasWritten, IsThis, Settles, StopsFor, stage_after, AreDecided, ComesNext, TakenEach, CannotBeHeld, HoldsFor, IsInOrder, MovesTo, Stage, StandsAt, given, is_held, phase_of, with_a, with_b, with_b_ended, with_lines, EndsB, FailsToHold, FailsToKeepA, FailsToWriteA, GivesA, GivesB, Sweeping, want_in}
+use Rattle.bt_sweep.specs.calls.Sweeping.{AdvancesOn, AdvancesSo, FailsAt, FailsToTake, HasWritten, IsThis, Settles, StopsFor, stage_after, AreDecided, ComesNext, TakenEach, CannotBeHeld, HoldsFor, SameConfig, IsInOrder, MovesTo, Stage, StandsAt, given, is_held, phase_of, with_a, with_b, with_b_ended, with_lines, EndsB, FailsToHold, FailsToKeepA, FailsToWriteA, GivesA, GivesB, Sweeping, want_in}
 use Rattle.bt_sweep.specs.model.Hits.{decides}
 use Rattle.bt_sweep.specs.model.Lines.{intersect, lines_for}
-use Rattle.bt_sweep.specs.inside.Joining.{Breaks, JoinsSo, Keeps, StopsAt, going_on}
+use Rattle.bt_sweep.specs.inside.Joining.{Behind, Breaks, Holds, JoinsSo, StopsAt, going_on}
 use Rattle.bt_sweep.specs.declared.hits.hit_rule.HitRule.{HitRule}
 use Rattle.bt_sweep.specs.declared.sweep.phase.Phase.{Phase}
 use Rattle.bt_sweep.specs.declared.sweep.phase.Phase.TheVariants.{Both, First, Over}
@@ -23,8 +23,8 @@ use Rattle.bt_sweep.specs.declared.output.shape.Shape.{Shape}
 use Rattle.bt_sweep.specs.declared.sweep.want.Want.{Want}
 use Rattle.bt_sweep.specs.declared.sweep.want.Want.TheVariants.{A as WantA, B as WantB, Nothing}
 use Rattle.bt_sweep.proofs.lemmas.definitions.HitLemmas.{before_lines, front_placed}
-use Rattle.bt_sweep.proofs.lemmas.sweep.KeepLemmas.{undecided_beside, with_no_pending}
-use Rattle.bt_sweep.proofs.lemmas.sweep.StandLemmas.{keeps_of, none_waits, not_over, single_none, want_a, want_b}
+use Rattle.bt_sweep.proofs.lemmas.sweep.KeepLemmas.{same_rules, undecided_beside, with_no_pending}
+use Rattle.bt_sweep.proofs.lemmas.sweep.StandLemmas.{none_waits, not_over, single_none, want_a, want_b}
 
 -- ---- what such a cursor gives
 
@@ -111,16 +111,16 @@ module _ (order : Order) (stage : Stage) (old : Sweeping) (st : StandsAt order s
   Done new to_a to_b grown = AdvancesSo single_cursor single_cursor order old from_a from_b out new to_a to_b grown
 
   abbrev Stops : Sweeping → Single → Single → Type 0
-  Stops new to_a to_b = StopsFor single_cursor single_cursor order old from_a from_b out (want_in new) to_a to_b
+  Stops new to_a to_b = StopsFor single_cursor single_cursor (want_in new) to_a to_b
 
   abbrev Failed : FaultValue → Single → Single → Output → Type 0
   Failed fault to_a to_b grown = FailsAt single_cursor single_cursor order old from_a from_b out fault to_a to_b grown
 
   abbrev Writes : Sweeping → Type 0
-  Writes new = HasWritten single_cursor single_cursor order old from_a from_b out new
+  Writes new = HasWritten old new
 
-  stops_for : (new : Sweeping) (to_a to_b : Single) (want : Want) → want_in new ≡ want → Stops new to_a to_b → StopsFor single_cursor single_cursor order old from_a from_b out want to_a to_b
-  stops_for new to_a to_b want e stops = subst (λ (w : Want). StopsFor single_cursor single_cursor order old from_a from_b out w to_a to_b) e stops
+  stops_for : (new : Sweeping) (to_a to_b : Single) (want : Want) → want_in new ≡ want → Stops new to_a to_b → StopsFor single_cursor single_cursor want to_a to_b
+  stops_for new to_a to_b want e stops = subst (λ (w : Want). StopsFor single_cursor single_cursor w to_a to_b) e stops
 
   -- ---- a record of the first input
 
@@ -497,11 +497,8 @@ module _ (order : Order) (stage : Stage) (a : Feature) (old : Sweeping) (st : St
   given_last : given stage ≡ stage.written ++ a ∷ []
   given_last = ap (λ (o : Option Feature). stage.written ++ option_to_list o) waits
 
-  keeps_last : Keeps order old.shape old.rule old.limit (stage.written ++ a ∷ []) stage.taken mid
-  keeps_last =
-      let k = subst (λ (g : List Feature). Keeps order old.shape old.rule old.limit g stage.taken old) given_last (keeps_of order stage old st) in
-      let here : Keeps order old.shape old.rule old.limit (stage.written ++ a ∷ []) stage.taken (record old { current = None; phase = First }) = record { shape_is = k.shape_is; rule_is = k.rule_is; limit_is = k.limit_is; holds = k.holds; within = k.within } in
-      subst (λ (n : Sweeping). Keeps order old.shape old.rule old.limit (stage.written ++ a ∷ []) stage.taken n) (sym mid_is) here
+  holds_last : Holds order (stage.written ++ a ∷ []) stage.taken mid
+  holds_last = rw mid_is (record { holds = rw given_last at st.holds; within = st.within })
 
   last_placed : (firsts : List Feature) → firsts ≡ [] → ArePlaced order (intervals_of (stage.written ++ a ∷ firsts))
   last_placed firsts e = subst (λ (l : List Feature). ArePlaced order (intervals_of l)) (given_last ∙ ap (λ (l : List Feature). stage.written ++ a ∷ l) (sym e)) ordered.first
@@ -512,50 +509,61 @@ module _ (order : Order) (stage : Stage) (a : Feature) (old : Sweeping) (st : St
   same_seconds : (seconds : List Feature) → seconds ≡ [] → stage.taken ++ seconds ≡ stage.taken
   same_seconds seconds e = ap (λ (l : List Feature). stage.taken ++ l) e ∙ append-nil stage.taken
 
-  module _ (final : Sweeping) (to_a to_b : Single) (grown : Output) where
-    abbrev Joined : Option Feature → Type 0
-    Joined waiting = JoinsSo single_cursor (going_on mid.phase single_cursor) (IsThis order) (Settles order mid.phase) mid a from_a from_b [] out waiting final to_a to_b [] grown
+  same : SameConfig old mid
+  same = rw mid_is (record { shape_is = refl; rule_is = refl; limit_is = refl })
 
-    abbrev Broken : FaultValue → Type 0
-    Broken fault = Breaks single_cursor (going_on mid.phase single_cursor) (IsThis order) (Settles order mid.phase) mid a from_a from_b [] out fault to_a to_b [] grown
+  -- none is left
+  all_decided : (waiting : Option Feature) (to_a to_b : Single) → StopsAt single_cursor (going_on mid.phase single_cursor) waiting to_a to_b → waiting ≡ None
+  all_decided waiting to_a to_b stops = grind arith
 
-    -- none is left
-    all_decided : (waiting : Option Feature) → StopsAt single_cursor (going_on mid.phase single_cursor) (IsThis order) (Settles order mid.phase) mid a from_a from_b [] out waiting to_a to_b → waiting ≡ None
-    all_decided waiting stops = grind arith
+  written_is : (newly firsts : List Feature) (waiting : Option Feature) → firsts ≡ [] → waiting ≡ None → a ∷ firsts ≡ newly ++ option_to_list waiting → newly ≡ a ∷ []
+  written_is newly firsts waiting e w are = sym (append-nil newly) ∙ ap (λ (o : Option Feature). newly ++ option_to_list o) (sym w) ∙ sym are ∙ ap (λ (l : List Feature). a ∷ l) e
 
-    written_is : (newly firsts : List Feature) (waiting : Option Feature) → firsts ≡ [] → waiting ≡ None → a ∷ firsts ≡ newly ++ option_to_list waiting → newly ≡ a ∷ []
-    written_is newly firsts waiting e w are = sym (append-nil newly) ∙ ap (λ (o : Option Feature). newly ++ option_to_list o) (sym w) ∙ sym are ∙ ap (λ (l : List Feature). a ∷ l) e
+  -- where it is, if nothing more is given or taken
+  abbrev place : (firsts seconds : List Feature) → firsts ≡ [] → seconds ≡ [] → Behind (IsThis order) a firsts seconds mid
+  place firsts seconds none none_taken = record {
+    order = order;
+    before = stage.written;
+    taken = stage.taken;
+    is_for = refl;
+    holds = holds_last;
+    placed = last_placed firsts none;
+    placed_taken = all_placed seconds none_taken;
+  }
 
-    pub ends_b : (waiting : Option Feature) (j : Joined waiting) → StopsAt single_cursor (going_on mid.phase single_cursor) (IsThis order) (Settles order mid.phase) mid a from_a from_b [] out waiting to_a to_b
-        → final.current ≡ None → final.phase ≡ mid.phase → EndsB {A = Unit {0}} order stage a old out (Ok tt) final grown
-    ends_b waiting j stops gone phase =
+  module _ {to_a to_b : Single} {grown : Output} where
+    pub ends_b : {final : Sweeping} (waiting : Option Feature) (j : JoinsSo single_cursor (going_on mid.phase single_cursor) (IsThis order) (Settles order mid.phase) mid a from_a from_b [] out waiting final to_a to_b [] grown)
+        → StopsAt single_cursor (going_on mid.phase single_cursor) waiting to_a to_b → final.current ≡ None → final.phase ≡ mid.phase → EndsB {A = Unit {0}} order stage a old out (Ok tt) final grown
+    ends_b {final} waiting j stops gone phase =
         let no_firsts = single_none from_a to_a j.proceeds.firsts empty_a j.proceeds.gives_firsts in
         let no_seconds = single_none from_b to_b j.proceeds.seconds empty_b j.proceeds.gives_seconds in
-        let newly = written_is j.proceeds.newly j.proceeds.firsts waiting no_firsts (all_decided waiting stops) j.proceeds.are in
-        let k = j.goes order old.shape old.rule old.limit stage.written stage.taken refl keeps_last (last_placed j.proceeds.firsts no_firsts) (all_placed j.proceeds.seconds no_seconds) in
-        let puts = with_no_pending out grown (intersect old.shape old.rule j.proceeds.newly (stage.taken ++ j.proceeds.seconds)) (j.writes order old.shape old.rule old.limit stage.written stage.taken refl keeps_last (last_placed j.proceeds.firsts no_firsts) (all_placed j.proceeds.seconds no_seconds)) in
+        let at = place j.proceeds.firsts j.proceeds.seconds no_firsts no_seconds in
+        let newly = written_is j.proceeds.newly j.proceeds.firsts waiting no_firsts (all_decided waiting to_a to_b stops) j.proceeds.are in
+        let k = j.goes at in
+        let puts = with_no_pending out grown (intersect mid.shape mid.rule j.proceeds.newly (stage.taken ++ j.proceeds.seconds)) (j.writes at) in
         let same_given : stage.written ++ a ∷ j.proceeds.firsts ≡ given stage ++ [] = ap (λ (l : List Feature). stage.written ++ a ∷ l) no_firsts ∙ sym given_last ∙ sym (append-nil (given stage)) in
         let stands : StandsAt order (with_b_ended stage) final = record {
           current_is = gone;
           phase_is = phase ∙ ap (λ (s : Sweeping). s.phase) mid_is ∙ ap (λ (e : Bool). phase_of e true) (sym (st.unended (ap is_some waits)).0);
-          holds = subst (λ (g : List Feature). HoldsFor order g stage.taken final.held) same_given (subst (λ (t : List Feature). HoldsFor order (stage.written ++ a ∷ j.proceeds.firsts) t final.held) (same_seconds j.proceeds.seconds no_seconds) k.holds);
-          within = subst (λ (l : Option ℕ). IfSome l (λ most. length final.held ≤ most)) (sym k.limit_is) k.within;
+          holds = subst (λ (g : List Feature). HoldsFor order g stage.taken final.held) same_given (subst (λ (t : List Feature). HoldsFor order (stage.written ++ a ∷ j.proceeds.firsts) t final.held) (same_seconds j.proceeds.seconds no_seconds) k.holds.holds);
+          within = k.holds.within;
           unended = λ some. absurd (false≢true some);
         } in
-        (record { stands = stands; same = record { shape_is = k.shape_is; rule_is = k.rule_is; limit_is = k.limit_is } }, subst (λ (l : List ℕ). Grown out l grown) (one_line old.shape old.rule a j.proceeds.newly stage.taken (stage.taken ++ j.proceeds.seconds) newly (same_seconds j.proceeds.seconds no_seconds)) puts)
+        (record { stands = stands; same = same_rules same k.same }, rw (← one_line old.shape old.rule a j.proceeds.newly stage.taken (stage.taken ++ j.proceeds.seconds) newly (same_seconds j.proceeds.seconds no_seconds), ← same.shape_is, ← same.rule_is) puts)
 
-    pub stops_end : (fault : Fault) → Broken (fault_value fault) → want_in final ≡ Nothing → EndsB {A = Unit {0}} order stage a old out (Err fault) final grown
-    stops_end fault b stops =
+    pub stops_end : (final : Sweeping) (fault : Fault) → Breaks single_cursor (going_on mid.phase single_cursor) (IsThis order) (Settles order mid.phase) mid a from_a from_b [] out (fault_value fault) to_a to_b [] grown → want_in final ≡ Nothing
+        → EndsB {A = Unit {0}} order stage a old out (Err fault) final grown
+    stops_end final fault b stops =
         let no_firsts = single_none from_a to_a b.proceeds.firsts empty_a b.proceeds.gives_firsts in
         let none_taken = nothing_left b.proceeds.seconds (single_left to_b) (sym empty_b ∙ b.proceeds.gives_seconds.left) in (
           stops,
           elim b.cause [
             | inr lack ↦ absurd (let apart : [] ≡ lack.shares.b ∷ single_left lack.shares.after = sym none_taken.1 ∙ lack.shares.gives.left in cc)
             | inl cut ↦
-                let lines = cut order old.shape old.rule old.limit stage.written stage.taken refl keeps_last (last_placed b.proceeds.firsts no_firsts) (all_placed b.proceeds.seconds none_taken.0) in
+                let lines = cut (place b.proceeds.firsts b.proceeds.seconds no_firsts none_taken.0) in
                 elim (one_written b.proceeds.newly b.waiting a (ap (λ (l : List Feature). a ∷ l) (sym no_firsts) ∙ b.proceeds.are)) [
-                  | inl still ↦ absurd (lines.some (no_lines old.shape old.rule b.proceeds.newly (stage.taken ++ b.proceeds.seconds) still.0))
-                  | inr written ↦ subst (λ (l : List ℕ). FailsToAdd out l (fault_value fault) grown) (one_line old.shape old.rule a b.proceeds.newly stage.taken (stage.taken ++ b.proceeds.seconds) written.0 (same_seconds b.proceeds.seconds none_taken.0)) lines
+                  | inl still ↦ absurd (lines.some (no_lines mid.shape mid.rule b.proceeds.newly (stage.taken ++ b.proceeds.seconds) still.0))
+                  | inr written ↦ rw (← one_line old.shape old.rule a b.proceeds.newly stage.taken (stage.taken ++ b.proceeds.seconds) written.0 (same_seconds b.proceeds.seconds none_taken.0), ← same.shape_is, ← same.rule_is) lines
                 ]
           ],
         )

@@ -298,7 +298,7 @@ module _ {A B O : Type 0} {g : Ghosts O} (source_a : Source A) (source_b : Sourc
       most = rounds_most swept.current (is_done swept.phase)
 
       abbrev Stops : Want → Type 0
-      Stops want = StopsFor batch_cursor batch_cursor (order_in start.first) sweep firsts seconds grown want last_firsts last_seconds
+      Stops want = StopsFor batch_cursor batch_cursor want last_firsts last_seconds
 
       -- none of the first was taken, though one was buffered
       stopped_a : (w : Want) → want_in swept ≡ w → 0 < length (view_of old.first).buffered → want_in sweep ≡ WantA → waits sweep ≡ 0 → length gives.proceeds.firsts ≡ 0 → Stops w → IsLess new
@@ -313,7 +313,7 @@ module _ {A B O : Type 0} {g : Ghosts O} (source_a : Source A) (source_b : Sourc
           omega (arith, rooms, (wants_first swept.current (is_done swept.phase) e).2, (wants_second sweep.current (is_done sweep.phase) wants).2)
       stopped_b Nothing e some wants taken none_left = omega (arith, rooms, (wants_nothing swept.current (is_done swept.phase) e).1, (wants_second sweep.current (is_done sweep.phase) wants).2)
 
-      less_by : Stops (want_in swept) ⊎ HasWritten batch_cursor batch_cursor (order_in start.first) sweep firsts seconds grown swept → (w : Want) → want_in sweep ≡ w → IsBuffered w (length (view_of old.first).buffered) (length (view_of old.second).buffered) → IsLess new
+      less_by : Stops (want_in swept) ⊎ HasWritten sweep swept → (w : Want) → want_in sweep ≡ w → IsBuffered w (length (view_of old.first).buffered) (length (view_of old.second).buffered) → IsLess new
       less_by stops WantA wants some =
           let none : waits sweep ≡ 0 = none_of sweep.current (wants_first sweep.current (is_done sweep.phase) wants).0 in
           elim (number_cases (length gives.proceeds.firsts)) [
@@ -333,7 +333,7 @@ module _ {A B O : Type 0} {g : Ghosts O} (source_a : Source A) (source_b : Sourc
           ]
       less_by stops Nothing wants some = absurd some
 
-      came_further : Stops (want_in swept) ⊎ HasWritten batch_cursor batch_cursor (order_in start.first) sweep firsts seconds grown swept → sweep_order new.sweep ≡ order → Goes new later × Given new
+      came_further : Stops (want_in swept) ⊎ HasWritten sweep swept → sweep_order new.sweep ≡ order → Goes new later × Given new
       came_further stops same = (
         comes_to new later (goes_both source_a source_b start out s.begun old grown s.sweeps new.first new.second firsts seconds last_firsts last_seconds consumes consumes_second swept later gives) same (have_read gives.proceeds.firsts gives.proceeds.seconds takes),
         (few, less_by stops (want_in sweep) refl),
