@@ -1,5 +1,5 @@
 -- The words of a command line divide into items in one way.
-use Rattle.bt_lines.proofs.Std.{◌≡◌, ◌+◌, Bool, true, false, List, [], ◌∷◌, ◌++◌, Option, Some, None, refl, All, All-nil, All-cons}
+use Rattle.bt_lines.proofs.Std.{◌≡◌, Bool, true, false, List, [], ◌∷◌, ◌++◌, Option, Some, None, refl, All, All-nil, All-cons}
 use Rattle.bt_tool.specs.model.Usage.{Item, IsItem, items_of, words_of}
 use Rattle.bt_tool.specs.model.Table.{Word, Table, fits, takes}
 use Rattle.bt_tool.specs.declared.options.takes.Takes.{Takes}
