@@ -17,8 +17,7 @@ use Rattle.bt_sweep.proofs.lemmas.sweep.KeepLemmas.{cut_both, decided_before, de
 
 -- the chromosome of the next record is known
 pub known_head : {B R : Type 0} (order : Order) (cursor : Cursor B R) (from : B) (b : Feature) (after : B) (name : List ℕ) → GivesKnown cursor order from → cursor.gives from (b ∷ []) after → b.chrom ≡ name → order.knows name ≡ true
-known_head order cursor from b after name known given on =
-    subst (λ (c : List ℕ). order.knows c ≡ true) on (and_parts (order.knows b.chrom) true (known (b ∷ []) after given)).0
+known_head order cursor from b after name known given on = grind (arith, known)
 
 pub lie_more : (name : List ℕ) (bs : List Feature) (b : Feature) → LieOn name bs → b.chrom ≡ name → LieOn name (bs ++ b ∷ [])
 lie_more name [] b on is = (is, tt)
@@ -143,9 +142,7 @@ module _ {A B R S : Type 0} {cursor_a : Cursor A R} {cursor_b : Cursor B S} {old
       settled = rw (front, append-nil j.proceeds.seconds) at j.proceeds.settles
 
       both_settled : (newly2 : List Feature) → EndUpTo cur.chrom b.start newly2 → AreDecidedOn first.chrom (j.proceeds.newly ++ newly2) (j.proceeds.seconds ++ b ∷ [])
-      both_settled newly2 end order total known =
-          decided_both order j.proceeds.newly newly2 (j.proceeds.seconds ++ b ∷ []) (decided_before order j.proceeds.newly j.proceeds.seconds (b ∷ []) (settled order total known))
-          (ends_decided order cur.chrom b j.proceeds.seconds newly2 total (rw j.waits.0 known) (on ∙ sym j.waits.0) end)
+      both_settled newly2 end order total known = grind (arith, decided_both, decided_before, settled, known, ends_decided)
 
       waits_on : (held : List Feature) (waiting : Option Feature) → WaitsOn cur.chrom held waiting → WaitsOn first.chrom held waiting
       waits_on held waiting is = grind arith

@@ -1,5 +1,5 @@
 -- What is held is all that the lines of a record come from.
-use Rattle.bt_lines.proofs.Std.{◌≡◌, true, List, ap, ltb, arith, filter, bytes_eq, lt-ltb, and_from, ◌<◌, ℕ, Bool, cond, [], ◌∷◌, length, Option, Some, None, refl, sym, ◌∙◌, All, IfSome, slice_index_or, AllByRecursion, false≢true, All-filter, All-from_recursion, recursion_from_All, ◌⊎◌, inl, inr, false, ◌++◌, Ok, Err, Result, subst, append-nil, append_assoc, decimal, OnOk, is_ok, decimal_digit, ◌≤◌, not, ◌||◌, IsTrue, list_all, and_parts, or_left, or_right, cases_Bool, flat_map-append, list_any-append, list_all-append, ◌&&◌}
+use Rattle.bt_lines.proofs.Std.{◌≡◌, true, List, ap, ltb, arith, filter, bytes_eq, lt-ltb, and_from, ◌<◌, ℕ, Bool, cond, [], ◌∷◌, length, Option, Some, None, refl, sym, ◌∙◌, All, IfSome, slice_index_or, AllByRecursion, false≢true, All-filter, All-from_recursion, recursion_from_All, ◌⊎◌, inl, inr, false, ◌++◌, Ok, Err, Result, subst, append-nil, append_assoc, decimal, OnOk, is_ok, decimal_digit, ◌≤◌, not, IsTrue, list_all, and_parts, or_left, or_right, flat_map-append, list_any-append, list_all-append, ◌&&◌}
 use Rattle.bt_bed.specs.model.Feature.{Feature, intervals_of}
 use Rattle.bt_bed.specs.model.BedLine.{bed_text}
 use Rattle.bt_sweep.specs.model.Hits.{hits, decided, decides}
@@ -20,9 +20,7 @@ use Rattle.bt_lines.proofs.lemmas.Writer.{cut_off, fails_then, grown_more, grown
 use Rattle.bt_sweep.specs.declared.output.shape.Shape.TheVariants.{Missing, Pieces, Whole}
 use Rattle.bt_sweep.proofs.lemmas.definitions.PieceLemmas.{walked_alone, rising_held}
 use Rattle.bt_sweep.proofs.lemmas.Output.{line_adds, open_kept}
-use Rattle.std.specs.declared.cmp.Ordering.{Ordering}
-use Rattle.std.specs.declared.cmp.Ordering.TheVariants.{Equal}
-use Rattle.bt_bed.specs.model.Sorted.{ArePlaced, is_below_at, Locus, Sorting, falls_in, sorting_of}
+use Rattle.bt_bed.specs.model.Sorted.{ArePlaced, Locus, Sorting, falls_in, sorting_of}
 use Rattle.bt_bed.specs.model.Order.{Order, IsTotal}
 use Rattle.bt_sweep.proofs.lemmas.sweep.HoldLemmas.{held_behind, held_is_behind, holds_a, holds_b}
 use Rattle.bt_bed.specs.calls.Batch.{left as records_left}
@@ -38,9 +36,7 @@ use Rattle.bt_bed.specs.declared.order.ChromOrder.{Ghosts}
 use Rattle.bt_bed.specs.declared.read.records.Records.{Records}
 
 hit_is_held : (rule : HitRule) (a b : Feature) → hits rule a b ≡ true → is_held a b ≡ true
-hit_is_held rule a b e =
-    let parts = overlap_parts a b (hit_overlaps rule a b e) in
-    and_from (bytes_eq a.chrom b.chrom) (ltb a.start b.stop) parts.0 (lt-ltb a.start b.stop (omega (arith, parts.1)))
+hit_is_held rule a b e = grind (arith, overlap_parts, hit_overlaps, and_from, bytes_eq, lt-ltb)
 
 pub held_lines : (shape : Shape) (rule : HitRule) (a : Feature) (taken : List Feature) → lines_for shape rule a (filter (is_held a) taken) ≡ lines_for shape rule a taken
 unfolding lines_for
@@ -191,22 +187,14 @@ module _ (shape : Shape) (rule : HitRule) (a : Feature) (held : List Feature) (p
   }
 
   pub all_with : (lines : List ℕ) (now : Output) → lines ≡ pending → left ≡ [] → Grown out (lines ++ lines_for shape rule a held) now → GrownWith pending out (lines_for shape rule a held) left now
-  all_with lines now is same puts = record {
-    bytes = lines ++ lines_for shape rule a held;
-    parts = ap (λ (l : List ℕ). l ++ lines_for shape rule a held) (sym is) ∙ sym (append-nil (lines ++ lines_for shape rule a held)) ∙ ap (λ (l : List ℕ). (lines ++ lines_for shape rule a held) ++ l) (sym same);
-    puts = puts;
-  }
+  all_with lines now is same puts = grind (arith, append-nil)
 
 module _ (inside now : Sweeping) (same : inside ≡ now) (a : Feature) (pending left : List ℕ) (out : Output) where
   pub nothing_in : (NeedsHit now.shape → pending ≡ []) → left ≡ [] → NeedsHit inside.shape → length inside.held ≡ 0 → GrownWith pending out (lines_for now.shape now.rule a now.held) left out
-  nothing_in quiet none needs empty =
-      subst (λ (n : Sweeping). (NeedsHit n.shape → pending ≡ []) → GrownWith pending out (lines_for n.shape n.rule a n.held) left out) same
-      (λ q. nothing_with inside.shape inside.rule a inside.held pending left out (q needs) none needs empty) quiet
+  nothing_in quiet none needs empty = grind (arith, nothing_with)
 
   pub left_in : (line raw : List ℕ) → left ≡ pending ++ line → line ≡ raw → raw ≡ bed_text a ++ 10 ∷ [] → lines_of inside.shape a [] ≡ line_with (bed_text a ∷ []) → length inside.held ≡ 0 → GrownWith pending out (lines_for now.shape now.rule a now.held) left out
-  left_in line raw is on canonical alone empty =
-      subst (λ (n : Sweeping). GrownWith pending out (lines_for n.shape n.rule a n.held) left out) same
-      (left_with inside.shape inside.rule a inside.held pending left out line raw is on canonical alone empty)
+  left_in line raw is on canonical alone empty = grind (arith, left_with)
 
 -- Lemmas on what a sweep keeps as records are given and taken.
 
@@ -218,9 +206,7 @@ module _ {order : Order} (gs : List Feature) (a : Feature) {taken : List Feature
   keeps_rising total placed = subst AreRising (sym keeps_held) (rising_held order a taken total placed)
 
   keeps_lines : {old : Sweeping} → SameConfig old s → lines_for s.shape s.rule a s.held ≡ lines_for old.shape old.rule a taken
-  keeps_lines {old} same =
-      ap (λ (h : Shape). lines_for h s.rule a s.held) same.shape_is ∙ ap (λ (r : HitRule). lines_for old.shape r a s.held) same.rule_is
-      ∙ ap (lines_for old.shape old.rule a) keeps_held ∙ held_lines old.shape old.rule a taken
+  keeps_lines {old} same = grind (arith, keeps_held, held_lines)
 
   -- one more of the first input on its chromosome
   keeps_next : (r : Feature) → IsTotal order → ArePlaced order (intervals_of ((gs ++ a ∷ []) ++ r ∷ [])) → a.chrom ≡ r.chrom
@@ -260,28 +246,16 @@ module _ (order : Order) (total : IsTotal order) (a b : Feature) (known : order.
   decides_beside behind = decides_from order a b total known (inr (same, behind))
 
   pub undecided_beside : b.start < a.stop → decides order a b ≡ false
-  undecided_beside before =
-      let compared : order.compare b.chrom a.chrom ≡ Equal = ap (λ (c : List ℕ). order.compare c a.chrom) same ∙ total.same a.chrom known in
-      ap (λ (c : Ordering). not (is_below_at c b.start a.stop)) compared ∙ ap not (lt-ltb b.start a.stop before)
+  undecided_beside before = grind (arith, lt-ltb)
 
 -- ---- the lines of what is decided stay
 
 module _ (order : Order) (total : IsTotal order) (shape : Shape) (rule : HitRule) (taken : List Feature) (b : Feature) (more : List Feature) (placed : ArePlaced order (intervals_of (taken ++ b ∷ more))) where
   decided_here : (a : Feature) → decided order a (taken ++ b ∷ []) ≡ true → decided order a taken ≡ false → decides order a b ≡ true
-  decided_here a some none =
-      let split : decided order a taken || (decides order a b || false) ≡ true = sym (list_any-append (decides order a) taken (b ∷ [])) ∙ some in
-      let rest : (decides order a b || false) ≡ true = ap (λ (c : Bool). c || (decides order a b || false)) (sym none) ∙ split in
-      elim (cases_Bool (decides order a b)) [
-        | inl here ↦ here
-        | inr gone ↦ gone ∙ (ap (λ (c : Bool). c || false) (sym gone) ∙ rest)
-      ]
+  decided_here a some none = grind (arith, list_any-append)
 
   line_stays : (a : Feature) → IsTrue (order.knows a.chrom) → decided order a (taken ++ b ∷ []) ≡ true → lines_for shape rule a (taken ++ b ∷ more) ≡ lines_for shape rule a taken
-  line_stays a known some =
-      elim (cases_Bool (decided order a taken)) [
-        | inl early ↦ stay_lines order shape rule a taken (b ∷ more) total known placed early
-        | inr late ↦ before_lines order shape rule a b taken total known (decided_here a some late) more placed
-      ]
+  line_stays a known some = grind (arith, stay_lines, before_lines, decided_here)
 
   pub lines_stay_so : (newly : List Feature) → ArePlaced order (intervals_of newly) → AreDecided order newly (taken ++ b ∷ []) → intersect shape rule newly (taken ++ b ∷ more) ≡ intersect shape rule newly taken
   lines_stay_so [] known all = refl
@@ -309,8 +283,7 @@ decided_before order (a ∷ newly) bs more all =
     (decided_before order newly bs more parts.1)
 
 pub decided_both : (order : Order) (xs ys bs : List Feature) → AreDecided order xs bs → AreDecided order ys bs → AreDecided order (xs ++ ys) bs
-decided_both order xs ys bs first second =
-    list_all-append (λ a. decided order a bs) xs ys ∙ and_from (list_all (λ a. decided order a bs) xs) (list_all (λ a. decided order a bs) ys) first second
+decided_both order xs ys bs first second = grind (arith, list_all-append, and_from)
 
 -- ---- lines of one list of records after another
 
@@ -382,16 +355,7 @@ module _ {A R : Type 0} {cursor : Cursor A R} {place : ℕ} {old : Sweeping} {fi
   module _ {waiting : Option Feature} {s : Sweeping} {to : A} {left : List ℕ} {grown now : Output} (so : WritesSo cursor place old first from pending out waiting s to left grown) where
     -- those that are left pending were put too
     pub writes_rest : Grown grown left now → WritesSo cursor place old first from pending out waiting s to [] now
-    writes_rest puts = record {
-      firsts = so.firsts;
-      newly = so.newly;
-      given = so.given;
-      are = so.are;
-      end = so.end;
-      waits = so.waits;
-      goes = so.goes;
-      writes = λ at. with_rest (so.writes at) puts;
-    }
+    writes_rest puts = grind (arith, with_rest)
 
     -- or couldn't all be
     pub cuts_rest : {fault : FaultValue} → FailsToAdd grown left fault now → CutsOff cursor place old first from pending out fault to now
@@ -420,16 +384,7 @@ module _ {A R : Type 0} {cursor : Cursor A R} {place : ℕ} {old : Sweeping} {fi
 
       -- its lines were written, and there is no other
       pub writes_last : cur.stop ≤ place → WritesSo cursor place old first from pending out None s to rest now
-      writes_last up = record {
-        firsts = so.firsts;
-        newly = so.newly ++ cur ∷ [];
-        given = so.given;
-        are = so.are ∙ sym (append-nil (so.newly ++ cur ∷ []));
-        end = end_more first.chrom place so.newly cur so.end so.waits.0 up;
-        waits = tt;
-        goes = so.goes;
-        writes = written_one;
-      }
+      writes_last up = grind (arith, append-nil, end_more, written_one)
 
       -- its lines were written, and the next one waits
       pub writes_more : ((old mid new : A) (xs ys : List Feature) → cursor.gives old xs mid → cursor.gives mid ys new → cursor.gives old (xs ++ ys) new) → (r : Feature) (new : Sweeping) (to' : A) → cur.stop ≤ place
@@ -510,7 +465,4 @@ module _ {S O : Type 0} {g : Ghosts O} (now : Records S O g) (batch : Batch) (le
 
   -- those that a reader gives do
   pub known_batch : (order : Order) → order ≡ order_in now → GivesKnown batch_cursor order batch
-  known_batch order same records to passes =
-      subst (λ (o : Order). list_all (λ r. o.knows r.chrom) records ≡ true) (sym same)
-      (known_in (sorting_of (order_in now)) (view_of now).state records (records_left to)
-      (ap (are_in_order (sorting_of (order_in now)) (view_of now).state) (sym passes.left_is ∙ lent_is) ∙ in_order))
+  known_batch order same records to passes = grind (arith, known_in, lent_is, in_order)

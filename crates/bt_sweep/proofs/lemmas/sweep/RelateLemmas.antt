@@ -1,7 +1,7 @@
 -- Lemmas on records of the second input on one chromosome beside those of the first on one.
 use Rattle.bt_lines.proofs.Std.{◌≡◌, inl, inr, ℕ, Bool, true, false, not, ◌&&◌, cond, List, [], ◌∷◌, ◌++◌, Option, Some, None, Ok, Err, Result, refl, sym, ap, ◌∙◌, subst, append-nil, append_assoc, arith, filter, ltb, option_map, option_to_list, All, IfSome, list_all, and_from, or_left}
 use Rattle.std.specs.declared.cmp.Ordering.{Ordering}
-use Rattle.std.specs.declared.cmp.Ordering.TheVariants.{Less, Equal, Greater}
+use Rattle.std.specs.declared.cmp.Ordering.TheVariants.{Less, Greater}
 use Rattle.bt_lines.specs.model.Lines.{max_number}
 use Rattle.bt_lines.specs.calls.Output.{Output}
 use Rattle.bt_lines.specs.declared.fault.Fault.{Fault}
@@ -29,10 +29,7 @@ lie_last name (x ∷ before) b on = lie_last name before b on.1
 
 module _ (order : Order) (total : IsTotal order) (a : Feature) (known : order.knows a.chrom ≡ true) (name : List ℕ) (compared : order.compare name a.chrom ≡ Less) where
   other_name : (b : Feature) → b.chrom ≡ name → a.chrom ≡ b.chrom → ⊥
-  other_name b on same =
-      let less : order.compare a.chrom a.chrom ≡ Less = ap (λ (c : List ℕ). order.compare c a.chrom) (same ∙ on) ∙ compared in
-      let apart : Less ≡ Equal = sym less ∙ total.same a.chrom known in
-      cc
+  other_name b on same = grind (arith)
 
   undecided_before : (b : Feature) → b.chrom ≡ name → decides order a b ≡ false
   undecided_before b on = ap (λ (c : Ordering). not (is_below_at c b.start a.stop)) (ap (λ (c : List ℕ). order.compare c a.chrom) on ∙ compared)

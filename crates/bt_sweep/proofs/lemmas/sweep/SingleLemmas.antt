@@ -96,8 +96,7 @@ not_first_by a b phase e none first = grind arith
 -- the lines of one record
 module _ (shape : Shape) (rule : HitRule) (a : Feature) where
   one_line : (newly taken now : List Feature) → newly ≡ a ∷ [] → now ≡ taken → intersect shape rule newly now ≡ lines_for shape rule a taken
-  one_line newly taken now n t =
-      ap (λ (l : List Feature). intersect shape rule l now) n ∙ ap (λ (l : List Feature). intersect shape rule (a ∷ []) l) t ∙ append-nil (lines_for shape rule a taken)
+  one_line newly taken now n t = grind (arith, append-nil)
 
 no_lines : (shape : Shape) (rule : HitRule) (newly now : List Feature) → newly ≡ [] → intersect shape rule newly now ≡ []
 no_lines shape rule newly now n = ap (λ (l : List Feature). intersect shape rule l now) n
@@ -108,11 +107,7 @@ same_output shape rule newly now out grown n puts = puts.nothing (no_lines shape
 -- the stage that it comes to, said otherwise
 moves_as : {order : Order} {old new : Sweeping} {written taken : List Feature} {waiting : Option Feature} (stage : Stage) (newly seconds : List Feature) → stage.written ++ newly ≡ written → new.current ≡ waiting → stage.taken ++ seconds ≡ taken
     → MovesTo order old (stage_after stage newly new.current seconds) new → MovesTo order old (record stage { written = written; waiting = waiting; taken = taken }) new
-moves_as {order} {old} {new} {written} {taken} {waiting} stage newly seconds w o t moves =
-    subst (λ (s : Stage). MovesTo order old s new)
-    (ap (λ (l : List Feature). record stage { written = l; waiting = new.current; taken = stage.taken ++ seconds }) w
-    ∙ ap (λ (o : Option Feature). record stage { written = written; waiting = o; taken = stage.taken ++ seconds }) o ∙ ap (λ (l : List Feature). record stage { written = written; waiting = waiting; taken = l }) t)
-    moves
+moves_as {order} {old} {new} {written} {taken} {waiting} stage newly seconds w o t moves = grind (arith)
 
 module _ {order : Order} {stage : Stage} {old : Sweeping} (st : StandsAt order stage old) (from_a from_b : Single) where
   -- ---- a record of the first input
@@ -158,10 +153,7 @@ module _ {order : Order} {stage : Stage} {old : Sweeping} (st : StandsAt order s
       same_taken = ap (λ (l : List Feature). stage.taken ++ l) none_taken.0 ∙ append-nil stage.taken
 
       given_placed : ArePlaced order (intervals_of (given stage ++ p.firsts))
-      given_placed = elim firsts_are [
-        | inl kept ↦ rw (kept.0, given_is, append-nil stage.written) (front_placed order stage.written (a ∷ []) placed)
-        | inr came ↦ rw (came.0, given_is) placed
-      ]
+      given_placed = grind (arith, firsts_are, given_is, append-nil, front_placed, placed)
 
       taken_placed : ArePlaced order (intervals_of (stage.taken ++ p.seconds))
       taken_placed = rw (same_taken, ← taken_at stage.b_ended) ordered.second
@@ -171,20 +163,11 @@ module _ {order : Order} {stage : Stage} {old : Sweeping} (st : StandsAt order s
 
       -- what is written before the second input has ended is decided by one of its records
       ended : p.newly ≡ a ∷ [] → stage.b_ended ≡ true
-      ended n = ended_by stage.a_ended stage.b_ended old.phase st.phase_is goes (elim p.settles [
-        | inl first ↦ first
-        | inr all ↦ absurd (undecided_by_none order a (rw (n, none_taken.0, none_next to_b none_taken.1 p.next p.comes) at all))
-      ])
+      ended n = grind (arith, ended_by, goes, undecided_by_none, none_taken, none_next)
 
       -- it is written or waits, if it was given
       newly_are : ((p.newly ≡ []) × ((p.firsts ≡ []) ⊎ (waiting ≡ Some a))) ⊎ ((p.newly ≡ a ∷ []) × (waiting ≡ None))
-      newly_are = elim firsts_are [
-        | inl kept ↦ inl ((none_of p.newly waiting (sym kept.0 ∙ all_are)).0, inl kept.0)
-        | inr came ↦ elim (one_written p.newly waiting a (sym came.0 ∙ all_are)) [
-          | inl waits ↦ inl (waits.0, inr waits.1)
-          | inr gone ↦ inr gone
-        ]
-      ]
+      newly_are = grind (arith, firsts_are, none_of, all_are, one_written)
 
       lines_are : p.newly ≡ a ∷ [] → intersect old.shape old.rule p.newly (stage.taken ++ p.seconds) ≡ lines
       lines_are n = one_line old.shape old.rule a p.newly stage.taken (stage.taken ++ p.seconds) n same_taken ∙ ap (λ (c : Bool). cond c (lines_for old.shape old.rule a stage.taken) []) (sym (ended n))
@@ -276,35 +259,18 @@ module _ {order : Order} {stage : Stage} {old : Sweeping} (st : StandsAt order s
       given_placed_b = rw (none_given, append-nil (given stage)) ordered.first
 
       taken_placed_b : ArePlaced order (intervals_of (stage.taken ++ p.seconds))
-      taken_placed_b = elim seconds_are [
-        | inl kept ↦ rw (kept.0, append-nil stage.taken) (front_placed order stage.taken (b ∷ []) ordered.second)
-        | inr came ↦ rw came.0 ordered.second
-      ]
+      taken_placed_b = grind (arith, seconds_are, append-nil, front_placed)
 
       parts : ((p.newly ≡ []) × (waiting ≡ Some a)) ⊎ ((p.newly ≡ a ∷ []) × (waiting ≡ None))
       parts = one_written p.newly waiting a (rw (some, none_given) at p.are)
 
       -- it was taken, so it leaves that one undecided
       undecided_by : p.seconds ≡ b ∷ [] → decides order a b ≡ false
-      undecided_by s =
-          let at = rw (some, none_given, s) at (p.each stage st given_placed_b taken_placed_b) in
-          elim (one_of at.0.before (at.0.a ∷ at.0.after) a at.0.parts) [
-            | inl here ↦ subst (λ (x : Feature). decides order x b ≡ false) (heads at.0.a a at.0.after [] here.1).0 at.0.undecided
-            | inr gone ↦ absurd (let apart : at.0.a ∷ at.0.after ≡ [] = gone.1 in cc)
-          ]
+      undecided_by s = grind (arith, some, none_given, given_placed_b, taken_placed_b, one_of, heads)
 
       -- if that one is written, it decides it
       decided_by : p.newly ≡ a ∷ [] → decides order a b ≡ true
-      decided_by n = elim p.settles [
-        | inl first ↦ absurd (not_first_by stage.a_ended stage.b_ended old.phase st.phase_is (st.unended (ap is_some waits)).1 first)
-        | inr all ↦ elim seconds_are [
-          | inr came ↦ decides_one order a b (rw (n, came.0, none_next to_b came.1 p.next p.comes) at all)
-          | inl kept ↦ elim (next_one to_b b kept.1 p.next p.comes) [
-            | inl none ↦ absurd (undecided_by_none order a (rw (n, kept.0, none) at all))
-            | inr is ↦ decides_one order a b (rw (n, kept.0, is) at all)
-          ]
-        ]
-      ]
+      decided_by n = grind (arith, not_first_by, is_some, seconds_are, decides_one, none_next, next_one, none)
 
       lines_by : p.newly ≡ a ∷ [] → p.seconds ≡ [] → intersect old.shape old.rule p.newly (stage.taken ++ p.seconds) ≡ lines_for old.shape old.rule a stage.taken
       lines_by n s = one_line old.shape old.rule a p.newly stage.taken (stage.taken ++ p.seconds) n (ap (λ (l : List Feature). stage.taken ++ l) s ∙ append-nil stage.taken)
