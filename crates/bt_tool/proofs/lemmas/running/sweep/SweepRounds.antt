@@ -347,9 +347,7 @@ module _ {A B O : Type 0} {g : Ghosts O} {source_a : Source A} {source_b : Sourc
   pub gave_both : {T : Type 0} (new : SweepRun A B O g) (later : Output) (answer : Result T Fault) → sweep_order new.sweep ≡ order
       → ((firsts : Batch) × (seconds : Batch) × (last_firsts : Batch) × (last_seconds : Batch) × ConsumesGiven source_a old.first firsts last_firsts new.first × ConsumesGiven source_b old.second seconds last_seconds new.second
       × AdvancesOn batch_cursor batch_cursor order sweep firsts seconds grown answer (state_of new.sweep) last_firsts last_seconds later) → Leads Given answer new later
-  gave_both {T} new later answer same gives =
-      gave new later gives.4 gives.5 answer same
-      (subst (λ (o : Order). AdvancesOn batch_cursor batch_cursor o sweep gives.0 gives.1 grown answer (state_of new.sweep) gives.2 gives.3 later) s.order_is gives.6)
+  gave_both {T} new later answer same gives = grind (arith, gave)
 
   -- ---- the first input has ended
 

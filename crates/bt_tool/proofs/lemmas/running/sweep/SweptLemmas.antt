@@ -1,5 +1,5 @@
 -- Lemmas on records that a sweep is given of what two readers have buffered.
-use Rattle.bt_lines.proofs.Std.{◌≡◌, inl, inr, ℕ, suc, true, ◌&&◌, not, List, [], ◌∷◌, ◌++◌, Option, None, Some, Ok, Err, Result, refl, sym, ap, ◌∙◌, subst, append-nil, append_assoc, option_to_list, ForSome, IfSome, IsTrue, option_map, list_all, and_parts, not-true, map-append, Bool, false, filter, length, bytes_eq, ltb, ◌<◌, is_some, false≢true, and_from, lt-ltb}
+use Rattle.bt_lines.proofs.Std.{arith, ◌≡◌, inl, inr, ℕ, suc, true, ◌&&◌, not, List, [], ◌∷◌, ◌++◌, Option, None, Some, Ok, Err, Result, refl, sym, ap, ◌∙◌, subst, append-nil, append_assoc, option_to_list, ForSome, IfSome, IsTrue, option_map, list_all, and_parts, not-true, map-append, Bool, false, filter, length, bytes_eq, ltb, ◌<◌, is_some, false≢true, and_from, lt-ltb}
 use Rattle.bt_lines.specs.declared.device.Source.{Ghosts as Source}
 use Rattle.bt_lines.specs.calls.Output.{Output, FailsToAdd, Grown}
 use Rattle.bt_lines.specs.calls.Reader.{lines_given}
@@ -12,7 +12,7 @@ use Rattle.bt_bed.specs.model.BedLine.{IsBedKind, fault_at_line}
 use Rattle.bt_bed.specs.model.Good.{Member, bed_format, locus_at, Format}
 use Rattle.bt_bed.specs.model.Sorted.{ArePlaced, IsUpTo, Locus, locus_of, falls_in, sorting_of}
 use Rattle.bt_bed.specs.model.Order.{IsTotal, Order}
-use Rattle.bt_bed.specs.calls.Reading.{ahead_in, first_from, state_behind, AreSaid, MemberReader, members_from}
+use Rattle.bt_bed.specs.calls.Reading.{ahead_in, first_from, state_behind, MemberReader, members_from}
 use Rattle.bt_bed.specs.calls.Records.{below, buffered_in, order_in, view_of, FillsRecords}
 use Rattle.bt_bed.specs.declared.read.batch.Batch.{Batch}
 use Rattle.bt_bed.specs.declared.order.ChromOrder.{Ghosts}
@@ -200,15 +200,10 @@ module _ {A B O : Type 0} {g : Ghosts O} {source_a : Source A} {source_b : Sourc
 
   -- what was passed of either is in order
   first_placed : (past : List (Member Feature)) (now : MemberReader A Feature (Option Locus)) → Passes source_a (view_of old_first) past now → ArePlaced order (intervals_of (member_items past))
-  first_placed past now p =
-      (said_in_order order (member_items past) c.begun.total
-      (subst (λ (f : Format Feature (Option Locus)). AreSaid f None (member_items past)) c.begun.is_bed (subst (λ (s : Option Locus). AreSaid (view_of old_first).format s (member_items past)) c.begun.none_last p.said))).0
+  first_placed past now p = grind (arith, said_in_order)
 
   second_placed : (past : List (Member Feature)) (now : MemberReader B Feature (Option Locus)) → Passes source_b (view_of old_second) past now → ArePlaced order (intervals_of (member_items past))
-  second_placed past now p =
-      (said_in_order order (member_items past) c.begun.total
-      (subst (λ (f : Format Feature (Option Locus)). AreSaid f None (member_items past)) (c.begun.is_bed_second ∙ ap (λ (o : Order). bed_format (sorting_of o)) c.begun.same_order)
-      (subst (λ (s : Option Locus). AreSaid (view_of old_second).format s (member_items past)) c.begun.none_last_second p.said))).0
+  second_placed past now p = grind (arith, said_in_order)
 
   -- with the member ahead too many would be held
   limit_case : (fault : FaultValue) (first_now : Records A O g) (second_now : Records B O g) → order_in second_now ≡ order → (later : Stage) (last : Feature) → later.waiting ≡ Some last → later.b_ended ≡ false
@@ -444,9 +439,7 @@ module _ {A B O : Type 0} {g : Ghosts O} {source_a : Source A} {source_b : Sourc
     settled_seen known = seen_by stage.b_ended refl ss refl (s.comes.settles known)
 
     ends_then : sweep.phase ≡ First → (stage.b_ended ≡ true) × (item_ahead (view_of second_now) ≡ None)
-    ends_then first_is_left =
-        let e = first_is stage.a_ended stage.b_ended (sym s.stands.phase_is ∙ first_is_left) in
-        (e, ap (λ (l : List Feature). option_map (λ m. m.item) (first_from (suc (lines_given (below second_now))) l)) (none_second e).1)
+    ends_then first_is_left = grind (arith, first_is, option_map, none_second)
 
     -- so far are the lines of some more settled
     settled_more : (written newly : List Feature) (bytes : List ℕ) → ArePlaced order (intervals_of newly) → Settles order sweep.phase newly (ss ++ option_to_list (item_ahead (view_of second_now)))
