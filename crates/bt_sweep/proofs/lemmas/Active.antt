@@ -179,11 +179,7 @@ module _ (place : ℕ) where
   module _ (xs : List Feature) (n : ℕ) (within : n ≤ length xs) (bases : HaveBases xs)
       (at : IsPartitionPoint (λ (r : Feature). nat_lt r.start place ≡ true) (λ (r : Feature). nat_lt r.start place ≡ false) xs n) where
     rest_stays : All (λ r. stays place r ≡ true) (drop n xs)
-    rest_stays k d h =
-        let high : n + k < length xs = omega (arith, h, length-drop n xs, within) in
-        let from = ltb-false _ place (at.1 (n + k) d (omega arith) high) in
-        let here : stays place (slice_index_or xs (n + k) d) ≡ true = lt-ltb place _ (omega (arith, from, bases (n + k) d high)) in
-        subst (λ (r : Feature). stays place r ≡ true) (sym (get_or-drop n xs k d)) here
+    rest_stays k d h = grind (arith, length-drop, ltb-false, slice_index_or, lt-ltb, get_or-drop)
 
     -- those that have ended are dropped: all of them start before the place
     pub dropped : filter (stays place) (take n xs) ++ drop n xs ≡ filter (stays place) xs

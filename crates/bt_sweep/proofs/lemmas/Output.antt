@@ -1,5 +1,5 @@
 -- Lemmas on what is written of a record.
-use Rattle.bt_lines.proofs.Std.{◌≡◌, ℕ, ◌+◌, ◌<◌, ◌≤◌, Bool, true, false, ◌||◌, List, [], ◌∷◌, zero, suc, add-one, arith, drop, length, nat_le, leb-true, option_to_list, take, AllByRecursion, list_any, slice_get, leb-false, or_parts, All-from_recursion, cond, ◌++◌, Option, Err, refl, sym, ap, ◌∙◌, subst, append_assoc, filter, flat_map, length-append, or_left, or_right, or_from, take-append-drop, filter-append, list_any-append, ◌-◌, not, ◌&&◌, ltb, min, max, All, and_from, lt-ltb, length-take-le, All-take, recursion_from_All, Result, Ok, ◌⊎◌, inl, inr, bytes_eq, decimal}
+use Rattle.bt_lines.proofs.Std.{◌≡◌, ℕ, ◌+◌, ◌<◌, ◌≤◌, Bool, true, false, ◌||◌, List, [], ◌∷◌, zero, suc, add-one, arith, drop, length, nat_le, leb-true, option_to_list, take, AllByRecursion, list_any, slice_get, leb-false, or_parts, All-from_recursion, cond, ◌++◌, Option, Err, refl, sym, ap, ◌∙◌, subst, append_assoc, filter, flat_map, length-append, or_left, or_right, or_from, take-append-drop, filter-append, list_any-append, ◌-◌, not, ltb, min, max, All, and_from, lt-ltb, length-take-le, All-take, recursion_from_All, Result, Ok, ◌⊎◌, inl, inr, bytes_eq, decimal}
 use Rattle.bt_bed.specs.model.Feature.{Feature, is_strand}
 use Rattle.bt_bed.specs.model.BedLine.{bed_text}
 use Rattle.bt_sweep.specs.calls.Held.{AreRising, AreRisingFrom, StartBefore, StartFrom, AreOn, CanHit}
@@ -8,7 +8,7 @@ use Rattle.bt_lines.specs.calls.Output.{Output, Adds, FailsToAdd, Grown, Puts}
 use Rattle.bt_lines.specs.declared.fault.Fault.{Fault}
 use Rattle.bt_lines.proofs.lemmas.Writer.{cut_off, fails_then, grown_more, adds_some}
 use Rattle.bt_bed.proofs.lemmas.parse.NameLemmas.{name_eq}
-use Rattle.bt_sweep.specs.model.Hits.{hits, hits_among, is_enough, shared_bases, strands_agree}
+use Rattle.bt_sweep.specs.model.Hits.{hits, hits_among, shared_bases, strands_agree}
 use Rattle.bt_sweep.specs.declared.hits.hit_rule.HitRule.{HitRule}
 use Rattle.bt_sweep.proofs.lemmas.definitions.HitLemmas.{enough_of_nothing}
 use Rattle.bt_sweep.specs.model.Lines.{piece_line, pieces, hit_line, line_with, lines_for, lines_of}
@@ -122,11 +122,7 @@ module _ {X : Type 0} where
 
     -- how many pass so far
     pub count_next : (xs : List X) (i n : ℕ) (b : Bool) → n ≡ length (filter p (take i xs)) → list_any p (option_to_list (slice_get xs i)) ≡ b → n + cond b 1 0 ≡ length (filter p (take (i + 1) xs))
-    count_next xs i n b e f =
-        let here = one_counts (slice_get xs i) b f in
-        let parts = ap length (ap (filter p) (take_next xs i) ∙ filter-append p (take i xs) (option_to_list (slice_get xs i))) in
-        let sum = length-append (filter p (take i xs)) (filter p (option_to_list (slice_get xs i))) in
-        omega arith
+    count_next xs i n b e f = grind (arith, one_counts, slice_get, take_next, filter-append, option_to_list, length-append)
 
 flat_map-append : (f : Feature → List ℕ) (xs ys : List Feature) → flat_map f (xs ++ ys) ≡ flat_map f xs ++ flat_map f ys
 flat_map-append f [] ys = refl
@@ -183,9 +179,7 @@ open_kept last a bs same all = All-from_recursion (CanHit a) (filter (λ b. ltb 
 
 module _ (rule : HitRule) (a : Feature) (any : rule.billionths ≡ 0) (no_strand : rule.same_strand ≡ false) (some : a.start < a.stop) where
   shares : (b : Feature) → CanHit a b → b.start < a.stop → ltb 0 (shared_bases a b) ≡ true
-  shares b one before =
-      ap (λ c. ltb 0 (cond c (min a.stop b.stop - max a.start b.start) 0)) (name_eq a.chrom b.chrom (sym one.0))
-      ∙ lt-ltb 0 (min a.stop b.stop - max a.start b.start) (omega (arith, one.1, one.2, before, some))
+  shares b one before = grind (arith, name_eq, lt-ltb)
 
   strands : (b : Feature) → strands_agree rule a b ≡ true
   unfolding strands_agree
@@ -193,9 +187,7 @@ module _ (rule : HitRule) (a : Feature) (any : rule.billionths ≡ 0) (no_strand
 
   one_hits : (b : Feature) → CanHit a b → b.start < a.stop → hits rule a b ≡ true
   unfolding hits
-  one_hits b one before =
-      and_from (ltb 0 (shared_bases a b)) (strands_agree rule a b && is_enough rule (shared_bases a b) a b) (shares b one before)
-      (and_from (strands_agree rule a b) (is_enough rule (shared_bases a b) a b) (strands b) (enough_of_nothing rule (shared_bases a b) a b any))
+  one_hits b one before = grind (arith, and_from, shares, strands, enough_of_nothing)
 
   hit_rec : (bs : List Feature) → AllByRecursion (CanHit a) bs → AllByRecursion (λ b. b.start < a.stop) bs → hits_among rule a bs ≡ bs
   hit_rec [] able before = refl
@@ -242,13 +234,10 @@ module _ (rule : HitRule) (a : Feature) (held : List Feature) where
     next_found = ap (filter (hits rule a)) (take_next held i) ∙ filter-append (hits rule a) (take i held) (option_to_list (slice_get held i))
 
     pub free_next : (next : ℕ) → next ≡ free_after free (found_at i) → next ≡ free_after a.start (found_to (i + 1))
-    free_next next e =
-        e ∙ ap (λ n. free_after n (found_at i)) reached ∙ sym (free_append a.start (found_to i) (found_at i)) ∙ ap (free_after a.start) (sym next_found)
+    free_next next e = grind (arith, free_append, next_found)
 
     next_lines : before_to (i + 1) ≡ before_to i ++ lines_before a free (found_at i)
-    next_lines =
-        ap (lines_before a a.start) next_found ∙ lines_append a a.start (found_to i) (found_at i)
-        ∙ ap (λ n. before_to i ++ lines_before a n (found_at i)) (sym reached)
+    next_lines = grind (arith, next_found, lines_append)
 
     -- the pieces before one more
     pub pieces_next : (old mid new : Output) → Grown old (before_to i) mid → Grown mid (lines_before a free (found_at i)) new → Grown old (before_to (i + 1)) new
@@ -338,15 +327,13 @@ module _ {A : Type 0} (a : Feature) (bs : List Feature) (out grown : Output) (r 
   -- a record that is put if something hits it
   pub once_adds : (any : Bool) → shape ≡ Once → any ≡ list_any (hits rule a) bs → Adds out (cond any (line_with (bed_text a ∷ [])) []) r grown → Adds out (lines_for shape rule a bs) r grown
   unfolding lines_for
-  once_adds any is e adds =
-      rw is (subst (λ (l : List ℕ). Adds out l r grown) (ap (λ (b : Bool). cond b (line_with (bed_text a ∷ [])) []) e ∙ sym (once_of a (hits rule a) bs)) adds)
+  once_adds any is e adds = grind (arith, once_of)
 
   -- a record that is put if nothing does
   missing_as : (s : Shape) (none : Bool) → shape ≡ s → lines_of s a (hits_among rule a bs) ≡ cond (not (list_any (hits rule a) bs)) (line_with (bed_text a ∷ [])) [] → none ≡ not (list_any (hits rule a) bs)
       → Adds out (cond none (line_with (bed_text a ∷ [])) []) r grown → Adds out (lines_for shape rule a bs) r grown
   unfolding lines_for
-  missing_as s none is lines e adds =
-      rw is (subst (λ (l : List ℕ). Adds out l r grown) (ap (λ (b : Bool). cond b (line_with (bed_text a ∷ [])) []) e ∙ sym lines) adds)
+  missing_as s none is lines e adds = grind (arith)
 
   pub unmatched_adds : (none : Bool) → (shape ≡ Missing) ⊎ (shape ≡ Whole) → none ≡ not (list_any (hits rule a) bs) → Adds out (cond none (line_with (bed_text a ∷ [])) []) r grown → Adds out (lines_for shape rule a bs) r grown
   unmatched_adds none is e adds =

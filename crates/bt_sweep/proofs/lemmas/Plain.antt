@@ -1,5 +1,5 @@
 -- Lemmas on the plain program.
-use Rattle.bt_lines.proofs.Std.{◌≡◌, ◌⊎◌, inl, inr, ℕ, List, [], ◌∷◌, ◌++◌, refl, sym, ap, ◌∙◌, subst, arith, append_assoc, decimal, flat_map, length, ◌+◌, ◌-◌, ◌<◌, ◌≤◌, le-leb, suc, Bool, not, ◌&&◌, ◌||◌, cond, ap₂, add-one, map, ◌==◌, list_any, ne_eqb, eq-eqb, cond-true, cond-false, reverse-append}
+use Rattle.bt_lines.proofs.Std.{◌≡◌, ◌⊎◌, ℕ, List, [], ◌∷◌, ◌++◌, refl, sym, ap, ◌∙◌, subst, arith, append_assoc, decimal, flat_map, length, ◌+◌, ◌-◌, ◌<◌, ◌≤◌, le-leb, suc, Bool, not, ◌&&◌, ◌||◌, cond, ap₂, add-one, map, list_any, ne_eqb, eq-eqb, cond-true, cond-false, reverse-append}
 use Rattle.bt_bed.specs.model.Feature.{Feature, Span}
 use Rattle.bt_bed.specs.model.Positions.{stretches_from, with_position}
 use Rattle.bt_bed.specs.model.BedLine.{bed_text}
@@ -50,17 +50,11 @@ module _ (a : Feature) (bs : List Feature) (shape : Shape) (rule : HitRule) wher
 
     pub missing_none : (shape ≡ Missing) ⊎ (shape ≡ Whole) → n ≡ 0 → lines_for shape rule a bs ≡ line_with (bed_text a ∷ [])
     unfolding lines_for
-    missing_none is none = elim is [
-      | inl is ↦ at_shape Missing (line_with (bed_text a ∷ [])) is (missing_of a (hits_among rule a bs) (sym counted ∙ none))
-      | inr is ↦ at_shape Whole (line_with (bed_text a ∷ [])) is (whole_of a (hits_among rule a bs) (sym counted ∙ none))
-    ]
+    missing_none is none = grind (arith, at_shape, missing_of, whole_of)
 
     pub missing_some : (shape ≡ Missing) ⊎ (shape ≡ Whole) → (n ≡ 0 → ⊥) → lines_for shape rule a bs ≡ []
     unfolding lines_for
-    missing_some is some = elim is [
-      | inl is ↦ at_shape Missing [] is (missing_by a (hits_among rule a bs) (λ e. some (counted ∙ e)))
-      | inr is ↦ at_shape Whole [] is (whole_by a (hits_among rule a bs) (λ e. some (counted ∙ e)))
-    ]
+    missing_some is some = grind (arith, at_shape, missing_by, whole_by)
 
     pub count_all : shape ≡ Count → lines_for shape rule a bs ≡ line_with (bed_text a ∷ decimal n ∷ [])
     unfolding lines_for
@@ -76,20 +70,7 @@ module _ (a : Feature) (bs : List Feature) (shape : Shape) (rule : HitRule) wher
   -- a line for each hit
   pub each_hit : (shape ≡ Cut) ⊎ ((shape ≡ OrigA) ⊎ ((shape ≡ CutAndB) ⊎ ((shape ≡ OrigBoth) ⊎ (shape ≡ Overlap)))) → lines_for shape rule a bs ≡ flat_map (hit_line shape a) (hits_among rule a bs)
   unfolding lines_for
-  each_hit is =
-      elim is [
-        | inl e ↦ one_each Cut e refl
-        | inr is ↦ elim is [
-          | inl e ↦ one_each OrigA e refl
-          | inr is ↦ elim is [
-            | inl e ↦ one_each CutAndB e refl
-            | inr is ↦ elim is [
-              | inl e ↦ one_each OrigBoth e refl
-              | inr e ↦ one_each Overlap e refl
-            ]
-          ]
-        ]
-      ]
+  each_hit is = grind (arith, one_each)
 
 -- The scan of a record's positions, from the last one on, against the definition of its pieces.
 
@@ -101,20 +82,13 @@ found_push xs x = ap (map piece_in) (reverse-append xs (x ∷ []))
 pub next_joined : (front : List PlainPiece) (piece : PlainPiece) (p : ℕ) → piece.start ≡ p + 1
     → pieces_in (front ++ record { start = p; stop = piece.stop } ∷ []) ≡ with_position p (pieces_in (front ++ piece ∷ []))
 unfolding with_position
-next_joined front piece p e =
-    found_push front (record { start = p; stop = piece.stop })
-    ∙ sym (cond-true (piece.start == p + 1) (record { start = p; stop = piece.stop } ∷ pieces_in front) (record { start = p; stop = p + 1 } ∷ piece_in piece ∷ pieces_in front) (eq-eqb piece.start (p + 1) e))
-    ∙ sym (ap (with_position p) (found_push front piece))
+next_joined front piece p e = grind (arith, found_push, cond-true, eq-eqb)
 
 -- or is the first one of another
 pub next_apart : (front : List PlainPiece) (piece : PlainPiece) (p : ℕ) → (piece.start ≡ p + 1 → ⊥)
     → pieces_in ((front ++ piece ∷ []) ++ record { start = p; stop = p + 1 } ∷ []) ≡ with_position p (pieces_in (front ++ piece ∷ []))
 unfolding with_position
-next_apart front piece p other =
-    found_push (front ++ piece ∷ []) (record { start = p; stop = p + 1 })
-    ∙ ap (λ l. record { start = p; stop = p + 1 } ∷ l) (found_push front piece)
-    ∙ sym (cond-false (piece.start == p + 1) (record { start = p; stop = piece.stop } ∷ pieces_in front) (record { start = p; stop = p + 1 } ∷ piece_in piece ∷ pieces_in front) (ne_eqb piece.start (p + 1) other))
-    ∙ sym (ap (with_position p) (found_push front piece))
+next_apart front piece p other = grind (arith, found_push, cond-false, ne_eqb)
 
 pub first_found : (p : ℕ) → pieces_in (record { start = p; stop = p + 1 } ∷ []) ≡ with_position p []
 unfolding with_position
@@ -145,9 +119,7 @@ scan_next test stop passed c old new less e so_far step =
 pub scan_all : (a : Feature) (others : List Feature) (passed : ℕ) (found : List Span) → passed ≡ a.stop
     → found ≡ stretches_from (is_left a others) (a.stop - passed) passed → found ≡ pieces a others
 unfolding pieces
-scan_all a others passed found all so_far =
-    let first : a.stop - passed ≡ 0 = omega (arith, all) in
-    so_far ∙ ap₂ (λ f n. stretches_from (is_left a others) f n) first all
+scan_all a others passed found all so_far = grind (arith)
 
 any_at : (rule : HitRule) (a : Feature) (p : ℕ) (b : Feature) (bs : List Feature) (c : Bool) → hits rule a b ≡ c
     → ((c && has_position p b) || list_any (has_position p) (hits_among rule a bs)) ≡ list_any (has_position p) (cond c (b ∷ hits_among rule a bs) (hits_among rule a bs))

@@ -7,7 +7,7 @@ use Rattle.bt_sweep.specs.declared.sweep.phase.Phase.{Phase}
 use Rattle.bt_sweep.specs.declared.sweep.phase.Phase.TheVariants.{Both, First, Over}
 use Rattle.bt_sweep.specs.declared.output.shape.Shape.{Shape}
 use Rattle.bt_sweep.specs.declared.sweep.want.Want.{Want}
-use Rattle.bt_sweep.specs.declared.sweep.want.Want.TheVariants.{A, B, Nothing}
+use Rattle.bt_sweep.specs.declared.sweep.want.Want.TheVariants.{A as WantA, B as WantB, Nothing}
 use Rattle.std.specs.List.{list_any, list_all}
 use Rattle.bt_bed.specs.model.Sorted.{ArePlaced}
 use Rattle.bt_bed.specs.model.Order.{Order}
@@ -20,6 +20,7 @@ use Rattle.bt_lines.specs.calls.Names.{fault_value}
 use Rattle.bt_lines.specs.calls.Output.{Output, FailsToAdd, Grown}
 use Rattle.bt_lines.specs.declared.fault.Fault.{Fault}
 use Rattle.bt_sweep.specs.model.Lines.{LinesBefore, lines_for, intersect}
+use Rattle.bt_bed.specs.declared.read.cursor.Cursor.{Ghosts as Cursor}
 use Rattle.bt_bed.specs.declared.record.taken.Taken.{Taken}
 use Rattle.bt_bed.specs.declared.record.taken.Taken.TheVariants.{Yes, No}
 
@@ -45,9 +46,9 @@ pub record SameConfig (old new : Sweeping) : Type 0 where
 -- what is wanted: the second input while lines are to be written, then the first, and nothing at
 -- the end or after a fault
 abbrev pub want_of : Bool → Bool → Want
-want_of true done = B
+want_of true done = WantB
 want_of false true = Nothing
-want_of false false = A
+want_of false false = WantA
 
 abbrev pub is_over : Phase → Bool
 is_over Both = false
@@ -189,13 +190,13 @@ CannotBeHeld limit last taken line fault =
     CannotHold (has_room limit (length (held_for (Some last) taken))) line fault
 
 -- the record that a cursor gives next, if it is known
-abbrev pub ComesNext : {B : Type 0} → (B → List Feature → B → Type 0) → B → Option Feature → Type 0
-ComesNext {B} gives to next = IfSome next (λ b. (after : B) × gives to (b ∷ []) after)
+abbrev pub ComesNext : {B R : Type 0} → Cursor B R → B → Option Feature → Type 0
+ComesNext {B} cursor to next = IfSome next (λ b. (after : B) × cursor.gives to (b ∷ []) after)
 
 -- the chromosome of each record that a cursor gives is known
-abbrev pub GivesKnown : {B : Type 0} → (B → List Feature → B → Type 0) → Order → B → Type 0
-GivesKnown {B} gives order from =
-    (records : List Feature) (to : B) → gives from records to
+abbrev pub GivesKnown : {B R : Type 0} → Cursor B R → Order → B → Type 0
+GivesKnown {B} cursor order from =
+    (records : List Feature) (to : B) → cursor.gives from records to
     → list_all (λ r. order.knows r.chrom) records ≡ true
 
 -- What the calls of a sweep do.
@@ -281,29 +282,29 @@ Settles order phase as_given bs = (phase ≡ First) ⊎ AreDecided order as_give
 
 -- Records of both inputs were consumed, after `before` of the first: those that are settled are `newly`, and one
 -- may wait.
-pub record Proceeds {U V : Type 0} (a_gives : U → List Feature → U → Type 0)
-    (b_gives : V → List Feature → V → Type 0) (Settled Each : List Feature → List Feature → Type 0)
-    (before : List Feature) (waiting : Option Feature) (from_a to_a : U) (from_b to_b : V) : Type 0 where
+pub record Proceeds {A B R S : Type 0} (cursor_a : Cursor A R) (cursor_b : Cursor B S)
+    (Settled Each : List Feature → List Feature → Type 0) (before : List Feature) (waiting : Option Feature)
+    (from_a to_a : A) (from_b to_b : B) : Type 0 where
   pub firsts : List Feature
   pub seconds : List Feature
   pub newly : List Feature
-  pub gives_firsts : a_gives from_a firsts to_a
-  pub gives_seconds : b_gives from_b seconds to_b
+  pub gives_firsts : cursor_a.gives from_a firsts to_a
+  pub gives_seconds : cursor_b.gives from_b seconds to_b
   pub are : before ++ firsts ≡ newly ++ option_to_list waiting
   pub next : Option Feature
-  pub comes : ComesNext b_gives to_b next
+  pub comes : ComesNext cursor_b to_b next
   pub settles : Settled newly (seconds ++ option_to_list next)
   -- each of the second was taken for one that those taken leave undecided, within the limit
   pub each : Each firsts seconds
 
 -- the next record of the second input shares a base with the one that waits
-pub record SharesBase {V : Type 0} (b_gives : V → List Feature → V → Type 0) (waiting : Option Feature)
-    (to_b : V) : Type 0 where
+pub record SharesBase {B : Type 0} (gives_b : B → List Feature → B → Type 0) (waiting : Option Feature) (to_b : B)
+    : Type 0 where
   pub last : Feature
   pub waits : waiting ≡ Some last
   pub b : Feature
-  pub after : V
-  pub gives : b_gives to_b (b ∷ []) after
+  pub after : B
+  pub gives : gives_b to_b (b ∷ []) after
   pub chrom : b.chrom ≡ last.chrom
   pub starts : b.start < last.stop
   pub ends : last.start < b.stop
@@ -328,16 +329,16 @@ PutsEach order old firsts seconds newly out grown =
     (λ stage. Grown out (intersect old.shape old.rule newly (stage.taken ++ seconds)) grown)
 
 -- why it failed, after records of which `newly` are settled and one may wait
-module _ {V : Type 0} (b_gives : V → List Feature → V → Type 0) (b_ended : V → Type 0) (b_line : V → ℕ)
-    (order : Order) (old : Sweeping) (out : Output) (firsts seconds newly : List Feature)
-    (waiting : Option Feature) (to_b : V) (fault : FaultValue) (grown : Output) where
+module _ {B S : Type 0} (cursor_b : Cursor B S) (order : Order) (old : Sweeping) (out : Output)
+    (firsts seconds newly : List Feature) (waiting : Option Feature) (to_b : B) (fault : FaultValue)
+    (grown : Output) where
   -- they were written; the next record of the second input shares a base with the one that waits, and
   -- can't be held
   pub record FailsToTake : Type 0 where
-    pub shares : SharesBase b_gives waiting to_b
+    pub shares : SharesBase cursor_b.gives waiting to_b
     pub puts : PutsEach order old firsts seconds newly out grown
     pub lacks : AtEach order old firsts seconds
-        (λ stage. CannotBeHeld old.limit shares.last (stage.taken ++ seconds) (b_line shares.after) fault)
+        (λ stage. CannotBeHeld old.limit shares.last (stage.taken ++ seconds) (cursor_b.line shares.after) fault)
 
   -- they were written; neither input has ended, none waited before, all records of the second input that
   -- there are were taken, and the one of the first that waits can't be kept
@@ -347,7 +348,7 @@ module _ {V : Type 0} (b_gives : V → List Feature → V → Type 0) (b_ended :
     pub is : fault ≡ no_memory
     pub none : old.current ≡ None
     pub both : old.phase ≡ Both
-    pub ended : b_ended to_b
+    pub ended : cursor_b.has_ended to_b
     pub puts : PutsEach order old firsts seconds newly out grown
 
   -- the lines couldn't all be written, or one of these
@@ -357,50 +358,56 @@ module _ {V : Type 0} (b_gives : V → List Feature → V → Type 0) (b_ended :
       (λ stage. FailsToAdd out (intersect old.shape old.rule newly (stage.taken ++ seconds)) fault grown)
       ⊎ (FailsToTake ⊎ FailsToKeep)
 
-module _ {U V : Type 0} (a_gives : U → List Feature → U → Type 0) (a_ended : U → Type 0)
-    (b_gives : V → List Feature → V → Type 0) (b_ended : V → Type 0) (b_line : V → ℕ) (order : Order)
-    (old : Sweeping) (from_a : U) (from_b : V) (out : Output) where
+-- the input that is asked for gives no more
+abbrev pub StopsFor : {A B R S : Type 0} → Cursor A R → Cursor B S → Want → A → B → Type 0
+StopsFor cursor_a cursor_b WantA to_a to_b = cursor_a.has_ended to_a
+StopsFor cursor_a cursor_b WantB to_a to_b = cursor_b.has_ended to_b
+StopsFor cursor_a cursor_b Nothing to_a to_b = ⊤
+
+-- the one that waited before is written, and what comes after it isn't looked at
+abbrev pub HasWritten : Sweeping → Sweeping → Type 0
+HasWritten old new = (is_some old.current ≡ true) × (new.current ≡ None)
+
+module _ {A B R S : Type 0} (cursor_a : Cursor A R) (cursor_b : Cursor B S) (order : Order) (old : Sweeping)
+    (from_a : A) (from_b : B) where
   -- from the record that waited, and from what was taken, on
-  abbrev pub Proceeded : Option Feature → U → V → Type 0
+  abbrev pub Proceeded : Option Feature → A → B → Type 0
   Proceeded waiting to_a to_b =
-      Proceeds a_gives b_gives (Settles order old.phase)
+      Proceeds cursor_a cursor_b (Settles order old.phase)
       (λ firsts seconds. AtEach order old firsts seconds
       (λ stage. TakenEach order old.limit (option_to_list old.current ++ firsts) stage.taken seconds))
       (option_to_list old.current) waiting from_a to_a from_b to_b
 
-  -- the lines of those that are settled are written
-  pub record AdvancesSo (new : Sweeping) (to_a : U) (to_b : V) (grown : Output) : Type 0 where
-    pub proceeds : Proceeded new.current to_a to_b
-    -- the record of the second input that was taken last leaves the one that waits undecided
-    pub leaves : IfSome new.current (LeavesLast order proceeds.seconds)
-    pub stands : AtEach order old proceeds.firsts proceeds.seconds
-        (λ stage. MovesTo order old
-        (stage_after stage proceeds.newly new.current proceeds.seconds) new)
-    pub puts : PutsEach order old proceeds.firsts proceeds.seconds proceeds.newly out grown
+  module _ (out : Output) where
+    -- the lines of those that are settled are written
+    pub record AdvancesSo (new : Sweeping) (to_a : A) (to_b : B) (grown : Output) : Type 0 where
+      pub proceeds : Proceeded new.current to_a to_b
+      -- the record of the second input that was taken last leaves the one that waits undecided
+      pub leaves : IfSome new.current (LeavesLast order proceeds.seconds)
+      pub stands : AtEach order old proceeds.firsts proceeds.seconds
+          (λ stage. MovesTo order old
+          (stage_after stage proceeds.newly new.current proceeds.seconds) new)
+      pub puts : PutsEach order old proceeds.firsts proceeds.seconds proceeds.newly out grown
 
-  -- the input that is asked for then gives no more
-  abbrev pub StopsFor : Want → U → V → Type 0
-  StopsFor A to_a to_b = a_ended to_a
-  StopsFor B to_a to_b = b_ended to_b
-  StopsFor Nothing to_a to_b = ⊤
+    -- it failed once the lines of these records of the first input were settled
+    pub record FailsAt (fault : FaultValue) (to_a : A) (to_b : B) (grown : Output) : Type 0 where
+      pub waiting : Option Feature
+      pub proceeds : Proceeded waiting to_a to_b
+      pub cause : Fails cursor_b order old out proceeds.firsts proceeds.seconds proceeds.newly waiting to_b fault grown
 
-  -- it failed once the lines of these records of the first input were settled
-  pub record FailsAt (fault : FaultValue) (to_a : U) (to_b : V) (grown : Output) : Type 0 where
-    pub waiting : Option Feature
-    pub proceeds : Proceeded waiting to_a to_b
-    pub cause : Fails b_gives b_ended b_line order old out proceeds.firsts proceeds.seconds proceeds.newly waiting to_b
-        fault grown
+    -- what the answer says
+    abbrev pub AdvancesOn : {T : Type 0} → Result T Fault → Sweeping → A → B → Output → Type 0
+    AdvancesOn (Ok done) new to_a to_b grown =
+        AdvancesSo new to_a to_b grown × (StopsFor cursor_a cursor_b (want_in new) to_a to_b ⊎ HasWritten old new)
+    AdvancesOn (Err fault) new to_a to_b grown = FailsAt (fault_value fault) to_a to_b grown
 
-  -- the one that waited before is written, and what comes after it isn't looked at
-  abbrev pub HasWritten : Sweeping → Type 0
-  HasWritten new = (is_some old.current ≡ true) × (new.current ≡ None)
-
-  -- what the answer says
-  abbrev pub AdvancesOn : {T : Type 0} → Result T Fault → Sweeping → U → V → Output → Type 0
-  AdvancesOn (Ok done) new to_a to_b grown =
-      AdvancesSo new to_a to_b grown × (StopsFor (want_in new) to_a to_b ⊎ HasWritten new)
-  AdvancesOn (Err fault) new to_a to_b grown = FailsAt (fault_value fault) to_a to_b grown
-
--- no record of the first input was given
-abbrev pub NoneGiven : Unit {0} → List Feature → Unit {0} → Type 0
-NoneGiven from firsts to = firsts ≡ []
+-- a cursor that gives no record
+abbrev pub no_cursor : Cursor (Unit {0}) (Unit {0})
+no_cursor = record {
+  name = λ from. [];
+  gives = λ from records to. records ≡ [];
+  has_ended = λ from. ⊤;
+  room = λ from. 0;
+  line = λ from. 0;
+  consumed = λ from. [];
+}

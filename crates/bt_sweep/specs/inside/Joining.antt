@@ -7,13 +7,13 @@ use Rattle.bt_lines.specs.model.Lines.{max_number}
 use Rattle.bt_lines.specs.calls.Output.{Output, FailsToAdd, Grown}
 use Rattle.bt_lines.specs.declared.fault.Fault.{Fault}
 use Rattle.bt_bed.specs.model.Feature.{Feature, intervals_of}
+use Rattle.bt_bed.specs.declared.read.cursor.Cursor.{Ghosts as Cursor}
 use Rattle.bt_bed.specs.model.BedLine.{bed_text}
 use Rattle.bt_bed.specs.model.Sorted.{ArePlaced}
 use Rattle.bt_bed.specs.model.Order.{Order, IsTotal}
-use Rattle.bt_sweep.specs.calls.Sweeping.{Proceeds, SharesBase, AreDecided, CannotBeHeld, LeavesLast, TakenEach, HoldsFor, Sweeping, is_held, CannotHold, has_room}
+use Rattle.bt_sweep.specs.calls.Sweeping.{Proceeds, SharesBase, AreDecided, CannotBeHeld, LeavesLast, TakenEach, HoldsFor, SameConfig, Sweeping, is_held, CannotHold, has_room}
 use Rattle.bt_sweep.specs.calls.Held.{CanHit}
 use Rattle.bt_sweep.specs.model.Lines.{intersect, line_with, lines_of}
-use Rattle.bt_sweep.specs.declared.hits.hit_rule.HitRule.{HitRule}
 use Rattle.bt_sweep.specs.declared.output.shape.Shape.{Shape}
 use Rattle.bt_sweep.specs.declared.sweep.phase.Phase.TheVariants.{Over, First}
 use Rattle.bt_sweep.specs.declared.output.unmatched.Unmatched.{Unmatched}
@@ -26,14 +26,15 @@ use Rattle.bt_sweep.specs.declared.sweep.relation.Relation.TheVariants.{Unknown,
 
 -- What runs of steps over records of both inputs come to. Callers know them by `AdvancesOn`.
 
--- the sweep keeps what it has to once these records of both inputs were given and taken
-pub record Keeps (order : Order) (shape : Shape) (rule : HitRule) (limit : Option ℕ)
-    (as_given taken : List Feature) (sweep : Sweeping) : Type 0 where
-  pub shape_is : sweep.shape ≡ shape
-  pub rule_is : sweep.rule ≡ rule
-  pub limit_is : sweep.limit ≡ limit
+-- the sweep holds what it has to once these records of both inputs were given and taken
+pub record Holds (order : Order) (as_given taken : List Feature) (sweep : Sweeping) : Type 0 where
   pub holds : HoldsFor order as_given taken sweep.held
-  pub within : IfSome limit (λ most. length sweep.held ≤ most)
+  pub within : IfSome sweep.limit (λ most. length sweep.held ≤ most)
+
+-- so it does, and goes by the rules that it went by
+pub record Keeps (order : Order) (as_given taken : List Feature) (old new : Sweeping) : Type 0 where
+  pub same : SameConfig old new
+  pub holds : Holds order as_given taken new
 
 -- these lines were put after those that were pending, except the ones that are left pending
 pub record GrownWith (pending : List ℕ) (out : Output) (lines left : List ℕ) (grown : Output) : Type 0 where
@@ -46,46 +47,42 @@ abbrev pub AddsWith : {T : Type 0} → List ℕ → Output → List ℕ → Resu
 AddsWith pending out lines (Ok done) left grown = GrownWith pending out lines left grown
 AddsWith pending out lines (Err fault) left grown = FailsToAdd out (pending ++ lines) (fault_value fault) grown
 
--- In such orders, wherever it is with `first` given last: once these are given and taken.
-abbrev pub BehindFor : (Order → Type 0) → Feature → List Feature → List Feature → Sweeping
-    → (Order → Shape → HitRule → Option ℕ → List Feature → List Feature → Type 0) → Type 0
-BehindFor For first firsts seconds old P =
-    (order : Order) (shape : Shape) (rule : HitRule) (limit : Option ℕ) (before taken : List Feature)
-    → For order → Keeps order shape rule limit (before ++ first ∷ []) taken old
-    → ArePlaced order (intervals_of (before ++ first ∷ firsts))
-    → ArePlaced order (intervals_of (taken ++ seconds))
-    → P order shape rule limit (before ++ first ∷ firsts) (taken ++ seconds)
+-- Where a sweep is with `first` given last, in such an order: what was given before it, and taken. These come in
+-- order after them.
+pub record Behind (For : Order → Type 0) (first : Feature) (firsts seconds : List Feature) (old : Sweeping)
+    : Type 0 where
+  pub order : Order
+  pub before : List Feature
+  pub taken : List Feature
+  pub is_for : For order
+  pub holds : Holds order (before ++ first ∷ []) taken old
+  pub placed : ArePlaced order (intervals_of (before ++ first ∷ firsts))
+  pub placed_taken : ArePlaced order (intervals_of (taken ++ seconds))
 
--- it keeps what it has to
-abbrev pub GoesToFor : (Order → Type 0) → Feature → List Feature → List Feature → Sweeping → Sweeping
-    → Type 0
-GoesToFor For first firsts seconds old new =
-    BehindFor For first firsts seconds old
-    (λ order shape rule limit as_given taken. Keeps order shape rule limit as_given taken new)
+-- What holds wherever it is, once these were given and taken.
+module _ (For : Order → Type 0) (first : Feature) (firsts seconds : List Feature) (old : Sweeping) where
+  -- it keeps what it has to
+  abbrev pub GoesToFor : Sweeping → Type 0
+  GoesToFor new =
+      (at : Behind For first firsts seconds old)
+      → Keeps at.order (at.before ++ first ∷ firsts) (at.taken ++ seconds) old new
 
--- the lines of these were written after those that were pending, except the ones that are left pending
-abbrev pub WritesFor : (Order → Type 0) → Feature → List Feature → List Feature → Sweeping
-    → List Feature → List ℕ → Output → List ℕ → Output → Type 0
-WritesFor For first firsts seconds old newly pending out left grown =
-    BehindFor For first firsts seconds old
-    (λ order shape rule limit as_given taken. GrownWith pending out (intersect shape rule newly taken) left grown)
+  -- the lines of these were written after those that were pending, except the ones that are left pending
+  abbrev pub WritesFor : List Feature → List ℕ → Output → List ℕ → Output → Type 0
+  WritesFor newly pending out left grown =
+      (at : Behind For first firsts seconds old)
+      → GrownWith pending out (intersect old.shape old.rule newly (at.taken ++ seconds)) left grown
 
--- they couldn't all be
-abbrev pub CutsFor : (Order → Type 0) → Feature → List Feature → List Feature → Sweeping → List Feature
-    → List ℕ → Output → FaultValue → Output → Type 0
-CutsFor For first firsts seconds old newly pending out fault grown =
-    BehindFor For first firsts seconds old
-    (λ order shape rule limit as_given taken. FailsToAdd out (pending ++ intersect shape rule newly taken) fault grown)
+  -- they couldn't all be
+  abbrev pub CutsFor : List Feature → List ℕ → Output → FaultValue → Output → Type 0
+  CutsFor newly pending out fault grown =
+      (at : Behind For first firsts seconds old)
+      → FailsToAdd out (pending ++ intersect old.shape old.rule newly (at.taken ++ seconds)) fault grown
 
--- each was taken for one that those taken leave undecided, in such orders, wherever it is with `first`
--- given last
-abbrev pub TakesEachFor : (Order → Type 0) → Feature → List Feature → List Feature → Sweeping → Type 0
-TakesEachFor For first firsts seconds old =
-    (order : Order) (shape : Shape) (rule : HitRule) (limit : Option ℕ) (before taken : List Feature)
-    → For order → Keeps order shape rule limit (before ++ first ∷ []) taken old
-    → ArePlaced order (intervals_of (before ++ first ∷ firsts))
-    → ArePlaced order (intervals_of (taken ++ seconds))
-    → TakenEach order limit (first ∷ firsts) taken seconds
+  -- each of the second was taken for one that those taken leave undecided
+  abbrev pub TakesEachFor : Type 0
+  TakesEachFor =
+      (at : Behind For first firsts seconds old) → TakenEach at.order old.limit (first ∷ firsts) at.taken seconds
 
 -- each lies on the chromosome
 abbrev pub LieOn : List ℕ → List Feature → Type 0
@@ -102,31 +99,26 @@ abbrev pub WaitsOn : List ℕ → List Feature → Option Feature → Type 0
 WaitsOn name held waiting = IfSome waiting (λ a. (a.chrom ≡ name) × All (CanHit a) held)
 
 -- records of the first input alone, from `first` on
-module _ {A : Type 0} (gives : A → List Feature → A → Type 0) (has_ended : A → Type 0) (place : ℕ)
-    (old : Sweeping) (first : Feature) (from : A) (pending : List ℕ) (out : Output) where
+module _ {A R : Type 0} (cursor : Cursor A R) (place : ℕ) (old : Sweeping) (first : Feature) (from : A)
+    (pending : List ℕ) (out : Output) where
   -- their lines were written or are left pending, except the last one, if that waits
   pub record WritesSo (waiting : Option Feature) (new : Sweeping) (to : A) (left : List ℕ)
       (grown : Output) : Type 0 where
     pub firsts : List Feature
     pub newly : List Feature
-    pub given : gives from firsts to
+    pub given : cursor.gives from firsts to
     pub are : first ∷ firsts ≡ newly ++ option_to_list waiting
     pub end : EndUpTo first.chrom place newly
     pub waits : WaitsOn first.chrom new.held waiting
     pub goes : GoesToFor IsTotal first firsts [] old new
     pub writes : WritesFor IsTotal first firsts [] old newly pending out left grown
 
-  -- one waits that ends after the place, or there is none
-  abbrev pub StopsBehind : Option Feature → A → Type 0
-  StopsBehind None to = has_ended to
-  StopsBehind (Some a) to = (place < a.stop) × (a.stop ≤ max_number)
-
   -- they couldn't all be written
   pub record CutsOff (fault : FaultValue) (to : A) (grown : Output) : Type 0 where
     pub firsts : List Feature
     pub newly : List Feature
     pub waiting : Option Feature
-    pub given : gives from firsts to
+    pub given : cursor.gives from firsts to
     pub are : first ∷ firsts ≡ newly ++ option_to_list waiting
     pub end : EndUpTo first.chrom place newly
     pub cuts : CutsFor IsTotal first firsts [] old newly pending out fault grown
@@ -136,79 +128,76 @@ abbrev pub waiting_in : {R : Type 0} → R → Result Bool Fault → Result (Opt
 waiting_in r (Ok is_left) = Ok (then_some is_left r)
 waiting_in r (Err fault) = Err fault
 
-abbrev pub WritesUpTo : {A R : Type 0} → (A → List Feature → A → Type 0) → (A → Type 0) → (R → Feature) → ℕ
-    → Sweeping → Feature → A → List ℕ → Output → Result (Option R) Fault → Sweeping → A → List ℕ → Output
-    → Type 0
-WritesUpTo gives has_ended feature place old first from pending out (Ok waiting) new to left grown =
-    WritesSo gives has_ended place old first from pending out (option_map feature waiting) new to left grown
-    × StopsBehind gives has_ended place old first from pending out (option_map feature waiting) to
-WritesUpTo gives has_ended feature place old first from pending out (Err fault) new to left grown =
-    CutsOff gives has_ended place old first from pending out (fault_value fault) to grown
+-- one waits that ends after the place, or there is none
+abbrev pub StopsBehind : {A R : Type 0} → Cursor A R → ℕ → Option Feature → A → Type 0
+StopsBehind cursor place None to = cursor.has_ended to
+StopsBehind cursor place (Some a) to = (place < a.stop) × (a.stop ≤ max_number)
+
+abbrev pub WritesUpTo : {A R : Type 0} → Cursor A R → (R → Feature) → ℕ → Sweeping → Feature → A → List ℕ → Output
+    → Result (Option R) Fault → Sweeping → A → List ℕ → Output → Type 0
+WritesUpTo cursor feature place old first from pending out (Ok waiting) new to left grown =
+    WritesSo cursor place old first from pending out (option_map feature waiting) new to left grown
+    × StopsBehind cursor place (option_map feature waiting) to
+WritesUpTo cursor feature place old first from pending out (Err fault) new to left grown =
+    CutsOff cursor place old first from pending out (fault_value fault) to grown
 
 -- all records that there were are given
-pub record SkipsAll {B : Type 0} (gives : B → List Feature → B → Type 0) (has_ended : B → Type 0)
-    (name : List ℕ) (from to : B) : Type 0 where
+pub record SkipsAll {B S : Type 0} (cursor : Cursor B S) (from to : B) : Type 0 where
   pub seconds : List Feature
-  pub given : gives from seconds to
-  pub on : LieOn name seconds
-  pub ended : has_ended to
+  pub given : cursor.gives from seconds to
+  pub on : LieOn (cursor.name from) seconds
+  pub ended : cursor.has_ended to
 
 -- records of both inputs, from `first` of the first on
-module _ {A B : Type 0} (a_gives : A → List Feature → A → Type 0) (a_ended : A → Type 0)
-    (b_gives : B → List Feature → B → Type 0) (b_ended : B → Type 0) (b_line : B → ℕ)
-    (For : Order → Type 0) (Settles : List Feature → List Feature → Type 0)
-    (old : Sweeping) (first : Feature) (from_a : A) (from_b : B) (pending : List ℕ) (out : Output) where
+module _ {A B R S : Type 0} (cursor_a : Cursor A R) (cursor_b : Cursor B S) (For : Order → Type 0)
+    (Settles : List Feature → List Feature → Type 0) (old : Sweeping) (first : Feature) (from_a : A) (from_b : B) where
   abbrev pub Proceeded : Option Feature → A → B → Type 0
   Proceeded waiting to_a to_b =
-      Proceeds a_gives b_gives Settles (λ firsts seconds. TakesEachFor For first firsts seconds old) (first ∷ [])
+      Proceeds cursor_a cursor_b Settles (λ firsts seconds. TakesEachFor For first firsts seconds old) (first ∷ [])
       waiting from_a to_a from_b to_b
 
-  -- the lines of those of the first were written or are left pending, except the last one, if that waits
-  pub record JoinsSo (waiting : Option Feature) (new : Sweeping) (to_a : A) (to_b : B) (left : List ℕ)
-      (grown : Output) : Type 0 where
-    pub proceeds : Proceeded waiting to_a to_b
-    pub waits : WaitsOn first.chrom new.held waiting
-    pub goes : GoesToFor For first proceeds.firsts proceeds.seconds old new
-    pub writes : WritesFor For first proceeds.firsts proceeds.seconds old proceeds.newly pending out left grown
+  module _ (pending : List ℕ) (out : Output) where
+    -- the lines of those of the first were written or are left pending, except the last one, if that waits
+    pub record JoinsSo (waiting : Option Feature) (new : Sweeping) (to_a : A) (to_b : B) (left : List ℕ)
+        (grown : Output) : Type 0 where
+      pub proceeds : Proceeded waiting to_a to_b
+      pub waits : WaitsOn first.chrom new.held waiting
+      pub goes : GoesToFor For first proceeds.firsts proceeds.seconds old new
+      pub writes : WritesFor For first proceeds.firsts proceeds.seconds old proceeds.newly pending out left grown
 
-  -- one waits and there is none of the second input, or there is none of the first
-  abbrev pub StopsAt : Option Feature → A → B → Type 0
-  StopsAt None to_a to_b = a_ended to_a
-  StopsAt (Some a) to_a to_b = b_ended to_b
+    module _ (firsts seconds newly : List Feature) (waiting : Option Feature) (to_b : B) (fault : FaultValue)
+        (left : List ℕ) (grown : Output) where
+      -- the next record of the second input shares a base with the one that waits, and can't be held
+      pub record LacksRoom : Type 0 where
+        pub shares : SharesBase cursor_b.gives waiting to_b
+        pub writes : WritesFor For first firsts seconds old newly pending out left grown
+        pub lacks : (at : Behind For first firsts seconds old)
+            → CannotBeHeld old.limit shares.last (at.taken ++ seconds) (cursor_b.line shares.after) fault
 
-  module _ (firsts seconds newly : List Feature) (waiting : Option Feature) (to_b : B) (fault : FaultValue)
-      (left : List ℕ) (grown : Output) where
-    -- the next record of the second input shares a base with the one that waits, and can't be held
-    pub record LacksRoom : Type 0 where
-      pub shares : SharesBase b_gives waiting to_b
-      pub writes : WritesFor For first firsts seconds old newly pending out left grown
-      pub lacks : BehindFor For first firsts seconds old
-          (λ order shape rule limit as_given taken. CannotBeHeld limit shares.last taken (b_line shares.after) fault)
+    -- it failed once these lines of the first were settled
+    pub record Breaks (fault : FaultValue) (to_a : A) (to_b : B) (left : List ℕ) (grown : Output) : Type 0 where
+      pub waiting : Option Feature
+      pub proceeds : Proceeded waiting to_a to_b
+      pub cause : CutsFor For first proceeds.firsts proceeds.seconds old proceeds.newly pending out fault grown
+          ⊎ LacksRoom proceeds.firsts proceeds.seconds proceeds.newly waiting to_b fault left grown
 
-  -- it failed once these lines of the first were settled
-  pub record Breaks (fault : FaultValue) (to_a : A) (to_b : B) (left : List ℕ) (grown : Output) : Type 0 where
-    pub waiting : Option Feature
-    pub proceeds : Proceeded waiting to_a to_b
-    pub cause : CutsFor For first proceeds.firsts proceeds.seconds old proceeds.newly pending out fault grown
-        ⊎ LacksRoom proceeds.firsts proceeds.seconds proceeds.newly waiting to_b fault left grown
+-- one waits and there is none of the second input, or there is none of the first
+abbrev pub StopsAt : {A B R S : Type 0} → Cursor A R → Cursor B S → Option Feature → A → B → Type 0
+StopsAt cursor_a cursor_b None to_a to_b = cursor_a.has_ended to_a
+StopsAt cursor_a cursor_b (Some a) to_a to_b = cursor_b.has_ended to_b
 
-abbrev pub Joins : {A B R : Type 0} → (A → List Feature → A → Type 0) → (A → Type 0)
-    → (B → List Feature → B → Type 0) → (B → Type 0) → (B → ℕ) → (Order → Type 0)
-    → (List Feature → List Feature → Type 0)
-    → (List Feature → Feature → Type 0)
-    → (R → Feature) → Sweeping → Feature → A → B → List ℕ → Output → Result (Option R) Fault → Sweeping → A → B
-    → List ℕ → Output → Type 0
-Joins a_gives a_ended b_gives b_ended b_line For Settles Leaves feature old first from_a from_b pending out
-    (Ok waiting) new to_a to_b left grown =
-    (j : JoinsSo a_gives a_ended b_gives b_ended b_line For Settles old first from_a from_b pending out
-    (option_map feature waiting) new to_a to_b left grown)
-    × StopsAt a_gives a_ended b_gives b_ended b_line For Settles old first from_a from_b pending out
-    (option_map feature waiting) to_a to_b
+abbrev pub Joins : {A B R S : Type 0} → Cursor A R → Cursor B S → (Order → Type 0)
+    → (List Feature → List Feature → Type 0) → (List Feature → Feature → Type 0) → (R → Feature) → Sweeping → Feature
+    → A → B → List ℕ → Output → Result (Option R) Fault → Sweeping → A → B → List ℕ → Output → Type 0
+Joins cursor_a cursor_b For Settles Leaves feature old first from_a from_b pending out (Ok waiting) new to_a to_b left
+    grown =
+    (j : JoinsSo cursor_a cursor_b For Settles old first from_a from_b pending out (option_map feature waiting) new to_a
+    to_b left grown)
+    × StopsAt cursor_a cursor_b (option_map feature waiting) to_a to_b
     × IfSome (option_map feature waiting) (Leaves j.proceeds.seconds)
-Joins a_gives a_ended b_gives b_ended b_line For Settles Leaves feature old first from_a from_b pending out
-    (Err fault) new to_a to_b left grown =
-    Breaks a_gives a_ended b_gives b_ended b_line For Settles old first from_a from_b pending out (fault_value fault)
-    to_a to_b left grown
+Joins cursor_a cursor_b For Settles Leaves feature old first from_a from_b pending out (Err fault) new to_a to_b left
+    grown =
+    Breaks cursor_a cursor_b For Settles old first from_a from_b pending out (fault_value fault) to_a to_b left grown
 
 -- the last of these leaves it undecided, in every order that knows its chromosome
 abbrev pub LeavesOn : List Feature → Feature → Type 0
@@ -286,28 +275,27 @@ PutsOr false out bytes grown = FailsToAdd out bytes write_failed grown
 
 -- Where the records of the second input lie beside those of the first.
 
-module _ {B : Type 0} (gives : B → List Feature → B → Type 0) (has_ended : B → Type 0) (name : List ℕ)
-    (order : Order) (phase : Phase) (chrom : List ℕ) (seconds : B) where
+module _ {B S : Type 0} (cursor : Cursor B S) (order : Order) (phase : Phase) (chrom : List ℕ) (seconds : B) where
   -- the second input goes on, and the chromosome of these records is known, which is compared so
   pub record Compares (is : Ordering) : Type 0 where
     pub going : phase ≡ First → ⊥
-    pub known : order.knows name ≡ true
-    pub compared : order.compare name chrom ≡ is
+    pub known : order.knows (cursor.name seconds) ≡ true
+    pub compared : order.compare (cursor.name seconds) chrom ≡ is
 
   -- the next one lies on a later chromosome
   pub record LiesAfter : Type 0 where
     pub b : Feature
     pub after : B
-    pub gives_b : gives seconds (b ∷ []) after
-    pub on : b.chrom ≡ name
+    pub gives_b : cursor.gives seconds (b ∷ []) after
+    pub on : b.chrom ≡ cursor.name seconds
     pub compares : Compares Greater
 
   abbrev pub Relates : Relation → Type 0
-  Relates Unknown = has_ended seconds × (phase ≡ First → ⊥)
+  Relates Unknown = cursor.has_ended seconds × (phase ≡ First → ⊥)
   Relates Before = Compares Less
   Relates Beside = Compares Equal
   Relates After = (phase ≡ First) ⊎ LiesAfter
 
--- a cursor gives no record, and its input goes on
-abbrev pub EndsWhile : {B : Type 0} → (B → Type 0) → Phase → B → Type 0
-EndsWhile has_ended phase seconds = has_ended seconds × (phase ≡ First → ⊥)
+-- the same cursor, whose end says too that its input goes on
+abbrev pub going_on : {B S : Type 0} → Phase → Cursor B S → Cursor B S
+going_on phase cursor = record cursor { has_ended = λ to. cursor.has_ended to × (phase ≡ First → ⊥) }

@@ -38,13 +38,13 @@ pub struct Sweep<'o, H: Held, O: ChromOrder> {
 }
 
 impl<'o, H: Held, O: ChromOrder> Sweep<'o, H, O> {
-    ghost use Rattle.std.specs.Prelude.{◌≡◌, ℕ, All, List, [], IsOk, IsTrue, None, OnErr, OnOk, Option, Some, is_some, ⊤};
+    ghost use Rattle.std.specs.Prelude.{◌≡◌, ℕ, All, List, [], IsOk, IsTrue, None, OnErr, OnOk, Option, Some, is_some};
     ghost use Rattle.bt_bed.specs.calls.Bed.{feature_lent};
     ghost use Rattle.bt_bed.specs.model.Order.{Order};
-    ghost use Rattle.bt_sweep.specs.calls.Sweeping.{IsInOrder, MovesTo, Stage, StandsAt, first_stage, given, held_for, last_given, with_a, with_a_ended, with_b, EndsB, GivesA, GivesB, AdvancesOn, IsThis, NoneGiven, Settles, GivesKnown, LeavesLast, want_in, want_of};
+    ghost use Rattle.bt_sweep.specs.calls.Sweeping.{IsInOrder, MovesTo, Stage, StandsAt, first_stage, given, held_for, last_given, with_a, with_a_ended, with_b, EndsB, GivesA, GivesB, AdvancesOn, IsThis, Settles, GivesKnown, LeavesLast, want_in, want_of, no_cursor};
     ghost use Rattle.bt_sweep.specs.calls.SweepView.{order_of, state_of};
     ghost use Rattle.bt_sweep.specs.calls.Held.{CanHit};
-    ghost use Rattle.bt_sweep.specs.inside.Joining.{Joins, line_in, pending_in, EndsWhile};
+    ghost use Rattle.bt_sweep.specs.inside.Joining.{Joins, going_on, line_in, pending_in};
 
     /// A sweep that was given nothing, over an empty list of held records. With a limit no more records
     /// than that are held. It doesn't allocate.
@@ -96,9 +96,9 @@ impl<'o, H: Held, O: ChromOrder> Sweep<'o, H, O> {
         b: &mut B,
         out: &mut Out<K>,
     ) -> Result<(), Fault>
-        requires known_a { GivesKnown A.gives (order_of self.old) a.old }
-        requires known_b { GivesKnown B.gives (order_of self.old) b.old }
-        ensures advances { AdvancesOn A.gives A.has_ended B.gives B.has_ended B.line (order_of self.old) (state_of self.old)
+        requires known_a { GivesKnown A.Cursor (order_of self.old) a.old }
+        requires known_b { GivesKnown B.Cursor (order_of self.old) b.old }
+        ensures advances { AdvancesOn A.Cursor B.Cursor (order_of self.old) (state_of self.old)
             a.old b.old out.old.output result (state_of self.new) a.new b.new out.new.output }
         ensures idle { want_in (state_of self.old) ≡ Want.Nothing
             → IsOk result × (state_of self.new ≡ state_of self.old) × (a.new ≡ a.old) × (b.new ≡ b.old) × (out.new.output ≡ out.old.output) }
@@ -199,8 +199,8 @@ impl<'o, H: Held, O: ChromOrder> Sweep<'o, H, O> {
         b: &mut B,
         out: &mut Out<K>,
     ) -> Result<(), Fault>
-        requires known_b { GivesKnown B.gives (order_of self.old) b.old }
-        ensures decides { AdvancesOn NoneGiven (λ u. ⊤) B.gives B.has_ended B.line (order_of self.old) (state_of self.old)
+        requires known_b { GivesKnown B.Cursor (order_of self.old) b.old }
+        ensures decides { AdvancesOn no_cursor B.Cursor (order_of self.old) (state_of self.old)
             tt b.old out.old.output result (state_of self.new) tt b.new out.new.output }
         ensures phase { OnOk result ((state_of self.new).phase ≡ (state_of self.old).phase) }
         ensures stops { OnErr result (want_in (state_of self.new) ≡ Want.Nothing) }
@@ -226,9 +226,9 @@ impl<'o, H: Held, O: ChromOrder> Sweep<'o, H, O> {
         out: &mut Out<K>,
     ) -> Result<(), Fault>
         requires want { want_in (state_of self.old) ≡ Want.A }
-        requires known_a { GivesKnown A.gives (order_of self.old) a.old }
-        requires known_b { GivesKnown B.gives (order_of self.old) b.old }
-        ensures advances { AdvancesOn A.gives A.has_ended B.gives B.has_ended B.line (order_of self.old) (state_of self.old)
+        requires known_a { GivesKnown A.Cursor (order_of self.old) a.old }
+        requires known_b { GivesKnown B.Cursor (order_of self.old) b.old }
+        ensures advances { AdvancesOn A.Cursor B.Cursor (order_of self.old) (state_of self.old)
             a.old b.old out.old.output result (state_of self.new) a.new b.new out.new.output }
         ensures stops { OnErr result (want_in (state_of self.new) ≡ Want.Nothing) }
         ensures order { order_of self.new ≡ order_of self.old }
@@ -262,8 +262,8 @@ impl<'o, H: Held, O: ChromOrder> Sweep<'o, H, O> {
         requires line { line_in (A.consumed a.old.cursor) a.old.to ≡ A.Record.raw first }
         requires pending { pending_in (A.consumed a.old.cursor) a.old.from a.old.to ≡ [] }
         requires known { IsTrue ((order_of self.old).knows (A.Record.feature first).chrom) }
-        requires known_b { GivesKnown B.gives (order_of self.old) b.old }
-        ensures joins { Joins A.gives A.has_ended B.gives (EndsWhile B.has_ended (state_of self.old).phase) B.line (IsThis (order_of self.old)) (Settles (order_of self.old) (state_of self.old).phase)
+        requires known_b { GivesKnown B.Cursor (order_of self.old) b.old }
+        ensures joins { Joins A.Cursor (going_on (state_of self.old).phase B.Cursor) (IsThis (order_of self.old)) (Settles (order_of self.old) (state_of self.old).phase)
             (LeavesLast (order_of self.old)) A.Record.feature (state_of self.old) (A.Record.feature first) a.old.cursor b.old [] out.old.output result (state_of self.new)
             a.new.cursor b.new [] out.new.output }
         ensures none { (state_of self.new).current ≡ None }

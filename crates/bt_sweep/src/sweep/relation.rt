@@ -30,8 +30,8 @@ pub(crate) fn relation_of<O: ChromOrder, B: Cursor>(
     seconds: &B,
 ) -> Relation
     requires known { IsTrue ((O.order order.now).knows chrom.now) }
-    requires known_b { GivesKnown B.gives (O.order order.now) seconds.now }
-    ensures { Relates B.gives B.has_ended (B.name seconds.now) (O.order order.now) phase chrom.now seconds.now result }
+    requires known_b { GivesKnown B.Cursor (O.order order.now) seconds.now }
+    ensures { Relates B.Cursor (O.order order.now) phase chrom.now seconds.now result }
 {
     if let Phase::First = phase {
         return Relation::After;

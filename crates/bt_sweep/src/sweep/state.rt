@@ -351,7 +351,7 @@ impl<H: Held> State<H> {
         requires on { A.name firsts.old.cursor ≡ (A.Record.feature first.old).chrom }
         requires line { line_in (A.consumed firsts.old.cursor) firsts.old.to ≡ A.Record.raw first.old }
         requires quiet { IsQuiet self.old.shape (pending_in (A.consumed firsts.old.cursor) firsts.old.from firsts.old.to) }
-        ensures writes { WritesUpTo A.gives A.has_ended A.Record.feature place self.old (A.Record.feature first.old) firsts.old.cursor
+        ensures writes { WritesUpTo A.Cursor A.Record.feature place self.old (A.Record.feature first.old) firsts.old.cursor
             (pending_in (A.consumed firsts.old.cursor) firsts.old.from firsts.old.to) out.old.output (waiting_in first.new result) self.new firsts.new.cursor
             (pending_in (A.consumed firsts.new.cursor) firsts.new.from firsts.new.to) out.new.output }
         ensures on { A.name firsts.new.cursor ≡ A.name firsts.old.cursor }
@@ -388,7 +388,7 @@ impl<H: Held> State<H> {
         requires on { A.name firsts.old.cursor ≡ (A.Record.feature first).chrom }
         requires line { line_in (A.consumed firsts.old.cursor) firsts.old.to ≡ A.Record.raw first }
         requires pending { pending_in (A.consumed firsts.old.cursor) firsts.old.from firsts.old.to ≡ [] }
-        ensures writes { WritesUpTo A.gives A.has_ended A.Record.feature max_number self.old (A.Record.feature first) firsts.old.cursor
+        ensures writes { WritesUpTo A.Cursor A.Record.feature max_number self.old (A.Record.feature first) firsts.old.cursor
             [] out.old.output result self.new firsts.new.cursor [] out.new.output }
         ensures none { self.new.current ≡ None }
         ensures phase { OnOk result (self.new.phase ≡ self.old.phase) }
@@ -416,7 +416,7 @@ impl<H: Held> State<H> {
         requires beside { B.name seconds.old ≡ (A.Record.feature first).chrom }
         requires line { line_in (A.consumed firsts.old.cursor) firsts.old.to ≡ A.Record.raw first }
         requires pending { pending_in (A.consumed firsts.old.cursor) firsts.old.from firsts.old.to ≡ [] }
-        ensures joins { Joins A.gives A.has_ended B.gives B.has_ended B.line IsTotal (AreDecidedOn (A.Record.feature first).chrom) LeavesOn
+        ensures joins { Joins A.Cursor B.Cursor IsTotal (AreDecidedOn (A.Record.feature first).chrom) LeavesOn
             A.Record.feature self.old (A.Record.feature first) firsts.old.cursor seconds.old [] out.old.output result self.new
             firsts.new.cursor seconds.new [] out.new.output }
         ensures none { self.new.current ≡ None }
@@ -446,7 +446,7 @@ impl<H: Held> State<H> {
         requires beside { B.name seconds.old ≡ (A.Record.feature first).chrom }
         requires line { line_in (A.consumed firsts.old.cursor) firsts.old.to ≡ A.Record.raw first }
         requires quiet { IsQuiet self.old.shape (pending_in (A.consumed firsts.old.cursor) firsts.old.from firsts.old.to) }
-        ensures joins { Joins A.gives A.has_ended B.gives B.has_ended B.line IsTotal (AreDecidedOn (A.Record.feature first).chrom) LeavesOn
+        ensures joins { Joins A.Cursor B.Cursor IsTotal (AreDecidedOn (A.Record.feature first).chrom) LeavesOn
             A.Record.feature self.old (A.Record.feature first) firsts.old.cursor seconds.old
             (pending_in (A.consumed firsts.old.cursor) firsts.old.from firsts.old.to) out.old.output result self.new
             firsts.new.cursor seconds.new (pending_in (A.consumed firsts.new.cursor) firsts.new.from firsts.new.to) out.new.output }
@@ -483,7 +483,7 @@ fn are_on<H: Held>(held: &H, chrom: &[u8]) -> bool
 
 // Takes all records that there are.
 pub(crate) fn skip<B: Cursor>(seconds: &mut B)
-    ensures { SkipsAll B.gives B.has_ended (B.name seconds.old) seconds.old seconds.new }
+    ensures { SkipsAll B.Cursor seconds.old seconds.new }
 {
     while let Some(_next) = seconds.next() {}
 }

@@ -7,7 +7,7 @@ ghost use Rattle.bt_lines.specs.calls.Reader.{HasRead};
 ghost use Rattle.bt_bed.specs.model.BedLine.{IsBedKind};
 ghost use Rattle.bt_bed.specs.model.Order.{IsTotal};
 ghost use Rattle.bt_bed.specs.calls.Records.{below, buffered_in, fault_kept, order_in, view_of};
-ghost use Rattle.bt_bed.specs.calls.Batch.{HasEnded, Passes, line_in};
+ghost use Rattle.bt_bed.specs.calls.CursorOf.{batch_cursor};
 ghost use Rattle.bt_bed.specs.declared.read.batch.Batch.{Batch};
 ghost use Rattle.bt_sweep.specs.calls.Sweeping.{AdvancesOn};
 ghost use Rattle.bt_sweep.specs.calls.SweepView.{order_of as sweep_order, state_of};
@@ -44,7 +44,7 @@ fn advance_buffered<A: Source, B: Source, O: ChromOrder, K: Sink>(
     ensures advances { (firsts : Batch) × (seconds : Batch) × (last_firsts : Batch) × (last_seconds : Batch)
         × ConsumesGiven A.Source first.old firsts last_firsts first.new
         × ConsumesGiven B.Source second.old seconds last_seconds second.new
-        × AdvancesOn Passes HasEnded Passes HasEnded line_in (sweep_order sweep.old) (state_of sweep.old) firsts seconds
+        × AdvancesOn batch_cursor batch_cursor (sweep_order sweep.old) (state_of sweep.old) firsts seconds
         out.old.output result (state_of sweep.new) last_firsts last_seconds out.new.output }
     ensures order { sweep_order sweep.new ≡ sweep_order sweep.old }
 {

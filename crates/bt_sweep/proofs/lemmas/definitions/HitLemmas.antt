@@ -47,10 +47,7 @@ none_asked bases r = le-leb (0 * length_of (interval_of r)) (bases * 1000000000)
 -- without a fraction any number of bases is enough
 pub enough_of_nothing : (rule : HitRule) (bases : ℕ) (a b : Feature) → rule.billionths ≡ 0 → is_enough rule bases a b ≡ true
 unfolding is_enough
-enough_of_nothing rule bases a b e =
-    let any : (r : Feature) → has_fraction rule.billionths bases r ≡ true = λ r. ap (λ n. has_fraction n bases r) e ∙ none_asked bases r in
-    and_from (has_fraction rule.billionths bases a) (not rule.both || has_fraction rule.billionths bases b) (any a)
-    (or_right (not rule.both) (has_fraction rule.billionths bases b) (any b))
+enough_of_nothing rule bases a b e = grind (arith, none_asked, and_from, or_right)
 
 -- Lemmas on what decides a record.
 
@@ -64,11 +61,7 @@ past_at Equal start stop e = inr (refl, grind (arith, ltb-false, e))
 past_at Greater start stop e = inl refl
 
 pub past_from : (order : Order) (a b : Feature) → IsTotal order → IsTrue (order.knows a.chrom) → IsTrue (order.knows b.chrom) → decides order a b ≡ true → IsPast order a b
-past_from order a b total ka kb e =
-    elim (past_at (order.compare b.chrom a.chrom) b.start a.stop e) [
-      | inl later ↦ inl later
-      | inr here ↦ inr (total.equal b.chrom a.chrom kb ka here.0, here.1)
-    ]
+past_from order a b total ka kb e = grind (arith, past_at)
 
 here_at : (c : Ordering) (start stop : ℕ) → c ≡ Equal → stop ≤ start → not (is_below_at c start stop) ≡ true
 here_at Less start stop e h = cc
@@ -81,30 +74,14 @@ later_at Equal start stop e = cc
 later_at Greater start stop e = refl
 
 pub decides_from : (order : Order) (a b : Feature) → IsTotal order → IsTrue (order.knows a.chrom) → IsPast order a b → decides order a b ≡ true
-decides_from order a b total ka past =
-    elim past [
-      | inl later ↦ later_at _ b.start a.stop later
-      | inr here ↦ here_at (order.compare b.chrom a.chrom) b.start a.stop (ap (λ (c : List ℕ). order.compare c a.chrom) here.0 ∙ total.same a.chrom ka) here.1
-    ]
+decides_from order a b total ka past = grind (arith, later_at, here_at)
 
 -- what comes later in the order is later still
 further : (order : Order) (a b m : List ℕ) → IsTotal order → IsTrue (order.knows a) → IsTrue (order.knows b) → IsTrue (order.knows m) → order.compare b a ≡ Greater → order.compare b m ≡ Less → order.compare m a ≡ Greater
-further order a b m total ka kb km later next =
-    let up : order.compare a b ≡ Less = total.swapped b a kb ka ∙ ap ordering_reverse later in
-    total.swapped a m ka km ∙ ap ordering_reverse (total.ascends a b m ka kb km up next)
+further order a b m total ka kb km later next = grind (arith, ordering_reverse)
 
 pub past_moves : (order : Order) (a b m : Feature) → IsTotal order → IsTrue (order.knows a.chrom) → IsTrue (order.knows b.chrom) → IsTrue (order.knows m.chrom) → IsUpTo order (locus_at b) (locus_at m) → IsPast order a b → IsPast order a m
-past_moves order a b m total ka kb km up past =
-    elim up [
-      | inl less ↦ elim past [
-        | inl later ↦ inl (further order a.chrom b.chrom m.chrom total ka kb km later less)
-        | inr here ↦ inl (total.swapped a.chrom m.chrom ka km ∙ ap ordering_reverse (subst (λ (c : List ℕ). order.compare c m.chrom ≡ Less) here.0 less))
-      ]
-      | inr same ↦ elim past [
-        | inl later ↦ inl (subst (λ (c : List ℕ). order.compare c a.chrom ≡ Greater) same.0 later)
-        | inr here ↦ inr (sym same.0 ∙ here.0, omega (arith, same.1, here.1))
-      ]
-    ]
+past_moves order a b m total ka kb km up past = grind (arith, further, ordering_reverse)
 
 pub decides_next : (order : Order) (a b m : Feature) → IsTotal order → IsTrue (order.knows a.chrom) → IsTrue (order.knows b.chrom) → IsTrue (order.knows m.chrom) → IsUpTo order (locus_at b) (locus_at m) → decides order a b ≡ true → decides order a m ≡ true
 decides_next order a b m total ka kb km up e = decides_from order a m total ka (past_moves order a b m total ka kb km up (past_from order a b total ka kb e))
@@ -151,19 +128,11 @@ nothing_shared false n h = refl
 
 -- what is past a doesn't hit it
 past_misses : (order : Order) (rule : HitRule) (a b : Feature) → IsTotal order → IsTrue (order.knows b.chrom) → IsPast order a b → hits rule a b ≡ false
-past_misses order rule a b total kb past =
-    apart_misses rule a b (nothing_shared (bytes_eq a.chrom b.chrom) (min a.stop b.stop - max a.start b.start) (λ same.
-    elim past [
-      | inl later ↦
-          let it : order.compare b.chrom b.chrom ≡ Greater = subst (λ (c : List ℕ). order.compare b.chrom c ≡ Greater) (same_name a.chrom b.chrom same) later in
-          absurd (let apart : Greater ≡ Equal = sym it ∙ total.same b.chrom kb in cc)
-      | inr here ↦ omega (arith, here.1)
-    ]))
+past_misses order rule a b total kb past = grind (arith, apart_misses, nothing_shared, bytes_eq, same_name)
 
 -- what starts at its end or after it doesn't either
 behind_misses : (rule : HitRule) (a b : Feature) → a.stop ≤ b.start → hits rule a b ≡ false
-behind_misses rule a b h =
-    apart_misses rule a b (nothing_shared (bytes_eq a.chrom b.chrom) (min a.stop b.stop - max a.start b.start) (λ same. omega (arith, h)))
+behind_misses rule a b h = grind (arith, apart_misses, nothing_shared, bytes_eq)
 
 misses_at : (rule : HitRule) (a : Feature) (x : Feature) (xs : List Feature) → hits rule a x ≡ false → filter (hits rule a) xs ≡ [] → filter (hits rule a) (x ∷ xs) ≡ []
 misses_at rule a x xs e rest = ap (λ b. cond b (x ∷ filter (hits rule a) xs) (filter (hits rule a) xs)) e ∙ rest
@@ -177,10 +146,7 @@ none_hit order rule a (x ∷ xs) total ka placed e =
 
 pub stay_lines : lines_stay
 unfolding lines_for
-stay_lines order shape rule a bs more total ka placed some =
-    ap (lines_of shape a) (filter-append (hits rule a) bs more
-    ∙ ap (λ l. hits_among rule a bs ++ l) (none_hit order rule a more total ka (placed_back order bs more placed) (later_decide order a bs more total ka placed some))
-    ∙ append-nil (hits_among rule a bs))
+stay_lines order shape rule a bs more total ka placed some = grind (arith, filter-append, none_hit, placed_back, later_decide, append-nil)
 
 -- the lines of a against the records before the one that decides it are those against all
 pub before_lines : lines_are_before
@@ -226,8 +192,7 @@ module _ (rule : HitRule) (a : Feature) where
 
 -- the first of records in order are in order
 pub front_placed : (order : Order) (front rest : List Feature) → ArePlaced order (intervals_of (front ++ rest)) → ArePlaced order (intervals_of front)
-front_placed order front rest placed =
-    placed_prefix order (intervals_of front) (intervals_of rest) (subst (ArePlaced order) (map-append interval_of front rest) placed)
+front_placed order front rest placed = grind (arith, placed_prefix, map-append)
 
 -- the last of records lies where the last of their intervals does
 pub last_lies : (a : Feature) (more : List Feature) → last_from (interval_of a) (intervals_of more) ≡ interval_of (last_after a more)
@@ -304,8 +269,7 @@ cut_past too_many before (m ∷ past) more fault few =
 -- at the first with which they are
 pub cut_here : (too_many : List Feature → Bool) (past more : List (Member Feature)) (m : Member Feature) (fault : Option FaultValue) → too_many (map (λ m. m.item) (past ++ m ∷ [])) ≡ true
     → cut_behind too_many past (m ∷ more) fault ≡ record { members = past ++ m ∷ []; fault = Some (fault_at_line Second m.line TooManyHeld) }
-cut_here too_many past more m fault many =
-    ap (λ b. if b then record { members = past ++ m ∷ []; fault = Some (fault_at_line Second m.line TooManyHeld) } else cut_behind too_many (past ++ m ∷ []) more fault) many
+cut_here too_many past more m fault many = grind (arith)
 
 keeps_by : (c : Bool) (cut on : Good Feature) (past : List (Member Feature)) (m : Member Feature) → cut.members ≡ past ++ m ∷ [] → (rest : List (Member Feature)) × (on.members ≡ (past ++ m ∷ []) ++ rest)
     → (rest : List (Member Feature)) × ((if c then cut else on).members ≡ (past ++ m ∷ []) ++ rest)
@@ -315,8 +279,7 @@ keeps_by false cut on past m e f = f
 -- past one with which they aren't
 pub cut_on : (too_many : List Feature → Bool) (past more : List (Member Feature)) (m : Member Feature) (fault : Option FaultValue) → too_many (map (λ m. m.item) (past ++ m ∷ [])) ≡ false
     → cut_behind too_many past (m ∷ more) fault ≡ cut_behind too_many (past ++ m ∷ []) more fault
-cut_on too_many past more m fault few =
-    ap (λ b. if b then record { members = past ++ m ∷ []; fault = Some (fault_at_line Second m.line TooManyHeld) } else cut_behind too_many (past ++ m ∷ []) more fault) few
+cut_on too_many past more m fault few = grind (arith)
 
 front_by : (c : Bool) (cut on : Good Feature) (past more : List (Member Feature)) (m : Member Feature) → cut.members ≡ past ++ m ∷ [] → (rest : List (Member Feature)) × ((past ++ m ∷ []) ++ more ≡ on.members ++ rest)
     → (rest : List (Member Feature)) × (past ++ m ∷ more ≡ (if c then cut else on).members ++ rest)

@@ -1,6 +1,5 @@
 -- Lemmas on records whose starts don't fall.
-use Rattle.bt_lines.proofs.Std.{◌≡◌, ℕ, ◌≤◌, inl, inr, Bool, true, false, cond, List, [], ◌∷◌, refl, sym, ◌∙◌, subst, ltb, arith, filter, bytes_eq, IsTrue, and_parts, ◌+◌, ◌<◌, not, ◌&&◌, ◌++◌, ap, append_assoc, append-nil, flat_map, max, Decides, nat_le, nat_lt, leb-true, le-leb, list_any, cases_lt, false≢true, ltb-true, ltb-false, Decides-and, Decides-or, Decides-ltb, Decides-not}
-use Rattle.std.specs.declared.cmp.Ordering.TheVariants.{Less, Equal}
+use Rattle.bt_lines.proofs.Std.{◌≡◌, ℕ, ◌≤◌, inl, inr, Bool, true, false, cond, List, [], ◌∷◌, refl, sym, ◌∙◌, ltb, arith, filter, bytes_eq, IsTrue, and_parts, ◌+◌, ◌<◌, ◌&&◌, ◌++◌, ap, append_assoc, append-nil, flat_map, max, Decides, nat_le, nat_lt, leb-true, le-leb, list_any, cases_lt, false≢true, ltb-true, ltb-false, Decides-and, Decides-or, Decides-ltb, Decides-not}
 use Rattle.bt_bed.specs.model.Feature.{Feature, intervals_of, Span}
 use Rattle.bt_bed.specs.model.Positions.{AreApartFrom, IsCovered}
 use Rattle.bt_bed.specs.model.Good.{locus_at}
@@ -34,13 +33,7 @@ module _ (p : Feature → Bool) where
 
 module _ (order : Order) (total : IsTotal order) (p : Feature → Bool) (name : List ℕ) (on : (b : Feature) → p b ≡ true → b.chrom ≡ name) where
   up_start : (x y : Feature) → IsTrue (order.knows x.chrom) → x.chrom ≡ name → y.chrom ≡ name → IsUpTo order (locus_at x) (locus_at y) → x.start ≤ y.start
-  up_start x y known ex ey up =
-      elim up [
-        | inl less ↦
-            let it : order.compare x.chrom x.chrom ≡ Less = subst (λ (c : List ℕ). order.compare x.chrom c ≡ Less) (ey ∙ sym ex) less in
-            absurd (let apart : Less ≡ Equal = sym it ∙ total.same x.chrom known in cc)
-        | inr here ↦ here.1
-      ]
+  up_start x y known ex ey up = grind (arith)
 
   skip_second : (x y : Feature) (zs : List Feature) → ArePlaced order (intervals_of (x ∷ y ∷ zs)) → ArePlaced order (intervals_of (x ∷ zs))
   skip_second x y [] placed = (placed.0, tt, tt)
@@ -81,9 +74,7 @@ covers-Decides (b ∷ others) p =
     (Decides-and (nat_le b.start p) (nat_lt p b.stop) (Decides-le b.start p) (Decides-ltb p b.stop)) (covers-Decides others p)
 
 left-Decides : (a : Feature) (others : List Feature) (p : ℕ) → Decides (is_left a others p) ((a.start ≤ p) × (IsCovered (spans_of others) p → ⊥))
-left-Decides a others p =
-    Decides-and (nat_le a.start p) (not (list_any (has_position p) others)) (Decides-le a.start p)
-    (Decides-not (list_any (has_position p) others) (covers-Decides others p))
+left-Decides a others p = grind (arith, Decides-and, Decides-not, covers-Decides)
 
 pub are_pieces : pieces_are
 unfolding pieces
@@ -178,25 +169,13 @@ module _ (free stop : ℕ) (b : Feature) (bs : List Feature) (spans : List Span)
   past_b p c = let up = rest.from_free p c in (omega (arith, up), omega (arith, up))
 
   bare_rest : (p : ℕ) → IsCovered spans p → IsCovered (spans_of (b ∷ bs)) p → ⊥
-  bare_rest p c w =
-      elim w [
-        | inl here ↦ let up = past_b p c in absurd (omega (arith, up.1, here.1))
-        | inr there ↦ rest.bare p c there
-      ]
+  bare_rest p c w = grind (arith, past_b)
 
   bare_gap : (p : ℕ) → p < b.start → IsCovered (spans_of (b ∷ bs)) p → ⊥
-  bare_gap p low w =
-      elim w [
-        | inl here ↦ absurd (omega (arith, low, here.0))
-        | inr there ↦ let up = none_below b.start bs p rises there in absurd (omega (arith, low, up))
-      ]
+  bare_gap p low w = grind (arith, none_below)
 
   whole_rest : (p : ℕ) → free ≤ p → b.start ≤ p → p < stop → (IsCovered (spans_of (b ∷ bs)) p → ⊥) → IsCovered spans p
-  whole_rest p low start high bare =
-      elim (cases_lt p b.stop) [
-        | inl less ↦ absurd (bare (inl (start, less)))
-        | inr past ↦ rest.whole p (omega (arith, low, past)) high (λ w. bare (inr w))
-      ]
+  whole_rest p low start high bare = grind (arith, cases_lt, bare)
 
   next_walks : (c : Bool) → ltb free b.start ≡ c → IsWalk free stop (b ∷ bs) (cond c (record { start = free; stop = b.start } ∷ []) [] ++ spans)
   next_walks true e =

@@ -1,14 +1,14 @@
 -- Lemmas on what is held.
 use Rattle.bt_lines.proofs.Std.{◌≡◌, ℕ, ◌≤◌, inl, inr, Bool, true, false, not, ◌&&◌, ◌||◌, cond, List, [], ◌∷◌, ◌++◌, Option, None, Some, refl, sym, ap, ◌∙◌, subst, ltb, arith, filter, bytes_eq, IsTrue, list_all, ordering_reverse, false≢true, and_from, and_parts, or_parts, or_left, or_right, cases_Bool, filter-append, list_any-append, list_all-append}
 use Rattle.std.specs.declared.cmp.Ordering.{Ordering}
-use Rattle.std.specs.declared.cmp.Ordering.TheVariants.{Less, Greater}
+use Rattle.std.specs.declared.cmp.Ordering.TheVariants.{Greater}
 use Rattle.bt_bed.specs.model.Feature.{Feature, intervals_of}
 use Rattle.bt_bed.specs.model.Order.{Order, IsTotal}
 use Rattle.bt_bed.specs.model.Good.{locus_at}
 use Rattle.bt_bed.specs.model.Sorted.{is_below_at, IsUpTo, ArePlaced, has_records}
 use Rattle.bt_bed.proofs.lemmas.parse.NameLemmas.{name_eq, name_ne, other_name, same_name}
 use Rattle.bt_sweep.specs.model.Hits.{decides}
-use Rattle.bt_sweep.specs.calls.Sweeping.{is_held, held_for, last_after, last_given, leaves_some, HoldsFor}
+use Rattle.bt_sweep.specs.calls.Sweeping.{is_held, last_after, last_given, leaves_some, HoldsFor}
 use Rattle.bt_sweep.specs.inside.Joining.{held_with}
 use Rattle.bt_sweep.proofs.lemmas.Active.{filter-both}
 use Rattle.bt_sweep.proofs.lemmas.definitions.HitLemmas.{last_given-push, last_is_there, next_lies}
@@ -20,17 +20,7 @@ held_behind (Some last) held a = cond (bytes_eq last.chrom a.chrom) (filter (λ 
 
 -- places that come in order
 pub up_trans : (order : Order) (x y z : Feature) → IsTotal order → IsTrue (order.knows x.chrom) → IsTrue (order.knows y.chrom) → IsTrue (order.knows z.chrom) → IsUpTo order (locus_at x) (locus_at y) → IsUpTo order (locus_at y) (locus_at z) → IsUpTo order (locus_at x) (locus_at z)
-up_trans order x y z total kx ky kz first second =
-    elim first [
-      | inl less ↦ elim second [
-        | inl more ↦ inl (total.ascends x.chrom y.chrom z.chrom kx ky kz less more)
-        | inr same ↦ inl (subst (λ (c : List ℕ). order.compare x.chrom c ≡ Less) same.0 less)
-      ]
-      | inr here ↦ elim second [
-        | inl more ↦ inl (subst (λ (c : List ℕ). order.compare c z.chrom ≡ Less) (sym here.0) more)
-        | inr same ↦ inr (here.0 ∙ same.0, omega (arith, here.1, same.1))
-      ]
-    ]
+up_trans order x y z total kx ky kz first second = grind (arith)
 
 pub last_known : (order : Order) (xs : List Feature) (y : Feature) → ArePlaced order (intervals_of (xs ++ y ∷ [])) → IsTrue (order.knows y.chrom)
 last_known order [] y placed = placed.0
@@ -45,13 +35,7 @@ below_not_greater c start stop e f = grind arith
 
 -- a record on a chromosome that comes anew decides all that was given before
 left_at : (order : Order) (a b g : Feature) → IsTotal order → IsTrue (order.knows a.chrom) → IsTrue (order.knows g.chrom) → a.chrom ≡ b.chrom → (a.chrom ≡ g.chrom → ⊥) → IsUpTo order (locus_at g) (locus_at a) → not (decides order g b) ≡ true → ⊥
-left_at order a b g total ka kg same other up e =
-    elim up [
-      | inl less ↦
-          let it : order.compare b.chrom g.chrom ≡ Greater = ap (λ (c : List ℕ). order.compare c g.chrom) (sym same) ∙ total.swapped g.chrom a.chrom kg ka ∙ ap ordering_reverse less in
-          below_not_greater (order.compare b.chrom g.chrom) b.start g.stop e it
-      | inr here ↦ other (sym here.0)
-    ]
+left_at order a b g total ka kg same other up e = grind (arith, ordering_reverse, below_not_greater)
 
 leaves_none : (order : Order) (a b : Feature) (gs : List Feature) → IsTotal order → ArePlaced order (intervals_of (gs ++ a ∷ [])) → has_records a.chrom (intervals_of gs) ≡ false → a.chrom ≡ b.chrom → leaves_some order gs b ≡ true → ⊥
 leaves_none order a b [] total placed none same some = false≢true some
@@ -77,10 +61,7 @@ narrow_at c l a stop h = grind arith
 
 -- on the same chromosome what is held becomes less
 same_held : (l a : Feature) (taken : List Feature) → a.chrom ≡ l.chrom → l.start ≤ a.start → filter (λ b. ltb a.start b.stop) (filter (is_held l) taken) ≡ filter (is_held a) taken
-same_held l a taken same up =
-    filter-both (is_held a) (is_held l) (λ b. ltb a.start b.stop)
-    (λ b. narrow_at (bytes_eq a.chrom b.chrom) l.start a.start b.stop up ∙ ap (λ (c : List ℕ). (bytes_eq c b.chrom && ltb l.start b.stop) && ltb a.start b.stop) same)
-    taken
+same_held l a taken same up = grind (arith, filter-both, narrow_at, bytes_eq)
 
 held_on : (l a : Feature) (held : List Feature) (c : Bool) → bytes_eq l.chrom a.chrom ≡ c → held_behind (Some l) held a ≡ cond c (filter (λ b. ltb a.start b.stop) held) []
 held_on l a held c e = ap (λ b. cond b (filter (λ b. ltb a.start b.stop) held) []) e
@@ -112,22 +93,12 @@ reached_more order gs more (b ∷ taken) reached =
 -- with one more record of the first input
 pub holds_a : (order : Order) (gs taken held : List Feature) (a : Feature) → IsTotal order → ArePlaced order (intervals_of (gs ++ a ∷ [])) → HoldsFor order gs taken held
     → HoldsFor order (gs ++ a ∷ []) taken (held_behind (last_given gs) held a)
-holds_a order gs taken held a total placed holds = record {
-  held_is = held_next order gs taken held a total placed holds ∙ ap (λ l. held_for l taken) (sym (last_given-push gs a));
-  reached = reached_more order gs (a ∷ []) taken holds.reached;
-}
+holds_a order gs taken held a total placed holds = grind (arith, held_next, last_given-push, reached_more)
 
 -- with one more record of the second, which leaves the last of the first undecided
 pub holds_b : (order : Order) (gs taken held : List Feature) (a b : Feature) → HoldsFor order (gs ++ a ∷ []) taken held → decides order a b ≡ false
     → HoldsFor order (gs ++ a ∷ []) (taken ++ b ∷ []) (held ++ filter (is_held a) (b ∷ []))
-holds_b order gs taken held a b holds e = record {
-  held_is = ap (λ h. h ++ filter (is_held a) (b ∷ [])) (holds.held_is ∙ ap (λ l. held_for l taken) (last_given-push gs a))
-      ∙ sym (filter-append (is_held a) taken (b ∷ [])) ∙ ap (λ l. held_for l (taken ++ b ∷ [])) (sym (last_given-push gs a));
-  reached = list_all-append (leaves_some order (gs ++ a ∷ [])) taken (b ∷ [])
-      ∙ and_from (list_all (leaves_some order (gs ++ a ∷ [])) taken) (leaves_some order (gs ++ a ∷ []) b && true) holds.reached
-      (and_from (leaves_some order (gs ++ a ∷ []) b) true
-      (list_any-append (λ a. not (decides order a b)) gs (a ∷ []) ∙ or_right (leaves_some order gs b) (not (decides order a b) || false) (or_left (not (decides order a b)) false (ap not e))) refl);
-}
+holds_b order gs taken held a b holds e = grind (arith, last_given-push, filter-append, list_all-append, and_from, list_any-append, or_right, or_left)
 
 -- ---- the first shows which of them lie on a chromosome
 

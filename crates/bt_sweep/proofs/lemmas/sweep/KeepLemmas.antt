@@ -1,17 +1,17 @@
 -- What is held is all that the lines of a record come from.
-use Rattle.bt_lines.proofs.Std.{◌≡◌, true, List, ap, ltb, arith, filter, bytes_eq, lt-ltb, and_from, ◌<◌, ℕ, Bool, cond, [], ◌∷◌, length, Option, Some, None, refl, sym, ◌∙◌, All, IfSome, slice_index_or, AllByRecursion, false≢true, All-filter, All-from_recursion, recursion_from_All, ◌⊎◌, inl, inr, false, ◌++◌, Ok, Err, Result, subst, append-nil, append_assoc, decimal, OnOk, is_ok, decimal_digit, ◌≤◌, not, ◌||◌, IsTrue, list_all, and_parts, or_left, or_right, cases_Bool, flat_map-append, list_any-append, list_all-append, ◌&&◌}
+use Rattle.bt_lines.proofs.Std.{◌≡◌, true, List, ap, ltb, arith, filter, bytes_eq, lt-ltb, and_from, ◌<◌, ℕ, Bool, cond, [], ◌∷◌, length, Option, Some, None, refl, sym, ◌∙◌, All, IfSome, slice_index_or, AllByRecursion, false≢true, All-filter, All-from_recursion, recursion_from_All, ◌⊎◌, inl, inr, false, ◌++◌, Ok, Err, Result, subst, append-nil, append_assoc, decimal, OnOk, is_ok, decimal_digit, ◌≤◌, not, IsTrue, list_all, and_parts, or_left, or_right, flat_map-append, list_any-append, list_all-append, ◌&&◌}
 use Rattle.bt_bed.specs.model.Feature.{Feature, intervals_of}
 use Rattle.bt_bed.specs.model.BedLine.{bed_text}
 use Rattle.bt_sweep.specs.model.Hits.{hits, decided, decides}
 use Rattle.bt_sweep.specs.model.Lines.{lines_of, lines_for, line_with, piece_line, intersect}
-use Rattle.bt_sweep.specs.calls.Sweeping.{is_held, Sweeping, AreDecided, has_room, HoldsFor, held_for, last_given, GivesKnown}
+use Rattle.bt_sweep.specs.calls.Sweeping.{is_held, Sweeping, AreDecided, HoldsFor, SameConfig, held_for, last_given, GivesKnown}
 use Rattle.bt_sweep.specs.declared.hits.hit_rule.HitRule.{HitRule}
 use Rattle.bt_sweep.specs.declared.output.shape.Shape.{Shape}
 use Rattle.bt_sweep.proofs.lemmas.Active.{filter-wider}
 use Rattle.bt_sweep.proofs.lemmas.definitions.HitLemmas.{hit_overlaps, overlap_parts, decides_from, before_lines, stay_lines, filter_less, held_less, within_less, within_more, last_given-push, front_placed}
 use Rattle.bt_bed.proofs.lemmas.parse.NameLemmas.{same_name, name_eq}
 use Rattle.bt_sweep.specs.calls.Held.{AreReady, AreOnOne, CanHit, CanHitAt, AreRising}
-use Rattle.bt_sweep.specs.inside.Joining.{are_on, GrownWith, PutsOr, NeedsHit, Keeps, has_room_in, held_with, holding, CutsOff, EndUpTo, WritesFor, WritesSo}
+use Rattle.bt_sweep.specs.inside.Joining.{are_on, GrownWith, PutsOr, NeedsHit, Behind, GoesToFor, Holds, has_room_in, held_with, holding, CutsOff, EndUpTo, WritesFor, WritesSo}
 use Rattle.bt_lines.specs.model.Fault.{FaultValue, write_failed}
 use Rattle.bt_lines.specs.calls.Names.{fault_value}
 use Rattle.bt_lines.specs.calls.Output.{Output, Adds, FailsToAdd, Grown, Puts}
@@ -20,25 +20,23 @@ use Rattle.bt_lines.proofs.lemmas.Writer.{cut_off, fails_then, grown_more, grown
 use Rattle.bt_sweep.specs.declared.output.shape.Shape.TheVariants.{Missing, Pieces, Whole}
 use Rattle.bt_sweep.proofs.lemmas.definitions.PieceLemmas.{walked_alone, rising_held}
 use Rattle.bt_sweep.proofs.lemmas.Output.{line_adds, open_kept}
-use Rattle.std.specs.declared.cmp.Ordering.{Ordering}
-use Rattle.std.specs.declared.cmp.Ordering.TheVariants.{Equal}
-use Rattle.bt_bed.specs.model.Sorted.{ArePlaced, is_below_at, Locus, Sorting, falls_in, sorting_of}
+use Rattle.bt_bed.specs.model.Sorted.{ArePlaced, Locus, Sorting, falls_in, sorting_of}
 use Rattle.bt_bed.specs.model.Order.{Order, IsTotal}
 use Rattle.bt_sweep.proofs.lemmas.sweep.HoldLemmas.{held_behind, held_is_behind, holds_a, holds_b}
-use Rattle.bt_bed.specs.calls.Batch.{Passes, left as records_left}
+use Rattle.bt_bed.specs.calls.Batch.{left as records_left}
 use Rattle.bt_bed.specs.calls.SortedReader.{are_in_order, view_with}
 use Rattle.bt_bed.specs.model.Good.{locus_at}
 use Rattle.bt_bed.specs.calls.Records.{Lends, buffered_in, order_in, view_of}
-use Rattle.bt_bed.specs.calls.Bed.{GivesSingle, single_left}
+use Rattle.bt_bed.specs.calls.Bed.{single_left}
+use Rattle.bt_bed.specs.calls.CursorOf.{batch_cursor, single_cursor}
+use Rattle.bt_bed.specs.declared.read.cursor.Cursor.{Ghosts as Cursor}
 use Rattle.bt_bed.specs.declared.read.batch.Batch.{Batch}
 use Rattle.bt_bed.specs.declared.read.cursor.Single.{Single}
 use Rattle.bt_bed.specs.declared.order.ChromOrder.{Ghosts}
 use Rattle.bt_bed.specs.declared.read.records.Records.{Records}
 
 hit_is_held : (rule : HitRule) (a b : Feature) → hits rule a b ≡ true → is_held a b ≡ true
-hit_is_held rule a b e =
-    let parts = overlap_parts a b (hit_overlaps rule a b e) in
-    and_from (bytes_eq a.chrom b.chrom) (ltb a.start b.stop) parts.0 (lt-ltb a.start b.stop (omega (arith, parts.1)))
+hit_is_held rule a b e = grind (arith, overlap_parts, hit_overlaps, and_from, bytes_eq, lt-ltb)
 
 pub held_lines : (shape : Shape) (rule : HitRule) (a : Feature) (taken : List Feature) → lines_for shape rule a (filter (is_held a) taken) ≡ lines_for shape rule a taken
 unfolding lines_for
@@ -119,36 +117,34 @@ with_none pending out = record { bytes = []; parts = append-nil pending; puts = 
 pub with_no_pending : (out grown : Output) (lines : List ℕ) → GrownWith [] out lines [] grown → Grown out lines grown
 with_no_pending out grown lines w = subst (λ (l : List ℕ). Grown out l grown) (sym (w.parts ∙ append-nil w.bytes)) w.puts
 
-module _ (pending xs left : List ℕ) (out mid : Output) (first : GrownWith pending out xs left mid) where
+module _ {pending xs left : List ℕ} {out mid : Output} (first : GrownWith pending out xs left mid) where
   parts_more : (ys : List ℕ) → pending ++ (xs ++ ys) ≡ first.bytes ++ (left ++ ys)
   parts_more ys = sym (append_assoc pending xs ys) ∙ ap (λ (l : List ℕ). l ++ ys) first.parts ∙ append_assoc first.bytes left ys
 
-  pub with_more : (ys rest : List ℕ) (grown : Output) → GrownWith left mid ys rest grown → GrownWith pending out (xs ++ ys) rest grown
-  with_more ys rest grown second = record {
+  pub with_more : {ys rest : List ℕ} {grown : Output} → GrownWith left mid ys rest grown → GrownWith pending out (xs ++ ys) rest grown
+  with_more {ys} {rest} {grown} second = record {
     bytes = first.bytes ++ second.bytes;
     parts = parts_more ys ∙ ap (λ (l : List ℕ). first.bytes ++ l) second.parts ∙ sym (append_assoc first.bytes second.bytes rest);
     puts = grown_more out mid grown first.bytes second.bytes first.puts second.puts;
   }
 
-  pub with_cut : (ys : List ℕ) (fault : FaultValue) (grown : Output) → FailsToAdd mid (left ++ ys) fault grown → FailsToAdd out (pending ++ (xs ++ ys)) fault grown
-  with_cut ys fault grown fails =
-      subst (λ (l : List ℕ). FailsToAdd out l fault grown) (sym (parts_more ys)) (fails_then out mid grown first.bytes (left ++ ys) fault first.puts fails)
+  pub with_cut : (ys : List ℕ) {fault : FaultValue} {grown : Output} → FailsToAdd mid (left ++ ys) fault grown → FailsToAdd out (pending ++ (xs ++ ys)) fault grown
+  with_cut ys {fault} {grown} fails = rw (parts_more ys) (fails_then out mid grown first.bytes (left ++ ys) fault first.puts fails)
 
   -- those that were left pending were put, or couldn't all be
-  pub with_rest : (grown : Output) → Grown mid left grown → GrownWith pending out xs [] grown
-  with_rest grown puts = record {
+  pub with_rest : {grown : Output} → Grown mid left grown → GrownWith pending out xs [] grown
+  with_rest {grown} puts = record {
     bytes = first.bytes ++ left;
     parts = first.parts ∙ sym (append-nil (first.bytes ++ left));
     puts = grown_more out mid grown first.bytes left first.puts puts;
   }
 
-  pub with_rest_cut : (fault : FaultValue) (grown : Output) → FailsToAdd mid left fault grown → FailsToAdd out (pending ++ xs) fault grown
-  with_rest_cut fault grown fails =
-      subst (λ (l : List ℕ). FailsToAdd out l fault grown) (sym first.parts) (fails_then out mid grown first.bytes left fault first.puts fails)
+  pub with_rest_cut : {fault : FaultValue} {grown : Output} → FailsToAdd mid left fault grown → FailsToAdd out (pending ++ xs) fault grown
+  with_rest_cut {fault} {grown} fails = rw first.parts (fails_then out mid grown first.bytes left fault first.puts fails)
 
 -- an output that failed stays as it is, whatever is put then
-pub fails_again : {T : Type 0} (mid now : Output) (lines left : List ℕ) (fault : FaultValue) (out : Output) (r : Result T Fault) → FailsToAdd out lines fault mid → Adds mid left r now → FailsToAdd out lines fault now
-fails_again mid now lines left fault out r fails adds = grind arith
+pub fails_again : {T : Type 0} {mid now : Output} {lines : List ℕ} {fault : FaultValue} {out : Output} (left : List ℕ) (r : Result T Fault) → FailsToAdd out lines fault mid → Adds mid left r now → FailsToAdd out lines fault now
+fails_again left r fails adds = grind arith
 
 -- ---- lines and then those of a record
 
@@ -191,75 +187,57 @@ module _ (shape : Shape) (rule : HitRule) (a : Feature) (held : List Feature) (p
   }
 
   pub all_with : (lines : List ℕ) (now : Output) → lines ≡ pending → left ≡ [] → Grown out (lines ++ lines_for shape rule a held) now → GrownWith pending out (lines_for shape rule a held) left now
-  all_with lines now is same puts = record {
-    bytes = lines ++ lines_for shape rule a held;
-    parts = ap (λ (l : List ℕ). l ++ lines_for shape rule a held) (sym is) ∙ sym (append-nil (lines ++ lines_for shape rule a held)) ∙ ap (λ (l : List ℕ). (lines ++ lines_for shape rule a held) ++ l) (sym same);
-    puts = puts;
-  }
+  all_with lines now is same puts = grind (arith, append-nil)
 
 module _ (inside now : Sweeping) (same : inside ≡ now) (a : Feature) (pending left : List ℕ) (out : Output) where
   pub nothing_in : (NeedsHit now.shape → pending ≡ []) → left ≡ [] → NeedsHit inside.shape → length inside.held ≡ 0 → GrownWith pending out (lines_for now.shape now.rule a now.held) left out
-  nothing_in quiet none needs empty =
-      subst (λ (n : Sweeping). (NeedsHit n.shape → pending ≡ []) → GrownWith pending out (lines_for n.shape n.rule a n.held) left out) same
-      (λ q. nothing_with inside.shape inside.rule a inside.held pending left out (q needs) none needs empty) quiet
+  nothing_in quiet none needs empty = grind (arith, nothing_with)
 
   pub left_in : (line raw : List ℕ) → left ≡ pending ++ line → line ≡ raw → raw ≡ bed_text a ++ 10 ∷ [] → lines_of inside.shape a [] ≡ line_with (bed_text a ∷ []) → length inside.held ≡ 0 → GrownWith pending out (lines_for now.shape now.rule a now.held) left out
-  left_in line raw is on canonical alone empty =
-      subst (λ (n : Sweeping). GrownWith pending out (lines_for n.shape n.rule a n.held) left out) same
-      (left_with inside.shape inside.rule a inside.held pending left out line raw is on canonical alone empty)
+  left_in line raw is on canonical alone empty = grind (arith, left_with)
 
 -- Lemmas on what a sweep keeps as records are given and taken.
 
-module _ (order : Order) (shape : Shape) (rule : HitRule) (limit : Option ℕ) where
-  module _ (gs : List Feature) (a : Feature) (taken : List Feature) (s : Sweeping) (kept : Keeps order shape rule limit (gs ++ a ∷ []) taken s) where
-    pub keeps_held : s.held ≡ filter (is_held a) taken
-    keeps_held = kept.holds.held_is ∙ ap (λ (o : Option Feature). held_for o taken) (last_given-push gs a)
+module _ {order : Order} (gs : List Feature) (a : Feature) {taken : List Feature} {s : Sweeping} (kept : Holds order (gs ++ a ∷ []) taken s) where
+  pub keeps_held : s.held ≡ filter (is_held a) taken
+  keeps_held = kept.holds.held_is ∙ ap (λ (o : Option Feature). held_for o taken) (last_given-push gs a)
 
-    pub keeps_rising : IsTotal order → ArePlaced order (intervals_of taken) → AreRising s.held
-    keeps_rising total placed = subst AreRising (sym keeps_held) (rising_held order a taken total placed)
+  keeps_rising : IsTotal order → ArePlaced order (intervals_of taken) → AreRising s.held
+  keeps_rising total placed = subst AreRising (sym keeps_held) (rising_held order a taken total placed)
 
-    pub keeps_lines : lines_for s.shape s.rule a s.held ≡ lines_for shape rule a taken
-    keeps_lines =
-        ap (λ (h : Shape). lines_for h s.rule a s.held) kept.shape_is
-        ∙ ap (λ (r : HitRule). lines_for shape r a s.held) kept.rule_is
-        ∙ ap (lines_for shape rule a) keeps_held
-        ∙ held_lines shape rule a taken
+  keeps_lines : {old : Sweeping} → SameConfig old s → lines_for s.shape s.rule a s.held ≡ lines_for old.shape old.rule a taken
+  keeps_lines {old} same = grind (arith, keeps_held, held_lines)
 
-    -- one more of the first input on its chromosome
-    pub keeps_next : (r : Feature) → IsTotal order → ArePlaced order (intervals_of ((gs ++ a ∷ []) ++ r ∷ [])) → a.chrom ≡ r.chrom
-        → Keeps order shape rule limit ((gs ++ a ∷ []) ++ r ∷ []) taken (record s { held = filter (λ b. ltb r.start b.stop) s.held })
-    keeps_next r total placed same =
-        let is : held_behind (last_given (gs ++ a ∷ [])) s.held r ≡ filter (λ b. ltb r.start b.stop) s.held =
-        ap (λ (o : Option Feature). held_behind o s.held r) (last_given-push gs a)
-        ∙ ap (λ (c : Bool). cond c (filter (λ b. ltb r.start b.stop) s.held) []) (name_eq a.chrom r.chrom same) in
-        record {
-          shape_is = kept.shape_is;
-          rule_is = kept.rule_is;
-          limit_is = kept.limit_is;
-          holds = subst (HoldsFor order ((gs ++ a ∷ []) ++ r ∷ []) taken) is (holds_a order (gs ++ a ∷ []) taken s.held r total placed kept.holds);
-          within = within_less limit (length s.held) (length (filter (λ b. ltb r.start b.stop) s.held)) (filter_less (λ b. ltb r.start b.stop) s.held) kept.within;
-        }
+  -- one more of the first input on its chromosome
+  keeps_next : (r : Feature) → IsTotal order → ArePlaced order (intervals_of ((gs ++ a ∷ []) ++ r ∷ [])) → a.chrom ≡ r.chrom
+      → Holds order ((gs ++ a ∷ []) ++ r ∷ []) taken (record s { held = filter (λ b. ltb r.start b.stop) s.held })
+  keeps_next r total placed same =
+      let is : held_behind (last_given (gs ++ a ∷ [])) s.held r ≡ filter (λ b. ltb r.start b.stop) s.held =
+      ap (λ (o : Option Feature). held_behind o s.held r) (last_given-push gs a)
+      ∙ ap (λ (c : Bool). cond c (filter (λ b. ltb r.start b.stop) s.held) []) (name_eq a.chrom r.chrom same) in
+      record {
+        holds = subst (HoldsFor order ((gs ++ a ∷ []) ++ r ∷ []) taken) is (holds_a order (gs ++ a ∷ []) taken s.held r total placed kept.holds);
+        within = within_less s.limit (length s.held) (length (filter (λ b. ltb r.start b.stop) s.held)) (filter_less (λ b. ltb r.start b.stop) s.held) kept.within;
+      }
 
-    -- one more of the second, which leaves it undecided
-    pub keeps_taken : (b : Feature) → decides order a b ≡ false → (is_held a b ≡ true → has_room_in s ≡ true) → Keeps order shape rule limit (gs ++ a ∷ []) (taken ++ b ∷ []) (holding s a b)
-    keeps_taken b undecided room = record {
-      shape_is = kept.shape_is;
-      rule_is = kept.rule_is;
-      limit_is = kept.limit_is;
-      holds = holds_b order gs taken s.held a b kept.holds undecided;
-      within = within_more limit a b s.held (λ h. ap (λ (l : Option ℕ). has_room l (length s.held)) (sym kept.limit_is) ∙ room h) kept.within;
-    }
+  -- one more of the second, which leaves it undecided
+  pub keeps_taken : (b : Feature) → decides order a b ≡ false → (is_held a b ≡ true → has_room_in s ≡ true) → Holds order (gs ++ a ∷ []) (taken ++ b ∷ []) (holding s a b)
+  keeps_taken b undecided room = record { holds = holds_b order gs taken s.held a b kept.holds undecided; within = within_more s.limit a b s.held room kept.within }
 
-  -- the first of the first input on a chromosome
-  pub keeps_first : (gs : List Feature) (a : Feature) (taken : List Feature) (s : Sweeping) → IsTotal order → ArePlaced order (intervals_of (gs ++ a ∷ [])) → Keeps order shape rule limit gs taken s
-      → Keeps order shape rule limit (gs ++ a ∷ []) taken (record s { held = held_with s.held a })
-  keeps_first gs a taken s total placed kept = record {
-    shape_is = kept.shape_is;
-    rule_is = kept.rule_is;
-    limit_is = kept.limit_is;
-    holds = subst (HoldsFor order (gs ++ a ∷ []) taken) (sym (held_is_behind order gs taken s.held a kept.holds)) (holds_a order gs taken s.held a total placed kept.holds);
-    within = within_less limit (length s.held) (length (held_with s.held a)) (held_less s.held a) kept.within;
-  }
+-- the first of the first input on a chromosome
+pub keeps_first : {order : Order} {gs : List Feature} (a : Feature) {taken : List Feature} {s : Sweeping} → IsTotal order → ArePlaced order (intervals_of (gs ++ a ∷ [])) → Holds order gs taken s
+    → Holds order (gs ++ a ∷ []) taken (record s { held = held_with s.held a })
+keeps_first {order} {gs} a {taken} {s} total placed kept = record {
+  holds = rw (held_is_behind order gs taken s.held a kept.holds) (holds_a order gs taken s.held a total placed kept.holds);
+  within = within_less s.limit (length s.held) (length (held_with s.held a)) (held_less s.held a) kept.within;
+}
+
+-- the rules stay the same
+pub same_rules : {old mid new : Sweeping} → SameConfig old mid → SameConfig mid new → SameConfig old new
+same_rules first more = record { shape_is = more.shape_is ∙ first.shape_is; rule_is = more.rule_is ∙ first.rule_is; limit_is = more.limit_is ∙ first.limit_is }
+
+pub same_as : (s : Sweeping) (held : List Feature) → SameConfig s (record s { held = held })
+same_as s held = record { shape_is = refl; rule_is = refl; limit_is = refl }
 
 -- ---- what decides a record on one chromosome
 
@@ -268,28 +246,16 @@ module _ (order : Order) (total : IsTotal order) (a b : Feature) (known : order.
   decides_beside behind = decides_from order a b total known (inr (same, behind))
 
   pub undecided_beside : b.start < a.stop → decides order a b ≡ false
-  undecided_beside before =
-      let compared : order.compare b.chrom a.chrom ≡ Equal = ap (λ (c : List ℕ). order.compare c a.chrom) same ∙ total.same a.chrom known in
-      ap (λ (c : Ordering). not (is_below_at c b.start a.stop)) compared ∙ ap not (lt-ltb b.start a.stop before)
+  undecided_beside before = grind (arith, lt-ltb)
 
 -- ---- the lines of what is decided stay
 
 module _ (order : Order) (total : IsTotal order) (shape : Shape) (rule : HitRule) (taken : List Feature) (b : Feature) (more : List Feature) (placed : ArePlaced order (intervals_of (taken ++ b ∷ more))) where
   decided_here : (a : Feature) → decided order a (taken ++ b ∷ []) ≡ true → decided order a taken ≡ false → decides order a b ≡ true
-  decided_here a some none =
-      let split : decided order a taken || (decides order a b || false) ≡ true = sym (list_any-append (decides order a) taken (b ∷ [])) ∙ some in
-      let rest : (decides order a b || false) ≡ true = ap (λ (c : Bool). c || (decides order a b || false)) (sym none) ∙ split in
-      elim (cases_Bool (decides order a b)) [
-        | inl here ↦ here
-        | inr gone ↦ gone ∙ (ap (λ (c : Bool). c || false) (sym gone) ∙ rest)
-      ]
+  decided_here a some none = grind (arith, list_any-append)
 
   line_stays : (a : Feature) → IsTrue (order.knows a.chrom) → decided order a (taken ++ b ∷ []) ≡ true → lines_for shape rule a (taken ++ b ∷ more) ≡ lines_for shape rule a taken
-  line_stays a known some =
-      elim (cases_Bool (decided order a taken)) [
-        | inl early ↦ stay_lines order shape rule a taken (b ∷ more) total known placed early
-        | inr late ↦ before_lines order shape rule a b taken total known (decided_here a some late) more placed
-      ]
+  line_stays a known some = grind (arith, stay_lines, before_lines, decided_here)
 
   pub lines_stay_so : (newly : List Feature) → ArePlaced order (intervals_of newly) → AreDecided order newly (taken ++ b ∷ []) → intersect shape rule newly (taken ++ b ∷ more) ≡ intersect shape rule newly taken
   lines_stay_so [] known all = refl
@@ -317,31 +283,51 @@ decided_before order (a ∷ newly) bs more all =
     (decided_before order newly bs more parts.1)
 
 pub decided_both : (order : Order) (xs ys bs : List Feature) → AreDecided order xs bs → AreDecided order ys bs → AreDecided order (xs ++ ys) bs
-decided_both order xs ys bs first second =
-    list_all-append (λ a. decided order a bs) xs ys ∙ and_from (list_all (λ a. decided order a bs) xs) (list_all (λ a. decided order a bs) ys) first second
+decided_both order xs ys bs first second = grind (arith, list_all-append, and_from)
 
 -- ---- lines of one list of records after another
 
-module _ (shape : Shape) (rule : HitRule) (taken : List Feature) (pending left : List ℕ) (old mid : Output) (xs : List Feature) (first : GrownWith pending old (intersect shape rule xs taken) left mid) where
-  pub lines_both : (ys : List Feature) (rest : List ℕ) (new : Output) → GrownWith left mid (intersect shape rule ys taken) rest new → GrownWith pending old (intersect shape rule (xs ++ ys) taken) rest new
-  lines_both ys rest new second =
-      rw (flat_map-append (λ a. lines_for shape rule a taken) xs ys) (with_more pending (intersect shape rule xs taken) left old mid first (intersect shape rule ys taken) rest new second)
+module _ (shape : Shape) (rule : HitRule) (taken xs : List Feature) {pending left : List ℕ} {old mid : Output} (first : GrownWith pending old (intersect shape rule xs taken) left mid) where
+  pub lines_both : (ys : List Feature) {rest : List ℕ} {new : Output} → GrownWith left mid (intersect shape rule ys taken) rest new → GrownWith pending old (intersect shape rule (xs ++ ys) taken) rest new
+  lines_both ys second = rw (flat_map-append (λ a. lines_for shape rule a taken) xs ys) (with_more first second)
 
-  pub lines_then : (a : Feature) (rest : List ℕ) (new : Output) → GrownWith left mid (lines_for shape rule a taken) rest new → GrownWith pending old (intersect shape rule (xs ++ a ∷ []) taken) rest new
-  lines_then a rest new second = lines_both (a ∷ []) rest new (subst (λ (l : List ℕ). GrownWith left mid l rest new) (sym (append-nil (lines_for shape rule a taken))) second)
-
-  pub cut_both : (ys : List Feature) (fault : FaultValue) (new : Output) → FailsToAdd mid (left ++ intersect shape rule ys taken) fault new → FailsToAdd old (pending ++ intersect shape rule (xs ++ ys) taken) fault new
-  cut_both ys fault new fails =
-      rw (flat_map-append (λ a. lines_for shape rule a taken) xs ys) (with_cut pending (intersect shape rule xs taken) left old mid first (intersect shape rule ys taken) fault new fails)
-
-  pub cut_then : (a : Feature) (fault : FaultValue) (new : Output) → FailsToAdd mid (left ++ lines_for shape rule a taken) fault new → FailsToAdd old (pending ++ intersect shape rule (xs ++ a ∷ []) taken) fault new
-  cut_then a fault new fails = cut_both (a ∷ []) fault new (subst (λ (l : List ℕ). FailsToAdd mid (left ++ l) fault new) (sym (append-nil (lines_for shape rule a taken))) fails)
+  pub cut_both : (ys : List Feature) {fault : FaultValue} {new : Output} → FailsToAdd mid (left ++ intersect shape rule ys taken) fault new → FailsToAdd old (pending ++ intersect shape rule (xs ++ ys) taken) fault new
+  cut_both ys fails = rw (flat_map-append (λ a. lines_for shape rule a taken) xs ys) (with_cut first (intersect shape rule ys taken) fails)
 
 -- Lemmas on records of the first input that are written one after another.
 
+-- ---- where a sweep is, with fewer records that come
+
+module _ {For : Order → Type 0} {first : Feature} {old : Sweeping} where
+  abbrev pub fewer_firsts : (firsts more : List Feature) {seconds : List Feature} → Behind For first (firsts ++ more) seconds old → Behind For first firsts seconds old
+  fewer_firsts firsts more at = record {
+    order = at.order;
+    before = at.before;
+    taken = at.taken;
+    is_for = at.is_for;
+    holds = at.holds;
+    placed = front_placed at.order (at.before ++ first ∷ firsts) more (rw (append_assoc at.before (first ∷ firsts) more) at.placed);
+    placed_taken = at.placed_taken;
+  }
+
+  abbrev pub fewer_seconds : {firsts : List Feature} (seconds more : List Feature) → Behind For first firsts (seconds ++ more) old → Behind For first firsts seconds old
+  fewer_seconds seconds more at = record {
+    order = at.order;
+    before = at.before;
+    taken = at.taken;
+    is_for = at.is_for;
+    holds = at.holds;
+    placed = at.placed;
+    placed_taken = front_placed at.order (at.taken ++ seconds) more (rw (append_assoc at.taken seconds more) at.placed_taken);
+  }
+
+  -- no record comes
+  pub goes_none : GoesToFor For first [] [] old old
+  goes_none at = record { same = same_as old old.held; holds = rw (append-nil at.taken) at.holds }
+
 -- ---- lists, after others
 
-module _ (before : List Feature) (first : Feature) (firsts newly : List Feature) (cur : Feature) (are : first ∷ firsts ≡ newly ++ cur ∷ []) where
+module _ (before : List Feature) {first : Feature} {firsts : List Feature} (newly : List Feature) (cur : Feature) (are : first ∷ firsts ≡ newly ++ cur ∷ []) where
   pub split_last : before ++ first ∷ firsts ≡ (before ++ newly) ++ cur ∷ []
   split_last = ap (λ (l : List Feature). before ++ l) are ∙ sym (append_assoc before newly (cur ∷ []))
 
@@ -349,128 +335,101 @@ module _ (before : List Feature) (first : Feature) (firsts newly : List Feature)
   split_more firsts2 =
       sym (append_assoc before (first ∷ firsts) firsts2) ∙ ap (λ (l : List Feature). l ++ firsts2) split_last ∙ append_assoc (before ++ newly) (cur ∷ []) firsts2
 
-pub front_of : (order : Order) (before : List Feature) (first : Feature) (firsts more : List Feature) → ArePlaced order (intervals_of (before ++ first ∷ (firsts ++ more))) → ArePlaced order (intervals_of (before ++ first ∷ firsts))
-front_of order before first firsts more placed =
-    front_placed order (before ++ first ∷ firsts) more (subst (λ (l : List Feature). ArePlaced order (intervals_of l)) (sym (append_assoc before (first ∷ firsts) more)) placed)
-
-pub end_more : (name : List ℕ) (place : ℕ) (newly : List Feature) (a : Feature) → EndUpTo name place newly → a.chrom ≡ name → a.stop ≤ place → EndUpTo name place (newly ++ a ∷ [])
+end_more : (name : List ℕ) (place : ℕ) (newly : List Feature) (a : Feature) → EndUpTo name place newly → a.chrom ≡ name → a.stop ≤ place → EndUpTo name place (newly ++ a ∷ [])
 end_more name place [] a end on up = (on, up, tt)
 end_more name place (x ∷ newly) a end on up = (end.0, end.1, end_more name place newly a end.2 on up)
 
-module _ {A : Type 0} (gives : A → List Feature → A → Type 0) (has_ended : A → Type 0) (gives_none : (x : A) → gives x [] x)
-    (gives_more : (old mid new : A) (xs ys : List Feature) → gives old xs mid → gives mid ys new → gives old (xs ++ ys) new)
-    (place : ℕ) (old : Sweeping) (first : Feature) (from : A) (pending : List ℕ) (out : Output) where
-  abbrev So : Option Feature → Sweeping → A → List ℕ → Output → Type 0
-  So = WritesSo gives has_ended place old first from pending out
-
-  pub writes_first : All (CanHit first) old.held → So (Some first) old from pending out
-  writes_first hits = record {
+module _ {A R : Type 0} {cursor : Cursor A R} {place : ℕ} {old : Sweeping} {first : Feature} {from : A} {pending : List ℕ} {out : Output} where
+  pub writes_first : ((x : A) → cursor.gives x [] x) → All (CanHit first) old.held → WritesSo cursor place old first from pending out (Some first) old from pending out
+  writes_first gives_none hits = record {
     firsts = [];
     newly = [];
     given = gives_none from;
     are = refl;
     end = tt;
     waits = (refl, hits);
-    goes = λ order shape rule limit before taken total kept pg pt. subst (λ (t : List Feature). Keeps order shape rule limit (before ++ first ∷ []) t old) (sym (append-nil taken)) kept;
-    writes = λ order shape rule limit before taken total kept pg pt. with_none pending out;
+    goes = goes_none;
+    writes = λ at. with_none pending out;
   }
 
-  -- those that are left pending were put too
-  pub writes_rest : (waiting : Option Feature) (s : Sweeping) (to : A) (left : List ℕ) (grown now : Output) → So waiting s to left grown → Grown grown left now → So waiting s to [] now
-  writes_rest waiting s to left grown now so puts = record {
-    firsts = so.firsts;
-    newly = so.newly;
-    given = so.given;
-    are = so.are;
-    end = so.end;
-    waits = so.waits;
-    goes = so.goes;
-    writes = λ order shape rule limit before taken total kept pg pt. with_rest pending (intersect shape rule so.newly (taken ++ [])) left out grown (so.writes order shape rule limit before taken total kept pg pt) now puts;
-  }
+  module _ {waiting : Option Feature} {s : Sweeping} {to : A} {left : List ℕ} {grown now : Output} (so : WritesSo cursor place old first from pending out waiting s to left grown) where
+    -- those that are left pending were put too
+    pub writes_rest : Grown grown left now → WritesSo cursor place old first from pending out waiting s to [] now
+    writes_rest puts = grind (arith, with_rest)
 
-  -- or couldn't all be
-  pub cuts_rest : (waiting : Option Feature) (s : Sweeping) (to : A) (left : List ℕ) (grown now : Output) (fault : FaultValue) → So waiting s to left grown → FailsToAdd grown left fault now → CutsOff gives has_ended place old first from pending out fault to now
-  cuts_rest waiting s to left grown now fault so fails = record {
-    firsts = so.firsts;
-    newly = so.newly;
-    waiting = waiting;
-    given = so.given;
-    are = so.are;
-    end = so.end;
-    cuts = λ order shape rule limit before taken total kept pg pt. with_rest_cut pending (intersect shape rule so.newly (taken ++ [])) left out grown (so.writes order shape rule limit before taken total kept pg pt) fault now fails;
-  }
+    -- or couldn't all be
+    pub cuts_rest : {fault : FaultValue} → FailsToAdd grown left fault now → CutsOff cursor place old first from pending out fault to now
+    cuts_rest fails = record {
+      firsts = so.firsts;
+      newly = so.newly;
+      waiting = waiting;
+      given = so.given;
+      are = so.are;
+      end = so.end;
+      cuts = λ at. with_rest_cut (so.writes at) fails;
+    }
 
-  module _ (cur : Feature) (s : Sweeping) (to : A) (left : List ℕ) (grown : Output) (so : So (Some cur) s to left grown) where
+  module _ {cur : Feature} {s : Sweeping} {to : A} {left : List ℕ} {grown : Output} (so : WritesSo cursor place old first from pending out (Some cur) s to left grown) where
     -- what is kept, by the one that waits
-    kept_so : (order : Order) (shape : Shape) (rule : HitRule) (limit : Option ℕ) (before taken : List Feature) → IsTotal order → Keeps order shape rule limit (before ++ first ∷ []) taken old
-        → ArePlaced order (intervals_of (before ++ first ∷ so.firsts)) → ArePlaced order (intervals_of (taken ++ [])) → Keeps order shape rule limit ((before ++ so.newly) ++ cur ∷ []) (taken ++ []) s
-    kept_so order shape rule limit before taken total kept pg pt =
-        subst (λ (g : List Feature). Keeps order shape rule limit g (taken ++ []) s) (split_last before first so.firsts so.newly cur so.are)
-        (so.goes order shape rule limit before taken total kept pg pt)
+    holds_so : (at : Behind IsTotal first so.firsts [] old) → Holds at.order ((at.before ++ so.newly) ++ cur ∷ []) (at.taken ++ []) s
+    holds_so at = rw (← split_last at.before so.newly cur so.are) (so.goes at).holds
 
-    module _ (rest : List ℕ) (now : Output) (adds : AreRising s.held → GrownWith left grown (lines_for s.shape s.rule cur s.held) rest now) where
+    module _ {rest : List ℕ} {now : Output} (adds : AreRising s.held → GrownWith left grown (lines_for s.shape s.rule cur s.held) rest now) where
       written_one : WritesFor IsTotal first so.firsts [] old (so.newly ++ cur ∷ []) pending out rest now
-      written_one order shape rule limit before taken total kept pg pt =
-          let k = kept_so order shape rule limit before taken total kept pg pt in
-          lines_then shape rule (taken ++ []) pending left out grown so.newly (so.writes order shape rule limit before taken total kept pg pt) cur rest now
-          (subst (λ (l : List ℕ). GrownWith left grown l rest now) (keeps_lines order shape rule limit (before ++ so.newly) cur (taken ++ []) s k)
-          (adds (keeps_rising order shape rule limit (before ++ so.newly) cur (taken ++ []) s k total pt)))
+      written_one at =
+          let k = holds_so at in
+          lines_both old.shape old.rule (at.taken ++ []) so.newly (so.writes at) (cur ∷ [])
+          (rw (append-nil (lines_for old.shape old.rule cur (at.taken ++ [])), ← keeps_lines (at.before ++ so.newly) cur k (so.goes at).same)
+          (adds (keeps_rising (at.before ++ so.newly) cur k at.is_for at.placed_taken)))
 
       -- its lines were written, and there is no other
-      pub writes_last : cur.stop ≤ place → So None s to rest now
-      writes_last up = record {
-        firsts = so.firsts;
-        newly = so.newly ++ cur ∷ [];
-        given = so.given;
-        are = so.are ∙ sym (append-nil (so.newly ++ cur ∷ []));
-        end = end_more first.chrom place so.newly cur so.end so.waits.0 up;
-        waits = tt;
-        goes = so.goes;
-        writes = written_one;
-      }
+      pub writes_last : cur.stop ≤ place → WritesSo cursor place old first from pending out None s to rest now
+      writes_last up = grind (arith, append-nil, end_more, written_one)
 
       -- its lines were written, and the next one waits
-      pub writes_more : (r : Feature) (new : Sweeping) (to' : A) → cur.stop ≤ place → gives to (r ∷ []) to' → r.chrom ≡ first.chrom → new ≡ record s { held = filter (λ b. ltb r.start b.stop) s.held }
-          → So (Some r) new to' rest now
-      writes_more r new to' up given on is = record {
+      pub writes_more : ((old mid new : A) (xs ys : List Feature) → cursor.gives old xs mid → cursor.gives mid ys new → cursor.gives old (xs ++ ys) new) → (r : Feature) (new : Sweeping) (to' : A) → cur.stop ≤ place
+          → cursor.gives to (r ∷ []) to' → r.chrom ≡ first.chrom → new ≡ record s { held = filter (λ b. ltb r.start b.stop) s.held } → WritesSo cursor place old first from pending out (Some r) new to' rest now
+      writes_more gives_more r new to' up given on is = record {
         firsts = so.firsts ++ r ∷ [];
         newly = so.newly ++ cur ∷ [];
         given = gives_more from to to' so.firsts (r ∷ []) so.given given;
         are = ap (λ (l : List Feature). l ++ r ∷ []) so.are;
         end = end_more first.chrom place so.newly cur so.end so.waits.0 up;
-        waits = (on, subst (λ (n : Sweeping). All (CanHit r) n.held) (sym is) (open_kept cur r s.held (so.waits.0 ∙ sym on) so.waits.1));
-        goes = λ order shape rule limit before taken total kept pg pt.
-            let k = kept_so order shape rule limit before taken total kept (front_of order before first so.firsts (r ∷ []) pg) pt in
-            let whole : before ++ first ∷ (so.firsts ++ r ∷ []) ≡ ((before ++ so.newly) ++ cur ∷ []) ++ r ∷ [] =
-            split_more before first so.firsts so.newly cur so.are (r ∷ []) ∙ sym (append_assoc (before ++ so.newly) (cur ∷ []) (r ∷ [])) in
-            let next = keeps_next order shape rule limit (before ++ so.newly) cur (taken ++ []) s k r total (subst (λ (l : List Feature). ArePlaced order (intervals_of l)) whole pg) (so.waits.0 ∙ sym on) in
-            subst (λ (g : List Feature). Keeps order shape rule limit g (taken ++ []) new) (sym whole)
-            (subst (λ (n : Sweeping). Keeps order shape rule limit (((before ++ so.newly) ++ cur ∷ []) ++ r ∷ []) (taken ++ []) n) (sym is) next);
-        writes = λ order shape rule limit before taken total kept pg pt. written_one order shape rule limit before taken total kept (front_of order before first so.firsts (r ∷ []) pg) pt;
+        waits = (on, rw is (open_kept cur r s.held (so.waits.0 ∙ sym on) so.waits.1));
+        goes = λ at.
+            let front = fewer_firsts so.firsts (r ∷ []) at in
+            let whole : at.before ++ first ∷ (so.firsts ++ r ∷ []) ≡ ((at.before ++ so.newly) ++ cur ∷ []) ++ r ∷ [] =
+            split_more at.before so.newly cur so.are (r ∷ []) ∙ sym (append_assoc (at.before ++ so.newly) (cur ∷ []) (r ∷ [])) in
+            let placed = rw whole at at.placed in
+            rw (is, whole) (record {
+              same = same_rules (so.goes front).same (same_as s (filter (λ b. ltb r.start b.stop) s.held));
+              holds = keeps_next (at.before ++ so.newly) cur (holds_so front) r at.is_for placed (so.waits.0 ∙ sym on);
+            });
+        writes = λ at. written_one (fewer_firsts so.firsts (r ∷ []) at);
       }
 
     -- its lines couldn't be written
-    pub cuts_off : (fault : FaultValue) (now : Output) → cur.stop ≤ place → (AreRising s.held → FailsToAdd grown (left ++ lines_for s.shape s.rule cur s.held) fault now) → CutsOff gives has_ended place old first from pending out fault to now
-    cuts_off fault now up fails = record {
+    pub cuts_off : {fault : FaultValue} {now : Output} → cur.stop ≤ place → (AreRising s.held → FailsToAdd grown (left ++ lines_for s.shape s.rule cur s.held) fault now) → CutsOff cursor place old first from pending out fault to now
+    cuts_off up fails = record {
       firsts = so.firsts;
       newly = so.newly ++ cur ∷ [];
       waiting = None;
       given = so.given;
       are = so.are ∙ sym (append-nil (so.newly ++ cur ∷ []));
       end = end_more first.chrom place so.newly cur so.end so.waits.0 up;
-      cuts = λ order shape rule limit before taken total kept pg pt.
-          let k = kept_so order shape rule limit before taken total kept pg pt in
-          cut_then shape rule (taken ++ []) pending left out grown so.newly (so.writes order shape rule limit before taken total kept pg pt) cur fault now
-          (subst (λ (l : List ℕ). FailsToAdd grown (left ++ l) fault now) (keeps_lines order shape rule limit (before ++ so.newly) cur (taken ++ []) s k)
-          (fails (keeps_rising order shape rule limit (before ++ so.newly) cur (taken ++ []) s k total pt)));
+      cuts = λ at.
+          let k = holds_so at in
+          cut_both old.shape old.rule (at.taken ++ []) so.newly (so.writes at) (cur ∷ [])
+          (rw (append-nil (lines_for old.shape old.rule cur (at.taken ++ [])), ← keeps_lines (at.before ++ so.newly) cur k (so.goes at).same)
+          (fails (keeps_rising (at.before ++ so.newly) cur k at.is_for at.placed_taken)));
     }
 
 -- Lemmas on cursors that give records on known chromosomes.
 
 -- after some of them
-pub known_later : {A : Type 0} (gives : A → List Feature → A → Type 0) (gives_more : (old mid new : A) (xs ys : List Feature) → gives old xs mid → gives mid ys new → gives old (xs ++ ys) new)
-    (order now : Order) (from mid : A) (fs : List Feature) → now ≡ order → GivesKnown gives order from → gives from fs mid → GivesKnown gives now mid
-known_later gives gives_more order now from mid fs same known given records to more =
+pub known_later : {A R : Type 0} (cursor : Cursor A R) (gives_more : (old mid new : A) (xs ys : List Feature) → cursor.gives old xs mid → cursor.gives mid ys new → cursor.gives old (xs ++ ys) new)
+    (order now : Order) (from mid : A) (fs : List Feature) → now ≡ order → GivesKnown cursor order from → cursor.gives from fs mid → GivesKnown cursor now mid
+known_later cursor gives_more order now from mid fs same known given records to more =
     subst (λ (o : Order). list_all (λ (r : Feature). o.knows r.chrom) records ≡ true) (sym same)
     ((and_parts (list_all (λ (r : Feature). order.knows r.chrom) fs) (list_all (λ (r : Feature). order.knows r.chrom) records)
     (sym (list_all-append (λ (r : Feature). order.knows r.chrom) fs records) ∙ known (fs ++ records) to (gives_more from mid to fs records given more))).1)
@@ -480,10 +439,10 @@ known_front order r [] left known e = refl
 known_front order r (x ∷ []) left known e = let same : r ≡ x = cc in and_from (order.knows x.chrom) true (subst (λ (f : Feature). order.knows f.chrom ≡ true) same known) refl
 known_front order r (x ∷ y ∷ records) left known e = absurd (let apart : [] ≡ y ∷ (records ++ left) = cc in cc)
 
-pub known_single : (order : Order) (one : Single) (r : Feature) → single_left one ≡ r ∷ [] → order.knows r.chrom ≡ true → GivesKnown GivesSingle order one
+pub known_single : (order : Order) (one : Single) (r : Feature) → single_left one ≡ r ∷ [] → order.knows r.chrom ≡ true → GivesKnown single_cursor order one
 known_single order one r is known records to gives = known_front order r records (single_left to) known (sym is ∙ gives.left)
 
-pub known_none : (order : Order) (one : Single) → single_left one ≡ [] → GivesKnown GivesSingle order one
+pub known_none : (order : Order) (one : Single) → single_left one ≡ [] → GivesKnown single_cursor order one
 known_none order one empty [] to gives = refl
 known_none order one empty (r ∷ records) to gives = absurd (let apart : [] ≡ r ∷ (records ++ single_left to) = sym empty ∙ gives.left in cc)
 
@@ -505,8 +464,5 @@ module _ {S O : Type 0} {g : Ghosts O} (now : Records S O g) (batch : Batch) (le
   in_order = now.placed.in_order
 
   -- those that a reader gives do
-  pub known_batch : (order : Order) → order ≡ order_in now → GivesKnown Passes order batch
-  known_batch order same records to passes =
-      subst (λ (o : Order). list_all (λ r. o.knows r.chrom) records ≡ true) (sym same)
-      (known_in (sorting_of (order_in now)) (view_of now).state records (records_left to)
-      (ap (are_in_order (sorting_of (order_in now)) (view_of now).state) (sym passes.left_is ∙ lent_is) ∙ in_order))
+  pub known_batch : (order : Order) → order ≡ order_in now → GivesKnown batch_cursor order batch
+  known_batch order same records to passes = grind (arith, known_in, lent_is, in_order)

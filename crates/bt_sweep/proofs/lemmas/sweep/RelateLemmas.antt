@@ -1,28 +1,25 @@
 -- Lemmas on records of the second input on one chromosome beside those of the first on one.
-use Rattle.bt_lines.proofs.Std.{◌≡◌, inl, inr, ℕ, Bool, true, false, not, ◌&&◌, cond, List, [], ◌∷◌, ◌++◌, Option, Some, None, Ok, Err, Result, refl, sym, ap, ◌∙◌, subst, append-nil, append_assoc, arith, filter, length, ◌≤◌, ltb, option_map, option_to_list, All, IfSome, list_all, and_from, or_left}
+use Rattle.bt_lines.proofs.Std.{◌≡◌, inl, inr, ℕ, Bool, true, false, not, ◌&&◌, cond, List, [], ◌∷◌, ◌++◌, Option, Some, None, Ok, Err, Result, refl, sym, ap, ◌∙◌, subst, append-nil, append_assoc, arith, filter, ltb, option_map, option_to_list, All, IfSome, list_all, and_from, or_left}
 use Rattle.std.specs.declared.cmp.Ordering.{Ordering}
-use Rattle.std.specs.declared.cmp.Ordering.TheVariants.{Less, Equal, Greater}
-use Rattle.bt_lines.specs.calls.Names.{fault_value}
+use Rattle.std.specs.declared.cmp.Ordering.TheVariants.{Less, Greater}
 use Rattle.bt_lines.specs.model.Lines.{max_number}
-use Rattle.bt_lines.specs.calls.Output.{Output, FailsToAdd}
+use Rattle.bt_lines.specs.calls.Output.{Output}
 use Rattle.bt_lines.specs.declared.fault.Fault.{Fault}
 use Rattle.bt_bed.specs.model.Feature.{Feature}
+use Rattle.bt_bed.specs.declared.read.cursor.Cursor.{Ghosts as Cursor}
 use Rattle.bt_bed.specs.model.Sorted.{is_below_at}
 use Rattle.bt_bed.specs.model.Order.{Order, IsTotal}
 use Rattle.bt_bed.proofs.lemmas.parse.NameLemmas.{name_ne}
-use Rattle.bt_sweep.specs.calls.Sweeping.{IsThis, Settles, AreDecided, CannotBeHeld, ComesNext, LeavesLast, TakenEach, HoldsFor, is_held, Sweeping}
+use Rattle.bt_sweep.specs.calls.Sweeping.{IsThis, Settles, AreDecided, ComesNext, LeavesLast, TakenEach, HoldsFor, is_held, Sweeping}
 use Rattle.bt_sweep.specs.model.Hits.{decided, decides}
 use Rattle.bt_sweep.specs.calls.Held.{CanHit}
-use Rattle.bt_sweep.specs.model.Lines.{intersect}
-use Rattle.bt_sweep.specs.inside.Joining.{AreDecidedOn, BehindFor, GrownWith, StopsAt, EndUpTo, Joins, Keeps, LeavesOn, LieOn, Proceeded, WaitsOn, SkipsAll, WritesUpTo, Compares, EndsWhile, Relates}
-use Rattle.bt_sweep.specs.declared.hits.hit_rule.HitRule.{HitRule}
+use Rattle.bt_sweep.specs.inside.Joining.{AreDecidedOn, Behind, EndUpTo, Holds, Joins, Keeps, LeavesOn, LieOn, Proceeded, StopsAt, WaitsOn, SkipsAll, WritesUpTo, Compares, Relates, going_on}
 use Rattle.bt_sweep.specs.declared.sweep.phase.Phase.TheVariants.{First}
 use Rattle.bt_sweep.specs.declared.sweep.relation.Relation.TheVariants.{After}
-use Rattle.bt_sweep.specs.declared.output.shape.Shape.{Shape}
 use Rattle.bt_sweep.proofs.lemmas.definitions.HitLemmas.{decides_from}
 use Rattle.bt_sweep.proofs.lemmas.sweep.HoldLemmas.{holds_b}
 use Rattle.bt_sweep.proofs.lemmas.sweep.JoinLemmas.{joins_first, leaves_none}
-use Rattle.bt_sweep.proofs.lemmas.sweep.KeepLemmas.{keeps_held, with_none}
+use Rattle.bt_sweep.proofs.lemmas.sweep.KeepLemmas.{keeps_held, same_as, with_none}
 
 lie_last : (name : List ℕ) (before : List Feature) (b : Feature) → LieOn name (before ++ b ∷ []) → b.chrom ≡ name
 lie_last name [] b on = on.0
@@ -32,10 +29,7 @@ lie_last name (x ∷ before) b on = lie_last name before b on.1
 
 module _ (order : Order) (total : IsTotal order) (a : Feature) (known : order.knows a.chrom ≡ true) (name : List ℕ) (compared : order.compare name a.chrom ≡ Less) where
   other_name : (b : Feature) → b.chrom ≡ name → a.chrom ≡ b.chrom → ⊥
-  other_name b on same =
-      let less : order.compare a.chrom a.chrom ≡ Less = ap (λ (c : List ℕ). order.compare c a.chrom) (same ∙ on) ∙ compared in
-      let apart : Less ≡ Equal = sym less ∙ total.same a.chrom known in
-      cc
+  other_name b on same = grind (arith)
 
   undecided_before : (b : Feature) → b.chrom ≡ name → decides order a b ≡ false
   undecided_before b on = ap (λ (c : Ordering). not (is_below_at c b.start a.stop)) (ap (λ (c : List ℕ). order.compare c a.chrom) on ∙ compared)
@@ -51,6 +45,15 @@ module _ (order : Order) (total : IsTotal order) (a : Feature) (known : order.kn
       (holds_b order gs taken held a b holds (undecided_before b on.0)) in
       subst (λ (t : List Feature). HoldsFor order (gs ++ a ∷ []) t held) (append_assoc taken (b ∷ []) seconds) (holds_before gs (taken ++ b ∷ []) held seconds on.1 one)
 
+  -- each was taken for the first
+  each_before : {old : Sweeping} (before : List Feature) {taken : List Feature} (seconds : List Feature) → LieOn name seconds → Holds order (before ++ a ∷ []) taken old → TakenEach order old.limit (a ∷ []) taken seconds
+  each_before before [] on kept = tt
+  each_before {old} before {taken} (b ∷ seconds) on kept =
+      let next : Holds order (before ++ a ∷ []) (taken ++ b ∷ []) old = record { holds = holds_before before taken old.held (b ∷ []) (on.0, tt) kept.holds; within = kept.within } in (
+        record { before = []; a = a; after = []; parts = refl; settled = refl; undecided = undecided_before b on.0; within = rw (← keeps_held before a next) next.within },
+        each_before before seconds on.1 next,
+      )
+
 -- ---- on one after it
 
 after_decided : (order : Order) (b : Feature) (name : List ℕ) (newly : List Feature) (place : ℕ) → IsTotal order → order.knows name ≡ true → order.compare b.chrom name ≡ Greater → EndUpTo name place newly → AreDecided order newly (b ∷ [])
@@ -61,61 +64,36 @@ after_decided order b name (a ∷ newly) place total known compared end =
     (decides_from order a b total (subst (λ (c : List ℕ). order.knows c ≡ true) (sym end.0) known) (inl (subst (λ (c : List ℕ). order.compare b.chrom c ≡ Greater) (sym end.0) compared))))
     (after_decided order b name newly place total known compared end.2)
 
-module _ {A B R : Type 0} (a_gives : A → List Feature → A → Type 0) (a_ended : A → Type 0) (a_none : (x : A) → a_gives x [] x)
-    (a_more : (old mid new : A) (xs ys : List Feature) → a_gives old xs mid → a_gives mid ys new → a_gives old (xs ++ ys) new)
-    (b_gives : B → List Feature → B → Type 0) (b_ended : B → Type 0) (b_line : B → ℕ) (b_none : (x : B) → b_gives x [] x)
-    (b_more : (old mid new : B) (xs ys : List Feature) → b_gives old xs mid → b_gives mid ys new → b_gives old (xs ++ ys) new)
-    (feature : R → Feature) (order : Order) (total : IsTotal order) (old : Sweeping) (r : R) (from_a : A) (from_b : B) (out : Output) (known : order.knows (feature r).chrom ≡ true) (hits : All (CanHit (feature r)) old.held) where
+-- ---- in this order, which is total
+
+abbrev to_total : {order : Order} {first : Feature} {firsts seconds : List Feature} {old : Sweeping} → IsTotal order → Behind (IsThis order) first firsts seconds old → Behind IsTotal first firsts seconds old
+to_total total at = record { order = at.order; before = at.before; taken = at.taken; is_for = rw at.is_for total; holds = at.holds; placed = at.placed; placed_taken = at.placed_taken }
+
+module _ {A B R S : Type 0} (cursor_a : Cursor A R) (cursor_b : Cursor B S) (feature : R → Feature) (order : Order) (total : IsTotal order) (old : Sweeping) (r : R) (from_a : A) (from_b : B) (out : Output)
+    (known : order.knows (feature r).chrom ≡ true) (hits : All (CanHit (feature r)) old.held) where
   abbrev first : Feature
   first = feature r
 
   abbrev Decides : Result (Option R) Fault → Sweeping → A → B → Output → Type 0
-  Decides result new to_a to_b grown = Joins a_gives a_ended b_gives (EndsWhile b_ended old.phase) b_line (IsThis order) (Settles order old.phase) (LeavesLast order) feature old first from_a from_b [] out result new to_a to_b [] grown
-
-  abbrev Lies : List ℕ → Ordering → Type 0
-  Lies name is = Compares b_gives b_ended name order old.phase first.chrom from_b is
+  Decides result new to_a to_b grown = Joins cursor_a (going_on old.phase cursor_b) (IsThis order) (Settles order old.phase) (LeavesLast order) feature old first from_a from_b [] out result new to_a to_b [] grown
 
   -- none of the second input was there
-  pub decides_none : b_ended from_b × (old.phase ≡ First → ⊥) → Decides (Ok (Some r)) old from_a from_b out
-  decides_none ended =
-      let j = joins_first a_gives a_ended a_none a_more b_gives (EndsWhile b_ended old.phase) b_line b_none b_more old first from_a from_b [] out (IsThis order) (Settles order old.phase) (inr refl) hits in
-      (j.0, ended, leaves_none order j.0.proceeds.seconds first j.2)
+  pub decides_none : ((x : A) → cursor_a.gives x [] x) → ((x : B) → cursor_b.gives x [] x) → cursor_b.has_ended from_b × (old.phase ≡ First → ⊥) → Decides (Ok (Some r)) old from_a from_b out
+  decides_none a_none b_none ended = let j = joins_first {cursor_b = going_on old.phase cursor_b} a_none b_none (LeavesLast order) (inr refl) (leaves_none order [] first refl) hits in (j.0, ended, j.2)
 
-  keeps_all : (name : List ℕ) (seconds : List Feature) (other : Order) (shape : Shape) (rule : HitRule) (limit : Option ℕ) (before taken : List Feature) → IsThis order other → order.compare name first.chrom ≡ Less → LieOn name seconds
-      → Keeps other shape rule limit (before ++ first ∷ []) taken old → Keeps other shape rule limit (before ++ first ∷ []) (taken ++ seconds) old
-  keeps_all name seconds other shape rule limit before taken this compared on kept =
-      subst (λ (o : Order). Keeps o shape rule limit (before ++ first ∷ []) (taken ++ seconds) old) (sym this)
-      (let k = subst (λ (o : Order). Keeps o shape rule limit (before ++ first ∷ []) taken old) this kept in
-      let all : Keeps order shape rule limit (before ++ first ∷ []) (taken ++ seconds) old = record {
-        shape_is = k.shape_is;
-        rule_is = k.rule_is;
-        limit_is = k.limit_is;
-        holds = holds_before order total first known name compared before taken old.held seconds on k.holds;
-        within = k.within;
-      } in
-      all)
+  module _ (name : List ℕ) (compared : order.compare name first.chrom ≡ Less) (seconds : List Feature) (on : LieOn name seconds) (at : Behind (IsThis order) first [] seconds old) where
+    each_at : TakenEach at.order old.limit (first ∷ []) at.taken seconds
+    each_at = each_before at.order (rw at.is_for total) first (rw at.is_for known) name (rw at.is_for compared) at.before seconds on at.holds
 
-  -- each was taken for the first
-  each_before : (name : List ℕ) (seconds : List Feature) (other : Order) (shape : Shape) (rule : HitRule) (limit : Option ℕ) (before taken : List Feature) → IsThis order other → order.compare name first.chrom ≡ Less → LieOn name seconds
-      → Keeps other shape rule limit (before ++ first ∷ []) taken old → TakenEach other limit (first ∷ []) taken seconds
-  each_before name [] other shape rule limit before taken this compared on kept = tt
-  each_before name (b ∷ seconds) other shape rule limit before taken this compared on kept =
-      let next = keeps_all name (b ∷ []) other shape rule limit before taken this compared (on.0, tt) kept in (
-        record {
-          before = [];
-          a = first;
-          after = [];
-          parts = refl;
-          settled = refl;
-          undecided = subst (λ (o : Order). decides o first b ≡ false) (sym this) (undecided_before order total first known name compared b on.0);
-          within = subst (λ (l : List Feature). IfSome limit (λ most. length l ≤ most)) (keeps_held other shape rule limit before first (taken ++ b ∷ []) old next) next.within;
-        },
-        each_before name seconds other shape rule limit before (taken ++ b ∷ []) this compared on.1 next,
-      )
+    keeps_at : Keeps at.order (at.before ++ first ∷ []) (at.taken ++ seconds) old old
+    keeps_at = record {
+      same = same_as old old.held;
+      holds = record { holds = holds_before at.order (rw at.is_for total) first (rw at.is_for known) name (rw at.is_for compared) at.before at.taken old.held seconds on at.holds.holds; within = at.holds.within };
+    }
 
   -- they lie before
-  pub decides_before : (name : List ℕ) (to_b : B) → Lies name Less → SkipsAll b_gives b_ended name from_b to_b → Decides (Ok (Some r)) old from_a to_b out
-  decides_before name to_b lies skip = (
+  pub decides_before : ((x : A) → cursor_a.gives x [] x) → (to_b : B) → Compares cursor_b order old.phase first.chrom from_b Less → SkipsAll cursor_b from_b to_b → Decides (Ok (Some r)) old from_a to_b out
+  decides_before a_none to_b lies skip = (
     record {
       proceeds = record {
         firsts = [];
@@ -127,33 +105,26 @@ module _ {A B R : Type 0} (a_gives : A → List Feature → A → Type 0) (a_end
         next = None;
         comes = tt;
         settles = inr refl;
-        each = λ other shape rule limit before taken this kept pg pt. each_before name skip.seconds other shape rule limit before taken this lies.compared skip.on kept;
+        each = each_at (cursor_b.name from_b) lies.compared skip.seconds skip.on;
       };
       waits = (refl, hits);
-      goes = λ other shape rule limit before taken this kept pg pt. keeps_all name skip.seconds other shape rule limit before taken this lies.compared skip.on kept;
-      writes = λ other shape rule limit before taken this kept pg pt. with_none [] out;
+      goes = keeps_at (cursor_b.name from_b) lies.compared skip.seconds skip.on;
+      writes = λ at. with_none [] out;
     },
     (skip.ended, lies.going),
-    λ before b e. undecided_before order total first known name lies.compared b (lie_last name before b (subst (LieOn name) e skip.on)),
+    λ before b e. undecided_before order total first known (cursor_b.name from_b) lies.compared b (lie_last (cursor_b.name from_b) before b (subst (LieOn (cursor_b.name from_b)) e skip.on)),
   )
 
-  to_this : (firsts seconds : List Feature) (P : Order → Shape → HitRule → Option ℕ → List Feature → List Feature → Type 0) → BehindFor IsTotal first firsts seconds old P → BehindFor (IsThis order) first firsts seconds old P
-  to_this firsts seconds P behind other shape rule limit before taken this kept pg pt = behind other shape rule limit before taken (subst IsTotal (sym this) total) kept pg pt
-
-  abbrev JoinsBeside : Result (Option R) Fault → Sweeping → A → B → Output → Type 0
-  JoinsBeside result new to_a to_b grown = Joins a_gives a_ended b_gives b_ended b_line IsTotal (AreDecidedOn first.chrom) LeavesOn feature old first from_a from_b [] out result new to_a to_b [] grown
-
   stops_beside : (waiting : Option R) (to_a : A) (to_b : B) → (old.phase ≡ First → ⊥)
-      → StopsAt a_gives a_ended b_gives b_ended b_line IsTotal (AreDecidedOn first.chrom) old first from_a from_b [] out (option_map feature waiting) to_a to_b
-      → StopsAt a_gives a_ended b_gives (EndsWhile b_ended old.phase) b_line (IsThis order) (Settles order old.phase) old first from_a from_b [] out (option_map feature waiting) to_a to_b
+      → StopsAt cursor_a cursor_b (option_map feature waiting) to_a to_b → StopsAt cursor_a (going_on old.phase cursor_b) (option_map feature waiting) to_a to_b
   stops_beside waiting to_a to_b going ended = grind arith
 
   leaves_beside : (waiting : Option R) (held seconds : List Feature) → WaitsOn first.chrom held (option_map feature waiting) → IfSome (option_map feature waiting) (LeavesOn seconds) → IfSome (option_map feature waiting) (LeavesLast order seconds)
   leaves_beside waiting held seconds waits leaves = grind arith
 
-  abbrev proceeds_beside : (waiting : Option Feature) (to_a : A) (to_b : B) → Proceeded a_gives a_ended b_gives b_ended b_line IsTotal (AreDecidedOn first.chrom) old first from_a from_b [] out waiting to_a to_b
-      → Proceeded a_gives a_ended b_gives (EndsWhile b_ended old.phase) b_line (IsThis order) (Settles order old.phase) old first from_a from_b [] out waiting to_a to_b
-  proceeds_beside waiting to_a to_b p = record {
+  abbrev proceeds_beside : {waiting : Option Feature} {to_a : A} {to_b : B} → Proceeded cursor_a cursor_b IsTotal (AreDecidedOn first.chrom) old first from_a from_b waiting to_a to_b
+      → Proceeded cursor_a (going_on old.phase cursor_b) (IsThis order) (Settles order old.phase) old first from_a from_b waiting to_a to_b
+  proceeds_beside p = record {
     firsts = p.firsts;
     seconds = p.seconds;
     newly = p.newly;
@@ -163,81 +134,64 @@ module _ {A B R : Type 0} (a_gives : A → List Feature → A → Type 0) (a_end
     next = p.next;
     comes = p.comes;
     settles = inr (p.settles order total known);
-    each = λ other shape rule limit before taken this kept pg pt. p.each other shape rule limit before taken (subst IsTotal (sym this) total) kept pg pt;
+    each = λ at. p.each (to_total total at);
   }
 
   -- they lie beside
-  pub decides_beside : (result : Result (Option R) Fault) (new : Sweeping) (to_a : A) (to_b : B) (grown : Output) → (old.phase ≡ First → ⊥) → JoinsBeside result new to_a to_b grown → Decides result new to_a to_b grown
+  pub decides_beside : (result : Result (Option R) Fault) (new : Sweeping) (to_a : A) (to_b : B) (grown : Output) → (old.phase ≡ First → ⊥)
+      → Joins cursor_a cursor_b IsTotal (AreDecidedOn first.chrom) LeavesOn feature old first from_a from_b [] out result new to_a to_b [] grown → Decides result new to_a to_b grown
   decides_beside (Ok waiting) new to_a to_b grown going (j, stops, leaves) = (
-    record {
-      proceeds = proceeds_beside (option_map feature waiting) to_a to_b j.proceeds;
-      waits = j.waits;
-      goes = to_this j.proceeds.firsts j.proceeds.seconds (λ order shape rule limit as_given taken. Keeps order shape rule limit as_given taken new) j.goes;
-      writes = to_this j.proceeds.firsts j.proceeds.seconds (λ order shape rule limit as_given taken. GrownWith [] out (intersect shape rule j.proceeds.newly taken) [] grown) j.writes;
-    },
+    record { proceeds = proceeds_beside j.proceeds; waits = j.waits; goes = λ at. j.goes (to_total total at); writes = λ at. j.writes (to_total total at) },
     stops_beside waiting to_a to_b going stops,
     leaves_beside waiting new.held j.proceeds.seconds j.waits leaves,
   )
   decides_beside (Err fault) new to_a to_b grown going b = record {
-    proceeds = proceeds_beside b.waiting to_a to_b b.proceeds;
+    proceeds = proceeds_beside b.proceeds;
     waiting = b.waiting;
     cause = elim b.cause [
-      | inl cut ↦ inl (to_this b.proceeds.firsts b.proceeds.seconds (λ order shape rule limit as_given taken. FailsToAdd out ([] ++ intersect shape rule b.proceeds.newly taken) (fault_value fault) grown) cut)
-      | inr lack ↦ inr (record {
-        shares = lack.shares;
-        writes = to_this b.proceeds.firsts b.proceeds.seconds (λ order shape rule limit as_given taken. GrownWith [] out (intersect shape rule b.proceeds.newly taken) [] grown) lack.writes;
-        lacks = to_this b.proceeds.firsts b.proceeds.seconds (λ order shape rule limit as_given taken. CannotBeHeld limit lack.shares.last taken (b_line lack.shares.after) (fault_value fault)) lack.lacks;
-      })
+      | inl cut ↦ inl (λ at. cut (to_total total at))
+      | inr lack ↦ inr (record { shares = lack.shares; writes = λ at. lack.writes (to_total total at); lacks = λ at. lack.lacks (to_total total at) })
     ];
   }
 
   -- they lie after it, or the input has ended: what comes next then, and that it decides each
-  abbrev IsBehind : List ℕ → Type 0
-  IsBehind name = Relates b_gives b_ended name order old.phase first.chrom from_b After
+  abbrev IsBehind : Type 0
+  IsBehind = Relates cursor_b order old.phase first.chrom from_b After
 
-  abbrev next_of : (name : List ℕ) → IsBehind name → Option Feature
-  next_of name (inl ended) = None
-  next_of name (inr lies) = Some lies.b
+  abbrev next_of : IsBehind → Option Feature
+  next_of (inl ended) = None
+  next_of (inr lies) = Some lies.b
 
-  comes_of : (name : List ℕ) (behind : IsBehind name) → ComesNext b_gives from_b (next_of name behind)
-  comes_of name behind = grind arith
+  comes_of : (behind : IsBehind) → ComesNext cursor_b from_b (next_of behind)
+  comes_of behind = grind arith
 
-  settles_of : (name : List ℕ) (behind : IsBehind name) (newly : List Feature) → EndUpTo first.chrom max_number newly → Settles order old.phase newly ([] ++ option_to_list (next_of name behind))
-  settles_of name (inl ended) newly end = inl ended
-  settles_of name (inr lies) newly end =
-      inr (after_decided order lies.b first.chrom newly max_number total known (ap (λ (c : List ℕ). order.compare c first.chrom) lies.on ∙ lies.compares.compared) end)
+  settles_of : (behind : IsBehind) (newly : List Feature) → EndUpTo first.chrom max_number newly → Settles order old.phase newly ([] ++ option_to_list (next_of behind))
+  settles_of (inl ended) newly end = inl ended
+  settles_of (inr lies) newly end = inr (after_decided order lies.b first.chrom newly max_number total known (rw lies.on lies.compares.compared) end)
 
-  abbrev proceeds_after : (name : List ℕ) (firsts newly : List Feature) (waiting : Option Feature) (to_a : A) → IsBehind name → a_gives from_a firsts to_a → first ∷ firsts ≡ newly ++ option_to_list waiting → EndUpTo first.chrom max_number newly
-      → Proceeded a_gives a_ended b_gives (EndsWhile b_ended old.phase) b_line (IsThis order) (Settles order old.phase) old first from_a from_b [] out waiting to_a from_b
-  proceeds_after name firsts newly waiting to_a behind given are end = record {
+  abbrev proceeds_after : (firsts newly : List Feature) (waiting : Option Feature) (to_a : A) → ((x : B) → cursor_b.gives x [] x) → IsBehind → cursor_a.gives from_a firsts to_a → first ∷ firsts ≡ newly ++ option_to_list waiting
+      → EndUpTo first.chrom max_number newly → Proceeded cursor_a (going_on old.phase cursor_b) (IsThis order) (Settles order old.phase) old first from_a from_b waiting to_a from_b
+  proceeds_after firsts newly waiting to_a b_none behind given are end = record {
     firsts = firsts;
     seconds = [];
     newly = newly;
     gives_firsts = given;
     gives_seconds = b_none from_b;
     are = are;
-    next = next_of name behind;
-    comes = comes_of name behind;
-    settles = settles_of name behind newly end;
-    each = λ other shape rule limit before taken this kept pg pt. tt;
+    next = next_of behind;
+    comes = comes_of behind;
+    settles = settles_of behind newly end;
+    each = λ at. tt;
   }
 
   -- each is written
-  pub decides_after : (name : List ℕ) (result : Result (Option R) Fault) (new : Sweeping) (to_a : A) (grown : Output) → IsBehind name → WritesUpTo a_gives a_ended feature max_number old first from_a [] out result new to_a [] grown
+  pub decides_after : ((x : B) → cursor_b.gives x [] x) → (result : Result (Option R) Fault) (new : Sweeping) (to_a : A) (grown : Output) → IsBehind → WritesUpTo cursor_a feature max_number old first from_a [] out result new to_a [] grown
       → Decides result new to_a from_b grown
-  decides_after name (Ok (Some a)) new to_a grown behind w = absurd (omega (arith, w.1.0, w.1.1))
-  decides_after name (Ok None) new to_a grown behind (w, ended) = (
-    record {
-      proceeds = proceeds_after name w.firsts w.newly None to_a behind w.given w.are w.end;
-      waits = tt;
-      goes = to_this w.firsts [] (λ order shape rule limit as_given taken. Keeps order shape rule limit as_given taken new) w.goes;
-      writes = to_this w.firsts [] (λ order shape rule limit as_given taken. GrownWith [] out (intersect shape rule w.newly taken) [] grown) w.writes;
-    },
+  decides_after b_none (Ok (Some a)) new to_a grown behind w = absurd (omega (arith, w.1.0, w.1.1))
+  decides_after b_none (Ok None) new to_a grown behind (w, ended) = (
+    record { proceeds = proceeds_after w.firsts w.newly None to_a b_none behind w.given w.are w.end; waits = tt; goes = λ at. w.goes (to_total total at); writes = λ at. w.writes (to_total total at) },
     ended,
     tt,
   )
-  decides_after name (Err fault) new to_a grown behind cut = record {
-    proceeds = proceeds_after name cut.firsts cut.newly cut.waiting to_a behind cut.given cut.are cut.end;
-    waiting = cut.waiting;
-    cause = inl (to_this cut.firsts [] (λ order shape rule limit as_given taken. FailsToAdd out ([] ++ intersect shape rule cut.newly taken) (fault_value fault) grown) cut.cuts);
-  }
+  decides_after b_none (Err fault) new to_a grown behind cut =
+      record { proceeds = proceeds_after cut.firsts cut.newly cut.waiting to_a b_none behind cut.given cut.are cut.end; waiting = cut.waiting; cause = inl (λ at. cut.cuts (to_total total at)) }

@@ -2,7 +2,7 @@
 
 ghost use Rattle.std.specs.Prelude.{◌≡◌, IfSome};
 ghost use Rattle.bt_bed.specs.calls.Records.{order_in};
-ghost use Rattle.bt_bed.specs.calls.Bed.{GivesSingle};
+ghost use Rattle.bt_bed.specs.calls.CursorOf.{single_cursor};
 ghost use Rattle.bt_sweep.specs.calls.Sweeping.{GivesKnown};
 ghost use Rattle.bt_sweep.specs.calls.SweepView.{order_of};
 
@@ -41,8 +41,8 @@ fn give_both<A: Cursor, B: Cursor, H: Held, O: ChromOrder, K: Sink>(
     b: &mut B,
     out: &mut Out<K>,
 ) -> Result<(), Fault>
-    requires known_a { GivesKnown A.gives (order_of sweep.old) a.old }
-    requires known_b { GivesKnown B.gives (order_of sweep.old) b.old }
+    requires known_a { GivesKnown A.Cursor (order_of sweep.old) a.old }
+    requires known_b { GivesKnown B.Cursor (order_of sweep.old) b.old }
 {
     sweep.advance(a, b, out)?;
     end_second_if_wanted(sweep, out)?;
@@ -248,7 +248,7 @@ fn lines_are_put_before_a_fault(rt: HostRuntime) -> Result<(), Fail> {
 
 // A record of a line, if it is a record on a known chromosome.
 fn single_of<'a, O: ChromOrder>(order: &O, line: &'a [u8]) -> Option<Single<'a>>
-    ensures { IfSome result (GivesKnown GivesSingle (O.order order.now)) }
+    ensures { IfSome result (GivesKnown single_cursor (O.order order.now)) }
 {
     let Ok(Some(bed)) = parse_bed(line) else {
         return None;

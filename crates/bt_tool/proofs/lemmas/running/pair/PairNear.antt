@@ -20,7 +20,9 @@ use Rattle.bt_tool.specs.inside.Pair.{HasNoMore, JoinDef, MayCome, Pair, AsksFor
 use Rattle.bt_tool.proofs.lemmas.running.members.CursorLemmas.{BeginsAt, at_whole, good_whole, handed_to, is_known, some_of}
 use Rattle.bt_tool.proofs.lemmas.running.pair.PairMet.{may_come}
 use Rattle.bt_lines.specs.declared.device.Source.{Ghosts as Source}
-use Rattle.bt_bed.specs.calls.Batch.{IsWhere, Passes, batch_room, cursor_in, left as left_in, line_in}
+use Rattle.bt_lines.specs.declared.fault.Fault.{Fault}
+use Rattle.bt_bed.specs.calls.Batch.{HasEnded, IsWhere, Passes, batch_room, cursor_in, left as left_in, line_in}
+use Rattle.bt_bed.specs.calls.CursorOf.{batch_cursor}
 use Rattle.bt_bed.specs.calls.SortedReader.{view_with}
 use Rattle.bt_bed.specs.calls.Records.{IsTaken, Lends, TakesRecords, below, buffered_in, count_in, view_of}
 use Rattle.bt_bed.specs.declared.read.batch.Batch.{Batch}
@@ -260,6 +262,6 @@ module _ {S O : Type 0} {g : Ghosts O} (device : Source S) (old new : Records S 
   unfolding line_in cursor_in
   line_then b after next = omega (arith, next.lines.given, consumes.line_is)
 
-  pub next_then : (next : Option Feature) → ComesNext Passes last next → IfSome next (λ b. item_ahead (view_of new) ≡ Some b)
+  pub next_then : (next : Option Feature) → ComesNext batch_cursor last next → IfSome next (λ b. item_ahead (view_of new) ≡ Some b)
   next_then None comes = tt
   next_then (Some b) comes = ap (option_map (λ m. m.item)) (first_then b comes.0 comes.1)

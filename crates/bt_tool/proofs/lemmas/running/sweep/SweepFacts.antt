@@ -67,9 +67,7 @@ module _ (order : Order) where
 
   -- what records of the first need lies after those that were taken for them
   pub sweep_needs : (config : SweepConfig) → AreNeeded (sweep_join order config)
-  sweep_needs config given extra past rest lines count reached high =
-      subst (λ o. bytes_in (take (suc count) lines) ≤ bytes_up_to lines o) (sym (decider_behind (given ++ extra) past rest (leaves_more given extra (member_items past) reached)))
-      (reaches_least (given ++ extra) rest lines count high)
+  sweep_needs config given extra past rest lines count reached high = grind (arith, decider_behind, leaves_more, reaches_least)
 
 pub some_limit : (limit : Option ℕ) (count : ℕ) → has_room limit count ≡ false → is_some limit ≡ true
 some_limit None count full = absurd (false≢true (sym full))
@@ -106,11 +104,7 @@ module _ (order : Order) where
   passed_one a b e = ap (λ c. length (cond c (b ∷ []) [])) e
 
   held_one : (a : Feature) (past : List (Member Feature)) (m : Member Feature) → is_held a m.item ≡ true → length (filter (is_held a) (member_items (past ++ m ∷ []))) ≡ length (filter (is_held a) (member_items past)) + 1
-  held_one a past m e =
-      ap (λ l. length (filter (is_held a) l)) (map-append (λ m. m.item) past (m ∷ []))
-      ∙ ap length (filter-append (is_held a) (member_items past) (m.item ∷ []))
-      ∙ length-append (filter (is_held a) (member_items past)) (filter (is_held a) (m.item ∷ []))
-      ∙ ap (λ n. length (filter (is_held a) (member_items past)) + n) (passed_one a m.item e)
+  held_one a past m e = grind (arith, map-append, filter-append, length-append, passed_one)
 
   -- with one that there is no room for, the second input is cut
   pub cuts_at : (limit : Option ℕ) (before : List Feature) (a : Feature) (past : List (Member Feature)) (m : Member Feature) (fault : FaultValue) → fault ≡ fault_at_line Second m.line TooManyHeld
@@ -139,9 +133,7 @@ module _ (order : Order) where
         subst (λ (l : List Feature). cut_behind (are_too_many order most l) [] (past ++ more) fault ≡ cut_behind (are_too_many order most l) past more fault) (append-nil first) (within [] more fault)
 
     still : (x : Feature) (past extra : List (Member Feature)) → decided order x (member_items past) ≡ true → decided order x (member_items (past ++ extra)) ≡ true
-    still x past extra e =
-        ap (decided order x) (map-append (λ m. m.item) past extra) ∙ list_any-append (decides order x) (member_items past) (member_items extra)
-        ∙ or_left (decided order x (member_items past)) (decided order x (member_items extra)) e
+    still x past extra e = grind (arith, map-append, list_any-append, or_left)
 
     all_still : (xs : List Feature) (past extra : List (Member Feature)) → list_all (λ x. decided order x (member_items past)) xs ≡ true → list_all (λ x. decided order x (member_items (past ++ extra))) xs ≡ true
     all_still [] past extra all = refl

@@ -15,7 +15,7 @@ use Rattle.bt_lines.proofs.lemmas.reader.block.ReadsLemmas.{has_read_then, reads
 use Rattle.bt_lines.specs.calls.Names.{fault_value}
 use Rattle.bt_lines.specs.calls.Reader.{HasRead}
 use Rattle.bt_lines.specs.declared.fault.Fault.{Fault}
-use Rattle.bt_bed.specs.calls.Batch.{HasEnded, Passes, line_in}
+use Rattle.bt_bed.specs.calls.CursorOf.{batch_cursor}
 use Rattle.bt_bed.specs.calls.SortedReader.{fault_in}
 use Rattle.bt_bed.specs.declared.read.batch.Batch.{Batch}
 use Rattle.bt_bed.specs.model.Feature.{Feature}
@@ -88,8 +88,7 @@ number_cases : (n : ℕ) → (n ≡ 0) ⊎ (0 < n)
 number_cases zero = inl refl
 number_cases (suc n) = inr (omega arith)
 
-module _ {A B O : Type 0} {g : Ghosts O} (source_a : Source A) (source_b : Source B) (start : SweepRun A B O g) (out : Output) (old : SweepRun A B O g) (grown : Output)
-    (s : SweepComes source_a source_b start out old grown) where
+module _ {A B O : Type 0} {g : Ghosts O} {source_a : Source A} {source_b : Source B} {start : SweepRun A B O g} {out : Output} {old : SweepRun A B O g} {grown : Output} (s : SweepComes source_a source_b start out old grown) where
   abbrev sweep : Sweeping
   sweep = state_of old.sweep
 
@@ -168,7 +167,7 @@ module _ {A B O : Type 0} {g : Ghosts O} (source_a : Source A) (source_b : Sourc
 
     pub first_filled : FillsRecords source_a old.first (Ok true) first_now → Goes with_first grown × Filled with_first
     first_filled fills = (
-      comes_to with_first grown (fills_first source_a source_b start out s.begun old grown s.sweeps wants first_now fills) refl (fills.own_failure, same_second),
+      comes_to with_first grown (fills_first s wants first_now fills) refl (fills.own_failure, same_second),
       inr (
         omega (arith, fills.answers.1.shrinks),
         subst (λ (w : Want). IsBuffered w (length (view_of first_now).buffered) (length (view_of old.second).buffered)) (sym wants)
@@ -182,9 +181,9 @@ module _ {A B O : Type 0} {g : Ghosts O} (source_a : Source A) (source_b : Sourc
       first_ended fills ends =
           let moves : MovesTo (order_in start.first) sweep (with_a_ended s.sweeps.stage) (state_of now.sweep) =
           subst (λ (o : Order). (stage : Stage) → StandsAt o stage sweep → MovesTo o sweep (with_a_ended stage) (state_of now.sweep)) s.order_is ends s.sweeps.stage s.sweeps.stands in
-          let none : (state_of now.sweep).current ≡ None = moves.stands.current_is ∙ none_waits source_a source_b start out s.begun old grown s.sweeps wants in
+          let none : (state_of now.sweep).current ≡ None = moves.stands.current_is ∙ none_waits s wants in
           let done : is_done (state_of now.sweep).phase ≡ true = ap is_done moves.stands.phase_is ∙ over_is true s.sweeps.stage.b_ended in (
-            comes_to now grown (rw (same, same_second_now) (ends_first source_a source_b start out s.begun old grown s.sweeps wants first_now (state_of now.sweep) fills moves)) same_order (rw same fills.own_failure, rw same_second_now same_second),
+            comes_to now grown (rw (same, same_second_now) (ends_first s wants first_now (state_of now.sweep) fills moves)) same_order (rw same fills.own_failure, rw same_second_now same_second),
             inl (rw (same, same_second_now) (omega (
               arith,
               fills.answers.shrinks,
@@ -196,7 +195,7 @@ module _ {A B O : Type 0} {g : Ghosts O} (source_a : Source A) (source_b : Sourc
     pub first_stopped : {T : Type 0} (fault : Fault) (result : Result T Fault) → IsErrAnd result (λ e. e ≡ fault) → FillsRecords source_a old.first (Err fault) first_now → Leads Filled result with_first grown
     first_stopped {T} fault result is fills =
         passed_on (λ (r : Result T Fault). Leads Filled r with_first grown) result fault is
-        (ends_with fault with_first grown (stops_first source_a source_b start out s.begun old grown s.sweeps wants fault first_now fills)
+        (ends_with fault with_first grown (stops_first s wants fault first_now fills)
         (λ never. ((fills.own_failure none_first).read never, same_second))
         (told_kept source_a.is_read (fault_kept old.first) (view_of first_now).fault (below old.first) (below first_now) fault fills.answers.kept none_first fills.own_failure) own_second)
 
@@ -208,7 +207,7 @@ module _ {A B O : Type 0} {g : Ghosts O} (source_a : Source A) (source_b : Sourc
 
     pub second_filled : FillsRecords source_b old.second (Ok true) second_now → Goes with_second grown × Filled with_second
     second_filled fills = (
-      comes_to with_second grown (fills_second source_a source_b start out s.begun old grown s.sweeps wants second_now fills) refl (same_first, fills.own_failure),
+      comes_to with_second grown (fills_second s wants second_now fills) refl (same_first, fills.own_failure),
       inr (
         omega (arith, fills.answers.1.shrinks),
         subst (λ (w : Want). IsBuffered w (length (view_of old.first).buffered) (length (view_of second_now).buffered)) (sym wants)
@@ -219,7 +218,7 @@ module _ {A B O : Type 0} {g : Ghosts O} (source_a : Source A) (source_b : Sourc
     pub second_stopped : {T : Type 0} (fault : Fault) (result : Result T Fault) → IsErrAnd result (λ e. e ≡ fault) → FillsRecords source_b old.second (Err fault) second_now → Leads Filled result with_second grown
     second_stopped {T} fault result is fills =
         passed_on (λ (r : Result T Fault). Leads Filled r with_second grown) result fault is
-        (ends_with fault with_second grown (stops_second source_a source_b start out s.begun old grown s.sweeps wants fault second_now fills)
+        (ends_with fault with_second grown (stops_second s wants fault second_now fills)
         (λ never. (same_first, (fills.own_failure none_second).read never))
         own_first (told_kept source_b.is_read (fault_kept old.second) (view_of second_now).fault (below old.second) (below second_now) fault fills.answers.kept none_second fills.own_failure))
 
@@ -227,16 +226,16 @@ module _ {A B O : Type 0} {g : Ghosts O} (source_a : Source A) (source_b : Sourc
       abbrev Ending : {T : Type 0} → Result T Fault → Type 0
       Ending answer = (stage : Stage) (a : Feature) → StandsAt order stage sweep → stage.waiting ≡ Some a → IsInOrder order stage → EndsB order stage a sweep grown answer (state_of now.sweep) later
 
-      ending : {T : Type 0} (answer : Result T Fault) → Ending answer → EndsB (order_in start.first) s.sweeps.stage (waiting source_a source_b start out s.begun old grown s.sweeps wants).0 sweep grown answer (state_of now.sweep) later
+      ending : {T : Type 0} (answer : Result T Fault) → Ending answer → EndsB (order_in start.first) s.sweeps.stage (waiting s wants).0 sweep grown answer (state_of now.sweep) later
       ending answer ends =
-          let w = waiting source_a source_b start out s.begun old grown s.sweeps wants in
+          let w = waiting s wants in
           subst (λ (o : Order). (stage : Stage) (a : Feature) → StandsAt o stage sweep → stage.waiting ≡ Some a → IsInOrder o stage → EndsB o stage a sweep grown answer (state_of now.sweep) later) s.order_is ends
-          s.sweeps.stage w.0 s.sweeps.stands w.1 (in_order source_a source_b start out s.begun old grown s.sweeps)
+          s.sweeps.stage w.0 s.sweeps.stands w.1 (in_order s)
 
       pub second_over : {T : Type 0} (answer : Result T Fault) → sweep_order now.sweep ≡ order → Ending answer → Leads Filled answer now later
       second_over (Ok done) same_order ends =
           let ended = ending (Ok done) ends in (
-            comes_to now later (rw (same_first_now, same) (ends_second source_a source_b start out s.begun old grown s.sweeps wants second_now (state_of now.sweep) later fills ended.0 ended.1)) same_order (rw same_first_now same_first, rw same fills.own_failure),
+            comes_to now later (rw (same_first_now, same) (ends_second s wants second_now (state_of now.sweep) later fills ended.0 ended.1)) same_order (rw same_first_now same_first, rw same fills.own_failure),
             inl (rw (same_first_now, same) (omega (
               arith,
               fills.answers.shrinks,
@@ -247,23 +246,20 @@ module _ {A B O : Type 0} {g : Ghosts O} (source_a : Source A) (source_b : Sourc
           )
       second_over {T} (Err fault) same_order ends =
           let ended = ending {T = T} (Err fault) ends in
-          ends_with fault now later (rw (same_first_now, same) (fails_at_end source_a source_b start out s.begun old grown s.sweeps wants (fault_value fault) second_now later fills ended.1))
+          ends_with fault now later (rw (same_first_now, same) (fails_at_end s wants (fault_value fault) second_now later fills ended.1))
           (λ never. (rw same_first_now same_first, rw same fills.own_failure)) (rw same_first_now own_first)
           (rw same (none_kept source_b.is_read (below old.second) (view_of second_now).fault (below second_now) fills.answers.goes))
 
   -- ---- what both have buffered was given
 
-  module _ (new : SweepRun A B O g) (later : Output) (firsts seconds last_firsts last_seconds : Batch)
+  module _ (new : SweepRun A B O g) (later : Output) {firsts seconds last_firsts last_seconds : Batch}
       (consumes : ConsumesGiven source_a old.first firsts last_firsts new.first) (consumes_second : ConsumesGiven source_b old.second seconds last_seconds new.second) where
-    taken_both : (fs ss : List Feature) → Passes firsts fs last_firsts → Passes seconds ss last_seconds → TakesBoth source_a source_b old.first old.second fs ss new.first new.second
-    taken_both = takes_both source_a source_b start out s.begun old grown s.sweeps new.first new.second firsts seconds last_firsts last_seconds consumes consumes_second
+    have_read : {fs ss : List Feature} → TakesBoth source_a source_b old.first old.second fs ss new.first new.second → HaveRead (records_pair source_a source_b old.first old.second) (view_of new.first) (view_of new.second)
+    have_read {fs} {ss} takes = (taken_reads source_a (view_of old.first) fs (view_of new.first) takes.first_taken, taken_reads source_b (view_of old.second) ss (view_of new.second) takes.second_taken)
 
-    have_read : (fs ss : List Feature) → TakesBoth source_a source_b old.first old.second fs ss new.first new.second → HaveRead (records_pair source_a source_b old.first old.second) (view_of new.first) (view_of new.second)
-    have_read fs ss takes = (taken_reads source_a (view_of old.first) fs (view_of new.first) takes.first_taken, taken_reads source_b (view_of old.second) ss (view_of new.second) takes.second_taken)
-
-    module _ (gives : AdvancesSo Passes HasEnded Passes HasEnded line_in (order_in start.first) sweep firsts seconds grown (state_of new.sweep) last_firsts last_seconds later) where
+    module _ (gives : AdvancesSo batch_cursor batch_cursor (order_in start.first) sweep firsts seconds grown (state_of new.sweep) last_firsts last_seconds later) where
       takes : TakesBoth source_a source_b old.first old.second gives.proceeds.firsts gives.proceeds.seconds new.first new.second
-      takes = taken_both gives.proceeds.firsts gives.proceeds.seconds gives.proceeds.gives_firsts gives.proceeds.gives_seconds
+      takes = takes_both s consumes consumes_second gives.proceeds.firsts gives.proceeds.seconds gives.proceeds.gives_firsts gives.proceeds.gives_seconds
 
       abbrev swept : Sweeping
       swept = state_of new.sweep
@@ -271,8 +267,8 @@ module _ {A B O : Type 0} {g : Ghosts O} (source_a : Source A) (source_b : Sourc
       -- whether the first input has ended doesn't change
       same_done : is_done swept.phase ≡ is_done sweep.phase
       same_done =
-          let placed = placed_first source_a source_b start out s.begun old grown s.sweeps new.first new.second gives.proceeds.firsts gives.proceeds.seconds takes in
-          let placed_seconds = placed_second source_a source_b start out s.begun old grown s.sweeps new.first new.second gives.proceeds.firsts gives.proceeds.seconds takes in
+          let placed = placed_first s takes in
+          let placed_seconds = placed_second s takes in
           ap is_done (gives.stands s.sweeps.stage s.sweeps.stands placed placed_seconds).stands.phase_is ∙ ap is_done (sym s.sweeps.stands.phase_is)
 
       abbrev waits : Sweeping → ℕ
@@ -297,7 +293,7 @@ module _ {A B O : Type 0} {g : Ghosts O} (source_a : Source A) (source_b : Sourc
       most = rounds_most swept.current (is_done swept.phase)
 
       abbrev Stops : Want → Type 0
-      Stops want = StopsFor Passes HasEnded Passes HasEnded line_in (order_in start.first) sweep firsts seconds grown want last_firsts last_seconds
+      Stops want = StopsFor batch_cursor batch_cursor want last_firsts last_seconds
 
       -- none of the first was taken, though one was buffered
       stopped_a : (w : Want) → want_in swept ≡ w → 0 < length (view_of old.first).buffered → want_in sweep ≡ WantA → waits sweep ≡ 0 → length gives.proceeds.firsts ≡ 0 → Stops w → IsLess new
@@ -312,7 +308,7 @@ module _ {A B O : Type 0} {g : Ghosts O} (source_a : Source A) (source_b : Sourc
           omega (arith, rooms, (wants_first swept.current (is_done swept.phase) e).2, (wants_second sweep.current (is_done sweep.phase) wants).2)
       stopped_b Nothing e some wants taken none_left = omega (arith, rooms, (wants_nothing swept.current (is_done swept.phase) e).1, (wants_second sweep.current (is_done sweep.phase) wants).2)
 
-      less_by : Stops (want_in swept) ⊎ HasWritten Passes HasEnded Passes HasEnded line_in (order_in start.first) sweep firsts seconds grown swept → (w : Want) → want_in sweep ≡ w → IsBuffered w (length (view_of old.first).buffered) (length (view_of old.second).buffered) → IsLess new
+      less_by : Stops (want_in swept) ⊎ HasWritten sweep swept → (w : Want) → want_in sweep ≡ w → IsBuffered w (length (view_of old.first).buffered) (length (view_of old.second).buffered) → IsLess new
       less_by stops WantA wants some =
           let none : waits sweep ≡ 0 = none_of sweep.current (wants_first sweep.current (is_done sweep.phase) wants).0 in
           elim (number_cases (length gives.proceeds.firsts)) [
@@ -332,28 +328,26 @@ module _ {A B O : Type 0} {g : Ghosts O} (source_a : Source A) (source_b : Sourc
           ]
       less_by stops Nothing wants some = absurd some
 
-      came_further : Stops (want_in swept) ⊎ HasWritten Passes HasEnded Passes HasEnded line_in (order_in start.first) sweep firsts seconds grown swept → sweep_order new.sweep ≡ order → Goes new later × Given new
+      came_further : Stops (want_in swept) ⊎ HasWritten sweep swept → sweep_order new.sweep ≡ order → Goes new later × Given new
       came_further stops same = (
-        comes_to new later (goes_both source_a source_b start out s.begun old grown s.sweeps new.first new.second firsts seconds last_firsts last_seconds consumes consumes_second swept later gives) same (have_read gives.proceeds.firsts gives.proceeds.seconds takes),
+        comes_to new later (goes_both s consumes consumes_second swept later gives) same (have_read takes),
         (few, less_by stops (want_in sweep) refl),
       )
 
     gave : {T : Type 0} (answer : Result T Fault) → sweep_order new.sweep ≡ order
-        → AdvancesOn Passes HasEnded Passes HasEnded line_in (order_in start.first) sweep firsts seconds grown answer (state_of new.sweep) last_firsts last_seconds later → Leads Given answer new later
+        → AdvancesOn batch_cursor batch_cursor (order_in start.first) sweep firsts seconds grown answer (state_of new.sweep) last_firsts last_seconds later → Leads Given answer new later
     gave (Ok done) same gives = came_further gives.0 gives.1 same
     gave (Err fault) same fails =
-        let takes = taken_both fails.proceeds.firsts fails.proceeds.seconds fails.proceeds.gives_firsts fails.proceeds.gives_seconds in
-        ends_with fault new later (fails_both source_a source_b start out s.begun old grown s.sweeps new.first new.second firsts seconds last_firsts last_seconds consumes consumes_second (fault_value fault) later fails)
-        (λ never. have_read fails.proceeds.firsts fails.proceeds.seconds takes)
+        let takes = takes_both s consumes consumes_second fails.proceeds.firsts fails.proceeds.seconds fails.proceeds.gives_firsts fails.proceeds.gives_seconds in
+        ends_with fault new later (fails_both s consumes consumes_second (fault_value fault) later fails)
+        (λ never. have_read takes)
         (none_kept source_a.is_read (below old.first) (view_of new.first).fault (below new.first) (takes.first_taken.takes.goes ∙ none_first))
         (none_kept source_b.is_read (below old.second) (view_of new.second).fault (below new.second) (takes.second_taken.takes.goes ∙ none_second))
 
   pub gave_both : {T : Type 0} (new : SweepRun A B O g) (later : Output) (answer : Result T Fault) → sweep_order new.sweep ≡ order
       → ((firsts : Batch) × (seconds : Batch) × (last_firsts : Batch) × (last_seconds : Batch) × ConsumesGiven source_a old.first firsts last_firsts new.first × ConsumesGiven source_b old.second seconds last_seconds new.second
-      × AdvancesOn Passes HasEnded Passes HasEnded line_in order sweep firsts seconds grown answer (state_of new.sweep) last_firsts last_seconds later) → Leads Given answer new later
-  gave_both {T} new later answer same gives =
-      gave new later gives.0 gives.1 gives.2 gives.3 gives.4 gives.5 answer same
-      (subst (λ (o : Order). AdvancesOn Passes HasEnded Passes HasEnded line_in o sweep gives.0 gives.1 grown answer (state_of new.sweep) gives.2 gives.3 later) s.order_is gives.6)
+      × AdvancesOn batch_cursor batch_cursor order sweep firsts seconds grown answer (state_of new.sweep) last_firsts last_seconds later) → Leads Given answer new later
+  gave_both {T} new later answer same gives = grind (arith, gave)
 
   -- ---- the first input has ended
 
@@ -361,7 +355,7 @@ module _ {A B O : Type 0} {g : Ghosts O} (source_a : Source A) (source_b : Sourc
       → (fault_kept old.second ≡ None → AnswersNoRead answer → HasRead source_b.is_read (below old.second) (below second_now)) → (fault_kept old.second ≡ None → KeepsOwnFault source_b.is_read (below old.second) (view_of second_now))
       → SweepIsOver source_a source_b start out (fault_in answer) (record old { second = second_now }) grown
   finished {T} answer wants second_now reads read own = record {
-    finishes = finishes_both source_a source_b start out s.begun old grown s.sweeps wants {T = T} answer second_now reads;
+    finishes = finishes_both s wants {T = T} answer second_now reads;
     reads = λ never. (s.reads.0, has_read_then source_b.is_read (below start.second) (below old.second) (below second_now) s.reads.1 (read none_second (answers_none answer never)));
     own_first = own_then source_a.is_read (below start.first) (below old.first) (view_of old.first).fault (below old.first) s.reads.0 own_first;
     own_second = own_then source_b.is_read (below start.second) (below old.second) (view_of second_now).fault (below second_now) s.reads.1 (own none_second);

@@ -1,17 +1,18 @@
 -- Lemmas on records that a sweep is given of what two readers have buffered.
-use Rattle.bt_lines.proofs.Std.{◌≡◌, inl, inr, ℕ, suc, true, ◌&&◌, not, List, [], ◌∷◌, ◌++◌, Option, None, Some, Ok, Err, Result, refl, sym, ap, ◌∙◌, subst, append-nil, append_assoc, option_to_list, ForSome, IfSome, IsTrue, option_map, list_all, and_parts, not-true, map-append, Bool, false, filter, length, bytes_eq, ltb, ◌<◌, is_some, false≢true, and_from, lt-ltb}
+use Rattle.bt_lines.proofs.Std.{arith, ◌≡◌, inl, inr, ℕ, suc, true, ◌&&◌, not, List, [], ◌∷◌, ◌++◌, Option, None, Some, Ok, Err, Result, refl, sym, ap, ◌∙◌, subst, append-nil, append_assoc, option_to_list, ForSome, IfSome, IsTrue, option_map, list_all, and_parts, not-true, map-append, Bool, false, filter, length, bytes_eq, ltb, ◌<◌, is_some, false≢true, and_from, lt-ltb}
 use Rattle.bt_lines.specs.declared.device.Source.{Ghosts as Source}
 use Rattle.bt_lines.specs.calls.Output.{Output, FailsToAdd, Grown}
 use Rattle.bt_lines.specs.calls.Reader.{lines_given}
 use Rattle.bt_lines.specs.declared.fault.Fault.{Fault}
-use Rattle.bt_bed.specs.calls.Batch.{HasEnded, Passes as PassesBatch, line_in}
+use Rattle.bt_bed.specs.calls.Batch.{Passes as PassesBatch}
+use Rattle.bt_bed.specs.calls.CursorOf.{batch_cursor}
 use Rattle.bt_bed.specs.calls.SortedReader.{are_in_order, fault_in}
 use Rattle.bt_bed.specs.model.Feature.{Feature, interval_of, intervals_of, last_of}
 use Rattle.bt_bed.specs.model.BedLine.{IsBedKind, fault_at_line}
 use Rattle.bt_bed.specs.model.Good.{Member, bed_format, locus_at, Format}
 use Rattle.bt_bed.specs.model.Sorted.{ArePlaced, IsUpTo, Locus, locus_of, falls_in, sorting_of}
 use Rattle.bt_bed.specs.model.Order.{IsTotal, Order}
-use Rattle.bt_bed.specs.calls.Reading.{ahead_in, first_from, state_behind, AreSaid, MemberReader, members_from}
+use Rattle.bt_bed.specs.calls.Reading.{ahead_in, first_from, state_behind, MemberReader, members_from}
 use Rattle.bt_bed.specs.calls.Records.{below, buffered_in, order_in, view_of, FillsRecords}
 use Rattle.bt_bed.specs.declared.read.batch.Batch.{Batch}
 use Rattle.bt_bed.specs.declared.order.ChromOrder.{Ghosts}
@@ -42,7 +43,7 @@ use Rattle.bt_sweep.proofs.lemmas.definitions.HitLemmas.{none_before, placed_bac
 use Rattle.bt_tool.specs.declared.loops.sweeping.SweepConfig.{SweepConfig}
 use Rattle.bt_tool.specs.declared.loops.sweeping.SweepRun.{SweepRun}
 use Rattle.bt_tool.proofs.lemmas.running.pair.PairTurns.{TakesFurther, settles_seen}
-use Rattle.bt_tool.specs.inside.SweepLoop.{AreBegun, AreWithin, ReadsRest, Sweeps, config_of, records_pair, stage_of, sweep_join, sweep_rounds}
+use Rattle.bt_tool.specs.inside.SweepLoop.{AreWithin, SweepComes, ReadsRest, Sweeps, config_of, records_pair, stage_of, sweep_join, sweep_rounds}
 use Rattle.bt_tool.proofs.lemmas.running.sweep.SweepFacts.{leaves_more, same_config, cuts_at, some_limit, within_given, fits_each, open_last, settles_newly}
 use Rattle.bt_tool.proofs.lemmas.running.members.MemberLemmas.{items_from}
 use Rattle.bt_tool.proofs.lemmas.running.pair.PairStops as stop
@@ -84,7 +85,7 @@ ahead_placed now order is past m total state ahead placed =
 
 -- the records that a sweep took of either batch
 pub passed_both : {T : Type 0} (order : Order) (sweep : Sweeping) (firsts seconds : Batch) (out : Output) (result : Result T Fault) (swept : Sweeping) (last_firsts last_seconds : Batch) (grown : Output)
-    → AdvancesOn PassesBatch HasEnded PassesBatch HasEnded line_in order sweep firsts seconds out result swept last_firsts last_seconds grown
+    → AdvancesOn batch_cursor batch_cursor order sweep firsts seconds out result swept last_firsts last_seconds grown
     → ((records : List Feature) × PassesBatch firsts records last_firsts) × ((records : List Feature) × PassesBatch seconds records last_seconds)
 passed_both order sweep firsts seconds out (Ok done) swept last_firsts last_seconds grown (so, stops) = ((so.proceeds.firsts, so.proceeds.gives_firsts), (so.proceeds.seconds, so.proceeds.gives_seconds))
 passed_both order sweep firsts seconds out (Err fault) swept last_firsts last_seconds grown fails = ((fails.proceeds.firsts, fails.proceeds.gives_firsts), (fails.proceeds.seconds, fails.proceeds.gives_seconds))
@@ -105,7 +106,7 @@ pub record TakesBoth {A B O : Type 0} {g : Ghosts O} (source_a : Source A) (sour
 
 -- what the sweep knows to come next is ahead
 pub seen_then : {S O : Type 0} {g : Ghosts O} (device : Source S) (old new : Records S O g) (first last : Batch) → ConsumesGiven device old first last new → (order : Order) (phase : Phase) (newly seconds : List Feature) (next : Option Feature)
-    → ComesNext PassesBatch last next → Settles order phase newly (seconds ++ option_to_list next) → Settles order phase newly (seconds ++ option_to_list (item_ahead (view_of new)))
+    → ComesNext batch_cursor last next → Settles order phase newly (seconds ++ option_to_list next) → Settles order phase newly (seconds ++ option_to_list (item_ahead (view_of new)))
 seen_then device old new first last consumes order phase newly seconds next comes settles =
     settles_ahead order phase newly seconds next (item_ahead (view_of new)) (next_then device old new first last consumes next comes) settles
 
@@ -163,7 +164,7 @@ item_any m n (x ∷ xs) = refl
 item_same : (m n : ℕ) (xs ys : List Feature) → xs ≡ ys → option_map (λ (m : Member Feature). m.item) (first_from m xs) ≡ option_map (λ m. m.item) (first_from n ys)
 item_same m n xs ys e = item_any m n xs ∙ ap (λ (l : List Feature). option_map (λ (m : Member Feature). m.item) (first_from n l)) e
 
-module _ {A B O : Type 0} {g : Ghosts O} (source_a : Source A) (source_b : Source B) (start : SweepRun A B O g) (out : Output) (begun : AreBegun start.first start.second) where
+module _ {A B O : Type 0} {g : Ghosts O} {source_a : Source A} {source_b : Source B} {start : SweepRun A B O g} {out : Output} {run : SweepRun A B O g} {grown : Output} (c : SweepComes source_a source_b start out run grown) where
   abbrev config : SweepConfig
   config = config_of (state_of start.sweep)
 
@@ -189,25 +190,20 @@ module _ {A B O : Type 0} {g : Ghosts O} (source_a : Source A) (source_b : Sourc
   Ends fault first second grown = PairEnds join pair out fault (view_of first) (view_of second) grown
 
   wrong : (state : Option Locus) (line : TextLine) (kind : Kind) → (view_of old_first).format.says state line ≡ Err kind → IsBedKind order kind
-  wrong = says_bed order (view_of old_first).format begun.is_bed
+  wrong = says_bed order (view_of old_first).format c.begun.is_bed
 
   wrong_bed : (state : Option Locus) (line : TextLine) (kind : Kind) → (view_of old_second).format.says state line ≡ Err kind → IsBedKind order kind
-  wrong_bed state line kind e = subst (λ (o : Order). IsBedKind o kind) begun.same_order (says_bed (order_in old_second) (view_of old_second).format begun.is_bed_second state line kind e)
+  wrong_bed state line kind e = subst (λ (o : Order). IsBedKind o kind) c.begun.same_order (says_bed (order_in old_second) (view_of old_second).format c.begun.is_bed_second state line kind e)
 
   wrong_second : (state : Option Locus) (line : TextLine) (kind : Kind) → (view_of old_second).format.says state line ≡ Err kind → join.second_kinds kind
   wrong_second state line kind e = inl (wrong_bed state line kind e)
 
   -- what was passed of either is in order
   first_placed : (past : List (Member Feature)) (now : MemberReader A Feature (Option Locus)) → Passes source_a (view_of old_first) past now → ArePlaced order (intervals_of (member_items past))
-  first_placed past now p =
-      (said_in_order order (member_items past) begun.total
-      (subst (λ (f : Format Feature (Option Locus)). AreSaid f None (member_items past)) begun.is_bed (subst (λ (s : Option Locus). AreSaid (view_of old_first).format s (member_items past)) begun.none_last p.said))).0
+  first_placed past now p = grind (arith, said_in_order)
 
   second_placed : (past : List (Member Feature)) (now : MemberReader B Feature (Option Locus)) → Passes source_b (view_of old_second) past now → ArePlaced order (intervals_of (member_items past))
-  second_placed past now p =
-      (said_in_order order (member_items past) begun.total
-      (subst (λ (f : Format Feature (Option Locus)). AreSaid f None (member_items past)) (begun.is_bed_second ∙ ap (λ (o : Order). bed_format (sorting_of o)) begun.same_order)
-      (subst (λ (s : Option Locus). AreSaid (view_of old_second).format s (member_items past)) begun.none_last_second p.said))).0
+  second_placed past now p = grind (arith, said_in_order)
 
   -- with the member ahead too many would be held
   limit_case : (fault : FaultValue) (first_now : Records A O g) (second_now : Records B O g) → order_in second_now ≡ order → (later : Stage) (last : Feature) → later.waiting ≡ Some last → later.b_ended ≡ false
@@ -218,12 +214,12 @@ module _ {A B O : Type 0} {g : Ghosts O} (source_a : Source A) (source_b : Sourc
   limit_case fault first_now second_now is_order later last waits going past_first past_second grown comes asks fits m ahead on starts ends known full is =
       let placed = second_placed past_second (view_of second_now) comes.second_passes in
       let state : (view_of second_now).state ≡ state_behind (bed_format (sorting_of order)) None (member_items past_second) =
-      comes.second_passes.state ∙ ap (λ (f : Format Feature (Option Locus)). state_behind f (view_of old_second).state (member_items past_second)) (begun.is_bed_second ∙ ap (λ (o : Order). bed_format (sorting_of o)) begun.same_order)
-      ∙ ap (λ (s : Option Locus). state_behind (bed_format (sorting_of order)) s (member_items past_second)) begun.none_last_second in
-      let with_m = ahead_placed second_now order is_order (member_items past_second) m begun.total state ahead placed in
+      comes.second_passes.state ∙ ap (λ (f : Format Feature (Option Locus)). state_behind f (view_of old_second).state (member_items past_second)) (c.begun.is_bed_second ∙ ap (λ (o : Order). bed_format (sorting_of o)) c.begun.same_order)
+      ∙ ap (λ (s : Option Locus). state_behind (bed_format (sorting_of order)) s (member_items past_second)) c.begun.none_last_second in
+      let with_m = ahead_placed second_now order is_order (member_items past_second) m c.begun.total state ahead placed in
       let items : member_items (past_second ++ m ∷ []) ≡ member_items past_second ++ m.item ∷ [] = map-append (λ m. m.item) past_second (m ∷ []) in
       let undecided : decided order last (member_items (past_second ++ m ∷ [])) ≡ false =
-      ap (decided order last) items ∙ none_before order last (member_items past_second) m.item begun.total known with_m (undecided_beside order begun.total last m.item known on starts) in
+      ap (decided order last) items ∙ none_before order last (member_items past_second) m.item c.begun.total known with_m (undecided_beside order c.begun.total last m.item known on starts) in
       let parts : given later ≡ later.written ++ last ∷ [] = ap (λ (o : Option Feature). later.written ++ option_to_list o) waits in
       let held : is_held last m.item ≡ true = and_from (bytes_eq last.chrom m.item.chrom) (ltb last.start m.item.stop) (name_eq last.chrom m.item.chrom (sym on)) (lt-ltb last.start m.item.stop ends) in
       stop.passes_limit join pair out (stage_of later) past_first past_second (view_of first_now) (view_of second_now) grown comes asks fits last waits m ahead TooManyHeld
@@ -242,356 +238,356 @@ module _ {A B O : Type 0} {g : Ghosts O} (source_a : Source A) (source_b : Sourc
       })).0))
       undecided held (subst (λ (l : List Feature). has_room config.limit (length (filter (is_held last) l)) ≡ false) comes.all_taken full))
 
-  module _ (run : SweepRun A B O g) (grown : Output) (s : Going run.first run.second (state_of run.sweep) grown) where
-    abbrev first : Records A O g
-    first = run.first
+  abbrev s : Going run.first run.second (state_of run.sweep) grown
+  s = c.sweeps
 
-    abbrev second : Records B O g
-    second = run.second
+  abbrev first : Records A O g
+  first = run.first
 
-    abbrev sweep : Sweeping
-    sweep = state_of run.sweep
+  abbrev second : Records B O g
+  second = run.second
 
-    abbrev stage : Stage
-    stage = s.stage
+  abbrev sweep : Sweeping
+  sweep = state_of run.sweep
 
-    placed_given : ArePlaced order (intervals_of (given stage))
-    placed_given = subst (λ (l : List Feature). ArePlaced order (intervals_of l)) (sym s.comes.all_given) (first_placed s.past_first (view_of first) s.comes.first_passes)
+  abbrev stage : Stage
+  stage = s.stage
 
-    placed_taken : ArePlaced order (intervals_of stage.taken)
-    placed_taken = subst (λ (l : List Feature). ArePlaced order (intervals_of l)) (sym s.comes.all_taken) (second_placed s.past_second (view_of second) s.comes.second_passes)
+  placed_given : ArePlaced order (intervals_of (given stage))
+  placed_given = subst (λ (l : List Feature). ArePlaced order (intervals_of l)) (sym s.comes.all_given) (first_placed s.past_first (view_of first) s.comes.first_passes)
 
-    pub in_order : IsInOrder order stage
-    in_order = record { first = placed_given; second = placed_taken }
+  placed_taken : ArePlaced order (intervals_of stage.taken)
+  placed_taken = subst (λ (l : List Feature). ArePlaced order (intervals_of l)) (sym s.comes.all_taken) (second_placed s.past_second (view_of second) s.comes.second_passes)
 
-    -- what it goes by is what it began with
-    by_config : (P : SweepConfig → Type 0) → P (config_of sweep) → P config
-    by_config P p = subst P s.config_is p
+  pub in_order : IsInOrder order stage
+  in_order = record { first = placed_given; second = placed_taken }
 
-    moved : (swept : Sweeping) (next : Stage) → MovesTo order sweep next swept → config_of swept ≡ config
-    moved swept next moves = same_config sweep swept moves.same ∙ s.config_is
+  -- what it goes by is what it began with
+  by_config : (P : SweepConfig → Type 0) → P (config_of sweep) → P config
+  by_config P p = subst P s.config_is p
 
-    abbrev asked : join.Asks (given stage) stage.taken
-    asked = s.stands.holds.reached
+  moved : (swept : Sweeping) (next : Stage) → MovesTo order sweep next swept → config_of swept ≡ config
+  moved swept next moves = same_config sweep swept moves.same ∙ s.config_is
 
-    asks_here : stage.a_ended ≡ false → AsksFor join pair out s.past_first (view_of second)
-    asks_here going = stop.asks_now join pair out (stage_of stage) s.past_first s.past_second (view_of first) (view_of second) grown s.comes asked
+  abbrev asked : join.Asks (given stage) stage.taken
+  asked = s.stands.holds.reached
 
-    -- no more was taken, and the sweep is at another stage
-    goes_on : (first_now : Records A O g) (second_now : Records B O g) (swept : Sweeping) (now : Output) (next : Stage) → StandsAt order next swept → config_of swept ≡ config
-        → Comes join pair out (stage_of next) s.past_first s.past_second (view_of first_now) (view_of second_now) now → order_in first_now ≡ order_in first → order_in second_now ≡ order_in second
-        → (IsKnown pair → AreWithin order config.limit (given next) s.past_second) → Going first_now second_now swept now
-    goes_on first_now second_now swept now next stands config_is comes same same_second fits = record {
-      past_first = s.past_first;
-      past_second = s.past_second;
-      stage = next;
-      stands = stands;
-      config_is = config_is;
-      comes = comes;
-      first_order = same ∙ s.first_order;
-      second_order = same_second ∙ s.second_order;
-      fits = fits;
-    }
+  asks_here : stage.a_ended ≡ false → AsksFor join pair out s.past_first (view_of second)
+  asks_here going = stop.asks_now join pair out (stage_of stage) s.past_first s.past_second (view_of first) (view_of second) grown s.comes asked
 
-    -- ---- a record of the first input is wanted
+  -- no more was taken, and the sweep is at another stage
+  goes_on : (first_now : Records A O g) (second_now : Records B O g) (swept : Sweeping) (now : Output) (next : Stage) → StandsAt order next swept → config_of swept ≡ config
+      → Comes join pair out (stage_of next) s.past_first s.past_second (view_of first_now) (view_of second_now) now → order_in first_now ≡ order_in first → order_in second_now ≡ order_in second
+      → (IsKnown pair → AreWithin order config.limit (given next) s.past_second) → Going first_now second_now swept now
+  goes_on first_now second_now swept now next stands config_is comes same same_second fits = record {
+    past_first = s.past_first;
+    past_second = s.past_second;
+    stage = next;
+    stands = stands;
+    config_is = config_is;
+    comes = comes;
+    first_order = same ∙ s.first_order;
+    second_order = same_second ∙ s.second_order;
+    fits = fits;
+  }
 
-    module _ (wants : want_in sweep ≡ WantA) where
-      pub none_waits : stage.waiting ≡ None
-      none_waits = sym s.stands.current_is ∙ (wants_first sweep.current (is_done sweep.phase) wants).0
+  -- ---- a record of the first input is wanted
 
-      not_ended : stage.a_ended ≡ false
-      not_ended = sym (over_is stage.a_ended stage.b_ended) ∙ ap is_done (sym s.stands.phase_is) ∙ (wants_first sweep.current (is_done sweep.phase) wants).1
+  module _ (wants : want_in sweep ≡ WantA) where
+    pub none_waits : stage.waiting ≡ None
+    none_waits = sym s.stands.current_is ∙ (wants_first sweep.current (is_done sweep.phase) wants).0
 
-      pub fills_first : (first_now : Records A O g) → FillsRecords source_a first (Ok true) first_now → Going first_now second sweep grown
-      fills_first first_now fills =
-          goes_on first_now second sweep grown stage s.stands s.config_is
-          (turned.fills_first join pair out (stage_of stage) s.past_first s.past_second (view_of first) (view_of second) grown s.comes none_waits not_ended (view_of first_now) (is_filled source_a first first_now fills))
-          fills.order refl s.fits
+    not_ended : stage.a_ended ≡ false
+    not_ended = sym (over_is stage.a_ended stage.b_ended) ∙ ap is_done (sym s.stands.phase_is) ∙ (wants_first sweep.current (is_done sweep.phase) wants).1
 
-      pub ends_first : (first_now : Records A O g) (swept : Sweeping) → FillsRecords source_a first (Ok false) first_now
-          → MovesTo order sweep (with_a_ended stage) swept → Going first_now second swept grown
-      ends_first first_now swept fills moves =
-          goes_on first_now second swept grown (with_a_ended stage) moves.stands (moved swept (with_a_ended stage) moves)
-          (turned.ends_first join pair out (stage_of stage) s.past_first s.past_second (view_of first) (view_of second) grown s.comes none_waits not_ended (view_of first_now) (is_over source_a first first_now fills))
-          fills.order refl s.fits
+    pub fills_first : (first_now : Records A O g) → FillsRecords source_a first (Ok true) first_now → Going first_now second sweep grown
+    fills_first first_now fills =
+        goes_on first_now second sweep grown stage s.stands s.config_is
+        (turned.fills_first join pair out (stage_of stage) s.past_first s.past_second (view_of first) (view_of second) grown s.comes none_waits not_ended (view_of first_now) (is_filled source_a first first_now fills))
+        fills.order refl s.fits
 
-      pub stops_first : (fault : Fault) (first_now : Records A O g) → FillsRecords source_a first (Err fault) first_now → Ends (Some (fault_value fault)) first_now second grown
-      stops_first fault first_now fills =
-          stop.stops_first join pair out (stage_of stage) s.past_first s.past_second (view_of first) (view_of second) grown s.comes asks_here s.fits wrong none_waits not_ended (fault_value fault) (view_of first_now)
-          (is_stopped source_a first first_now fault fills)
+    pub ends_first : (first_now : Records A O g) (swept : Sweeping) → FillsRecords source_a first (Ok false) first_now
+        → MovesTo order sweep (with_a_ended stage) swept → Going first_now second swept grown
+    ends_first first_now swept fills moves =
+        goes_on first_now second swept grown (with_a_ended stage) moves.stands (moved swept (with_a_ended stage) moves)
+        (turned.ends_first join pair out (stage_of stage) s.past_first s.past_second (view_of first) (view_of second) grown s.comes none_waits not_ended (view_of first_now) (is_over source_a first first_now fills))
+        fills.order refl s.fits
 
-    -- ---- one of the second is
+    pub stops_first : (fault : Fault) (first_now : Records A O g) → FillsRecords source_a first (Err fault) first_now → Ends (Some (fault_value fault)) first_now second grown
+    stops_first fault first_now fills =
+        stop.stops_first join pair out (stage_of stage) s.past_first s.past_second (view_of first) (view_of second) grown s.comes asks_here s.fits wrong none_waits not_ended (fault_value fault) (view_of first_now)
+        (is_stopped source_a first first_now fault fills)
 
-    module _ (wants : want_in sweep ≡ WantB) where
-      pub waiting : (a : Feature) × (stage.waiting ≡ Some a)
-      waiting = let w = wants_second sweep.current (is_done sweep.phase) wants in (w.0, sym s.stands.current_is ∙ w.1)
+  -- ---- one of the second is
 
-      abbrev a : Feature
-      a = waiting.0
+  module _ (wants : want_in sweep ≡ WantB) where
+    pub waiting : (a : Feature) × (stage.waiting ≡ Some a)
+    waiting = let w = wants_second sweep.current (is_done sweep.phase) wants in (w.0, sym s.stands.current_is ∙ w.1)
 
-      goes : stage.b_ended ≡ false
-      goes = (s.stands.unended (ap is_some waiting.1)).1
+    abbrev a : Feature
+    a = waiting.0
 
-      pub fills_second : (second_now : Records B O g) → FillsRecords source_b second (Ok true) second_now → Going first second_now sweep grown
-      fills_second second_now fills =
-          goes_on first second_now sweep grown stage s.stands s.config_is
-          (turned.fills_second join pair out (stage_of stage) s.past_first s.past_second (view_of first) (view_of second) grown s.comes goes (view_of second_now) (is_filled source_b second second_now fills))
-          refl fills.order s.fits
+    goes : stage.b_ended ≡ false
+    goes = (s.stands.unended (ap is_some waiting.1)).1
 
-      pub ends_second : (second_now : Records B O g) (swept : Sweeping) (now : Output) → FillsRecords source_b second (Ok false) second_now
-          → MovesTo order sweep (with_b_ended stage) swept → Grown grown (lines_for sweep.shape sweep.rule a stage.taken) now → Going first second_now swept now
-      ends_second second_now swept now fills moves adds =
-          goes_on first second_now swept now (with_b_ended stage) moves.stands (moved swept (with_b_ended stage) moves)
-          (turned.ends_waiting join pair out (stage_of stage) s.past_first s.past_second (view_of first) (view_of second) grown s.comes goes (view_of second_now) (is_over source_b second second_now fills) a waiting.1 now
-          (by_config (λ c. Grown grown (lines_for c.shape c.rule a stage.taken) now) adds))
-          refl fills.order (λ known. subst (λ (gs : List Feature). AreWithin order config.limit gs s.past_second) (sym (append-nil (given stage))) (s.fits known))
+    pub fills_second : (second_now : Records B O g) → FillsRecords source_b second (Ok true) second_now → Going first second_now sweep grown
+    fills_second second_now fills =
+        goes_on first second_now sweep grown stage s.stands s.config_is
+        (turned.fills_second join pair out (stage_of stage) s.past_first s.past_second (view_of first) (view_of second) grown s.comes goes (view_of second_now) (is_filled source_b second second_now fills))
+        refl fills.order s.fits
 
-      -- it is undecided where nothing more of the second is buffered
-      opens : IsKnown pair → (view_of second).buffered ≡ [] → decided order a stage.taken ≡ false
-      opens known none =
-          let seen = turned.seen_alone stage.taken (view_of second) none in
-          let all = ((s.comes.settles known).whatever stage.taken (Some no_memory) placed_taken (record { begins = ([], sym (append-nil stage.taken) ∙ ap (λ (l : List Feature). l ++ []) (sym seen)); all = λ e. absurd (false≢true (sym goes ∙ e)) })).0 in
-          let parts : given stage ≡ stage.written ++ a ∷ [] = ap (λ (o : Option Feature). stage.written ++ option_to_list o) waiting.1 in
-          open_last order begun.total stage.taken stage.written a placed_taken (subst (λ (l : List Feature). ArePlaced order (intervals_of l)) parts placed_given) all
-          (subst (λ (l : List Feature). IsTrue (list_all (leaves_some order l) stage.taken)) parts asked)
+    pub ends_second : (second_now : Records B O g) (swept : Sweeping) (now : Output) → FillsRecords source_b second (Ok false) second_now
+        → MovesTo order sweep (with_b_ended stage) swept → Grown grown (lines_for sweep.shape sweep.rule a stage.taken) now → Going first second_now swept now
+    ends_second second_now swept now fills moves adds =
+        goes_on first second_now swept now (with_b_ended stage) moves.stands (moved swept (with_b_ended stage) moves)
+        (turned.ends_waiting join pair out (stage_of stage) s.past_first s.past_second (view_of first) (view_of second) grown s.comes goes (view_of second_now) (is_over source_b second second_now fills) a waiting.1 now
+        (by_config (λ c. Grown grown (lines_for c.shape c.rule a stage.taken) now) adds))
+        refl fills.order (λ known. subst (λ (gs : List Feature). AreWithin order config.limit gs s.past_second) (sym (append-nil (given stage))) (s.fits known))
 
-      pub stops_second : (fault : Fault) (second_now : Records B O g) → FillsRecords source_b second (Err fault) second_now → Ends (Some (fault_value fault)) first second_now grown
-      stops_second fault second_now fills =
-          stop.stops_second join pair out (stage_of stage) s.past_first s.past_second (view_of first) (view_of second) grown s.comes asks_here s.fits a waiting.1 wrong_second asked goes opens (fault_value fault) (view_of second_now)
-          (is_stopped source_b second second_now fault fills)
+    -- it is undecided where nothing more of the second is buffered
+    opens : IsKnown pair → (view_of second).buffered ≡ [] → decided order a stage.taken ≡ false
+    opens known none =
+        let seen = turned.seen_alone stage.taken (view_of second) none in
+        let all = ((s.comes.settles known).whatever stage.taken (Some no_memory) placed_taken (record { begins = ([], sym (append-nil stage.taken) ∙ ap (λ (l : List Feature). l ++ []) (sym seen)); all = λ e. absurd (false≢true (sym goes ∙ e)) })).0 in
+        let parts : given stage ≡ stage.written ++ a ∷ [] = ap (λ (o : Option Feature). stage.written ++ option_to_list o) waiting.1 in
+        open_last order c.begun.total stage.taken stage.written a placed_taken (subst (λ (l : List Feature). ArePlaced order (intervals_of l)) parts placed_given) all
+        (subst (λ (l : List Feature). IsTrue (list_all (leaves_some order l) stage.taken)) parts asked)
 
-      pub fails_at_end : (fault : FaultValue) (second_now : Records B O g) (now : Output) → FillsRecords source_b second (Ok false) second_now → FailsToAdd grown (lines_for sweep.shape sweep.rule a stage.taken) fault now
-          → Ends (Some fault) first second_now now
-      fails_at_end fault second_now now fills fails =
-          stop.fails_at_end join pair out (stage_of stage) s.past_first s.past_second (view_of first) (view_of second) grown s.comes asks_here s.fits a waiting.1 asked goes fault (view_of second_now) now
-          (is_over source_b second second_now fills) (by_config (λ c. FailsToAdd grown (lines_for c.shape c.rule a stage.taken) fault now) fails)
+    pub stops_second : (fault : Fault) (second_now : Records B O g) → FillsRecords source_b second (Err fault) second_now → Ends (Some (fault_value fault)) first second_now grown
+    stops_second fault second_now fills =
+        stop.stops_second join pair out (stage_of stage) s.past_first s.past_second (view_of first) (view_of second) grown s.comes asks_here s.fits a waiting.1 wrong_second asked goes opens (fault_value fault) (view_of second_now)
+        (is_stopped source_b second second_now fault fills)
 
-    -- ---- what both have buffered was given
+    pub fails_at_end : (fault : FaultValue) (second_now : Records B O g) (now : Output) → FillsRecords source_b second (Ok false) second_now → FailsToAdd grown (lines_for sweep.shape sweep.rule a stage.taken) fault now
+        → Ends (Some fault) first second_now now
+    fails_at_end fault second_now now fills fails =
+        stop.fails_at_end join pair out (stage_of stage) s.past_first s.past_second (view_of first) (view_of second) grown s.comes asks_here s.fits a waiting.1 asked goes fault (view_of second_now) now
+        (is_over source_b second second_now fills) (by_config (λ c. FailsToAdd grown (lines_for c.shape c.rule a stage.taken) fault now) fails)
 
-    module _ (first_now : Records A O g) (second_now : Records B O g) (fs ss : List Feature) (takes : TakesBoth source_a source_b first second fs ss first_now second_now) where
-      abbrev more_first : List (Member Feature)
-      more_first = members_from (suc (lines_given (below first))) fs
+  -- ---- what both have buffered was given
 
-      abbrev more_second : List (Member Feature)
-      more_second = members_from (suc (lines_given (below second))) ss
+  module _ {first_now : Records A O g} {second_now : Records B O g} {fs ss : List Feature} (takes : TakesBoth source_a source_b first second fs ss first_now second_now) where
+    abbrev more_first : List (Member Feature)
+    more_first = members_from (suc (lines_given (below first))) fs
 
-      further : TakesFurther source_a (view_of old_first) s.past_first more_first (view_of first) (view_of first_now)
-      further = turned.takes_further source_a (view_of old_first) s.past_first (view_of first) s.comes.first_passes fs (view_of first_now) takes.first_taken
+    abbrev more_second : List (Member Feature)
+    more_second = members_from (suc (lines_given (below second))) ss
 
-      further_second : TakesFurther source_b (view_of old_second) s.past_second more_second (view_of second) (view_of second_now)
-      further_second = turned.takes_further source_b (view_of old_second) s.past_second (view_of second) s.comes.second_passes ss (view_of second_now) takes.second_taken
+    further : TakesFurther source_a (view_of old_first) s.past_first more_first (view_of first) (view_of first_now)
+    further = turned.takes_further source_a (view_of old_first) s.past_first (view_of first) s.comes.first_passes fs (view_of first_now) takes.first_taken
 
-      items_first : member_items more_first ≡ fs
-      items_first = items_from (suc (lines_given (below first))) fs
+    further_second : TakesFurther source_b (view_of old_second) s.past_second more_second (view_of second) (view_of second_now)
+    further_second = turned.takes_further source_b (view_of old_second) s.past_second (view_of second) s.comes.second_passes ss (view_of second_now) takes.second_taken
 
-      items_second : member_items more_second ≡ ss
-      items_second = items_from (suc (lines_given (below second))) ss
+    items_first : member_items more_first ≡ fs
+    items_first = items_from (suc (lines_given (below first))) fs
 
-      given_then : given stage ++ fs ≡ member_items (s.past_first ++ more_first)
-      given_then = ap (λ (l : List Feature). l ++ fs) s.comes.all_given ∙ ap (λ (l : List Feature). member_items s.past_first ++ l) (sym items_first) ∙ sym (map-append (λ m. m.item) s.past_first more_first)
+    items_second : member_items more_second ≡ ss
+    items_second = items_from (suc (lines_given (below second))) ss
 
-      taken_then : stage.taken ++ ss ≡ member_items (s.past_second ++ more_second)
-      taken_then = ap (λ (l : List Feature). l ++ ss) s.comes.all_taken ∙ ap (λ (l : List Feature). member_items s.past_second ++ l) (sym items_second) ∙ sym (map-append (λ m. m.item) s.past_second more_second)
+    given_then : given stage ++ fs ≡ member_items (s.past_first ++ more_first)
+    given_then = ap (λ (l : List Feature). l ++ fs) s.comes.all_given ∙ ap (λ (l : List Feature). member_items s.past_first ++ l) (sym items_first) ∙ sym (map-append (λ m. m.item) s.past_first more_first)
 
-      pub placed_first : ArePlaced order (intervals_of (given stage ++ fs))
-      placed_first = subst (λ (l : List Feature). ArePlaced order (intervals_of l)) (sym given_then) (first_placed (s.past_first ++ more_first) (view_of first_now) further.passes)
+    taken_then : stage.taken ++ ss ≡ member_items (s.past_second ++ more_second)
+    taken_then = ap (λ (l : List Feature). l ++ ss) s.comes.all_taken ∙ ap (λ (l : List Feature). member_items s.past_second ++ l) (sym items_second) ∙ sym (map-append (λ m. m.item) s.past_second more_second)
 
-      pub placed_second : ArePlaced order (intervals_of (stage.taken ++ ss))
-      placed_second = subst (λ (l : List Feature). ArePlaced order (intervals_of l)) (sym taken_then) (second_placed (s.past_second ++ more_second) (view_of second_now) further_second.passes)
+    pub placed_first : ArePlaced order (intervals_of (given stage ++ fs))
+    placed_first = subst (λ (l : List Feature). ArePlaced order (intervals_of l)) (sym given_then) (first_placed (s.past_first ++ more_first) (view_of first_now) further.passes)
 
-      ended_first : stage.a_ended ≡ true → (more_first ≡ []) × ((view_of first_now).buffered ≡ [])
-      ended_first e =
-          let none = turned.both_none fs (view_of first_now).buffered (sym takes.first_taken.takes.buffered ∙ (s.comes.first_all e).2) in
-          (ap (members_from (suc (lines_given (below first)))) none.0, none.1)
+    pub placed_second : ArePlaced order (intervals_of (stage.taken ++ ss))
+    placed_second = subst (λ (l : List Feature). ArePlaced order (intervals_of l)) (sym taken_then) (second_placed (s.past_second ++ more_second) (view_of second_now) further_second.passes)
 
-      none_second : stage.b_ended ≡ true → (ss ≡ []) × ((view_of second_now).buffered ≡ [])
-      none_second e = turned.both_none ss (view_of second_now).buffered (sym takes.second_taken.takes.buffered ∙ (s.comes.second_all e).1)
+    ended_first : stage.a_ended ≡ true → (more_first ≡ []) × ((view_of first_now).buffered ≡ [])
+    ended_first e =
+        let none = turned.both_none fs (view_of first_now).buffered (sym takes.first_taken.takes.buffered ∙ (s.comes.first_all e).2) in
+        (ap (members_from (suc (lines_given (below first)))) none.0, none.1)
 
-      ended_second : stage.b_ended ≡ true → (more_second ≡ []) × ((view_of second_now).buffered ≡ [])
-      ended_second e = let none = none_second e in (ap (members_from (suc (lines_given (below second)))) none.0, none.1)
+    none_second : stage.b_ended ≡ true → (ss ≡ []) × ((view_of second_now).buffered ≡ [])
+    none_second e = turned.both_none ss (view_of second_now).buffered (sym takes.second_taken.takes.buffered ∙ (s.comes.second_all e).1)
 
-      not_ended_with : (m : Member Feature) → ahead_in (view_of second_now) ≡ Some m → (b : Bool) → stage.b_ended ≡ b → b ≡ false
-      not_ended_with m ahead true e =
-          absurd (let apart : None ≡ Some m = sym (ap (λ (l : List Feature). first_from (suc (lines_given (below second_now))) l) (none_second e).1) ∙ ahead in cc)
-      not_ended_with m ahead false e = refl
+    ended_second : stage.b_ended ≡ true → (more_second ≡ []) × ((view_of second_now).buffered ≡ [])
+    ended_second e = let none = none_second e in (ap (members_from (suc (lines_given (below second)))) none.0, none.1)
 
-      -- what is seen of the second input grows
-      seen_by : (b : Bool) → stage.b_ended ≡ b → (xs : List Feature) → ss ≡ xs → SettlesPair join stage.written s.comes.bytes (stage.taken ++ option_to_list (item_ahead (view_of second))) b
-          → SettlesPair join stage.written s.comes.bytes ((stage.taken ++ xs) ++ option_to_list (item_ahead (view_of second_now))) b
-      seen_by true e xs is settles =
-          let none = none_second e in
-          let before = turned.seen_alone stage.taken (view_of second) (s.comes.second_all e).1 in
-          let after = turned.seen_alone (stage.taken ++ xs) (view_of second_now) none.1 ∙ ap (λ (l : List Feature). stage.taken ++ l) (sym is ∙ none.0) ∙ append-nil stage.taken in
-          subst (λ (l : List Feature). SettlesPair join stage.written s.comes.bytes l true) (before ∙ sym after) settles
-      seen_by false e [] is settles =
-          let same : (view_of second).buffered ≡ (view_of second_now).buffered = takes.second_taken.takes.buffered ∙ ap (λ (l : List Feature). l ++ (view_of second_now).buffered) is in
-          subst (λ (l : List Feature). SettlesPair join stage.written s.comes.bytes l false)
-          (ap (λ (o : Option Feature). stage.taken ++ option_to_list o) (item_same (suc (lines_given (below second))) (suc (lines_given (below second_now))) (view_of second).buffered (view_of second_now).buffered same)
-          ∙ ap (λ (l : List Feature). l ++ option_to_list (item_ahead (view_of second_now))) (sym (append-nil stage.taken))) settles
-      seen_by false e (x ∷ xs) is settles =
-          let same : (view_of second).buffered ≡ x ∷ (xs ++ (view_of second_now).buffered) = takes.second_taken.takes.buffered ∙ ap (λ (l : List Feature). l ++ (view_of second_now).buffered) is in
-          let ahead : item_ahead (view_of second) ≡ Some x = item_same (suc (lines_given (below second))) 0 (view_of second).buffered (x ∷ (xs ++ (view_of second_now).buffered)) same in
-          let rest = xs ++ option_to_list (item_ahead (view_of second_now)) in
-          subst (λ (l : List Feature). SettlesPair join stage.written s.comes.bytes l false)
-          (append_assoc stage.taken (x ∷ []) rest ∙ sym (append_assoc stage.taken (x ∷ xs) (option_to_list (item_ahead (view_of second_now)))))
-          (settles_seen join stage.written s.comes.bytes (stage.taken ++ x ∷ []) rest
-          (subst (λ (o : Option Feature). SettlesPair join stage.written s.comes.bytes (stage.taken ++ option_to_list o) false) ahead settles))
+    not_ended_with : (m : Member Feature) → ahead_in (view_of second_now) ≡ Some m → (b : Bool) → stage.b_ended ≡ b → b ≡ false
+    not_ended_with m ahead true e =
+        absurd (let apart : None ≡ Some m = sym (ap (λ (l : List Feature). first_from (suc (lines_given (below second_now))) l) (none_second e).1) ∙ ahead in cc)
+    not_ended_with m ahead false e = refl
 
-      settled_seen : IsKnown pair → SettlesPair join stage.written s.comes.bytes ((stage.taken ++ ss) ++ option_to_list (item_ahead (view_of second_now))) stage.b_ended
-      settled_seen known = seen_by stage.b_ended refl ss refl (s.comes.settles known)
+    -- what is seen of the second input grows
+    seen_by : (b : Bool) → stage.b_ended ≡ b → (xs : List Feature) → ss ≡ xs → SettlesPair join stage.written s.comes.bytes (stage.taken ++ option_to_list (item_ahead (view_of second))) b
+        → SettlesPair join stage.written s.comes.bytes ((stage.taken ++ xs) ++ option_to_list (item_ahead (view_of second_now))) b
+    seen_by true e xs is settles =
+        let none = none_second e in
+        let before = turned.seen_alone stage.taken (view_of second) (s.comes.second_all e).1 in
+        let after = turned.seen_alone (stage.taken ++ xs) (view_of second_now) none.1 ∙ ap (λ (l : List Feature). stage.taken ++ l) (sym is ∙ none.0) ∙ append-nil stage.taken in
+        subst (λ (l : List Feature). SettlesPair join stage.written s.comes.bytes l true) (before ∙ sym after) settles
+    seen_by false e [] is settles =
+        let same : (view_of second).buffered ≡ (view_of second_now).buffered = takes.second_taken.takes.buffered ∙ ap (λ (l : List Feature). l ++ (view_of second_now).buffered) is in
+        subst (λ (l : List Feature). SettlesPair join stage.written s.comes.bytes l false)
+        (ap (λ (o : Option Feature). stage.taken ++ option_to_list o) (item_same (suc (lines_given (below second))) (suc (lines_given (below second_now))) (view_of second).buffered (view_of second_now).buffered same)
+        ∙ ap (λ (l : List Feature). l ++ option_to_list (item_ahead (view_of second_now))) (sym (append-nil stage.taken))) settles
+    seen_by false e (x ∷ xs) is settles =
+        let same : (view_of second).buffered ≡ x ∷ (xs ++ (view_of second_now).buffered) = takes.second_taken.takes.buffered ∙ ap (λ (l : List Feature). l ++ (view_of second_now).buffered) is in
+        let ahead : item_ahead (view_of second) ≡ Some x = item_same (suc (lines_given (below second))) 0 (view_of second).buffered (x ∷ (xs ++ (view_of second_now).buffered)) same in
+        let rest = xs ++ option_to_list (item_ahead (view_of second_now)) in
+        subst (λ (l : List Feature). SettlesPair join stage.written s.comes.bytes l false)
+        (append_assoc stage.taken (x ∷ []) rest ∙ sym (append_assoc stage.taken (x ∷ xs) (option_to_list (item_ahead (view_of second_now)))))
+        (settles_seen join stage.written s.comes.bytes (stage.taken ++ x ∷ []) rest
+        (subst (λ (o : Option Feature). SettlesPair join stage.written s.comes.bytes (stage.taken ++ option_to_list o) false) ahead settles))
 
-      ends_then : sweep.phase ≡ First → (stage.b_ended ≡ true) × (item_ahead (view_of second_now) ≡ None)
-      ends_then first_is_left =
-          let e = first_is stage.a_ended stage.b_ended (sym s.stands.phase_is ∙ first_is_left) in
-          (e, ap (λ (l : List Feature). option_map (λ m. m.item) (first_from (suc (lines_given (below second_now))) l)) (none_second e).1)
+    settled_seen : IsKnown pair → SettlesPair join stage.written s.comes.bytes ((stage.taken ++ ss) ++ option_to_list (item_ahead (view_of second_now))) stage.b_ended
+    settled_seen known = seen_by stage.b_ended refl ss refl (s.comes.settles known)
 
-      -- so far are the lines of some more settled
-      settled_more : (written newly : List Feature) (bytes : List ℕ) → ArePlaced order (intervals_of newly) → Settles order sweep.phase newly (ss ++ option_to_list (item_ahead (view_of second_now)))
-          → SettlesPair join written bytes ((stage.taken ++ ss) ++ option_to_list (item_ahead (view_of second_now))) stage.b_ended
-          → SettlesPair join (written ++ newly) (bytes ++ intersect config.shape config.rule newly (stage.taken ++ ss)) ((stage.taken ++ ss) ++ option_to_list (item_ahead (view_of second_now))) stage.b_ended
-      settled_more written newly bytes placed each settles =
-          settles_newly order begun.total config written newly bytes (stage.taken ++ ss) (item_ahead (view_of second_now)) stage.b_ended sweep.phase settles placed ends_then ss stage.taken refl each
+    ends_then : sweep.phase ≡ First → (stage.b_ended ≡ true) × (item_ahead (view_of second_now) ≡ None)
+    ends_then first_is_left = grind (arith, first_is, option_map, none_second)
 
-      -- the limit lies as far
-      decided_first : IsKnown pair → (b : Feature) (more : List Feature) → ss ≡ b ∷ more → AreDecided order stage.written (stage.taken ++ b ∷ [])
-      decided_first known b more is =
-          let same : (view_of second).buffered ≡ b ∷ (more ++ (view_of second_now).buffered) = takes.second_taken.takes.buffered ∙ ap (λ (l : List Feature). l ++ (view_of second_now).buffered) is in
-          let ahead : item_ahead (view_of second) ≡ Some b = item_same (suc (lines_given (below second))) 0 (view_of second).buffered (b ∷ (more ++ (view_of second_now).buffered)) same in
-          let front = front_placed order (stage.taken ++ b ∷ []) more (subst (λ (l : List Feature). ArePlaced order (intervals_of l)) (ap (λ (l : List Feature). stage.taken ++ l) is ∙ sym (append_assoc stage.taken (b ∷ []) more)) placed_second) in
-          ((s.comes.settles known).whatever (stage.taken ++ b ∷ []) (Some no_memory) front
-          (record { begins = ([], sym (append-nil (stage.taken ++ b ∷ [])) ∙ ap (λ (o : Option Feature). (stage.taken ++ option_to_list o) ++ []) (sym ahead)); all = λ e. absurd (let none : b ∷ more ≡ [] = sym is ∙ (none_second e).0 in cc) })).0
+    -- so far are the lines of some more settled
+    settled_more : (written newly : List Feature) (bytes : List ℕ) → ArePlaced order (intervals_of newly) → Settles order sweep.phase newly (ss ++ option_to_list (item_ahead (view_of second_now)))
+        → SettlesPair join written bytes ((stage.taken ++ ss) ++ option_to_list (item_ahead (view_of second_now))) stage.b_ended
+        → SettlesPair join (written ++ newly) (bytes ++ intersect config.shape config.rule newly (stage.taken ++ ss)) ((stage.taken ++ ss) ++ option_to_list (item_ahead (view_of second_now))) stage.b_ended
+    settled_more written newly bytes placed each settles =
+        settles_newly order c.begun.total config written newly bytes (stage.taken ++ ss) (item_ahead (view_of second_now)) stage.b_ended sweep.phase settles placed ends_then ss stage.taken refl each
 
-      module _ (newly : List Feature) (w : Option Feature) (are : option_to_list sweep.current ++ fs ≡ newly ++ option_to_list w) where
-        abbrev later : Stage
-        later = stage_after stage newly w ss
+    -- the limit lies as far
+    decided_first : IsKnown pair → (b : Feature) (more : List Feature) → ss ≡ b ∷ more → AreDecided order stage.written (stage.taken ++ b ∷ [])
+    decided_first known b more is =
+        let same : (view_of second).buffered ≡ b ∷ (more ++ (view_of second_now).buffered) = takes.second_taken.takes.buffered ∙ ap (λ (l : List Feature). l ++ (view_of second_now).buffered) is in
+        let ahead : item_ahead (view_of second) ≡ Some b = item_same (suc (lines_given (below second))) 0 (view_of second).buffered (b ∷ (more ++ (view_of second_now).buffered)) same in
+        let front = front_placed order (stage.taken ++ b ∷ []) more (subst (λ (l : List Feature). ArePlaced order (intervals_of l)) (ap (λ (l : List Feature). stage.taken ++ l) is ∙ sym (append_assoc stage.taken (b ∷ []) more)) placed_second) in
+        ((s.comes.settles known).whatever (stage.taken ++ b ∷ []) (Some no_memory) front
+        (record { begins = ([], sym (append-nil (stage.taken ++ b ∷ [])) ∙ ap (λ (o : Option Feature). (stage.taken ++ option_to_list o) ++ []) (sym ahead)); all = λ e. absurd (let none : b ∷ more ≡ [] = sym is ∙ (none_second e).0 in cc) })).0
 
-        parts : option_to_list stage.waiting ++ fs ≡ newly ++ option_to_list w
-        parts = ap (λ (o : Option Feature). option_to_list o ++ fs) (sym s.stands.current_is) ∙ are
+    module _ (newly : List Feature) (w : Option Feature) (are : option_to_list sweep.current ++ fs ≡ newly ++ option_to_list w) where
+      abbrev later : Stage
+      later = stage_after stage newly w ss
 
-        given_later : given later ≡ given stage ++ fs
-        given_later = append_assoc stage.written newly (option_to_list w) ∙ ap (λ (l : List Feature). stage.written ++ l) (sym parts) ∙ sym (append_assoc stage.written (option_to_list stage.waiting) fs)
+      parts : option_to_list stage.waiting ++ fs ≡ newly ++ option_to_list w
+      parts = ap (λ (o : Option Feature). option_to_list o ++ fs) (sym s.stands.current_is) ∙ are
 
-        newly_placed : ArePlaced order (intervals_of newly)
-        newly_placed =
-            placed_back order stage.written newly
-            (front_placed order (stage.written ++ newly) (option_to_list w) (subst (λ (l : List Feature). ArePlaced order (intervals_of l)) (sym given_later) placed_first))
+      given_later : given later ≡ given stage ++ fs
+      given_later = append_assoc stage.written newly (option_to_list w) ∙ ap (λ (l : List Feature). stage.written ++ l) (sym parts) ∙ sym (append_assoc stage.written (option_to_list stage.waiting) fs)
 
-        fits_later : TakenEach order config.limit (option_to_list sweep.current ++ fs) stage.taken ss → IsKnown pair → AreWithin order config.limit (given later) (s.past_second ++ more_second)
-        fits_later each known =
-            let whole : stage.written ++ (option_to_list stage.waiting ++ fs) ≡ given stage ++ fs = sym (append_assoc stage.written (option_to_list stage.waiting) fs) in
-            subst (λ (l : List Feature). AreWithin order config.limit l (s.past_second ++ more_second)) (whole ∙ sym given_later)
-            (fits_each order begun.total config.limit stage.written (option_to_list stage.waiting ++ fs) (subst (λ (l : List Feature). ArePlaced order (intervals_of l)) (sym whole) placed_first) (suc (lines_given (below second))) ss stage.taken s.past_second
-            (sym s.comes.all_taken) placed_second (decided_first known) (subst (λ (o : Option Feature). TakenEach order config.limit (option_to_list o ++ fs) stage.taken ss) s.stands.current_is each)
-            (subst (λ (l : List Feature). AreWithin order config.limit l s.past_second) (sym whole) (within_given order config.limit (given stage) fs s.past_second (s.fits known))))
+      newly_placed : ArePlaced order (intervals_of newly)
+      newly_placed =
+          placed_back order stage.written newly
+          (front_placed order (stage.written ++ newly) (option_to_list w) (subst (λ (l : List Feature). ArePlaced order (intervals_of l)) (sym given_later) placed_first))
 
-        -- the lines of some more, which are settled then, weren't all written
-        cuts_later : TakenEach order config.limit (option_to_list sweep.current ++ fs) stage.taken ss → Settles order sweep.phase newly (ss ++ option_to_list (item_ahead (view_of second_now)))
-            → (fault : FaultValue) (now : Output) → FailsToAdd grown (intersect config.shape config.rule newly (stage.taken ++ ss)) fault now → Ends (Some fault) first_now second_now now
-        cuts_later each settles fault now fails =
-            let items : given later ≡ given stage ++ member_items more_first = given_later ∙ ap (λ (l : List Feature). given stage ++ l) (sym items_first) in
-            stop.fails_to_write join pair out (stage_of stage) s.past_first s.past_second (view_of first) (view_of second) grown s.comes asks_here s.fits more_first more_second (view_of first_now) (view_of second_now) further further_second
-            (stage.written ++ newly) (option_to_list w) items
-            (λ known. subst (λ (l : List Feature). AreWithin order config.limit l (s.past_second ++ more_second)) items (fits_later each known))
-            ended_second [] (intersect config.shape config.rule newly (stage.taken ++ ss))
-            (λ known. subst (λ (l : List Feature). SettlesPair join (stage.written ++ newly) (s.comes.bytes ++ intersect config.shape config.rule newly (stage.taken ++ ss)) ((stage.taken ++ l) ++ option_to_list (item_ahead (view_of second_now))) stage.b_ended) (sym items_second)
-            (settled_more stage.written newly s.comes.bytes newly_placed settles (settled_seen known)))
-            grown now fault (grown_none grown) fails
+      fits_later : TakenEach order config.limit (option_to_list sweep.current ++ fs) stage.taken ss → IsKnown pair → AreWithin order config.limit (given later) (s.past_second ++ more_second)
+      fits_later each known =
+          let whole : stage.written ++ (option_to_list stage.waiting ++ fs) ≡ given stage ++ fs = sym (append_assoc stage.written (option_to_list stage.waiting) fs) in
+          subst (λ (l : List Feature). AreWithin order config.limit l (s.past_second ++ more_second)) (whole ∙ sym given_later)
+          (fits_each order c.begun.total config.limit stage.written (option_to_list stage.waiting ++ fs) (subst (λ (l : List Feature). ArePlaced order (intervals_of l)) (sym whole) placed_first) (suc (lines_given (below second))) ss stage.taken s.past_second
+          (sym s.comes.all_taken) placed_second (decided_first known) (subst (λ (o : Option Feature). TakenEach order config.limit (option_to_list o ++ fs) stage.taken ss) s.stands.current_is each)
+          (subst (λ (l : List Feature). AreWithin order config.limit l s.past_second) (sym whole) (within_given order config.limit (given stage) fs s.past_second (s.fits known))))
 
-        module _ (each : Settles order sweep.phase newly (ss ++ option_to_list (item_ahead (view_of second_now)))) (now : Output) (puts : PutsEach order sweep fs ss newly grown now) where
-          comes_later : Comes join pair out (stage_of later) (s.past_first ++ more_first) (s.past_second ++ more_second) (view_of first_now) (view_of second_now) now
-          comes_later =
-              turned.goes_on join pair out (stage_of stage) s.past_first s.past_second (view_of first) (view_of second) grown s.comes more_first more_second (view_of first_now) (view_of second_now) further further_second ended_first ended_second newly (stage_of later)
-              (record { given_is = given_later ∙ ap (λ (l : List Feature). given stage ++ l) (sym items_first); written_is = refl; taken_is = ap (λ (l : List Feature). stage.taken ++ l) (sym items_second); first_is = refl; second_is = refl })
-              (intersect config.shape config.rule newly (stage.taken ++ ss)) now (λ known. settled_more stage.written newly s.comes.bytes newly_placed each (settled_seen known))
-              (by_config (λ c. Grown grown (intersect c.shape c.rule newly (stage.taken ++ ss)) now) (puts stage s.stands placed_first placed_second))
+      -- the lines of some more, which are settled then, weren't all written
+      cuts_later : TakenEach order config.limit (option_to_list sweep.current ++ fs) stage.taken ss → Settles order sweep.phase newly (ss ++ option_to_list (item_ahead (view_of second_now)))
+          → (fault : FaultValue) (now : Output) → FailsToAdd grown (intersect config.shape config.rule newly (stage.taken ++ ss)) fault now → Ends (Some fault) first_now second_now now
+      cuts_later each settles fault now fails =
+          let items : given later ≡ given stage ++ member_items more_first = given_later ∙ ap (λ (l : List Feature). given stage ++ l) (sym items_first) in
+          stop.fails_to_write join pair out (stage_of stage) s.past_first s.past_second (view_of first) (view_of second) grown s.comes asks_here s.fits more_first more_second (view_of first_now) (view_of second_now) further further_second
+          (stage.written ++ newly) (option_to_list w) items
+          (λ known. subst (λ (l : List Feature). AreWithin order config.limit l (s.past_second ++ more_second)) items (fits_later each known))
+          ended_second [] (intersect config.shape config.rule newly (stage.taken ++ ss))
+          (λ known. subst (λ (l : List Feature). SettlesPair join (stage.written ++ newly) (s.comes.bytes ++ intersect config.shape config.rule newly (stage.taken ++ ss)) ((stage.taken ++ l) ++ option_to_list (item_ahead (view_of second_now))) stage.b_ended) (sym items_second)
+          (settled_more stage.written newly s.comes.bytes newly_placed settles (settled_seen known)))
+          grown now fault (grown_none grown) fails
 
-    module _ (first_now : Records A O g) (second_now : Records B O g) (firsts seconds last_firsts last_seconds : Batch)
-        (consumes : ConsumesGiven source_a first firsts last_firsts first_now) (consumes_second : ConsumesGiven source_b second seconds last_seconds second_now) where
-      pub takes_both : (fs ss : List Feature) → PassesBatch firsts fs last_firsts → PassesBatch seconds ss last_seconds → TakesBoth source_a source_b first second fs ss first_now second_now
-      takes_both fs ss passes passes_second =
-          record { first_taken = consumes.takes fs passes; second_taken = consumes_second.takes ss passes_second; first_order = consumes.order; second_order = consumes_second.order }
+      module _ (each : Settles order sweep.phase newly (ss ++ option_to_list (item_ahead (view_of second_now)))) (now : Output) (puts : PutsEach order sweep fs ss newly grown now) where
+        comes_later : Comes join pair out (stage_of later) (s.past_first ++ more_first) (s.past_second ++ more_second) (view_of first_now) (view_of second_now) now
+        comes_later =
+            turned.goes_on join pair out (stage_of stage) s.past_first s.past_second (view_of first) (view_of second) grown s.comes more_first more_second (view_of first_now) (view_of second_now) further further_second ended_first ended_second newly (stage_of later)
+            (record { given_is = given_later ∙ ap (λ (l : List Feature). given stage ++ l) (sym items_first); written_is = refl; taken_is = ap (λ (l : List Feature). stage.taken ++ l) (sym items_second); first_is = refl; second_is = refl })
+            (intersect config.shape config.rule newly (stage.taken ++ ss)) now (λ known. settled_more stage.written newly s.comes.bytes newly_placed each (settled_seen known))
+            (by_config (λ c. Grown grown (intersect c.shape c.rule newly (stage.taken ++ ss)) now) (puts stage s.stands placed_first placed_second))
 
-      seen : (newly ss : List Feature) (next : Option Feature) → ComesNext PassesBatch last_seconds next → Settles order sweep.phase newly (ss ++ option_to_list next) → Settles order sweep.phase newly (ss ++ option_to_list (item_ahead (view_of second_now)))
-      seen = seen_then source_b second second_now seconds last_seconds consumes_second order sweep.phase
+  module _ {first_now : Records A O g} {second_now : Records B O g} {firsts seconds last_firsts last_seconds : Batch}
+      (consumes : ConsumesGiven source_a first firsts last_firsts first_now) (consumes_second : ConsumesGiven source_b second seconds last_seconds second_now) where
+    pub takes_both : (fs ss : List Feature) → PassesBatch firsts fs last_firsts → PassesBatch seconds ss last_seconds → TakesBoth source_a source_b first second fs ss first_now second_now
+    takes_both fs ss passes passes_second =
+        record { first_taken = consumes.takes fs passes; second_taken = consumes_second.takes ss passes_second; first_order = consumes.order; second_order = consumes_second.order }
 
-      -- it went on
-      pub goes_both : (swept : Sweeping) (now : Output) → AdvancesSo PassesBatch HasEnded PassesBatch HasEnded line_in order sweep firsts seconds grown swept last_firsts last_seconds now → Going first_now second_now swept now
-      goes_both swept now gives =
-          let fs = gives.proceeds.firsts in
-          let ss = gives.proceeds.seconds in
-          let takes = takes_both fs ss gives.proceeds.gives_firsts gives.proceeds.gives_seconds in
-          let placed = placed_first first_now second_now fs ss takes in
-          let placed_taken = placed_second first_now second_now fs ss takes in
-          let moves = gives.stands stage s.stands placed placed_taken in
-          record {
-            past_first = s.past_first ++ members_from (suc (lines_given (below first))) fs;
-            past_second = s.past_second ++ members_from (suc (lines_given (below second))) ss;
-            stage = stage_after stage gives.proceeds.newly swept.current ss;
-            stands = moves.stands;
-            config_is = moved swept (stage_after stage gives.proceeds.newly swept.current ss) moves;
-            comes = comes_later first_now second_now fs ss takes gives.proceeds.newly swept.current gives.proceeds.are (seen gives.proceeds.newly ss gives.proceeds.next gives.proceeds.comes gives.proceeds.settles) now gives.puts;
-            first_order = takes.first_order ∙ s.first_order;
-            second_order = takes.second_order ∙ s.second_order;
-            fits = fits_later first_now second_now fs ss takes gives.proceeds.newly swept.current gives.proceeds.are
-                (by_config (λ c. TakenEach order c.limit (option_to_list sweep.current ++ fs) stage.taken ss) (gives.proceeds.each stage s.stands placed placed_taken));
-          }
+    seen : (newly ss : List Feature) (next : Option Feature) → ComesNext batch_cursor last_seconds next → Settles order sweep.phase newly (ss ++ option_to_list next) → Settles order sweep.phase newly (ss ++ option_to_list (item_ahead (view_of second_now)))
+    seen = seen_then source_b second second_now seconds last_seconds consumes_second order sweep.phase
 
-      -- it failed at one of the first
-      pub fails_both : (fault : FaultValue) (now : Output) → FailsAt PassesBatch HasEnded PassesBatch HasEnded line_in order sweep firsts seconds grown fault last_firsts last_seconds now → Ends (Some fault) first_now second_now now
-      fails_both fault now fails =
-          let fs = fails.proceeds.firsts in
-          let ss = fails.proceeds.seconds in
-          let takes = takes_both fs ss fails.proceeds.gives_firsts fails.proceeds.gives_seconds in
-          let settles = seen fails.proceeds.newly ss fails.proceeds.next fails.proceeds.comes fails.proceeds.settles in
-          let placed = placed_first first_now second_now fs ss takes in
-          let placed_taken = placed_second first_now second_now fs ss takes in
-          let each = by_config (λ c. TakenEach order c.limit (option_to_list sweep.current ++ fs) stage.taken ss) (fails.proceeds.each stage s.stands placed placed_taken) in
-          let past_first = s.past_first ++ members_from (suc (lines_given (below first))) fs in
-          let past_second = s.past_second ++ members_from (suc (lines_given (below second))) ss in
-          let asks : stage.a_ended ≡ false → AsksFor join pair out past_first (view_of second_now) =
-          λ going. stop.asks_then join pair out (stage_of stage) s.past_first s.past_second (view_of first) (view_of second) grown s.comes asked (λ more asks. leaves_more order (given stage) more stage.taken asks)
-          (members_from (suc (lines_given (below first))) fs) (members_from (suc (lines_given (below second))) ss) (view_of second_now) (further_second first_now second_now fs ss takes) in
-          elim fails.cause [
-            | inl write ↦ cuts_later first_now second_now fs ss takes fails.proceeds.newly fails.waiting fails.proceeds.are each settles fault now
-                (by_config (λ c. FailsToAdd grown (intersect c.shape c.rule fails.proceeds.newly (stage.taken ++ ss)) fault now) (write stage s.stands placed placed_taken))
-            | inr others ↦ elim others [
-              | inl lack ↦
-                  let last = lack.shares.last in
-                  let m : Member Feature = record { line = suc (lines_given (below second_now)); item = lack.shares.b } in
-                  let ahead = first_then source_b second second_now seconds last_seconds consumes_second lack.shares.b lack.shares.after lack.shares.gives in
-                  let are = fails.proceeds.are ∙ ap (λ (o : Option Feature). fails.proceeds.newly ++ option_to_list o) lack.shares.waits in
-                  let comes = comes_later first_now second_now fs ss takes fails.proceeds.newly (Some last) are settles now lack.puts in
-                  let fits = fits_later first_now second_now fs ss takes fails.proceeds.newly (Some last) are each in
-                  let placed_last = placed_back order (stage.written ++ fails.proceeds.newly) (last ∷ []) (subst (λ (l : List Feature). ArePlaced order (intervals_of l)) (sym (given_later first_now second_now fs ss takes fails.proceeds.newly (Some last) are)) placed) in
-                  let lacks = subst (λ (n : ℕ). CannotBeHeld sweep.limit last (stage.taken ++ ss) n fault) (line_then source_b second second_now seconds last_seconds consumes_second lack.shares.b lack.shares.after lack.shares.gives) (lack.lacks stage s.stands placed placed_taken) in
-                  elim (by_config (λ c. CannotBeHeld c.limit last (stage.taken ++ ss) m.line fault) lacks) [
-                    | inl full ↦
-                        limit_case fault first_now second_now (takes.second_order ∙ s.second_order ∙ begun.same_order) (stage_after stage fails.proceeds.newly (Some last) ss) last refl
-                        (not_ended_with first_now second_now fs ss takes m ahead stage.b_ended refl) past_first past_second now comes asks fits m ahead lack.shares.chrom lack.shares.starts lack.shares.ends placed_last.0 full.0 full.1
-                    | inr ran ↦ stop.lacks_memory join pair out (stage_of (stage_after stage fails.proceeds.newly (Some last) ss)) past_first past_second (view_of first_now) (view_of second_now) now comes asks fits fault ran.1
-                  ]
-              | inr keep ↦
-                  let are = fails.proceeds.are ∙ ap (λ (o : Option Feature). fails.proceeds.newly ++ option_to_list o) keep.waits in
-                  let comes = comes_later first_now second_now fs ss takes fails.proceeds.newly (Some keep.last) are settles now keep.puts in
-                  let fits = fits_later first_now second_now fs ss takes fails.proceeds.newly (Some keep.last) are each in
-                  stop.lacks_memory join pair out (stage_of (stage_after stage fails.proceeds.newly (Some keep.last) ss)) past_first past_second (view_of first_now) (view_of second_now) now comes asks fits fault keep.is
-            ]
+    -- it went on
+    pub goes_both : (swept : Sweeping) (now : Output) → AdvancesSo batch_cursor batch_cursor order sweep firsts seconds grown swept last_firsts last_seconds now → Going first_now second_now swept now
+    goes_both swept now gives =
+        let fs = gives.proceeds.firsts in
+        let ss = gives.proceeds.seconds in
+        let takes = takes_both fs ss gives.proceeds.gives_firsts gives.proceeds.gives_seconds in
+        let placed = placed_first takes in
+        let placed_taken = placed_second takes in
+        let moves = gives.stands stage s.stands placed placed_taken in
+        record {
+          past_first = s.past_first ++ members_from (suc (lines_given (below first))) fs;
+          past_second = s.past_second ++ members_from (suc (lines_given (below second))) ss;
+          stage = stage_after stage gives.proceeds.newly swept.current ss;
+          stands = moves.stands;
+          config_is = moved swept (stage_after stage gives.proceeds.newly swept.current ss) moves;
+          comes = comes_later takes gives.proceeds.newly swept.current gives.proceeds.are (seen gives.proceeds.newly ss gives.proceeds.next gives.proceeds.comes gives.proceeds.settles) now gives.puts;
+          first_order = takes.first_order ∙ s.first_order;
+          second_order = takes.second_order ∙ s.second_order;
+          fits = fits_later takes gives.proceeds.newly swept.current gives.proceeds.are
+              (by_config (λ c. TakenEach order c.limit (option_to_list sweep.current ++ fs) stage.taken ss) (gives.proceeds.each stage s.stands placed placed_taken));
+        }
+
+    -- it failed at one of the first
+    pub fails_both : (fault : FaultValue) (now : Output) → FailsAt batch_cursor batch_cursor order sweep firsts seconds grown fault last_firsts last_seconds now → Ends (Some fault) first_now second_now now
+    fails_both fault now fails =
+        let fs = fails.proceeds.firsts in
+        let ss = fails.proceeds.seconds in
+        let takes = takes_both fs ss fails.proceeds.gives_firsts fails.proceeds.gives_seconds in
+        let settles = seen fails.proceeds.newly ss fails.proceeds.next fails.proceeds.comes fails.proceeds.settles in
+        let placed = placed_first takes in
+        let placed_taken = placed_second takes in
+        let each = by_config (λ c. TakenEach order c.limit (option_to_list sweep.current ++ fs) stage.taken ss) (fails.proceeds.each stage s.stands placed placed_taken) in
+        let past_first = s.past_first ++ members_from (suc (lines_given (below first))) fs in
+        let past_second = s.past_second ++ members_from (suc (lines_given (below second))) ss in
+        let asks : stage.a_ended ≡ false → AsksFor join pair out past_first (view_of second_now) =
+        λ going. stop.asks_then join pair out (stage_of stage) s.past_first s.past_second (view_of first) (view_of second) grown s.comes asked (λ more asks. leaves_more order (given stage) more stage.taken asks)
+        (members_from (suc (lines_given (below first))) fs) (members_from (suc (lines_given (below second))) ss) (view_of second_now) (further_second takes) in
+        elim fails.cause [
+          | inl write ↦ cuts_later takes fails.proceeds.newly fails.waiting fails.proceeds.are each settles fault now
+              (by_config (λ c. FailsToAdd grown (intersect c.shape c.rule fails.proceeds.newly (stage.taken ++ ss)) fault now) (write stage s.stands placed placed_taken))
+          | inr others ↦ elim others [
+            | inl lack ↦
+                let last = lack.shares.last in
+                let m : Member Feature = record { line = suc (lines_given (below second_now)); item = lack.shares.b } in
+                let ahead = first_then source_b second second_now seconds last_seconds consumes_second lack.shares.b lack.shares.after lack.shares.gives in
+                let are = fails.proceeds.are ∙ ap (λ (o : Option Feature). fails.proceeds.newly ++ option_to_list o) lack.shares.waits in
+                let comes = comes_later takes fails.proceeds.newly (Some last) are settles now lack.puts in
+                let fits = fits_later takes fails.proceeds.newly (Some last) are each in
+                let placed_last = placed_back order (stage.written ++ fails.proceeds.newly) (last ∷ []) (subst (λ (l : List Feature). ArePlaced order (intervals_of l)) (sym (given_later takes fails.proceeds.newly (Some last) are)) placed) in
+                let lacks = subst (λ (n : ℕ). CannotBeHeld sweep.limit last (stage.taken ++ ss) n fault) (line_then source_b second second_now seconds last_seconds consumes_second lack.shares.b lack.shares.after lack.shares.gives) (lack.lacks stage s.stands placed placed_taken) in
+                elim (by_config (λ c. CannotBeHeld c.limit last (stage.taken ++ ss) m.line fault) lacks) [
+                  | inl full ↦
+                      limit_case fault first_now second_now (takes.second_order ∙ s.second_order ∙ c.begun.same_order) (stage_after stage fails.proceeds.newly (Some last) ss) last refl
+                      (not_ended_with takes m ahead stage.b_ended refl) past_first past_second now comes asks fits m ahead lack.shares.chrom lack.shares.starts lack.shares.ends placed_last.0 full.0 full.1
+                  | inr ran ↦ stop.lacks_memory join pair out (stage_of (stage_after stage fails.proceeds.newly (Some last) ss)) past_first past_second (view_of first_now) (view_of second_now) now comes asks fits fault ran.1
+                ]
+            | inr keep ↦
+                let are = fails.proceeds.are ∙ ap (λ (o : Option Feature). fails.proceeds.newly ++ option_to_list o) keep.waits in
+                let comes = comes_later takes fails.proceeds.newly (Some keep.last) are settles now keep.puts in
+                let fits = fits_later takes fails.proceeds.newly (Some keep.last) are each in
+                stop.lacks_memory join pair out (stage_of (stage_after stage fails.proceeds.newly (Some keep.last) ss)) past_first past_second (view_of first_now) (view_of second_now) now comes asks fits fault keep.is
           ]
+        ]
 
-    -- ---- the first input has ended, and the second was read to its end
+  -- ---- the first input has ended, and the second was read to its end
 
-    module _ (wants : want_in sweep ≡ Nothing) where
-      done : stage.a_ended ≡ true
-      done = sym (over_is stage.a_ended stage.b_ended) ∙ ap is_done (sym s.stands.phase_is) ∙ (wants_nothing sweep.current (is_done sweep.phase) wants).0
+  module _ (wants : want_in sweep ≡ Nothing) where
+    done : stage.a_ended ≡ true
+    done = sym (over_is stage.a_ended stage.b_ended) ∙ ap is_done (sym s.stands.phase_is) ∙ (wants_nothing sweep.current (is_done sweep.phase) wants).0
 
-      pub finishes_both : {T : Type 0} (result : Result T Fault) (second_now : Records B O g) → ReadsRest source_b (IsBedKind (order_in second)) (view_of second) result (view_of second_now)
-          → Ends (fault_in result) first second_now grown
-      finishes_both {T} (Ok unit) second_now reads =
-          let checks = subst (λ (o : Order). ReadsRest {T = T} source_b (IsBedKind o) (view_of second) (Ok unit) (view_of second_now)) (s.second_order ∙ begun.same_order) reads (view_of old_second) s.past_second s.comes.second_passes wrong_bed in
-          stop.ends_rest join pair out (stage_of stage) s.past_first s.past_second (view_of first) (view_of second) grown s.comes asks_here s.fits done (view_of second_now) (λ some. absurd (false≢true (ap is_some (sym checks.1.going) ∙ some))) checks.1.bytes (s.past_second ++ checks.0) None
-          (inl (refl, checks.2, record { served = checks.1.served; within = checks.1.kept.within checks.1.clear }, refl))
-      finishes_both {T} (Err fault) second_now reads =
-          let checks = subst (λ (o : Order). ReadsRest {T = T} source_b (IsBedKind o) (view_of second) (Err fault) (view_of second_now)) (s.second_order ∙ begun.same_order) reads (view_of old_second) s.past_second s.comes.second_passes wrong_bed in
-          stop.stops_rest join pair out (stage_of stage) s.past_first s.past_second (view_of first) (view_of second) grown s.comes asks_here s.fits done (view_of second_now) (λ some. checks.low) (s.past_second ++ checks.more) (fault_value fault)
-          (stops_wider source_b (view_of old_second) (IsBedKind order) join.second_kinds (λ kind of_bed. inl of_bed) (s.past_second ++ checks.more) (fault_value fault) (view_of second_now) checks.stops)
-          (λ e. checks.before_end (s.comes.second_all e).2) refl
+    pub finishes_both : {T : Type 0} (result : Result T Fault) (second_now : Records B O g) → ReadsRest source_b (IsBedKind (order_in second)) (view_of second) result (view_of second_now)
+        → Ends (fault_in result) first second_now grown
+    finishes_both {T} (Ok unit) second_now reads =
+        let checks = subst (λ (o : Order). ReadsRest {T = T} source_b (IsBedKind o) (view_of second) (Ok unit) (view_of second_now)) (s.second_order ∙ c.begun.same_order) reads (view_of old_second) s.past_second s.comes.second_passes wrong_bed in
+        stop.ends_rest join pair out (stage_of stage) s.past_first s.past_second (view_of first) (view_of second) grown s.comes asks_here s.fits done (view_of second_now) (λ some. absurd (false≢true (ap is_some (sym checks.1.going) ∙ some))) checks.1.bytes (s.past_second ++ checks.0) None
+        (inl (refl, checks.2, record { served = checks.1.served; within = checks.1.kept.within checks.1.clear }, refl))
+    finishes_both {T} (Err fault) second_now reads =
+        let checks = subst (λ (o : Order). ReadsRest {T = T} source_b (IsBedKind o) (view_of second) (Err fault) (view_of second_now)) (s.second_order ∙ c.begun.same_order) reads (view_of old_second) s.past_second s.comes.second_passes wrong_bed in
+        stop.stops_rest join pair out (stage_of stage) s.past_first s.past_second (view_of first) (view_of second) grown s.comes asks_here s.fits done (view_of second_now) (λ some. checks.low) (s.past_second ++ checks.more) (fault_value fault)
+        (stops_wider source_b (view_of old_second) (IsBedKind order) join.second_kinds (λ kind of_bed. inl of_bed) (s.past_second ++ checks.more) (fault_value fault) (view_of second_now) checks.stops)
+        (λ e. checks.before_end (s.comes.second_all e).2) refl

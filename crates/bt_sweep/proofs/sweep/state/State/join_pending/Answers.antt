@@ -1,7 +1,6 @@
-use Rattle.bt_lines.proofs.Std.{[], ◌<◌, ◌∷◌, Some, None, ℕ, ap, inl, inr, refl, subst, ◌∙◌, err_from_is_err_and}
+use Rattle.bt_lines.proofs.Std.{[], ◌<◌, ◌∷◌, ℕ, ap, inl, inr, refl, subst, ◌∙◌, err_from_is_err_and}
 use Rattle.bt_lines.specs.calls.Names.{fault_value}
-use Rattle.bt_bed.specs.model.Order.{IsTotal}
-use Rattle.bt_sweep.specs.inside.Joining.{AreDecidedOn, pending_in, NeedsHit, has_room_in}
+use Rattle.bt_sweep.specs.inside.Joining.{LeavesOn, pending_in, NeedsHit, has_room_in}
 use Rattle.bt_sweep.specs.calls.Sweeping.{CannotHold, Sweeping}
 use Rattle.bt_sweep.proofs.lemmas.sweep.JoinLemmas.{breaks_take, breaks_write, joins_first, joins_past, joins_take, joins_write, leaves_none}
 use Rattle.bt_sweep.proofs.sweep.state.State.join_pending.Goals.{else-stop-start-via-then-stop-start+in_ok-write_up_to+else-not-branch, else-stop-start-via-else-stop-start}
@@ -16,45 +15,26 @@ loop-next-init g c = record {
   quiet = c.requires.quiet;
   beside = refl;
   same = refl;
-  going = let first = joins_first g.A.Cursor.gives g.A.Cursor.has_ended g.met.A.Cursor.gives_none g.met.A.Cursor.gives_more g.B.Cursor.gives g.B.Cursor.has_ended g.B.Cursor.line g.met.B.Cursor.gives_none g.met.B.Cursor.gives_more
-      c.args.self.now (g.A.Record.Record.feature c.args.first) c.args.firsts.now.cursor c.args.seconds.now (pending_in (g.A.Cursor.consumed c.args.firsts.now.cursor) c.args.firsts.now.from c.args.firsts.now.to) c.args.out.now.output
-      IsTotal (AreDecidedOn (g.A.Record.Record.feature c.args.first).chrom) (λ order total known. refl) c.requires.hits in (first.0, first.1, λ order total known. leaves_none order first.0.proceeds.seconds (g.A.Record.Record.feature c.args.first) first.2);
+  going = joins_first g.met.A.Cursor.gives_none g.met.B.Cursor.gives_none LeavesOn (λ order total known. refl) (λ order total known. leaves_none order [] (g.A.Record.Record.feature c.args.first) refl) c.requires.hits;
 }
 
 pub returns-in_err-write_up_to-clause-joins : goal.returns-in_err-write_up_to-clause-joins
 returns-in_err-write_up_to-clause-joins g c =
     let inv = c.loop-next.invariant in
-    let left = pending_in (g.A.Cursor.consumed c.loop-next.firsts.cursor) c.loop-next.firsts.from c.loop-next.firsts.to in
     let rest = pending_in (g.A.Cursor.consumed c.write_up_to.new.firsts.cursor) c.write_up_to.new.firsts.from c.write_up_to.new.firsts.to in
     let b = g.B.Record.Record.feature c.in-Some.next in
-    let cur = g.A.Record.Record.feature c.loop-next.current in
     let gives_b = subst (λ (x : g.row.B.Denot). g.B.Cursor.gives x (b ∷ []) c.next.new.self) inv.same c.in-Some.ensures.some in
-    let on = c.in-Some.ensures.on ∙ inv.beside ∙ c.requires.beside in
     let e = err_from_is_err_and c.from_residual.result c.from_residual.ensures.1 in
     let cut = rw c.start-then-stop-start.ensures at c.in_err-write_up_to.ensures.writes in
-    rw (e.1, e.2)
-    (breaks_write g.A.Cursor.gives g.A.Cursor.has_ended g.met.A.Cursor.gives_none g.met.A.Cursor.gives_more g.B.Cursor.gives g.B.Cursor.has_ended g.B.Cursor.line g.met.B.Cursor.gives_none g.met.B.Cursor.gives_more
-    c.args.self.now (g.A.Record.Record.feature c.args.first) c.args.firsts.now.cursor c.args.seconds.now (pending_in (g.A.Cursor.consumed c.args.firsts.now.cursor) c.args.firsts.now.from c.args.firsts.now.to) c.args.out.now.output
-    cur c.loop-next.self c.loop-next.firsts.cursor c.loop-next.seconds left c.loop-next.out.output inv.going.0 b c.next.new.self gives_b on inv.going.1
-    c.write_up_to.new.firsts.cursor rest c.write_up_to.new.out.output (fault_value c.in_err-write_up_to.field-0.0) cut)
+    rw (e.1, e.2) (breaks_write inv.going.0 gives_b (c.in-Some.ensures.on ∙ inv.beside ∙ c.requires.beside) g.met.A.Cursor.gives_more inv.going.1 rest cut)
 
 pub returns-then-not-branch-clause-joins : goal.returns-then-not-branch-clause-joins
 returns-then-not-branch-clause-joins g c =
     let inv = c.loop-next.invariant in
-    let left = pending_in (g.A.Cursor.consumed c.loop-next.firsts.cursor) c.loop-next.firsts.from c.loop-next.firsts.to in
-    let rest = pending_in (g.A.Cursor.consumed c.write_up_to.new.firsts.cursor) c.write_up_to.new.firsts.from c.write_up_to.new.firsts.to in
     let b = g.B.Record.Record.feature c.in-Some.next in
-    let cur = g.A.Record.Record.feature c.loop-next.current in
     let gives_b = subst (λ (x : g.row.B.Denot). g.B.Cursor.gives x (b ∷ []) c.next.new.self) inv.same c.in-Some.ensures.some in
-    let on = c.in-Some.ensures.on ∙ inv.beside ∙ c.requires.beside in
-    let w = rw (c.start-then-stop-start.ensures, c.if-not-branch.true) at c.in_ok-write_up_to.ensures.writes in (
-      (joins_write g.A.Cursor.gives g.A.Cursor.has_ended g.met.A.Cursor.gives_none g.met.A.Cursor.gives_more g.B.Cursor.gives g.B.Cursor.has_ended g.B.Cursor.line g.met.B.Cursor.gives_none g.met.B.Cursor.gives_more
-          c.args.self.now (g.A.Record.Record.feature c.args.first) c.args.firsts.now.cursor c.args.seconds.now (pending_in (g.A.Cursor.consumed c.args.firsts.now.cursor) c.args.firsts.now.from c.args.firsts.now.to) c.args.out.now.output
-          cur c.loop-next.self c.loop-next.firsts.cursor c.loop-next.seconds left c.loop-next.out.output inv.going.0 b c.next.new.self gives_b on inv.going.1
-          c.write_up_to.new.self c.write_up_to.new.firsts.cursor rest c.write_up_to.new.out.output None w.0).0,
-      w.1,
-      tt,
-    )
+    let w = rw (c.start-then-stop-start.ensures, c.if-not-branch.true) at c.in_ok-write_up_to.ensures.writes in
+    ((joins_write inv.going.0 gives_b (c.in-Some.ensures.on ∙ inv.beside ∙ c.requires.beside) g.met.A.Cursor.gives_more inv.going.1 w.0).0, w.1, tt)
 
 pub returns-in_err-take-clause-joins : goal.returns-in_err-take-clause-joins
 returns-in_err-take-clause-joins g c =
@@ -67,10 +47,7 @@ returns-in_err-take-clause-joins g c =
     let cur2 = g.A.Record.Record.feature past.current in
     let gives_b = subst (λ (x : g.row.B.Denot). g.B.Cursor.gives x (b ∷ []) c.next.new.self) inv.same c.in-Some.ensures.some in
     let on = c.in-Some.ensures.on ∙ inv.beside ∙ c.requires.beside in
-    let j = joins_past g.A.Cursor.gives g.A.Cursor.has_ended g.met.A.Cursor.gives_none g.met.A.Cursor.gives_more g.B.Cursor.gives g.B.Cursor.has_ended g.B.Cursor.line g.met.B.Cursor.gives_none g.met.B.Cursor.gives_more
-    c.args.self.now (g.A.Record.Record.feature c.args.first) c.args.firsts.now.cursor c.args.seconds.now (pending_in (g.A.Cursor.consumed c.args.firsts.now.cursor) c.args.firsts.now.from c.args.firsts.now.to) c.args.out.now.output
-    cur c.loop-next.self c.loop-next.firsts.cursor c.loop-next.seconds left c.loop-next.out.output inv.going.0 b c.next.new.self gives_b on inv.going.1
-    past.self past.firsts.cursor rest past.out.output cur2
+    let j = joins_past inv.going.0 gives_b on g.met.A.Cursor.gives_more inv.going.1 g.met.A.Cursor.gives_none past.self past.firsts.cursor rest past.out.output cur2
     (elim past.branch [
       | else-stop-start-via-then-stop-start+in_ok-write_up_to+else-not-branch w ↦
           inl (rw (w.self-is, w.firsts-is, w.out-is, w.current-is) (rw (w.start-then-stop-start.ensures, w.if-not-branch.false) at w.in_ok-write_up_to.ensures.writes).0)
@@ -84,9 +61,7 @@ returns-in_err-take-clause-joins g c =
     let e = err_from_is_err_and c.from_residual-in_err-take.result c.from_residual-in_err-take.ensures.1 in
     let lacks = c.in_err-take.ensures.takes in
     rw (e.1, e.2)
-    (breaks_take g.A.Cursor.gives g.A.Cursor.has_ended g.met.A.Cursor.gives_none g.met.A.Cursor.gives_more g.B.Cursor.gives g.B.Cursor.has_ended g.B.Cursor.line g.met.B.Cursor.gives_none g.met.B.Cursor.gives_more
-    c.args.self.now (g.A.Record.Record.feature c.args.first) c.args.firsts.now.cursor c.args.seconds.now (pending_in (g.A.Cursor.consumed c.args.firsts.now.cursor) c.args.firsts.now.from c.args.firsts.now.to) c.args.out.now.output
-    cur2 past.self past.firsts.cursor c.loop-next.seconds rest past.out.output j.0 b c.next.new.self gives_b on j.1 before_end
+    (breaks_take j.0 gives_b on j.1 before_end
     c.in_err-take.field-0.0 lacks.1 (subst (λ (n : ℕ). CannotHold (has_room_in past.self) n (fault_value c.in_err-take.field-0.0)) c.line.ensures lacks.2))
 
 pub loop-next-preserved : goal.loop-next-preserved
@@ -100,10 +75,7 @@ loop-next-preserved g c =
     let cur2 = g.A.Record.Record.feature past.current in
     let gives_b = subst (λ (x : g.row.B.Denot). g.B.Cursor.gives x (b ∷ []) c.next.new.self) inv.same c.in-Some.ensures.some in
     let on = c.in-Some.ensures.on ∙ inv.beside ∙ c.requires.beside in
-    let j = joins_past g.A.Cursor.gives g.A.Cursor.has_ended g.met.A.Cursor.gives_none g.met.A.Cursor.gives_more g.B.Cursor.gives g.B.Cursor.has_ended g.B.Cursor.line g.met.B.Cursor.gives_none g.met.B.Cursor.gives_more
-    c.args.self.now (g.A.Record.Record.feature c.args.first) c.args.firsts.now.cursor c.args.seconds.now (pending_in (g.A.Cursor.consumed c.args.firsts.now.cursor) c.args.firsts.now.from c.args.firsts.now.to) c.args.out.now.output
-    cur c.loop-next.self c.loop-next.firsts.cursor c.loop-next.seconds left c.loop-next.out.output inv.going.0 b c.next.new.self gives_b on inv.going.1
-    past.self past.firsts.cursor rest past.out.output cur2
+    let j = joins_past inv.going.0 gives_b on g.met.A.Cursor.gives_more inv.going.1 g.met.A.Cursor.gives_none past.self past.firsts.cursor rest past.out.output cur2
     (elim past.branch [
       | else-stop-start-via-then-stop-start+in_ok-write_up_to+else-not-branch w ↦
           inl (rw (w.self-is, w.firsts-is, w.out-is, w.current-is) (rw (w.start-then-stop-start.ensures, w.if-not-branch.false) at w.in_ok-write_up_to.ensures.writes).0)
@@ -138,10 +110,7 @@ loop-next-preserved g c =
       ];
       beside = c.next.ensures.same ∙ inv.beside;
       same = refl;
-      going = joins_take g.A.Cursor.gives g.A.Cursor.has_ended g.met.A.Cursor.gives_none g.met.A.Cursor.gives_more g.B.Cursor.gives g.B.Cursor.has_ended g.B.Cursor.line g.met.B.Cursor.gives_none g.met.B.Cursor.gives_more
-          c.args.self.now (g.A.Record.Record.feature c.args.first) c.args.firsts.now.cursor c.args.seconds.now (pending_in (g.A.Cursor.consumed c.args.firsts.now.cursor) c.args.firsts.now.from c.args.firsts.now.to) c.args.out.now.output
-          cur2 past.self past.firsts.cursor c.loop-next.seconds rest past.out.output j.0 b c.next.new.self gives_b on j.1 before_end
-          c.take.new.self takes.0 takes.1 c.in_ok-take.ensures.hits;
+      going = joins_take j.0 gives_b on j.1 before_end g.met.B.Cursor.gives_more c.take.new.self takes.0 takes.1 c.in_ok-take.ensures.hits;
     }
 
 pub returns-clause-joins : goal.returns-clause-joins

@@ -12,7 +12,7 @@ invariant-loop-next g l = record {
   quiet : IsQuiet l.self.shape (pending_in (g.A.Cursor.consumed l.firsts.cursor) l.firsts.from l.firsts.to);
   beside : g.B.Cursor.name l.ahead ≡ g.B.Cursor.name l.fn.seconds;
   same : l.ahead ≡ l.seconds;
-  going : (j : JoinsSo g.A.Cursor.gives g.A.Cursor.has_ended g.B.Cursor.gives g.B.Cursor.has_ended g.B.Cursor.line IsTotal (AreDecidedOn (g.A.Record.Record.feature l.fn.first).chrom)
+  going : (j : JoinsSo g.A.Cursor g.B.Cursor IsTotal (AreDecidedOn (g.A.Record.Record.feature l.fn.first).chrom)
       l.fn.self (g.A.Record.Record.feature l.fn.first) l.fn.firsts.cursor l.fn.seconds (pending_in (g.A.Cursor.consumed l.fn.firsts.cursor) l.fn.firsts.from l.fn.firsts.to) l.fn.out.output
       (Some (g.A.Record.Record.feature l.current)) l.self l.firsts.cursor l.seconds (pending_in (g.A.Cursor.consumed l.firsts.cursor) l.firsts.from l.firsts.to) l.out.output)
       × (j.proceeds.next ≡ None) × LeavesOn j.proceeds.seconds (g.A.Record.Record.feature l.current);

@@ -1,7 +1,5 @@
-use Rattle.bt_lines.proofs.Std.{◌≤◌, ◌∷◌, ◌++◌, ℕ, List, [], ap, filter, subst, ◌∙◌, nat_lt, err_from_is_err_and}
-use Rattle.bt_lines.specs.calls.Names.{fault_value}
+use Rattle.bt_lines.proofs.Std.{◌∷◌, ◌++◌, ℕ, List, [], ap, filter, subst, ◌∙◌, nat_lt, err_from_is_err_and}
 use Rattle.bt_bed.specs.model.Feature.{Feature}
-use Rattle.bt_sweep.specs.inside.Joining.{pending_in}
 use Rattle.bt_sweep.specs.calls.Sweeping.{Sweeping}
 use Rattle.bt_sweep.proofs.lemmas.sweep.KeepLemmas.{cuts_off, writes_last, writes_more}
 use Rattle.bt_sweep.proofs.sweep.state.State.write_up_to.Goals as goal
@@ -9,24 +7,12 @@ use Rattle.bt_sweep.proofs.sweep.state.State.write_up_to.Goals as goal
 pub returns-in_err-write-clause-writes : goal.returns-in_err-write-clause-writes
 returns-in_err-write-clause-writes g c =
     let e = err_from_is_err_and c.from_residual.result c.from_residual.ensures.1 in
-    let left = pending_in (g.A.Cursor.consumed c.loop-self.firsts.cursor) c.loop-self.firsts.from c.loop-self.firsts.to in
-    rw (e.1, e.2, c.write.ensures.cursor)
-    (cuts_off g.A.Cursor.gives g.A.Cursor.has_ended g.met.A.Cursor.gives_none g.met.A.Cursor.gives_more c.args.place c.args.self.now (g.A.Record.Record.feature c.args.first.now)
-    c.args.firsts.now.cursor (pending_in (g.A.Cursor.consumed c.args.firsts.now.cursor) c.args.firsts.now.from c.args.firsts.now.to) c.args.out.now.output
-    (g.A.Record.Record.feature c.loop-self.given) c.loop-self.self c.loop-self.firsts.cursor left c.loop-self.out.output c.loop-self.invariant.going
-    (fault_value c.in_err-write.field-0.0) c.write.new.out.output (subst (λ (n : ℕ). n ≤ c.args.place) c.stop.ensures.is c.loop-self-test.true) c.in_err-write.ensures.puts)
+    rw (e.1, e.2, c.write.ensures.cursor) (cuts_off c.loop-self.invariant.going (rw (← c.stop.ensures.is) c.loop-self-test.true) c.in_err-write.ensures.puts)
 
 pub returns-in_default-clause-writes : goal.returns-in_default-clause-writes
 returns-in_default-clause-writes g c =
-    let same = c.in_ok-write.ensures.same in
-    let stays = c.in_default.ensures.unchanged ∙ c.write.ensures.cursor in
-    let left = pending_in (g.A.Cursor.consumed c.loop-self.firsts.cursor) c.loop-self.firsts.from c.loop-self.firsts.to in
-    let rest = pending_in (g.A.Cursor.consumed c.write.new.firsts.cursor) c.write.new.firsts.from c.write.new.firsts.to in (
-      rw (c.next.ensures.pending, same, stays)
-          (writes_last g.A.Cursor.gives g.A.Cursor.has_ended g.met.A.Cursor.gives_none g.met.A.Cursor.gives_more c.args.place c.args.self.now (g.A.Record.Record.feature c.args.first.now)
-          c.args.firsts.now.cursor (pending_in (g.A.Cursor.consumed c.args.firsts.now.cursor) c.args.firsts.now.from c.args.firsts.now.to) c.args.out.now.output
-          (g.A.Record.Record.feature c.loop-self.given) c.loop-self.self c.loop-self.firsts.cursor left c.loop-self.out.output c.loop-self.invariant.going
-          rest c.write.new.out.output c.in_ok-write.ensures.puts (subst (λ (n : ℕ). n ≤ c.args.place) c.stop.ensures.is c.loop-self-test.true)),
+    let stays = c.in_default.ensures.unchanged ∙ c.write.ensures.cursor in (
+      rw (c.next.ensures.pending, c.in_ok-write.ensures.same, stays) (writes_last c.loop-self.invariant.going c.in_ok-write.ensures.puts (rw (← c.stop.ensures.is) c.loop-self-test.true)),
       rw c.in_default.ensures.unchanged c.in_default.ensures.none,
     )
 
@@ -34,15 +20,10 @@ pub loop-self-preserved : goal.loop-self-preserved
 loop-self-preserved g c =
     let same = c.in_ok-write.ensures.same in
     let r = g.A.Record.Record.feature c.in-Some.next in
-    let left = pending_in (g.A.Cursor.consumed c.loop-self.firsts.cursor) c.loop-self.firsts.from c.loop-self.firsts.to in
-    let rest = pending_in (g.A.Cursor.consumed c.write.new.firsts.cursor) c.write.new.firsts.from c.write.new.firsts.to in
     let given = subst (λ (x : g.row.A.Denot). g.A.Cursor.gives x (r ∷ []) c.next.new.self.cursor) c.write.ensures.cursor c.in-Some.ensures.some in
     let on = c.in-Some.ensures.on ∙ ap (λ (x : g.row.A.Denot). g.A.Cursor.name x) c.write.ensures.cursor ∙ c.loop-self.invariant.on ∙ c.requires.on in
-    let more = writes_more g.A.Cursor.gives g.A.Cursor.has_ended g.met.A.Cursor.gives_none g.met.A.Cursor.gives_more c.args.place c.args.self.now (g.A.Record.Record.feature c.args.first.now)
-    c.args.firsts.now.cursor (pending_in (g.A.Cursor.consumed c.args.firsts.now.cursor) c.args.firsts.now.from c.args.firsts.now.to) c.args.out.now.output
-    (g.A.Record.Record.feature c.loop-self.given) c.loop-self.self c.loop-self.firsts.cursor left c.loop-self.out.output c.loop-self.invariant.going
-    rest c.write.new.out.output c.in_ok-write.ensures.puts r c.drop_ended.new.self c.next.new.self.cursor
-    (subst (λ (n : ℕ). n ≤ c.args.place) c.stop.ensures.is c.loop-self-test.true) given on
+    let more = writes_more c.loop-self.invariant.going c.in_ok-write.ensures.puts g.met.A.Cursor.gives_more r c.drop_ended.new.self c.next.new.self.cursor
+    (rw (← c.stop.ensures.is) c.loop-self-test.true) given on
     (c.drop_ended.ensures ∙ ap (λ (s : Sweeping). record s { held = filter (λ (b : Feature). nat_lt c.start.result b.stop) s.held }) same
     ∙ ap (λ (n : ℕ). record c.loop-self.self { held = filter (λ (b : Feature). nat_lt n b.stop) c.loop-self.self.held }) c.start.ensures) in
     record {

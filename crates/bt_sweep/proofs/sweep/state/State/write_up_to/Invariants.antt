@@ -9,7 +9,7 @@ invariant-loop-self g l = record {
   on : g.A.Cursor.name l.firsts.cursor ≡ g.A.Cursor.name l.fn.firsts.cursor;
   line : line_in (g.A.Cursor.consumed l.firsts.cursor) l.firsts.to ≡ g.A.Record.Record.raw l.given;
   quiet : IsQuiet l.self.shape (pending_in (g.A.Cursor.consumed l.firsts.cursor) l.firsts.from l.firsts.to);
-  going : WritesSo g.A.Cursor.gives g.A.Cursor.has_ended l.fn.place l.fn.self (g.A.Record.Record.feature l.fn.first) l.fn.firsts.cursor
+  going : WritesSo g.A.Cursor l.fn.place l.fn.self (g.A.Record.Record.feature l.fn.first) l.fn.firsts.cursor
       (pending_in (g.A.Cursor.consumed l.fn.firsts.cursor) l.fn.firsts.from l.fn.firsts.to) l.fn.out.output
       (Some (g.A.Record.Record.feature l.given)) l.self l.firsts.cursor
       (pending_in (g.A.Cursor.consumed l.firsts.cursor) l.firsts.from l.firsts.to) l.out.output;

@@ -10,5 +10,5 @@ advance_buffered-requires-clause-second g c = let s = c.requires.2 in s.order_is
 
 pub returns : goal.returns
 returns g c = λ start out s.
-    gave_both g.A.Source g.B.Source start out c.args.self.now c.args.out.now.output s
+    gave_both s
     (record { first = c.advance_buffered.new.first; second = c.advance_buffered.new.second; sweep = c.advance_buffered.new.sweep }) c.advance_buffered.new.out.output c.advance_buffered.result c.advance_buffered.ensures.order c.advance_buffered.ensures.advances
