@@ -3,6 +3,7 @@ pub mod Batch
 pub mod Bed
 pub mod Blocks
 pub mod CursorLaws
+pub mod CursorOf
 pub mod GenomeTable
 pub mod Reading
 pub mod Records
