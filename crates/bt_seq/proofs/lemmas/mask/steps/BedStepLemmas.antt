@@ -393,6 +393,24 @@ one_settled how stage line bytes decides is = record {
   bytes_are = λ records ordered follows. append-nil (masked_line how records line) ∙ is records ordered follows;
 }
 
+pub goes_more : {how : MaskHow} {full : Bool} {old mid new : MaskStage} {lines more : List TextLine} {records further : List Feature} {x y : List ℕ} → GoesOn how full old lines records mid x
+    → GoesOn how full mid more further new y → GoesOn how full old (lines ++ more) (records ++ further) new (x ++ y)
+goes_more {how} {full} {old} {mid} {new} {lines} {more} {records} {further} {x} {y} first rest =
+    let come : reached mid ≡ reached_behind (reached old) first.items =
+    ap (λ (l : List SequenceLine). reached_by (last_or None l)) first.given_is ∙ reached_more (given old) first.items in
+    record {
+      items = first.items ++ rest.items;
+      say = say_more full (reached old) lines more first.items rest.items first.say (rw come at rest.say);
+      newly = first.newly ++ rest.newly;
+      given_is = rest.given_is ∙ ap (λ l. l ++ rest.items) first.given_is ∙ append_assoc (given old) first.items rest.items;
+      written_is = rest.written_is ∙ ap (λ l. l ++ rest.newly) first.written_is ∙ append_assoc old.written first.newly rest.newly;
+      taken_is = rest.taken_is ∙ ap (λ l. l ++ further) first.taken_is ∙ append_assoc old.taken records further;
+      lines_ended_is = rest.lines_ended_is ∙ first.lines_ended_is;
+      bed_ended_is = rest.bed_ended_is ∙ first.bed_ended_is;
+      settles = settled_both how new first.newly rest.newly x y (settled_later how mid new first.newly x rest.bed_ended_is rest.sees first.settles) rest.settles;
+      sees = λ later follows. first.sees later (rest.sees later follows);
+    }
+
 module _ (how : MaskHow) (full : Bool) where
   pub goes_nowhere : (stage : MaskStage) → GoesOn how full stage [] [] stage []
   goes_nowhere stage = record {
@@ -407,25 +425,6 @@ module _ (how : MaskHow) (full : Bool) where
     settles = none_settled how stage;
     sees = λ later follows. follows;
   }
-
-  pub goes_more : (old mid new : MaskStage) (lines more : List TextLine) (records further : List Feature) (x y : List ℕ) → GoesOn how full old lines records mid x
-      → GoesOn how full mid more further new y → GoesOn how full old (lines ++ more) (records ++ further) new (x ++ y)
-  goes_more old mid new lines more records further x y first rest =
-      let ended : new.bed_ended ≡ mid.bed_ended = rest.bed_ended_is in
-      let come : reached mid ≡ reached_behind (reached old) first.items =
-      ap (λ (l : List SequenceLine). reached_by (last_or None l)) first.given_is ∙ reached_more (given old) first.items in
-      record {
-        items = first.items ++ rest.items;
-        say = say_more full (reached old) lines more first.items rest.items first.say (subst (λ (r : Reached). SayEach full r more rest.items) come rest.say);
-        newly = first.newly ++ rest.newly;
-        given_is = rest.given_is ∙ ap (λ l. l ++ rest.items) first.given_is ∙ append_assoc (given old) first.items rest.items;
-        written_is = rest.written_is ∙ ap (λ l. l ++ rest.newly) first.written_is ∙ append_assoc old.written first.newly rest.newly;
-        taken_is = rest.taken_is ∙ ap (λ l. l ++ further) first.taken_is ∙ append_assoc old.taken records further;
-        lines_ended_is = rest.lines_ended_is ∙ first.lines_ended_is;
-        bed_ended_is = ended ∙ first.bed_ended_is;
-        settles = settled_both how new first.newly rest.newly x y (settled_later how mid new first.newly x ended rest.sees first.settles) rest.settles;
-        sees = λ later follows. first.sees later (rest.sees later follows);
-      }
 
   -- a line before the first header is decided, whatever comes
   unnamed_decided : (line : SequenceLine) (records : List Feature) → is_unnamed line.names ≡ true → decided line records ≡ true

@@ -55,21 +55,21 @@ copied_behind to old mid new (l ∷ ls) line p q = (p.0, p.1, copied_behind to p
 pub none_pass : (lines : BufferedLines) → PassesLines lines [] lines
 none_pass lines = record { left_is = refl; all_is = refl; given = omega arith; open_is = refl }
 
-pub pass_more : (old mid new : BufferedLines) (lines more : List TextLine) → PassesLines old lines mid → PassesLines mid more new → PassesLines old (lines ++ more) new
-pass_more old mid new lines more first rest = record {
+pub pass_more : {old mid new : BufferedLines} {lines more : List TextLine} → PassesLines old lines mid → PassesLines mid more new → PassesLines old (lines ++ more) new
+pass_more {new} {lines} {more} first rest = record {
   left_is = first.left_is ∙ ap (λ l. lines ++ l) rest.left_is ∙ sym (append_assoc lines more (lines_in new));
   all_is = rest.all_is ∙ first.all_is;
   given = omega (arith, first.given, rest.given, length-append lines more);
   open_is = rest.open_is ∙ first.open_is;
 }
 
-pub pass_one : (old new : BufferedLines) (line : TextLine) → PassesLine old line new → PassesLines old (line ∷ []) new
-pass_one old new line p = record { left_is = p.left_is; all_is = p.all_is; given = p.given; open_is = p.open_is }
+pub pass_one : {old new : BufferedLines} {line : TextLine} → PassesLine old line new → PassesLines old (line ∷ []) new
+pass_one p = record { left_is = p.left_is; all_is = p.all_is; given = p.given; open_is = p.open_is }
 
 -- what was consumed, as lines and as bytes
 pub copies_pass : (to : ℕ) (lines : List TextLine) (old new : CopyThrough) → CopiesLines to old lines new → PassesLines old.lines lines new.lines
 copies_pass to [] old new p = subst (λ (t : CopyThrough). PassesLines old.lines [] t.lines) (sym p) (none_pass old.lines)
-copies_pass to (line ∷ lines) old new p = pass_more old.lines p.0.lines new.lines (line ∷ []) lines (pass_one old.lines p.0.lines line p.1.passes) (copies_pass to lines p.0 new p.2)
+copies_pass to (line ∷ lines) old new p = pass_more (pass_one p.1.passes) (copies_pass to lines p.0 new p.2)
 
 pub copies_bytes : (to : ℕ) (lines : List TextLine) (old new : CopyThrough) → CopiesLines to old lines new
     → (rest_in old.lines ≡ flat_map spelled lines ++ rest_in new.lines) × (new.lines.at ≡ old.lines.at + length (flat_map spelled lines))

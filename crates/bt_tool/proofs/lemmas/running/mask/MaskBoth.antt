@@ -13,7 +13,8 @@ use Rattle.bt_lines.specs.declared.reader.buffered_lines.BufferedLines.{Buffered
 use Rattle.bt_lines.specs.declared.reader.buffered_lines.ConsumedLines.{ConsumedLines}
 use Rattle.bt_lines.specs.declared.fault.Fault.{Fault}
 use Rattle.bt_lines.specs.declared.reader.line_reader.LineReader.{LineReader}
-use Rattle.bt_bed.specs.calls.Batch.{HasEnded, Passes, cursor_in, left, line_in}
+use Rattle.bt_bed.specs.calls.Batch.{Passes, cursor_in, left, line_in}
+use Rattle.bt_bed.specs.calls.CursorOf.{batch_cursor}
 use Rattle.bt_bed.specs.model.Feature.{Feature}
 use Rattle.bt_bed.specs.model.Sorted.{Locus}
 use Rattle.bt_bed.specs.calls.Reading.{MemberReader, state_behind}
@@ -49,7 +50,7 @@ module _ {S State : Type 0} (second second_now : MemberReader S Feature State) (
 
   -- and it is the next one of those that are left
   kept_after : (was : Option Feature) → ((r : Feature) → was ≡ Some r → item_ahead second ≡ Some r) → (taken : List Feature) → second.buffered ≡ taken ++ second_now.buffered → (ahead : Option Feature)
-      → ComesAfter Passes line_in HasEnded was first taken ahead → (r : Feature) → ahead ≡ Some r → item_ahead second_now ≡ Some r
+      → ComesAfter batch_cursor was first taken ahead → (r : Feature) → ahead ≡ Some r → item_ahead second_now ≡ Some r
   kept_after was kept taken split ahead comes r e = elim (comes r e) [
     | inl same ↦ ahead_first second_now ∙ ap first_of (sym (split ∙ ap (λ (l : List Feature). l ++ second_now.buffered) same.1)) ∙ sym (ahead_first second) ∙ kept r same.0
     | inr there ↦
@@ -121,17 +122,17 @@ module _ {A B : Type 0} (source_a : Source A) (source_b : Source B) (start : Mas
   EndsAt fault grown = MaskEnds source_a source_b start before fault new second_now grown
 
   -- the record ahead is the next one that is given
-  comes_next : ComesNext Passes line_in HasEnded s.stage.ahead first_beds
+  comes_next : ComesNext batch_cursor s.stage.ahead first_beds
   comes_next r later passes = next_is second second_now first_beds last_beds lent s.stage.ahead s.kept_ahead r later passes
 
-  kept_then : (ahead : Option Feature) → ComesAfter Passes line_in HasEnded s.stage.ahead first_beds taken ahead → (r : Feature) → ahead ≡ Some r → item_ahead second_now ≡ Some r
+  kept_then : (ahead : Option Feature) → ComesAfter batch_cursor s.stage.ahead first_beds taken ahead → (r : Feature) → ahead ≡ Some r → item_ahead second_now ≡ Some r
   kept_then ahead comes = kept_after second second_now first_beds last_beds lent s.stage.ahead s.kept_ahead taken has.takes.buffered ahead comes
 
   left_then : left last_beds ≡ second_now.buffered
   left_then = append_cancel_left taken (left last_beds) second_now.buffered (sym gave.left_is ∙ lent ∙ has.takes.buffered)
 
   -- after what was given, something else is wanted
-  module _ (masked : Masking) (now : Output) (comes : HasCome start.mask.how start.mask.full s.stage texts taken out masked now) (stops : StopsAt Passes line_in HasEnded masked.want last_lines last_beds) where
+  module _ (masked : Masking) (now : Output) (comes : HasCome start.mask.how start.mask.full s.stage texts taken out masked now) (stops : StopsAt batch_cursor masked.want last_lines last_beds) where
     abbrev final : MaskStage
     final = comes.stage
 
@@ -155,7 +156,7 @@ module _ {A B : Type 0} (source_a : Source A) (source_b : Source B) (start : Mas
         (comes.stands.stands.want_is ∙ ap (λ (l : Bool). want_of (is_some final.waiting) l final.bed_ended) comes.goes_on.lines_ended_is ∙ ap (λ (b : Bool). want_of (is_some final.waiting) s.stage.lines_ended b) comes.goes_on.bed_ended_is)
         (waits_is s.stands) (waits_is comes.stands.stands) (same_by none)
 
-    stuck_by : (want : MaskWant) → texts ≡ [] → taken ≡ [] → StopsAt Passes line_in HasEnded want last_lines last_beds → IsMaskReady lines second want → ⊥
+    stuck_by : (want : MaskWant) → texts ≡ [] → taken ≡ [] → StopsAt batch_cursor want last_lines last_beds → IsMaskReady lines second want → ⊥
     stuck_by WantLine none unread stops there = some_buffered lines first_lines begins (parts ∙ ap (λ (l : List TextLine). l ++ lines_in last_lines) none ∙ stops) there
     stuck_by WantBed none unread stops there =
         let gone : second.buffered ≡ [] = has.takes.buffered ∙ ap (λ (l : List Feature). l ++ second_now.buffered) unread ∙ sym left_then ∙ stops.none in
@@ -163,7 +164,7 @@ module _ {A B : Type 0} (source_a : Source A) (source_b : Source B) (start : Mas
     stuck_by Nothing none unread stops there = there
 
     stuck : texts ≡ [] → taken ≡ [] → masked.want ≡ mask.want → IsMaskReady lines second mask.want → ⊥
-    stuck none unread same there = stuck_by mask.want none unread (subst (λ (w : MaskWant). StopsAt Passes line_in HasEnded w last_lines last_beds) same stops) there
+    stuck none unread same there = stuck_by mask.want none unread (subst (λ (w : MaskWant). StopsAt batch_cursor w last_lines last_beds) same stops) there
 
     few_by : (n : ℕ) → length texts + length taken ≡ n → (mask_left new second_now masked ≤ mask_left lines second mask) × (IsMaskReady lines second mask.want → mask_left new second_now masked < mask_left lines second mask)
     few_by zero e =
@@ -181,7 +182,7 @@ module _ {A B : Type 0} (source_a : Source A) (source_b : Source B) (start : Mas
         let less : mask_left new second_now masked < mask_left lines second mask = omega (arith, less_room, has.takes.shrinks, most, e) in
         (omega (arith, less), λ there. less)
 
-    gave_both : ComesAfter Passes line_in HasEnded s.stage.ahead first_beds taken final.ahead → {T : Type 0} (done : T) → AdvancesMask source_a source_b start before lines second mask (Ok done) new second_now masked now
+    gave_both : ComesAfter batch_cursor s.stage.ahead first_beds taken final.ahead → {T : Type 0} (done : T) → AdvancesMask source_a source_b start before lines second mask (Ok done) new second_now masked now
     gave_both after done =
         let few = few_by (length texts + length taken) refl in (
           (
@@ -193,7 +194,7 @@ module _ {A B : Type 0} (source_a : Source A) (source_b : Source B) (start : Mas
         )
 
   -- the last of what was given failed
-  module _ (fault : FaultValue) (now : Output) (behind : FailsAfter Passes line_in HasEnded start.mask.how start.mask.full s.stage texts taken out first_beds fault last_beds now) where
+  module _ (fault : FaultValue) (now : Output) (behind : FailsAfter batch_cursor start.mask.how start.mask.full s.stage texts taken out first_beds fault last_beds now) where
     abbrev comes : HasCome start.mask.how start.mask.full s.stage behind.before taken out behind.mask behind.through
     comes = behind.comes
 
@@ -206,7 +207,7 @@ module _ {A B : Type 0} (source_a : Source A) (source_b : Source B) (start : Mas
       all_go =
           subst (λ (t : List TextLine). GoesOn start.mask.how start.mask.full s.stage t taken final (comes.bytes ++ bytes)) (sym behind.parts)
           (subst (λ (l : List Feature). GoesOn start.mask.how start.mask.full s.stage (behind.before ++ behind.failing) l final (comes.bytes ++ bytes)) (append-nil taken)
-          (goes_more start.mask.how start.mask.full s.stage comes.stage final behind.before behind.failing taken [] comes.bytes bytes comes.goes_on goes))
+          (goes_more comes.goes_on goes))
 
       kept_final : (r : Feature) → final.ahead ≡ Some r → item_ahead second_now ≡ Some r
       kept_final r e = kept r (sym ahead_is ∙ e)
@@ -320,14 +321,14 @@ module _ {A B : Type 0} (source_a : Source A) (source_b : Source B) (start : Mas
     failed_both = fails_both behind.fails
 
   -- the engine masks as the run says
-  as_run : {T : Type 0} (answer : Result T Fault) (masked : Masking) (now : Output) → BothCome Passes line_in HasEnded mask.how mask.full s.stage texts taken out first_beds answer masked last_beds now
-      → BothCome Passes line_in HasEnded start.mask.how start.mask.full s.stage texts taken out first_beds answer masked last_beds now
+  as_run : {T : Type 0} (answer : Result T Fault) (masked : Masking) (now : Output) → BothCome batch_cursor mask.how mask.full s.stage texts taken out first_beds answer masked last_beds now
+      → BothCome batch_cursor start.mask.how start.mask.full s.stage texts taken out first_beds answer masked last_beds now
   as_run answer masked now both =
-      subst (λ (h : MaskHow). BothCome Passes line_in HasEnded h start.mask.full s.stage texts taken out first_beds answer masked last_beds now) s.how_is
-      (subst (λ (b : Bool). BothCome Passes line_in HasEnded mask.how b s.stage texts taken out first_beds answer masked last_beds now) s.full_is both)
+      subst (λ (h : MaskHow). BothCome batch_cursor h start.mask.full s.stage texts taken out first_beds answer masked last_beds now) s.how_is
+      (subst (λ (b : Bool). BothCome batch_cursor mask.how b s.stage texts taken out first_beds answer masked last_beds now) s.full_is both)
 
   -- what the result says
-  pub gives_both : {T : Type 0} (answer : Result T Fault) (masked : Masking) (now : Output) → (ComesNext Passes line_in HasEnded s.stage.ahead first_beds → BothCome Passes line_in HasEnded mask.how mask.full s.stage texts taken out first_beds answer masked last_beds now)
-      → OnOk answer (StopsAt Passes line_in HasEnded masked.want last_lines last_beds) → AdvancesMask source_a source_b start before lines second mask answer new second_now masked now
+  pub gives_both : {T : Type 0} (answer : Result T Fault) (masked : Masking) (now : Output) → (ComesNext batch_cursor s.stage.ahead first_beds → BothCome batch_cursor mask.how mask.full s.stage texts taken out first_beds answer masked last_beds now)
+      → OnOk answer (StopsAt batch_cursor masked.want last_lines last_beds) → AdvancesMask source_a source_b start before lines second mask answer new second_now masked now
   gives_both (Ok done) masked now come stops = let both = as_run (Ok done) masked now (come comes_next) in gave_both masked now both.0 stops both.2 done
   gives_both {T} (Err fault) masked now come stops = let both = as_run {T = T} (Err fault) masked now (come comes_next) in failed_both (fault_value fault) now both.1

@@ -23,7 +23,7 @@ use Rattle.bt_tool.specs.declared.loops.masking.MaskRun.{MaskRun}
 use Rattle.bt_tool.specs.calls.Run.{TellsNoRead}
 use Rattle.bt_tool.specs.inside.Feed.{IsOwnFault, KeepsOwnFault, IsFresh}
 use Rattle.bt_tool.proofs.lemmas.running.members.MemberLemmas.{IsFilled, IsOver, passes_start}
-use Rattle.bt_tool.specs.inside.MaskLoop.{GoesOn, MaskComes, MaskIsOver, is_mask_ready, left_to_mask, wanted_by, Masks, mask_rounds, line_members, mask_join, mask_pair, nothing_reached}
+use Rattle.bt_tool.specs.inside.MaskLoop.{GoesOn, MaskComes, MaskIsOver, mask_run, wanted_by, Masks, mask_rounds, line_members, mask_join, mask_pair, nothing_reached}
 use Rattle.bt_tool.proofs.lemmas.running.mask.MaskedLemmas.{AdvancesMask, MaskEnds, IsMaskReady, mask_left, finishes, stops_lines, stops_records, ends_alone, ends_lines, ends_waiting, fails_at_end, line_made, lines_done, none_waits, record_made}
 use Rattle.bt_tool.specs.inside.Rounds.{IsLessOrReady, IsLessIfReady, LeadsTo}
 use Rattle.bt_tool.proofs.lemmas.running.members.BlockMembers.{block_filled, block_over, block_stopped, blocks_going, gives_over}
@@ -202,10 +202,10 @@ module _ {A B : Type 0} (source_a : Source A) (source_b : Source B) (start : Mas
   )
 
   abbrev Filled : MaskRun A B → Type 0
-  Filled = IsLessOrReady is_mask_ready left_to_mask old
+  Filled = IsLessOrReady (mask_run source_a source_b) old
 
   abbrev Leads : {T : Type 0} → (MaskRun A B → Type 0) → Result T Fault → MaskRun A B → Output → Type 0
-  Leads = LeadsTo (MaskComes source_a source_b) (MaskIsOver source_a source_b) start out
+  Leads = LeadsTo (mask_run source_a source_b) start out
 
   -- ---- the lines are read on
 
@@ -273,7 +273,7 @@ module _ {A B : Type 0} (source_a : Source A) (source_b : Source B) (start : Mas
 
   module _ (new : MaskRun A B) (later : Output) (read : HasRead source_a.is_read old.lines new.lines) (read_second : HasRead source_b.is_read (below old.records) (below new.records))
       (keeps : line_fault new.lines ≡ line_fault old.lines) (keeps_second : fault_kept new.records ≡ fault_kept old.records) where
-    gave_by : {T : Type 0} (answer : Result T Fault) → AdvancesMask source_a source_b start out old.lines (view_of old.records) old.mask answer new.lines (view_of new.records) new.mask later → Leads (IsLessIfReady is_mask_ready left_to_mask old) answer new later
+    gave_by : {T : Type 0} (answer : Result T Fault) → AdvancesMask source_a source_b start out old.lines (view_of old.records) old.mask answer new.lines (view_of new.records) new.mask later → Leads (IsLessIfReady (mask_run source_a source_b) old) answer new later
     gave_by (Ok done) gives = (came new later gives.0 read read_second, (gives.1, gives.2))
     gave_by (Err fault) ends =
         ended (Some (fault_value fault)) new later ends (λ never. (read, read_second))
@@ -282,7 +282,7 @@ module _ {A B : Type 0} (source_a : Source A) (source_b : Source B) (start : Mas
 
     pub gave_both : {T : Type 0} (answer : Result T Fault)
         → ((start : MaskRun A B) (out : Output) → GoesOn source_a source_b start out old.lines (view_of old.records) old.mask grown → AdvancesMask source_a source_b start out old.lines (view_of old.records) old.mask answer new.lines (view_of new.records) new.mask later)
-        → Leads (IsLessIfReady is_mask_ready left_to_mask old) answer new later
+        → Leads (IsLessIfReady (mask_run source_a source_b) old) answer new later
     gave_both answer gives = gave_by answer (gives start out s.goes)
 
   -- both inputs have ended
