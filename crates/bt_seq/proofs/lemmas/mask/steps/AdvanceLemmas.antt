@@ -109,7 +109,7 @@ NoneWaits old r number out answer new grown = (stage : MaskStage) → MaskStands
     → IsNext stage.ahead r → ChecksRecord old.how old.full stage r number out answer new grown
 
 -- while a record is wanted, they go on
-going : {stage : MaskStage} {old : Masking} → MaskStandsAt stage old → old.want ≡ Bed → (o : Option SequenceLine) → stage.waiting ≡ o → stage.bed_ended ≡ false
+pub going : {stage : MaskStage} {old : Masking} → MaskStandsAt stage old → old.want ≡ Bed → (o : Option SequenceLine) → stage.waiting ≡ o → stage.bed_ended ≡ false
 going {stage} stands wants None e = (wants_bed stage.lines_ended stage.bed_ended (rw e at (sym stands.want_is ∙ wants))).1
 going stands wants (Some a) e = (stands.waits a e).bed
 

@@ -112,12 +112,12 @@ some_buffered reader first begins none some =
     subst (λ (b : Bool). IsLast b b (buffered_bytes reader) []) begins.open_is (subst (λ (l : List ℕ). IsLast first.is_open first.is_open l []) whole first.last) in
     absurd (omega (arith, some, no_bytes (is_open reader) (lines_given reader) (buffered_bytes reader) fed last none))
 
-module _ {A B : Type 0} (source_a : Source A) (source_b : Source B) (start : MaskRun A B) (before : Output) (at : Reached) (lines : LineReader A)
-    (second : MemberReader B Feature (Option Locus)) (mask : Masking) (out : Output) (s : Masks source_a source_b start before at lines second mask out)
-    (first_lines last_lines : BufferedLines) (begins : BeginsLines (buffered_bytes lines) (lines_given lines) (is_open lines) first_lines) (texts : List TextLine) (parts : buffered_in lines ≡ texts ++ lines_in last_lines)
-    (numbered : AreNumbered (suc (lines_given lines)) texts) (first_beds last_beds : Batch) (lent : left first_beds ≡ second.buffered) (lent_at : (cursor_in first_beds).lines ≡ lines_given second.below)
-    (taken : List Feature) (gave : Passes first_beds taken last_beds) (new : LineReader A) (over : has_ended lines ≡ true → buffered_in lines ≡ []) (consumed : ConsumedLines) (are : TakenLines lines consumed (length texts)) (takes : TakesLines source_a lines consumed new)
-    (second_now : MemberReader B Feature (Option Locus)) (has : HasTaken source_b second taken second_now) where
+module _ {A B : Type 0} {source_a : Source A} {source_b : Source B} {start : MaskRun A B} {before : Output} {at : Reached} {lines : LineReader A} {second : MemberReader B Feature (Option Locus)} {mask : Masking}
+    {out : Output} (s : Masks source_a source_b start before at lines second mask out) {first_lines : BufferedLines} (begins : BeginsLines (buffered_bytes lines) (lines_given lines) (is_open lines) first_lines)
+    (last_lines : BufferedLines) (texts : List TextLine) (parts : buffered_in lines ≡ texts ++ lines_in last_lines) (numbered : AreNumbered (suc (lines_given lines)) texts)
+    {first_beds last_beds : Batch} (lent : left first_beds ≡ second.buffered) (lent_at : (cursor_in first_beds).lines ≡ lines_given second.below) {taken : List Feature} (gave : Passes first_beds taken last_beds)
+    {new : LineReader A} (over : has_ended lines ≡ true → buffered_in lines ≡ []) {consumed : ConsumedLines} (are : TakenLines lines consumed (length texts)) (takes : TakesLines source_a lines consumed new)
+    {second_now : MemberReader B Feature (Option Locus)} (has : HasTaken source_b second taken second_now) where
   abbrev EndsAt : Option FaultValue → Output → Type 0
   EndsAt fault grown = MaskEnds source_a source_b start before fault new second_now grown
 
@@ -187,7 +187,7 @@ module _ {A B : Type 0} (source_a : Source A) (source_b : Source B) (start : Mas
         let few = few_by (length texts + length taken) refl in (
           (
             state_behind (sequence_format start.mask.full) at comes.goes_on.items,
-            (come_on source_a source_b start before at lines second mask out s new over consumed takes taken second_now has texts final comes.bytes comes.goes_on (kept_then final.ahead after) (lines_in last_lines) parts numbered are masked now comes.stands comes.puts).0,
+            (come_on s over takes has comes.goes_on (kept_then final.ahead after) (lines_in last_lines) parts numbered are comes.stands comes.puts).0,
           ),
           few.0,
           few.1,
@@ -214,8 +214,7 @@ module _ {A B : Type 0} (source_a : Source A) (source_b : Source B) (start : Mas
 
       fails_copying : FailsToAdd behind.through bytes fault now → EndsAt (Some fault) now
       fails_copying fails =
-          fails_write source_a source_b start before at lines second mask out s new over consumed takes taken second_now has texts final (comes.bytes ++ bytes) all_go kept_final (lines_in last_lines) parts numbered are comes.bytes bytes refl
-          behind.through now fault comes.puts fails
+          fails_write s over takes has all_go kept_final (lines_in last_lines) parts numbered are comes.bytes bytes refl comes.puts fails
 
     -- a line failed
     module _ (wants : want_at comes.stage ≡ WantLine) where
@@ -229,9 +228,9 @@ module _ {A B : Type 0} (source_a : Source A) (source_b : Source B) (start : Mas
         refuses_one : RefusesLine start.mask.how start.mask.full comes.stage line behind.through fault now → EndsAt (Some fault) now
         refuses_one refuses =
             rw refuses.same_output
-            (refuses_line source_a source_b start before at lines second mask out s new over consumed takes taken second_now has behind.before comes.stage comes.bytes comes.goes_on kept line (lines_in last_lines)
+            (refuses_line s over takes has comes.goes_on kept line (lines_in last_lines)
             (parts ∙ ap (λ l. l ++ lines_in last_lines) texts_are) (subst (AreNumbered (suc (lines_given lines))) texts_are numbered) (subst (λ (l : List TextLine). TakenLines lines consumed (length l)) texts_are are)
-            none_waits refuses.kind refuses.says fault refuses.is behind.through comes.puts)
+            none_waits refuses.kind refuses.says fault refuses.is comes.puts)
 
         module _ (fails : FailsWithLine start.mask.how start.mask.full comes.stage line behind.through fault now) where
           with_it : GoesOn start.mask.how start.mask.full comes.stage behind.failing [] (with_line comes.stage fails.item) (bytes_with start.mask.how comes.stage fails.item)
@@ -268,7 +267,7 @@ module _ {A B : Type 0} (source_a : Source A) (source_b : Source B) (start : Mas
 
           lacks_one : fault ≡ no_memory → EndsAt (Some fault) behind.through
           lacks_one is =
-              lacks_room source_a source_b start before at lines second mask out s new over consumed takes taken second_now has texts (with_line comes.stage fails.item) (comes.bytes ++ bytes_with start.mask.how comes.stage fails.item) whole kept_whole
+              lacks_room s over takes has whole kept_whole
               (lines_in last_lines) parts numbered are mid comes.goes_on.newly
               (record {
                 given_is = sym (with_given (is_written_at_once comes.stage fails.item) refl) ∙ whole.given_is ∙ ap (λ l. given s.stage ++ l) (sym (items_from (suc (lines_given lines)) whole.items));
@@ -279,7 +278,7 @@ module _ {A B : Type 0} (source_a : Source A) (source_b : Source B) (start : Mas
               })
               comes.bytes behind.through
               (λ known. subst (λ (b : Bool). SettlesPair (mask_join start.mask.how) comes.stage.written (s.comes.bytes ++ comes.bytes) (comes.stage.taken ++ option_to_list (item_ahead second_now)) b) (sym comes.goes_on.bed_ended_is)
-              (settled source_a source_b start before at lines second mask out s new over consumed takes taken second_now has behind.before comes.stage comes.bytes comes.goes_on kept known)) comes.puts fault is
+              (settled s over takes has comes.goes_on kept known)) comes.puts fault is
 
           fails_one : EndsAt (Some fault) now
           fails_one = elim fails.fails [
@@ -304,9 +303,9 @@ module _ {A B : Type 0} (source_a : Source A) (source_b : Source B) (start : Mas
       fails_next : FailsAtRecord start.mask.how start.mask.full comes.stage.waiting comes.stage r (line_in later) behind.through fault now → EndsAt (Some fault) now
       fails_next fails =
           let here =
-          come_on source_a source_b start before at lines second mask out s new over consumed takes taken second_now has behind.before comes.stage comes.bytes comes.goes_on kept (lines_in last_lines)
-          (parts ∙ ap (λ l. l ++ lines_in last_lines) before_is) (subst (AreNumbered (suc (lines_given lines))) before_is numbered) (subst (λ (l : List TextLine). TakenLines lines consumed (length l)) before_is are) behind.mask behind.through comes.stands comes.puts in
-          fails_record source_a source_b start before (state_behind (sequence_format start.mask.full) at comes.goes_on.items) new second_now behind.mask behind.through here.0 (comes.stands.stands.want_is ∙ wants) r (left later)
+          come_on s over takes has comes.goes_on kept (lines_in last_lines)
+          (parts ∙ ap (λ l. l ++ lines_in last_lines) before_is) (subst (AreNumbered (suc (lines_given lines))) before_is numbered) (subst (λ (l : List TextLine). TakenLines lines consumed (length l)) before_is are) comes.stands comes.puts in
+          fails_record here.0 (comes.stands.stands.want_is ∙ wants) r (left later)
           (sym left_then ∙ passes.left_is) fault now
           (subst (λ (n : ℕ). FailsAtRecord start.mask.how start.mask.full here.0.stage.waiting here.0.stage r n behind.through fault now) number_is
           (subst (λ (stage : MaskStage). FailsAtRecord start.mask.how start.mask.full stage.waiting stage r (line_in later) behind.through fault now) (sym here.1) fails))
