@@ -25,9 +25,7 @@ pub decided_by_tags : (line : SequenceLine) (records : List Feature)
 decided_by_tags line records = ap (λ b. is_unnamed line.names || b) (decided_tagged (bases_up_to line) line.names records)
 
 stays_by : (a : Bool) (b c : Bool) → (a || b) ≡ true → (a || (b || c)) ≡ true
-stays_by true b c e = refl
-stays_by false true c e = refl
-stays_by false false c e = absurd (let apart : false ≡ true = e in cc)
+stays_by a b c e = grind (arith, nat_tests)
 
 pub decided_stays : decided_lines_stay
 decided_stays line records more e =
@@ -129,8 +127,7 @@ module _ (bases : ℕ) where
       behind_both bases (items_if_last left (r ∷ [])) (own_in (tags chrom_of left (Some r.chrom) more)) (past_own left r past) (past_all left r more past placed)
 
   drop_false : (b : Bool) → (b || false) ≡ true → b ≡ true
-  drop_false true e = refl
-  drop_false false e = e
+  drop_false b e = grind (arith, nat_tests)
 
   before_split : (left : Option (List (List ℕ))) (last : Option (List ℕ)) (rs : List Feature) (r : Feature) (more : List Feature) (a : Bool) → list_any (tag_decides bases) (tags chrom_of left last rs) ≡ a
       → (a || (block_decides bases (next_left chrom_of (leave left last rs) (last_from last rs) r) (r ∷ []) || false)) ≡ true → AreInBlocks (rs ++ r ∷ more)
@@ -158,8 +155,7 @@ module _ (bases : ℕ) where
       ap (λ b. b || list_any (covers position) rs) none ∙ no_cover position rs low h.1
 
   or_none : (b : Bool) → (b || false) ≡ b
-  or_none true = refl
-  or_none false = refl
+  or_none b = grind (arith, nat_tests)
 
   cover_same : (position : ℕ) (rs extra : List Feature) → position < bases → AreBehind bases extra → list_any (covers position) (rs ++ extra) ≡ list_any (covers position) rs
   cover_same position rs extra low h =
@@ -182,8 +178,7 @@ text_same how line rs extra behind false h =
     masked_same (bases_up_to line) how rs extra line.before line.text low behind
 
 pub none_next : (t : Bool) (name : List ℕ) → cond t None (left_by None name) ≡ None
-none_next true name = refl
-none_next false name = refl
+none_next t name = grind (arith, nat_tests)
 
 none_own : (last : Option (List ℕ)) (rs : List Feature) → own_in (tags chrom_of None last rs) ≡ []
 none_own last [] = refl
@@ -288,8 +283,7 @@ told_of [] = None
 told_of (t ∷ ts) = told_by t.left t.item (told_of ts)
 
 told_first : (ms : List (Member Feature)) (ts : List (Tagged (Member Feature))) → HasOne ms → told_at_first ms ≡ told_of (tag_items None ms ++ ts)
-told_first [] ts h = absurd h
-told_first (m ∷ ms) ts h = refl
+told_first ms ts h = grind (arith, nat_tests)
 
 told_later : (names : List (List ℕ)) (ms : List (Member Feature)) (ts : List (Tagged (Member Feature))) → told_of ts ≡ told_of (tag_items (Some names) ms ++ ts)
 told_later names [] ts = refl

@@ -1,5 +1,5 @@
 -- Lemmas on what is known of blocks, from call to call.
-use Rattle.bt_lines.proofs.Std.{◌≡◌, ℕ, ◌⊎◌, Bool, true, false, cond, List, [], ◌∷◌, ◌++◌, Option, Some, None, refl, sym, ap, ◌∙◌, subst, inl, inr, bytes_eq, arith, cases_Bool, bytes_decides, is_some, option_map}
+use Rattle.bt_lines.proofs.Std.{◌≡◌, ℕ, ◌⊎◌, Bool, true, false, cond, List, [], ◌∷◌, ◌++◌, Option, Some, None, refl, sym, ap, ◌∙◌, subst, inl, inr, bytes_eq, arith, cases_Bool, bytes_decides, is_some, option_map, nat_tests}
 use Rattle.std.specs.List.{last_or}
 use Rattle.bt_bed.specs.model.Feature.{Feature}
 use Rattle.bt_seq.proofs.lemmas.definitions.KnowsLemmas.{last_goes_on, owners_found, goes_on_or_begins}
@@ -152,9 +152,7 @@ module _ (names : List (List ℕ)) (taken : List Feature) (r : Feature) (m : Mat
   left_none k = ap (λ ns. left_after ns (taken ++ r ∷ [])) k.unnamed ∙ ap (λ (rs : List Feature). left_after [] (rs ++ r ∷ [])) k.untaken
 
   owner_none : KnowsNone names taken m → m.name ≡ last_or None names → owner_of m r.chrom ≡ owner_by (left_after names (taken ++ r ∷ []))
-  owner_none k name =
-      let nobody : owner_of m r.chrom ≡ Nobody = rw (k.last, k.own, name, k.unnamed) refl in
-      nobody ∙ sym (ap owner_by (left_none k))
+  owner_none k name = grind (arith, nat_tests)
 
   -- the sequence of its block is found
   pub owner_next : KnowsNone names taken m ⊎ (MayTake ⊎ KnowsLast names (taken ++ r ∷ []) m) → m.name ≡ last_or None names → owner_of m r.chrom ≡ owner_by (left_after names (taken ++ r ∷ []))
@@ -213,10 +211,7 @@ module _ (names : List (List ℕ)) (n : List ℕ) (taken : List Feature) (m : Ma
   grown_last rs last e = record { knows = grown_known rs [] last e; near = λ k. front_is rs [] e k }
 
   left_known : Knows names taken m → (left : List (List ℕ)) × (left_after names taken ≡ Some left)
-  left_known k = elim k.where_last [
-    | inl own ↦ ([], own.left)
-    | inr e ↦ (e.before ++ e.name ∷ [], e.left)
-  ]
+  left_known k = grind (arith, nat_tests)
 
   ahead_grows : (r : Feature) → KnowsAhead names taken r m → left_after names (taken ++ r ∷ []) ≡ None → KnowsAhead (names ++ n ∷ []) taken r (named m n)
   ahead_grows r k none =

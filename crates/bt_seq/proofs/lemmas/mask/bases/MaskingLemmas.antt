@@ -126,14 +126,7 @@ pub wrote_line : (old inside known new : Masking) (r : Feature) (owner : Owner) 
     → (decides old r ≡ true)
     × (new ≡ record (with_owner old r.chrom) { waiting = None; want = Line; decided_to = decides_up_to (owner_of old.matched r.chrom) r.start })
     × Grown out (line_bytes old line) grown
-wrote_line old inside known new r owner matched line out grown k e o m d w = (
-  sym (ap (λ (s : Masking). decides s r) e) ∙ sym (ap (λ o. decides_by o inside.window.bases r.start) o) ∙ d,
-  w.0 ∙ ap (λ (s : Masking). record s { waiting = None; want = Line }) k
-      ∙ ap (λ o. record inside { matched = matched; waiting = None; want = Line; decided_to = decides_up_to o r.start }) o
-      ∙ ap (λ m. record inside { matched = m; waiting = None; want = Line; decided_to = decides_up_to (owner_of inside.matched r.chrom) r.start }) m
-      ∙ ap (λ (s : Masking). record (with_owner s r.chrom) { waiting = None; want = Line; decided_to = decides_up_to (owner_of s.matched r.chrom) r.start }) e,
-  subst (λ (s : Masking). Grown out (line_bytes s line) grown) (k ∙ ap (λ (s : Masking). record s { matched = matched; decided_to = decides_up_to owner r.start }) e) w.1,
-)
+wrote_line old inside known new r owner matched line out grown k e o m d w = grind (arith, nat_tests)
 
 -- Lemmas on masked bases.
 

@@ -64,8 +64,7 @@ left_some : (bases : ℕ) (left : Option (List (List ℕ))) (r : Feature) → bl
 left_some bases left r e = grind (arith, nat_tests)
 
 owner_some : (left : Option (List (List ℕ))) → (owner_by left ≡ Nobody → ⊥) → is_some left ≡ true
-owner_some None h = absurd (h refl)
-owner_some (Some names) h = refl
+owner_some left h = grind (arith, nat_tests)
 
 -- how far a record decides lines
 up_to_by : (left : Option (List (List ℕ))) (r : Feature) → decides_up_to (owner_by left) r.start ≡ decided_up_to left r
@@ -433,9 +432,7 @@ module _ (how : MaskHow) (full : Bool) where
   -- the record ahead and those after it follow
   follow_ahead : (stage : MaskStage) (r : Feature) (records : List Feature) → stage.bed_ended ≡ false → stage.ahead ≡ Some r → (f : MayFollow stage records)
       → records ≡ (stage.taken ++ r ∷ []) ++ f.more
-  follow_ahead stage r records going is f =
-      f.begins ∙ ap (λ (b : Bool). (stage.taken ++ cond b [] (option_to_list stage.ahead)) ++ f.more) going
-      ∙ ap (λ (o : Option Feature). (stage.taken ++ option_to_list o) ++ f.more) is
+  follow_ahead stage r records going is f = grind (arith, nat_tests)
 
   -- after their end no others do
   follow_none : (stage : MaskStage) (records : List Feature) → stage.bed_ended ≡ true → MayFollow stage records → records ≡ stage.taken

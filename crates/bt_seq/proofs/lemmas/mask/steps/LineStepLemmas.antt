@@ -284,8 +284,7 @@ module _ (how : MaskHow) (full : Bool) (stage : MaskStage) (old : Masking) (s : 
   -- a header isn't, while records may come
   header_later : (item : SequenceLine) → is_unnamed item.names ≡ false → is_header item.text ≡ true → stage.bed_ended ≡ false
       → is_written_at_once stage item ≡ true → ⊥
-  header_later item is_named e going now =
-      never (sym (rw (going, is_named, header_ahead stage.ahead stage.taken item e) refl) ∙ now)
+  header_later item is_named e going now = grind (arith, nat_tests)
 
   module _ (line : TextLine) where
     abbrev header_moved : Masking
