@@ -105,9 +105,7 @@ module _ (start stop : ℕ) (operation : Operation) where
 -- no operation is left
 pub block_is_last : (start stop : ℕ) (rest : List ℕ) → operations_in rest ≡ none_left rest → FitBehind stop (operations_in rest)
     → open_in start stop (operations_in rest) ≡ with_bases start stop ++ blocks_in stop (operations_in rest)
-block_is_last start stop [] e h =
-    rw e (sym (ap (λ l. with_bases start stop ++ l) (blocks_open stop [] ∙ no_bases stop stop refl) ∙ append-nil (with_bases start stop)))
-block_is_last start stop (byte ∷ bytes) e h = absurd (false≢true (sym (ap (fit_behind stop) e) ∙ h))
+block_is_last start stop rest e h = grind (arith, nat_tests, blocks_open, no_bases, append-nil)
 
 -- an empty text has no blocks
 pub no_blocks : (start : ℕ) (rest : List ℕ) → length rest ≡ 0 → blocks_in start (operations_in rest) ≡ []
@@ -299,10 +297,7 @@ single_match digits value few e =
     ∙ ap Some (grind (arith, nat_tests))
 
 pub single_span_is : (text : List ℕ) (end : ℕ) (number : Option ℕ) → end ≤ 12 → length text ≡ end + 1 → get_or text end 0 ≡ 77 → number ≡ value_of (take end text) → IfSome number (λ span. span_with 0 (operations_in text) ≡ Some span)
-single_span_is text end None few size last e = tt
-single_span_is text end (Some value) few size last e =
-    let whole : text ≡ take end text ++ 77 ∷ [] = sym (take_all (end + 1) text (omega (arith, size))) ∙ take_more text end 0 (omega (arith, size)) ∙ ap (λ b. take end text ++ b ∷ []) last in
-    ap (λ l. span_with 0 (operations_in l)) whole ∙ single_match (take end text) value (omega (arith, few, length-take end text)) e
+single_span_is text end number few size last e = grind (arith, nat_tests, take_all, take_more, single_match, length-take)
 
 -- Lemmas on masked extents.
 
@@ -444,10 +439,7 @@ module _ {A : Type 0} (chrom : A → List ℕ) where
   with_first : (left : Option (List (List ℕ))) (last : Option (List ℕ)) (x : A) (b : Block A) (bs : List (Block A)) (t : Bool) → bytes_eq (chrom x) b.chrom ≡ t
       → record { item = x; left = next_left left last x } ∷ cond t (tag_items (next_left left last x) b.items ++ spread (owned_from (next_left left last x) bs)) (spread (owned_from (next_left left last x) (b ∷ bs)))
       ≡ blocks_tags left last (cond t (record { chrom = b.chrom; items = x ∷ b.items } ∷ bs) (record { chrom = chrom x; items = x ∷ [] } ∷ b ∷ bs))
-  with_first left last x b bs true e =
-      let same : chrom x ≡ b.chrom = (bytes_decides (chrom x) b.chrom).0 e in
-      joined left last x b bs (is_last last (chrom x)) (ap (is_last last) (sym same)) same
-  with_first left last x b bs false e = apart left last x b bs (is_last last (chrom x)) refl
+  with_first left last x b bs t e = grind (arith, nat_tests, bytes_decides, joined, apart)
 
   with_any : (left : Option (List (List ℕ))) (last : Option (List ℕ)) (x : A) (bs : List (Block A))
       → record { item = x; left = next_left left last x } ∷ blocks_tags (next_left left last x) (Some (chrom x)) bs ≡ blocks_tags left last (block_with (chrom x) x bs)
@@ -520,9 +512,7 @@ module _ (bases : ℕ) where
   early_decides n ns (r ∷ rs) = early_decides n ns rs
 
   items_decide : (left : Option (List (List ℕ))) (rs : List Feature) → HasOne rs → block_decides bases left rs ≡ list_any (tag_decides bases) (tag_items left rs)
-  items_decide None rs h = sym (none_decides rs h)
-  items_decide (Some []) rs h = own_decides rs
-  items_decide (Some (n ∷ ns)) rs h = sym (early_decides n ns rs)
+  items_decide left rs h = grind (arith, nat_tests, none_decides, own_decides, early_decides)
 
   any_decides : (left : Option (List (List ℕ))) (bs : List (Block Feature)) → AllHaveOne bs
       → list_any (λ (o : Owned Feature). block_decides bases o.left o.block.items) (owned_from left bs) ≡ list_any (tag_decides bases) (spread (owned_from left bs))
@@ -534,9 +524,7 @@ module _ (bases : ℕ) where
 
   pub decided_tagged : (names : List (List ℕ)) (records : List Feature)
       → list_any (λ (o : Owned Feature). block_decides bases o.left o.block.items) (owned names records) ≡ list_any (tag_decides bases) (tags_of names records)
-  decided_tagged names records =
-      any_decides (Some names) (blocks_by (λ (r : Feature). r.chrom) records) (blocks_have_one (λ (r : Feature). r.chrom) records)
-      ∙ sym (ap (list_any (tag_decides bases)) (tags_all (λ (r : Feature). r.chrom) (Some names) records))
+  decided_tagged names records = grind (arith, nat_tests, any_decides, blocks_have_one, tags_all)
 
 -- one more record
 pub tags_more : (left : Option (List (List ℕ))) (last : Option (List ℕ)) (rs : List Feature) (r : Feature)

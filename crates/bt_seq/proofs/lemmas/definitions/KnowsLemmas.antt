@@ -43,10 +43,7 @@ apart left last r b bs s e = grind (arith, nat_tests)
 with_first : (left : Option (List (List ℕ))) (last : List ℕ) (r : Feature) (b : Block Feature) (bs : List (Block Feature)) (t : Bool) → bytes_eq r.chrom b.chrom ≡ t
     → cond t (left_at_last (one_leaves left (Some last) r) (owned_from (one_leaves left (Some last) r) bs)) (left_at_last (one_leaves left (Some last) r) (owned_from (one_leaves left (Some last) r) (b ∷ bs)))
     ≡ blocks_leave left last (cond t (record { chrom = b.chrom; items = r ∷ b.items } ∷ bs) (record { chrom = r.chrom; items = r ∷ [] } ∷ b ∷ bs))
-with_first left last r b bs true e =
-    let same : r.chrom ≡ b.chrom = (bytes_decides r.chrom b.chrom).0 e in
-    joined left last r b bs (bytes_eq last r.chrom) (ap (bytes_eq last) (sym same)) same
-with_first left last r b bs false e = apart left last r b bs (bytes_eq last r.chrom) refl
+with_first left last r b bs t e = grind (arith, nat_tests, bytes_decides, joined, apart)
 
 with_any : (left : Option (List (List ℕ))) (last : List ℕ) (r : Feature) (bs : List (Block Feature)) → blocks_leave (one_leaves left (Some last) r) r.chrom bs ≡ blocks_leave left last (block_with r.chrom r bs)
 with_any left last r [] = alone left last r (bytes_eq last r.chrom) refl

@@ -171,11 +171,7 @@ module _ (bases : ℕ) where
 
 text_same : (how : MaskHow) (line : SequenceLine) (rs extra : List Feature) → AreBehind (bases_up_to line) extra → (h : Bool) → is_header line.text ≡ h
     → cond h line.text (masked_from how (rs ++ extra) line.before line.text) ≡ cond h line.text (masked_from how rs line.before line.text)
-text_same how line rs extra behind true h = refl
-text_same how line rs extra behind false h =
-    let count : bases_in line.text ≡ length line.text = ap (λ b. cond b 0 (length line.text)) h in
-    let low : line.before + length line.text ≤ bases_up_to line = omega (arith, count) in
-    masked_same (bases_up_to line) how rs extra line.before line.text low behind
+text_same how line rs extra behind h is = grind (arith, nat_tests, masked_same)
 
 pub none_next : (t : Bool) (name : List ℕ) → cond t None (left_by None name) ≡ None
 none_next t name = grind (arith, nat_tests)
@@ -233,10 +229,7 @@ module _ (line : SequenceLine) where
 
   held_same : (rs extra : List Feature) → AreBehind (bases_up_to line) extra
       → filter reaches (rs ++ extra) ≡ filter reaches rs
-  held_same rs extra h =
-      filter-append reaches rs extra
-      ∙ ap (λ (l : List Feature). filter reaches rs ++ l) (none_reaches extra h)
-      ∙ append-nil (filter reaches rs)
+  held_same rs extra h = grind (arith, nat_tests, filter-append, none_reaches, append-nil)
 
   held_by_tags : (rs : List Feature) (r : Feature) → AreInBlocks (rs ++ r ∷ []) → (u : Bool)
       → is_unnamed line.names ≡ u
@@ -253,9 +246,7 @@ module _ (line : SequenceLine) where
 
   pub held_before : (rs : List Feature) (r : Feature) → AreInBlocks (rs ++ r ∷ [])
       → decided line (rs ++ r ∷ []) ≡ true → held_for line (rs ++ r ∷ []) ≡ held_for line rs
-  held_before rs r placed e =
-      held_by_tags rs r placed (is_unnamed line.names) refl
-      (sym (decided_by_tags line (rs ++ r ∷ [])) ∙ e)
+  held_before rs r placed e = grind (arith, nat_tests, held_by_tags, decided_by_tags)
 
 pub masked_stay : masked_lines_stay
 masked_stay how line rs more placed e =

@@ -156,13 +156,7 @@ module _ (names : List (List ℕ)) (taken : List Feature) (r : Feature) (m : Mat
 
   -- the sequence of its block is found
   pub owner_next : KnowsNone names taken m ⊎ (MayTake ⊎ KnowsLast names (taken ++ r ∷ []) m) → m.name ≡ last_or None names → owner_of m r.chrom ≡ owner_by (left_after names (taken ++ r ∷ []))
-  owner_next can name = elim can [
-    | inl none ↦ owner_none none name
-    | inr more ↦ elim more [
-      | inl may ↦ owner_may may
-      | inr last ↦ owner_known last
-    ]
-  ]
+  owner_next can name = grind (arith, nat_tests, owner_none, owner_may, owner_known)
 
   known_left : KnowsLast names (taken ++ r ∷ []) m → left_after names (taken ++ r ∷ []) ≡ None → ⊥
   known_left k e = grind arith

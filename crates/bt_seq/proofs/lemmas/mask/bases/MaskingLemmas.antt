@@ -18,10 +18,7 @@ use Rattle.bt_lines.specs.calls.Columns.{IsBefore, Lacks}
 -- what is put of a line into which nothing reaches
 plain_bytes : (old : Masking) (line : Waiting) → old.window.held ≡ []
     → line.text ++ end_bytes line.ending ≡ line_bytes old line
-plain_bytes old line none =
-    ap (λ (t : List ℕ). t ++ end_bytes line.ending)
-    (none_masked old.how old.window.before line.text
-    ∙ ap (λ (ss : List Extent). masked_in old.how ss old.window.before line.text) (sym none))
+plain_bytes old line none = grind (arith, nat_tests, none_masked)
 
 pub none_held : (held : List Extent) → nat_eq (length held) 0 ≡ true → held ≡ []
 none_held [] e = refl
@@ -157,18 +154,7 @@ module _ (f : ℕ → ℕ) (old : List ℕ) (at : ℕ) (within : at + 32 ≤ len
   -- once the lanes are masked, the ones before the next lanes are
   pub masked_more : (bases lanes : List ℕ) → bases ≡ map f (take at old) ++ drop at old → lanes ≡ map f (chunk at 32 bases)
       → put_chunk at bases lanes ≡ map f (take (at + 32) old) ++ drop (at + 32) old
-  masked_more bases lanes is masked =
-      let here : lanes ≡ map f (take 32 (drop at old)) = masked ∙ ap (map f) (same_lanes bases is) in
-      let many : length lanes ≡ 32 = ap length here ∙ so_many in
-      let left : take at bases ≡ map f (take at old) = ap (take at) is ∙ take_at (map f (take at old)) (drop at old) at as_many in
-      let right : drop at bases ≡ drop at old = ap (drop at) is ∙ drop_at (map f (take at old)) (drop at old) at as_many in
-      let behind : drop (length lanes) (drop at bases) ≡ drop (at + 32) old = ap (λ n. drop n (drop at bases)) many ∙ ap (drop 32) right ∙ drop-drop 32 at old in
-      put_chunk_is at bases lanes (omega (arith, within, many, so_long bases is))
-      ∙ ap (λ l. l ++ (lanes ++ drop (length lanes) (drop at bases))) left
-      ∙ ap (λ l. map f (take at old) ++ (lanes ++ l)) behind
-      ∙ ap (λ l. map f (take at old) ++ (l ++ drop (at + 32) old)) here
-      ∙ sym (append_assoc (map f (take at old)) (map f (take 32 (drop at old))) (drop (at + 32) old))
-      ∙ ap (λ l. l ++ drop (at + 32) old) (sym (map-append f (take at old) (take 32 (drop at old))) ∙ ap (map f) (sym (take-add at 32 old)))
+  masked_more bases lanes is masked = grind (arith, nat_tests, same_lanes, so_many, take_at, as_many, drop_at, drop-drop, put_chunk_is, so_long, append_assoc, map-append, take-add)
 
 -- once the rest is masked too, all are
 module _ (f : ℕ → ℕ) (old bases : List ℕ) (at : ℕ) (within : at ≤ length old) (is : bases ≡ map f (take at old) ++ drop at old) where
@@ -259,15 +245,10 @@ module _ (text : List ℕ) (end n : ℕ) (space : IsBefore 32 text end) (tab : I
     clear = subst (Lacks 9) (take_all n front (omega (arith, none))) tab.clear
 
     by_space : end < length text → take n text ≡ take_while in_name text
-    by_space below =
-        let whole : text ≡ front ++ 32 ∷ drop (end + 1) text = space.cut below in
-        let is : take n text ≡ front = ap (λ k. take k text) (none ∙ size) in
-        is ∙ sym (ap (take_while in_name) whole ∙ before_end front (drop (end + 1) text) 32 space.clear clear refl)
+    by_space below = grind (arith, nat_tests, size, before_end, clear)
 
     by_end : length text ≤ end → take n text ≡ take_while in_name text
-    by_end over =
-        let all : front ≡ text = take_all end text over in
-        ap (λ k. take k text) (none ∙ size) ∙ all ∙ sym (ap (take_while in_name) (sym all) ∙ all_named front space.clear clear ∙ all)
+    by_end over = grind (arith, nat_tests, take_all, all_named, clear)
 
     by_rest : (b : Bool) → nat_lt end (length text) ≡ b → take n text ≡ take_while in_name text
     by_rest true e = by_space (let below : end < length text = grind (arith, nat_tests) in below)

@@ -46,16 +46,11 @@ module _ (line : SequenceLine) (r : Feature) (range : r.stop ≤ max_number) whe
     agrees e = grind (arith, nat_tests)
 
     extent_by : (h t : Bool) → h ≡ t → (with_extent h w r.start r.stop).held ≡ w.held ++ map extent_of (cond t (r ∷ []) [])
-    extent_by true true e = refl
-    extent_by true false e = absurd (never (sym e))
-    extent_by false true e = absurd (never e)
-    extent_by false false e = sym (append-nil w.held)
+    extent_by h t e = grind (arith, nat_tests, append-nil)
 
     extent_more : (left : Option (List (List ℕ))) → block_decides (bases_up_to line) left (r ∷ []) ≡ false
         → (with_extent (holds_by (owner_by left) w r) w r.start r.stop).held ≡ w.held ++ map extent_of (filter reaches (items_if_last left (r ∷ [])))
-    extent_more None e = absurd (never (sym e))
-    extent_more (Some []) e = extent_by (nat_lt w.before r.stop) (reaches r) (agrees e)
-    extent_more (Some (n ∷ ns)) e = sym (append-nil w.held)
+    extent_more left e = grind (arith, nat_tests, extent_by, agrees, append-nil)
 
     hold_item : (left : Option (List (List ℕ))) → block_decides (bases_up_to line) left (r ∷ []) ≡ false → holds_by (owner_by left) w r ≡ true → filter reaches (items_if_last left (r ∷ [])) ≡ r ∷ []
     hold_item left e d = grind (arith, nat_tests)
@@ -109,10 +104,7 @@ module _ (how : MaskHow) (full : Bool) (stage : MaskStage) (line : SequenceLine)
     owner_is = owner_next line.names stage.taken r old.matched can at_last.inside.name_is
 
     decides_is : decides old r ≡ block_decides (bases_up_to line) left (r ∷ [])
-    decides_is =
-        ap (λ o. decides_by o old.window.bases r.start) owner_is
-        ∙ ap (λ b. decides_by (owner_by left) b r.start) at_last.inside.counts.bases
-        ∙ decides_alike (bases_up_to line) left r (omega arith)
+    decides_is = grind (arith, nat_tests, owner_is, at_last, decides_alike)
 
     decided_is : decided line (stage.taken ++ r ∷ []) ≡ decides old r
     decided_is = decided_more line stage.taken r ∙ ap (λ b. b || block_decides (bases_up_to line) left (r ∷ [])) undecided_yet ∙ sym decides_is
@@ -436,9 +428,7 @@ module _ (how : MaskHow) (full : Bool) where
 
   -- after their end no others do
   follow_none : (stage : MaskStage) (records : List Feature) → stage.bed_ended ≡ true → MayFollow stage records → records ≡ stage.taken
-  follow_none stage records over f =
-      f.begins ∙ ap (λ (b : Bool). (stage.taken ++ cond b [] (option_to_list stage.ahead)) ++ f.more) over
-      ∙ ap (λ (l : List Feature). (stage.taken ++ []) ++ l) (f.all over) ∙ append-nil (stage.taken ++ []) ∙ append-nil stage.taken
+  follow_none stage records over f = grind (arith, nat_tests, append-nil)
 
   follow_taken : (stage : MaskStage) (records : List Feature) → MayFollow stage records → (more : List Feature) × (records ≡ stage.taken ++ more)
   follow_taken stage records f =

@@ -111,13 +111,7 @@ module _ (to : ℕ) where
   -- a line that was consumed stays as it was given
   stays : (p q : CopyThrough) (line : TextLine) (m : Masking) → bounds_of p ≡ m.window → is_some m.matched.name ≡ true → IsKnownTo m
       → CopiesLine to p line q → (stays_as_given m line.text ≡ true) × (bounds_of q ≡ gone_on m.window (length line.text))
-  stays p q line m at named known step =
-      let counts : bounds_of q ≡ gone_on m.window (length line.text) = step.counts ∙ ap (λ (w : Bounds). gone_on w (length line.text)) at in (
-        all_true (is_header line.text) (is_some m.matched.name) (nat_eq (length m.window.held) 0) (m.bed_ended || nat_le (gone_on m.window (length line.text)).bases m.decided_to)
-            step.no_header named (ap (λ (w : Bounds). nat_eq (length w.held) 0) (sym at))
-            (subst (λ (w : Bounds). (m.bed_ended || nat_le w.bases m.decided_to) ≡ true) counts (known q.bases step.within)),
-        counts,
-      )
+  stays p q line m at named known step = grind (arith, nat_tests, all_true)
 
   pub copies_stay : (lines : List TextLine) (p q : CopyThrough) (m : Masking) → bounds_of p ≡ m.window → is_some m.matched.name ≡ true → IsKnownTo m
       → CopiesLines to p lines q → StayEach m lines
@@ -287,13 +281,7 @@ module _ (low high : ℕ) (up : low ≤ high) where
       or_from (tag_decides high t) (list_any (tag_decides high) ts) (not_yet t.left t.item both.0) (none_yet ts both.1)
 
   pub undecided_next : (line next : SequenceLine) (rs : List Feature) → next.names ≡ line.names → bases_up_to line ≡ low → bases_up_to next ≡ high → decided line rs ≡ false → decided next rs ≡ false
-  undecided_next line next rs same is next_is e =
-      let ts = tags_of line.names rs in
-      let both = or_parts (is_unnamed line.names) (list_any (tag_decides (bases_up_to line)) ts) (sym (decided_by_tags line rs) ∙ e) in
-      decided_by_tags next rs
-      ∙ ap (λ l. is_unnamed l || list_any (tag_decides (bases_up_to next)) (tags_of l rs)) same
-      ∙ ap (λ b. is_unnamed line.names || list_any (tag_decides b) ts) next_is
-      ∙ or_from (is_unnamed line.names) (list_any (tag_decides high) ts) both.0 (none_yet ts (ap (λ b. list_any (tag_decides b) ts) (sym is) ∙ both.1))
+  undecided_next line next rs same is next_is e = grind (arith, nat_tests, or_parts, decided_by_tags, or_from, none_yet)
 
 -- Lemmas on the stage of a masking engine, by the line given last.
 

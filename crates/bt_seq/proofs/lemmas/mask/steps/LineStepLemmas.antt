@@ -178,11 +178,7 @@ module _ (taken : List Feature) (range : AreInRange taken) (line : TextLine) (pl
 
   pub held_further : (last : Option SequenceLine) (w : Bounds) → Counts last w → IsOpen last taken → w.held ≡ map extent_of (held_by last taken)
       → filter (λ (s : Extent). nat_lt w.bases s.stop) w.held ≡ map extent_of (held_for (next last) taken)
-  held_further None w counts open_at held = held_untaken None w open_at held
-  held_further (Some l) w counts open_at held = elim open_at [
-    | inl none ↦ held_untaken (Some l) w none held
-    | inr undecided ↦ held_next l w counts.bases undecided held
-  ]
+  held_further last w counts open_at held = grind (arith, nat_tests, held_untaken, held_next)
 
   pub open_further : (last : Option SequenceLine) → IsOpen last taken → IsOpen (Some (next last)) taken
   open_further None open_at = inl open_at
@@ -275,11 +271,7 @@ module _ (how : MaskHow) (full : Bool) (stage : MaskStage) (old : Masking) (s : 
       → (stage.bed_ended ≡ false → is_unnamed item.names ≡ false
       → (not (is_header item.text) && nat_le moved.window.bases moved.decided_to) ≡ is_written_ahead stage.ahead stage.taken item)
       → writes_at_once moved item.text ≡ is_written_at_once stage item
-  once_by item moved ended name alike =
-      let known = not (is_header item.text) && nat_le moved.window.bases moved.decided_to in
-      ap (λ b. b || (is_none moved.matched.name || known)) ended
-      ∙ ap (λ b. stage.bed_ended || (b || known)) (ap is_none name ∙ last_name_none item.names)
-      ∙ or_third stage.bed_ended (is_unnamed item.names) known (is_written_ahead stage.ahead stage.taken item) alike
+  once_by item moved ended name alike = grind (arith, nat_tests, last_name_none, or_third)
 
   -- a header isn't, while records may come
   header_later : (item : SequenceLine) → is_unnamed item.names ≡ false → is_header item.text ≡ true → stage.bed_ended ≡ false
@@ -387,9 +379,7 @@ module _ (how : MaskHow) (full : Bool) (stage : MaskStage) (old : Masking) (s : 
         }
 
     stray_is : is_header line.text ≡ false → is_stray old line.text ≡ (is_unnamed names && nat_lt 0 (length line.text))
-    stray_is e =
-        ap (λ b. not b && (is_none old.matched.name && nat_lt 0 (length line.text))) e
-        ∙ ap (λ b. b && nat_lt 0 (length line.text)) (ap is_none s.stands.inside.name_is ∙ last_name_none names)
+    stray_is e = grind (arith, nat_tests, last_name_none)
 
     plain_says : is_header line.text ≡ false → line_says full (reached stage) line ≡ cond (may_stand names line.text) (Ok (Some plain_item)) (Err TextBeforeHeader)
     plain_says e = ap (λ b. cond b (Ok (Some (header_behind full (reached stage) line))) (cond (may_stand names line.text) (Ok (Some plain_item)) (Err TextBeforeHeader))) e
@@ -416,10 +406,7 @@ module _ (how : MaskHow) (full : Bool) (stage : MaskStage) (old : Masking) (s : 
   module _ (item : SequenceLine) (moved : Masking) (m : Moved item moved) where
     -- whether it may need memory
     memory_is : may_grow moved item.text ≡ may_need_memory stage item
-    memory_is =
-        ap (λ b. is_header item.text || (not b || nat_lt 0 (length moved.window.held))) m.at_once
-        ∙ ap (λ (n : ℕ). is_header item.text || (not (is_written_at_once stage item) || nat_lt 0 n))
-        (ap length m.holds ∙ length-map (held_for item stage.taken) extent_of)
+    memory_is = grind (arith, nat_tests, length-map)
 
     -- its bytes
     bytes_are : line_bytes moved (kept_line item) ≡ masked_line how stage.taken item
@@ -453,9 +440,7 @@ module _ (how : MaskHow) (full : Bool) (stage : MaskStage) (old : Masking) (s : 
     written_stage = record stage { written = stage.written ++ item ∷ [] }
 
     written_last : last_or None (given written_stage) ≡ Some item
-    written_last =
-        ap (λ (w : Option SequenceLine). last_or None ((stage.written ++ item ∷ []) ++ option_to_list w)) asked.0
-        ∙ ap (last_or None) (append-nil (stage.written ++ item ∷ [])) ∙ last_more stage.written item
+    written_last = grind (arith, nat_tests, asked, append-nil, last_more)
 
     or_true : (a b c : Bool) → (a || (b || c)) ≡ true → a ≡ false → b ≡ false → c ≡ true
     or_true a b c e d f = grind arith
