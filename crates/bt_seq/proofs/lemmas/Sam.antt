@@ -2,7 +2,7 @@
 use Rattle.bt_lines.proofs.Std.{◌≡◌, ℕ, ◌+◌, ◌≤◌, Bool, true, false, List, [], ◌∷◌, ◌++◌, length, Option, Some, None, refl, sym, ap, ◌∙◌, arith, cond, append-nil, add-zero, append_assoc, flat_map, nat_lt, not, false≢true, nat_tests, sum_by-cons, sum_by_push, take_while-cons, ◌<◌, take, drop, get_or, option_map, length-append, length-take, IfSome, is_ascii_digit, list_all, list_all_more, digits_value, and_parts, take-append-drop, take_more, drop_more, take-append-le, get_or_append_left, take_all, ◌-◌, zero, suc, min, ◌||◌, map, list_any, list_any-append, Result, Ok, Err, subst, nat_le, bytes_eq, bytes_decides, ⊤, flat_map-append}
 use Rattle.bt_bed.specs.model.Feature.{Span, Feature}
 use Rattle.bt_seq.specs.model.Alignment.{begins_block, block_at, blocks_in, blocks_of, cuts, is_skip, up_to_skip, with_bases, covered_by, operations_in, reference_length, with_operation, Part, is_letter, onto_part, operation_of, each_operation, parts_of, with_part, span_with, Alignment, Fields, alignment_of, columns_say, fields_of, fields_say, is_skipped, value_up_to, length_of, is_sam_kind, sam_kinds_are_of_lines, wrong_have_sam_kinds}
-use Rattle.bt_seq.specs.inside.Sam.{none_left, FitBehind, fit_behind}
+use Rattle.bt_seq.specs.inside.Sam.{none_left, FitBehind}
 use Rattle.bt_seq.specs.declared.sam.operation.Operation.{Operation}
 use Rattle.std.specs.Prelude.{option_and_then}
 use Rattle.bt_lines.proofs.lemmas.numbers.NumberLemmas.{digits_below, digits_denoting, value_of_digits, value_of_empty, value_of_large, value_of_other, value_short}
@@ -92,20 +92,18 @@ unfolding blocks_of
 blocks_open start operations = found_open start operations [] true start start (sym (add-zero start)) refl (λ h. refl)
 
 pub blocks_open_in : (start : ℕ) (operations : Option (List Operation)) → blocks_in start operations ≡ open_in start start operations
-blocks_open_in start None = refl
-blocks_open_in start (Some operations) = blocks_open start operations
+blocks_open_in start operations = grind (arith, blocks_open)
 
 -- an N ends the block
 module _ (start stop : ℕ) (operation : Operation) where
   pub block_ends : (more : Option (List Operation)) → is_skip operation ≡ true → FitBehind stop (with_operation (Some operation) more)
       → open_in start stop (with_operation (Some operation) more) ≡ with_bases start stop ++ blocks_in (stop + operation.length) more
-  block_ends None k h = absurd (false≢true h)
-  block_ends (Some operations) k h = rw k (ap (λ l. with_bases start stop ++ l) (sym (blocks_open (stop + operation.length) operations)))
+  block_ends more k h = grind (arith, blocks_open)
 
 -- no operation is left
 pub block_is_last : (start stop : ℕ) (rest : List ℕ) → operations_in rest ≡ none_left rest → FitBehind stop (operations_in rest)
     → open_in start stop (operations_in rest) ≡ with_bases start stop ++ blocks_in stop (operations_in rest)
-block_is_last start stop rest e h = grind (arith, nat_tests, blocks_open, no_bases, append-nil)
+block_is_last start stop rest e h = grind (arith, blocks_open)
 
 -- an empty text has no blocks
 pub no_blocks : (start : ℕ) (rest : List ℕ) → length rest ≡ 0 → blocks_in start (operations_in rest) ≡ []
@@ -297,7 +295,7 @@ single_match digits value few e =
     ∙ ap Some (grind (arith, nat_tests))
 
 pub single_span_is : (text : List ℕ) (end : ℕ) (number : Option ℕ) → end ≤ 12 → length text ≡ end + 1 → get_or text end 0 ≡ 77 → number ≡ value_of (take end text) → IfSome number (λ span. span_with 0 (operations_in text) ≡ Some span)
-single_span_is text end number few size last e = grind (arith, nat_tests, take_all, take_more, single_match, length-take)
+single_span_is text end number few size last e = grind (arith, take_all, take_more, single_match, length-take)
 
 -- Lemmas on masked extents.
 
@@ -427,24 +425,14 @@ module _ {A : Type 0} (chrom : A → List ℕ) where
       → tag_at left x s ∷ [] ≡ blocks_tags left last (block_with (chrom x) x [])
   alone left last x s e = grind arith
 
-  joined : (left : Option (List (List ℕ))) (last : Option (List ℕ)) (x : A) (b : Block A) (bs : List (Block A)) (s : Bool) → is_last last b.chrom ≡ s → chrom x ≡ b.chrom
-      → tag_at left x s ∷ (tag_items (cond s left (left_by left (chrom x))) b.items ++ spread (owned_from (cond s left (left_by left (chrom x))) bs))
-      ≡ blocks_tags left last (record { chrom = b.chrom; items = x ∷ b.items } ∷ bs)
-  joined left last x b bs s e same = grind arith
-
-  apart : (left : Option (List (List ℕ))) (last : Option (List ℕ)) (x : A) (b : Block A) (bs : List (Block A)) (s : Bool) → is_last last (chrom x) ≡ s
-      → tag_at left x s ∷ spread (owned_from (cond s left (left_by left (chrom x))) (b ∷ bs)) ≡ blocks_tags left last (record { chrom = chrom x; items = x ∷ [] } ∷ b ∷ bs)
-  apart left last x b bs s e = grind arith
-
   with_first : (left : Option (List (List ℕ))) (last : Option (List ℕ)) (x : A) (b : Block A) (bs : List (Block A)) (t : Bool) → bytes_eq (chrom x) b.chrom ≡ t
       → record { item = x; left = next_left left last x } ∷ cond t (tag_items (next_left left last x) b.items ++ spread (owned_from (next_left left last x) bs)) (spread (owned_from (next_left left last x) (b ∷ bs)))
       ≡ blocks_tags left last (cond t (record { chrom = b.chrom; items = x ∷ b.items } ∷ bs) (record { chrom = chrom x; items = x ∷ [] } ∷ b ∷ bs))
-  with_first left last x b bs t e = grind (arith, nat_tests, bytes_decides, joined, apart)
+  with_first left last x b bs t e = grind (arith, bytes_decides)
 
   with_any : (left : Option (List (List ℕ))) (last : Option (List ℕ)) (x : A) (bs : List (Block A))
       → record { item = x; left = next_left left last x } ∷ blocks_tags (next_left left last x) (Some (chrom x)) bs ≡ blocks_tags left last (block_with (chrom x) x bs)
-  with_any left last x [] = alone left last x (is_last last (chrom x)) refl
-  with_any left last x (b ∷ bs) = with_first left last x b bs (bytes_eq (chrom x) b.chrom) refl
+  with_any left last x bs = grind (arith, with_first)
 
   tags_on : (left : Option (List (List ℕ))) (last : Option (List ℕ)) (xs : List A) → tags left last xs ≡ blocks_tags left last (blocks xs)
   tags_on left last [] = refl
@@ -497,9 +485,6 @@ pub own_tagged : (names : List (List ℕ)) (records : List Feature) → own_reco
 own_tagged names records = own_spread (owned names records) ∙ sym (ap own_in (tags_all (λ (r : Feature). r.chrom) (Some names) records))
 
 module _ (bases : ℕ) where
-  none_decides : (rs : List Feature) → HasOne rs → list_any (tag_decides bases) (tag_items None rs) ≡ true
-  none_decides rs h = grind arith
-
   or_first : (a b : Bool) → ((a || false) || b) ≡ (a || b)
   or_first a b = grind arith
 
@@ -512,7 +497,7 @@ module _ (bases : ℕ) where
   early_decides n ns (r ∷ rs) = early_decides n ns rs
 
   items_decide : (left : Option (List (List ℕ))) (rs : List Feature) → HasOne rs → block_decides bases left rs ≡ list_any (tag_decides bases) (tag_items left rs)
-  items_decide left rs h = grind (arith, nat_tests, none_decides, own_decides, early_decides)
+  items_decide left rs h = grind (arith, own_decides, early_decides)
 
   any_decides : (left : Option (List (List ℕ))) (bs : List (Block Feature)) → AllHaveOne bs
       → list_any (λ (o : Owned Feature). block_decides bases o.left o.block.items) (owned_from left bs) ≡ list_any (tag_decides bases) (spread (owned_from left bs))
@@ -524,7 +509,7 @@ module _ (bases : ℕ) where
 
   pub decided_tagged : (names : List (List ℕ)) (records : List Feature)
       → list_any (λ (o : Owned Feature). block_decides bases o.left o.block.items) (owned names records) ≡ list_any (tag_decides bases) (tags_of names records)
-  decided_tagged names records = grind (arith, nat_tests, any_decides, blocks_have_one, tags_all)
+  decided_tagged names records = grind (arith, any_decides, blocks_have_one, tags_all)
 
 -- one more record
 pub tags_more : (left : Option (List (List ℕ))) (last : Option (List ℕ)) (rs : List Feature) (r : Feature)

@@ -25,7 +25,7 @@ pub decided_by_tags : (line : SequenceLine) (records : List Feature)
 decided_by_tags line records = ap (λ b. is_unnamed line.names || b) (decided_tagged (bases_up_to line) line.names records)
 
 stays_by : (a : Bool) (b c : Bool) → (a || b) ≡ true → (a || (b || c)) ≡ true
-stays_by a b c e = grind (arith, nat_tests)
+stays_by a b c e = grind arith
 
 pub decided_stays : decided_lines_stay
 decided_stays line records more e =
@@ -127,7 +127,7 @@ module _ (bases : ℕ) where
       behind_both bases (items_if_last left (r ∷ [])) (own_in (tags chrom_of left (Some r.chrom) more)) (past_own left r past) (past_all left r more past placed)
 
   drop_false : (b : Bool) → (b || false) ≡ true → b ≡ true
-  drop_false b e = grind (arith, nat_tests)
+  drop_false b e = grind arith
 
   before_split : (left : Option (List (List ℕ))) (last : Option (List ℕ)) (rs : List Feature) (r : Feature) (more : List Feature) (a : Bool) → list_any (tag_decides bases) (tags chrom_of left last rs) ≡ a
       → (a || (block_decides bases (next_left chrom_of (leave left last rs) (last_from last rs) r) (r ∷ []) || false)) ≡ true → AreInBlocks (rs ++ r ∷ more)
@@ -154,12 +154,8 @@ module _ (bases : ℕ) where
       let none : covers position r ≡ false = grind (arith, nat_tests) in
       ap (λ b. b || list_any (covers position) rs) none ∙ no_cover position rs low h.1
 
-  or_none : (b : Bool) → (b || false) ≡ b
-  or_none b = grind (arith, nat_tests)
-
   cover_same : (position : ℕ) (rs extra : List Feature) → position < bases → AreBehind bases extra → list_any (covers position) (rs ++ extra) ≡ list_any (covers position) rs
-  cover_same position rs extra low h =
-      list_any-append (covers position) rs extra ∙ ap (λ b. list_any (covers position) rs || b) (no_cover position extra low h) ∙ or_none (list_any (covers position) rs)
+  cover_same position rs extra low h = grind (arith, list_any-append, no_cover)
 
   -- they mask nothing before
   masked_same : (how : MaskHow) (rs extra : List Feature) (position : ℕ) (text : List ℕ) → position + length text ≤ bases → AreBehind bases extra
@@ -171,10 +167,10 @@ module _ (bases : ℕ) where
 
 text_same : (how : MaskHow) (line : SequenceLine) (rs extra : List Feature) → AreBehind (bases_up_to line) extra → (h : Bool) → is_header line.text ≡ h
     → cond h line.text (masked_from how (rs ++ extra) line.before line.text) ≡ cond h line.text (masked_from how rs line.before line.text)
-text_same how line rs extra behind h is = grind (arith, nat_tests, masked_same)
+text_same how line rs extra behind h is = grind (arith, masked_same)
 
 pub none_next : (t : Bool) (name : List ℕ) → cond t None (left_by None name) ≡ None
-none_next t name = grind (arith, nat_tests)
+none_next t name = grind arith
 
 none_own : (last : Option (List ℕ)) (rs : List Feature) → own_in (tags chrom_of None last rs) ≡ []
 none_own last [] = refl
@@ -187,8 +183,7 @@ unnamed_own [] = refl
 unnamed_own (r ∷ rs) = own_tagged [] (r ∷ rs) ∙ none_own (Some r.chrom) rs
 
 unnamed_alike : (names : List (List ℕ)) → is_unnamed names ≡ true → (rs ss : List Feature) → own_records names rs ≡ own_records names ss
-unnamed_alike [] e rs ss = unnamed_own rs ∙ sym (unnamed_own ss)
-unnamed_alike (name ∷ names) e rs ss = absurd (let apart : false ≡ true = e in cc)
+unnamed_alike names e rs ss = grind (arith, unnamed_own)
 
 -- the records of the line's sequence, split where it was decided
 own_split : (names : List (List ℕ)) (rs more : List Feature) → own_records names (rs ++ more) ≡ own_records names rs ++ own_in (tags chrom_of (leave (Some names) None rs) (last_from None rs) more)
@@ -229,7 +224,7 @@ module _ (line : SequenceLine) where
 
   held_same : (rs extra : List Feature) → AreBehind (bases_up_to line) extra
       → filter reaches (rs ++ extra) ≡ filter reaches rs
-  held_same rs extra h = grind (arith, nat_tests, filter-append, none_reaches, append-nil)
+  held_same rs extra h = grind (arith, filter-append, none_reaches, append-nil)
 
   held_by_tags : (rs : List Feature) (r : Feature) → AreInBlocks (rs ++ r ∷ []) → (u : Bool)
       → is_unnamed line.names ≡ u
@@ -246,7 +241,7 @@ module _ (line : SequenceLine) where
 
   pub held_before : (rs : List Feature) (r : Feature) → AreInBlocks (rs ++ r ∷ [])
       → decided line (rs ++ r ∷ []) ≡ true → held_for line (rs ++ r ∷ []) ≡ held_for line rs
-  held_before rs r placed e = grind (arith, nat_tests, held_by_tags, decided_by_tags)
+  held_before rs r placed e = grind (arith, held_by_tags, decided_by_tags)
 
 pub masked_stay : masked_lines_stay
 masked_stay how line rs more placed e =
@@ -273,9 +268,6 @@ abbrev told_of : List (Tagged (Member Feature)) → Option FaultValue
 told_of [] = None
 told_of (t ∷ ts) = told_by t.left t.item (told_of ts)
 
-told_first : (ms : List (Member Feature)) (ts : List (Tagged (Member Feature))) → HasOne ms → told_at_first ms ≡ told_of (tag_items None ms ++ ts)
-told_first ms ts h = grind (arith, nat_tests)
-
 told_later : (names : List (List ℕ)) (ms : List (Member Feature)) (ts : List (Tagged (Member Feature))) → told_of ts ≡ told_of (tag_items (Some names) ms ++ ts)
 told_later names [] ts = refl
 told_later names (m ∷ ms) ts = told_later names ms ts
@@ -286,8 +278,7 @@ told_in os = option_and_then (λ (o : Owned (Member Feature)). told_at_first o.b
 
 told_block : (left : Option (List (List ℕ))) (b : Block (Member Feature)) (os : List (Owned (Member Feature))) (ts : List (Tagged (Member Feature))) → HasOne b.items → told_in os ≡ told_of ts
     → told_in (record { block = b; left = left } ∷ os) ≡ told_of (tag_items left b.items ++ ts)
-told_block None b os ts h e = told_first b.items ts h
-told_block (Some names) b os ts h e = e ∙ told_later names b.items ts
+told_block left b os ts h e = grind (arith, told_later)
 
 told_spread : (left : Option (List (List ℕ))) (bs : List (Block (Member Feature))) → AllHaveOne bs → told_in (owned_from left bs) ≡ told_of (spread (owned_from left bs))
 told_spread left [] h = refl
@@ -310,8 +301,7 @@ never_owned last rs e = let apart : false ≡ true = sym (ap is_some (none_leave
 none_by : (left : Option (List (List ℕ))) (m : Member Feature) (ms : List (Member Feature)) → is_some (leave left (Some m.item.chrom) (items ms)) ≡ true
     → ((l : Option (List (List ℕ))) → is_some (leave l (Some m.item.chrom) (items ms)) ≡ true → told_of (tags chrom_at l (Some m.item.chrom) ms) ≡ None)
     → told_by left m (told_of (tags chrom_at left (Some m.item.chrom) ms)) ≡ None
-none_by None m ms e rest = absurd (never_owned (Some m.item.chrom) (items ms) e)
-none_by (Some names) m ms e rest = rest (Some names) e
+none_by left m ms e rest = grind (arith, never_owned)
 
 none_told : (left : Option (List (List ℕ))) (last : Option (List ℕ)) (ms : List (Member Feature)) → is_some (leave left last (items ms)) ≡ true → told_of (tags chrom_at left last ms) ≡ None
 none_told left last [] e = refl
@@ -323,8 +313,7 @@ lack_none names ms e = told_tagged names ms ∙ none_told (Some names) None ms (
 first_by : (left : Option (List (List ℕ))) (p : Member Feature) (past more : List (Member Feature)) (m : Member Feature) → is_some (leave left (Some p.item.chrom) (items past)) ≡ true
     → told_of (tags chrom_at left (Some p.item.chrom) (past ++ m ∷ more)) ≡ Some (fault_at_line Second m.line NoSequence)
     → told_by left p (told_of (tags chrom_at left (Some p.item.chrom) (past ++ m ∷ more))) ≡ Some (fault_at_line Second m.line NoSequence)
-first_by None p past more m e rest = absurd (never_owned (Some p.item.chrom) (items past) e)
-first_by (Some names) p past more m e rest = rest
+first_by left p past more m e rest = grind (arith, never_owned)
 
 first_here : (left : Option (List (List ℕ))) (m : Member Feature) (later : Option FaultValue) → left ≡ None → told_by left m later ≡ Some (fault_at_line Second m.line NoSequence)
 first_here left m later e = ap (λ l. told_by l m later) e

@@ -1,5 +1,5 @@
 -- Lemmas on a masking engine that is given a record, or the end of the records.
-use Rattle.bt_lines.proofs.Std.{◌≡◌, ℕ, ◌≤◌, ◌<◌, min, Bool, true, false, cond, ◌&&◌, ◌||◌, nat_le, nat_lt, List, [], ◌∷◌, ◌++◌, map, filter, Option, Some, None, Result, Ok, Err, refl, sym, ap, ◌∙◌, subst, append-nil, inl, inr, ◌⊎◌, arith, is_some, option_map, option_to_list, nat_tests, map-append, filter-append, not, append_assoc, flat_map, list_all, and_from, and_parts, false≢true, or_left, flat_map-append, list_all-append}
+use Rattle.bt_lines.proofs.Std.{◌≡◌, ℕ, ◌≤◌, ◌<◌, min, Bool, true, false, cond, ◌&&◌, ◌||◌, nat_lt, List, [], ◌∷◌, ◌++◌, map, filter, Option, Some, None, Result, Ok, Err, refl, sym, ap, ◌∙◌, subst, append-nil, inl, inr, ◌⊎◌, arith, is_some, option_map, option_to_list, nat_tests, map-append, filter-append, not, append_assoc, flat_map, list_all, and_from, and_parts, false≢true, or_left, flat_map-append, list_all-append}
 use Rattle.std.specs.List.{last_or}
 use Rattle.bt_bed.specs.model.Feature.{Feature}
 use Rattle.bt_bed.specs.model.BedLine.{fault_at_line}
@@ -10,12 +10,12 @@ use Rattle.bt_lines.specs.calls.Output.{Output, FailsToAdd, Grown}
 use Rattle.bt_lines.specs.declared.fault.Fault.{Fault}
 use Rattle.bt_lines.specs.declared.fault.Input.TheVariants.{Second}
 use Rattle.bt_lines.specs.declared.fault.Kind.TheVariants.{NoSequence}
-use Rattle.bt_seq.proofs.lemmas.mask.steps.LineStepLemmas.{decides_alike, range_more, line_masked, open_undecided}
+use Rattle.bt_seq.proofs.lemmas.mask.steps.LineStepLemmas.{range_more, line_masked, open_undecided}
 use Rattle.bt_seq.proofs.lemmas.mask.bases.KnownLemmas.{MayTake, never, next_can_be, nobody_left, none_ahead, own_ahead, owner_next, take_next}
 use Rattle.bt_seq.proofs.lemmas.definitions.MaskPrefixLemmas.{blocks_front, decided_stays, held_before, masked_before, masked_stay}
 use Rattle.bt_seq.proofs.lemmas.mask.steps.CopyLemmas.{decided_more, own_more, last_waits, stands_at, wants_bed, last_more}
 use Rattle.bt_seq.specs.calls.MaskStage.{extent_of, IsNext, MaskStage, given, held_by, reached, want_of, with_bed_ended, with_decided, with_record, SayEach, GoesOn, MayFollow, SettlesLines, is_written_ahead, is_written_at_once, reached_by, with_line}
-use Rattle.bt_seq.specs.calls.MaskState.{owner_by, Matched, matched_with, owner_of, Masking, TakesBed, Writes, decides, decides_by, decides_up_to, holding, holds, holds_by, line_bytes, with_owner, with_extent}
+use Rattle.bt_seq.specs.calls.MaskState.{owner_by, Matched, matched_with, owner_of, Masking, TakesBed, Writes, decides, decides_up_to, holding, holds, holds_by, line_bytes, with_owner, with_extent}
 use Rattle.bt_seq.specs.inside.Masking.{Counts, IsDecided, KnowsLast, KnowsNone, decided_up_to}
 use Rattle.bt_seq.specs.calls.MaskSteps.{MaskMovesTo, IsAtStage, Waits, kept_line, ChecksRecord, EndsRecords, GivesBed, LacksSequence, WritesLine, bytes_with}
 use Rattle.bt_seq.specs.model.Masked.{decided, held_for, masked_line, block_decides, items_if_last, left_after, own_records, SequenceLine, bases_up_to, is_unnamed, Reached, is_header, line_says}
@@ -42,15 +42,12 @@ module _ (line : SequenceLine) (r : Feature) (range : r.stop ≤ max_number) whe
   held_more rs = ap (filter reaches) (own_more line.names rs r) ∙ filter-append reaches (own_records line.names rs) (items_if_last (left_after line.names (rs ++ r ∷ [])) (r ∷ []))
 
   module _ (w : Bounds) (before : w.before ≡ min line.before limit) where
-    agrees : (nat_le (bases_up_to line) r.start || false) ≡ false → nat_lt w.before r.stop ≡ (nat_lt r.start (bases_up_to line) && nat_lt line.before r.stop)
-    agrees e = grind (arith, nat_tests)
-
     extent_by : (h t : Bool) → h ≡ t → (with_extent h w r.start r.stop).held ≡ w.held ++ map extent_of (cond t (r ∷ []) [])
-    extent_by h t e = grind (arith, nat_tests, append-nil)
+    extent_by h t e = grind (arith, append-nil)
 
     extent_more : (left : Option (List (List ℕ))) → block_decides (bases_up_to line) left (r ∷ []) ≡ false
         → (with_extent (holds_by (owner_by left) w r) w r.start r.stop).held ≡ w.held ++ map extent_of (filter reaches (items_if_last left (r ∷ [])))
-    extent_more left e = grind (arith, nat_tests, extent_by, agrees, append-nil)
+    extent_more left e = grind (arith, extent_by)
 
     hold_item : (left : Option (List (List ℕ))) → block_decides (bases_up_to line) left (r ∷ []) ≡ false → holds_by (owner_by left) w r ≡ true → filter reaches (items_if_last left (r ∷ [])) ≡ r ∷ []
     hold_item left e d = grind (arith, nat_tests)
@@ -59,7 +56,7 @@ left_some : (bases : ℕ) (left : Option (List (List ℕ))) (r : Feature) → bl
 left_some bases left r e = grind (arith, nat_tests)
 
 owner_some : (left : Option (List (List ℕ))) → (owner_by left ≡ Nobody → ⊥) → is_some left ≡ true
-owner_some left h = grind (arith, nat_tests)
+owner_some left h = grind arith
 
 -- how far a record decides lines
 up_to_by : (left : Option (List (List ℕ))) (r : Feature) → decides_up_to (owner_by left) r.start ≡ decided_up_to left r
@@ -84,8 +81,7 @@ module _ (how : MaskHow) (full : Bool) (stage : MaskStage) (line : SequenceLine)
   undecided_yet = open_undecided line stage.taken as_waits.named (at_last.is_open as_waits.lines)
 
   bytes_are : line_bytes old (kept_line line) ≡ masked_line how stage.taken line
-  bytes_are =
-      line_masked how line stage.taken at_last.inside.in_range as_waits.header old stands.how_is (at_last.holds (inl as_waits.lines)) at_last.inside.counts.before
+  bytes_are = grind (arith, line_masked, at_last)
 
   given_last : last_or None ((stage.written ++ option_to_list stage.waiting) ++ []) ≡ Some line
   given_last = ap (last_or None) (append-nil (stage.written ++ option_to_list stage.waiting)) ∙ last_waits stage line waits
@@ -104,7 +100,7 @@ module _ (how : MaskHow) (full : Bool) (stage : MaskStage) (line : SequenceLine)
     owner_is = owner_next line.names stage.taken r old.matched can at_last.inside.name_is
 
     decides_is : decides old r ≡ block_decides (bases_up_to line) left (r ∷ [])
-    decides_is = grind (arith, nat_tests, owner_is, at_last, decides_alike)
+    decides_is = grind (arith, nat_tests, owner_is, at_last)
 
     decided_is : decided line (stage.taken ++ r ∷ []) ≡ decides old r
     decided_is = decided_more line stage.taken r ∙ ap (λ b. b || block_decides (bases_up_to line) left (r ∷ [])) undecided_yet ∙ sym decides_is
@@ -258,8 +254,7 @@ decided_next (Some line) taken (Some a) r next e =
 held_next : (last : Option SequenceLine) (taken : List Feature) (r : Feature)
     → IsDecided last (taken ++ r ∷ []) → AreInBlocks (taken ++ r ∷ [])
     → held_by last (taken ++ r ∷ []) ≡ held_by last taken
-held_next None taken r e placed = refl
-held_next (Some line) taken r e placed = held_before line taken r placed e
+held_next last taken r e placed = grind (arith, held_before)
 
 -- after the last line
 module _ (how : MaskHow) (full : Bool) (stage : MaskStage) (none : stage.waiting ≡ None) (old : Masking) (stands : MaskMovesTo how full stage old) (wants : old.want ≡ Bed) where
@@ -424,15 +419,14 @@ module _ (how : MaskHow) (full : Bool) where
   -- the record ahead and those after it follow
   follow_ahead : (stage : MaskStage) (r : Feature) (records : List Feature) → stage.bed_ended ≡ false → stage.ahead ≡ Some r → (f : MayFollow stage records)
       → records ≡ (stage.taken ++ r ∷ []) ++ f.more
-  follow_ahead stage r records going is f = grind (arith, nat_tests)
+  follow_ahead stage r records going is f = grind arith
 
   -- after their end no others do
   follow_none : (stage : MaskStage) (records : List Feature) → stage.bed_ended ≡ true → MayFollow stage records → records ≡ stage.taken
-  follow_none stage records over f = grind (arith, nat_tests, append-nil)
+  follow_none stage records over f = grind (arith, append-nil)
 
   follow_taken : (stage : MaskStage) (records : List Feature) → MayFollow stage records → (more : List Feature) × (records ≡ stage.taken ++ more)
-  follow_taken stage records f =
-      let ahead = cond stage.bed_ended [] (option_to_list stage.ahead) in (ahead ++ f.more, f.begins ∙ append_assoc stage.taken ahead f.more)
+  follow_taken stage records f = grind (arith, append_assoc)
 
   -- a line that is written at once is settled
   module _ (stage : MaskStage) (line : SequenceLine) where

@@ -1,5 +1,5 @@
 -- Lemmas on lines of bases that are copied through.
-use Rattle.bt_lines.proofs.Std.{◌≡◌, ℕ, suc, ◌+◌, ◌-◌, ◌≤◌, min, Bool, true, false, not, ◌&&◌, ◌||◌, nat_eq, nat_le, nat_lt, if◌then◌else◌, List, [], ◌∷◌, ◌++◌, length, take, drop, length-append, append_assoc, append-nil, None, Result, Ok, Err, is_some, slice_range, refl, sym, ap, ◌∙◌, subst, arith, IsErr, IsOk, flat_map, nat_tests, take-append_seam, cond, Option, Some, bytes_eq, list_any, flat_map-append, list_any-append, or_parts, or_from, is_none, option_to_list}
+use Rattle.bt_lines.proofs.Std.{◌≡◌, ℕ, suc, ◌+◌, ◌-◌, ◌≤◌, min, Bool, true, false, ◌||◌, nat_eq, nat_le, nat_lt, if◌then◌else◌, List, [], ◌∷◌, ◌++◌, length, take, drop, length-append, append_assoc, append-nil, None, Result, Ok, Err, is_some, slice_range, refl, sym, ap, ◌∙◌, subst, arith, IsErr, IsOk, flat_map, nat_tests, take-append_seam, cond, Option, Some, bytes_eq, list_any, flat_map-append, list_any-append, or_parts, or_from, is_none, option_to_list}
 use Rattle.bt_lines.proofs.lemmas.reader.lines.TextLemmas.{spelled-fed}
 use Rattle.bt_lines.proofs.lemmas.Writer.{adds_some}
 use Rattle.bt_lines.specs.calls.Reader.{PassesLine, line_of, lines_in, rest_in}
@@ -9,19 +9,18 @@ use Rattle.bt_lines.specs.calls.Output.{Output, Adds, Puts}
 use Rattle.bt_lines.specs.declared.reader.buffered_lines.BufferedLines.{BufferedLines}
 use Rattle.bt_lines.specs.declared.fault.Fault.{Fault}
 use Rattle.bt_seq.specs.inside.Masking.{CopiesLine, CopiesLines, CopiesThrough, StayEach, WritesAll, bounds_of, passed_all}
-use Rattle.bt_seq.specs.calls.MaskStage.{PassesLines, MaskStage, given, reached_by, want_of}
+use Rattle.bt_seq.specs.calls.MaskStage.{PassesLines, MaskStage, given, want_of}
 use Rattle.bt_seq.specs.calls.MaskState.{Masking, passed, stays_as_given}
 use Rattle.bt_seq.specs.model.Masked.{is_header, decided, is_unnamed, block_decides, items_if_last, left_after, names_behind, own_records, SequenceLine, bases_up_to}
 use Rattle.bt_seq.specs.inside.Window.{Bounds, gone_on, limit}
 use Rattle.bt_seq.specs.declared.mask.copy_through.CopyThrough.{CopyThrough}
 use Rattle.bt_seq.specs.declared.mask.mask_want.MaskWant.TheVariants.{Line, Nothing, Bed}
-use denote.Ref.{Bor}
 use Rattle.bt_bed.specs.model.Feature.{Feature}
 use Rattle.bt_seq.proofs.lemmas.definitions.KnowsLemmas.{is_last, leave, leave_all, one_leaves}
 use Rattle.bt_seq.proofs.lemmas.definitions.MaskPrefixLemmas.{chrom_of, decided_by_tags, none_leaves}
 use Rattle.bt_seq.proofs.lemmas.Sam.{Tagged, own_in, own_tagged, tag_decides, tags, tags_more, tags_of}
 use Rattle.std.specs.List.{last_or}
-use Rattle.bt_seq.specs.calls.MaskSteps.{IsOpen, MaskMovesTo, MaskStandsAt, IsAtStage}
+use Rattle.bt_seq.specs.calls.MaskSteps.{MaskMovesTo, MaskStandsAt, IsAtStage}
 use Rattle.bt_seq.specs.declared.mask.mask_how.MaskHow.{MaskHow}
 
 -- the bytes of a line that has its line feed
@@ -92,9 +91,6 @@ bytes_between to lines old new p =
       omega (arith, b.1),
     )
 
-all_true : (h n e d : Bool) → h ≡ false → n ≡ true → e ≡ true → d ≡ true → (not h && (n && (e && d))) ≡ true
-all_true h n e d p q r s = rw (p, q, r, s) refl
-
 -- up to a base lines are known to be decided
 pub known_up_to : (ended : Bool) (to bases : ℕ) → bases ≤ (if ended then limit else to) → (ended || nat_le bases to) ≡ true
 known_up_to ended to bases within = grind (arith, nat_tests)
@@ -111,7 +107,7 @@ module _ (to : ℕ) where
   -- a line that was consumed stays as it was given
   stays : (p q : CopyThrough) (line : TextLine) (m : Masking) → bounds_of p ≡ m.window → is_some m.matched.name ≡ true → IsKnownTo m
       → CopiesLine to p line q → (stays_as_given m line.text ≡ true) × (bounds_of q ≡ gone_on m.window (length line.text))
-  stays p q line m at named known step = grind (arith, nat_tests, all_true)
+  stays p q line m at named known step = grind arith
 
   pub copies_stay : (lines : List TextLine) (p q : CopyThrough) (m : Masking) → bounds_of p ≡ m.window → is_some m.matched.name ≡ true → IsKnownTo m
       → CopiesLines to p lines q → StayEach m lines
@@ -142,8 +138,7 @@ some_bytes bytes e none = grind (arith, nat_tests)
 
 -- where it has come lies within what is buffered
 pub copies_within : (to : ℕ) (lines : List TextLine) (old new : CopyThrough) → CopiesLines to old lines new → new.lines.at ≤ length old.lines.all.now
-copies_within to lines old new p =
-    omega (arith, new.lines.within, ap (λ (b : Bor (List ℕ)). length b.now) (copies_pass to lines old new p).all_is)
+copies_within to lines old new p = grind (arith, copies_pass)
 
 -- lines that were put together
 module _ (to : ℕ) (old : Masking) (first last : CopyThrough) (at : bounds_of first ≡ old.window) (named : is_some old.matched.name ≡ true)
@@ -281,7 +276,7 @@ module _ (low high : ℕ) (up : low ≤ high) where
       or_from (tag_decides high t) (list_any (tag_decides high) ts) (not_yet t.left t.item both.0) (none_yet ts both.1)
 
   pub undecided_next : (line next : SequenceLine) (rs : List Feature) → next.names ≡ line.names → bases_up_to line ≡ low → bases_up_to next ≡ high → decided line rs ≡ false → decided next rs ≡ false
-  undecided_next line next rs same is next_is e = grind (arith, nat_tests, or_parts, decided_by_tags, or_from, none_yet)
+  undecided_next line next rs same is next_is e = grind (arith, decided_by_tags, none_yet)
 
 -- Lemmas on the stage of a masking engine, by the line given last.
 
@@ -316,10 +311,3 @@ pub last_name_none : (names : List (List ℕ)) → is_none (last_or None names) 
 last_name_none [] = refl
 last_name_none (n ∷ []) = refl
 last_name_none (n ∷ k ∷ ns) = last_name_none (k ∷ ns)
-
-pub unnamed_are : (names : List (List ℕ)) → is_unnamed names ≡ true → names ≡ []
-unnamed_are names e = grind arith
-
--- before the first header no record was taken
-pub unnamed_untaken : (last : Option SequenceLine) (taken : List Feature) → IsOpen last taken → is_unnamed (reached_by last).names ≡ true → taken ≡ []
-unnamed_untaken last taken open_at e = grind arith

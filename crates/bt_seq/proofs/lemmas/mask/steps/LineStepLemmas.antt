@@ -160,10 +160,6 @@ module _ (taken : List Feature) (range : AreInRange taken) (line : TextLine) (pl
   abbrev next : Option SequenceLine → SequenceLine
   next last = line_behind (reached_by last) line
 
-  held_untaken : (last : Option SequenceLine) (w : Bounds) → taken ≡ [] → w.held ≡ map extent_of (held_by last taken)
-      → filter (λ (s : Extent). nat_lt w.bases s.stop) w.held ≡ map extent_of (held_for (next last) taken)
-  held_untaken last w none held = grind (arith, nat_tests)
-
   undecided_tags : (l : SequenceLine) → decided l taken ≡ false → list_any (tag_decides (bases_up_to l)) (tags_of l.names taken) ≡ false
   undecided_tags l e = (or_parts (is_unnamed l.names) (list_any (tag_decides (bases_up_to l)) (tags_of l.names taken)) (sym (decided_by_tags l taken) ∙ e)).1
 
@@ -178,7 +174,7 @@ module _ (taken : List Feature) (range : AreInRange taken) (line : TextLine) (pl
 
   pub held_further : (last : Option SequenceLine) (w : Bounds) → Counts last w → IsOpen last taken → w.held ≡ map extent_of (held_by last taken)
       → filter (λ (s : Extent). nat_lt w.bases s.stop) w.held ≡ map extent_of (held_for (next last) taken)
-  held_further last w counts open_at held = grind (arith, nat_tests, held_untaken, held_next)
+  held_further last w counts open_at held = grind (arith, held_next)
 
   pub open_further : (last : Option SequenceLine) → IsOpen last taken → IsOpen (Some (next last)) taken
   open_further None open_at = inl open_at
@@ -186,9 +182,6 @@ module _ (taken : List Feature) (range : AreInRange taken) (line : TextLine) (pl
     | inl none ↦ inl none
     | inr undecided ↦ inr (undecided_next (bases_up_to l) (bases_up_to (next (Some l))) (omega arith) l (next (Some l)) taken refl refl refl undecided)
   ]
-
-or_third : (a b c d : Bool) → (a ≡ false → b ≡ false → c ≡ d) → (a || (b || c)) ≡ (a || (b || d))
-or_third a b c d e = grind arith
 
 -- the record ahead doesn't decide a header, and if it decides a line there is one
 header_ahead : (o : Option Feature) (taken : List Feature) (item : SequenceLine) → is_header item.text ≡ true
@@ -271,12 +264,12 @@ module _ (how : MaskHow) (full : Bool) (stage : MaskStage) (old : Masking) (s : 
       → (stage.bed_ended ≡ false → is_unnamed item.names ≡ false
       → (not (is_header item.text) && nat_le moved.window.bases moved.decided_to) ≡ is_written_ahead stage.ahead stage.taken item)
       → writes_at_once moved item.text ≡ is_written_at_once stage item
-  once_by item moved ended name alike = grind (arith, nat_tests, last_name_none, or_third)
+  once_by item moved ended name alike = grind (arith, last_name_none)
 
   -- a header isn't, while records may come
   header_later : (item : SequenceLine) → is_unnamed item.names ≡ false → is_header item.text ≡ true → stage.bed_ended ≡ false
       → is_written_at_once stage item ≡ true → ⊥
-  header_later item is_named e going now = grind (arith, nat_tests)
+  header_later item is_named e going now = grind arith
 
   module _ (line : TextLine) where
     abbrev header_moved : Masking
@@ -379,7 +372,7 @@ module _ (how : MaskHow) (full : Bool) (stage : MaskStage) (old : Masking) (s : 
         }
 
     stray_is : is_header line.text ≡ false → is_stray old line.text ≡ (is_unnamed names && nat_lt 0 (length line.text))
-    stray_is e = grind (arith, nat_tests, last_name_none)
+    stray_is e = grind (arith, last_name_none)
 
     plain_says : is_header line.text ≡ false → line_says full (reached stage) line ≡ cond (may_stand names line.text) (Ok (Some plain_item)) (Err TextBeforeHeader)
     plain_says e = ap (λ b. cond b (Ok (Some (header_behind full (reached stage) line))) (cond (may_stand names line.text) (Ok (Some plain_item)) (Err TextBeforeHeader))) e
@@ -406,12 +399,11 @@ module _ (how : MaskHow) (full : Bool) (stage : MaskStage) (old : Masking) (s : 
   module _ (item : SequenceLine) (moved : Masking) (m : Moved item moved) where
     -- whether it may need memory
     memory_is : may_grow moved item.text ≡ may_need_memory stage item
-    memory_is = grind (arith, nat_tests, length-map)
+    memory_is = grind (arith, length-map)
 
     -- its bytes
     bytes_are : line_bytes moved (kept_line item) ≡ masked_line how stage.taken item
-    bytes_are =
-        line_masked how item stage.taken s.stands.inside.in_range m.header moved m.how_is m.holds m.counts.before
+    bytes_are = grind (arith, line_masked)
 
     waiting_stands : stage.bed_ended ≡ false → is_unnamed item.names ≡ false
         → MaskMovesTo how full (record stage { waiting = Some item }) (record moved { waiting = Some (kept_line item); want = Bed })
@@ -440,7 +432,7 @@ module _ (how : MaskHow) (full : Bool) (stage : MaskStage) (old : Masking) (s : 
     written_stage = record stage { written = stage.written ++ item ∷ [] }
 
     written_last : last_or None (given written_stage) ≡ Some item
-    written_last = grind (arith, nat_tests, asked, append-nil, last_more)
+    written_last = grind (arith, append-nil, last_more)
 
     or_true : (a b c : Bool) → (a || (b || c)) ≡ true → a ≡ false → b ≡ false → c ≡ true
     or_true a b c e d f = grind arith
