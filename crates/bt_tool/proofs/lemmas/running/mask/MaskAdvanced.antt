@@ -1,5 +1,5 @@
 -- Lemmas on lines and records that were given to a masking engine together, over two readers.
-use Rattle.bt_lines.proofs.Std.{◌≡◌, ℕ, suc, Bool, true, false, List, [], ◌∷◌, ◌++◌, length, Option, None, Some, Err, refl, sym, ap, ◌∙◌, subst, append-nil, option_to_list, arith, inl, inr, nil_from_length, ◌⊎◌, IsTrue}
+use Rattle.bt_lines.proofs.Std.{◌≡◌, ℕ, suc, Bool, true, false, List, [], ◌∷◌, ◌++◌, length, Option, None, Some, Err, refl, sym, ap, ◌∙◌, subst, append-nil, option_to_list, arith, nil_from_length, ◌⊎◌, IsTrue}
 use Rattle.bt_lines.specs.declared.device.Source.{Ghosts as Source}
 use Rattle.bt_lines.specs.model.Fault.{FaultValue, no_memory, read_failed}
 use Rattle.bt_lines.specs.model.Lines.{AreNumbered, TextLine}
@@ -27,20 +27,17 @@ use Rattle.bt_tool.specs.inside.MaskLoop.{Masks, begun_pair, leaves_some, mask_j
 use Rattle.bt_tool.proofs.lemmas.running.mask.MaskedLemmas.{MaskEnds, asked, asks_for, come_so_far, ends_at, reached_behind, wrong_first}
 use Rattle.bt_tool.specs.inside.Pair.{IsKnown, JoinDef, Pair, SettlesPair, item_ahead, PairStage}
 use Rattle.bt_tool.proofs.lemmas.running.pair.PairTurns.{Follows, TakesFurther}
-use Rattle.bt_tool.proofs.lemmas.running.feed.WritingLemmas.{line_no_read}
-use Rattle.bt_tool.proofs.lemmas.running.members.BlockMembers.{has_taken, known_members, passes_known, refused, refuses, refuses_read, say_count, wrong_is_text}
+use Rattle.bt_tool.proofs.lemmas.running.members.BlockMembers.{has_taken, known_members, passes_known, refused, refuses, refuses_read, say_count}
 use Rattle.bt_tool.proofs.lemmas.running.mask.MaskFacts.{asked_of, ahead_first, first_of, settles_given}
 use Rattle.bt_tool.proofs.lemmas.running.members.MemberLemmas.{items_from, state_more}
 use Rattle.bt_tool.proofs.lemmas.running.pair.PairStops as stop
 use Rattle.bt_tool.proofs.lemmas.running.pair.PairTurns as turned
-use Rattle.bt_lines.proofs.lemmas.reader.block.ReadsLemmas.{some_is}
 
 alone : {A : Type 0} (items : List A) (o : Option A) → o ≡ None → items ++ option_to_list o ≡ items
 alone items o none = ap (λ o. items ++ option_to_list o) none ∙ append-nil items
 
 asked_more : (lines more : List SequenceLine) (records : List Feature) → (records ≡ []) ⊎ IsTrue (leaves_some lines records) → (records ≡ []) ⊎ IsTrue (leaves_some (lines ++ more) records)
-asked_more lines more records (inl none) = inl none
-asked_more lines more records (inr some) = inr (asked_of lines more records some)
+asked_more lines more records asks = grind (arith, asked_of)
 
 -- masking has come so far, and more lines and records are given
 module _ {A B : Type 0} {source_a : Source A} {source_b : Source B} {start : MaskRun A B} {before : Output} {at : Reached} {lines : LineReader A} {second : MemberReader B Feature (Option Locus)} {mask : Masking}
@@ -178,8 +175,7 @@ module _ {A B : Type 0} {source_a : Source A} {source_b : Source B} {start : Mas
       no_end (x ∷ xs) e = cc
 
       going_by : (b : Bool) → stage.lines_ended ≡ b → stage.lines_ended ≡ false
-      going_by true e = absurd (no_end texts (sym parts ∙ over (s.lines_over e)))
-      going_by false e = e
+      going_by b e = grind (arith, no_end)
 
       going : stage.lines_ended ≡ false
       going = going_by stage.lines_ended refl
@@ -188,8 +184,7 @@ module _ {A B : Type 0} {source_a : Source A} {source_b : Source B} {start : Mas
       all_written = sym (alone final.written final.waiting none) ∙ given_now
 
       never_read : (input : Input) (number : ℕ) → Some fault ≡ Some (read_failed input number) → ⊥
-      never_read input number e =
-          line_no_read First line.number kind input number (rw (wrong_is_text start.mask.full (reached final) line kind says) refl) (sym is ∙ some_is fault (read_failed input number) e)
+      never_read input number e = grind arith
 
       pub refuses_line : {through : Output} → Grown grown bytes through → EndsAt (Some fault) new second_now through
       refuses_line {through} adds =

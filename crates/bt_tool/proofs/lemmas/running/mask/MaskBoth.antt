@@ -1,5 +1,5 @@
 -- Lemmas on a round of masking in which lines and records were given together.
-use Rattle.bt_lines.proofs.Std.{◌≡◌, ℕ, zero, suc, ◌-◌, drop, length-take, ◌+◌, ◌≤◌, ◌<◌, Bool, true, false, List, [], ◌∷◌, ◌++◌, length, take, Option, None, Some, Result, Ok, Err, refl, sym, ap, ◌∙◌, subst, append-nil, append_assoc, option_to_list, arith, inl, inr, append_cancel_left, nil_from_length, ◌⊎◌, OnOk, is_some, nat_eq, false≢true}
+use Rattle.bt_lines.proofs.Std.{◌≡◌, ℕ, zero, suc, ◌-◌, length-take, ◌+◌, ◌≤◌, ◌<◌, Bool, true, false, List, [], ◌∷◌, ◌++◌, length, take, Option, None, Some, Result, Ok, Err, refl, sym, ap, ◌∙◌, subst, append-nil, append_assoc, option_to_list, arith, inl, inr, append_cancel_left, nil_from_length, ◌⊎◌, OnOk, is_some, nat_eq}
 use Rattle.bt_lines.specs.declared.device.Source.{Ghosts as Source}
 use Rattle.bt_lines.proofs.lemmas.reader.block.BufferLemmas.{fed_none}
 use Rattle.bt_lines.proofs.lemmas.reader.lines.TextLemmas.{bytes_in-lines, whole_count}
@@ -21,7 +21,7 @@ use Rattle.bt_bed.specs.calls.Reading.{MemberReader, state_behind}
 use Rattle.bt_bed.specs.declared.read.batch.Batch.{Batch}
 use Rattle.bt_seq.proofs.lemmas.mask.steps.BedStepLemmas.{goes_more, line_goes}
 use Rattle.bt_seq.proofs.lemmas.mask.steps.CopyLemmas.{wants_line}
-use Rattle.bt_seq.specs.calls.MaskStage.{SayEach, GoesOn, IsNext, MaskStage, given, is_written_at_once, reached, want_at, want_of, with_line}
+use Rattle.bt_seq.specs.calls.MaskStage.{GoesOn, IsNext, MaskStage, given, is_written_at_once, want_at, with_line}
 use Rattle.bt_seq.specs.calls.MaskState.{Masking}
 use Rattle.bt_seq.specs.calls.MaskSteps.{BothCome, ComesAfter, ComesNext, FailsAfter, FailsAtLines, FailsAtRecord, HasCome, StopsAt, MaskStandsAt, kept_line, FailsWithLine, RefusesLine, bytes_with}
 use Rattle.bt_seq.specs.model.Masked.{Reached, SequenceLine, sequence_format}
@@ -51,12 +51,7 @@ module _ {S State : Type 0} (second second_now : MemberReader S Feature State) (
   -- and it is the next one of those that are left
   kept_after : (was : Option Feature) → ((r : Feature) → was ≡ Some r → item_ahead second ≡ Some r) → (taken : List Feature) → second.buffered ≡ taken ++ second_now.buffered → (ahead : Option Feature)
       → ComesAfter batch_cursor was first taken ahead → (r : Feature) → ahead ≡ Some r → item_ahead second_now ≡ Some r
-  kept_after was kept taken split ahead comes r e = elim (comes r e) [
-    | inl same ↦ ahead_first second_now ∙ ap first_of (sym (split ∙ ap (λ (l : List Feature). l ++ second_now.buffered) same.1)) ∙ sym (ahead_first second) ∙ kept r same.0
-    | inr there ↦
-        let rest : second_now.buffered ≡ left there.0 = append_cancel_left taken second_now.buffered (left there.0) (sym split ∙ sym lent ∙ there.2.left_is) in
-        ahead_first second_now ∙ ap first_of (rest ∙ there.3.left_is)
-  ]
+  kept_after was kept taken split ahead comes r e = grind (arith, append_cancel_left)
 
 -- ---- how much is still wanted
 
@@ -64,37 +59,17 @@ pub waits_is : {stage : MaskStage} {mask : Masking} → MaskStandsAt stage mask 
 waits_is {stage} {mask} stands = ap is_some stands.waiting_is ∙ some_map kept_line stage.waiting
 
 pub rounds_most : (waits : Bool) (want : MaskWant) → mask_rounds waits want ≤ 3
-rounds_most waits WantLine = omega arith
-rounds_most true WantBed = omega arith
-rounds_most false WantBed = omega arith
-rounds_most waits Nothing = omega arith
+rounds_most waits want = grind arith
 
 pub rounds_few : (waits : Bool) (want : MaskWant) → waits ≡ false → mask_rounds waits want ≤ 2
-rounds_few waits WantLine e = omega arith
-rounds_few true WantBed e = absurd (false≢true (sym e))
-rounds_few false WantBed e = omega arith
-rounds_few waits Nothing e = omega arith
+rounds_few waits want e = grind arith
 
 -- if nothing was given, a line that waited was written, or the same is wanted
 no_more_by : (o final : Option SequenceLine) (newly written : List SequenceLine) → o ≡ None → (written ++ newly) ++ option_to_list final ≡ written ++ option_to_list o → final ≡ None
-no_more_by o final newly written none e =
-    (none_new newly final (append_cancel_left written (newly ++ option_to_list final) [] (sym (append_assoc written newly (option_to_list final)) ∙ e ∙ ap (λ (o : Option SequenceLine). written ++ option_to_list o) none))).1
-
-stays_by : (o final : Option SequenceLine) (l b : Bool) (old_want new_want : MaskWant) (old_waits new_waits : Bool) → old_want ≡ want_of (is_some o) l b → new_want ≡ want_of (is_some final) l b → old_waits ≡ is_some o → new_waits ≡ is_some final → (o ≡ None → final ≡ None)
-    → (mask_rounds new_waits new_want < mask_rounds old_waits old_want) ⊎ ((new_want ≡ old_want) × (new_waits ≡ old_waits))
-stays_by None final l b old_want new_want old_waits new_waits w v x y none =
-    let same : is_some final ≡ false = ap is_some (none refl) in
-    inr (v ∙ ap (λ s. want_of s l b) same ∙ sym w, y ∙ same ∙ sym x)
-stays_by (Some a) None l b old_want new_want old_waits new_waits w v x y none =
-    let most : mask_rounds old_waits old_want ≡ 3 = ap (λ s. mask_rounds s old_want) x ∙ ap (mask_rounds true) w in
-    let few = rounds_few new_waits new_want y in
-    inl (omega (arith, most, few))
-stays_by (Some a) (Some c) l b old_want new_want old_waits new_waits w v x y none = inr (v ∙ sym w, y ∙ sym x)
+no_more_by o final newly written none e = grind (arith, none_new, append_cancel_left, append_assoc)
 
 not_one : (n : ℕ) → nat_eq n 1 ≡ false → n - 1 ≡ 0 → n ≡ 0
-not_one zero e h = refl
-not_one (suc zero) e h = absurd (false≢true (sym e))
-not_one (suc (suc n)) e h = absurd (omega (arith, h))
+not_one n e h = grind arith
 
 -- if bytes are buffered, a line is
 no_bytes : (is_open : Bool) (lines : ℕ) (bytes : List ℕ) → is_fed bytes ≡ true → IsLast is_open is_open bytes [] → buffered_lines is_open lines bytes ≡ [] → length bytes ≡ 0
@@ -105,12 +80,7 @@ no_bytes true lines bytes fed last none =
     not_one (length bytes) (last.some refl) (omega (arith, size, length-take (length bytes - 1) bytes))
 
 some_buffered : {S : Type 0} (reader : LineReader S) (first : BufferedLines) → BeginsLines (buffered_bytes reader) (lines_given reader) (is_open reader) first → buffered_in reader ≡ [] → 0 < length (buffered_bytes reader) → ⊥
-some_buffered reader first begins none some =
-    let whole : drop first.at first.all.now ≡ buffered_bytes reader = ap (λ (k : ℕ). drop k first.all.now) begins.at ∙ begins.bytes_are in
-    let fed : is_fed (buffered_bytes reader) ≡ true = subst (λ (l : List ℕ). is_fed l ≡ true) whole first.fed in
-    let last : IsLast (is_open reader) (is_open reader) (buffered_bytes reader) [] =
-    subst (λ (b : Bool). IsLast b b (buffered_bytes reader) []) begins.open_is (subst (λ (l : List ℕ). IsLast first.is_open first.is_open l []) whole first.last) in
-    absurd (omega (arith, some, no_bytes (is_open reader) (lines_given reader) (buffered_bytes reader) fed last none))
+some_buffered reader first begins none some = grind (arith, no_bytes)
 
 module _ {A B : Type 0} {source_a : Source A} {source_b : Source B} {start : MaskRun A B} {before : Output} {at : Reached} {lines : LineReader A} {second : MemberReader B Feature (Option Locus)} {mask : Masking}
     {out : Output} (s : Masks source_a source_b start before at lines second mask out) {first_lines : BufferedLines} (begins : BeginsLines (buffered_bytes lines) (lines_given lines) (is_open lines) first_lines)
@@ -140,21 +110,11 @@ module _ {A B : Type 0} {source_a : Source A} {source_b : Source B} {start : Mas
     less_room = omega (arith, takes.taken_is, takes.shrinks, are.feeds)
 
     same_by : texts ≡ [] → s.stage.waiting ≡ None → final.waiting ≡ None
-    same_by none waits =
-        let items : comes.goes_on.items ≡ [] = no_items texts comes.goes_on.items none comes.goes_on.say in
-        no_more_by s.stage.waiting final.waiting comes.goes_on.newly s.stage.written waits
-        (ap (λ (l : List SequenceLine). l ++ option_to_list final.waiting) (sym comes.goes_on.written_is) ∙ comes.goes_on.given_is ∙ ap (λ (l : List SequenceLine). given s.stage ++ l) items ∙ append-nil (given s.stage))
-      where
-        no_items : (texts : List TextLine) (items : List SequenceLine) → texts ≡ [] → SayEach start.mask.full (reached s.stage) texts items → items ≡ []
-        no_items [] items e say = say
-        no_items (x ∷ xs) items e say = cc
+    same_by none waits = grind (arith, no_more_by, append-nil)
 
     stays : texts ≡ [] → (mask_rounds (is_some masked.waiting) masked.want < mask_rounds (is_some mask.waiting) mask.want)
         ⊎ ((masked.want ≡ mask.want) × (is_some masked.waiting ≡ is_some mask.waiting))
-    stays none =
-        stays_by s.stage.waiting final.waiting s.stage.lines_ended s.stage.bed_ended mask.want masked.want (is_some mask.waiting) (is_some masked.waiting) s.stands.want_is
-        (comes.stands.stands.want_is ∙ ap (λ (l : Bool). want_of (is_some final.waiting) l final.bed_ended) comes.goes_on.lines_ended_is ∙ ap (λ (b : Bool). want_of (is_some final.waiting) s.stage.lines_ended b) comes.goes_on.bed_ended_is)
-        (waits_is s.stands) (waits_is comes.stands.stands) (same_by none)
+    stays none = grind (arith, same_by)
 
     stuck_by : (want : MaskWant) → texts ≡ [] → taken ≡ [] → StopsAt batch_cursor want last_lines last_beds → IsMaskReady lines second want → ⊥
     stuck_by WantLine none unread stops there = some_buffered lines first_lines begins (parts ∙ ap (λ (l : List TextLine). l ++ lines_in last_lines) none ∙ stops) there

@@ -1,5 +1,5 @@
 -- Lemmas on the rounds of masking over two readers.
-use Rattle.bt_lines.proofs.Std.{◌≡◌, Bool, true, false, Option, None, Some, Result, Ok, Err, refl, sym, ◌∙◌, subst, ℕ, ◌≤◌, ◌<◌, List, [], ◌∷◌, length, ap, arith, inl, inr, IsErrAnd, ◌⊎◌, is_some, false≢true}
+use Rattle.bt_lines.proofs.Std.{◌≡◌, Bool, true, false, Option, None, Some, Result, Ok, Err, refl, sym, ◌∙◌, subst, ℕ, ◌≤◌, ◌<◌, List, [], length, ap, arith, inl, inr, IsErrAnd, ◌⊎◌, is_some, false≢true}
 use Rattle.bt_lines.specs.declared.device.Source.{Ghosts as Source}
 use Rattle.bt_lines.proofs.lemmas.reader.block.ReadsLemmas.{has_read_then, reads_same}
 use Rattle.bt_lines.specs.model.Fault.{FaultValue}
@@ -51,15 +51,13 @@ at_records : (waits : Bool) (want : MaskWant) → waits ≡ false → want ≡ W
 at_records waits want e w = ap (λ b. mask_rounds b want) e ∙ ap (mask_rounds false) w
 
 at_last : (waits bed_ended : Bool) (want : MaskWant) → waits ≡ false → want ≡ want_of false true bed_ended → mask_rounds waits want ≤ 1
-at_last waits true want e w = omega (arith, ap (λ b. mask_rounds b want) e, ap (mask_rounds false) w)
-at_last waits false want e w = omega (arith, ap (λ b. mask_rounds b want) e, ap (mask_rounds false) w)
+at_last waits bed_ended want e w = grind arith
 
 at_end : (waits : Bool) (want : MaskWant) → want ≡ Nothing → mask_rounds waits want ≡ 0
 at_end waits want e = ap (mask_rounds waits) e
 
 some_there : (line : ℕ) (records : List Feature) (m : Member Feature) → first_from line records ≡ Some m → 0 < length records
-some_there line [] m e = absurd (let apart : None ≡ Some m = e in cc)
-some_there line (r ∷ records) m e = omega arith
+some_there line records m e = grind arith
 
 module _ {A B : Type 0} {source_a : Source A} {source_b : Source B} {start : MaskRun A B} {before : Output} {at : Reached} {lines : LineReader A} {second : MemberReader B Feature (Option Locus)} {mask : Masking}
     {out : Output} (s : Masks source_a source_b start before at lines second mask out) where
@@ -149,9 +147,7 @@ wanted_of WantB = WantBed
 wanted_of WantNothing = Nothing
 
 is_wanted : (want : MaskWant) (of_two : Want) → wanted_by want ≡ of_two → want ≡ wanted_of of_two
-is_wanted WantLine of_two e = ap wanted_of e
-is_wanted WantBed of_two e = ap wanted_of e
-is_wanted Nothing of_two e = ap wanted_of e
+is_wanted want of_two e = grind arith
 
 module _ {A B : Type 0} {source_a : Source A} {source_b : Source B} {start : MaskRun A B} {out : Output} {old : MaskRun A B} {grown : Output} (s : MaskComes source_a source_b start out old grown) where
   pub none_first : line_fault old.lines ≡ None

@@ -1,5 +1,5 @@
 -- What giving an engine that masks does, by the parts of a run.
-use Rattle.bt_lines.proofs.Std.{◌≡◌, arith, ℕ, ◌+◌, ◌*◌, ◌<◌, ◌≤◌, Option, Some, Result, Ok, Err, is_some, length, suc, Bool, true, false, not, List, [], ◌∷◌, ◌++◌, None, refl, sym, ap, ◌∙◌, subst, append-nil, append_assoc, option_to_list, inl, inr, ◌⊎◌, IfSome, IsSome, IsTrue, option_map, false≢true, or_left, or_right, map-append, IfSome_then}
+use Rattle.bt_lines.proofs.Std.{◌≡◌, arith, ℕ, ◌+◌, ◌*◌, ◌<◌, ◌≤◌, Option, Some, Result, Ok, Err, is_some, length, suc, Bool, true, false, not, List, [], ◌∷◌, ◌++◌, None, refl, sym, ap, ◌∙◌, subst, append-nil, append_assoc, option_to_list, inl, inr, ◌⊎◌, IfSome, IsTrue, false≢true, or_left, or_right, map-append}
 use Rattle.bt_lines.specs.declared.device.Source.{Ghosts as Source}
 use Rattle.bt_lines.specs.model.Fault.{FaultValue}
 use Rattle.bt_lines.specs.calls.Names.{fault_value}
@@ -80,12 +80,6 @@ pub reached_behind : (full : Bool) (lines : List SequenceLine) → state_behind 
 reached_behind full [] = refl
 reached_behind full (line ∷ lines) = reached_said full line lines (record { names = []; bases = 0 })
 
--- the names of the sequences of lines are those that the last line has come to
-names_reached : (lines : List SequenceLine) → names_of lines ≡ (reached_by (last_or None lines)).names
-names_reached [] = refl
-names_reached (line ∷ []) = refl
-names_reached (line ∷ next ∷ lines) = names_reached (next ∷ lines)
-
 -- the last line is one of them
 last_leaves : (lines : List SequenceLine) (line : SequenceLine) (records : List Feature) → last_or None lines ≡ Some line → decided line records ≡ false → IsTrue (leaves_some lines records)
 last_leaves [] line records e open_at = cc
@@ -95,24 +89,17 @@ last_leaves (x ∷ []) line records e open_at =
 last_leaves (x ∷ next ∷ lines) line records e open_at = or_right (not (decided x records)) (leaves_some (next ∷ lines) records) (last_leaves (next ∷ lines) line records e open_at)
 
 open_leaves : (lines : List SequenceLine) (last : Option SequenceLine) (records : List Feature) → last_or None lines ≡ last → IsOpen last records → (records ≡ []) ⊎ IsTrue (leaves_some lines records)
-open_leaves lines None records e is_open = inl is_open
-open_leaves lines (Some line) records e (inl none) = inl none
-open_leaves lines (Some line) records e (inr open_at) = inr (last_leaves lines line records e open_at)
+open_leaves lines last records e is_open = grind (arith, last_leaves)
 
 -- the first record without a sequence
 told_by : (names : List (List ℕ)) (good : Option (Good Feature)) (past : List (Member Feature)) (m : Member Feature) (fault : FaultValue) → fault ≡ fault_at_line Second m.line NoSequence
     → is_some (left_after names (member_items past)) ≡ true → left_after names (member_items (past ++ m ∷ [])) ≡ None
     → IfSome good (λ good. (rest : List (Member Feature)) × (good.members ≡ (past ++ m ∷ []) ++ rest)) → IfSome good (λ good. no_sequence names good.members ≡ Some fault)
-told_by names good past m fault is owned unowned begins =
-    IfSome_then good begins (λ good parts. ap (no_sequence names) (parts.1 ∙ append_assoc past (m ∷ []) parts.0) ∙ first_is_told names past parts.0 m owned unowned ∙ ap Some (sym is))
+told_by names good past m fault is owned unowned begins = grind (arith, append_assoc, first_is_told)
 
 -- a record that was ahead still is
 kept_filled : {S State : Type 0} (device : Source S) (now new : MemberReader S Feature State) (r : Feature) → item_ahead now ≡ Some r → IsFilled device now new → item_ahead new ≡ Some r
-kept_filled {S} {State} device now new r was filled = ap (λ (x : MemberReader S Feature State). item_ahead x) (filled.gives.again (some_ahead (ahead_in now) r was)) ∙ was
-  where
-    some_ahead : (o : Option (Member Feature)) (r : Feature) → option_map (λ m. m.item) o ≡ Some r → IsSome o
-    some_ahead None r e = cc
-    some_ahead (Some m) r e = refl
+kept_filled {S} {State} device now new r was filled = grind arith
 
 -- none is if nothing is buffered
 none_ahead : {S State : Type 0} (now : MemberReader S Feature State) (r : Feature) → now.buffered ≡ [] → item_ahead now ≡ Some r → ⊥
@@ -152,8 +139,7 @@ module _ {A B : Type 0} {source_a : Source A} {source_b : Source B} {start : Mas
 
   -- the lines given have come as far as is known
   pub come_so_far : at ≡ reached stage
-  come_so_far =
-      s.comes.first_passes.state ∙ reached_behind start.mask.full (member_items s.past_first) ∙ ap (λ (l : List SequenceLine). reached_by (last_or None l)) (sym s.comes.all_given)
+  come_so_far = grind (arith, reached_behind)
 
   pub asked : stage.lines_ended ≡ false → join.Asks (given stage) stage.taken
   asked going = open_leaves (given stage) (last_or None (given stage)) stage.taken refl (s.stands.is_open going)
@@ -185,9 +171,7 @@ module _ {A B : Type 0} {source_a : Source A} {source_b : Source B} {start : Mas
   -- if no line waits, the block of each record taken belongs to a sequence of the lines
   module _ (none : stage.waiting ≡ None) where
     names_alone : names_of stage.written ≡ (reached stage).names
-    names_alone =
-        names_reached stage.written
-        ∙ ap (λ (l : List SequenceLine). (reached_by (last_or None l)).names) (sym (ap (λ (o : Option SequenceLine). stage.written ++ option_to_list o) none ∙ append-nil stage.written))
+    names_alone = grind (arith, append-nil)
 
     owned_alone : AreOwned stage.written (member_items s.past_second)
     owned_alone =
@@ -299,9 +283,7 @@ module _ {A B : Type 0} {source_a : Source A} {source_b : Source B} {start : Mas
         ))
 
     unowned_by : (none : stage.waiting ≡ None) → left_after (reached stage).names (stage.taken ++ r ∷ []) ≡ None → left_after (names_of stage.written) (member_items (s.past_second ++ m ∷ [])) ≡ None
-    unowned_by none e =
-        ap (λ (l : List (List ℕ)). left_after l (member_items (s.past_second ++ m ∷ []))) (names_alone none)
-        ∙ ap (left_after (reached stage).names) (map-append (λ (x : Member Feature). x.item) s.past_second (m ∷ []) ∙ ap (λ (l : List Feature). l ++ r ∷ []) (sym s.comes.all_taken)) ∙ e
+    unowned_by none e = grind (arith, names_alone, map-append)
 
     fails_by : (o : Option SequenceLine) → stage.waiting ≡ o → (fault : FaultValue) (now : Output) → FailsAtRecord start.mask.how start.mask.full o stage r (suc (lines_given second.below)) grown fault now → EndsAt (Some fault) lines second now
     fails_by None none fault now lacks =

@@ -1,5 +1,5 @@
 -- Lemmas on how a run over two readers of members stops.
-use Rattle.bt_lines.proofs.Std.{◌≡◌, ℕ, suc, ◌+◌, ◌≤◌, Bool, true, false, List, [], ◌∷◌, ◌++◌, Option, None, Some, Err, refl, sym, ap, ◌∙◌, subst, append-nil, append_assoc, option_to_list, inl, inr, drop, length, ◌⊎◌, All, IfSome, IsSome, is_some, false≢true, map-append}
+use Rattle.bt_lines.proofs.Std.{◌≡◌, ℕ, suc, ◌+◌, ◌≤◌, Bool, true, false, List, [], ◌∷◌, ◌++◌, Option, None, Some, Err, refl, sym, ap, ◌∙◌, subst, append-nil, append_assoc, option_to_list, inl, inr, drop, length, ◌⊎◌, All, IfSome, IsSome, is_some, false≢true, map-append, arith}
 use Rattle.bt_lines.specs.declared.device.Source.{Ghosts as Source}
 use Rattle.bt_lines.proofs.lemmas.Writer.{grows_both, grown_none}
 use Rattle.bt_lines.specs.model.Fault.{FaultValue, no_memory, read_failed}
@@ -22,8 +22,7 @@ use Rattle.bt_tool.proofs.lemmas.running.members.SeenLemmas.{cuts_more, if_known
 
 begins_more : {A : Type 0} (old : Good A) (now : Option (Good A)) (past : List (Member A)) (m : Member A) → ComeFirst (Some old) past now → IfSome now (λ good. (rest : List (Member A)) × (good.members ≡ m ∷ rest))
     → (rest : List (Member A)) × (old.members ≡ (past ++ m ∷ []) ++ rest)
-begins_more old None past m come first = absurd come
-begins_more old (Some now) past m come first = (first.0, come.0 ∙ ap (λ l. past ++ l) first.1 ∙ sym (append_assoc past (m ∷ []) first.0))
+begins_more old now past m come first = grind (arith, append_assoc)
 
 -- the members that were consumed and the one ahead come first
 pub seen_begins : {S A State : Type 0} (left : S → Option (List ℕ)) (old : Option (Good A)) (now : MemberReader S A State) (past : List (Member A)) (o : Option (Member A)) → ahead_in now ≡ o
@@ -128,9 +127,6 @@ module _ {A B X Y U V : Type 0} {join : JoinDef X Y} {pair : Pair A B X Y U V} {
     behind = read.behind;
   }
 
-  asks_same : (past : List (Member X)) (second_now : MemberReader B Y V) → source_of second_now.below ≡ source_of second.below → AsksFor join pair out past second → AsksFor join pair out past second_now
-  asks_same past second_now same asks = record { past = asks.past; reached = asks.reached; near = λ known. read_to_same asks.past second_now same (asks.near known) }
-
   -- it still is after more members were taken of both
   pub asks_then : join.Asks (firsts_given stage) stage.taken → ((more : List X) → join.Asks (firsts_given stage) stage.taken → join.Asks (firsts_given stage ++ more) stage.taken)
       → (more_first : List (Member X)) (more_second : List (Member Y)) (second_now : MemberReader B Y V) → TakesFurther pair.source_b pair.second past_second more_second second second_now
@@ -170,11 +166,7 @@ module _ {A B X Y U V : Type 0} {join : JoinDef X Y} {pair : Pair A B X Y U V} {
 
   ended_with : (more : List (Member Y)) (second_now : MemberReader B Y V) → (stage.second_ended ≡ true → (more ≡ []) × (second_now.buffered ≡ []))
       → stage.second_ended ≡ true → AreAll pair.source_b pair.second (past_second ++ more) × (ahead_in second_now ≡ None)
-  ended_with more second_now ended e =
-      let none = ended e in (
-        subst (AreAll pair.source_b pair.second) (sym (append-nil past_second) ∙ ap (λ (l : List (Member Y)). past_second ++ l) (sym none.0)) (s.second_all e).0,
-        ap (λ (l : List Y). first_from (suc (lines_given second_now.below)) l) none.1,
-      )
+  ended_with more second_now ended e = grind (arith, append-nil)
 
   module _ (asks : stage.first_ended ≡ false → AsksFor join pair out past_first second) (fits : IsKnown pair → join.Fits (firsts_given stage) past_second) where
     -- the bytes so far, and what was read of the inputs later
@@ -202,8 +194,7 @@ module _ {A B X Y U V : Type 0} {join : JoinDef X Y} {pair : Pair A B X Y U V} {
     }
 
     beside_if : (b : Bool) → stage.first_ended ≡ b → (second_now : MemberReader B Y V) → source_of second_now.below ≡ source_of second.below → (stage.first_ended ≡ true) ⊎ AsksFor join pair out past_first second_now
-    beside_if true e second_now same = inl e
-    beside_if false e second_now same = inr (asks_same past_first second_now same (asks e))
+    beside_if b e second_now same = grind arith
 
     beside_now : (stage.first_ended ≡ true) ⊎ AsksFor join pair out past_first second
     beside_now = beside_if stage.first_ended refl second refl

@@ -1,5 +1,5 @@
 -- How one stage of two inputs follows another.
-use Rattle.bt_lines.proofs.Std.{◌≡◌, true, List, [], ◌∷◌, ◌++◌, ℕ, Bool, false, ◌&&◌, ◌||◌, Option, None, Some, refl, sym, ap, ◌∙◌, subst, append-nil, append_assoc, flat_map, option_to_list, IsSome, is_none, option_map, list_all, false≢true, and_from, or_left, or_right, flat_map-append, list_all-append, suc, ◌≤◌, length, drop, ◌+◌, inl, inr, ◌⊎◌, All, IfSome, append_cancel_left, map-append, same_from_push, ◌<◌, Err, arith, All-push}
+use Rattle.bt_lines.proofs.Std.{◌≡◌, true, List, [], ◌∷◌, ◌++◌, ℕ, Bool, false, ◌||◌, Option, None, Some, refl, sym, ap, ◌∙◌, subst, append-nil, append_assoc, flat_map, option_to_list, IsSome, is_none, option_map, list_all, false≢true, and_from, or_left, or_right, flat_map-append, list_all-append, suc, ◌≤◌, length, drop, ◌+◌, inl, inr, ◌⊎◌, All, IfSome, append_cancel_left, map-append, same_from_push, ◌<◌, Err, arith, All-push}
 use Rattle.bt_lines.specs.declared.device.Source.{Ghosts as Source}
 use Rattle.bt_lines.specs.calls.Reader.{end_told, source_of, lines_given, lines_left, Hands, HasRead, bytes_taken}
 use Rattle.bt_bed.specs.model.Good.{Member}
@@ -44,10 +44,7 @@ pub record TakesFurther {S A State : Type 0} (device : Source S)
 -- one more member is decided and has these bytes
 one_more : {X : Type 0} (test : X → Bool) (write : X → List ℕ) (written : List X) (a : X) (bytes more : List ℕ) → (list_all test written ≡ true) × (flat_map write written ≡ bytes)
     → test a ≡ true → write a ≡ more → (list_all test (written ++ a ∷ []) ≡ true) × (flat_map write (written ++ a ∷ []) ≡ bytes ++ more)
-one_more test write written a bytes more was here is = (
-  list_all-append test written (a ∷ []) ∙ and_from (list_all test written) (test a && true) was.0 (and_from (test a) true here refl),
-  flat_map-append write written (a ∷ []) ∙ ap (λ l. l ++ flat_map write (a ∷ [])) was.1 ∙ ap (λ l. bytes ++ l) (append-nil (write a) ∙ is),
-)
+one_more test write written a bytes more was here is = grind (arith, list_all-append, flat_map-append, append-nil)
 
 -- if something is so, or a test holds of each, either is so of each
 pub all_or : {X : Type 0} (test : X → Bool) (b : Bool) (xs : List X) → (b || list_all test xs) ≡ true → list_all (λ x. b || test x) xs ≡ true
@@ -197,8 +194,7 @@ read_same {S} {A} {State} device old past given more now new same e read = recor
 
 -- if nothing is buffered, nothing is ahead
 pub seen_alone : {S A State : Type 0} (taken : List A) (now : MemberReader S A State) → now.buffered ≡ [] → taken ++ option_to_list (item_ahead now) ≡ taken
-seen_alone {S} {A} {State} taken now none =
-    ap (λ (l : List A). taken ++ option_to_list (option_map (λ m. m.item) (first_from (suc (lines_given now.below)) l))) none ∙ append-nil taken
+seen_alone {S} {A} {State} taken now none = grind (arith, append-nil)
 
 module _ {A B X Y U V : Type 0} (join : JoinDef X Y) (pair : Pair A B X Y U V) (out : Output) where
   abbrev pub first_stage : PairStage X Y
@@ -287,10 +283,7 @@ module _ {A B X Y U V : Type 0} {join : JoinDef X Y} {pair : Pair A B X Y U V} {
 
     -- what waited before, and what is given now
     parts : option_to_list stage.waiting ++ member_items more_first ≡ newly ++ option_to_list new.waiting
-    parts =
-        append_cancel_left stage.written (option_to_list stage.waiting ++ member_items more_first) (newly ++ option_to_list new.waiting)
-        (sym (append_assoc stage.written (option_to_list stage.waiting) (member_items more_first)) ∙ sym follows.given_is ∙ ap (λ l. l ++ option_to_list new.waiting) follows.written_is
-        ∙ append_assoc stage.written newly (option_to_list new.waiting))
+    parts = grind (arith, append_cancel_left, append_assoc)
 
     unless_more : more_first ≡ [] → option_to_list stage.waiting ≡ newly ++ option_to_list new.waiting
     unless_more e = sym (append-nil (option_to_list stage.waiting)) ∙ ap (λ (l : List (Member X)). option_to_list stage.waiting ++ member_items l) (sym e) ∙ parts
@@ -387,8 +380,7 @@ module _ {A B X Y U V : Type 0} {join : JoinDef X Y} {pair : Pair A B X Y U V} {
 
   -- if a member waits, the first input hasn't ended
   waits_by : (a : X) → stage.waiting ≡ Some a → (b : Bool) → stage.first_ended ≡ b → b ≡ false
-  waits_by a waits true e = absurd (let apart : Some a ≡ None = sym waits ∙ (s.first_all e).1 in cc)
-  waits_by a waits false e = refl
+  waits_by a waits b e = grind arith
 
   pub first_waits : (a : X) → stage.waiting ≡ Some a → stage.first_ended ≡ false
   first_waits a waits = waits_by a waits stage.first_ended refl
@@ -442,8 +434,7 @@ module _ {A B X Y U V : Type 0} {join : JoinDef X Y} {pair : Pair A B X Y U V} {
 
 -- something is buffered if a member is ahead
 pub some_buffered : {A : Type 0} (line : ℕ) (items : List A) (m : Member A) → first_from line items ≡ Some m → 0 < length items
-some_buffered line [] m e = cc
-some_buffered line (x ∷ items) m e = omega arith
+some_buffered line items m e = grind arith
 
 -- and it is on the line after those given
 first_line : {A : Type 0} (line : ℕ) (items : List A) (m : Member A) → first_from line items ≡ Some m → m.line ≡ line
