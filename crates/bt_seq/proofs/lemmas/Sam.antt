@@ -304,16 +304,10 @@ pub none_masked : (how : MaskHow) (position : ℕ) (bases : List ℕ) → bases 
 none_masked how position [] = refl
 none_masked how position (base ∷ bases) = ap (λ bs. base ∷ bs) (none_masked how (suc position) bases)
 
-by_both : (how : MaskHow) (base : ℕ) (b c : Bool) → cond (b || c) (masked_byte how base) base ≡ cond c (masked_byte how (cond b (masked_byte how base) base)) (cond b (masked_byte how base) base)
-by_both how base b c = grind arith
-
 -- extents mask one after another
 pub one_behind : (how : MaskHow) (extents : List Extent) (s : Extent) (position : ℕ) (bases : List ℕ) → masked_in how (extents ++ s ∷ []) position bases ≡ masked_in how (s ∷ []) position (masked_in how extents position bases)
 one_behind how extents s position [] = refl
-one_behind how extents s position (base ∷ bases) =
-    ap (λ b. cond b (masked_byte how base) base ∷ masked_in how (extents ++ s ∷ []) (suc position) bases) (list_any-append (has_position position) extents (s ∷ []))
-    ∙ ap (λ b. b ∷ masked_in how (extents ++ s ∷ []) (suc position) bases) (by_both how base (list_any (has_position position) extents) (list_any (has_position position) (s ∷ [])))
-    ∙ ap (λ bs. cond (list_any (has_position position) (s ∷ [])) (masked_byte how (cond (list_any (has_position position) extents) (masked_byte how base) base)) (cond (list_any (has_position position) extents) (masked_byte how base) base) ∷ bs) (one_behind how extents s (suc position) bases)
+one_behind how extents s position (base ∷ bases) = grind (arith, list_any-append, one_behind how extents s (suc position) bases)
 
 module _ (how : MaskHow) (s : Extent) where
   outside : (position base : ℕ) (bases : List ℕ) → has_position position s ≡ false → base ∷ masked_in how (s ∷ []) (suc position) bases ≡ masked_in how (s ∷ []) position (base ∷ bases)
@@ -476,10 +470,7 @@ own_items (Some (n ∷ ns)) (r ∷ rs) = own_items (Some (n ∷ ns)) rs
 
 own_spread : (os : List (Owned Feature)) → flat_map (λ (o : Owned Feature). items_if_last o.left o.block.items) os ≡ own_in (spread os)
 own_spread [] = refl
-own_spread (o ∷ os) =
-    ap (λ (l : List Feature). l ++ flat_map (λ (o : Owned Feature). items_if_last o.left o.block.items) os) (own_items o.left o.block.items)
-    ∙ ap (λ (l : List Feature). own_in (tag_items o.left o.block.items) ++ l) (own_spread os)
-    ∙ sym (flat_map-append (λ (t : Tagged Feature). items_if_last t.left (t.item ∷ [])) (tag_items o.left o.block.items) (spread os))
+own_spread (o ∷ os) = grind (arith, own_items, flat_map-append, own_spread os)
 
 pub own_tagged : (names : List (List ℕ)) (records : List Feature) → own_records names records ≡ own_in (tags_of names records)
 own_tagged names records = own_spread (owned names records) ∙ sym (ap own_in (tags_all (λ (r : Feature). r.chrom) (Some names) records))
@@ -502,10 +493,7 @@ module _ (bases : ℕ) where
   any_decides : (left : Option (List (List ℕ))) (bs : List (Block Feature)) → AllHaveOne bs
       → list_any (λ (o : Owned Feature). block_decides bases o.left o.block.items) (owned_from left bs) ≡ list_any (tag_decides bases) (spread (owned_from left bs))
   any_decides left [] h = refl
-  any_decides left (b ∷ bs) h =
-      ap (λ c. c || list_any (λ (o : Owned Feature). block_decides bases o.left o.block.items) (owned_from (left_by left b.chrom) bs)) (items_decide (left_by left b.chrom) b.items h.0)
-      ∙ ap (λ c. list_any (tag_decides bases) (tag_items (left_by left b.chrom) b.items) || c) (any_decides (left_by left b.chrom) bs h.1)
-      ∙ sym (list_any-append (tag_decides bases) (tag_items (left_by left b.chrom) b.items) (spread (owned_from (left_by left b.chrom) bs)))
+  any_decides left (b ∷ bs) h = grind (arith, items_decide, list_any-append, any_decides (left_by left b.chrom) bs h.1)
 
   pub decided_tagged : (names : List (List ℕ)) (records : List Feature)
       → list_any (λ (o : Owned Feature). block_decides bases o.left o.block.items) (owned names records) ≡ list_any (tag_decides bases) (tags_of names records)

@@ -161,9 +161,7 @@ module _ (bases : ℕ) where
   masked_same : (how : MaskHow) (rs extra : List Feature) (position : ℕ) (text : List ℕ) → position + length text ≤ bases → AreBehind bases extra
       → masked_from how (rs ++ extra) position text ≡ masked_from how rs position text
   masked_same how rs extra position [] low h = refl
-  masked_same how rs extra position (base ∷ text) low h =
-      ap (λ b. cond b (masked_byte how base) base ∷ masked_from how (rs ++ extra) (suc position) text) (cover_same position rs extra (omega arith) h)
-      ∙ ap (λ bs. cond (list_any (covers position) rs) (masked_byte how base) base ∷ bs) (masked_same how rs extra (suc position) text (omega arith) h)
+  masked_same how rs extra position (base ∷ text) low h = grind (arith, cover_same, masked_same how rs extra (suc position) text (omega arith) h)
 
 text_same : (how : MaskHow) (line : SequenceLine) (rs extra : List Feature) → AreBehind (bases_up_to line) extra → (h : Bool) → is_header line.text ≡ h
     → cond h line.text (masked_from how (rs ++ extra) line.before line.text) ≡ cond h line.text (masked_from how rs line.before line.text)
@@ -174,8 +172,7 @@ none_next t name = grind arith
 
 none_own : (last : Option (List ℕ)) (rs : List Feature) → own_in (tags chrom_of None last rs) ≡ []
 none_own last [] = refl
-none_own last (r ∷ rs) =
-    ap (λ left. items_if_last left (r ∷ []) ++ own_in (tags chrom_of left (Some r.chrom) rs)) (none_next (is_last last r.chrom) r.chrom) ∙ none_own (Some r.chrom) rs
+none_own last (r ∷ rs) = grind (arith, none_own (Some r.chrom) rs)
 
 -- before the first header no record is one of the line's sequence
 pub unnamed_own : (rs : List Feature) → own_records [] rs ≡ []
@@ -230,8 +227,7 @@ module _ (line : SequenceLine) where
       → is_unnamed line.names ≡ u
       → (u || list_any (tag_decides (bases_up_to line)) (tags_of line.names (rs ++ r ∷ []))) ≡ true
       → held_for line (rs ++ r ∷ []) ≡ held_for line rs
-  held_by_tags rs r placed true u e =
-      ap (filter reaches) (unnamed_alike line.names u (rs ++ r ∷ []) rs)
+  held_by_tags rs r placed true u e = grind (arith, unnamed_alike)
   held_by_tags rs r placed false u e =
       let left = leave (Some line.names) None rs in
       let next = own_in (tags chrom_of left (last_from None rs) (r ∷ [])) in
@@ -321,8 +317,7 @@ first_here left m later e = ap (λ l. told_by l m later) e
 first_told : (left : Option (List (List ℕ))) (last : Option (List ℕ)) (past more : List (Member Feature)) (m : Member Feature) → is_some (leave left last (items past)) ≡ true → leave left last (items (past ++ m ∷ [])) ≡ None
     → told_of (tags chrom_at left last (past ++ m ∷ more)) ≡ Some (fault_at_line Second m.line NoSequence)
 first_told left last [] more m e none = first_here (next_left chrom_at left last m) m (told_of (tags chrom_at (next_left chrom_at left last m) (Some m.item.chrom) more)) none
-first_told left last (p ∷ past) more m e none =
-    first_by (next_left chrom_at left last p) p past more m e (first_told (next_left chrom_at left last p) (Some p.item.chrom) past more m e none)
+first_told left last (p ∷ past) more m e none = grind (arith, first_by, first_told (next_left chrom_at left last p) (Some p.item.chrom) past more m e none)
 
 pub first_is_told : first_unowned_is_told
 first_is_told names past more m e none =

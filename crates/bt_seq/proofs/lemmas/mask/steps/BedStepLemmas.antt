@@ -333,10 +333,7 @@ reached_behind reached (item ∷ items) = reached_behind (reached_by (Some item)
 
 reached_more : (before items : List SequenceLine) → reached_by (last_or None (before ++ items)) ≡ reached_behind (reached_by (last_or None before)) items
 reached_more before [] = ap (λ (l : List SequenceLine). reached_by (last_or None l)) (append-nil before)
-reached_more before (item ∷ items) =
-    ap (λ (l : List SequenceLine). reached_by (last_or None l)) (sym (append_assoc before (item ∷ []) items))
-    ∙ reached_more (before ++ item ∷ []) items
-    ∙ ap (λ (o : Option SequenceLine). reached_behind (reached_by o) items) (last_more before item)
+reached_more before (item ∷ items) = grind (arith, append_assoc, last_more, reached_more (before ++ item ∷ []) items)
 
 say_more : (full : Bool) (reached : Reached) (lines more : List TextLine) (items later : List SequenceLine) → SayEach full reached lines items
     → SayEach full (reached_behind reached items) more later → SayEach full reached (lines ++ more) (items ++ later)

@@ -73,11 +73,7 @@ copies_pass to (line ∷ lines) old new p = pass_more (pass_one p.1.passes) (cop
 pub copies_bytes : (to : ℕ) (lines : List TextLine) (old new : CopyThrough) → CopiesLines to old lines new
     → (rest_in old.lines ≡ flat_map spelled lines ++ rest_in new.lines) × (new.lines.at ≡ old.lines.at + length (flat_map spelled lines))
 copies_bytes to [] old new p = (ap (λ (t : CopyThrough). rest_in t.lines) (sym p), omega (arith, ap (λ (t : CopyThrough). t.lines.at) p))
-copies_bytes to (line ∷ lines) old new p =
-    let further = copies_bytes to lines p.0 new p.2 in (
-      p.1.bytes_are ∙ ap (λ l. spelled line ++ l) further.0 ∙ sym (append_assoc (spelled line) (flat_map spelled lines) (rest_in new.lines)),
-      omega (arith, p.1.at, further.1, length-append (spelled line) (flat_map spelled lines)),
-    )
+copies_bytes to (line ∷ lines) old new p = grind (arith, append_assoc, length-append, copies_bytes to lines p.0 new p.2)
 
 -- the bytes between where it began and where it has come
 pub bytes_between : (to : ℕ) (lines : List TextLine) (old new : CopyThrough) → CopiesLines to old lines new
@@ -119,9 +115,7 @@ module _ (to : ℕ) where
   -- the state after some lines
   pub copies_come : (lines : List TextLine) (line : TextLine) (p q : CopyThrough) (m : Masking) → bounds_of p ≡ m.window → is_some m.matched.name ≡ true → IsKnownTo m
       → CopiesLines to p (line ∷ lines) q → passed_all m (line ∷ lines) ≡ record m { window = bounds_of q; waiting = None; want = Line }
-  copies_come [] line p q m at named known copies =
-      let step = stays p copies.0 line m at named known copies.1 in
-      ap (λ (w : Bounds). record m { window = w; waiting = None; want = Line }) (sym step.1 ∙ ap bounds_of (sym copies.2))
+  copies_come [] line p q m at named known copies = grind arith
   copies_come (next ∷ lines) line p q m at named known copies =
       let step = stays p copies.0 line m at named known copies.1 in
       copies_come lines next copies.0 q (passed m line.text) step.1 named known copies.2

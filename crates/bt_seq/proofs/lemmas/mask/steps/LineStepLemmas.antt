@@ -5,9 +5,9 @@ use Rattle.bt_lines.specs.model.Lines.{max_number, end_bytes, TextLine}
 use Rattle.bt_seq.proofs.lemmas.definitions.MaskPrefixLemmas.{held_alone, chrom_of, decided_by_tags, masked_before}
 use Rattle.bt_seq.proofs.lemmas.Sam.{none_masked, next_left, own_in, own_tagged, tag_decides, tags, tags_of}
 use Rattle.bt_seq.specs.calls.MaskStage.{extent_of, MaskStage, given, held_by, is_written_ahead, is_written_at_once, reached, reached_by, want_of, with_line}
-use Rattle.bt_seq.specs.calls.MaskState.{owner_by, Masking, decides_by, line_bytes, TakesLine, Waiting, bytes_at_once, is_stray, may_grow, moved_to, writes_at_once, Matched, named}
+use Rattle.bt_seq.specs.calls.MaskState.{Masking, line_bytes, TakesLine, Waiting, bytes_at_once, is_stray, may_grow, moved_to, writes_at_once, Matched, named}
 use Rattle.bt_seq.specs.calls.MaskSteps.{kept_line, IsOpen, MaskMovesTo, FailsWithLine, GivesNextLine, RefusesLine, TakesNextLine, bytes_with, may_need_memory}
-use Rattle.bt_seq.specs.model.Masked.{masked_byte, held_for, masked_from, masked_line, masked_text, block_decides, items_if_last, own_records, SequenceLine, bases_up_to, is_header, decided, is_unnamed, left_after, bases_in, header_behind, line_behind, line_says, may_stand, name_in}
+use Rattle.bt_seq.specs.model.Masked.{held_for, masked_from, masked_line, masked_text, block_decides, items_if_last, own_records, SequenceLine, bases_up_to, is_header, decided, is_unnamed, left_after, bases_in, header_behind, line_behind, line_says, may_stand, name_in}
 use Rattle.bt_seq.specs.inside.Masking.{AreInRange, Counts, KnowsNext, decided_up_to}
 use Rattle.bt_seq.specs.inside.Window.{has_position, masked_in, limit, Bounds, gone_on, no_bases}
 use Rattle.bt_seq.specs.declared.mask.mask_how.MaskHow.{MaskHow}
@@ -97,9 +97,7 @@ no_extent position (s ∷ ss) far h =
 -- after all numbers nothing is masked
 unmasked : (how : MaskHow) (extents : List Extent) (position : ℕ) (text : List ℕ) → limit ≤ position → AreShort extents → masked_in how extents position text ≡ text
 unmasked how extents position [] far h = refl
-unmasked how extents position (base ∷ text) far h =
-    ap (λ b. cond b (masked_byte how base) base ∷ masked_in how extents (suc position) text) (no_extent position extents far h)
-    ∙ ap (λ (bs : List ℕ). base ∷ bs) (unmasked how extents (suc position) text (omega arith) h)
+unmasked how extents position (base ∷ text) far h = grind (arith, no_extent, unmasked how extents (suc position) text (omega arith) h)
 
 -- so no more bases need to be counted
 counted_by : (how : MaskHow) (extents : List Extent) (before : ℕ) (text : List ℕ) → AreShort extents → (b : Bool) → nat_le before limit ≡ b → masked_in how extents (min before limit) text ≡ masked_in how extents before text
@@ -129,9 +127,7 @@ module _ (how : MaskHow) (line : SequenceLine) (rs : List Feature) (range : AreI
       ap (λ (l : List Feature). masked_in how (map extent_of l) (min line.before limit) line.text) (none_before (bases_up_to line) (λ (r : Feature). nat_lt line.before r.stop) (own_records line.names rs) none)
       ∙ sym (none_masked how (min line.before limit) line.text)
       ∙ sym (ap (λ b. cond b line.text (masked_from how (own_records line.names rs) line.before line.text)) e)
-  text_by false e header =
-      counted_by how (map extent_of (held_for line rs)) line.before line.text (held_short (λ (r : Feature). nat_lt r.start (bases_up_to line) && nat_lt line.before r.stop) (own_records line.names rs) own_in_range) (nat_le line.before limit) refl
-      ∙ held_alone how line rs e
+  text_by false e header = grind (arith, counted_by, held_short, own_in_range, held_alone)
 
   -- what is held masks the line as all records do
   pub text_masked : (is_header line.text ≡ true → line.before ≡ 0) → masked_in how (map extent_of (held_for line rs)) (min line.before limit) line.text ≡ masked_text how rs line
@@ -141,10 +137,6 @@ module _ (how : MaskHow) (line : SequenceLine) (rs : List Feature) (range : AreI
   pub line_masked : (is_header line.text ≡ true → line.before ≡ 0) → (m : Masking) → m.how ≡ how → m.window.held ≡ map extent_of (held_for line rs) → m.window.before ≡ min line.before limit
       → line_bytes m (kept_line line) ≡ masked_line how rs line
   line_masked header m same_how held before = ap (λ t. t ++ end_bytes line.ending) (rw (same_how, held, before) (text_masked header))
-
--- whether a record decides a line, by the bases as they are counted
-pub decides_alike : (bases : ℕ) (left : Option (List (List ℕ))) (r : Feature) → r.start < limit → decides_by (owner_by left) (min bases limit) r.start ≡ block_decides bases left (r ∷ [])
-decides_alike bases left r low = grind (arith, nat_tests)
 
 -- Lemmas on a masking engine that is given a line.
 
@@ -315,8 +307,7 @@ module _ (how : MaskHow) (full : Bool) (stage : MaskStage) (old : Masking) (s : 
     -- whether the record ahead decides it is what is known
     plain_alike : is_header line.text ≡ false → stage.bed_ended ≡ false → is_unnamed names ≡ false → (o : Option Feature) → stage.ahead ≡ o
         → (not (is_header line.text) && nat_le plain_moved.window.bases old.decided_to) ≡ is_written_ahead o stage.taken plain_item
-    plain_alike e going is_named None ahead =
-        absurd (never (sym (ap is_some ahead) ∙ s.stands.inside.has_ahead (sym s.stands.want_is ∙ wants) going is_named))
+    plain_alike e going is_named None ahead = grind arith
     plain_alike e going is_named (Some r) ahead =
         let known = subst (λ (o : Option Feature). KnowsNext false names stage.taken o old.matched) ahead (going_known going) in
         let left = left_after names (stage.taken ++ r ∷ []) in
