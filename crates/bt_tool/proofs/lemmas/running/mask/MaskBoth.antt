@@ -118,9 +118,7 @@ module _ {A B : Type 0} {source_a : Source A} {source_b : Source B} {start : Mas
 
     stuck_by : (want : MaskWant) → texts ≡ [] → taken ≡ [] → StopsAt batch_cursor want last_lines last_beds → IsMaskReady lines second want → ⊥
     stuck_by WantLine none unread stops there = some_buffered lines first_lines begins (parts ∙ ap (λ (l : List TextLine). l ++ lines_in last_lines) none ∙ stops) there
-    stuck_by WantBed none unread stops there =
-        let gone : second.buffered ≡ [] = has.takes.buffered ∙ ap (λ (l : List Feature). l ++ second_now.buffered) unread ∙ sym left_then ∙ stops.none in
-        absurd (omega (arith, there, ap length gone))
+    stuck_by WantBed none unread stops there = grind arith
     stuck_by Nothing none unread stops there = there
 
     stuck : texts ≡ [] → taken ≡ [] → masked.want ≡ mask.want → IsMaskReady lines second mask.want → ⊥
@@ -137,10 +135,7 @@ module _ {A B : Type 0} {source_a : Source A} {source_b : Source B} {start : Mas
             λ there. absurd (stuck none unread same.0 there),
           )
         ]
-    few_by (suc n) e =
-        let most = rounds_most (is_some masked.waiting) masked.want in
-        let less : mask_left new second_now masked < mask_left lines second mask = omega (arith, less_room, has.takes.shrinks, most, e) in
-        (omega (arith, less), λ there. less)
+    few_by (suc n) e = grind arith
 
     gave_both : ComesAfter batch_cursor s.stage.ahead first_beds taken final.ahead → {T : Type 0} (done : T) → AdvancesMask source_a source_b start before lines second mask (Ok done) new second_now masked now
     gave_both after done =

@@ -21,19 +21,10 @@ use Rattle.bt_seq.specs.calls.MaskStage.{GoesOn, MayFollow, seen_at, MaskStage}
 use Rattle.bt_tool.proofs.lemmas.running.pair.PairTurns.{all_or}
 use Rattle.bt_tool.specs.inside.Pair.{MayCome, SettlesPair, item_ahead}
 
--- a line that more records leave undecided, fewer do too
-undecided_by : (b c : Bool) → (b ≡ true → c ≡ true) → not c ≡ true → not b ≡ true
-undecided_by b c h e = grind arith
-
-not_or : (a b c d : Bool) → (not a ≡ true → not c ≡ true) → (b ≡ true → d ≡ true) → (not a || b) ≡ true → (not c || d) ≡ true
-not_or a b c d h k e = grind arith
-
 -- so who leave one of some lines undecided, do so with fewer records
 fewer_leave : (lines : List SequenceLine) (records more : List Feature) → leaves_some lines (records ++ more) ≡ true → leaves_some lines records ≡ true
 fewer_leave [] records more e = e
-fewer_leave (line ∷ lines) records more e =
-    not_or (decided line (records ++ more)) (leaves_some lines (records ++ more)) (decided line records) (leaves_some lines records)
-    (undecided_by (decided line records) (decided line (records ++ more)) (decided_stays line records more)) (fewer_leave lines records more) e
+fewer_leave (line ∷ lines) records more e = grind (arith, decided_stays, fewer_leave lines records more)
 
 -- none of these is the last one needed
 needed_from : (lines : List SequenceLine) (before : List Feature) (past rest : List (Member Feature)) → (past ≡ []) ⊎ IsTrue (leaves_some lines (before ++ member_items past))
