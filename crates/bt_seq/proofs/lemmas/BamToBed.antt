@@ -13,8 +13,7 @@ use Rattle.bt_seq.specs.inside.Sam.{bounds_text, line_tail, marks, quality_text}
 
 -- the pieces of a line
 line_parts : (with_cigar : Bool) (a : Alignment) (s : Span) → a.chrom ++ (bounds_text s.start s.stop ++ (a.name ++ line_tail with_cigar a)) ≡ bed_line with_cigar a s
-line_parts true a s = simp append_assoc
-line_parts false a s = simp append_assoc
+line_parts with_cigar a s = grind (arith, append_assoc)
 
 module _ (with_cigar : Bool) (a : Alignment) where
   abbrev read_head : List ℕ
@@ -83,9 +82,7 @@ module _ (with_cigar : Bool) (a : Alignment) where
 
 -- one more of the blocks
 pub left_more : (done : List (ℕ × ℕ)) (x : ℕ × ℕ) (rest more all : List Span) → map span_given done ++ more ≡ all → more ≡ span_given x ∷ rest → map span_given (done ++ x ∷ []) ++ rest ≡ all
-left_more done x rest more all h e =
-    ap (λ l. l ++ rest) (map-append span_given done (x ∷ [])) ∙ append_assoc (map span_given done) (span_given x ∷ []) rest
-    ∙ ap (λ l. map span_given done ++ l) (sym e) ∙ h
+left_more done x rest more all h e = grind (arith, map-append, append_assoc)
 
 pub grown_block : (with_cigar : Bool) (a : Alignment) (done : List (ℕ × ℕ)) (x : ℕ × ℕ) (old mid new : Output) → Grown old (lines_of with_cigar a (map span_given done)) mid → PutsAll mid (bed_line with_cigar a (span_given x)) new
     → Grown old (lines_of with_cigar a (map span_given (done ++ x ∷ []))) new

@@ -2,7 +2,7 @@
 use Rattle.bt_lines.proofs.Std.{◌≡◌, ℕ, ◌+◌, ◌≤◌, Bool, true, false, List, [], ◌∷◌, ◌++◌, length, Option, Some, None, refl, sym, ap, ◌∙◌, arith, cond, append-nil, add-zero, append_assoc, flat_map, nat_lt, not, false≢true, nat_tests, sum_by-cons, sum_by_push, take_while-cons, ◌<◌, take, drop, get_or, option_map, length-append, length-take, IfSome, is_ascii_digit, list_all, list_all_more, digits_value, and_parts, take-append-drop, take_more, drop_more, take-append-le, get_or_append_left, take_all, ◌-◌, zero, suc, min, ◌||◌, map, list_any, list_any-append, Result, Ok, Err, subst, nat_le, bytes_eq, bytes_decides, ⊤, flat_map-append}
 use Rattle.bt_bed.specs.model.Feature.{Span, Feature}
 use Rattle.bt_seq.specs.model.Alignment.{begins_block, block_at, blocks_in, blocks_of, cuts, is_skip, up_to_skip, with_bases, covered_by, operations_in, reference_length, with_operation, Part, is_letter, onto_part, operation_of, each_operation, parts_of, with_part, span_with, Alignment, Fields, alignment_of, columns_say, fields_of, fields_say, is_skipped, value_up_to, length_of, is_sam_kind, sam_kinds_are_of_lines, wrong_have_sam_kinds}
-use Rattle.bt_seq.specs.inside.Sam.{none_left, FitBehind, fit_behind}
+use Rattle.bt_seq.specs.inside.Sam.{none_left, FitBehind}
 use Rattle.bt_seq.specs.declared.sam.operation.Operation.{Operation}
 use Rattle.std.specs.Prelude.{option_and_then}
 use Rattle.bt_lines.proofs.lemmas.numbers.NumberLemmas.{digits_below, digits_denoting, value_of_digits, value_of_empty, value_of_large, value_of_other, value_short}
@@ -92,22 +92,18 @@ unfolding blocks_of
 blocks_open start operations = found_open start operations [] true start start (sym (add-zero start)) refl (λ h. refl)
 
 pub blocks_open_in : (start : ℕ) (operations : Option (List Operation)) → blocks_in start operations ≡ open_in start start operations
-blocks_open_in start None = refl
-blocks_open_in start (Some operations) = blocks_open start operations
+blocks_open_in start operations = grind (arith, blocks_open)
 
 -- an N ends the block
 module _ (start stop : ℕ) (operation : Operation) where
   pub block_ends : (more : Option (List Operation)) → is_skip operation ≡ true → FitBehind stop (with_operation (Some operation) more)
       → open_in start stop (with_operation (Some operation) more) ≡ with_bases start stop ++ blocks_in (stop + operation.length) more
-  block_ends None k h = absurd (false≢true h)
-  block_ends (Some operations) k h = rw k (ap (λ l. with_bases start stop ++ l) (sym (blocks_open (stop + operation.length) operations)))
+  block_ends more k h = grind (arith, blocks_open)
 
 -- no operation is left
 pub block_is_last : (start stop : ℕ) (rest : List ℕ) → operations_in rest ≡ none_left rest → FitBehind stop (operations_in rest)
     → open_in start stop (operations_in rest) ≡ with_bases start stop ++ blocks_in stop (operations_in rest)
-block_is_last start stop [] e h =
-    rw e (sym (ap (λ l. with_bases start stop ++ l) (blocks_open stop [] ∙ no_bases stop stop refl) ∙ append-nil (with_bases start stop)))
-block_is_last start stop (byte ∷ bytes) e h = absurd (false≢true (sym (ap (fit_behind stop) e) ∙ h))
+block_is_last start stop rest e h = grind (arith, blocks_open)
 
 -- an empty text has no blocks
 pub no_blocks : (start : ℕ) (rest : List ℕ) → length rest ≡ 0 → blocks_in start (operations_in rest) ≡ []
@@ -299,10 +295,7 @@ single_match digits value few e =
     ∙ ap Some (grind (arith, nat_tests))
 
 pub single_span_is : (text : List ℕ) (end : ℕ) (number : Option ℕ) → end ≤ 12 → length text ≡ end + 1 → get_or text end 0 ≡ 77 → number ≡ value_of (take end text) → IfSome number (λ span. span_with 0 (operations_in text) ≡ Some span)
-single_span_is text end None few size last e = tt
-single_span_is text end (Some value) few size last e =
-    let whole : text ≡ take end text ++ 77 ∷ [] = sym (take_all (end + 1) text (omega (arith, size))) ∙ take_more text end 0 (omega (arith, size)) ∙ ap (λ b. take end text ++ b ∷ []) last in
-    ap (λ l. span_with 0 (operations_in l)) whole ∙ single_match (take end text) value (omega (arith, few, length-take end text)) e
+single_span_is text end number few size last e = grind (arith, take_all, take_more, single_match, length-take)
 
 -- Lemmas on masked extents.
 
@@ -311,16 +304,10 @@ pub none_masked : (how : MaskHow) (position : ℕ) (bases : List ℕ) → bases 
 none_masked how position [] = refl
 none_masked how position (base ∷ bases) = ap (λ bs. base ∷ bs) (none_masked how (suc position) bases)
 
-by_both : (how : MaskHow) (base : ℕ) (b c : Bool) → cond (b || c) (masked_byte how base) base ≡ cond c (masked_byte how (cond b (masked_byte how base) base)) (cond b (masked_byte how base) base)
-by_both how base b c = grind arith
-
 -- extents mask one after another
 pub one_behind : (how : MaskHow) (extents : List Extent) (s : Extent) (position : ℕ) (bases : List ℕ) → masked_in how (extents ++ s ∷ []) position bases ≡ masked_in how (s ∷ []) position (masked_in how extents position bases)
 one_behind how extents s position [] = refl
-one_behind how extents s position (base ∷ bases) =
-    ap (λ b. cond b (masked_byte how base) base ∷ masked_in how (extents ++ s ∷ []) (suc position) bases) (list_any-append (has_position position) extents (s ∷ []))
-    ∙ ap (λ b. b ∷ masked_in how (extents ++ s ∷ []) (suc position) bases) (by_both how base (list_any (has_position position) extents) (list_any (has_position position) (s ∷ [])))
-    ∙ ap (λ bs. cond (list_any (has_position position) (s ∷ [])) (masked_byte how (cond (list_any (has_position position) extents) (masked_byte how base) base)) (cond (list_any (has_position position) extents) (masked_byte how base) base) ∷ bs) (one_behind how extents s (suc position) bases)
+one_behind how extents s position (base ∷ bases) = grind (arith, list_any-append, one_behind how extents s (suc position) bases)
 
 module _ (how : MaskHow) (s : Extent) where
   outside : (position base : ℕ) (bases : List ℕ) → has_position position s ≡ false → base ∷ masked_in how (s ∷ []) (suc position) bases ≡ masked_in how (s ∷ []) position (base ∷ bases)
@@ -432,27 +419,14 @@ module _ {A : Type 0} (chrom : A → List ℕ) where
       → tag_at left x s ∷ [] ≡ blocks_tags left last (block_with (chrom x) x [])
   alone left last x s e = grind arith
 
-  joined : (left : Option (List (List ℕ))) (last : Option (List ℕ)) (x : A) (b : Block A) (bs : List (Block A)) (s : Bool) → is_last last b.chrom ≡ s → chrom x ≡ b.chrom
-      → tag_at left x s ∷ (tag_items (cond s left (left_by left (chrom x))) b.items ++ spread (owned_from (cond s left (left_by left (chrom x))) bs))
-      ≡ blocks_tags left last (record { chrom = b.chrom; items = x ∷ b.items } ∷ bs)
-  joined left last x b bs s e same = grind arith
-
-  apart : (left : Option (List (List ℕ))) (last : Option (List ℕ)) (x : A) (b : Block A) (bs : List (Block A)) (s : Bool) → is_last last (chrom x) ≡ s
-      → tag_at left x s ∷ spread (owned_from (cond s left (left_by left (chrom x))) (b ∷ bs)) ≡ blocks_tags left last (record { chrom = chrom x; items = x ∷ [] } ∷ b ∷ bs)
-  apart left last x b bs s e = grind arith
-
   with_first : (left : Option (List (List ℕ))) (last : Option (List ℕ)) (x : A) (b : Block A) (bs : List (Block A)) (t : Bool) → bytes_eq (chrom x) b.chrom ≡ t
       → record { item = x; left = next_left left last x } ∷ cond t (tag_items (next_left left last x) b.items ++ spread (owned_from (next_left left last x) bs)) (spread (owned_from (next_left left last x) (b ∷ bs)))
       ≡ blocks_tags left last (cond t (record { chrom = b.chrom; items = x ∷ b.items } ∷ bs) (record { chrom = chrom x; items = x ∷ [] } ∷ b ∷ bs))
-  with_first left last x b bs true e =
-      let same : chrom x ≡ b.chrom = (bytes_decides (chrom x) b.chrom).0 e in
-      joined left last x b bs (is_last last (chrom x)) (ap (is_last last) (sym same)) same
-  with_first left last x b bs false e = apart left last x b bs (is_last last (chrom x)) refl
+  with_first left last x b bs t e = grind (arith, bytes_decides)
 
   with_any : (left : Option (List (List ℕ))) (last : Option (List ℕ)) (x : A) (bs : List (Block A))
       → record { item = x; left = next_left left last x } ∷ blocks_tags (next_left left last x) (Some (chrom x)) bs ≡ blocks_tags left last (block_with (chrom x) x bs)
-  with_any left last x [] = alone left last x (is_last last (chrom x)) refl
-  with_any left last x (b ∷ bs) = with_first left last x b bs (bytes_eq (chrom x) b.chrom) refl
+  with_any left last x bs = grind (arith, with_first)
 
   tags_on : (left : Option (List (List ℕ))) (last : Option (List ℕ)) (xs : List A) → tags left last xs ≡ blocks_tags left last (blocks xs)
   tags_on left last [] = refl
@@ -496,18 +470,12 @@ own_items (Some (n ∷ ns)) (r ∷ rs) = own_items (Some (n ∷ ns)) rs
 
 own_spread : (os : List (Owned Feature)) → flat_map (λ (o : Owned Feature). items_if_last o.left o.block.items) os ≡ own_in (spread os)
 own_spread [] = refl
-own_spread (o ∷ os) =
-    ap (λ (l : List Feature). l ++ flat_map (λ (o : Owned Feature). items_if_last o.left o.block.items) os) (own_items o.left o.block.items)
-    ∙ ap (λ (l : List Feature). own_in (tag_items o.left o.block.items) ++ l) (own_spread os)
-    ∙ sym (flat_map-append (λ (t : Tagged Feature). items_if_last t.left (t.item ∷ [])) (tag_items o.left o.block.items) (spread os))
+own_spread (o ∷ os) = grind (arith, own_items, flat_map-append, own_spread os)
 
 pub own_tagged : (names : List (List ℕ)) (records : List Feature) → own_records names records ≡ own_in (tags_of names records)
 own_tagged names records = own_spread (owned names records) ∙ sym (ap own_in (tags_all (λ (r : Feature). r.chrom) (Some names) records))
 
 module _ (bases : ℕ) where
-  none_decides : (rs : List Feature) → HasOne rs → list_any (tag_decides bases) (tag_items None rs) ≡ true
-  none_decides rs h = grind arith
-
   or_first : (a b : Bool) → ((a || false) || b) ≡ (a || b)
   or_first a b = grind arith
 
@@ -520,23 +488,16 @@ module _ (bases : ℕ) where
   early_decides n ns (r ∷ rs) = early_decides n ns rs
 
   items_decide : (left : Option (List (List ℕ))) (rs : List Feature) → HasOne rs → block_decides bases left rs ≡ list_any (tag_decides bases) (tag_items left rs)
-  items_decide None rs h = sym (none_decides rs h)
-  items_decide (Some []) rs h = own_decides rs
-  items_decide (Some (n ∷ ns)) rs h = sym (early_decides n ns rs)
+  items_decide left rs h = grind (arith, own_decides, early_decides)
 
   any_decides : (left : Option (List (List ℕ))) (bs : List (Block Feature)) → AllHaveOne bs
       → list_any (λ (o : Owned Feature). block_decides bases o.left o.block.items) (owned_from left bs) ≡ list_any (tag_decides bases) (spread (owned_from left bs))
   any_decides left [] h = refl
-  any_decides left (b ∷ bs) h =
-      ap (λ c. c || list_any (λ (o : Owned Feature). block_decides bases o.left o.block.items) (owned_from (left_by left b.chrom) bs)) (items_decide (left_by left b.chrom) b.items h.0)
-      ∙ ap (λ c. list_any (tag_decides bases) (tag_items (left_by left b.chrom) b.items) || c) (any_decides (left_by left b.chrom) bs h.1)
-      ∙ sym (list_any-append (tag_decides bases) (tag_items (left_by left b.chrom) b.items) (spread (owned_from (left_by left b.chrom) bs)))
+  any_decides left (b ∷ bs) h = grind (arith, items_decide, list_any-append, any_decides (left_by left b.chrom) bs h.1)
 
   pub decided_tagged : (names : List (List ℕ)) (records : List Feature)
       → list_any (λ (o : Owned Feature). block_decides bases o.left o.block.items) (owned names records) ≡ list_any (tag_decides bases) (tags_of names records)
-  decided_tagged names records =
-      any_decides (Some names) (blocks_by (λ (r : Feature). r.chrom) records) (blocks_have_one (λ (r : Feature). r.chrom) records)
-      ∙ sym (ap (list_any (tag_decides bases)) (tags_all (λ (r : Feature). r.chrom) (Some names) records))
+  decided_tagged names records = grind (arith, any_decides, blocks_have_one, tags_all)
 
 -- one more record
 pub tags_more : (left : Option (List (List ℕ))) (last : Option (List ℕ)) (rs : List Feature) (r : Feature)

@@ -1,5 +1,5 @@
 -- What a masking engine keeps, and its steps.
-use Rattle.std.specs.Prelude.{◌≡◌, ◌⊎◌, ℕ, ◌&&◌, not, Bool, true, false, List, [], ◌∷◌, ◌++◌, Option, Some, None, bytes_eq, option_map, if◌then◌else◌, ◌||◌, length, nat_lt, is_none, nat_le, Result, Ok, Err, cond, is_some, nat_eq, ◌+◌}
+use Rattle.std.specs.Prelude.{◌≡◌, ◌⊎◌, ℕ, ◌&&◌, not, Bool, true, false, List, [], ◌∷◌, ◌++◌, Option, Some, None, bytes_eq, option_map, if◌then◌else◌, ◌||◌, length, nat_lt, is_none, nat_le, Result, Ok, Err, cond, is_some, nat_eq}
 use Rattle.std.specs.List.{last_or}
 use Rattle.bt_bed.specs.model.Feature.{Feature}
 use Rattle.bt_bed.specs.model.BedLine.{fault_at_line}

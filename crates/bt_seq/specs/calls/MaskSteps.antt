@@ -18,6 +18,7 @@ use Rattle.bt_lines.specs.declared.fault.Input.TheVariants.{First, Second}
 use Rattle.bt_lines.specs.declared.fault.Kind.{Kind}
 use Rattle.bt_lines.specs.declared.fault.Kind.TheVariants.{NoSequence}
 use Rattle.bt_seq.specs.declared.mask.mask_want.MaskWant.TheVariants.{Nothing, Line, Bed}
+use Rattle.bt_bed.specs.declared.read.cursor.Cursor.{Ghosts as Cursor}
 use Rattle.bt_bed.specs.declared.record.taken.Taken.{Taken}
 use Rattle.bt_bed.specs.declared.record.taken.Taken.TheVariants.{Yes, No}
 use Rattle.bt_lines.specs.calls.Reader.{lines_in}
@@ -238,22 +239,21 @@ module _ (how : MaskHow) (full : Bool) where
       FailsToWriteLine how full stage waiting r out fault grown
       ⊎ FailsToHoldRecord how full stage waiting r out fault grown
 
-module _ {C : Type 0} (gives : C → List Feature → C → Type 0) (line_at : C → ℕ)
-    (has_ended : C → Type 0) where
+module _ {C R : Type 0} (cursor : Cursor C R) where
   -- whatever record comes next, it is the one ahead, if one is known to be
   abbrev pub ComesNext : Option Feature → C → Type 0
-  ComesNext ahead records = (r : Feature) (later : C) → gives records (r ∷ []) later → IsNext ahead r
+  ComesNext ahead records = (r : Feature) (later : C) → cursor.gives records (r ∷ []) later → IsNext ahead r
 
   -- the record ahead is the one that was, or it comes next after those that were taken
   abbrev pub ComesAfter : Option Feature → C → List Feature → Option Feature → Type 0
   ComesAfter was records taken ahead = (r : Feature) → ahead ≡ Some r
       → ((was ≡ Some r) × (taken ≡ []))
-      ⊎ ((before : C) × (later : C) × gives records taken before × gives before (r ∷ []) later)
+      ⊎ ((before : C) × (later : C) × cursor.gives records taken before × cursor.gives before (r ∷ []) later)
 
   -- what is wanted isn't available
   abbrev pub StopsAt : MaskWant → BufferedLines → C → Type 0
   StopsAt Line lines records = lines_in lines ≡ []
-  StopsAt Bed lines records = has_ended records
+  StopsAt Bed lines records = cursor.has_ended records
   StopsAt Nothing lines records = ⊤
 
   module _ (how : MaskHow) (full : Bool) (old : MaskStage) (lines : List TextLine)
@@ -271,8 +271,8 @@ module _ {C : Type 0} (gives : C → List Feature → C → Type 0) (line_at : C
       pub fails : ((want_at comes.stage ≡ Line)
           × FailsAtLines how full comes.stage failing through fault grown)
           ⊎ ((r : Feature) × (later : C) × (failing ≡ []) × (want_at comes.stage ≡ Bed)
-          × gives records (r ∷ []) later
-          × FailsAtRecord how full comes.stage.waiting comes.stage r (line_at later) through fault grown)
+          × cursor.gives records (r ∷ []) later
+          × FailsAtRecord how full comes.stage.waiting comes.stage r (cursor.line later) through fault grown)
 
     -- what the result says
     abbrev pub BothCome : {A : Type 0} → Result A Fault → Masking → C → Output → Type 0
@@ -289,7 +289,7 @@ module _ {C : Type 0} (gives : C → List Feature → C → Type 0) (line_at : C
     pub texts : List TextLine
     pub passes : PassesLines lines texts lines_left
     pub taken : List Feature
-    pub given : gives records taken records_left
+    pub given : cursor.gives records taken records_left
     pub comes : (stage : MaskStage) → MaskStandsAt stage old
         → ComesNext stage.ahead records
         → BothCome old.how old.full stage texts taken out records answer new records_left grown
@@ -301,6 +301,6 @@ Stays old lines records out new lines_left records_left grown =
     (new ≡ old) × (lines_left ≡ lines) × (records_left ≡ records) × (grown ≡ out)
 
 -- how much may be given: it falls with each line and each record
-abbrev pub left_to_give : {C : Type 0} → (C → ℕ) → Masking → BufferedLines → C → ℕ
-left_to_give room mask lines records =
-    2 * (length (lines_in lines) + room records) + asks_more mask.want
+abbrev pub left_to_give : {C R : Type 0} → Cursor C R → Masking → BufferedLines → C → ℕ
+left_to_give cursor mask lines records =
+    2 * (length (lines_in lines) + cursor.room records) + asks_more mask.want

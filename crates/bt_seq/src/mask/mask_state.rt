@@ -148,7 +148,7 @@ impl MaskState {
         out: &mut Out<K>,
     ) -> Result<bool, Fault>
         requires { self.old.want ≡ MaskWant.Line }
-        ensures gives { (records : C) → GivesBoth C.gives C.line C.has_ended self.old lines.old records out.old.output result
+        ensures gives { (records : C) → GivesBoth C.Cursor self.old lines.old records out.old.output result
             self.new lines.new records out.new.output }
         ensures stops { result ≡ Ok false → (lines_in lines.new ≡ []) × (self.new.want ≡ MaskWant.Line) }
         ensures shrinks { result ≡ Ok true → length (lines_in lines.new) < length (lines_in lines.old) }

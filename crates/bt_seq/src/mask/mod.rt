@@ -102,9 +102,9 @@ impl Mask {
         records: &mut C,
         out: &mut Out<K>,
     ) -> Result<(), Fault>
-        ensures gives { GivesBoth C.gives C.line C.has_ended self.old lines.old records.old out.old.output result
+        ensures gives { GivesBoth C.Cursor self.old lines.old records.old out.old.output result
             self.new lines.new records.new out.new.output }
-        ensures stops { OnOk result (StopsAt C.gives C.line C.has_ended self.new.want lines.new records.new) }
+        ensures stops { OnOk result (StopsAt C.Cursor self.new.want lines.new records.new) }
         ensures idle { self.old.want ≡ MaskWant.Nothing → (result ≡ Ok tt) × Stays self.old lines.old records.old out.old.output
             self.new lines.new records.new out.new.output }
     {
@@ -121,11 +121,11 @@ impl Mask {
         records: &mut C,
         out: &mut Out<K>,
     ) -> Result<bool, Fault>
-        ensures gives { GivesBoth C.gives C.line C.has_ended self.old lines.old records.old out.old.output result
+        ensures gives { GivesBoth C.Cursor self.old lines.old records.old out.old.output result
             self.new lines.new records.new out.new.output }
-        ensures stops { result ≡ Ok false → StopsAt C.gives C.line C.has_ended self.new.want lines.new records.new }
-        ensures shrinks { result ≡ Ok true → left_to_give C.room self.new lines.new records.new
-            < left_to_give C.room self.old lines.old records.old }
+        ensures stops { result ≡ Ok false → StopsAt C.Cursor self.new.want lines.new records.new }
+        ensures shrinks { result ≡ Ok true → left_to_give C.Cursor self.new lines.new records.new
+            < left_to_give C.Cursor self.old lines.old records.old }
         ensures idle { self.old.want ≡ MaskWant.Nothing → (result ≡ Ok false) × Stays self.old lines.old records.old out.old.output
             self.new lines.new records.new out.new.output }
     {
@@ -145,7 +145,7 @@ impl Mask {
         out: &mut Out<K>,
     ) -> Result<bool, Fault>
         requires { self.old.want ≡ MaskWant.Bed }
-        ensures gives { (lines : BufferedLines) → GivesBoth C.gives C.line C.has_ended self.old lines records.old out.old.output result
+        ensures gives { (lines : BufferedLines) → GivesBoth C.Cursor self.old lines records.old out.old.output result
             self.new lines records.new out.new.output }
         ensures stops { result ≡ Ok false → C.has_ended records.new × (self.new.want ≡ MaskWant.Bed) }
         ensures shrinks { result ≡ Ok true → (C.room records.new < C.room records.old)

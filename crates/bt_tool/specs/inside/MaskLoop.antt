@@ -25,7 +25,7 @@ use Rattle.bt_sweep.specs.declared.sweep.want.Want.TheVariants.{A as WantA, B as
 use Rattle.bt_tool.specs.declared.loops.masking.MaskRun.{MaskRun}
 use Rattle.bt_tool.specs.model.Written.{IsOneOf, bytes_up_to, is_fasta_kind, is_mask_kind, last_needed}
 use Rattle.bt_tool.specs.inside.Pair.{Comes, JoinDef, Pair, PairStage, item_ahead, HaveRead, IsOverWith}
-use Rattle.bt_tool.specs.inside.Rounds.{IsBuffered}
+use Rattle.bt_tool.specs.inside.Rounds.{IsBuffered, TwoInputDef}
 use Rattle.bt_tool.specs.inside.Feed.{lines_read}
 
 -- a reader of lines as one of the lines of sequences, if those that were given have come so far
@@ -147,3 +147,13 @@ module _ {A B : Type 0} (source_a : Source A) (source_b : Source B) (start : Mas
       × (members.below ≡ now.lines)
       × IsOverWith begun_pair (mask_join start.mask.how) out fault
       members (view_of now.records) grown
+
+-- masking as a run over two inputs
+abbrev pub mask_run : {A B : Type 0} → Source A → Source B → TwoInputDef (MaskRun A B)
+mask_run source_a source_b = record {
+  comes = MaskComes source_a source_b;
+  ends = MaskIsOver source_a source_b;
+  wants = mask_wanted;
+  is_ready = is_mask_ready;
+  left = left_to_mask;
+}

@@ -28,7 +28,7 @@ use Rattle.bt_tool.specs.declared.loops.sweeping.SweepConfig.{SweepConfig}
 use Rattle.bt_tool.specs.declared.loops.sweeping.SweepRun.{SweepRun}
 use Rattle.bt_tool.specs.model.Written.{IsSweptKind, bytes_up_to, decider}
 use Rattle.bt_tool.specs.inside.Pair.{Comes, IsKnown, JoinDef, Pair, PairStage, HaveRead, IsOverWith}
-use Rattle.bt_tool.specs.inside.Rounds.{IsBuffered}
+use Rattle.bt_tool.specs.inside.Rounds.{IsBuffered, TwoInputDef}
 use Rattle.bt_tool.specs.inside.Feed.{AreAll, Passes, StopsAfter}
 
 -- Whatever comes after them of either input, by these records of the first the limit doesn't lie
@@ -146,6 +146,16 @@ module _ {A B O : Type 0} {g : Ghosts O} where
         IsOverWith (records_pair source_a source_b start.first start.second)
         (sweep_join (order_in start.first) (config_of (state_of start.sweep))) out fault
         (view_of now.first) (view_of now.second) grown
+
+  -- sweeping as a run over two inputs
+  abbrev pub sweep_run : Source A → Source B → TwoInputDef (SweepRun A B O g)
+  sweep_run source_a source_b = record {
+    comes = SweepComes source_a source_b;
+    ends = SweepIsOver source_a source_b;
+    wants = wanted_of;
+    is_ready = is_sweep_ready;
+    left = left_to_sweep;
+  }
 
 module _ {S A State : Type 0} (device : Source S)
     (old : MemberReader S A State) (past : List (Member A)) (before : MemberReader S A State) where

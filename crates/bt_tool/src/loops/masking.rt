@@ -22,17 +22,9 @@ struct MaskRun<A, B> {
 }
 
 impl<A: Source, B: Source> TwoInputEngine for MaskRun<A, B> {
-    ghost use Rattle.bt_tool.specs.inside.MaskLoop.{MaskComes, MaskIsOver, is_mask_ready, left_to_mask, mask_wanted};
+    ghost use Rattle.bt_tool.specs.inside.MaskLoop.{mask_run};
 
-    ghost comes = { MaskComes A.Source B.Source };
-
-    ghost ends = { MaskIsOver A.Source B.Source };
-
-    ghost wants = { mask_wanted };
-
-    ghost is_ready = { is_mask_ready };
-
-    ghost left = { left_to_mask };
+    ghost definition = { mask_run A.Source B.Source };
 
     fn want(&self) -> Want {
         match self.mask.want() {

@@ -89,17 +89,9 @@ struct SweepRun<'o, A, B, O: ChromOrder> {
 }
 
 impl<'o, A: Source, B: Source, O: ChromOrder> TwoInputEngine for SweepRun<'o, A, B, O> {
-    ghost use Rattle.bt_tool.specs.inside.SweepLoop.{SweepComes, SweepIsOver, is_sweep_ready, left_to_sweep, wanted_of};
+    ghost use Rattle.bt_tool.specs.inside.SweepLoop.{sweep_run};
 
-    ghost comes = { SweepComes A.Source B.Source };
-
-    ghost ends = { SweepIsOver A.Source B.Source };
-
-    ghost wants = { wanted_of };
-
-    ghost is_ready = { is_sweep_ready };
-
-    ghost left = { left_to_sweep };
+    ghost definition = { sweep_run A.Source B.Source };
 
     fn want(&self) -> Want {
         self.sweep.want()

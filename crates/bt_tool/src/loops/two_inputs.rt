@@ -1,11 +1,9 @@
 //! The loop over two inputs: an engine is given what it wants of both.
 
-ghost use Rattle.std.specs.Prelude.{◌≡◌, ℕ, Option, option_map};
+ghost use Rattle.std.specs.Prelude.{◌≡◌, option_map};
 ghost use Rattle.bt_lines.specs.calls.Names.{fault_value};
 ghost use Rattle.bt_lines.specs.calls.Output.{Output};
-ghost use Rattle.bt_lines.specs.model.Fault.{FaultValue};
-ghost use Rattle.bt_sweep.specs.declared.sweep.want.Want.{Want};
-ghost use Rattle.bt_tool.specs.inside.Rounds.{FillsWanted, Finishes, Gives, Wants};
+ghost use Rattle.bt_tool.specs.inside.Rounds.{FillsWanted, Finishes, Gives, TwoInputDef, Wants};
 ghost use Rattle.bt_bed.specs.calls.SortedReader.{fault_in};
 
 use bt_lines::{Fault, Out, Sink};
@@ -13,49 +11,37 @@ use bt_sweep::Want;
 
 // Two readers, and the engine that is given what they have buffered.
 pub(crate) trait TwoInputEngine {
-    // A run that began with the first engine and output has come to the second ones.
-    ghost comes: { Self → Output → Self → Output → Type 0 };
-
-    // A run that began with the first engine and output has ended with this fault or none, and the second ones.
-    ghost ends: { Self → Output → Option FaultValue → Self → Output → Type 0 };
-
-    // The input that is wanted.
-    ghost wants: { Self → Want };
-
-    // Something of that input is buffered.
-    ghost is_ready: { Self → Type 0 };
-
-    // How much is still wanted. It falls with each input that is read on and then given.
-    ghost left: { Self → ℕ };
+    // How far a run has come, how it ends, and what is wanted.
+    ghost definition: { TwoInputDef Self };
 
     // The input that is wanted next.
     fn want(&self) -> Want
-        ensures { result ≡ wants self.now };
+        ensures { result ≡ definition.wants self.now };
 
     // Buffers some of the first input, or gives the engine its end. It writes nothing.
     fn fill_first(&mut self) -> Result<(), Fault>
-        requires { wants self.old ≡ Want.A }
-        ensures { (grown : Output) → FillsWanted comes ends is_ready left self.old grown result self.new grown };
+        requires { definition.wants self.old ≡ Want.A }
+        ensures { (grown : Output) → FillsWanted definition self.old grown result self.new grown };
 
     // The same of the second input. At its end the engine may write.
     fn fill_second<K: Sink>(&mut self, out: &mut Out<K>) -> Result<(), Fault>
-        requires { wants self.old ≡ Want.B }
-        ensures { FillsWanted comes ends is_ready left self.old out.old.output result self.new out.new.output };
+        requires { definition.wants self.old ≡ Want.B }
+        ensures { FillsWanted definition self.old out.old.output result self.new out.new.output };
 
     // Gives the engine what both inputs have buffered, as far as it wants it, and consumes that.
     fn give_buffered<K: Sink>(&mut self, out: &mut Out<K>) -> Result<(), Fault>
-        requires { (start : Self) × (before : Output) × comes start before self.old out.old.output }
-        ensures { Gives comes ends is_ready left self.old out.old.output result self.new out.new.output };
+        requires { (start : Self) × (before : Output) × definition.comes start before self.old out.old.output }
+        ensures { Gives definition self.old out.old.output result self.new out.new.output };
 
     // Called once nothing is wanted: checks what is left.
     fn finish(&mut self) -> Result<(), Fault>
-        requires { wants self.old ≡ Want.Nothing }
-        ensures { (grown : Output) → Finishes comes ends self.old grown result self.new };
+        requires { definition.wants self.old ≡ Want.Nothing }
+        ensures { (grown : Output) → Finishes definition self.old grown result self.new };
 }
 
 // Reads on the input that is wanted, and returns false if none is.
 fn fill_wanted<E: TwoInputEngine, K: Sink>(engine: &mut E, out: &mut Out<K>) -> Result<bool, Fault>
-    ensures { Wants E.comes E.ends E.is_ready E.left E.wants engine.old out.old.output result engine.new out.new.output }
+    ensures { Wants E.definition engine.old out.old.output result engine.new out.new.output }
 {
     match engine.want() {
         Want::A => {
@@ -72,8 +58,8 @@ fn fill_wanted<E: TwoInputEngine, K: Sink>(engine: &mut E, out: &mut Out<K>) -> 
 
 // Gives an engine all that it wants.
 fn give_all<E: TwoInputEngine, K: Sink>(engine: &mut E, out: &mut Out<K>) -> Result<(), Fault>
-    requires { E.comes engine.old out.old.output engine.old out.old.output }
-    ensures { E.ends engine.old out.old.output (fault_in result) engine.new out.new.output }
+    requires { E.definition.comes engine.old out.old.output engine.old out.old.output }
+    ensures { E.definition.ends engine.old out.old.output (fault_in result) engine.new out.new.output }
 {
     while fill_wanted(engine, out)? {
         engine.give_buffered(out)?;
@@ -83,8 +69,8 @@ fn give_all<E: TwoInputEngine, K: Sink>(engine: &mut E, out: &mut Out<K>) -> Res
 
 // Runs an engine to its end, and returns the fault that it ends with, if there is one.
 pub(crate) fn run_two<E: TwoInputEngine, K: Sink>(engine: &mut E, out: &mut Out<K>) -> Option<Fault>
-    requires { E.comes engine.old out.old.output engine.old out.old.output }
-    ensures { E.ends engine.old out.old.output (option_map fault_value result) engine.new out.new.output }
+    requires { E.definition.comes engine.old out.old.output engine.old out.old.output }
+    ensures { E.definition.ends engine.old out.old.output (option_map fault_value result) engine.new out.new.output }
 {
     match give_all(engine, out) {
         Ok(()) => None,

@@ -1,5 +1,5 @@
 -- Lemmas on the names that blocks leave, record by record.
-use Rattle.bt_lines.proofs.Std.{◌≡◌, ℕ, Bool, true, false, cond, List, [], ◌∷◌, ◌++◌, Option, Some, None, refl, sym, ap, ◌∙◌, bytes_eq, bytes_decides, ◌⊎◌, ◌&&◌, not, inl, inr}
+use Rattle.bt_lines.proofs.Std.{◌≡◌, ℕ, Bool, true, false, cond, List, [], ◌∷◌, ◌++◌, Option, Some, None, refl, sym, ap, ◌∙◌, bytes_eq, bytes_decides, ◌⊎◌, ◌&&◌, not, inl, inr, arith}
 use Rattle.bt_bed.specs.model.Feature.{Feature}
 use Rattle.bt_seq.specs.model.Masked.{Block, block_with, blocks_by, goes_on, left_at_last, left_by, next_goes_on_or_begins, owned_from, left_after, names_behind}
 use Rattle.bt_seq.specs.calls.MaskState.{KnowsEarlier, KnowsOwn, last_chrom, owner_by, owners_are_found, Matched, is_it, owner_of}
@@ -28,32 +28,13 @@ abbrev blocks_leave : Option (List (List ℕ)) → List ℕ → List (Block Feat
 blocks_leave left last [] = left
 blocks_leave left last (b ∷ bs) = cond (bytes_eq last b.chrom) (left_at_last left (owned_from left bs)) (left_at_last left (owned_from left (b ∷ bs)))
 
-alone : (left : Option (List (List ℕ))) (last : List ℕ) (r : Feature) (s : Bool) → bytes_eq last r.chrom ≡ s
-    → cond s left (left_by left r.chrom) ≡ blocks_leave left last (block_with r.chrom r [])
-alone left last r true e = rw e refl
-alone left last r false e = rw e refl
-
-joined : (left : Option (List (List ℕ))) (last : List ℕ) (r : Feature) (b : Block Feature) (bs : List (Block Feature)) (s : Bool) → bytes_eq last b.chrom ≡ s → r.chrom ≡ b.chrom
-    → left_at_last (cond s left (left_by left r.chrom)) (owned_from (cond s left (left_by left r.chrom)) bs) ≡ blocks_leave left last (record { chrom = b.chrom; items = r ∷ b.items } ∷ bs)
-joined left last r b bs true e same = rw e refl
-joined left last r b bs false e same = rw (e, same) refl
-
-apart : (left : Option (List (List ℕ))) (last : List ℕ) (r : Feature) (b : Block Feature) (bs : List (Block Feature)) (s : Bool) → bytes_eq last r.chrom ≡ s
-    → left_at_last (cond s left (left_by left r.chrom)) (owned_from (cond s left (left_by left r.chrom)) (b ∷ bs)) ≡ blocks_leave left last (record { chrom = r.chrom; items = r ∷ [] } ∷ b ∷ bs)
-apart left last r b bs true e = rw e refl
-apart left last r b bs false e = rw e refl
-
 with_first : (left : Option (List (List ℕ))) (last : List ℕ) (r : Feature) (b : Block Feature) (bs : List (Block Feature)) (t : Bool) → bytes_eq r.chrom b.chrom ≡ t
     → cond t (left_at_last (one_leaves left (Some last) r) (owned_from (one_leaves left (Some last) r) bs)) (left_at_last (one_leaves left (Some last) r) (owned_from (one_leaves left (Some last) r) (b ∷ bs)))
     ≡ blocks_leave left last (cond t (record { chrom = b.chrom; items = r ∷ b.items } ∷ bs) (record { chrom = r.chrom; items = r ∷ [] } ∷ b ∷ bs))
-with_first left last r b bs true e =
-    let same : r.chrom ≡ b.chrom = (bytes_decides r.chrom b.chrom).0 e in
-    joined left last r b bs (bytes_eq last r.chrom) (ap (bytes_eq last) (sym same)) same
-with_first left last r b bs false e = apart left last r b bs (bytes_eq last r.chrom) refl
+with_first left last r b bs t e = grind (arith, bytes_decides)
 
 with_any : (left : Option (List (List ℕ))) (last : List ℕ) (r : Feature) (bs : List (Block Feature)) → blocks_leave (one_leaves left (Some last) r) r.chrom bs ≡ blocks_leave left last (block_with r.chrom r bs)
-with_any left last r [] = alone left last r (bytes_eq last r.chrom) refl
-with_any left last r (b ∷ bs) = with_first left last r b bs (bytes_eq r.chrom b.chrom) refl
+with_any left last r bs = grind (arith, with_first)
 
 -- after a last chromosome
 leave_on : (left : Option (List (List ℕ))) (last : List ℕ) (rs : List Feature) → leave left (Some last) rs ≡ blocks_leave left last (blocks rs)
@@ -63,12 +44,10 @@ leave_on left last (r ∷ rs) = leave_on (one_leaves left (Some last) r) r.chrom
 first_joined : (left : Option (List (List ℕ))) (r : Feature) (b : Block Feature) (bs : List (Block Feature)) (t : Bool) → bytes_eq r.chrom b.chrom ≡ t
     → cond t (left_at_last (left_by left r.chrom) (owned_from (left_by left r.chrom) bs)) (left_at_last (left_by left r.chrom) (owned_from (left_by left r.chrom) (b ∷ bs)))
     ≡ left_at_last left (owned_from left (cond t (record { chrom = b.chrom; items = r ∷ b.items } ∷ bs) (record { chrom = r.chrom; items = r ∷ [] } ∷ b ∷ bs)))
-first_joined left r b bs true e = let same : r.chrom ≡ b.chrom = (bytes_decides r.chrom b.chrom).0 e in ap (λ (name : List ℕ). left_at_last (left_by left name) (owned_from (left_by left name) bs)) same
-first_joined left r b bs false e = refl
+first_joined left r b bs t e = grind (arith, bytes_decides)
 
 first_any : (left : Option (List (List ℕ))) (r : Feature) (bs : List (Block Feature)) → blocks_leave (left_by left r.chrom) r.chrom bs ≡ left_at_last left (owned_from left (block_with r.chrom r bs))
-first_any left r [] = refl
-first_any left r (b ∷ bs) = first_joined left r b bs (bytes_eq r.chrom b.chrom) refl
+first_any left r bs = grind (arith, first_joined)
 
 -- from the start
 pub leave_all : (left : Option (List (List ℕ))) (rs : List Feature) → leave left None rs ≡ left_at_last left (owned_from left (blocks rs))
@@ -111,25 +90,18 @@ some_left (n ∷ ns) name = refl
 behind_first : (chrom name n : List ℕ) (ns : List (List ℕ)) (t : Bool) → cond t (Some ns) (names_behind chrom ns) ≡ None
     → (names_behind chrom ns ≡ None → names_behind chrom (ns ++ name ∷ []) ≡ cond (bytes_eq name chrom) (Some []) None)
     → cond t (Some (ns ++ name ∷ [])) (names_behind chrom (ns ++ name ∷ [])) ≡ cond (bytes_eq name chrom) (Some []) None
-behind_first chrom name n ns true none rest = absurd (let apart : Some ns ≡ None = none in cc)
-behind_first chrom name n ns false none rest = rest none
+behind_first chrom name n ns t none rest = grind arith
 
 behind_last : (chrom name : List ℕ) (front : List (List ℕ)) → names_behind chrom front ≡ None → names_behind chrom (front ++ name ∷ []) ≡ cond (bytes_eq name chrom) (Some []) None
 behind_last chrom name [] none = refl
 behind_last chrom name (n ∷ ns) none = behind_first chrom name n ns (bytes_eq n chrom) none (behind_last chrom name ns)
 
-owner_of_last : (is_name : Bool) → found_by false false is_name ≡ owner_by (cond is_name (Some []) None)
-owner_of_last true = refl
-owner_of_last false = refl
-
 found_own : (goes is_name : Bool) (chrom : List ℕ) → found_by true goes is_name ≡ owner_by (cond goes (Some []) (left_by (Some []) chrom))
-found_own true is_name chrom = refl
-found_own false is_name chrom = refl
+found_own goes is_name chrom = grind arith
 
 found_earlier : (goes : Bool) (chrom name : List ℕ) (front : List (List ℕ)) → (goes ≡ false → names_behind chrom front ≡ None)
     → found_by false goes (bytes_eq name chrom) ≡ owner_by (cond goes (Some (front ++ name ∷ [])) (left_by (Some (front ++ name ∷ [])) chrom))
-found_earlier true chrom name front none = some_left front name
-found_earlier false chrom name front none = owner_of_last (bytes_eq name chrom) ∙ sym (ap owner_by (behind_last chrom name front (none refl)))
+found_earlier goes chrom name front none = grind (arith, some_left, behind_last)
 
 module _ (names : List (List ℕ)) (records : List Feature) (m : Matched) (r : Feature) where
   next_left : (left : Option (List (List ℕ))) → left_after names records ≡ left → left_after names (records ++ r ∷ []) ≡ cond (goes_on records r) left (left_by left r.chrom)

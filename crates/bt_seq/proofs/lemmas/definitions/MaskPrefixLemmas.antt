@@ -25,9 +25,7 @@ pub decided_by_tags : (line : SequenceLine) (records : List Feature)
 decided_by_tags line records = ap (λ b. is_unnamed line.names || b) (decided_tagged (bases_up_to line) line.names records)
 
 stays_by : (a : Bool) (b c : Bool) → (a || b) ≡ true → (a || (b || c)) ≡ true
-stays_by true b c e = refl
-stays_by false true c e = refl
-stays_by false false c e = absurd (let apart : false ≡ true = e in cc)
+stays_by a b c e = grind arith
 
 pub decided_stays : decided_lines_stay
 decided_stays line records more e =
@@ -129,8 +127,7 @@ module _ (bases : ℕ) where
       behind_both bases (items_if_last left (r ∷ [])) (own_in (tags chrom_of left (Some r.chrom) more)) (past_own left r past) (past_all left r more past placed)
 
   drop_false : (b : Bool) → (b || false) ≡ true → b ≡ true
-  drop_false true e = refl
-  drop_false false e = e
+  drop_false b e = grind arith
 
   before_split : (left : Option (List (List ℕ))) (last : Option (List ℕ)) (rs : List Feature) (r : Feature) (more : List Feature) (a : Bool) → list_any (tag_decides bases) (tags chrom_of left last rs) ≡ a
       → (a || (block_decides bases (next_left chrom_of (leave left last rs) (last_from last rs) r) (r ∷ []) || false)) ≡ true → AreInBlocks (rs ++ r ∷ more)
@@ -157,38 +154,25 @@ module _ (bases : ℕ) where
       let none : covers position r ≡ false = grind (arith, nat_tests) in
       ap (λ b. b || list_any (covers position) rs) none ∙ no_cover position rs low h.1
 
-  or_none : (b : Bool) → (b || false) ≡ b
-  or_none true = refl
-  or_none false = refl
-
   cover_same : (position : ℕ) (rs extra : List Feature) → position < bases → AreBehind bases extra → list_any (covers position) (rs ++ extra) ≡ list_any (covers position) rs
-  cover_same position rs extra low h =
-      list_any-append (covers position) rs extra ∙ ap (λ b. list_any (covers position) rs || b) (no_cover position extra low h) ∙ or_none (list_any (covers position) rs)
+  cover_same position rs extra low h = grind (arith, list_any-append, no_cover)
 
   -- they mask nothing before
   masked_same : (how : MaskHow) (rs extra : List Feature) (position : ℕ) (text : List ℕ) → position + length text ≤ bases → AreBehind bases extra
       → masked_from how (rs ++ extra) position text ≡ masked_from how rs position text
   masked_same how rs extra position [] low h = refl
-  masked_same how rs extra position (base ∷ text) low h =
-      ap (λ b. cond b (masked_byte how base) base ∷ masked_from how (rs ++ extra) (suc position) text) (cover_same position rs extra (omega arith) h)
-      ∙ ap (λ bs. cond (list_any (covers position) rs) (masked_byte how base) base ∷ bs) (masked_same how rs extra (suc position) text (omega arith) h)
+  masked_same how rs extra position (base ∷ text) low h = grind (arith, cover_same, masked_same how rs extra (suc position) text (omega arith) h)
 
 text_same : (how : MaskHow) (line : SequenceLine) (rs extra : List Feature) → AreBehind (bases_up_to line) extra → (h : Bool) → is_header line.text ≡ h
     → cond h line.text (masked_from how (rs ++ extra) line.before line.text) ≡ cond h line.text (masked_from how rs line.before line.text)
-text_same how line rs extra behind true h = refl
-text_same how line rs extra behind false h =
-    let count : bases_in line.text ≡ length line.text = ap (λ b. cond b 0 (length line.text)) h in
-    let low : line.before + length line.text ≤ bases_up_to line = omega (arith, count) in
-    masked_same (bases_up_to line) how rs extra line.before line.text low behind
+text_same how line rs extra behind h is = grind (arith, masked_same)
 
 pub none_next : (t : Bool) (name : List ℕ) → cond t None (left_by None name) ≡ None
-none_next true name = refl
-none_next false name = refl
+none_next t name = grind arith
 
 none_own : (last : Option (List ℕ)) (rs : List Feature) → own_in (tags chrom_of None last rs) ≡ []
 none_own last [] = refl
-none_own last (r ∷ rs) =
-    ap (λ left. items_if_last left (r ∷ []) ++ own_in (tags chrom_of left (Some r.chrom) rs)) (none_next (is_last last r.chrom) r.chrom) ∙ none_own (Some r.chrom) rs
+none_own last (r ∷ rs) = grind (arith, none_own (Some r.chrom) rs)
 
 -- before the first header no record is one of the line's sequence
 pub unnamed_own : (rs : List Feature) → own_records [] rs ≡ []
@@ -196,8 +180,7 @@ unnamed_own [] = refl
 unnamed_own (r ∷ rs) = own_tagged [] (r ∷ rs) ∙ none_own (Some r.chrom) rs
 
 unnamed_alike : (names : List (List ℕ)) → is_unnamed names ≡ true → (rs ss : List Feature) → own_records names rs ≡ own_records names ss
-unnamed_alike [] e rs ss = unnamed_own rs ∙ sym (unnamed_own ss)
-unnamed_alike (name ∷ names) e rs ss = absurd (let apart : false ≡ true = e in cc)
+unnamed_alike names e rs ss = grind (arith, unnamed_own)
 
 -- the records of the line's sequence, split where it was decided
 own_split : (names : List (List ℕ)) (rs more : List Feature) → own_records names (rs ++ more) ≡ own_records names rs ++ own_in (tags chrom_of (leave (Some names) None rs) (last_from None rs) more)
@@ -238,17 +221,13 @@ module _ (line : SequenceLine) where
 
   held_same : (rs extra : List Feature) → AreBehind (bases_up_to line) extra
       → filter reaches (rs ++ extra) ≡ filter reaches rs
-  held_same rs extra h =
-      filter-append reaches rs extra
-      ∙ ap (λ (l : List Feature). filter reaches rs ++ l) (none_reaches extra h)
-      ∙ append-nil (filter reaches rs)
+  held_same rs extra h = grind (arith, filter-append, none_reaches, append-nil)
 
   held_by_tags : (rs : List Feature) (r : Feature) → AreInBlocks (rs ++ r ∷ []) → (u : Bool)
       → is_unnamed line.names ≡ u
       → (u || list_any (tag_decides (bases_up_to line)) (tags_of line.names (rs ++ r ∷ []))) ≡ true
       → held_for line (rs ++ r ∷ []) ≡ held_for line rs
-  held_by_tags rs r placed true u e =
-      ap (filter reaches) (unnamed_alike line.names u (rs ++ r ∷ []) rs)
+  held_by_tags rs r placed true u e = grind (arith, unnamed_alike)
   held_by_tags rs r placed false u e =
       let left = leave (Some line.names) None rs in
       let next = own_in (tags chrom_of left (last_from None rs) (r ∷ [])) in
@@ -258,9 +237,7 @@ module _ (line : SequenceLine) where
 
   pub held_before : (rs : List Feature) (r : Feature) → AreInBlocks (rs ++ r ∷ [])
       → decided line (rs ++ r ∷ []) ≡ true → held_for line (rs ++ r ∷ []) ≡ held_for line rs
-  held_before rs r placed e =
-      held_by_tags rs r placed (is_unnamed line.names) refl
-      (sym (decided_by_tags line (rs ++ r ∷ [])) ∙ e)
+  held_before rs r placed e = grind (arith, held_by_tags, decided_by_tags)
 
 pub masked_stay : masked_lines_stay
 masked_stay how line rs more placed e =
@@ -287,10 +264,6 @@ abbrev told_of : List (Tagged (Member Feature)) → Option FaultValue
 told_of [] = None
 told_of (t ∷ ts) = told_by t.left t.item (told_of ts)
 
-told_first : (ms : List (Member Feature)) (ts : List (Tagged (Member Feature))) → HasOne ms → told_at_first ms ≡ told_of (tag_items None ms ++ ts)
-told_first [] ts h = absurd h
-told_first (m ∷ ms) ts h = refl
-
 told_later : (names : List (List ℕ)) (ms : List (Member Feature)) (ts : List (Tagged (Member Feature))) → told_of ts ≡ told_of (tag_items (Some names) ms ++ ts)
 told_later names [] ts = refl
 told_later names (m ∷ ms) ts = told_later names ms ts
@@ -301,8 +274,7 @@ told_in os = option_and_then (λ (o : Owned (Member Feature)). told_at_first o.b
 
 told_block : (left : Option (List (List ℕ))) (b : Block (Member Feature)) (os : List (Owned (Member Feature))) (ts : List (Tagged (Member Feature))) → HasOne b.items → told_in os ≡ told_of ts
     → told_in (record { block = b; left = left } ∷ os) ≡ told_of (tag_items left b.items ++ ts)
-told_block None b os ts h e = told_first b.items ts h
-told_block (Some names) b os ts h e = e ∙ told_later names b.items ts
+told_block left b os ts h e = grind (arith, told_later)
 
 told_spread : (left : Option (List (List ℕ))) (bs : List (Block (Member Feature))) → AllHaveOne bs → told_in (owned_from left bs) ≡ told_of (spread (owned_from left bs))
 told_spread left [] h = refl
@@ -325,8 +297,7 @@ never_owned last rs e = let apart : false ≡ true = sym (ap is_some (none_leave
 none_by : (left : Option (List (List ℕ))) (m : Member Feature) (ms : List (Member Feature)) → is_some (leave left (Some m.item.chrom) (items ms)) ≡ true
     → ((l : Option (List (List ℕ))) → is_some (leave l (Some m.item.chrom) (items ms)) ≡ true → told_of (tags chrom_at l (Some m.item.chrom) ms) ≡ None)
     → told_by left m (told_of (tags chrom_at left (Some m.item.chrom) ms)) ≡ None
-none_by None m ms e rest = absurd (never_owned (Some m.item.chrom) (items ms) e)
-none_by (Some names) m ms e rest = rest (Some names) e
+none_by left m ms e rest = grind (arith, never_owned)
 
 none_told : (left : Option (List (List ℕ))) (last : Option (List ℕ)) (ms : List (Member Feature)) → is_some (leave left last (items ms)) ≡ true → told_of (tags chrom_at left last ms) ≡ None
 none_told left last [] e = refl
@@ -338,8 +309,7 @@ lack_none names ms e = told_tagged names ms ∙ none_told (Some names) None ms (
 first_by : (left : Option (List (List ℕ))) (p : Member Feature) (past more : List (Member Feature)) (m : Member Feature) → is_some (leave left (Some p.item.chrom) (items past)) ≡ true
     → told_of (tags chrom_at left (Some p.item.chrom) (past ++ m ∷ more)) ≡ Some (fault_at_line Second m.line NoSequence)
     → told_by left p (told_of (tags chrom_at left (Some p.item.chrom) (past ++ m ∷ more))) ≡ Some (fault_at_line Second m.line NoSequence)
-first_by None p past more m e rest = absurd (never_owned (Some p.item.chrom) (items past) e)
-first_by (Some names) p past more m e rest = rest
+first_by left p past more m e rest = grind (arith, never_owned)
 
 first_here : (left : Option (List (List ℕ))) (m : Member Feature) (later : Option FaultValue) → left ≡ None → told_by left m later ≡ Some (fault_at_line Second m.line NoSequence)
 first_here left m later e = ap (λ l. told_by l m later) e
@@ -347,8 +317,7 @@ first_here left m later e = ap (λ l. told_by l m later) e
 first_told : (left : Option (List (List ℕ))) (last : Option (List ℕ)) (past more : List (Member Feature)) (m : Member Feature) → is_some (leave left last (items past)) ≡ true → leave left last (items (past ++ m ∷ [])) ≡ None
     → told_of (tags chrom_at left last (past ++ m ∷ more)) ≡ Some (fault_at_line Second m.line NoSequence)
 first_told left last [] more m e none = first_here (next_left chrom_at left last m) m (told_of (tags chrom_at (next_left chrom_at left last m) (Some m.item.chrom) more)) none
-first_told left last (p ∷ past) more m e none =
-    first_by (next_left chrom_at left last p) p past more m e (first_told (next_left chrom_at left last p) (Some p.item.chrom) past more m e none)
+first_told left last (p ∷ past) more m e none = grind (arith, first_by, first_told (next_left chrom_at left last p) (Some p.item.chrom) past more m e none)
 
 pub first_is_told : first_unowned_is_told
 first_is_told names past more m e none =

@@ -23,8 +23,7 @@ goes_more : (rs : List Feature) (r : Feature) → goes_on (rs ++ r ∷ []) r ≡
 goes_more rs r = sym (last_goes_on (rs ++ r ∷ []) r) ∙ ap (λ l. is_it l r.chrom) (chrom_more rs r) ∙ bytes_same r.chrom
 
 is_it_true : (o : Option (List ℕ)) (name : List ℕ) → is_it o name ≡ true → o ≡ Some name
-is_it_true None name e = absurd (never e)
-is_it_true (Some n) name e = ap Some ((bytes_decides n name).0 e)
+is_it_true o name e = grind (arith, bytes_decides)
 
 -- the last of a list with one more
 snoc_front : (xs ys : List (List ℕ)) (x y : List ℕ) → xs ++ x ∷ [] ≡ ys ++ y ∷ [] → xs ≡ ys
@@ -151,20 +150,9 @@ module _ (names : List (List ℕ)) (taken : List Feature) (r : Feature) (m : Mat
   left_none : KnowsNone names taken m → left_after names (taken ++ r ∷ []) ≡ None
   left_none k = ap (λ ns. left_after ns (taken ++ r ∷ [])) k.unnamed ∙ ap (λ (rs : List Feature). left_after [] (rs ++ r ∷ [])) k.untaken
 
-  owner_none : KnowsNone names taken m → m.name ≡ last_or None names → owner_of m r.chrom ≡ owner_by (left_after names (taken ++ r ∷ []))
-  owner_none k name =
-      let nobody : owner_of m r.chrom ≡ Nobody = rw (k.last, k.own, name, k.unnamed) refl in
-      nobody ∙ sym (ap owner_by (left_none k))
-
   -- the sequence of its block is found
   pub owner_next : KnowsNone names taken m ⊎ (MayTake ⊎ KnowsLast names (taken ++ r ∷ []) m) → m.name ≡ last_or None names → owner_of m r.chrom ≡ owner_by (left_after names (taken ++ r ∷ []))
-  owner_next can name = elim can [
-    | inl none ↦ owner_none none name
-    | inr more ↦ elim more [
-      | inl may ↦ owner_may may
-      | inr last ↦ owner_known last
-    ]
-  ]
+  owner_next can name = grind (arith, owner_may, owner_known)
 
   known_left : KnowsLast names (taken ++ r ∷ []) m → left_after names (taken ++ r ∷ []) ≡ None → ⊥
   known_left k e = grind arith
@@ -213,10 +201,7 @@ module _ (names : List (List ℕ)) (n : List ℕ) (taken : List Feature) (m : Ma
   grown_last rs last e = record { knows = grown_known rs [] last e; near = λ k. front_is rs [] e k }
 
   left_known : Knows names taken m → (left : List (List ℕ)) × (left_after names taken ≡ Some left)
-  left_known k = elim k.where_last [
-    | inl own ↦ ([], own.left)
-    | inr e ↦ (e.before ++ e.name ∷ [], e.left)
-  ]
+  left_known k = grind arith
 
   ahead_grows : (r : Feature) → KnowsAhead names taken r m → left_after names (taken ++ r ∷ []) ≡ None → KnowsAhead (names ++ n ∷ []) taken r (named m n)
   ahead_grows r k none =

@@ -9,7 +9,7 @@ use Rattle.bt_lines.specs.declared.fault.Fault.{Fault}
 use Rattle.bt_seq.proofs.lemmas.Sam.{none_masked}
 use Rattle.bt_seq.specs.calls.MaskState.{Keeps, Masking, TakesLine, Waiting, Writes, WritesGiven, decides, decides_by, decides_up_to, is_stray, line_bytes, moved_to, passed, stays_as_given, with_owner, writes_at_once, Matched, matched_with, named, owner_of}
 use Rattle.bt_seq.specs.model.Masked.{is_header, name_in, ends_name}
-use Rattle.bt_seq.specs.inside.Window.{gone_on, no_bases, masked_in}
+use Rattle.bt_seq.specs.inside.Window.{gone_on, no_bases}
 use Rattle.bt_seq.specs.declared.mask.mask_want.MaskWant.TheVariants.{Line, Bed, Nothing}
 use Rattle.bt_seq.specs.declared.mask.matching.Owner.{Owner}
 use Rattle.bt_seq.specs.declared.sam.extent.Extent.{Extent}
@@ -18,10 +18,7 @@ use Rattle.bt_lines.specs.calls.Columns.{IsBefore, Lacks}
 -- what is put of a line into which nothing reaches
 plain_bytes : (old : Masking) (line : Waiting) → old.window.held ≡ []
     → line.text ++ end_bytes line.ending ≡ line_bytes old line
-plain_bytes old line none =
-    ap (λ (t : List ℕ). t ++ end_bytes line.ending)
-    (none_masked old.how old.window.before line.text
-    ∙ ap (λ (ss : List Extent). masked_in old.how ss old.window.before line.text) (sym none))
+plain_bytes old line none = grind (arith, none_masked)
 
 pub none_held : (held : List Extent) → nat_eq (length held) 0 ≡ true → held ≡ []
 none_held [] e = refl
@@ -126,14 +123,7 @@ pub wrote_line : (old inside known new : Masking) (r : Feature) (owner : Owner) 
     → (decides old r ≡ true)
     × (new ≡ record (with_owner old r.chrom) { waiting = None; want = Line; decided_to = decides_up_to (owner_of old.matched r.chrom) r.start })
     × Grown out (line_bytes old line) grown
-wrote_line old inside known new r owner matched line out grown k e o m d w = (
-  sym (ap (λ (s : Masking). decides s r) e) ∙ sym (ap (λ o. decides_by o inside.window.bases r.start) o) ∙ d,
-  w.0 ∙ ap (λ (s : Masking). record s { waiting = None; want = Line }) k
-      ∙ ap (λ o. record inside { matched = matched; waiting = None; want = Line; decided_to = decides_up_to o r.start }) o
-      ∙ ap (λ m. record inside { matched = m; waiting = None; want = Line; decided_to = decides_up_to (owner_of inside.matched r.chrom) r.start }) m
-      ∙ ap (λ (s : Masking). record (with_owner s r.chrom) { waiting = None; want = Line; decided_to = decides_up_to (owner_of s.matched r.chrom) r.start }) e,
-  subst (λ (s : Masking). Grown out (line_bytes s line) grown) (k ∙ ap (λ (s : Masking). record s { matched = matched; decided_to = decides_up_to owner r.start }) e) w.1,
-)
+wrote_line old inside known new r owner matched line out grown k e o m d w = grind arith
 
 -- Lemmas on masked bases.
 
@@ -151,10 +141,6 @@ module _ (f : ℕ → ℕ) (old : List ℕ) (at : ℕ) (within : at + 32 ≤ len
   as_many : length (map f (take at old)) ≡ at
   as_many = length-map (take at old) f ∙ length-take-le at old (omega (arith, within))
 
-  -- the lanes are still as they were
-  same_lanes : (bases : List ℕ) → bases ≡ map f (take at old) ++ drop at old → chunk at 32 bases ≡ take 32 (drop at old)
-  same_lanes bases is = ap (λ l. take 32 (drop at l)) is ∙ ap (take 32) (drop_at (map f (take at old)) (drop at old) at as_many)
-
   so_many : length (map f (take 32 (drop at old))) ≡ 32
   so_many = length-map (take 32 (drop at old)) f ∙ length-take-le 32 (drop at old) (omega (arith, within, length-drop at old))
 
@@ -164,18 +150,7 @@ module _ (f : ℕ → ℕ) (old : List ℕ) (at : ℕ) (within : at + 32 ≤ len
   -- once the lanes are masked, the ones before the next lanes are
   pub masked_more : (bases lanes : List ℕ) → bases ≡ map f (take at old) ++ drop at old → lanes ≡ map f (chunk at 32 bases)
       → put_chunk at bases lanes ≡ map f (take (at + 32) old) ++ drop (at + 32) old
-  masked_more bases lanes is masked =
-      let here : lanes ≡ map f (take 32 (drop at old)) = masked ∙ ap (map f) (same_lanes bases is) in
-      let many : length lanes ≡ 32 = ap length here ∙ so_many in
-      let left : take at bases ≡ map f (take at old) = ap (take at) is ∙ take_at (map f (take at old)) (drop at old) at as_many in
-      let right : drop at bases ≡ drop at old = ap (drop at) is ∙ drop_at (map f (take at old)) (drop at old) at as_many in
-      let behind : drop (length lanes) (drop at bases) ≡ drop (at + 32) old = ap (λ n. drop n (drop at bases)) many ∙ ap (drop 32) right ∙ drop-drop 32 at old in
-      put_chunk_is at bases lanes (omega (arith, within, many, so_long bases is))
-      ∙ ap (λ l. l ++ (lanes ++ drop (length lanes) (drop at bases))) left
-      ∙ ap (λ l. map f (take at old) ++ (lanes ++ l)) behind
-      ∙ ap (λ l. map f (take at old) ++ (l ++ drop (at + 32) old)) here
-      ∙ sym (append_assoc (map f (take at old)) (map f (take 32 (drop at old))) (drop (at + 32) old))
-      ∙ ap (λ l. l ++ drop (at + 32) old) (sym (map-append f (take at old) (take 32 (drop at old))) ∙ ap (map f) (sym (take-add at 32 old)))
+  masked_more bases lanes is masked = grind (arith, so_many, take_at, as_many, drop_at, drop-drop, put_chunk_is, so_long, append_assoc, map-append, take-add)
 
 -- once the rest is masked too, all are
 module _ (f : ℕ → ℕ) (old bases : List ℕ) (at : ℕ) (within : at ≤ length old) (is : bases ≡ map f (take at old) ++ drop at old) where
@@ -211,8 +186,7 @@ chosen f g (byte ∷ bytes) = ap (λ bs. cond (top 7 (f byte)) (g byte) byte ∷
 pub chosen_lanes : (f g h : ℕ → ℕ) (bytes : List ℕ) {tests lanes : List ℕ} → Each1 (Fits w8) bytes → tests ≡ map f bytes → lanes ≡ map g bytes
     → agree_below (λ b. eqb (cond (top 7 (f b)) (g b) b) (h b)) (λ b. true) 256 ≡ true
     → sel_l (map (top 7) tests) lanes bytes ≡ map h bytes
-chosen_lanes f g h bytes fits tests lanes agrees =
-    ap₂ (λ ts ls. sel_l (map (top 7) ts) ls bytes) tests lanes ∙ chosen f g bytes ∙ same_on_bytes (λ b. cond (top 7 (f b)) (g b) b) h bytes agrees fits
+chosen_lanes f g h bytes fits tests lanes agrees = grind (arith, chosen, same_on_bytes)
 
 -- Lemmas on the names that headers give.
 
@@ -266,15 +240,10 @@ module _ (text : List ℕ) (end n : ℕ) (space : IsBefore 32 text end) (tab : I
     clear = subst (Lacks 9) (take_all n front (omega (arith, none))) tab.clear
 
     by_space : end < length text → take n text ≡ take_while in_name text
-    by_space below =
-        let whole : text ≡ front ++ 32 ∷ drop (end + 1) text = space.cut below in
-        let is : take n text ≡ front = ap (λ k. take k text) (none ∙ size) in
-        is ∙ sym (ap (take_while in_name) whole ∙ before_end front (drop (end + 1) text) 32 space.clear clear refl)
+    by_space below = grind (arith, size, before_end, clear)
 
     by_end : length text ≤ end → take n text ≡ take_while in_name text
-    by_end over =
-        let all : front ≡ text = take_all end text over in
-        ap (λ k. take k text) (none ∙ size) ∙ all ∙ sym (ap (take_while in_name) (sym all) ∙ all_named front space.clear clear ∙ all)
+    by_end over = grind (arith, take_all, all_named)
 
     by_rest : (b : Bool) → nat_lt end (length text) ≡ b → take n text ≡ take_while in_name text
     by_rest true e = by_space (let below : end < length text = grind (arith, nat_tests) in below)

@@ -1,5 +1,5 @@
 -- Lemmas on a masking engine that is given a record, or the end of the records.
-use Rattle.bt_lines.proofs.Std.{◌≡◌, ℕ, ◌≤◌, ◌<◌, min, Bool, true, false, cond, ◌&&◌, ◌||◌, nat_le, nat_lt, List, [], ◌∷◌, ◌++◌, map, filter, Option, Some, None, Result, Ok, Err, refl, sym, ap, ◌∙◌, subst, append-nil, inl, inr, ◌⊎◌, arith, is_some, option_map, option_to_list, nat_tests, map-append, filter-append, not, append_assoc, flat_map, list_all, and_from, and_parts, false≢true, or_left, flat_map-append, list_all-append}
+use Rattle.bt_lines.proofs.Std.{◌≡◌, ℕ, ◌≤◌, ◌<◌, min, Bool, true, false, cond, ◌&&◌, ◌||◌, nat_lt, List, [], ◌∷◌, ◌++◌, map, filter, Option, Some, None, Result, Ok, Err, refl, sym, ap, ◌∙◌, subst, append-nil, inl, inr, ◌⊎◌, arith, is_some, option_map, option_to_list, nat_tests, map-append, filter-append, not, append_assoc, flat_map, list_all, and_from, and_parts, false≢true, or_left, flat_map-append, list_all-append}
 use Rattle.std.specs.List.{last_or}
 use Rattle.bt_bed.specs.model.Feature.{Feature}
 use Rattle.bt_bed.specs.model.BedLine.{fault_at_line}
@@ -10,12 +10,12 @@ use Rattle.bt_lines.specs.calls.Output.{Output, FailsToAdd, Grown}
 use Rattle.bt_lines.specs.declared.fault.Fault.{Fault}
 use Rattle.bt_lines.specs.declared.fault.Input.TheVariants.{Second}
 use Rattle.bt_lines.specs.declared.fault.Kind.TheVariants.{NoSequence}
-use Rattle.bt_seq.proofs.lemmas.mask.steps.LineStepLemmas.{decides_alike, range_more, line_masked, open_undecided}
+use Rattle.bt_seq.proofs.lemmas.mask.steps.LineStepLemmas.{range_more, line_masked, open_undecided}
 use Rattle.bt_seq.proofs.lemmas.mask.bases.KnownLemmas.{MayTake, never, next_can_be, nobody_left, none_ahead, own_ahead, owner_next, take_next}
 use Rattle.bt_seq.proofs.lemmas.definitions.MaskPrefixLemmas.{blocks_front, decided_stays, held_before, masked_before, masked_stay}
 use Rattle.bt_seq.proofs.lemmas.mask.steps.CopyLemmas.{decided_more, own_more, last_waits, stands_at, wants_bed, last_more}
 use Rattle.bt_seq.specs.calls.MaskStage.{extent_of, IsNext, MaskStage, given, held_by, reached, want_of, with_bed_ended, with_decided, with_record, SayEach, GoesOn, MayFollow, SettlesLines, is_written_ahead, is_written_at_once, reached_by, with_line}
-use Rattle.bt_seq.specs.calls.MaskState.{owner_by, Matched, matched_with, owner_of, Masking, TakesBed, Writes, decides, decides_by, decides_up_to, holding, holds, holds_by, line_bytes, with_owner, with_extent}
+use Rattle.bt_seq.specs.calls.MaskState.{owner_by, Matched, matched_with, owner_of, Masking, TakesBed, Writes, decides, decides_up_to, holding, holds, holds_by, line_bytes, with_owner, with_extent}
 use Rattle.bt_seq.specs.inside.Masking.{Counts, IsDecided, KnowsLast, KnowsNone, decided_up_to}
 use Rattle.bt_seq.specs.calls.MaskSteps.{MaskMovesTo, IsAtStage, Waits, kept_line, ChecksRecord, EndsRecords, GivesBed, LacksSequence, WritesLine, bytes_with}
 use Rattle.bt_seq.specs.model.Masked.{decided, held_for, masked_line, block_decides, items_if_last, left_after, own_records, SequenceLine, bases_up_to, is_unnamed, Reached, is_header, line_says}
@@ -42,20 +42,12 @@ module _ (line : SequenceLine) (r : Feature) (range : r.stop ≤ max_number) whe
   held_more rs = ap (filter reaches) (own_more line.names rs r) ∙ filter-append reaches (own_records line.names rs) (items_if_last (left_after line.names (rs ++ r ∷ [])) (r ∷ []))
 
   module _ (w : Bounds) (before : w.before ≡ min line.before limit) where
-    agrees : (nat_le (bases_up_to line) r.start || false) ≡ false → nat_lt w.before r.stop ≡ (nat_lt r.start (bases_up_to line) && nat_lt line.before r.stop)
-    agrees e = grind (arith, nat_tests)
-
     extent_by : (h t : Bool) → h ≡ t → (with_extent h w r.start r.stop).held ≡ w.held ++ map extent_of (cond t (r ∷ []) [])
-    extent_by true true e = refl
-    extent_by true false e = absurd (never (sym e))
-    extent_by false true e = absurd (never e)
-    extent_by false false e = sym (append-nil w.held)
+    extent_by h t e = grind (arith, append-nil)
 
     extent_more : (left : Option (List (List ℕ))) → block_decides (bases_up_to line) left (r ∷ []) ≡ false
         → (with_extent (holds_by (owner_by left) w r) w r.start r.stop).held ≡ w.held ++ map extent_of (filter reaches (items_if_last left (r ∷ [])))
-    extent_more None e = absurd (never (sym e))
-    extent_more (Some []) e = extent_by (nat_lt w.before r.stop) (reaches r) (agrees e)
-    extent_more (Some (n ∷ ns)) e = sym (append-nil w.held)
+    extent_more left e = grind (arith, extent_by)
 
     hold_item : (left : Option (List (List ℕ))) → block_decides (bases_up_to line) left (r ∷ []) ≡ false → holds_by (owner_by left) w r ≡ true → filter reaches (items_if_last left (r ∷ [])) ≡ r ∷ []
     hold_item left e d = grind (arith, nat_tests)
@@ -64,8 +56,7 @@ left_some : (bases : ℕ) (left : Option (List (List ℕ))) (r : Feature) → bl
 left_some bases left r e = grind (arith, nat_tests)
 
 owner_some : (left : Option (List (List ℕ))) → (owner_by left ≡ Nobody → ⊥) → is_some left ≡ true
-owner_some None h = absurd (h refl)
-owner_some (Some names) h = refl
+owner_some left h = grind arith
 
 -- how far a record decides lines
 up_to_by : (left : Option (List (List ℕ))) (r : Feature) → decides_up_to (owner_by left) r.start ≡ decided_up_to left r
@@ -90,8 +81,7 @@ module _ (how : MaskHow) (full : Bool) (stage : MaskStage) (line : SequenceLine)
   undecided_yet = open_undecided line stage.taken as_waits.named (at_last.is_open as_waits.lines)
 
   bytes_are : line_bytes old (kept_line line) ≡ masked_line how stage.taken line
-  bytes_are =
-      line_masked how line stage.taken at_last.inside.in_range as_waits.header old stands.how_is (at_last.holds (inl as_waits.lines)) at_last.inside.counts.before
+  bytes_are = grind (arith, line_masked, at_last)
 
   given_last : last_or None ((stage.written ++ option_to_list stage.waiting) ++ []) ≡ Some line
   given_last = ap (last_or None) (append-nil (stage.written ++ option_to_list stage.waiting)) ∙ last_waits stage line waits
@@ -110,10 +100,7 @@ module _ (how : MaskHow) (full : Bool) (stage : MaskStage) (line : SequenceLine)
     owner_is = owner_next line.names stage.taken r old.matched can at_last.inside.name_is
 
     decides_is : decides old r ≡ block_decides (bases_up_to line) left (r ∷ [])
-    decides_is =
-        ap (λ o. decides_by o old.window.bases r.start) owner_is
-        ∙ ap (λ b. decides_by (owner_by left) b r.start) at_last.inside.counts.bases
-        ∙ decides_alike (bases_up_to line) left r (omega arith)
+    decides_is = grind (arith, nat_tests, owner_is, at_last)
 
     decided_is : decided line (stage.taken ++ r ∷ []) ≡ decides old r
     decided_is = decided_more line stage.taken r ∙ ap (λ b. b || block_decides (bases_up_to line) left (r ∷ [])) undecided_yet ∙ sym decides_is
@@ -267,8 +254,7 @@ decided_next (Some line) taken (Some a) r next e =
 held_next : (last : Option SequenceLine) (taken : List Feature) (r : Feature)
     → IsDecided last (taken ++ r ∷ []) → AreInBlocks (taken ++ r ∷ [])
     → held_by last (taken ++ r ∷ []) ≡ held_by last taken
-held_next None taken r e placed = refl
-held_next (Some line) taken r e placed = held_before line taken r placed e
+held_next last taken r e placed = grind (arith, held_before)
 
 -- after the last line
 module _ (how : MaskHow) (full : Bool) (stage : MaskStage) (none : stage.waiting ≡ None) (old : Masking) (stands : MaskMovesTo how full stage old) (wants : old.want ≡ Bed) where
@@ -347,10 +333,7 @@ reached_behind reached (item ∷ items) = reached_behind (reached_by (Some item)
 
 reached_more : (before items : List SequenceLine) → reached_by (last_or None (before ++ items)) ≡ reached_behind (reached_by (last_or None before)) items
 reached_more before [] = ap (λ (l : List SequenceLine). reached_by (last_or None l)) (append-nil before)
-reached_more before (item ∷ items) =
-    ap (λ (l : List SequenceLine). reached_by (last_or None l)) (sym (append_assoc before (item ∷ []) items))
-    ∙ reached_more (before ++ item ∷ []) items
-    ∙ ap (λ (o : Option SequenceLine). reached_behind (reached_by o) items) (last_more before item)
+reached_more before (item ∷ items) = grind (arith, append_assoc, last_more, reached_more (before ++ item ∷ []) items)
 
 say_more : (full : Bool) (reached : Reached) (lines more : List TextLine) (items later : List SequenceLine) → SayEach full reached lines items
     → SayEach full (reached_behind reached items) more later → SayEach full reached (lines ++ more) (items ++ later)
@@ -393,6 +376,24 @@ one_settled how stage line bytes decides is = record {
   bytes_are = λ records ordered follows. append-nil (masked_line how records line) ∙ is records ordered follows;
 }
 
+pub goes_more : {how : MaskHow} {full : Bool} {old mid new : MaskStage} {lines more : List TextLine} {records further : List Feature} {x y : List ℕ} → GoesOn how full old lines records mid x
+    → GoesOn how full mid more further new y → GoesOn how full old (lines ++ more) (records ++ further) new (x ++ y)
+goes_more {how} {full} {old} {mid} {new} {lines} {more} {records} {further} {x} {y} first rest =
+    let come : reached mid ≡ reached_behind (reached old) first.items =
+    ap (λ (l : List SequenceLine). reached_by (last_or None l)) first.given_is ∙ reached_more (given old) first.items in
+    record {
+      items = first.items ++ rest.items;
+      say = say_more full (reached old) lines more first.items rest.items first.say (rw come at rest.say);
+      newly = first.newly ++ rest.newly;
+      given_is = rest.given_is ∙ ap (λ l. l ++ rest.items) first.given_is ∙ append_assoc (given old) first.items rest.items;
+      written_is = rest.written_is ∙ ap (λ l. l ++ rest.newly) first.written_is ∙ append_assoc old.written first.newly rest.newly;
+      taken_is = rest.taken_is ∙ ap (λ l. l ++ further) first.taken_is ∙ append_assoc old.taken records further;
+      lines_ended_is = rest.lines_ended_is ∙ first.lines_ended_is;
+      bed_ended_is = rest.bed_ended_is ∙ first.bed_ended_is;
+      settles = settled_both how new first.newly rest.newly x y (settled_later how mid new first.newly x rest.bed_ended_is rest.sees first.settles) rest.settles;
+      sees = λ later follows. first.sees later (rest.sees later follows);
+    }
+
 module _ (how : MaskHow) (full : Bool) where
   pub goes_nowhere : (stage : MaskStage) → GoesOn how full stage [] [] stage []
   goes_nowhere stage = record {
@@ -408,25 +409,6 @@ module _ (how : MaskHow) (full : Bool) where
     sees = λ later follows. follows;
   }
 
-  pub goes_more : (old mid new : MaskStage) (lines more : List TextLine) (records further : List Feature) (x y : List ℕ) → GoesOn how full old lines records mid x
-      → GoesOn how full mid more further new y → GoesOn how full old (lines ++ more) (records ++ further) new (x ++ y)
-  goes_more old mid new lines more records further x y first rest =
-      let ended : new.bed_ended ≡ mid.bed_ended = rest.bed_ended_is in
-      let come : reached mid ≡ reached_behind (reached old) first.items =
-      ap (λ (l : List SequenceLine). reached_by (last_or None l)) first.given_is ∙ reached_more (given old) first.items in
-      record {
-        items = first.items ++ rest.items;
-        say = say_more full (reached old) lines more first.items rest.items first.say (subst (λ (r : Reached). SayEach full r more rest.items) come rest.say);
-        newly = first.newly ++ rest.newly;
-        given_is = rest.given_is ∙ ap (λ l. l ++ rest.items) first.given_is ∙ append_assoc (given old) first.items rest.items;
-        written_is = rest.written_is ∙ ap (λ l. l ++ rest.newly) first.written_is ∙ append_assoc old.written first.newly rest.newly;
-        taken_is = rest.taken_is ∙ ap (λ l. l ++ further) first.taken_is ∙ append_assoc old.taken records further;
-        lines_ended_is = rest.lines_ended_is ∙ first.lines_ended_is;
-        bed_ended_is = ended ∙ first.bed_ended_is;
-        settles = settled_both how new first.newly rest.newly x y (settled_later how mid new first.newly x ended rest.sees first.settles) rest.settles;
-        sees = λ later follows. first.sees later (rest.sees later follows);
-      }
-
   -- a line before the first header is decided, whatever comes
   unnamed_decided : (line : SequenceLine) (records : List Feature) → is_unnamed line.names ≡ true → decided line records ≡ true
   unnamed_decided line records e = or_left (is_unnamed line.names) _ e
@@ -434,19 +416,14 @@ module _ (how : MaskHow) (full : Bool) where
   -- the record ahead and those after it follow
   follow_ahead : (stage : MaskStage) (r : Feature) (records : List Feature) → stage.bed_ended ≡ false → stage.ahead ≡ Some r → (f : MayFollow stage records)
       → records ≡ (stage.taken ++ r ∷ []) ++ f.more
-  follow_ahead stage r records going is f =
-      f.begins ∙ ap (λ (b : Bool). (stage.taken ++ cond b [] (option_to_list stage.ahead)) ++ f.more) going
-      ∙ ap (λ (o : Option Feature). (stage.taken ++ option_to_list o) ++ f.more) is
+  follow_ahead stage r records going is f = grind arith
 
   -- after their end no others do
   follow_none : (stage : MaskStage) (records : List Feature) → stage.bed_ended ≡ true → MayFollow stage records → records ≡ stage.taken
-  follow_none stage records over f =
-      f.begins ∙ ap (λ (b : Bool). (stage.taken ++ cond b [] (option_to_list stage.ahead)) ++ f.more) over
-      ∙ ap (λ (l : List Feature). (stage.taken ++ []) ++ l) (f.all over) ∙ append-nil (stage.taken ++ []) ∙ append-nil stage.taken
+  follow_none stage records over f = grind (arith, append-nil)
 
   follow_taken : (stage : MaskStage) (records : List Feature) → MayFollow stage records → (more : List Feature) × (records ≡ stage.taken ++ more)
-  follow_taken stage records f =
-      let ahead = cond stage.bed_ended [] (option_to_list stage.ahead) in (ahead ++ f.more, f.begins ∙ append_assoc stage.taken ahead f.more)
+  follow_taken stage records f = grind (arith, append_assoc)
 
   -- a line that is written at once is settled
   module _ (stage : MaskStage) (line : SequenceLine) where

@@ -1,5 +1,5 @@
 -- Lemmas on lines of bases that are copied through.
-use Rattle.bt_lines.proofs.Std.{◌≡◌, ℕ, suc, ◌+◌, ◌-◌, ◌≤◌, min, Bool, true, false, not, ◌&&◌, ◌||◌, nat_eq, nat_le, nat_lt, if◌then◌else◌, List, [], ◌∷◌, ◌++◌, length, take, drop, length-append, append_assoc, append-nil, None, Result, Ok, Err, is_some, slice_range, refl, sym, ap, ◌∙◌, subst, arith, IsErr, IsOk, flat_map, nat_tests, take-append_seam, cond, Option, Some, bytes_eq, list_any, flat_map-append, list_any-append, or_parts, or_from, is_none, option_to_list}
+use Rattle.bt_lines.proofs.Std.{◌≡◌, ℕ, suc, ◌+◌, ◌-◌, ◌≤◌, min, Bool, true, false, ◌||◌, nat_eq, nat_le, nat_lt, if◌then◌else◌, List, [], ◌∷◌, ◌++◌, length, take, drop, length-append, append_assoc, append-nil, None, Result, Ok, Err, is_some, slice_range, refl, sym, ap, ◌∙◌, subst, arith, IsErr, IsOk, flat_map, nat_tests, take-append_seam, cond, Option, Some, bytes_eq, list_any, flat_map-append, list_any-append, or_parts, or_from, is_none, option_to_list}
 use Rattle.bt_lines.proofs.lemmas.reader.lines.TextLemmas.{spelled-fed}
 use Rattle.bt_lines.proofs.lemmas.Writer.{adds_some}
 use Rattle.bt_lines.specs.calls.Reader.{PassesLine, line_of, lines_in, rest_in}
@@ -9,19 +9,18 @@ use Rattle.bt_lines.specs.calls.Output.{Output, Adds, Puts}
 use Rattle.bt_lines.specs.declared.reader.buffered_lines.BufferedLines.{BufferedLines}
 use Rattle.bt_lines.specs.declared.fault.Fault.{Fault}
 use Rattle.bt_seq.specs.inside.Masking.{CopiesLine, CopiesLines, CopiesThrough, StayEach, WritesAll, bounds_of, passed_all}
-use Rattle.bt_seq.specs.calls.MaskStage.{PassesLines, MaskStage, given, reached_by, want_of}
+use Rattle.bt_seq.specs.calls.MaskStage.{PassesLines, MaskStage, given, want_of}
 use Rattle.bt_seq.specs.calls.MaskState.{Masking, passed, stays_as_given}
 use Rattle.bt_seq.specs.model.Masked.{is_header, decided, is_unnamed, block_decides, items_if_last, left_after, names_behind, own_records, SequenceLine, bases_up_to}
 use Rattle.bt_seq.specs.inside.Window.{Bounds, gone_on, limit}
 use Rattle.bt_seq.specs.declared.mask.copy_through.CopyThrough.{CopyThrough}
 use Rattle.bt_seq.specs.declared.mask.mask_want.MaskWant.TheVariants.{Line, Nothing, Bed}
-use denote.Ref.{Bor}
 use Rattle.bt_bed.specs.model.Feature.{Feature}
 use Rattle.bt_seq.proofs.lemmas.definitions.KnowsLemmas.{is_last, leave, leave_all, one_leaves}
 use Rattle.bt_seq.proofs.lemmas.definitions.MaskPrefixLemmas.{chrom_of, decided_by_tags, none_leaves}
 use Rattle.bt_seq.proofs.lemmas.Sam.{Tagged, own_in, own_tagged, tag_decides, tags, tags_more, tags_of}
 use Rattle.std.specs.List.{last_or}
-use Rattle.bt_seq.specs.calls.MaskSteps.{IsOpen, MaskMovesTo, MaskStandsAt, IsAtStage}
+use Rattle.bt_seq.specs.calls.MaskSteps.{MaskMovesTo, MaskStandsAt, IsAtStage}
 use Rattle.bt_seq.specs.declared.mask.mask_how.MaskHow.{MaskHow}
 
 -- the bytes of a line that has its line feed
@@ -55,30 +54,26 @@ copied_behind to old mid new (l ∷ ls) line p q = (p.0, p.1, copied_behind to p
 pub none_pass : (lines : BufferedLines) → PassesLines lines [] lines
 none_pass lines = record { left_is = refl; all_is = refl; given = omega arith; open_is = refl }
 
-pub pass_more : (old mid new : BufferedLines) (lines more : List TextLine) → PassesLines old lines mid → PassesLines mid more new → PassesLines old (lines ++ more) new
-pass_more old mid new lines more first rest = record {
+pub pass_more : {old mid new : BufferedLines} {lines more : List TextLine} → PassesLines old lines mid → PassesLines mid more new → PassesLines old (lines ++ more) new
+pass_more {new} {lines} {more} first rest = record {
   left_is = first.left_is ∙ ap (λ l. lines ++ l) rest.left_is ∙ sym (append_assoc lines more (lines_in new));
   all_is = rest.all_is ∙ first.all_is;
   given = omega (arith, first.given, rest.given, length-append lines more);
   open_is = rest.open_is ∙ first.open_is;
 }
 
-pub pass_one : (old new : BufferedLines) (line : TextLine) → PassesLine old line new → PassesLines old (line ∷ []) new
-pass_one old new line p = record { left_is = p.left_is; all_is = p.all_is; given = p.given; open_is = p.open_is }
+pub pass_one : {old new : BufferedLines} {line : TextLine} → PassesLine old line new → PassesLines old (line ∷ []) new
+pass_one p = record { left_is = p.left_is; all_is = p.all_is; given = p.given; open_is = p.open_is }
 
 -- what was consumed, as lines and as bytes
 pub copies_pass : (to : ℕ) (lines : List TextLine) (old new : CopyThrough) → CopiesLines to old lines new → PassesLines old.lines lines new.lines
 copies_pass to [] old new p = subst (λ (t : CopyThrough). PassesLines old.lines [] t.lines) (sym p) (none_pass old.lines)
-copies_pass to (line ∷ lines) old new p = pass_more old.lines p.0.lines new.lines (line ∷ []) lines (pass_one old.lines p.0.lines line p.1.passes) (copies_pass to lines p.0 new p.2)
+copies_pass to (line ∷ lines) old new p = pass_more (pass_one p.1.passes) (copies_pass to lines p.0 new p.2)
 
 pub copies_bytes : (to : ℕ) (lines : List TextLine) (old new : CopyThrough) → CopiesLines to old lines new
     → (rest_in old.lines ≡ flat_map spelled lines ++ rest_in new.lines) × (new.lines.at ≡ old.lines.at + length (flat_map spelled lines))
 copies_bytes to [] old new p = (ap (λ (t : CopyThrough). rest_in t.lines) (sym p), omega (arith, ap (λ (t : CopyThrough). t.lines.at) p))
-copies_bytes to (line ∷ lines) old new p =
-    let further = copies_bytes to lines p.0 new p.2 in (
-      p.1.bytes_are ∙ ap (λ l. spelled line ++ l) further.0 ∙ sym (append_assoc (spelled line) (flat_map spelled lines) (rest_in new.lines)),
-      omega (arith, p.1.at, further.1, length-append (spelled line) (flat_map spelled lines)),
-    )
+copies_bytes to (line ∷ lines) old new p = grind (arith, append_assoc, length-append, copies_bytes to lines p.0 new p.2)
 
 -- the bytes between where it began and where it has come
 pub bytes_between : (to : ℕ) (lines : List TextLine) (old new : CopyThrough) → CopiesLines to old lines new
@@ -91,9 +86,6 @@ bytes_between to lines old new p =
       ap (λ n. take n (rest_in old.lines)) count ∙ ap (take (length bytes)) b.0 ∙ take-append_seam bytes (rest_in new.lines),
       omega (arith, b.1),
     )
-
-all_true : (h n e d : Bool) → h ≡ false → n ≡ true → e ≡ true → d ≡ true → (not h && (n && (e && d))) ≡ true
-all_true h n e d p q r s = rw (p, q, r, s) refl
 
 -- up to a base lines are known to be decided
 pub known_up_to : (ended : Bool) (to bases : ℕ) → bases ≤ (if ended then limit else to) → (ended || nat_le bases to) ≡ true
@@ -111,13 +103,7 @@ module _ (to : ℕ) where
   -- a line that was consumed stays as it was given
   stays : (p q : CopyThrough) (line : TextLine) (m : Masking) → bounds_of p ≡ m.window → is_some m.matched.name ≡ true → IsKnownTo m
       → CopiesLine to p line q → (stays_as_given m line.text ≡ true) × (bounds_of q ≡ gone_on m.window (length line.text))
-  stays p q line m at named known step =
-      let counts : bounds_of q ≡ gone_on m.window (length line.text) = step.counts ∙ ap (λ (w : Bounds). gone_on w (length line.text)) at in (
-        all_true (is_header line.text) (is_some m.matched.name) (nat_eq (length m.window.held) 0) (m.bed_ended || nat_le (gone_on m.window (length line.text)).bases m.decided_to)
-            step.no_header named (ap (λ (w : Bounds). nat_eq (length w.held) 0) (sym at))
-            (subst (λ (w : Bounds). (m.bed_ended || nat_le w.bases m.decided_to) ≡ true) counts (known q.bases step.within)),
-        counts,
-      )
+  stays p q line m at named known step = grind arith
 
   pub copies_stay : (lines : List TextLine) (p q : CopyThrough) (m : Masking) → bounds_of p ≡ m.window → is_some m.matched.name ≡ true → IsKnownTo m
       → CopiesLines to p lines q → StayEach m lines
@@ -129,9 +115,7 @@ module _ (to : ℕ) where
   -- the state after some lines
   pub copies_come : (lines : List TextLine) (line : TextLine) (p q : CopyThrough) (m : Masking) → bounds_of p ≡ m.window → is_some m.matched.name ≡ true → IsKnownTo m
       → CopiesLines to p (line ∷ lines) q → passed_all m (line ∷ lines) ≡ record m { window = bounds_of q; waiting = None; want = Line }
-  copies_come [] line p q m at named known copies =
-      let step = stays p copies.0 line m at named known copies.1 in
-      ap (λ (w : Bounds). record m { window = w; waiting = None; want = Line }) (sym step.1 ∙ ap bounds_of (sym copies.2))
+  copies_come [] line p q m at named known copies = grind arith
   copies_come (next ∷ lines) line p q m at named known copies =
       let step = stays p copies.0 line m at named known copies.1 in
       copies_come lines next copies.0 q (passed m line.text) step.1 named known copies.2
@@ -148,8 +132,7 @@ some_bytes bytes e none = grind (arith, nat_tests)
 
 -- where it has come lies within what is buffered
 pub copies_within : (to : ℕ) (lines : List TextLine) (old new : CopyThrough) → CopiesLines to old lines new → new.lines.at ≤ length old.lines.all.now
-copies_within to lines old new p =
-    omega (arith, new.lines.within, ap (λ (b : Bor (List ℕ)). length b.now) (copies_pass to lines old new p).all_is)
+copies_within to lines old new p = grind (arith, copies_pass)
 
 -- lines that were put together
 module _ (to : ℕ) (old : Masking) (first last : CopyThrough) (at : bounds_of first ≡ old.window) (named : is_some old.matched.name ≡ true)
@@ -287,13 +270,7 @@ module _ (low high : ℕ) (up : low ≤ high) where
       or_from (tag_decides high t) (list_any (tag_decides high) ts) (not_yet t.left t.item both.0) (none_yet ts both.1)
 
   pub undecided_next : (line next : SequenceLine) (rs : List Feature) → next.names ≡ line.names → bases_up_to line ≡ low → bases_up_to next ≡ high → decided line rs ≡ false → decided next rs ≡ false
-  undecided_next line next rs same is next_is e =
-      let ts = tags_of line.names rs in
-      let both = or_parts (is_unnamed line.names) (list_any (tag_decides (bases_up_to line)) ts) (sym (decided_by_tags line rs) ∙ e) in
-      decided_by_tags next rs
-      ∙ ap (λ l. is_unnamed l || list_any (tag_decides (bases_up_to next)) (tags_of l rs)) same
-      ∙ ap (λ b. is_unnamed line.names || list_any (tag_decides b) ts) next_is
-      ∙ or_from (is_unnamed line.names) (list_any (tag_decides high) ts) both.0 (none_yet ts (ap (λ b. list_any (tag_decides b) ts) (sym is) ∙ both.1))
+  undecided_next line next rs same is next_is e = grind (arith, decided_by_tags, none_yet)
 
 -- Lemmas on the stage of a masking engine, by the line given last.
 
@@ -328,10 +305,3 @@ pub last_name_none : (names : List (List ℕ)) → is_none (last_or None names) 
 last_name_none [] = refl
 last_name_none (n ∷ []) = refl
 last_name_none (n ∷ k ∷ ns) = last_name_none (k ∷ ns)
-
-pub unnamed_are : (names : List (List ℕ)) → is_unnamed names ≡ true → names ≡ []
-unnamed_are names e = grind arith
-
--- before the first header no record was taken
-pub unnamed_untaken : (last : Option SequenceLine) (taken : List Feature) → IsOpen last taken → is_unnamed (reached_by last).names ≡ true → taken ≡ []
-unnamed_untaken last taken open_at e = grind arith

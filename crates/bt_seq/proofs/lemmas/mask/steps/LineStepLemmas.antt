@@ -5,9 +5,9 @@ use Rattle.bt_lines.specs.model.Lines.{max_number, end_bytes, TextLine}
 use Rattle.bt_seq.proofs.lemmas.definitions.MaskPrefixLemmas.{held_alone, chrom_of, decided_by_tags, masked_before}
 use Rattle.bt_seq.proofs.lemmas.Sam.{none_masked, next_left, own_in, own_tagged, tag_decides, tags, tags_of}
 use Rattle.bt_seq.specs.calls.MaskStage.{extent_of, MaskStage, given, held_by, is_written_ahead, is_written_at_once, reached, reached_by, want_of, with_line}
-use Rattle.bt_seq.specs.calls.MaskState.{owner_by, Masking, decides_by, line_bytes, TakesLine, Waiting, bytes_at_once, is_stray, may_grow, moved_to, writes_at_once, Matched, named}
+use Rattle.bt_seq.specs.calls.MaskState.{Masking, line_bytes, TakesLine, Waiting, bytes_at_once, is_stray, may_grow, moved_to, writes_at_once, Matched, named}
 use Rattle.bt_seq.specs.calls.MaskSteps.{kept_line, IsOpen, MaskMovesTo, FailsWithLine, GivesNextLine, RefusesLine, TakesNextLine, bytes_with, may_need_memory}
-use Rattle.bt_seq.specs.model.Masked.{masked_byte, held_for, masked_from, masked_line, masked_text, block_decides, items_if_last, own_records, SequenceLine, bases_up_to, is_header, decided, is_unnamed, left_after, bases_in, header_behind, line_behind, line_says, may_stand, name_in}
+use Rattle.bt_seq.specs.model.Masked.{held_for, masked_from, masked_line, masked_text, block_decides, items_if_last, own_records, SequenceLine, bases_up_to, is_header, decided, is_unnamed, left_after, bases_in, header_behind, line_behind, line_says, may_stand, name_in}
 use Rattle.bt_seq.specs.inside.Masking.{AreInRange, Counts, KnowsNext, decided_up_to}
 use Rattle.bt_seq.specs.inside.Window.{has_position, masked_in, limit, Bounds, gone_on, no_bases}
 use Rattle.bt_seq.specs.declared.mask.mask_how.MaskHow.{MaskHow}
@@ -97,9 +97,7 @@ no_extent position (s ∷ ss) far h =
 -- after all numbers nothing is masked
 unmasked : (how : MaskHow) (extents : List Extent) (position : ℕ) (text : List ℕ) → limit ≤ position → AreShort extents → masked_in how extents position text ≡ text
 unmasked how extents position [] far h = refl
-unmasked how extents position (base ∷ text) far h =
-    ap (λ b. cond b (masked_byte how base) base ∷ masked_in how extents (suc position) text) (no_extent position extents far h)
-    ∙ ap (λ (bs : List ℕ). base ∷ bs) (unmasked how extents (suc position) text (omega arith) h)
+unmasked how extents position (base ∷ text) far h = grind (arith, no_extent, unmasked how extents (suc position) text (omega arith) h)
 
 -- so no more bases need to be counted
 counted_by : (how : MaskHow) (extents : List Extent) (before : ℕ) (text : List ℕ) → AreShort extents → (b : Bool) → nat_le before limit ≡ b → masked_in how extents (min before limit) text ≡ masked_in how extents before text
@@ -129,9 +127,7 @@ module _ (how : MaskHow) (line : SequenceLine) (rs : List Feature) (range : AreI
       ap (λ (l : List Feature). masked_in how (map extent_of l) (min line.before limit) line.text) (none_before (bases_up_to line) (λ (r : Feature). nat_lt line.before r.stop) (own_records line.names rs) none)
       ∙ sym (none_masked how (min line.before limit) line.text)
       ∙ sym (ap (λ b. cond b line.text (masked_from how (own_records line.names rs) line.before line.text)) e)
-  text_by false e header =
-      counted_by how (map extent_of (held_for line rs)) line.before line.text (held_short (λ (r : Feature). nat_lt r.start (bases_up_to line) && nat_lt line.before r.stop) (own_records line.names rs) own_in_range) (nat_le line.before limit) refl
-      ∙ held_alone how line rs e
+  text_by false e header = grind (arith, counted_by, held_short, own_in_range, held_alone)
 
   -- what is held masks the line as all records do
   pub text_masked : (is_header line.text ≡ true → line.before ≡ 0) → masked_in how (map extent_of (held_for line rs)) (min line.before limit) line.text ≡ masked_text how rs line
@@ -141,10 +137,6 @@ module _ (how : MaskHow) (line : SequenceLine) (rs : List Feature) (range : AreI
   pub line_masked : (is_header line.text ≡ true → line.before ≡ 0) → (m : Masking) → m.how ≡ how → m.window.held ≡ map extent_of (held_for line rs) → m.window.before ≡ min line.before limit
       → line_bytes m (kept_line line) ≡ masked_line how rs line
   line_masked header m same_how held before = ap (λ t. t ++ end_bytes line.ending) (rw (same_how, held, before) (text_masked header))
-
--- whether a record decides a line, by the bases as they are counted
-pub decides_alike : (bases : ℕ) (left : Option (List (List ℕ))) (r : Feature) → r.start < limit → decides_by (owner_by left) (min bases limit) r.start ≡ block_decides bases left (r ∷ [])
-decides_alike bases left r low = grind (arith, nat_tests)
 
 -- Lemmas on a masking engine that is given a line.
 
@@ -160,10 +152,6 @@ module _ (taken : List Feature) (range : AreInRange taken) (line : TextLine) (pl
   abbrev next : Option SequenceLine → SequenceLine
   next last = line_behind (reached_by last) line
 
-  held_untaken : (last : Option SequenceLine) (w : Bounds) → taken ≡ [] → w.held ≡ map extent_of (held_by last taken)
-      → filter (λ (s : Extent). nat_lt w.bases s.stop) w.held ≡ map extent_of (held_for (next last) taken)
-  held_untaken last w none held = grind (arith, nat_tests)
-
   undecided_tags : (l : SequenceLine) → decided l taken ≡ false → list_any (tag_decides (bases_up_to l)) (tags_of l.names taken) ≡ false
   undecided_tags l e = (or_parts (is_unnamed l.names) (list_any (tag_decides (bases_up_to l)) (tags_of l.names taken)) (sym (decided_by_tags l taken) ∙ e)).1
 
@@ -178,11 +166,7 @@ module _ (taken : List Feature) (range : AreInRange taken) (line : TextLine) (pl
 
   pub held_further : (last : Option SequenceLine) (w : Bounds) → Counts last w → IsOpen last taken → w.held ≡ map extent_of (held_by last taken)
       → filter (λ (s : Extent). nat_lt w.bases s.stop) w.held ≡ map extent_of (held_for (next last) taken)
-  held_further None w counts open_at held = held_untaken None w open_at held
-  held_further (Some l) w counts open_at held = elim open_at [
-    | inl none ↦ held_untaken (Some l) w none held
-    | inr undecided ↦ held_next l w counts.bases undecided held
-  ]
+  held_further last w counts open_at held = grind (arith, held_next)
 
   pub open_further : (last : Option SequenceLine) → IsOpen last taken → IsOpen (Some (next last)) taken
   open_further None open_at = inl open_at
@@ -190,9 +174,6 @@ module _ (taken : List Feature) (range : AreInRange taken) (line : TextLine) (pl
     | inl none ↦ inl none
     | inr undecided ↦ inr (undecided_next (bases_up_to l) (bases_up_to (next (Some l))) (omega arith) l (next (Some l)) taken refl refl refl undecided)
   ]
-
-or_third : (a b c d : Bool) → (a ≡ false → b ≡ false → c ≡ d) → (a || (b || c)) ≡ (a || (b || d))
-or_third a b c d e = grind arith
 
 -- the record ahead doesn't decide a header, and if it decides a line there is one
 header_ahead : (o : Option Feature) (taken : List Feature) (item : SequenceLine) → is_header item.text ≡ true
@@ -275,17 +256,12 @@ module _ (how : MaskHow) (full : Bool) (stage : MaskStage) (old : Masking) (s : 
       → (stage.bed_ended ≡ false → is_unnamed item.names ≡ false
       → (not (is_header item.text) && nat_le moved.window.bases moved.decided_to) ≡ is_written_ahead stage.ahead stage.taken item)
       → writes_at_once moved item.text ≡ is_written_at_once stage item
-  once_by item moved ended name alike =
-      let known = not (is_header item.text) && nat_le moved.window.bases moved.decided_to in
-      ap (λ b. b || (is_none moved.matched.name || known)) ended
-      ∙ ap (λ b. stage.bed_ended || (b || known)) (ap is_none name ∙ last_name_none item.names)
-      ∙ or_third stage.bed_ended (is_unnamed item.names) known (is_written_ahead stage.ahead stage.taken item) alike
+  once_by item moved ended name alike = grind (arith, last_name_none)
 
   -- a header isn't, while records may come
   header_later : (item : SequenceLine) → is_unnamed item.names ≡ false → is_header item.text ≡ true → stage.bed_ended ≡ false
       → is_written_at_once stage item ≡ true → ⊥
-  header_later item is_named e going now =
-      never (sym (rw (going, is_named, header_ahead stage.ahead stage.taken item e) refl) ∙ now)
+  header_later item is_named e going now = grind arith
 
   module _ (line : TextLine) where
     abbrev header_moved : Masking
@@ -331,8 +307,7 @@ module _ (how : MaskHow) (full : Bool) (stage : MaskStage) (old : Masking) (s : 
     -- whether the record ahead decides it is what is known
     plain_alike : is_header line.text ≡ false → stage.bed_ended ≡ false → is_unnamed names ≡ false → (o : Option Feature) → stage.ahead ≡ o
         → (not (is_header line.text) && nat_le plain_moved.window.bases old.decided_to) ≡ is_written_ahead o stage.taken plain_item
-    plain_alike e going is_named None ahead =
-        absurd (never (sym (ap is_some ahead) ∙ s.stands.inside.has_ahead (sym s.stands.want_is ∙ wants) going is_named))
+    plain_alike e going is_named None ahead = grind arith
     plain_alike e going is_named (Some r) ahead =
         let known = subst (λ (o : Option Feature). KnowsNext false names stage.taken o old.matched) ahead (going_known going) in
         let left = left_after names (stage.taken ++ r ∷ []) in
@@ -388,9 +363,7 @@ module _ (how : MaskHow) (full : Bool) (stage : MaskStage) (old : Masking) (s : 
         }
 
     stray_is : is_header line.text ≡ false → is_stray old line.text ≡ (is_unnamed names && nat_lt 0 (length line.text))
-    stray_is e =
-        ap (λ b. not b && (is_none old.matched.name && nat_lt 0 (length line.text))) e
-        ∙ ap (λ b. b && nat_lt 0 (length line.text)) (ap is_none s.stands.inside.name_is ∙ last_name_none names)
+    stray_is e = grind (arith, last_name_none)
 
     plain_says : is_header line.text ≡ false → line_says full (reached stage) line ≡ cond (may_stand names line.text) (Ok (Some plain_item)) (Err TextBeforeHeader)
     plain_says e = ap (λ b. cond b (Ok (Some (header_behind full (reached stage) line))) (cond (may_stand names line.text) (Ok (Some plain_item)) (Err TextBeforeHeader))) e
@@ -417,15 +390,11 @@ module _ (how : MaskHow) (full : Bool) (stage : MaskStage) (old : Masking) (s : 
   module _ (item : SequenceLine) (moved : Masking) (m : Moved item moved) where
     -- whether it may need memory
     memory_is : may_grow moved item.text ≡ may_need_memory stage item
-    memory_is =
-        ap (λ b. is_header item.text || (not b || nat_lt 0 (length moved.window.held))) m.at_once
-        ∙ ap (λ (n : ℕ). is_header item.text || (not (is_written_at_once stage item) || nat_lt 0 n))
-        (ap length m.holds ∙ length-map (held_for item stage.taken) extent_of)
+    memory_is = grind (arith, length-map)
 
     -- its bytes
     bytes_are : line_bytes moved (kept_line item) ≡ masked_line how stage.taken item
-    bytes_are =
-        line_masked how item stage.taken s.stands.inside.in_range m.header moved m.how_is m.holds m.counts.before
+    bytes_are = grind (arith, line_masked)
 
     waiting_stands : stage.bed_ended ≡ false → is_unnamed item.names ≡ false
         → MaskMovesTo how full (record stage { waiting = Some item }) (record moved { waiting = Some (kept_line item); want = Bed })
@@ -454,9 +423,7 @@ module _ (how : MaskHow) (full : Bool) (stage : MaskStage) (old : Masking) (s : 
     written_stage = record stage { written = stage.written ++ item ∷ [] }
 
     written_last : last_or None (given written_stage) ≡ Some item
-    written_last =
-        ap (λ (w : Option SequenceLine). last_or None ((stage.written ++ item ∷ []) ++ option_to_list w)) asked.0
-        ∙ ap (last_or None) (append-nil (stage.written ++ item ∷ [])) ∙ last_more stage.written item
+    written_last = grind (arith, append-nil, last_more)
 
     or_true : (a b c : Bool) → (a || (b || c)) ≡ true → a ≡ false → b ≡ false → c ≡ true
     or_true a b c e d f = grind arith

@@ -10,9 +10,7 @@ not_both given is none = cc
 
 pub loop-preserved : goal.loop-preserved
 loop-preserved g c = record {
-  gives = both_more g.C.Cursor.gives g.C.Cursor.line g.C.Cursor.has_ended g.met.C.Cursor.gives_none g.met.C.Cursor.gives_more g.met.C.Cursor.gives_same true
-      c.args.self.now c.loop.self c.gives_next.new.self c.args.lines.now c.loop.lines c.gives_next.new.lines c.args.records.now c.loop.records c.gives_next.new.records
-      c.args.out.now.output c.loop.out.output c.gives_next.new.out.output c.loop.invariant.gives true true (rw c.if-branch.true at c.in_ok-gives_next.ensures.gives);
+  gives = both_more g.C.Cursor g.met.C.Cursor.gives_more c.loop.invariant.gives true (rw c.if-branch.true at c.in_ok-gives_next.ensures.gives);
   idle = λ nothing.
       let stays = c.loop.invariant.idle nothing in
       let more = c.in_ok-gives_next.ensures.idle (ap (λ (m : Masking). m.want) stays.0 ∙ nothing) in
@@ -22,12 +20,8 @@ loop-preserved g c = record {
 pub returns-in_err-gives_next-clause-gives : goal.returns-in_err-gives_next-clause-gives
 returns-in_err-gives_next-clause-gives g c =
     let p = err_from_is_err_and c.from_residual.result c.from_residual.ensures.1 in
-    rw (p.1, p.2) (both_fail g.C.Cursor.gives g.C.Cursor.line g.C.Cursor.has_ended g.met.C.Cursor.gives_none g.met.C.Cursor.gives_more g.met.C.Cursor.gives_same true
-    c.args.self.now c.loop.self c.gives_next.new.self c.args.lines.now c.loop.lines c.gives_next.new.lines c.args.records.now c.loop.records c.gives_next.new.records
-    c.args.out.now.output c.loop.out.output c.gives_next.new.out.output c.loop.invariant.gives c.in_err-gives_next.field-0.0 c.in_err-gives_next.ensures.gives)
+    rw (p.1, p.2) (both_fail g.C.Cursor g.met.C.Cursor.gives_more c.loop.invariant.gives c.in_err-gives_next.field-0.0 c.in_err-gives_next.ensures.gives)
 
 pub returns-clause-gives : goal.returns-clause-gives
 returns-clause-gives g c =
-    both_more g.C.Cursor.gives g.C.Cursor.line g.C.Cursor.has_ended g.met.C.Cursor.gives_none g.met.C.Cursor.gives_more g.met.C.Cursor.gives_same true
-    c.args.self.now c.loop.self c.gives_next.new.self c.args.lines.now c.loop.lines c.gives_next.new.lines c.args.records.now c.loop.records c.gives_next.new.records
-    c.args.out.now.output c.loop.out.output c.gives_next.new.out.output c.loop.invariant.gives false (tt {0}) (rw c.if-branch.false at c.in_ok-gives_next.ensures.gives)
+    both_more g.C.Cursor g.met.C.Cursor.gives_more c.loop.invariant.gives (tt {0}) (rw c.if-branch.false at c.in_ok-gives_next.ensures.gives)

@@ -3,5 +3,5 @@ use Rattle.bt_seq.proofs.mask.Mask.gives_next.Goals as goal
 
 pub returns-in-Nothing-clause-gives : goal.returns-in-Nothing-clause-gives
 returns-in-Nothing-clause-gives g c =
-    gave_none g.C.Cursor.gives g.C.Cursor.line g.C.Cursor.has_ended g.met.C.Cursor.gives_none g.met.C.Cursor.gives_more g.met.C.Cursor.gives_same _
+    gave_none g.C.Cursor g.met.C.Cursor.gives_none _
     c.args.self.now c.args.lines.now c.args.records.now c.args.out.now.output

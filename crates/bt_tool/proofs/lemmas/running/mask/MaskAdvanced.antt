@@ -1,5 +1,5 @@
 -- Lemmas on lines and records that were given to a masking engine together, over two readers.
-use Rattle.bt_lines.proofs.Std.{◌≡◌, ℕ, suc, Bool, true, false, List, [], ◌∷◌, ◌++◌, length, Option, None, Some, Err, refl, sym, ap, ◌∙◌, subst, append-nil, option_to_list, arith, inl, inr, nil_from_length, ◌⊎◌, IsTrue}
+use Rattle.bt_lines.proofs.Std.{◌≡◌, ℕ, suc, Bool, true, false, List, [], ◌∷◌, ◌++◌, length, Option, None, Some, Err, refl, sym, ap, ◌∙◌, subst, append-nil, option_to_list, arith, nil_from_length, ◌⊎◌, IsTrue}
 use Rattle.bt_lines.specs.declared.device.Source.{Ghosts as Source}
 use Rattle.bt_lines.specs.model.Fault.{FaultValue, no_memory, read_failed}
 use Rattle.bt_lines.specs.model.Lines.{AreNumbered, TextLine}
@@ -12,7 +12,7 @@ use Rattle.bt_lines.specs.declared.fault.Kind.{Kind}
 use Rattle.bt_lines.specs.declared.reader.line_reader.LineReader.{LineReader}
 use Rattle.bt_bed.specs.calls.Blocks.{view_of}
 use Rattle.bt_bed.specs.model.Feature.{Feature}
-use Rattle.bt_bed.specs.model.BedLine.{fault_at_line, is_of_line}
+use Rattle.bt_bed.specs.model.BedLine.{fault_at_line}
 use Rattle.bt_bed.specs.model.Good.{Member}
 use Rattle.bt_bed.specs.model.Sorted.{Locus}
 use Rattle.bt_bed.specs.calls.Reading.{MemberReader, members_from, state_behind}
@@ -23,26 +23,26 @@ use Rattle.bt_seq.specs.model.Masked.{Reached, SequenceLine, line_says, sequence
 use Rattle.bt_tool.specs.inside.Feed.{member_items, HasTaken}
 use Rattle.bt_tool.specs.model.Written.{is_fasta_kind}
 use Rattle.bt_tool.specs.declared.loops.masking.MaskRun.{MaskRun}
-use Rattle.bt_tool.specs.inside.MaskLoop.{Masks, leaves_some, line_members, nothing_reached, stage_of}
-use Rattle.bt_tool.proofs.lemmas.running.mask.MaskedLemmas.{MaskEnds, asked, asks_for, come_so_far, join, pair, reached_behind}
-use Rattle.bt_tool.specs.inside.Pair.{IsKnown, JoinDef, Pair, SettlesPair, item_ahead, PairStage, AsksFor}
+use Rattle.bt_tool.specs.inside.MaskLoop.{Masks, begun_pair, leaves_some, mask_join, line_members, nothing_reached, stage_of}
+use Rattle.bt_tool.proofs.lemmas.running.mask.MaskedLemmas.{MaskEnds, asked, asks_for, come_so_far, ends_at, reached_behind, wrong_first}
+use Rattle.bt_tool.specs.inside.Pair.{IsKnown, JoinDef, Pair, SettlesPair, item_ahead, PairStage}
 use Rattle.bt_tool.proofs.lemmas.running.pair.PairTurns.{Follows, TakesFurther}
-use Rattle.bt_tool.proofs.lemmas.running.feed.WritingLemmas.{line_no_read}
-use Rattle.bt_tool.proofs.lemmas.running.members.BlockMembers.{has_taken, known_members, passes_known, refused, refuses, refuses_read, say_count, wrong_is_text}
+use Rattle.bt_tool.proofs.lemmas.running.members.BlockMembers.{has_taken, known_members, passes_known, refused, refuses, refuses_read, say_count}
 use Rattle.bt_tool.proofs.lemmas.running.mask.MaskFacts.{asked_of, ahead_first, first_of, settles_given}
 use Rattle.bt_tool.proofs.lemmas.running.members.MemberLemmas.{items_from, state_more}
 use Rattle.bt_tool.proofs.lemmas.running.pair.PairStops as stop
 use Rattle.bt_tool.proofs.lemmas.running.pair.PairTurns as turned
-use Rattle.bt_lines.proofs.lemmas.reader.block.ReadsLemmas.{some_is}
 
 alone : {A : Type 0} (items : List A) (o : Option A) → o ≡ None → items ++ option_to_list o ≡ items
 alone items o none = ap (λ o. items ++ option_to_list o) none ∙ append-nil items
 
 asked_more : (lines more : List SequenceLine) (records : List Feature) → (records ≡ []) ⊎ IsTrue (leaves_some lines records) → (records ≡ []) ⊎ IsTrue (leaves_some (lines ++ more) records)
-asked_more lines more records (inl none) = inl none
-asked_more lines more records (inr some) = inr (asked_of lines more records some)
+asked_more lines more records asks = grind (arith, asked_of)
 
-module _ {A B : Type 0} (source_a : Source A) (source_b : Source B) (start : MaskRun A B) (before : Output) where
+-- masking has come so far, and more lines and records are given
+module _ {A B : Type 0} {source_a : Source A} {source_b : Source B} {start : MaskRun A B} {before : Output} {at : Reached} {lines : LineReader A} {second : MemberReader B Feature (Option Locus)} {mask : Masking}
+    {grown : Output} (s : Masks source_a source_b start before at lines second mask grown) {new : LineReader A} (over : has_ended lines ≡ true → buffered_in lines ≡ []) {consumed : ConsumedLines}
+    (takes : TakesLines source_a lines consumed new) {taken : List Feature} {second_now : MemberReader B Feature (Option Locus)} (has : HasTaken source_b second taken second_now) where
   abbrev Going : Reached → LineReader A → MemberReader B Feature (Option Locus) → Masking → Output → Type 0
   Going = Masks source_a source_b start before
 
@@ -50,172 +50,152 @@ module _ {A B : Type 0} (source_a : Source A) (source_b : Source B) (start : Mas
   EndsAt = MaskEnds source_a source_b start before
 
   abbrev rule : JoinDef SequenceLine Feature
-  rule = join source_a source_b start before
+  rule = mask_join start.mask.how
 
   abbrev both : Pair A B SequenceLine Feature Reached (Option Locus)
-  both = pair source_a source_b start before
+  both = begun_pair source_a source_b start before
 
   abbrev old_first : MemberReader A SequenceLine Reached
   old_first = line_members start.mask.full nothing_reached start.lines
 
-  module _ (at : Reached) (lines : LineReader A) (second : MemberReader B Feature (Option Locus)) (mask : Masking) (grown : Output) (s : Going at lines second mask grown)
-      (new : LineReader A) (over : has_ended lines ≡ true → buffered_in lines ≡ []) (consumed : ConsumedLines) (takes : TakesLines source_a lines consumed new)
-      (taken : List Feature) (second_now : MemberReader B Feature (Option Locus)) (has : HasTaken source_b second taken second_now) where
-    abbrev stage : MaskStage
-    stage = s.stage
+  abbrev stage : MaskStage
+  stage = s.stage
 
-    abbrev more_second : List (Member Feature)
-    more_second = members_from (suc (lines_given second.below)) taken
+  abbrev more_second : List (Member Feature)
+  more_second = members_from (suc (lines_given second.below)) taken
 
-    -- after the end of the records none was taken
-    none_more : stage.bed_ended ≡ true → (taken ≡ []) × (second_now.buffered ≡ [])
-    none_more e = turned.both_none taken second_now.buffered (sym has.takes.buffered ∙ (s.comes.second_all e).1)
+  -- after the end of the records none was taken
+  none_more : stage.bed_ended ≡ true → (taken ≡ []) × (second_now.buffered ≡ [])
+  none_more e = turned.both_none taken second_now.buffered (sym has.takes.buffered ∙ (s.comes.second_all e).1)
 
-    ended_second : stage.bed_ended ≡ true → (more_second ≡ []) × (second_now.buffered ≡ [])
-    ended_second e = let none = none_more e in (ap (members_from (suc (lines_given second.below))) none.0, none.1)
+  ended_second : stage.bed_ended ≡ true → (more_second ≡ []) × (second_now.buffered ≡ [])
+  ended_second e = let none = none_more e in (ap (members_from (suc (lines_given second.below))) none.0, none.1)
 
-    settled_now : IsKnown both → SettlesPair rule stage.written s.comes.bytes (stage.taken ++ option_to_list (first_of (taken ++ second_now.buffered))) stage.bed_ended
-    settled_now known =
-        subst (λ (o : Option Feature). SettlesPair rule stage.written s.comes.bytes (stage.taken ++ option_to_list o) stage.bed_ended) (ahead_first second ∙ ap first_of has.takes.buffered) (s.comes.settles known)
+  settled_now : IsKnown both → SettlesPair rule stage.written s.comes.bytes (stage.taken ++ option_to_list (first_of (taken ++ second_now.buffered))) stage.bed_ended
+  settled_now known =
+      rw (ahead_first second ∙ ap first_of has.takes.buffered) at (s.comes.settles known)
 
-    takes_second : TakesFurther source_b (view_of start.records) s.past_second more_second second second_now
-    takes_second = turned.takes_further source_b (view_of start.records) s.past_second second s.comes.second_passes taken second_now has
+  takes_second : TakesFurther source_b (view_of start.records) s.past_second more_second second second_now
+  takes_second = turned.takes_further source_b (view_of start.records) s.past_second second s.comes.second_passes taken second_now has
 
-    asks_here : stage.lines_ended ≡ false → AsksFor rule both before s.past_first second
-    asks_here = asks_for source_a source_b start before at lines second mask grown s
+  -- some lines and these records led to a stage, and the record ahead is the next one
+  module _ {texts : List TextLine} {final : MaskStage} {bytes : List ℕ} (goes : GoesOn start.mask.how start.mask.full stage texts taken final bytes) (kept : (r : Feature) → final.ahead ≡ Some r → item_ahead second_now ≡ Some r) where
+    abbrev items : List SequenceLine
+    items = goes.items
 
-    asked_here : stage.lines_ended ≡ false → rule.Asks (given stage) stage.taken
-    asked_here = asked source_a source_b start before at lines second mask grown s
+    abbrev more_first : List (Member SequenceLine)
+    more_first = members_from (suc (lines_given lines)) items
 
-    -- some lines and these records led to a stage, and the record ahead is the next one
-    module _ (texts : List TextLine) (final : MaskStage) (bytes : List ℕ) (goes : GoesOn start.mask.how start.mask.full stage texts taken final bytes) (kept : (r : Feature) → final.ahead ≡ Some r → item_ahead second_now ≡ Some r) where
-      abbrev items : List SequenceLine
-      items = goes.items
+    say_here : SayEach start.mask.full at texts items
+    say_here = subst (λ (r : Reached). SayEach start.mask.full r texts items) (sym (come_so_far s)) goes.say
 
-      abbrev more_first : List (Member SequenceLine)
-      more_first = members_from (suc (lines_given lines)) items
+    reached_now : state_behind (sequence_format start.mask.full) at items ≡ reached final
+    reached_now =
+        ap (λ (r : Reached). state_behind (sequence_format start.mask.full) r items) (come_so_far s ∙ sym (reached_behind start.mask.full (given stage)))
+        ∙ sym (state_more (sequence_format start.mask.full) nothing_reached (given stage) items) ∙ ap (state_behind (sequence_format start.mask.full) nothing_reached) (sym goes.given_is) ∙ reached_behind start.mask.full (given final)
 
-      say_here : SayEach start.mask.full at texts items
-      say_here = subst (λ (r : Reached). SayEach start.mask.full r texts items) (sym (come_so_far source_a source_b start before at lines second mask grown s)) goes.say
+    given_now : given final ≡ given stage ++ member_items more_first
+    given_now = goes.given_is ∙ ap (λ l. given stage ++ l) (sym (items_from (suc (lines_given lines)) items))
 
-      reached_now : state_behind (sequence_format start.mask.full) at items ≡ reached final
-      reached_now =
-          ap (λ (r : Reached). state_behind (sequence_format start.mask.full) r items) (come_so_far source_a source_b start before at lines second mask grown s ∙ sym (reached_behind start.mask.full (given stage)))
-          ∙ sym (state_more (sequence_format start.mask.full) nothing_reached (given stage) items) ∙ ap (state_behind (sequence_format start.mask.full) nothing_reached) (sym goes.given_is) ∙ reached_behind start.mask.full (given final)
+    taken_now : final.taken ≡ stage.taken ++ member_items more_second
+    taken_now = goes.taken_is ∙ ap (λ l. stage.taken ++ l) (sym (items_from (suc (lines_given second.below)) taken))
 
-      given_now : given final ≡ given stage ++ member_items more_first
-      given_now = goes.given_is ∙ ap (λ l. given stage ++ l) (sym (items_from (suc (lines_given lines)) items))
+    pub settled : IsKnown both → SettlesPair rule final.written (s.comes.bytes ++ bytes) (final.taken ++ option_to_list (item_ahead second_now)) stage.bed_ended
+    settled known =
+        rw (goes.written_is, goes.taken_is, ahead_first second_now)
+        (settles_given start.mask.how start.mask.full stage.written s.comes.bytes bytes stage final texts taken second_now.buffered (settled_now known) goes none_more (λ r e. sym (ahead_first second_now) ∙ kept r e))
 
-      taken_now : final.taken ≡ stage.taken ++ member_items more_second
-      taken_now = goes.taken_is ∙ ap (λ l. stage.taken ++ l) (sym (items_from (suc (lines_given second.below)) taken))
+    -- they were taken, and no more
+    module _ (more : List TextLine) (parts : buffered_in lines ≡ texts ++ more) (numbered : AreNumbered (suc (lines_given lines)) texts) (are : TakenLines lines consumed (length texts)) where
+      abbrev pub first_now : MemberReader A SequenceLine Reached
+      first_now = line_members start.mask.full (state_behind (sequence_format start.mask.full) at items) new
 
-      pub settled : IsKnown both → SettlesPair rule final.written (s.comes.bytes ++ bytes) (final.taken ++ option_to_list (item_ahead second_now)) stage.bed_ended
-      settled known =
-          rw (goes.written_is, goes.taken_is, ahead_first second_now)
-          (settles_given start.mask.how start.mask.full stage.written s.comes.bytes bytes stage final texts taken second_now.buffered (settled_now known) goes none_more (λ r e. sym (ahead_first second_now) ∙ kept r e))
+      has_first : HasTaken source_a (known_members source_a start.mask.full at items lines) items first_now
+      has_first = has_taken source_a start.mask.full at lines new s.comes.first_passes.clear texts more items say_here parts numbered consumed (length texts) are takes (say_count start.mask.full at texts items say_here)
 
-      -- they were taken, and no more
-      module _ (more : List TextLine) (parts : buffered_in lines ≡ texts ++ more) (numbered : AreNumbered (suc (lines_given lines)) texts) (are : TakenLines lines consumed (length texts)) where
-        abbrev pub first_now : MemberReader A SequenceLine Reached
-        first_now = line_members start.mask.full (state_behind (sequence_format start.mask.full) at items) new
+      takes_first : TakesFurther source_a old_first s.past_first more_first (line_members start.mask.full at lines) first_now
+      takes_first =
+          let known = passes_known source_a start.mask.full at lines new s.comes.first_passes.clear texts more items say_here parts numbered consumed (length texts) are takes (say_count start.mask.full at texts items say_here) old_first s.past_first s.comes.first_passes in
+          let t = turned.takes_further source_a old_first s.past_first (known_members source_a start.mask.full at items lines) known items first_now has_first in
+          record { passes = t.passes; last = t.last; source = t.source; told = t.told }
 
-        has_first : HasTaken source_a (known_members source_a start.mask.full at items lines) items first_now
-        has_first = has_taken source_a start.mask.full at lines new s.comes.first_passes.clear texts more items say_here parts numbered consumed (length texts) are takes (say_count start.mask.full at texts items say_here)
+      ended_first : stage.lines_ended ≡ true → (more_first ≡ []) × (first_now.buffered ≡ [])
+      ended_first e =
+          let none : texts ≡ [] = (turned.both_none texts more (sym parts ∙ over (s.lines_over e))).0 in
+          (ap (members_from (suc (lines_given lines))) (nil_from_length items (omega (arith, say_count start.mask.full at texts items say_here, ap length none))), refl)
 
-        takes_first : TakesFurther source_a old_first s.past_first more_first (line_members start.mask.full at lines) first_now
-        takes_first =
-            let known = passes_known source_a start.mask.full at lines new s.comes.first_passes.clear texts more items say_here parts numbered consumed (length texts) are takes (say_count start.mask.full at texts items say_here) old_first s.past_first s.comes.first_passes in
-            let t = turned.takes_further source_a old_first s.past_first (known_members source_a start.mask.full at items lines) known items first_now has_first in
-            record { passes = t.passes; last = t.last; source = t.source; told = t.told }
+      -- the engine is at the final stage
+      pub come_on : {masked : Masking} {now : Output} → MaskMovesTo start.mask.how start.mask.full final masked → Grown grown bytes now
+          → (going : Going (state_behind (sequence_format start.mask.full) at items) new second_now masked now) × (going.stage ≡ final)
+      come_on {now} stands puts = (
+        record {
+          past_first = s.past_first ++ more_first;
+          past_second = s.past_second ++ more_second;
+          stage = final;
+          stands = stands.stands;
+          first_is = s.first_is;
+          blocks_is = s.blocks_is;
+          how_is = stands.how_is;
+          full_is = stands.full_is;
+          comes = turned.goes_on s.comes more_first more_second first_now second_now takes_first takes_second ended_first ended_second goes.newly (stage_of final)
+              (record { given_is = given_now; written_is = goes.written_is; taken_is = taken_now; first_is = goes.lines_ended_is; second_is = goes.bed_ended_is })
+              bytes now (λ known. rw goes.bed_ended_is (settled known)) puts;
+          kept_ahead = kept;
+          lines_over = λ e. takes.ended_is ∙ s.lines_over (sym goes.lines_ended_is ∙ e);
+        },
+        refl,
+      )
 
-        ended_first : stage.lines_ended ≡ true → (more_first ≡ []) × (first_now.buffered ≡ [])
-        ended_first e =
-            let none : texts ≡ [] = (turned.both_none texts more (sym parts ∙ over (s.lines_over e))).0 in
-            (ap (members_from (suc (lines_given lines))) (nil_from_length items (omega (arith, say_count start.mask.full at texts items say_here, ap length none))), refl)
+      -- what is settled wasn't all written
+      pub fails_write : (puts rest : List ℕ) → bytes ≡ puts ++ rest → {through now : Output} {fault : FaultValue} → Grown grown puts through → FailsToAdd through rest fault now → EndsAt (Some fault) new second_now now
+      fails_write puts rest is {through} {now} {fault} adds fails =
+          ends_at s (state_behind (sequence_format start.mask.full) at items) (stop.fails_to_write s.comes (asks_for s) (λ known. tt) more_first more_second first_now second_now takes_first takes_second
+          final.written (option_to_list final.waiting) given_now (λ known. tt) ended_second puts rest (λ known. rw (← taken_now, ← is) (settled known)) through now fault adds fails)
 
-        -- the engine is at the final stage
-        pub come_on : (masked : Masking) (now : Output) → MaskMovesTo start.mask.how start.mask.full final masked → Grown grown bytes now → (going : Going (state_behind (sequence_format start.mask.full) at items) new second_now masked now) × (going.stage ≡ final)
-        come_on masked now stands puts = (
-          record {
-            past_first = s.past_first ++ more_first;
-            past_second = s.past_second ++ more_second;
-            stage = final;
-            stands = stands.stands;
-            first_is = s.first_is;
-            blocks_is = s.blocks_is;
-            how_is = stands.how_is;
-            full_is = stands.full_is;
-            comes = turned.goes_on rule both before (stage_of stage) s.past_first s.past_second (line_members start.mask.full at lines) second grown s.comes more_first more_second first_now second_now takes_first takes_second ended_first ended_second goes.newly (stage_of final)
-                (record { given_is = given_now; written_is = goes.written_is; taken_is = taken_now; first_is = goes.lines_ended_is; second_is = goes.bed_ended_is })
-                bytes now (λ known. subst (λ (b : Bool). SettlesPair rule final.written (s.comes.bytes ++ bytes) (final.taken ++ option_to_list (item_ahead second_now)) b) (sym goes.bed_ended_is) (settled known)) puts;
-            kept_ahead = kept;
-            lines_over = λ e. takes.ended_is ∙ s.lines_over (sym goes.lines_ended_is ∙ e);
-          },
-          refl,
-        )
+      -- memory ran out after others were written
+      pub lacks_room : (mid : PairStage SequenceLine Feature) (newly : List SequenceLine) → Follows (stage_of stage) (member_items more_first) newly (member_items more_second) mid → (put : List ℕ) (now : Output)
+          → (IsKnown both → SettlesPair rule mid.written (s.comes.bytes ++ put) (mid.taken ++ option_to_list (item_ahead second_now)) mid.second_ended) → Grown grown put now → (fault : FaultValue) → fault ≡ no_memory
+          → EndsAt (Some fault) new second_now now
+      lacks_room mid newly follows put now settles adds fault is =
+          ends_at s (state_behind (sequence_format start.mask.full) at items) (stop.lacks_memory (turned.goes_on s.comes more_first more_second first_now second_now takes_first takes_second ended_first ended_second newly mid follows put now settles adds)
+          (λ e. stop.asks_then s.comes (asked s (sym follows.first_is ∙ e)) (λ extra asks. asked_more (given stage) extra stage.taken asks) more_first more_second second_now takes_second)
+          (λ known. tt) fault is)
 
-        -- what is settled wasn't all written
-        pub fails_write : (puts rest : List ℕ) → bytes ≡ puts ++ rest → (through now : Output) (fault : FaultValue) → Grown grown puts through → FailsToAdd through rest fault now → EndsAt (Some fault) new second_now now
-        fails_write puts rest is through now fault adds fails = (
-          first_now,
-          refl,
-          stop.fails_to_write rule both before (stage_of stage) s.past_first s.past_second (line_members start.mask.full at lines) second grown s.comes asks_here (λ known. tt) more_first more_second first_now second_now takes_first takes_second
-              final.written (option_to_list final.waiting) given_now (λ known. tt) ended_second puts rest (λ known. rw (← taken_now, ← is) (settled known)) through now fault adds fails,
-          λ input line e. e,
-        )
+    -- they were taken, and one more line, which is at fault
+    module _ (line : TextLine) (more : List TextLine) (parts : buffered_in lines ≡ (texts ++ line ∷ []) ++ more) (numbered : AreNumbered (suc (lines_given lines)) (texts ++ line ∷ [])) (are : TakenLines lines consumed (length (texts ++ line ∷ [])))
+        (none : final.waiting ≡ None) (kind : Kind) (says : line_says start.mask.full (reached final) line ≡ Err kind) (fault : FaultValue) (is : fault ≡ fault_at_line First line.number kind) where
+      says_now : line_says start.mask.full (state_behind (sequence_format start.mask.full) at items) line ≡ Err kind
+      says_now = ap (λ (r : Reached). line_says start.mask.full r line) reached_now ∙ says
 
-        -- memory ran out after others were written
-        pub lacks_room : (mid : PairStage SequenceLine Feature) (newly : List SequenceLine) → Follows (stage_of stage) (member_items more_first) newly (member_items more_second) mid → (put : List ℕ) (now : Output)
-            → (IsKnown both → SettlesPair rule mid.written (s.comes.bytes ++ put) (mid.taken ++ option_to_list (item_ahead second_now)) mid.second_ended) → Grown grown put now → (fault : FaultValue) → fault ≡ no_memory
-            → EndsAt (Some fault) new second_now now
-        lacks_room mid newly follows put now settles adds fault is = (
-          first_now,
-          refl,
-          stop.lacks_memory rule both before mid (s.past_first ++ more_first) (s.past_second ++ more_second) first_now second_now now
-              (turned.goes_on rule both before (stage_of stage) s.past_first s.past_second (line_members start.mask.full at lines) second grown s.comes more_first more_second first_now second_now takes_first takes_second ended_first ended_second newly mid follows put now settles adds)
-              (λ e. stop.asks_then rule both before (stage_of stage) s.past_first s.past_second (line_members start.mask.full at lines) second grown s.comes (asked_here (sym follows.first_is ∙ e)) (λ extra asks. asked_more (given stage) extra stage.taken asks) more_first more_second second_now takes_second)
-              (λ known. tt) fault is,
-          λ input line e. e,
-        )
+      is_now : fault ≡ fault_at_line (input_of start.lines) line.number kind
+      is_now = is ∙ ap (λ (i : Input). fault_at_line i line.number kind) (sym s.first_is)
 
-      -- they were taken, and one more line, which is at fault
-      module _ (line : TextLine) (more : List TextLine) (parts : buffered_in lines ≡ (texts ++ line ∷ []) ++ more) (numbered : AreNumbered (suc (lines_given lines)) (texts ++ line ∷ [])) (are : TakenLines lines consumed (length (texts ++ line ∷ [])))
-          (none : final.waiting ≡ None) (kind : Kind) (says : line_says start.mask.full (reached final) line ≡ Err kind) (fault : FaultValue) (is : fault ≡ fault_at_line First line.number kind) where
-        says_now : line_says start.mask.full (state_behind (sequence_format start.mask.full) at items) line ≡ Err kind
-        says_now = ap (λ (r : Reached). line_says start.mask.full r line) reached_now ∙ says
+      no_end : (xs : List TextLine) → (xs ++ line ∷ []) ++ more ≡ [] → ⊥
+      no_end [] e = cc
+      no_end (x ∷ xs) e = cc
 
-        is_now : fault ≡ fault_at_line (input_of start.lines) line.number kind
-        is_now = is ∙ ap (λ (i : Input). fault_at_line i line.number kind) (sym s.first_is)
+      going_by : (b : Bool) → stage.lines_ended ≡ b → stage.lines_ended ≡ false
+      going_by b e = grind (arith, no_end)
 
-        no_end : (xs : List TextLine) → (xs ++ line ∷ []) ++ more ≡ [] → ⊥
-        no_end [] e = cc
-        no_end (x ∷ xs) e = cc
+      going : stage.lines_ended ≡ false
+      going = going_by stage.lines_ended refl
 
-        going_by : (b : Bool) → stage.lines_ended ≡ b → stage.lines_ended ≡ false
-        going_by true e = absurd (no_end texts (sym parts ∙ over (s.lines_over e)))
-        going_by false e = e
+      all_written : final.written ≡ given stage ++ member_items more_first
+      all_written = sym (alone final.written final.waiting none) ∙ given_now
 
-        going : stage.lines_ended ≡ false
-        going = going_by stage.lines_ended refl
+      never_read : (input : Input) (number : ℕ) → Some fault ≡ Some (read_failed input number) → ⊥
+      never_read input number e = grind arith
 
-        all_written : final.written ≡ given stage ++ member_items more_first
-        all_written = sym (alone final.written final.waiting none) ∙ given_now
-
-        never_read : (input : Input) (number : ℕ) → Some fault ≡ Some (read_failed input number) → ⊥
-        never_read input number e =
-            line_no_read First line.number kind input number (subst (λ (k : Kind). is_of_line k ≡ true) (sym (wrong_is_text start.mask.full (reached final) line kind says)) refl) (sym is ∙ some_is fault (read_failed input number) e)
-
-        pub refuses_line : (through : Output) → Grown grown bytes through → EndsAt (Some fault) new second_now through
-        refuses_line through adds = (
-          refused source_a start.mask.full old_first s.past_first at lines new s.comes.first_passes texts line more items say_here kind says_now parts numbered consumed are takes fault is_now,
-          refl,
-          stop.first_fails rule both before (stage_of stage) s.past_first s.past_second (line_members start.mask.full at lines) second grown s.comes asks_here (λ known. tt) going more_first more_second second_now takes_second ended_second bytes
-              (λ known. rw (← all_written, ← taken_now) (settled known)) (λ known. tt)
-              (stop.asks_then rule both before (stage_of stage) s.past_first s.past_second (line_members start.mask.full at lines) second grown s.comes (asked_here going) (λ extra asks. asked_more (given stage) extra stage.taken asks) more_first more_second second_now takes_second)
-              fault (refused source_a start.mask.full old_first s.past_first at lines new s.comes.first_passes texts line more items say_here kind says_now parts numbered consumed are takes fault is_now)
-              (refuses source_a start.mask.full old_first s.past_first at lines new s.comes.first_passes texts line more items say_here kind says_now parts numbered consumed are takes fault is_now (λ k. is_fasta_kind k ≡ true)
-              (subst (λ (k : Kind). is_fasta_kind k ≡ true) (sym (wrong_is_text start.mask.full (reached final) line kind says)) refl))
-              (refuses_read source_a start.mask.full old_first s.past_first at lines new s.comes.first_passes texts line more items say_here kind says_now parts numbered consumed are takes fault is_now)
-              through adds,
-          λ input number e. absurd (never_read input number e),
-        )
+      pub refuses_line : {through : Output} → Grown grown bytes through → EndsAt (Some fault) new second_now through
+      refuses_line {through} adds =
+          let gone = refused source_a start.mask.full old_first s.past_first at lines new s.comes.first_passes texts line more items say_here kind says_now parts numbered consumed are takes fault is_now in (
+            gone,
+            refl,
+            stop.first_fails s.comes (asks_for s) (λ known. tt) going more_first more_second second_now takes_second ended_second bytes
+                (λ known. rw (← all_written, ← taken_now) (settled known)) (λ known. tt)
+                (stop.asks_then s.comes (asked s going) (λ extra asks. asked_more (given stage) extra stage.taken asks) more_first more_second second_now takes_second) fault gone
+                (refuses source_a start.mask.full old_first s.past_first at lines new s.comes.first_passes texts line more items say_here kind says_now parts numbered consumed are takes fault is_now (λ k. is_fasta_kind k ≡ true)
+                (wrong_first start.mask.full (reached final) line kind says))
+                (refuses_read source_a start.mask.full old_first s.past_first at lines new s.comes.first_passes texts line more items say_here kind says_now parts numbered consumed are takes fault is_now) through adds,
+            λ input number e. absurd (never_read input number e),
+          )

@@ -1,5 +1,5 @@
 -- Lemmas on a round of masking in which lines and records were given together.
-use Rattle.bt_lines.proofs.Std.{◌≡◌, ℕ, zero, suc, ◌-◌, drop, length-take, ◌+◌, ◌≤◌, ◌<◌, Bool, true, false, List, [], ◌∷◌, ◌++◌, length, take, Option, None, Some, Result, Ok, Err, refl, sym, ap, ◌∙◌, subst, append-nil, append_assoc, option_to_list, arith, inl, inr, append_cancel_left, nil_from_length, ◌⊎◌, OnOk, is_some, nat_eq, false≢true}
+use Rattle.bt_lines.proofs.Std.{◌≡◌, ℕ, zero, suc, ◌-◌, length-take, ◌+◌, ◌≤◌, ◌<◌, Bool, true, false, List, [], ◌∷◌, ◌++◌, length, take, Option, None, Some, Result, Ok, Err, refl, sym, ap, ◌∙◌, subst, append-nil, append_assoc, option_to_list, arith, inl, inr, append_cancel_left, nil_from_length, ◌⊎◌, OnOk, is_some, nat_eq}
 use Rattle.bt_lines.specs.declared.device.Source.{Ghosts as Source}
 use Rattle.bt_lines.proofs.lemmas.reader.block.BufferLemmas.{fed_none}
 use Rattle.bt_lines.proofs.lemmas.reader.lines.TextLemmas.{bytes_in-lines, whole_count}
@@ -13,14 +13,15 @@ use Rattle.bt_lines.specs.declared.reader.buffered_lines.BufferedLines.{Buffered
 use Rattle.bt_lines.specs.declared.reader.buffered_lines.ConsumedLines.{ConsumedLines}
 use Rattle.bt_lines.specs.declared.fault.Fault.{Fault}
 use Rattle.bt_lines.specs.declared.reader.line_reader.LineReader.{LineReader}
-use Rattle.bt_bed.specs.calls.Batch.{HasEnded, Passes, cursor_in, left, line_in}
+use Rattle.bt_bed.specs.calls.Batch.{Passes, cursor_in, left, line_in}
+use Rattle.bt_bed.specs.calls.CursorOf.{batch_cursor}
 use Rattle.bt_bed.specs.model.Feature.{Feature}
 use Rattle.bt_bed.specs.model.Sorted.{Locus}
 use Rattle.bt_bed.specs.calls.Reading.{MemberReader, state_behind}
 use Rattle.bt_bed.specs.declared.read.batch.Batch.{Batch}
 use Rattle.bt_seq.proofs.lemmas.mask.steps.BedStepLemmas.{goes_more, line_goes}
 use Rattle.bt_seq.proofs.lemmas.mask.steps.CopyLemmas.{wants_line}
-use Rattle.bt_seq.specs.calls.MaskStage.{SayEach, GoesOn, IsNext, MaskStage, given, is_written_at_once, reached, want_at, want_of, with_line}
+use Rattle.bt_seq.specs.calls.MaskStage.{GoesOn, IsNext, MaskStage, given, is_written_at_once, want_at, with_line}
 use Rattle.bt_seq.specs.calls.MaskState.{Masking}
 use Rattle.bt_seq.specs.calls.MaskSteps.{BothCome, ComesAfter, ComesNext, FailsAfter, FailsAtLines, FailsAtRecord, HasCome, StopsAt, MaskStandsAt, kept_line, FailsWithLine, RefusesLine, bytes_with}
 use Rattle.bt_seq.specs.model.Masked.{Reached, SequenceLine, sequence_format}
@@ -49,13 +50,8 @@ module _ {S State : Type 0} (second second_now : MemberReader S Feature State) (
 
   -- and it is the next one of those that are left
   kept_after : (was : Option Feature) → ((r : Feature) → was ≡ Some r → item_ahead second ≡ Some r) → (taken : List Feature) → second.buffered ≡ taken ++ second_now.buffered → (ahead : Option Feature)
-      → ComesAfter Passes line_in HasEnded was first taken ahead → (r : Feature) → ahead ≡ Some r → item_ahead second_now ≡ Some r
-  kept_after was kept taken split ahead comes r e = elim (comes r e) [
-    | inl same ↦ ahead_first second_now ∙ ap first_of (sym (split ∙ ap (λ (l : List Feature). l ++ second_now.buffered) same.1)) ∙ sym (ahead_first second) ∙ kept r same.0
-    | inr there ↦
-        let rest : second_now.buffered ≡ left there.0 = append_cancel_left taken second_now.buffered (left there.0) (sym split ∙ sym lent ∙ there.2.left_is) in
-        ahead_first second_now ∙ ap first_of (rest ∙ there.3.left_is)
-  ]
+      → ComesAfter batch_cursor was first taken ahead → (r : Feature) → ahead ≡ Some r → item_ahead second_now ≡ Some r
+  kept_after was kept taken split ahead comes r e = grind (arith, append_cancel_left)
 
 -- ---- how much is still wanted
 
@@ -63,37 +59,17 @@ pub waits_is : {stage : MaskStage} {mask : Masking} → MaskStandsAt stage mask 
 waits_is {stage} {mask} stands = ap is_some stands.waiting_is ∙ some_map kept_line stage.waiting
 
 pub rounds_most : (waits : Bool) (want : MaskWant) → mask_rounds waits want ≤ 3
-rounds_most waits WantLine = omega arith
-rounds_most true WantBed = omega arith
-rounds_most false WantBed = omega arith
-rounds_most waits Nothing = omega arith
+rounds_most waits want = grind arith
 
 pub rounds_few : (waits : Bool) (want : MaskWant) → waits ≡ false → mask_rounds waits want ≤ 2
-rounds_few waits WantLine e = omega arith
-rounds_few true WantBed e = absurd (false≢true (sym e))
-rounds_few false WantBed e = omega arith
-rounds_few waits Nothing e = omega arith
+rounds_few waits want e = grind arith
 
 -- if nothing was given, a line that waited was written, or the same is wanted
 no_more_by : (o final : Option SequenceLine) (newly written : List SequenceLine) → o ≡ None → (written ++ newly) ++ option_to_list final ≡ written ++ option_to_list o → final ≡ None
-no_more_by o final newly written none e =
-    (none_new newly final (append_cancel_left written (newly ++ option_to_list final) [] (sym (append_assoc written newly (option_to_list final)) ∙ e ∙ ap (λ (o : Option SequenceLine). written ++ option_to_list o) none))).1
-
-stays_by : (o final : Option SequenceLine) (l b : Bool) (old_want new_want : MaskWant) (old_waits new_waits : Bool) → old_want ≡ want_of (is_some o) l b → new_want ≡ want_of (is_some final) l b → old_waits ≡ is_some o → new_waits ≡ is_some final → (o ≡ None → final ≡ None)
-    → (mask_rounds new_waits new_want < mask_rounds old_waits old_want) ⊎ ((new_want ≡ old_want) × (new_waits ≡ old_waits))
-stays_by None final l b old_want new_want old_waits new_waits w v x y none =
-    let same : is_some final ≡ false = ap is_some (none refl) in
-    inr (v ∙ ap (λ s. want_of s l b) same ∙ sym w, y ∙ same ∙ sym x)
-stays_by (Some a) None l b old_want new_want old_waits new_waits w v x y none =
-    let most : mask_rounds old_waits old_want ≡ 3 = ap (λ s. mask_rounds s old_want) x ∙ ap (mask_rounds true) w in
-    let few = rounds_few new_waits new_want y in
-    inl (omega (arith, most, few))
-stays_by (Some a) (Some c) l b old_want new_want old_waits new_waits w v x y none = inr (v ∙ sym w, y ∙ sym x)
+no_more_by o final newly written none e = grind (arith, none_new, append_cancel_left, append_assoc)
 
 not_one : (n : ℕ) → nat_eq n 1 ≡ false → n - 1 ≡ 0 → n ≡ 0
-not_one zero e h = refl
-not_one (suc zero) e h = absurd (false≢true (sym e))
-not_one (suc (suc n)) e h = absurd (omega (arith, h))
+not_one n e h = grind arith
 
 -- if bytes are buffered, a line is
 no_bytes : (is_open : Bool) (lines : ℕ) (bytes : List ℕ) → is_fed bytes ≡ true → IsLast is_open is_open bytes [] → buffered_lines is_open lines bytes ≡ [] → length bytes ≡ 0
@@ -104,34 +80,29 @@ no_bytes true lines bytes fed last none =
     not_one (length bytes) (last.some refl) (omega (arith, size, length-take (length bytes - 1) bytes))
 
 some_buffered : {S : Type 0} (reader : LineReader S) (first : BufferedLines) → BeginsLines (buffered_bytes reader) (lines_given reader) (is_open reader) first → buffered_in reader ≡ [] → 0 < length (buffered_bytes reader) → ⊥
-some_buffered reader first begins none some =
-    let whole : drop first.at first.all.now ≡ buffered_bytes reader = ap (λ (k : ℕ). drop k first.all.now) begins.at ∙ begins.bytes_are in
-    let fed : is_fed (buffered_bytes reader) ≡ true = subst (λ (l : List ℕ). is_fed l ≡ true) whole first.fed in
-    let last : IsLast (is_open reader) (is_open reader) (buffered_bytes reader) [] =
-    subst (λ (b : Bool). IsLast b b (buffered_bytes reader) []) begins.open_is (subst (λ (l : List ℕ). IsLast first.is_open first.is_open l []) whole first.last) in
-    absurd (omega (arith, some, no_bytes (is_open reader) (lines_given reader) (buffered_bytes reader) fed last none))
+some_buffered reader first begins none some = grind (arith, no_bytes)
 
-module _ {A B : Type 0} (source_a : Source A) (source_b : Source B) (start : MaskRun A B) (before : Output) (at : Reached) (lines : LineReader A)
-    (second : MemberReader B Feature (Option Locus)) (mask : Masking) (out : Output) (s : Masks source_a source_b start before at lines second mask out)
-    (first_lines last_lines : BufferedLines) (begins : BeginsLines (buffered_bytes lines) (lines_given lines) (is_open lines) first_lines) (texts : List TextLine) (parts : buffered_in lines ≡ texts ++ lines_in last_lines)
-    (numbered : AreNumbered (suc (lines_given lines)) texts) (first_beds last_beds : Batch) (lent : left first_beds ≡ second.buffered) (lent_at : (cursor_in first_beds).lines ≡ lines_given second.below)
-    (taken : List Feature) (gave : Passes first_beds taken last_beds) (new : LineReader A) (over : has_ended lines ≡ true → buffered_in lines ≡ []) (consumed : ConsumedLines) (are : TakenLines lines consumed (length texts)) (takes : TakesLines source_a lines consumed new)
-    (second_now : MemberReader B Feature (Option Locus)) (has : HasTaken source_b second taken second_now) where
+module _ {A B : Type 0} {source_a : Source A} {source_b : Source B} {start : MaskRun A B} {before : Output} {at : Reached} {lines : LineReader A} {second : MemberReader B Feature (Option Locus)} {mask : Masking}
+    {out : Output} (s : Masks source_a source_b start before at lines second mask out) {first_lines : BufferedLines} (begins : BeginsLines (buffered_bytes lines) (lines_given lines) (is_open lines) first_lines)
+    (last_lines : BufferedLines) (texts : List TextLine) (parts : buffered_in lines ≡ texts ++ lines_in last_lines) (numbered : AreNumbered (suc (lines_given lines)) texts)
+    {first_beds last_beds : Batch} (lent : left first_beds ≡ second.buffered) (lent_at : (cursor_in first_beds).lines ≡ lines_given second.below) {taken : List Feature} (gave : Passes first_beds taken last_beds)
+    {new : LineReader A} (over : has_ended lines ≡ true → buffered_in lines ≡ []) {consumed : ConsumedLines} (are : TakenLines lines consumed (length texts)) (takes : TakesLines source_a lines consumed new)
+    {second_now : MemberReader B Feature (Option Locus)} (has : HasTaken source_b second taken second_now) where
   abbrev EndsAt : Option FaultValue → Output → Type 0
   EndsAt fault grown = MaskEnds source_a source_b start before fault new second_now grown
 
   -- the record ahead is the next one that is given
-  comes_next : ComesNext Passes line_in HasEnded s.stage.ahead first_beds
+  comes_next : ComesNext batch_cursor s.stage.ahead first_beds
   comes_next r later passes = next_is second second_now first_beds last_beds lent s.stage.ahead s.kept_ahead r later passes
 
-  kept_then : (ahead : Option Feature) → ComesAfter Passes line_in HasEnded s.stage.ahead first_beds taken ahead → (r : Feature) → ahead ≡ Some r → item_ahead second_now ≡ Some r
+  kept_then : (ahead : Option Feature) → ComesAfter batch_cursor s.stage.ahead first_beds taken ahead → (r : Feature) → ahead ≡ Some r → item_ahead second_now ≡ Some r
   kept_then ahead comes = kept_after second second_now first_beds last_beds lent s.stage.ahead s.kept_ahead taken has.takes.buffered ahead comes
 
   left_then : left last_beds ≡ second_now.buffered
   left_then = append_cancel_left taken (left last_beds) second_now.buffered (sym gave.left_is ∙ lent ∙ has.takes.buffered)
 
   -- after what was given, something else is wanted
-  module _ (masked : Masking) (now : Output) (comes : HasCome start.mask.how start.mask.full s.stage texts taken out masked now) (stops : StopsAt Passes line_in HasEnded masked.want last_lines last_beds) where
+  module _ (masked : Masking) (now : Output) (comes : HasCome start.mask.how start.mask.full s.stage texts taken out masked now) (stops : StopsAt batch_cursor masked.want last_lines last_beds) where
     abbrev final : MaskStage
     final = comes.stage
 
@@ -139,31 +110,19 @@ module _ {A B : Type 0} (source_a : Source A) (source_b : Source B) (start : Mas
     less_room = omega (arith, takes.taken_is, takes.shrinks, are.feeds)
 
     same_by : texts ≡ [] → s.stage.waiting ≡ None → final.waiting ≡ None
-    same_by none waits =
-        let items : comes.goes_on.items ≡ [] = no_items texts comes.goes_on.items none comes.goes_on.say in
-        no_more_by s.stage.waiting final.waiting comes.goes_on.newly s.stage.written waits
-        (ap (λ (l : List SequenceLine). l ++ option_to_list final.waiting) (sym comes.goes_on.written_is) ∙ comes.goes_on.given_is ∙ ap (λ (l : List SequenceLine). given s.stage ++ l) items ∙ append-nil (given s.stage))
-      where
-        no_items : (texts : List TextLine) (items : List SequenceLine) → texts ≡ [] → SayEach start.mask.full (reached s.stage) texts items → items ≡ []
-        no_items [] items e say = say
-        no_items (x ∷ xs) items e say = cc
+    same_by none waits = grind (arith, no_more_by, append-nil)
 
     stays : texts ≡ [] → (mask_rounds (is_some masked.waiting) masked.want < mask_rounds (is_some mask.waiting) mask.want)
         ⊎ ((masked.want ≡ mask.want) × (is_some masked.waiting ≡ is_some mask.waiting))
-    stays none =
-        stays_by s.stage.waiting final.waiting s.stage.lines_ended s.stage.bed_ended mask.want masked.want (is_some mask.waiting) (is_some masked.waiting) s.stands.want_is
-        (comes.stands.stands.want_is ∙ ap (λ (l : Bool). want_of (is_some final.waiting) l final.bed_ended) comes.goes_on.lines_ended_is ∙ ap (λ (b : Bool). want_of (is_some final.waiting) s.stage.lines_ended b) comes.goes_on.bed_ended_is)
-        (waits_is s.stands) (waits_is comes.stands.stands) (same_by none)
+    stays none = grind (arith, same_by)
 
-    stuck_by : (want : MaskWant) → texts ≡ [] → taken ≡ [] → StopsAt Passes line_in HasEnded want last_lines last_beds → IsMaskReady lines second want → ⊥
+    stuck_by : (want : MaskWant) → texts ≡ [] → taken ≡ [] → StopsAt batch_cursor want last_lines last_beds → IsMaskReady lines second want → ⊥
     stuck_by WantLine none unread stops there = some_buffered lines first_lines begins (parts ∙ ap (λ (l : List TextLine). l ++ lines_in last_lines) none ∙ stops) there
-    stuck_by WantBed none unread stops there =
-        let gone : second.buffered ≡ [] = has.takes.buffered ∙ ap (λ (l : List Feature). l ++ second_now.buffered) unread ∙ sym left_then ∙ stops.none in
-        absurd (omega (arith, there, ap length gone))
+    stuck_by WantBed none unread stops there = grind arith
     stuck_by Nothing none unread stops there = there
 
     stuck : texts ≡ [] → taken ≡ [] → masked.want ≡ mask.want → IsMaskReady lines second mask.want → ⊥
-    stuck none unread same there = stuck_by mask.want none unread (subst (λ (w : MaskWant). StopsAt Passes line_in HasEnded w last_lines last_beds) same stops) there
+    stuck none unread same there = stuck_by mask.want none unread (subst (λ (w : MaskWant). StopsAt batch_cursor w last_lines last_beds) same stops) there
 
     few_by : (n : ℕ) → length texts + length taken ≡ n → (mask_left new second_now masked ≤ mask_left lines second mask) × (IsMaskReady lines second mask.want → mask_left new second_now masked < mask_left lines second mask)
     few_by zero e =
@@ -176,24 +135,21 @@ module _ {A B : Type 0} (source_a : Source A) (source_b : Source B) (start : Mas
             λ there. absurd (stuck none unread same.0 there),
           )
         ]
-    few_by (suc n) e =
-        let most = rounds_most (is_some masked.waiting) masked.want in
-        let less : mask_left new second_now masked < mask_left lines second mask = omega (arith, less_room, has.takes.shrinks, most, e) in
-        (omega (arith, less), λ there. less)
+    few_by (suc n) e = grind arith
 
-    gave_both : ComesAfter Passes line_in HasEnded s.stage.ahead first_beds taken final.ahead → {T : Type 0} (done : T) → AdvancesMask source_a source_b start before lines second mask (Ok done) new second_now masked now
+    gave_both : ComesAfter batch_cursor s.stage.ahead first_beds taken final.ahead → {T : Type 0} (done : T) → AdvancesMask source_a source_b start before lines second mask (Ok done) new second_now masked now
     gave_both after done =
         let few = few_by (length texts + length taken) refl in (
           (
             state_behind (sequence_format start.mask.full) at comes.goes_on.items,
-            (come_on source_a source_b start before at lines second mask out s new over consumed takes taken second_now has texts final comes.bytes comes.goes_on (kept_then final.ahead after) (lines_in last_lines) parts numbered are masked now comes.stands comes.puts).0,
+            (come_on s over takes has comes.goes_on (kept_then final.ahead after) (lines_in last_lines) parts numbered are comes.stands comes.puts).0,
           ),
           few.0,
           few.1,
         )
 
   -- the last of what was given failed
-  module _ (fault : FaultValue) (now : Output) (behind : FailsAfter Passes line_in HasEnded start.mask.how start.mask.full s.stage texts taken out first_beds fault last_beds now) where
+  module _ (fault : FaultValue) (now : Output) (behind : FailsAfter batch_cursor start.mask.how start.mask.full s.stage texts taken out first_beds fault last_beds now) where
     abbrev comes : HasCome start.mask.how start.mask.full s.stage behind.before taken out behind.mask behind.through
     comes = behind.comes
 
@@ -206,15 +162,14 @@ module _ {A B : Type 0} (source_a : Source A) (source_b : Source B) (start : Mas
       all_go =
           subst (λ (t : List TextLine). GoesOn start.mask.how start.mask.full s.stage t taken final (comes.bytes ++ bytes)) (sym behind.parts)
           (subst (λ (l : List Feature). GoesOn start.mask.how start.mask.full s.stage (behind.before ++ behind.failing) l final (comes.bytes ++ bytes)) (append-nil taken)
-          (goes_more start.mask.how start.mask.full s.stage comes.stage final behind.before behind.failing taken [] comes.bytes bytes comes.goes_on goes))
+          (goes_more comes.goes_on goes))
 
       kept_final : (r : Feature) → final.ahead ≡ Some r → item_ahead second_now ≡ Some r
       kept_final r e = kept r (sym ahead_is ∙ e)
 
       fails_copying : FailsToAdd behind.through bytes fault now → EndsAt (Some fault) now
       fails_copying fails =
-          fails_write source_a source_b start before at lines second mask out s new over consumed takes taken second_now has texts final (comes.bytes ++ bytes) all_go kept_final (lines_in last_lines) parts numbered are comes.bytes bytes refl
-          behind.through now fault comes.puts fails
+          fails_write s over takes has all_go kept_final (lines_in last_lines) parts numbered are comes.bytes bytes refl comes.puts fails
 
     -- a line failed
     module _ (wants : want_at comes.stage ≡ WantLine) where
@@ -228,9 +183,9 @@ module _ {A B : Type 0} (source_a : Source A) (source_b : Source B) (start : Mas
         refuses_one : RefusesLine start.mask.how start.mask.full comes.stage line behind.through fault now → EndsAt (Some fault) now
         refuses_one refuses =
             rw refuses.same_output
-            (refuses_line source_a source_b start before at lines second mask out s new over consumed takes taken second_now has behind.before comes.stage comes.bytes comes.goes_on kept line (lines_in last_lines)
+            (refuses_line s over takes has comes.goes_on kept line (lines_in last_lines)
             (parts ∙ ap (λ l. l ++ lines_in last_lines) texts_are) (subst (AreNumbered (suc (lines_given lines))) texts_are numbered) (subst (λ (l : List TextLine). TakenLines lines consumed (length l)) texts_are are)
-            none_waits refuses.kind refuses.says fault refuses.is behind.through comes.puts)
+            none_waits refuses.kind refuses.says fault refuses.is comes.puts)
 
         module _ (fails : FailsWithLine start.mask.how start.mask.full comes.stage line behind.through fault now) where
           with_it : GoesOn start.mask.how start.mask.full comes.stage behind.failing [] (with_line comes.stage fails.item) (bytes_with start.mask.how comes.stage fails.item)
@@ -267,7 +222,7 @@ module _ {A B : Type 0} (source_a : Source A) (source_b : Source B) (start : Mas
 
           lacks_one : fault ≡ no_memory → EndsAt (Some fault) behind.through
           lacks_one is =
-              lacks_room source_a source_b start before at lines second mask out s new over consumed takes taken second_now has texts (with_line comes.stage fails.item) (comes.bytes ++ bytes_with start.mask.how comes.stage fails.item) whole kept_whole
+              lacks_room s over takes has whole kept_whole
               (lines_in last_lines) parts numbered are mid comes.goes_on.newly
               (record {
                 given_is = sym (with_given (is_written_at_once comes.stage fails.item) refl) ∙ whole.given_is ∙ ap (λ l. given s.stage ++ l) (sym (items_from (suc (lines_given lines)) whole.items));
@@ -278,7 +233,7 @@ module _ {A B : Type 0} (source_a : Source A) (source_b : Source B) (start : Mas
               })
               comes.bytes behind.through
               (λ known. subst (λ (b : Bool). SettlesPair (mask_join start.mask.how) comes.stage.written (s.comes.bytes ++ comes.bytes) (comes.stage.taken ++ option_to_list (item_ahead second_now)) b) (sym comes.goes_on.bed_ended_is)
-              (settled source_a source_b start before at lines second mask out s new over consumed takes taken second_now has behind.before comes.stage comes.bytes comes.goes_on kept known)) comes.puts fault is
+              (settled s over takes has comes.goes_on kept known)) comes.puts fault is
 
           fails_one : EndsAt (Some fault) now
           fails_one = elim fails.fails [
@@ -303,9 +258,9 @@ module _ {A B : Type 0} (source_a : Source A) (source_b : Source B) (start : Mas
       fails_next : FailsAtRecord start.mask.how start.mask.full comes.stage.waiting comes.stage r (line_in later) behind.through fault now → EndsAt (Some fault) now
       fails_next fails =
           let here =
-          come_on source_a source_b start before at lines second mask out s new over consumed takes taken second_now has behind.before comes.stage comes.bytes comes.goes_on kept (lines_in last_lines)
-          (parts ∙ ap (λ l. l ++ lines_in last_lines) before_is) (subst (AreNumbered (suc (lines_given lines))) before_is numbered) (subst (λ (l : List TextLine). TakenLines lines consumed (length l)) before_is are) behind.mask behind.through comes.stands comes.puts in
-          fails_record source_a source_b start before (state_behind (sequence_format start.mask.full) at comes.goes_on.items) new second_now behind.mask behind.through here.0 (comes.stands.stands.want_is ∙ wants) r (left later)
+          come_on s over takes has comes.goes_on kept (lines_in last_lines)
+          (parts ∙ ap (λ l. l ++ lines_in last_lines) before_is) (subst (AreNumbered (suc (lines_given lines))) before_is numbered) (subst (λ (l : List TextLine). TakenLines lines consumed (length l)) before_is are) comes.stands comes.puts in
+          fails_record here.0 (comes.stands.stands.want_is ∙ wants) r (left later)
           (sym left_then ∙ passes.left_is) fault now
           (subst (λ (n : ℕ). FailsAtRecord start.mask.how start.mask.full here.0.stage.waiting here.0.stage r n behind.through fault now) number_is
           (subst (λ (stage : MaskStage). FailsAtRecord start.mask.how start.mask.full stage.waiting stage r (line_in later) behind.through fault now) (sym here.1) fails))
@@ -320,14 +275,14 @@ module _ {A B : Type 0} (source_a : Source A) (source_b : Source B) (start : Mas
     failed_both = fails_both behind.fails
 
   -- the engine masks as the run says
-  as_run : {T : Type 0} (answer : Result T Fault) (masked : Masking) (now : Output) → BothCome Passes line_in HasEnded mask.how mask.full s.stage texts taken out first_beds answer masked last_beds now
-      → BothCome Passes line_in HasEnded start.mask.how start.mask.full s.stage texts taken out first_beds answer masked last_beds now
+  as_run : {T : Type 0} (answer : Result T Fault) (masked : Masking) (now : Output) → BothCome batch_cursor mask.how mask.full s.stage texts taken out first_beds answer masked last_beds now
+      → BothCome batch_cursor start.mask.how start.mask.full s.stage texts taken out first_beds answer masked last_beds now
   as_run answer masked now both =
-      subst (λ (h : MaskHow). BothCome Passes line_in HasEnded h start.mask.full s.stage texts taken out first_beds answer masked last_beds now) s.how_is
-      (subst (λ (b : Bool). BothCome Passes line_in HasEnded mask.how b s.stage texts taken out first_beds answer masked last_beds now) s.full_is both)
+      subst (λ (h : MaskHow). BothCome batch_cursor h start.mask.full s.stage texts taken out first_beds answer masked last_beds now) s.how_is
+      (subst (λ (b : Bool). BothCome batch_cursor mask.how b s.stage texts taken out first_beds answer masked last_beds now) s.full_is both)
 
   -- what the result says
-  pub gives_both : {T : Type 0} (answer : Result T Fault) (masked : Masking) (now : Output) → (ComesNext Passes line_in HasEnded s.stage.ahead first_beds → BothCome Passes line_in HasEnded mask.how mask.full s.stage texts taken out first_beds answer masked last_beds now)
-      → OnOk answer (StopsAt Passes line_in HasEnded masked.want last_lines last_beds) → AdvancesMask source_a source_b start before lines second mask answer new second_now masked now
+  pub gives_both : {T : Type 0} (answer : Result T Fault) (masked : Masking) (now : Output) → (ComesNext batch_cursor s.stage.ahead first_beds → BothCome batch_cursor mask.how mask.full s.stage texts taken out first_beds answer masked last_beds now)
+      → OnOk answer (StopsAt batch_cursor masked.want last_lines last_beds) → AdvancesMask source_a source_b start before lines second mask answer new second_now masked now
   gives_both (Ok done) masked now come stops = let both = as_run (Ok done) masked now (come comes_next) in gave_both masked now both.0 stops both.2 done
   gives_both {T} (Err fault) masked now come stops = let both = as_run {T = T} (Err fault) masked now (come comes_next) in failed_both (fault_value fault) now both.1

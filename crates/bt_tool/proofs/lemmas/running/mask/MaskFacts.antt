@@ -1,9 +1,9 @@
 -- The facts of masking that its report and its reading rest on.
-use Rattle.bt_lines.proofs.Std.{◌≡◌, ℕ, suc, ◌<◌, ◌≤◌, Bool, true, false, not, List, [], ◌∷◌, ◌++◌, take, refl, sym, ap, ◌∙◌, subst, append-nil, append_assoc, inl, inr, Option, Some, None, Result, Ok, Err, cond, ◌⊎◌, ◌||◌, All, IsTrue, list_all, false≢true, or_left, or_right, All-head, All-tail, list_any-append, flat_map, option_to_list, is_none, option_map, and_from, flat_map-append, list_all-append}
+use Rattle.bt_lines.proofs.Std.{◌≡◌, ℕ, suc, ◌<◌, ◌≤◌, Bool, true, false, not, List, [], ◌∷◌, ◌++◌, take, refl, sym, ap, ◌∙◌, subst, append-nil, append_assoc, inl, inr, Option, Some, None, Result, Err, cond, ◌⊎◌, ◌||◌, All, IsTrue, list_all, false≢true, or_left, or_right, All-head, All-tail, list_any-append, flat_map, option_to_list, is_none, option_map, and_from, flat_map-append, list_all-append, arith}
 use Rattle.bt_lines.specs.model.Lines.{TextLine, bytes_in}
 use Rattle.bt_bed.specs.model.Feature.{Feature}
 use Rattle.bt_bed.specs.model.BedLine.{is_record_kind, record_of}
-use Rattle.bt_bed.specs.model.Good.{Member, line_says, locus_at, said_after}
+use Rattle.bt_bed.specs.model.Good.{Member, line_says, said_after}
 use Rattle.bt_seq.specs.model.Masked.{decided, SequenceLine, masked_line}
 use Rattle.bt_seq.specs.declared.mask.mask_how.MaskHow.{MaskHow}
 use Rattle.bt_seq.proofs.lemmas.definitions.MaskPrefixLemmas.{decided_stays}
@@ -13,8 +13,7 @@ use Rattle.bt_tool.specs.inside.MaskLoop.{leaves_some, mask_join}
 use Rattle.bt_tool.proofs.lemmas.running.pair.PairMet.{AreLimits}
 use Rattle.bt_tool.proofs.lemmas.running.pair.PairNear.{AreNeeded, least_by, not_all, skip_by, take_whole}
 use Rattle.bt_lines.specs.declared.fault.Kind.{Kind}
-use Rattle.bt_lines.specs.declared.fault.Kind.TheVariants.{TooFewColumns, EmptyName, BadStart, BadStop, EmptyFeature, OutOfOrder}
-use Rattle.bt_bed.specs.model.Sorted.{Locus, block_sorting, falls_in}
+use Rattle.bt_bed.specs.model.Sorted.{Locus, block_sorting}
 use Rattle.bt_bed.proofs.lemmas.read.good.SaidLemmas.{wrong_is_of_record}
 use Rattle.bt_lines.specs.model.Fault.{FaultValue}
 use Rattle.bt_bed.specs.calls.Reading.{MemberReader, first_from}
@@ -22,21 +21,10 @@ use Rattle.bt_seq.specs.calls.MaskStage.{GoesOn, MayFollow, seen_at, MaskStage}
 use Rattle.bt_tool.proofs.lemmas.running.pair.PairTurns.{all_or}
 use Rattle.bt_tool.specs.inside.Pair.{MayCome, SettlesPair, item_ahead}
 
--- a line that more records leave undecided, fewer do too
-undecided_by : (b c : Bool) → (b ≡ true → c ≡ true) → not c ≡ true → not b ≡ true
-undecided_by true c h e = absurd (false≢true (ap not (sym (h refl)) ∙ e))
-undecided_by false c h e = refl
-
-not_or : (a b c d : Bool) → (not a ≡ true → not c ≡ true) → (b ≡ true → d ≡ true) → (not a || b) ≡ true → (not c || d) ≡ true
-not_or true b c d h k e = or_right (not c) d (k e)
-not_or false b c d h k e = or_left (not c) d (h refl)
-
 -- so who leave one of some lines undecided, do so with fewer records
 fewer_leave : (lines : List SequenceLine) (records more : List Feature) → leaves_some lines (records ++ more) ≡ true → leaves_some lines records ≡ true
 fewer_leave [] records more e = e
-fewer_leave (line ∷ lines) records more e =
-    not_or (decided line (records ++ more)) (leaves_some lines (records ++ more)) (decided line records) (leaves_some lines records)
-    (undecided_by (decided line records) (decided line (records ++ more)) (decided_stays line records more)) (fewer_leave lines records more) e
+fewer_leave (line ∷ lines) records more e = grind (arith, decided_stays, fewer_leave lines records more)
 
 -- none of these is the last one needed
 needed_from : (lines : List SequenceLine) (before : List Feature) (past rest : List (Member Feature)) → (past ≡ []) ⊎ IsTrue (leaves_some lines (before ++ member_items past))
@@ -91,21 +79,10 @@ mask_limits how = record {
 
 -- what is wrong with a record on its own
 of_record : (kind : Kind) → is_record_kind kind ≡ true → is_mask_kind kind ≡ true
-of_record TooFewColumns e = refl
-of_record EmptyName e = refl
-of_record BadStart e = refl
-of_record BadStop e = refl
-of_record EmptyFeature e = refl
-of_record _ e = absurd (false≢true e)
-
-of_place : (falls : Bool) (r : Feature) (kind : Kind) → cond falls (Err OutOfOrder) (Ok (Some r)) ≡ Err kind → is_mask_kind kind ≡ true
-of_place true r kind e = let is : OutOfOrder ≡ kind = cc in subst (λ (k : Kind). is_mask_kind k ≡ true) is refl
-of_place false r kind e = cc
+of_record kind e = grind arith
 
 of_said : (last : Option Locus) (said : Result (Option Feature) Kind) (kind : Kind) → said_after block_sorting last said ≡ Err kind → ((k : Kind) → said ≡ Err k → is_mask_kind k ≡ true) → is_mask_kind kind ≡ true
-of_said last (Ok None) kind e h = cc
-of_said last (Ok (Some r)) kind e h = of_place (falls_in block_sorting last (locus_at r)) r kind e
-of_said last (Err k) kind e h = let is : k ≡ kind = cc in subst (λ (x : Kind). is_mask_kind x ≡ true) is (h k refl)
+of_said last said kind e h = grind arith
 
 pub says_of_blocks : (last : Option Locus) (text : List ℕ) (kind : Kind) → line_says block_sorting last text ≡ Err kind → is_mask_kind kind ≡ true
 unfolding line_says
@@ -119,8 +96,7 @@ first_of [] = None
 first_of (r ∷ records) = Some r
 
 first_by : (line : ℕ) (records : List Feature) → option_map (λ (m : Member Feature). m.item) (first_from line records) ≡ first_of records
-first_by line [] = refl
-first_by line (r ∷ records) = refl
+first_by line records = grind arith
 
 pub ahead_first : {S State : Type 0} (reader : MemberReader S Feature State) → item_ahead reader ≡ first_of reader.buffered
 ahead_first reader = first_by _ reader.buffered

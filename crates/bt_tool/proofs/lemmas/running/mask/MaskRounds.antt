@@ -1,5 +1,5 @@
 -- Lemmas on the rounds of masking over two readers.
-use Rattle.bt_lines.proofs.Std.{◌≡◌, Bool, true, false, Option, None, Some, Result, Ok, Err, refl, sym, ◌∙◌, subst, ℕ, ◌≤◌, ◌<◌, List, [], ◌∷◌, length, ap, arith, inl, inr, IsErrAnd, ◌⊎◌, is_some, false≢true}
+use Rattle.bt_lines.proofs.Std.{◌≡◌, Bool, true, false, Option, None, Some, Result, Ok, Err, refl, sym, ◌∙◌, subst, ℕ, ◌≤◌, ◌<◌, List, [], length, ap, arith, inl, inr, IsErrAnd, ◌⊎◌, is_some, false≢true}
 use Rattle.bt_lines.specs.declared.device.Source.{Ghosts as Source}
 use Rattle.bt_lines.proofs.lemmas.reader.block.ReadsLemmas.{has_read_then, reads_same}
 use Rattle.bt_lines.specs.model.Fault.{FaultValue}
@@ -23,8 +23,8 @@ use Rattle.bt_tool.specs.declared.loops.masking.MaskRun.{MaskRun}
 use Rattle.bt_tool.specs.calls.Run.{TellsNoRead}
 use Rattle.bt_tool.specs.inside.Feed.{IsOwnFault, KeepsOwnFault, IsFresh}
 use Rattle.bt_tool.proofs.lemmas.running.members.MemberLemmas.{IsFilled, IsOver, passes_start}
-use Rattle.bt_tool.specs.inside.MaskLoop.{GoesOn, MaskComes, MaskIsOver, is_mask_ready, left_to_mask, wanted_by, Masks, mask_rounds, line_members, mask_join, mask_pair, nothing_reached}
-use Rattle.bt_tool.proofs.lemmas.running.mask.MaskedLemmas.{AdvancesMask, MaskEnds, IsMaskReady, mask_left, finishes, stops_lines, stops_records, ends_alone, ends_lines, ends_waiting, fails_at_end, line_made, lines_done, none_waits, record_made}
+use Rattle.bt_tool.specs.inside.MaskLoop.{GoesOn, MaskComes, MaskIsOver, mask_run, wanted_by, Masks, mask_rounds, line_members, mask_join, mask_pair, nothing_reached}
+use Rattle.bt_tool.proofs.lemmas.running.mask.MaskedLemmas.{AdvancesMask, MaskEnds, IsMaskReady, mask_left, finishes, stops_lines, stops_records, ends_alone, ends_lines, ends_waiting, fails_at_end, line_made, lines_done, no_line, record_made}
 use Rattle.bt_tool.specs.inside.Rounds.{IsLessOrReady, IsLessIfReady, LeadsTo}
 use Rattle.bt_tool.proofs.lemmas.running.members.BlockMembers.{block_filled, block_over, block_stopped, blocks_going, gives_over}
 use Rattle.bt_tool.proofs.lemmas.running.whole.OwnFailureLemmas.{kept_below, line_told_kept, none_kept, own_then, told_kept}
@@ -51,18 +51,16 @@ at_records : (waits : Bool) (want : MaskWant) → waits ≡ false → want ≡ W
 at_records waits want e w = ap (λ b. mask_rounds b want) e ∙ ap (mask_rounds false) w
 
 at_last : (waits bed_ended : Bool) (want : MaskWant) → waits ≡ false → want ≡ want_of false true bed_ended → mask_rounds waits want ≤ 1
-at_last waits true want e w = omega (arith, ap (λ b. mask_rounds b want) e, ap (mask_rounds false) w)
-at_last waits false want e w = omega (arith, ap (λ b. mask_rounds b want) e, ap (mask_rounds false) w)
+at_last waits bed_ended want e w = grind arith
 
 at_end : (waits : Bool) (want : MaskWant) → want ≡ Nothing → mask_rounds waits want ≡ 0
 at_end waits want e = ap (mask_rounds waits) e
 
 some_there : (line : ℕ) (records : List Feature) (m : Member Feature) → first_from line records ≡ Some m → 0 < length records
-some_there line [] m e = absurd (let apart : None ≡ Some m = e in cc)
-some_there line (r ∷ records) m e = omega arith
+some_there line records m e = grind arith
 
-module _ {A B : Type 0} (source_a : Source A) (source_b : Source B) (start : MaskRun A B) (before : Output) (at : Reached) (lines : LineReader A)
-    (second : MemberReader B Feature (Option Locus)) (mask : Masking) (out : Output) (s : Masks source_a source_b start before at lines second mask out) where
+module _ {A B : Type 0} {source_a : Source A} {source_b : Source B} {start : MaskRun A B} {before : Output} {at : Reached} {lines : LineReader A} {second : MemberReader B Feature (Option Locus)} {mask : Masking}
+    {out : Output} (s : Masks source_a source_b start before at lines second mask out) where
   -- what is wanted was made buffered, or the end of that input was given
   abbrev Fills : LineReader A → MemberReader B Feature (Option Locus) → Masking → Output → Type 0
   Fills new second_now masked grown =
@@ -72,7 +70,7 @@ module _ {A B : Type 0} (source_a : Source A) (source_b : Source B) (start : Mas
   module _ (wants : mask.want ≡ WantLine) (new : LineReader A) (kept : IsKept source_a lines → IsKept source_a new) where
     pub line_filled : MakesLine source_a lines new → Fills new second mask out
     line_filled makes = (
-      (at, line_made source_a source_b start before at lines second mask out s wants new makes kept),
+      (at, line_made s wants new makes kept),
       inr (
         omega (arith, same_room source_a lines new new makes),
         subst (λ (w : MaskWant). IsMaskReady new second w) (sym wants) makes.some,
@@ -82,8 +80,8 @@ module _ {A B : Type 0} (source_a : Source A) (source_b : Source B) (start : Mas
     pub lines_ended : GivesEnd source_a lines new → (masked : Masking) → MaskMovesTo mask.how mask.full (with_lines_ended s.stage) masked → Fills new second masked out
     lines_ended ends masked stands =
         let over = gives_over source_a start.mask.full at lines new kept ends in
-        let none = ap is_some (none_waits source_a source_b start before at lines second mask out s wants) in (
-          (at, ends_lines source_a source_b start before at lines second mask out s wants new masked ends kept stands),
+        let none = ap is_some (no_line s wants).0 in (
+          (at, ends_lines s wants new masked ends kept stands),
           inl (omega (
             arith,
             over.ends.shrinks,
@@ -95,7 +93,7 @@ module _ {A B : Type 0} (source_a : Source A) (source_b : Source B) (start : Mas
   module _ (wants : mask.want ≡ WantBed) (second_now : MemberReader B Feature (Option Locus)) where
     pub record_filled : IsFilled source_b second second_now → Fills lines second_now mask out
     record_filled filled = (
-      (at, record_made source_a source_b start before at lines second mask out s wants second_now filled),
+      (at, record_made s wants second_now filled),
       inr (
         omega (arith, filled.gives.shrinks),
         subst (λ (w : MaskWant). IsMaskReady lines second_now w) (sym wants) (some_there _ second_now.buffered filled.m filled.gives.ahead),
@@ -108,7 +106,7 @@ module _ {A B : Type 0} (source_a : Source A) (source_b : Source B) (start : Mas
           → Fills lines second_now masked now
       ends_by (Some a) e done waits none =
           let ends = waits a e in (
-            (at, ends_waiting source_a source_b start before at lines second mask out s wants second_now over a e masked now ends.0 ends.1),
+            (at, ends_waiting s wants second_now over a e masked now ends.0 ends.1),
             inl (omega (
               arith,
               over.ends.shrinks,
@@ -118,8 +116,8 @@ module _ {A B : Type 0} (source_a : Source A) (source_b : Source B) (start : Mas
           )
       ends_by None e done waits none =
           let ends = none e in
-          let finished = lines_done source_a source_b start before at lines second mask out s wants e in (
-            (at, rw ends.1 (ends_alone source_a source_b start before at lines second mask out s wants second_now over e masked ends.0)),
+          let finished = lines_done s wants e in (
+            (at, rw ends.1 (ends_alone s wants second_now over e masked ends.0)),
             inl (omega (
               arith,
               over.ends.shrinks,
@@ -135,7 +133,7 @@ module _ {A B : Type 0} (source_a : Source A) (source_b : Source B) (start : Mas
       unended_by : (o : Option SequenceLine) → s.stage.waiting ≡ o → (fault : Fault)
           → ((waiting : SequenceLine) → s.stage.waiting ≡ Some waiting → EndsRecords {A = Unit {0}} mask.how mask.full s.stage waiting out (Err fault) masked now) → (s.stage.waiting ≡ None → EndsCheck {A = Unit {0}} mask.how mask.full s.stage out (Err fault) masked now)
           → MaskEnds source_a source_b start before (Some (fault_value fault)) lines second_now now
-      unended_by (Some a) e fault waits none = fails_at_end source_a source_b start before at lines second mask out s wants second_now over a e (fault_value fault) now (waits a e).1
+      unended_by (Some a) e fault waits none = fails_at_end s wants second_now over a e (fault_value fault) now (waits a e).1
       unended_by None e fault waits none = absurd (none e)
 
       pub records_unended : (fault : Fault) → ((waiting : SequenceLine) → s.stage.waiting ≡ Some waiting → EndsRecords {A = Unit {0}} mask.how mask.full s.stage waiting out (Err fault) masked now)
@@ -149,11 +147,9 @@ wanted_of WantB = WantBed
 wanted_of WantNothing = Nothing
 
 is_wanted : (want : MaskWant) (of_two : Want) → wanted_by want ≡ of_two → want ≡ wanted_of of_two
-is_wanted WantLine of_two e = ap wanted_of e
-is_wanted WantBed of_two e = ap wanted_of e
-is_wanted Nothing of_two e = ap wanted_of e
+is_wanted want of_two e = grind arith
 
-module _ {A B : Type 0} (source_a : Source A) (source_b : Source B) (start : MaskRun A B) (out : Output) (old : MaskRun A B) (grown : Output) (s : MaskComes source_a source_b start out old grown) where
+module _ {A B : Type 0} {source_a : Source A} {source_b : Source B} {start : MaskRun A B} {out : Output} {old : MaskRun A B} {grown : Output} (s : MaskComes source_a source_b start out old grown) where
   pub none_first : line_fault old.lines ≡ None
   none_first = s.goes.1.comes.first_passes.clear
 
@@ -202,10 +198,10 @@ module _ {A B : Type 0} (source_a : Source A) (source_b : Source B) (start : Mas
   )
 
   abbrev Filled : MaskRun A B → Type 0
-  Filled = IsLessOrReady is_mask_ready left_to_mask old
+  Filled = IsLessOrReady (mask_run source_a source_b) old
 
   abbrev Leads : {T : Type 0} → (MaskRun A B → Type 0) → Result T Fault → MaskRun A B → Output → Type 0
-  Leads = LeadsTo (MaskComes source_a source_b) (MaskIsOver source_a source_b) start out
+  Leads = LeadsTo (mask_run source_a source_b) start out
 
   -- ---- the lines are read on
 
@@ -215,14 +211,14 @@ module _ {A B : Type 0} (source_a : Source A) (source_b : Source B) (start : Mas
 
     pub lines_filled : FillsLines source_a old.lines (Ok true) lines_now → HasRead source_a.is_read old.lines lines_now → MaskComes source_a source_b start out with_lines grown × Filled with_lines
     lines_filled fills read =
-        let f = line_filled source_a source_b start out s.goes.0 old.lines (view_of old.records) old.mask grown s.goes.1 (is_wanted old.mask.want WantA wants) lines_now fills.kept fills.answers in
+        let f = line_filled s.goes.1 (is_wanted old.mask.want WantA wants) lines_now fills.kept fills.answers in
         (came with_lines grown f.0 read same_second, f.1)
 
     pub lines_over : FillsLines source_a old.lines (Ok false) lines_now → HasRead source_a.is_read old.lines lines_now → (masked : Masking)
         → ((stage : MaskStage) → MaskStandsAt stage old.mask → MaskMovesTo old.mask.how old.mask.full (with_lines_ended stage) masked)
         → MaskComes source_a source_b start out (record old { lines = lines_now; mask = masked }) grown × Filled (record old { lines = lines_now; mask = masked })
     lines_over fills read masked stands =
-        let f = lines_ended source_a source_b start out s.goes.0 old.lines (view_of old.records) old.mask grown s.goes.1 (is_wanted old.mask.want WantA wants) lines_now fills.kept fills.answers masked (stands s.goes.1.stage s.goes.1.stands) in
+        let f = lines_ended s.goes.1 (is_wanted old.mask.want WantA wants) lines_now fills.kept fills.answers masked (stands s.goes.1.stage s.goes.1.stands) in
         (came (record old { lines = lines_now; mask = masked }) grown f.0 read same_second, f.1)
 
     pub lines_stopped : {T : Type 0} (fault : Fault) (result : Result T Fault) → IsErrAnd result (λ e. e ≡ fault) → FillsLines source_a old.lines (Err fault) lines_now
@@ -230,7 +226,7 @@ module _ {A B : Type 0} (source_a : Source A) (source_b : Source B) (start : Mas
     lines_stopped {T} fault result is fills own =
         passed_on (λ (r : Result T Fault). Leads Filled r with_lines grown) result fault is
         (ended (Some (fault_value fault)) with_lines grown
-        (stops_lines source_a source_b start out s.goes.0 old.lines (view_of old.records) old.mask grown s.goes.1 (is_wanted old.mask.want WantA wants) (fault_value fault) lines_now fills.answers fills.kept)
+        (stops_lines s.goes.1 (is_wanted old.mask.want WantA wants) (fault_value fault) lines_now fills.answers fills.kept)
         (λ never. ((own none_first).read never, same_second)) (line_told_kept source_a.is_read old.lines lines_now fault fills.answers.kept none_first own) own_second)
 
   -- ---- the records are
@@ -241,14 +237,14 @@ module _ {A B : Type 0} (source_a : Source A) (source_b : Source B) (start : Mas
 
     pub records_filled : FillsBlocks source_b old.records (Ok true) records_now → MaskComes source_a source_b start out with_records grown × Filled with_records
     records_filled fills =
-        let f = record_filled source_a source_b start out s.goes.0 old.lines (view_of old.records) old.mask grown s.goes.1 (is_wanted old.mask.want WantB wants) (view_of records_now) (block_filled source_b old.records records_now fills) in
+        let f = record_filled s.goes.1 (is_wanted old.mask.want WantB wants) (view_of records_now) (block_filled source_b old.records records_now fills) in
         (came with_records grown f.0 same_first fills.own_failure, f.1)
 
     pub records_stopped : {T : Type 0} (fault : Fault) (result : Result T Fault) → IsErrAnd result (λ e. e ≡ fault) → FillsBlocks source_b old.records (Err fault) records_now → Leads Filled result with_records grown
     records_stopped {T} fault result is fills =
         passed_on (λ (r : Result T Fault). Leads Filled r with_records grown) result fault is
         (ended (Some (fault_value fault)) with_records grown
-        (stops_records source_a source_b start out s.goes.0 old.lines (view_of old.records) old.mask grown s.goes.1 (is_wanted old.mask.want WantB wants) (fault_value fault) (view_of records_now) (block_stopped source_b old.records records_now fault fills))
+        (stops_records s.goes.1 (is_wanted old.mask.want WantB wants) (fault_value fault) (view_of records_now) (block_stopped source_b old.records records_now fault fills))
         (λ never. (same_first, (fills.own_failure none_second).read never))
         own_first (told_kept source_b.is_read (fault_kept old.records) (view_of records_now).fault (below old.records) (below records_now) fault fills.answers.kept none_second fills.own_failure))
 
@@ -259,12 +255,12 @@ module _ {A B : Type 0} (source_a : Source A) (source_b : Source B) (start : Mas
       pub records_over : {T : Type 0} (answer : Result T Fault) → ((stage : MaskStage) (waiting : SequenceLine) → MaskStandsAt stage old.mask → stage.waiting ≡ Some waiting → EndsRecords old.mask.how old.mask.full stage waiting grown answer masked later)
           → ((stage : MaskStage) → MaskStandsAt stage old.mask → stage.waiting ≡ None → EndsCheck old.mask.how old.mask.full stage grown answer masked later) → Leads Filled answer with_end later
       records_over (Ok done) waits none =
-          let f = records_ended source_a source_b start out s.goes.0 old.lines (view_of old.records) old.mask grown s.goes.1 (is_wanted old.mask.want WantB wants) (view_of records_now) (block_over source_b old.records records_now fills) masked later done
+          let f = records_ended s.goes.1 (is_wanted old.mask.want WantB wants) (view_of records_now) (block_over source_b old.records records_now fills) masked later done
           (λ waiting e. waits s.goes.1.stage waiting s.goes.1.stands e) (λ e. none s.goes.1.stage s.goes.1.stands e) in
           (came with_end later f.0 same_first fills.own_failure, f.1)
       records_over (Err fault) waits none =
           ended (Some (fault_value fault)) with_end later
-          (records_unended source_a source_b start out s.goes.0 old.lines (view_of old.records) old.mask grown s.goes.1 (is_wanted old.mask.want WantB wants) (view_of records_now) (block_over source_b old.records records_now fills) masked later fault
+          (records_unended s.goes.1 (is_wanted old.mask.want WantB wants) (view_of records_now) (block_over source_b old.records records_now fills) masked later fault
           (λ waiting e. waits s.goes.1.stage waiting s.goes.1.stands e) (λ e. none s.goes.1.stage s.goes.1.stands e))
           (λ never. (same_first, fills.own_failure)) own_first
           (none_kept source_b.is_read (below old.records) (view_of records_now).fault (below records_now) fills.answers.goes)
@@ -273,7 +269,7 @@ module _ {A B : Type 0} (source_a : Source A) (source_b : Source B) (start : Mas
 
   module _ (new : MaskRun A B) (later : Output) (read : HasRead source_a.is_read old.lines new.lines) (read_second : HasRead source_b.is_read (below old.records) (below new.records))
       (keeps : line_fault new.lines ≡ line_fault old.lines) (keeps_second : fault_kept new.records ≡ fault_kept old.records) where
-    gave_by : {T : Type 0} (answer : Result T Fault) → AdvancesMask source_a source_b start out old.lines (view_of old.records) old.mask answer new.lines (view_of new.records) new.mask later → Leads (IsLessIfReady is_mask_ready left_to_mask old) answer new later
+    gave_by : {T : Type 0} (answer : Result T Fault) → AdvancesMask source_a source_b start out old.lines (view_of old.records) old.mask answer new.lines (view_of new.records) new.mask later → Leads (IsLessIfReady (mask_run source_a source_b) old) answer new later
     gave_by (Ok done) gives = (came new later gives.0 read read_second, (gives.1, gives.2))
     gave_by (Err fault) ends =
         ended (Some (fault_value fault)) new later ends (λ never. (read, read_second))
@@ -282,13 +278,13 @@ module _ {A B : Type 0} (source_a : Source A) (source_b : Source B) (start : Mas
 
     pub gave_both : {T : Type 0} (answer : Result T Fault)
         → ((start : MaskRun A B) (out : Output) → GoesOn source_a source_b start out old.lines (view_of old.records) old.mask grown → AdvancesMask source_a source_b start out old.lines (view_of old.records) old.mask answer new.lines (view_of new.records) new.mask later)
-        → Leads (IsLessIfReady is_mask_ready left_to_mask old) answer new later
+        → Leads (IsLessIfReady (mask_run source_a source_b) old) answer new later
     gave_both answer gives = gave_by answer (gives start out s.goes)
 
   -- both inputs have ended
   pub finished : wanted_by old.mask.want ≡ WantNothing → MaskIsOver source_a source_b start out None old grown
   finished wants =
-      ended None old grown (finishes source_a source_b start out s.goes.0 old.lines (view_of old.records) old.mask grown s.goes.1 (is_wanted old.mask.want WantNothing wants)) (λ never. (same_first, same_second)) own_first own_second
+      ended None old grown (finishes s.goes.1 (is_wanted old.mask.want WantNothing wants)) (λ never. (same_first, same_second)) own_first own_second
 
 blocks_format : {S : Type 0} (records : Blocks S) → (view_of records).format ≡ block_format
 unfolding view_of view_with

@@ -1,5 +1,5 @@
 -- What giving an engine that masks does, by the parts of a run.
-use Rattle.bt_lines.proofs.Std.{◌≡◌, ℕ, ◌+◌, ◌*◌, ◌<◌, ◌≤◌, Option, Some, Result, Ok, Err, is_some, length, suc, Bool, true, false, not, ◌||◌, List, [], ◌∷◌, ◌++◌, None, refl, sym, ap, ◌∙◌, subst, append-nil, append_assoc, option_to_list, inl, inr, ◌⊎◌, IfSome, IsSome, IsTrue, option_map, false≢true, or_left, or_right, map-append, IfSome_then}
+use Rattle.bt_lines.proofs.Std.{◌≡◌, arith, ℕ, ◌+◌, ◌*◌, ◌<◌, ◌≤◌, Option, Some, Result, Ok, Err, is_some, length, suc, Bool, true, false, not, List, [], ◌∷◌, ◌++◌, None, refl, sym, ap, ◌∙◌, subst, append-nil, append_assoc, option_to_list, inl, inr, ◌⊎◌, IfSome, IsTrue, false≢true, or_left, or_right, map-append}
 use Rattle.bt_lines.specs.declared.device.Source.{Ghosts as Source}
 use Rattle.bt_lines.specs.model.Fault.{FaultValue}
 use Rattle.bt_lines.specs.calls.Names.{fault_value}
@@ -13,7 +13,7 @@ use Rattle.bt_bed.specs.model.Sorted.{Locus}
 use Rattle.bt_bed.specs.calls.Reading.{MemberReader, room, ahead_in, first_from, good_coming, state_behind}
 use Rattle.bt_seq.specs.calls.MaskStage.{MaskStage, given, reached, reached_by, want_of, with_bed_ended, with_lines_ended}
 use Rattle.bt_seq.specs.calls.MaskState.{Masking}
-use Rattle.bt_seq.specs.model.Masked.{Reached, SequenceLine, decided, is_unnamed, masked_line, names_of, no_sequence, left_after, line_says, sequence_format}
+use Rattle.bt_seq.specs.model.Masked.{Reached, SequenceLine, decided, masked_line, names_of, no_sequence, left_after, line_says, sequence_format}
 use Rattle.bt_seq.specs.declared.mask.mask_want.MaskWant.{MaskWant}
 use Rattle.bt_tool.specs.declared.loops.masking.MaskRun.{MaskRun}
 use Rattle.bt_tool.specs.inside.Feed.{IsKeptBelow, member_items}
@@ -29,7 +29,9 @@ use Rattle.bt_bed.specs.calls.Blocks.{view_of}
 use Rattle.bt_bed.specs.model.Good.{Format, Good, Member, AreInBlocks}
 use Rattle.bt_seq.proofs.lemmas.definitions.MaskPrefixLemmas.{decided_stays, masked_before, first_is_told, lack_none}
 use Rattle.bt_seq.specs.calls.MaskSteps.{FailsAtRecord, IsOpen, MaskMovesTo}
-use Rattle.bt_seq.proofs.lemmas.mask.steps.CopyLemmas.{last_more}
+use Rattle.bt_seq.proofs.lemmas.mask.steps.CopyLemmas.{last_waits, wants_bed, wants_line}
+use Rattle.bt_seq.proofs.lemmas.mask.steps.AdvanceLemmas.{going}
+use Rattle.bt_seq.proofs.lemmas.mask.steps.LineStepLemmas.{open_undecided}
 use Rattle.bt_seq.specs.declared.mask.mask_how.MaskHow.{MaskHow}
 use Rattle.bt_seq.specs.declared.mask.mask_want.MaskWant.TheVariants.{Line as WantLine, Bed as WantBed, Nothing}
 use Rattle.bt_tool.specs.model.Written.{is_fasta_kind, is_mask_kind}
@@ -65,31 +67,8 @@ module _ {A B : Type 0} (source_a : Source A) (source_b : Source B) (start : Mas
 -- Lemmas on how far a masking engine over two readers has come: what it wants, and what its inputs still have then.
 
 -- what is wanted shows what waits
-never_line : (waits lines_ended bed_ended : Bool) → want_of waits lines_ended bed_ended ≡ WantLine → (waits ≡ false) × (lines_ended ≡ false)
-never_line true l b e = absurd (let apart : WantBed ≡ WantLine = e in cc)
-never_line false false b e = (refl, refl)
-never_line false true false e = absurd (let apart : WantBed ≡ WantLine = e in cc)
-never_line false true true e = absurd (let apart : Nothing ≡ WantLine = e in cc)
-
-pub bed_goes : (waits lines_ended bed_ended : Bool) → want_of waits lines_ended bed_ended ≡ WantBed → waits ≡ false → (lines_ended ≡ true) × (bed_ended ≡ false)
-bed_goes true l b e w = absurd (false≢true (sym w))
-bed_goes false false b e w = absurd (let apart : WantLine ≡ WantBed = e in cc)
-bed_goes false true true e w = absurd (let apart : Nothing ≡ WantBed = e in cc)
-bed_goes false true false e w = (refl, refl)
-
-pub all_ended : (waits lines_ended bed_ended : Bool) → want_of waits lines_ended bed_ended ≡ Nothing → (waits ≡ false) × (lines_ended ≡ true) × (bed_ended ≡ true)
-all_ended true l b e = absurd (let apart : WantBed ≡ Nothing = e in cc)
-all_ended false false b e = absurd (let apart : WantLine ≡ Nothing = e in cc)
-all_ended false true false e = absurd (let apart : WantBed ≡ Nothing = e in cc)
-all_ended false true true e = (refl, refl, refl)
-
-none_by : (o : Option SequenceLine) → is_some o ≡ false → o ≡ None
-none_by None e = refl
-none_by (Some x) e = absurd (false≢true (sym e))
-
--- a line after the first header isn't decided if there is no record
-pub named_open : (line : SequenceLine) → is_unnamed line.names ≡ false → decided line [] ≡ false
-named_open line e = ap (λ b. b || false) e
+wants_none : (w : Option SequenceLine) (lines_ended bed_ended : Bool) → want_of (is_some w) lines_ended bed_ended ≡ Nothing → (w ≡ None) × (lines_ended ≡ true) × (bed_ended ≡ true)
+wants_none w lines_ended bed_ended e = grind arith
 
 -- how far the lines given have come is what is known after them
 reached_said : (full : Bool) (line : SequenceLine) (lines : List SequenceLine) (state : Reached)
@@ -101,12 +80,6 @@ pub reached_behind : (full : Bool) (lines : List SequenceLine) → state_behind 
 reached_behind full [] = refl
 reached_behind full (line ∷ lines) = reached_said full line lines (record { names = []; bases = 0 })
 
--- the names of the sequences of lines are those that the last line has come to
-names_reached : (lines : List SequenceLine) → names_of lines ≡ (reached_by (last_or None lines)).names
-names_reached [] = refl
-names_reached (line ∷ []) = refl
-names_reached (line ∷ next ∷ lines) = names_reached (next ∷ lines)
-
 -- the last line is one of them
 last_leaves : (lines : List SequenceLine) (line : SequenceLine) (records : List Feature) → last_or None lines ≡ Some line → decided line records ≡ false → IsTrue (leaves_some lines records)
 last_leaves [] line records e open_at = cc
@@ -116,34 +89,32 @@ last_leaves (x ∷ []) line records e open_at =
 last_leaves (x ∷ next ∷ lines) line records e open_at = or_right (not (decided x records)) (leaves_some (next ∷ lines) records) (last_leaves (next ∷ lines) line records e open_at)
 
 open_leaves : (lines : List SequenceLine) (last : Option SequenceLine) (records : List Feature) → last_or None lines ≡ last → IsOpen last records → (records ≡ []) ⊎ IsTrue (leaves_some lines records)
-open_leaves lines None records e is_open = inl is_open
-open_leaves lines (Some line) records e (inl none) = inl none
-open_leaves lines (Some line) records e (inr open_at) = inr (last_leaves lines line records e open_at)
+open_leaves lines last records e is_open = grind (arith, last_leaves)
 
 -- the first record without a sequence
 told_by : (names : List (List ℕ)) (good : Option (Good Feature)) (past : List (Member Feature)) (m : Member Feature) (fault : FaultValue) → fault ≡ fault_at_line Second m.line NoSequence
     → is_some (left_after names (member_items past)) ≡ true → left_after names (member_items (past ++ m ∷ [])) ≡ None
     → IfSome good (λ good. (rest : List (Member Feature)) × (good.members ≡ (past ++ m ∷ []) ++ rest)) → IfSome good (λ good. no_sequence names good.members ≡ Some fault)
-told_by names good past m fault is owned unowned begins =
-    IfSome_then good begins (λ good parts. ap (no_sequence names) (parts.1 ∙ append_assoc past (m ∷ []) parts.0) ∙ first_is_told names past parts.0 m owned unowned ∙ ap Some (sym is))
+told_by names good past m fault is owned unowned begins = grind (arith, append_assoc, first_is_told)
 
 -- a record that was ahead still is
 kept_filled : {S State : Type 0} (device : Source S) (now new : MemberReader S Feature State) (r : Feature) → item_ahead now ≡ Some r → IsFilled device now new → item_ahead new ≡ Some r
-kept_filled {S} {State} device now new r was filled = ap (λ (x : MemberReader S Feature State). item_ahead x) (filled.gives.again (some_ahead (ahead_in now) r was)) ∙ was
-  where
-    some_ahead : (o : Option (Member Feature)) (r : Feature) → option_map (λ m. m.item) o ≡ Some r → IsSome o
-    some_ahead None r e = cc
-    some_ahead (Some m) r e = refl
+kept_filled {S} {State} device now new r was filled = grind arith
 
 -- none is if nothing is buffered
 none_ahead : {S State : Type 0} (now : MemberReader S Feature State) (r : Feature) → now.buffered ≡ [] → item_ahead now ≡ Some r → ⊥
 none_ahead now r none was = let apart : None ≡ Some r = sym (ahead_first now ∙ ap first_of none) ∙ was in cc
 
-module _ {A B : Type 0} (source_a : Source A) (source_b : Source B) (start : MaskRun A B) (before : Output) where
-  abbrev pub join : JoinDef SequenceLine Feature
+pub wrong_first : (full : Bool) (state : Reached) (line : TextLine) (kind : Kind) → line_says full state line ≡ Err kind → is_fasta_kind kind ≡ true
+wrong_first full state line kind e = rw (wrong_is_text full state line kind e) refl
+
+-- masking has come so far
+module _ {A B : Type 0} {source_a : Source A} {source_b : Source B} {start : MaskRun A B} {before : Output} {at : Reached} {lines : LineReader A} {second : MemberReader B Feature (Option Locus)}
+    {mask : Masking} {grown : Output} (s : Masks source_a source_b start before at lines second mask grown) where
+  abbrev join : JoinDef SequenceLine Feature
   join = mask_join start.mask.how
 
-  abbrev pub pair : Pair A B SequenceLine Feature Reached (Option Locus)
+  abbrev pair : Pair A B SequenceLine Feature Reached (Option Locus)
   pair = begun_pair source_a source_b start before
 
   abbrev Going : Reached → LineReader A → MemberReader B Feature (Option Locus) → Masking → Output → Type 0
@@ -152,251 +123,196 @@ module _ {A B : Type 0} (source_a : Source A) (source_b : Source B) (start : Mas
   abbrev EndsAt : Option FaultValue → LineReader A → MemberReader B Feature (Option Locus) → Output → Type 0
   EndsAt = MaskEnds source_a source_b start before
 
-  wrong_first : (state : Reached) (line : TextLine) (kind : Kind) → line_says start.mask.full state line ≡ Err kind → is_fasta_kind kind ≡ true
-  wrong_first state line kind e = subst (λ (k : Kind). is_fasta_kind k ≡ true) (sym (wrong_is_text start.mask.full state line kind e)) refl
+  -- it ends where the lines have come so far
+  pub ends_at : {fault : Option FaultValue} (reached : Reached) {new : LineReader A} {second_now : MemberReader B Feature (Option Locus)} {now : Output}
+      → PairEnds join pair before fault (line_members start.mask.full reached new) second_now now → EndsAt fault new second_now now
+  ends_at reached {new} ends = (line_members start.mask.full reached new, refl, ends, λ input line e. e)
 
-  module _ (at : Reached) (lines : LineReader A) (second : MemberReader B Feature (Option Locus)) (mask : Masking) (grown : Output) (s : Going at lines second mask grown) where
-    wrong_second : (state : Option Locus) (line : TextLine) (kind : Kind) → (view_of start.records).format.says state line ≡ Err kind → is_mask_kind kind ≡ true
-    wrong_second state line kind e = says_of_blocks state line.text kind (ap (λ (f : Format Feature (Option Locus)). f.says state line) (sym s.blocks_is) ∙ e)
+  wrong_second : (state : Option Locus) (line : TextLine) (kind : Kind) → (view_of start.records).format.says state line ≡ Err kind → is_mask_kind kind ≡ true
+  wrong_second state line kind e = says_of_blocks state line.text kind (ap (λ (f : Format Feature (Option Locus)). f.says state line) (sym s.blocks_is) ∙ e)
 
-    abbrev stage : MaskStage
-    stage = s.stage
+  abbrev stage : MaskStage
+  stage = s.stage
 
-    abbrev pub first : MemberReader A SequenceLine Reached
-    first = line_members start.mask.full at lines
+  abbrev first : MemberReader A SequenceLine Reached
+  first = line_members start.mask.full at lines
 
-    -- the lines given have come as far as is known
-    pub come_so_far : at ≡ reached stage
-    come_so_far =
-        s.comes.first_passes.state ∙ reached_behind start.mask.full (member_items s.past_first) ∙ ap (λ (l : List SequenceLine). reached_by (last_or None l)) (sym s.comes.all_given)
+  -- the lines given have come as far as is known
+  pub come_so_far : at ≡ reached stage
+  come_so_far = grind (arith, reached_behind)
 
-    pub asked : stage.lines_ended ≡ false → join.Asks (given stage) stage.taken
-    asked going = open_leaves (given stage) (last_or None (given stage)) stage.taken refl (s.stands.is_open going)
+  pub asked : stage.lines_ended ≡ false → join.Asks (given stage) stage.taken
+  asked going = open_leaves (given stage) (last_or None (given stage)) stage.taken refl (s.stands.is_open going)
 
-    pub asks_for : stage.lines_ended ≡ false → AsksFor join pair before s.past_first second
-    asks_for going = stop.asks_now join pair before (stage_of stage) s.past_first s.past_second first second grown s.comes (asked going)
+  pub asks_for : stage.lines_ended ≡ false → AsksFor join pair before s.past_first second
+  asks_for going = stop.asks_now s.comes (asked going)
 
-    as_it_is : MaskMovesTo mask.how mask.full stage mask
-    as_it_is = record { stands = s.stands; how_is = refl; full_is = refl }
+  as_it_is : MaskMovesTo mask.how mask.full stage mask
+  as_it_is = record { stands = s.stands; how_is = refl; full_is = refl }
 
-    -- no more was given, and the engine is at another stage
-    goes_on : (at : Reached) (new : LineReader A) (second_now : MemberReader B Feature (Option Locus)) (masked : Masking) (now : Output) (next : MaskStage) → MaskMovesTo mask.how mask.full next masked
-        → Comes join pair before (stage_of next) s.past_first s.past_second (line_members start.mask.full at new) second_now now
-        → ((r : Feature) → next.ahead ≡ Some r → item_ahead second_now ≡ Some r) → (next.lines_ended ≡ true → has_ended new ≡ true) → Going at new second_now masked now
-    goes_on at new second_now masked now next moves comes kept_ahead lines_over = record {
-      past_first = s.past_first;
-      past_second = s.past_second;
-      stage = next;
-      stands = moves.stands;
-      first_is = s.first_is;
-      blocks_is = s.blocks_is;
-      how_is = moves.how_is ∙ s.how_is;
-      full_is = moves.full_is ∙ s.full_is;
-      comes = comes;
-      kept_ahead = kept_ahead;
-      lines_over = lines_over;
-    }
+  -- no more was given, and the engine is at another stage
+  goes_on : {new : LineReader A} {second_now : MemberReader B Feature (Option Locus)} {masked : Masking} {now : Output} {next : MaskStage} → MaskMovesTo mask.how mask.full next masked
+      → Comes join pair before (stage_of next) s.past_first s.past_second (line_members start.mask.full at new) second_now now
+      → ((r : Feature) → next.ahead ≡ Some r → item_ahead second_now ≡ Some r) → (next.lines_ended ≡ true → has_ended new ≡ true) → Going at new second_now masked now
+  goes_on {next} moves comes kept_ahead lines_over = record {
+    past_first = s.past_first;
+    past_second = s.past_second;
+    stage = next;
+    stands = moves.stands;
+    first_is = s.first_is;
+    blocks_is = s.blocks_is;
+    how_is = moves.how_is ∙ s.how_is;
+    full_is = moves.full_is ∙ s.full_is;
+    comes = comes;
+    kept_ahead = kept_ahead;
+    lines_over = lines_over;
+  }
 
-    -- if no line waits, the block of each record taken belongs to a sequence of the lines
-    module _ (none : stage.waiting ≡ None) where
-      pub names_alone : names_of stage.written ≡ (reached stage).names
-      names_alone =
-          names_reached stage.written
-          ∙ ap (λ (l : List SequenceLine). (reached_by (last_or None l)).names) (sym (ap (λ (o : Option SequenceLine). stage.written ++ option_to_list o) none ∙ append-nil stage.written))
+  -- if no line waits, the block of each record taken belongs to a sequence of the lines
+  module _ (none : stage.waiting ≡ None) where
+    names_alone : names_of stage.written ≡ (reached stage).names
+    names_alone = grind (arith, append-nil)
 
-      pub owned_alone : AreOwned stage.written (member_items s.past_second)
-      owned_alone =
-          rw (← s.comes.all_taken) (subst (λ (names : List (List ℕ)). is_some (left_after names stage.taken) ≡ true) (sym names_alone) s.stands.owned)
+    owned_alone : AreOwned stage.written (member_items s.past_second)
+    owned_alone =
+        rw (← s.comes.all_taken, names_alone) s.stands.owned
 
-      pub none_lacks : join.last stage.written s.past_second ≡ None
-      none_lacks = lack_none (names_of stage.written) s.past_second owned_alone
+    none_lacks : join.last stage.written s.past_second ≡ None
+    none_lacks = lack_none (names_of stage.written) s.past_second owned_alone
 
-    -- a line that waits isn't decided by what was taken
-    undecided_by : (line : SequenceLine) → is_unnamed line.names ≡ false → (stage.taken ≡ []) ⊎ (decided line stage.taken ≡ false) → decided line stage.taken ≡ false
-    undecided_by line named (inl none) = ap (decided line) none ∙ named_open line named
-    undecided_by line named (inr is) = is
+  -- a line that waits isn't decided by what was taken
+  undecided : (line : SequenceLine) → stage.waiting ≡ Some line → decided line stage.taken ≡ false
+  undecided line waits =
+      let w = s.stands.waits line waits in
+      open_undecided line stage.taken w.named (rw (last_waits stage line waits) at (s.stands.is_open w.lines))
 
-    pub undecided : (line : SequenceLine) → stage.waiting ≡ Some line → decided line stage.taken ≡ false
-    undecided line waits =
-        let w = s.stands.waits line waits in
-        let last : last_or None (given stage) ≡ Some line = ap (λ (o : Option SequenceLine). last_or None (stage.written ++ option_to_list o)) waits ∙ last_more stage.written line in
-        undecided_by line w.named (subst (λ (o : Option SequenceLine). IsOpen o stage.taken) last (s.stands.is_open w.lines))
+  -- a line is wanted
+  module _ (wants : mask.want ≡ WantLine) where
+    pub no_line : (stage.waiting ≡ None) × (stage.lines_ended ≡ false)
+    no_line = wants_line stage.waiting stage.lines_ended stage.bed_ended (sym s.stands.want_is ∙ wants)
 
-    -- a line is wanted
-    module _ (wants : mask.want ≡ WantLine) where
-      no_line : (is_some stage.waiting ≡ false) × (stage.lines_ended ≡ false)
-      no_line = never_line (is_some stage.waiting) stage.lines_ended stage.bed_ended (sym s.stands.want_is ∙ wants)
+    -- one is buffered now
+    pub line_made : (new : LineReader A) → MakesLine source_a lines new → (IsKept source_a lines → IsKept source_a new) → Going at new second mask grown
+    line_made new makes kept =
+        goes_on as_it_is
+        (turned.reads_first s.comes no_line.0 no_line.1 (line_members start.mask.full at new)
+        (passes_made source_a start.mask.full (line_members start.mask.full nothing_reached start.lines) s.past_first at lines new s.comes.first_passes makes kept))
+        s.kept_ahead (λ e. absurd (false≢true (sym no_line.1 ∙ e)))
 
-      pub none_waits : stage.waiting ≡ None
-      none_waits = none_by stage.waiting no_line.0
+    -- the end of the lines was given
+    pub ends_lines : (new : LineReader A) (masked : Masking) → GivesEnd source_a lines new → (IsKept source_a lines → IsKept source_a new) → MaskMovesTo mask.how mask.full (with_lines_ended stage) masked → Going at new second masked grown
+    ends_lines new masked ends kept stands =
+        let over = gives_over source_a start.mask.full at lines new kept ends in
+        goes_on stands
+        (turned.ends_first s.comes no_line.0 no_line.1 (line_members start.mask.full at new) over) s.kept_ahead (λ e. over.ends.ends)
 
-      all_done : member_items s.past_first ≡ stage.written
-      all_done = sym s.comes.all_given ∙ ap (λ (o : Option SequenceLine). stage.written ++ option_to_list o) none_waits ∙ append-nil stage.written
+    -- a line couldn't be read
+    pub stops_lines : (fault : FaultValue) (new : LineReader A) → GivesFault source_a lines fault new → (IsKept source_a lines → IsKept source_a new) → EndsAt (Some fault) new second grown
+    stops_lines fault new gives kept =
+        ends_at at (stop.stops_first s.comes asks_for (λ known. tt) (wrong_first start.mask.full) no_line.0 no_line.1 fault (line_members start.mask.full at new) (gives_unread source_a start.mask.full at lines new kept fault gives))
 
-      -- one is buffered now
-      pub line_made : (new : LineReader A) → MakesLine source_a lines new → (IsKept source_a lines → IsKept source_a new) → Going at new second mask grown
-      line_made new makes kept =
-          goes_on at new second mask grown stage as_it_is
-          (turned.reads_first join pair before (stage_of stage) s.past_first s.past_second first second grown s.comes none_waits no_line.1 (line_members start.mask.full at new)
-          (passes_made source_a start.mask.full (line_members start.mask.full nothing_reached start.lines) s.past_first at lines new s.comes.first_passes makes kept))
-          s.kept_ahead (λ e. absurd (false≢true (sym no_line.1 ∙ e)))
+  -- a record is wanted, only while they may come
+  module _ (wants : mask.want ≡ WantBed) where
+    goes : stage.bed_ended ≡ false
+    goes = going s.stands wants stage.waiting refl
 
-      -- the end of the lines was given
-      pub ends_lines : (new : LineReader A) (masked : Masking) → GivesEnd source_a lines new → (IsKept source_a lines → IsKept source_a new) → MaskMovesTo mask.how mask.full (with_lines_ended stage) masked → Going at new second masked grown
-      ends_lines new masked ends kept stands =
-          let over = gives_over source_a start.mask.full at lines new kept ends in
-          goes_on at new second masked grown (with_lines_ended stage) stands
-          (turned.ends_first join pair before (stage_of stage) s.past_first s.past_second first second grown s.comes none_waits no_line.1 (line_members start.mask.full at new) over) s.kept_ahead (λ e. over.ends.ends)
+    pub lines_done : stage.waiting ≡ None → stage.lines_ended ≡ true
+    lines_done e = (wants_bed stage.lines_ended stage.bed_ended (rw e at (sym s.stands.want_is ∙ wants))).0
 
-      -- a line couldn't be read
-      pub stops_lines : (fault : FaultValue) (new : LineReader A) → GivesFault source_a lines fault new → (IsKept source_a lines → IsKept source_a new) → EndsAt (Some fault) new second grown
-      stops_lines fault new gives kept = (
-        line_members start.mask.full at new,
-        refl,
-        stop.stops_first join pair before (stage_of stage) s.past_first s.past_second first second grown s.comes asks_for (λ known. tt) wrong_first none_waits no_line.1 fault (line_members start.mask.full at new)
-            (gives_unread source_a start.mask.full at lines new kept fault gives),
-        λ input line e. e,
-      )
+    -- one is buffered now
+    pub record_made : (second_now : MemberReader B Feature (Option Locus)) → IsFilled source_b second second_now → Going at lines second_now mask grown
+    record_made second_now filled =
+        goes_on as_it_is
+        (turned.fills_second s.comes goes second_now filled) (λ r e. kept_filled source_b second second_now r (s.kept_ahead r e) filled) s.lines_over
 
-    -- a record is wanted, only while they may come
-    module _ (wants : mask.want ≡ WantBed) where
-      want_bed : want_of (is_some stage.waiting) stage.lines_ended stage.bed_ended ≡ WantBed
-      want_bed = sym s.stands.want_is ∙ wants
+    -- the end of the records was given
+    module _ (second_now : MemberReader B Feature (Option Locus)) (over : IsOver source_b second second_now) where
+      -- and the waiting line was written
+      pub ends_waiting : (a : SequenceLine) → stage.waiting ≡ Some a → (masked : Masking) (now : Output) → MaskMovesTo mask.how mask.full (with_bed_ended stage) masked → Grown grown (masked_line mask.how stage.taken a) now
+          → Going at lines second_now masked now
+      ends_waiting a waits masked now stands adds =
+          goes_on stands
+          (turned.ends_waiting s.comes goes second_now over a waits now (subst (λ (h : MaskHow). Grown grown (masked_line h stage.taken a) now) s.how_is adds))
+          (λ r e. absurd (none_ahead second r over.ends.was_none (s.kept_ahead r e))) s.lines_over
 
-      goes_by : (o : Option SequenceLine) → stage.waiting ≡ o → stage.bed_ended ≡ false
-      goes_by None e = (bed_goes (is_some stage.waiting) stage.lines_ended stage.bed_ended want_bed (ap is_some e)).1
-      goes_by (Some line) e = (s.stands.waits line e).bed
+      -- or none waited
+      pub ends_alone : stage.waiting ≡ None → (masked : Masking) → MaskMovesTo mask.how mask.full (with_bed_ended stage) masked → Going at lines second_now masked grown
+      ends_alone none masked stands =
+          goes_on stands
+          (turned.ends_alone s.comes goes second_now over none) (λ r e. absurd (none_ahead second r over.ends.was_none (s.kept_ahead r e))) s.lines_over
 
-      pub goes : stage.bed_ended ≡ false
-      goes = goes_by stage.waiting refl
+      -- the waiting line wasn't written
+      pub fails_at_end : (a : SequenceLine) → stage.waiting ≡ Some a → (fault : FaultValue) (now : Output) → FailsToAdd grown (masked_line mask.how stage.taken a) fault now → EndsAt (Some fault) lines second_now now
+      fails_at_end a waits fault now fails =
+          ends_at at (stop.fails_at_end s.comes asks_for (λ known. tt) a waits (asked (s.stands.waits a waits).lines) goes fault second_now now over (subst (λ (h : MaskHow). FailsToAdd grown (masked_line h stage.taken a) fault now) s.how_is fails))
 
-      pub lines_done : stage.waiting ≡ None → stage.lines_ended ≡ true
-      lines_done e = (bed_goes (is_some stage.waiting) stage.lines_ended stage.bed_ended want_bed (ap is_some e)).0
+    -- the second input couldn't give a record
+    stops_by : (o : Option SequenceLine) → stage.waiting ≡ o → (fault : FaultValue) (second_now : MemberReader B Feature (Option Locus)) → IsStopped source_b second fault second_now → EndsAt (Some fault) lines second_now grown
+    stops_by None e fault second_now stopped =
+        ends_at at (stop.stops_behind s.comes asks_for (λ known. tt) (lines_done e) wrong_second goes (none_lacks e) fault second_now stopped)
+    stops_by (Some a) e fault second_now stopped =
+        ends_at at (stop.stops_second s.comes asks_for (λ known. tt) a e wrong_second (asked (s.stands.waits a e).lines) goes (λ known none. undecided a e) fault second_now stopped)
 
-      -- one is buffered now
-      pub record_made : (second_now : MemberReader B Feature (Option Locus)) → IsFilled source_b second second_now → Going at lines second_now mask grown
-      record_made second_now filled =
-          goes_on at lines second_now mask grown stage as_it_is
-          (turned.fills_second join pair before (stage_of stage) s.past_first s.past_second first second grown s.comes goes second_now filled) (λ r e. kept_filled source_b second second_now r (s.kept_ahead r e) filled) s.lines_over
+    pub stops_records : (fault : FaultValue) (second_now : MemberReader B Feature (Option Locus)) → IsStopped source_b second fault second_now → EndsAt (Some fault) lines second_now grown
+    stops_records fault second_now stopped = stops_by stage.waiting refl fault second_now stopped
 
-      -- the end of the records was given
-      module _ (second_now : MemberReader B Feature (Option Locus)) (over : IsOver source_b second second_now) where
-        -- and the waiting line was written
-        pub ends_waiting : (a : SequenceLine) → stage.waiting ≡ Some a → (masked : Masking) (now : Output) → MaskMovesTo mask.how mask.full (with_bed_ended stage) masked → Grown grown (masked_line mask.how stage.taken a) now
-            → Going at lines second_now masked now
-        ends_waiting a waits masked now stands adds =
-            goes_on at lines second_now masked now (with_bed_ended stage) stands
-            (turned.ends_waiting join pair before (stage_of stage) s.past_first s.past_second first second grown s.comes goes second_now over a waits now (subst (λ (h : MaskHow). Grown grown (masked_line h stage.taken a) now) s.how_is adds))
-            (λ r e. absurd (none_ahead second r over.ends.was_none (s.kept_ahead r e))) s.lines_over
+  -- a record is buffered, and failed
+  module _ (wants : mask.want ≡ WantBed) (r : Feature) (behind : List Feature) (buffered : second.buffered ≡ r ∷ behind) where
+    abbrev m : Member Feature
+    m = record { line = suc (lines_given second.below); item = r }
 
-        -- or none waited
-        pub ends_alone : stage.waiting ≡ None → (masked : Masking) → MaskMovesTo mask.how mask.full (with_bed_ended stage) masked → Going at lines second_now masked grown
-        ends_alone none masked stands =
-            goes_on at lines second_now masked grown (with_bed_ended stage) stands
-            (turned.ends_alone join pair before (stage_of stage) s.past_first s.past_second first second grown s.comes goes second_now over none) (λ r e. absurd (none_ahead second r over.ends.was_none (s.kept_ahead r e))) s.lines_over
+    next : item_ahead second ≡ Some r
+    next = ahead_first second ∙ ap first_of buffered
 
-        -- the waiting line wasn't written
-        pub fails_at_end : (a : SequenceLine) → stage.waiting ≡ Some a → (fault : FaultValue) (now : Output) → FailsToAdd grown (masked_line mask.how stage.taken a) fault now → EndsAt (Some fault) lines second_now now
-        fails_at_end a waits fault now fails = (
-          first,
+    m_ahead : ahead_in second ≡ Some m
+    m_ahead = ap (first_from (suc (lines_given second.below))) buffered
+
+    seen : stage.taken ++ option_to_list (item_ahead second) ≡ stage.taken ++ r ∷ []
+    seen = ap (λ (o : Option Feature). stage.taken ++ option_to_list o) next
+
+    -- if it decides the waiting line, that stays as it is
+    settles_decided : (a : SequenceLine) → decided a (stage.taken ++ r ∷ []) ≡ true → IsKnown pair
+        → SettlesPair join (stage.written ++ a ∷ []) (s.comes.bytes ++ masked_line start.mask.how stage.taken a) (stage.taken ++ option_to_list (item_ahead second)) stage.bed_ended
+    settles_decided a decides known =
+        settles_with join stage.written s.comes.bytes (stage.taken ++ option_to_list (item_ahead second)) stage.bed_ended a (masked_line start.mask.how stage.taken a) (s.comes.settles known)
+        (λ rest ordered.
+        let front : (stage.taken ++ option_to_list (item_ahead second)) ++ rest ≡ (stage.taken ++ r ∷ []) ++ rest = ap (λ (l : List Feature). l ++ rest) seen in
+        let parts : (stage.taken ++ option_to_list (item_ahead second)) ++ rest ≡ stage.taken ++ r ∷ rest = front ∙ append_assoc stage.taken (r ∷ []) rest in (
+          ap (decided a) front ∙ decided_stays a (stage.taken ++ r ∷ []) rest decides,
+          ap (λ (l : List Feature). masked_line start.mask.how l a) parts ∙ masked_before start.mask.how a stage.taken r decides rest (subst AreInBlocks parts ordered),
+        ))
+
+    unowned_by : (none : stage.waiting ≡ None) → left_after (reached stage).names (stage.taken ++ r ∷ []) ≡ None → left_after (names_of stage.written) (member_items (s.past_second ++ m ∷ [])) ≡ None
+    unowned_by none e = grind (arith, names_alone, map-append)
+
+    fails_by : (o : Option SequenceLine) → stage.waiting ≡ o → (fault : FaultValue) (now : Output) → FailsAtRecord start.mask.how start.mask.full o stage r (suc (lines_given second.below)) grown fault now → EndsAt (Some fault) lines second now
+    fails_by None none fault now lacks =
+        ends_at at (rw lacks.same_output
+        (stop.ends_rest s.comes asks_for (λ known. tt) (lines_done wants none) second
+        (stop.none_low second s.comes.second_passes.going) s.comes.second_passes.bytes s.past_second (Some fault)
+        (inr (inr (
+          fault,
           refl,
-          stop.fails_at_end join pair before (stage_of stage) s.past_first s.past_second first second grown s.comes asks_for (λ known. tt) a waits (asked (s.stands.waits a waits).lines) goes fault second_now now over (subst (λ (h : MaskHow). FailsToAdd grown (masked_line h stage.taken a) fault now) s.how_is fails),
-          λ input line e. e,
-        )
+          record {
+            line = m.line;
+            kind = NoSequence;
+            is = lacks.is;
+            of_kind = refl;
+            told = told_by (names_of stage.written) (good_coming source_b.left (view_of start.records)) s.past_second m fault lacks.is (owned_alone none) (unowned_by none lacks.unowned)
+                (stop.seen_begins source_b.left (good_coming source_b.left (view_of start.records)) second s.past_second (Some m) m_ahead s.comes.second_passes.come s.comes.second_passes.ahead);
+            serves = stop.second_serves s.comes;
+          },
+        )))))
+    fails_by (Some a) waits fault now (inl writes) =
+        ends_at at (stop.fails_waiting s.comes asks_for (λ known. tt) a waits (masked_line start.mask.how stage.taken a) (settles_decided a writes.decides) fault now writes.fails)
+    fails_by (Some a) waits fault now (inr holds) =
+        ends_at at (rw holds.same_output (stop.lacks_memory s.comes asks_for (λ known. tt) fault holds.is))
 
-      -- the second input couldn't give a record
-      stops_by : (o : Option SequenceLine) → stage.waiting ≡ o → (fault : FaultValue) (second_now : MemberReader B Feature (Option Locus)) → IsStopped source_b second fault second_now → EndsAt (Some fault) lines second_now grown
-      stops_by None e fault second_now stopped = (
-        first,
-        refl,
-        stop.stops_behind join pair before (stage_of stage) s.past_first s.past_second first second grown s.comes asks_for (λ known. tt) (lines_done e) wrong_second goes (none_lacks e) fault second_now stopped,
-        λ input line e. e,
-      )
-      stops_by (Some a) e fault second_now stopped = (
-        first,
-        refl,
-        stop.stops_second join pair before (stage_of stage) s.past_first s.past_second first second grown s.comes asks_for (λ known. tt) a e wrong_second (asked (s.stands.waits a e).lines) goes (λ known none. undecided a e) fault second_now stopped,
-        λ input line e. e,
-      )
+    pub fails_record : (fault : FaultValue) (now : Output) → FailsAtRecord start.mask.how start.mask.full stage.waiting stage r (suc (lines_given second.below)) grown fault now → EndsAt (Some fault) lines second now
+    fails_record fault now fails = fails_by stage.waiting refl fault now fails
 
-      pub stops_records : (fault : FaultValue) (second_now : MemberReader B Feature (Option Locus)) → IsStopped source_b second fault second_now → EndsAt (Some fault) lines second_now grown
-      stops_records fault second_now stopped = stops_by stage.waiting refl fault second_now stopped
-
-    -- a record is buffered, and failed
-    module _ (wants : mask.want ≡ WantBed) (r : Feature) (behind : List Feature) (buffered : second.buffered ≡ r ∷ behind) where
-      abbrev m : Member Feature
-      m = record { line = suc (lines_given second.below); item = r }
-
-      next : item_ahead second ≡ Some r
-      next = ahead_first second ∙ ap first_of buffered
-
-      m_ahead : ahead_in second ≡ Some m
-      m_ahead = ap (first_from (suc (lines_given second.below))) buffered
-
-      seen : stage.taken ++ option_to_list (item_ahead second) ≡ stage.taken ++ r ∷ []
-      seen = ap (λ (o : Option Feature). stage.taken ++ option_to_list o) next
-
-      -- if it decides the waiting line, that stays as it is
-      settles_decided : (a : SequenceLine) → decided a (stage.taken ++ r ∷ []) ≡ true → IsKnown pair
-          → SettlesPair join (stage.written ++ a ∷ []) (s.comes.bytes ++ masked_line start.mask.how stage.taken a) (stage.taken ++ option_to_list (item_ahead second)) stage.bed_ended
-      settles_decided a decides known =
-          settles_with join stage.written s.comes.bytes (stage.taken ++ option_to_list (item_ahead second)) stage.bed_ended a (masked_line start.mask.how stage.taken a) (s.comes.settles known)
-          (λ rest ordered.
-          let front : (stage.taken ++ option_to_list (item_ahead second)) ++ rest ≡ (stage.taken ++ r ∷ []) ++ rest = ap (λ (l : List Feature). l ++ rest) seen in
-          let parts : (stage.taken ++ option_to_list (item_ahead second)) ++ rest ≡ stage.taken ++ r ∷ rest = front ∙ append_assoc stage.taken (r ∷ []) rest in (
-            ap (decided a) front ∙ decided_stays a (stage.taken ++ r ∷ []) rest decides,
-            ap (λ (l : List Feature). masked_line start.mask.how l a) parts ∙ masked_before start.mask.how a stage.taken r decides rest (subst AreInBlocks parts ordered),
-          ))
-
-      unowned_by : (none : stage.waiting ≡ None) → left_after (reached stage).names (stage.taken ++ r ∷ []) ≡ None → left_after (names_of stage.written) (member_items (s.past_second ++ m ∷ [])) ≡ None
-      unowned_by none e =
-          ap (λ (l : List (List ℕ)). left_after l (member_items (s.past_second ++ m ∷ []))) (names_alone none)
-          ∙ ap (left_after (reached stage).names) (map-append (λ (x : Member Feature). x.item) s.past_second (m ∷ []) ∙ ap (λ (l : List Feature). l ++ r ∷ []) (sym s.comes.all_taken)) ∙ e
-
-      fails_by : (o : Option SequenceLine) → stage.waiting ≡ o → (fault : FaultValue) (now : Output) → FailsAtRecord start.mask.how start.mask.full o stage r (suc (lines_given second.below)) grown fault now → EndsAt (Some fault) lines second now
-      fails_by None none fault now lacks = (
-        first,
-        refl,
-        rw lacks.same_output
-            (stop.ends_rest join pair before (stage_of stage) s.past_first s.past_second first second grown s.comes asks_for (λ known. tt) (lines_done wants none) second
-            (λ some. absurd (false≢true (ap is_some (sym s.comes.second_passes.going) ∙ some))) s.comes.second_passes.bytes s.past_second (Some fault)
-            (inr (inr (
-              fault,
-              refl,
-              record {
-                line = m.line;
-                kind = NoSequence;
-                is = lacks.is;
-                of_kind = refl;
-                told = told_by (names_of stage.written) (good_coming source_b.left (view_of start.records)) s.past_second m fault lacks.is (owned_alone none) (unowned_by none lacks.unowned)
-                    (stop.seen_begins source_b.left (good_coming source_b.left (view_of start.records)) second s.past_second (Some m) m_ahead s.comes.second_passes.come s.comes.second_passes.ahead);
-                serves = record { served = s.comes.second_passes.served; within = s.comes.second_passes.kept.within s.comes.second_passes.clear };
-              },
-            )))),
-        λ input line e. e,
-      )
-      fails_by (Some a) waits fault now (inl writes) = (
-        first,
-        refl,
-        stop.fails_waiting join pair before (stage_of stage) s.past_first s.past_second first second grown s.comes asks_for (λ known. tt) a waits (masked_line start.mask.how stage.taken a) (settles_decided a writes.decides) fault now writes.fails,
-        λ input line e. e,
-      )
-      fails_by (Some a) waits fault now (inr holds) = (
-        first,
-        refl,
-        rw holds.same_output (stop.lacks_memory join pair before (stage_of stage) s.past_first s.past_second first second grown s.comes asks_for (λ known. tt) fault holds.is),
-        λ input line e. e,
-      )
-
-      pub fails_record : (fault : FaultValue) (now : Output) → FailsAtRecord start.mask.how start.mask.full stage.waiting stage r (suc (lines_given second.below)) grown fault now → EndsAt (Some fault) lines second now
-      fails_record fault now fails = fails_by stage.waiting refl fault now fails
-
-    -- both inputs have ended
-    pub finishes : mask.want ≡ Nothing → EndsAt None lines second grown
-    finishes wants =
-        let ends = all_ended (is_some stage.waiting) stage.lines_ended stage.bed_ended (sym s.stands.want_is ∙ wants) in (
-          first,
-          refl,
-          stop.ends_all join pair before (stage_of stage) s.past_first s.past_second first second grown s.comes asks_for (λ known. tt) ends.1 ends.2 (none_lacks (none_by stage.waiting ends.0)),
-          λ input line e. e,
-        )
+  -- both inputs have ended
+  pub finishes : mask.want ≡ Nothing → EndsAt None lines second grown
+  finishes wants =
+      let ends = wants_none stage.waiting stage.lines_ended stage.bed_ended (sym s.stands.want_is ∙ wants) in
+      ends_at at (stop.ends_all s.comes asks_for (λ known. tt) ends.1 ends.2 (none_lacks ends.0))

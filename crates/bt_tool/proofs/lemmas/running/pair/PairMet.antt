@@ -17,7 +17,7 @@ use Rattle.bt_tool.specs.model.Written.{met_report}
 use Rattle.bt_tool.specs.calls.Run.{WritesBy, IsFaultButWrite, IsReported, IsWithin, ReadsNoFurther, TellsDevice, TellsInput}
 use Rattle.bt_tool.proofs.lemmas.running.members.CursorLemmas.{Came, BeginsAt, at_whole, came_cut, came_whole, is_known, says_fault, tells_fault, text_known}
 use Rattle.bt_tool.specs.inside.Feed.{PutsLines, member_items, HasFaultBehind}
-use Rattle.bt_tool.proofs.lemmas.running.feed.WritingLemmas.{memory_no_write, tells_no_write, is_whole}
+use Rattle.bt_tool.proofs.lemmas.running.feed.WritingLemmas.{memory_no_write, is_whole}
 use Rattle.bt_tool.proofs.lemmas.running.members.SeenLemmas.{PutsFront, puts_front}
 
 module _ {X Y : Type 0} (join : JoinDef X Y) where
@@ -209,9 +209,7 @@ module _ {A B X Y U V : Type 0} (join : JoinDef X Y) (pair : Pair A B X Y U V) (
     ended_taken e = w.wrote.sees ∙ ap (λ (o : Option (Member Y)). w.wrote.taken ++ option_to_list o) (w.wrote.none_ahead e) ∙ append-nil w.wrote.taken
 
     whole_at : w.wrote.ended ≡ true → second_good.members ≡ w.wrote.seen → join.limited firsts second_good ≡ second_good
-    whole_at e all =
-        let is = good_is second_good w.wrote.taken second_good.fault (all ∙ ended_taken e) refl in
-        ap (join.limited firsts) is ∙ limits.whole firsts w.wrote.taken second_good.fault fits_first ∙ sym is
+    whole_at e all = grind (arith, ended_taken)
 
     -- what the first meets of the second begins with what was seen
     limited_may : SeesTwo second_good → MayBe (join.limited firsts second_good)
@@ -239,12 +237,7 @@ module _ {A B X Y U V : Type 0} (join : JoinDef X Y) (pair : Pair A B X Y U V) (
 
     free_by : (b : Bool) → w.wrote.ended ≡ b → firsts ≡ w.written → join.InOrder (items_in second_good) → (rest : List (Member Y)) → second_good.members ≡ w.wrote.seen ++ rest
         → (w.wrote.ended ≡ true → second_good.members ≡ w.wrote.seen) → join.limited firsts second_good ≡ second_good
-    free_by true e all ordered rest begins ends = whole_at e (ends e)
-    free_by false e all ordered rest begins ends =
-        let is = parted rest begins in
-        ap (join.limited firsts) is
-        ∙ limits.done firsts w.wrote.taken w.wrote.ahead rest second_good.fault fits_first (subst (λ (g : Good Y). join.InOrder (items_in g)) is ordered) (decided_all e all)
-        ∙ sym is
+    free_by b e all ordered rest begins ends = grind (arith, whole_at, decided_all)
 
     -- if all of the first is written, the limit changes nothing
     free : firsts ≡ w.written → join.InOrder (items_in second_good) → (rest : List (Member Y)) → second_good.members ≡ w.wrote.seen ++ rest
@@ -441,11 +434,7 @@ module _ {A B X Y U V : Type 0} (join : JoinDef X Y) (pair : Pair A B X Y U V) (
       ]
 
   inputs_no_write : InputsEnd join pair out w.written w.wrote.given w.wrote.ended first second fault → fault ≡ Some write_failed → ⊥
-  inputs_no_write end e =
-      elim (tells_by write_failed e end) [
-        | inl tells ↦ tells_no_write pair.source_a join.first_kinds First one_before one_after tells
-        | inr tells ↦ tells_no_write pair.source_b join.second_kinds Second two_before two_after tells
-      ]
+  inputs_no_write end e = grind arith
 
   named_by : (told : FaultValue) → fault ≡ Some told → Because → TellsBoth told ⊎ TellsDevice grown.sink_has_failed told
   named_by told e (inl (end, puts, works)) = inl (tells_by told e end)
@@ -454,22 +443,7 @@ module _ {A B X Y U V : Type 0} (join : JoinDef X Y) (pair : Pair A B X Y U V) (
 
   served_by : fault ≡ None → Because
       → ((pair.source_a.has_failed one_after ≡ pair.source_a.has_failed one_before) × (pair.source_b.has_failed two_after ≡ pair.source_b.has_failed two_before)) × (grown.sink_has_failed ≡ out.sink_has_failed)
-  served_by e (inl ((inl stops), puts, works)) = absurd (let apart : None ≡ Some stops.0 = sym e ∙ stops.1 in cc)
-  served_by e (inl ((inr (inl stops)), puts, works)) = absurd (let apart : None ≡ Some stops.0 = sym e ∙ stops.1 in cc)
-  served_by e (inl ((inr (inr (inr stops))), puts, works)) = absurd (let apart : None ≡ Some stops.0 = sym e ∙ stops.1 in cc)
-  served_by e (inl ((inr (inr (inl stops))), puts, works)) =
-      elim stops.rest [
-        | inl end ↦ (
-          (ap pair.source_a.has_failed (sym ended) ∙ stops.serves.served ∙ ap pair.source_a.has_failed begins.source, ap pair.source_b.has_failed (sym ended_second) ∙ end.2.served ∙ ap pair.source_b.has_failed begins_second.source),
-          works.sink_served,
-        )
-        | inr others ↦ elim others [
-          | inl other ↦ absurd (let apart : None ≡ Some other.0 = sym e ∙ other.1 in cc)
-          | inr other ↦ absurd (let apart : None ≡ Some other.0 = sym e ∙ other.1 in cc)
-        ]
-      ]
-  served_by e (inr (inl ran)) = absurd (let apart : None ≡ Some no_memory = sym e ∙ ran.0 in cc)
-  served_by e (inr (inr cut)) = absurd (let apart : None ≡ Some write_failed = sym e ∙ cut.0 in cc)
+  served_by e why = grind arith
 
   whole_by : (one two : Handed) (before : List ℕ) → CameOne fault one → CameTwo fault two → out.put ≡ Some before
       → fault ≢ Some write_failed → fault ≢ Some no_memory → Because → IsReported (met_report (met_by join (good_one one) (good_two two))) before fault grown

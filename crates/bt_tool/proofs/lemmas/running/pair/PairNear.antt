@@ -1,9 +1,9 @@
 -- Lemmas on how far two inputs were read beside what was written.
-use Rattle.bt_lines.proofs.Std.{◌≡◌, ℕ, zero, suc, ◌+◌, ◌-◌, ◌<◌, ◌≤◌, Bool, true, false, not, List, [], ◌∷◌, ◌++◌, take, drop, Option, None, Some, Result, Ok, Err, refl, sym, ap, ◌∙◌, subst, arith, flat_map, inl, inr, ◌⊎◌, ◌&&◌, ◌||◌, All, IfSome, IsSome, if◌then◌else◌, length, option_map, Consumes, list_all, list_any, false≢true, map-append, take-append-drop, All-head, All-tail, append-nil, append_cancel_left}
+use Rattle.bt_lines.proofs.Std.{◌≡◌, ℕ, zero, suc, ◌+◌, ◌-◌, ◌<◌, ◌≤◌, Bool, true, false, not, List, [], ◌∷◌, ◌++◌, take, drop, Option, None, Some, Result, Ok, Err, refl, sym, ap, ◌∙◌, subst, arith, flat_map, inl, inr, ◌⊎◌, ◌&&◌, ◌||◌, All, IfSome, IsSome, if◌then◌else◌, length, Consumes, list_all, list_any, false≢true, map-append, take-append-drop, All-head, All-tail, append-nil, append_cancel_left}
 use Rattle.bt_lines.specs.model.Lines.{Handed, whole_text, AreNumbered, TextLine, bytes_in, text_lines}
 use Rattle.bt_lines.specs.model.Fault.{FaultValue}
 use Rattle.bt_lines.specs.calls.Output.{Output, block_size}
-use Rattle.bt_lines.specs.calls.Reader.{lines_left, source_of, lines_given}
+use Rattle.bt_lines.specs.calls.Reader.{source_of, lines_given}
 use Rattle.bt_lines.specs.declared.fault.Input.{Input}
 use Rattle.bt_lines.specs.declared.fault.Input.TheVariants.{First, Second}
 use Rattle.bt_lines.specs.declared.fault.Kind.{Kind}
@@ -17,7 +17,7 @@ use Rattle.bt_tool.specs.calls.Run.{IsFaultButWrite, IsWithin, ReadsNoFurther}
 use Rattle.bt_tool.specs.inside.Feed.{TookButBlock, member_items, ConsumesGiven, HasTaken}
 use Rattle.bt_tool.specs.model.Report.{HandsUpTo}
 use Rattle.bt_tool.specs.inside.Pair.{HasNoMore, JoinDef, MayCome, Pair, AsksFor, PairEnds, StaysNear, item_ahead}
-use Rattle.bt_tool.proofs.lemmas.running.members.CursorLemmas.{BeginsAt, at_whole, good_whole, handed_to, is_known, some_of}
+use Rattle.bt_tool.proofs.lemmas.running.members.CursorLemmas.{BeginsAt, at_whole, good_whole, handed_to, is_known}
 use Rattle.bt_tool.proofs.lemmas.running.pair.PairMet.{may_come}
 use Rattle.bt_lines.specs.declared.device.Source.{Ghosts as Source}
 use Rattle.bt_lines.specs.declared.fault.Fault.{Fault}
@@ -77,16 +77,14 @@ pub take_whole : (count : ℕ) (lines : List TextLine) → bytes_in (take count 
 take_whole count lines = omega (arith, bytes_in-append (take count lines) (drop count lines), ap bytes_in (take-append-drop count lines))
 
 open_by : (b any all : Bool) → (not b || any) ≡ true → (any ≡ true → all ≡ false) → (b && all) ≡ false
-open_by true any all e h = h e
-open_by false any all e h = refl
+open_by b any all e h = grind arith
 
 pub not_all : {X : Type 0} (test : X → Bool) (xs : List X) → list_any (λ x. not (test x)) xs ≡ true → list_all test xs ≡ false
 not_all test [] e = absurd (false≢true e)
 not_all test (x ∷ xs) e = open_by (test x) (list_any (λ x. not (test x)) xs) (list_all test xs) e (not_all test xs)
 
 pub skip_by : {A : Type 0} (b : Bool) (m : A) (o : Option A) → b ≡ false → (if b then Some m else o) ≡ o
-skip_by true m o e = absurd (false≢true (sym e))
-skip_by false m o e = refl
+skip_by b m o e = grind arith
 
 pub least_by : (b : Bool) (m : Member Feature) (o : Option (Member Feature)) (lines : List TextLine) (count : ℕ) → count < m.line → bytes_in (take (suc count) lines) ≤ bytes_up_to lines o
     → bytes_in (take (suc count) lines) ≤ bytes_up_to lines (if b then Some m else o)
@@ -171,11 +169,7 @@ module _ {A B X Y U V : Type 0} (join : JoinDef X Y) (pair : Pair A B X Y U V) (
 
     -- the end of the first input wasn't reported, or not all of its lines were consumed
     no_end : HasNoMore pair first count → IsWithin (pair.source_a.end_told one_after) one (suc count) → ⊥
-    no_end all (inl open_end) = absurd (false≢true (sym open_end ∙ ap pair.source_a.end_told (sym ended) ∙ all.0))
-    no_end all (inr within) =
-        let lines : lines_left pair.source_a.left pair.first.below ≡ Some (text_lines one) = begins.lines ∙ ap (option_map text_lines) e in
-        let few = some_of (lines_left pair.source_a.left pair.first.below) (text_lines one) (λ lines. length lines ≤ count) lines all.1 in
-        absurd (omega (arith, within, few))
+    no_end all within = grind arith
 
     beside : HasNoMore pair first count ⊎ AsksFor join pair out near.given_first second → IsWithin (pair.source_a.end_told one_after) one (suc count)
         → HandsUpTo pair.source_b.left (reaches (whole_text two) (take (suc count) (text_lines one)) + block_size) two_before two_after
@@ -263,5 +257,4 @@ module _ {S O : Type 0} {g : Ghosts O} (device : Source S) (old new : Records S 
   line_then b after next = omega (arith, next.lines.given, consumes.line_is)
 
   pub next_then : (next : Option Feature) → ComesNext batch_cursor last next → IfSome next (λ b. item_ahead (view_of new) ≡ Some b)
-  next_then None comes = tt
-  next_then (Some b) comes = ap (option_map (λ m. m.item)) (first_then b comes.0 comes.1)
+  next_then next comes = grind arith

@@ -1,5 +1,5 @@
 -- How one stage of two inputs follows another.
-use Rattle.bt_lines.proofs.Std.{◌≡◌, true, List, [], ◌∷◌, ◌++◌, ℕ, Bool, false, ◌&&◌, ◌||◌, Option, None, Some, refl, sym, ap, ◌∙◌, subst, append-nil, append_assoc, flat_map, option_to_list, IsSome, is_none, option_map, list_all, false≢true, and_from, or_left, or_right, flat_map-append, list_all-append, suc, ◌≤◌, length, drop, ◌+◌, inl, inr, ◌⊎◌, All, IfSome, append_cancel_left, map-append, same_from_push, ◌<◌, Err, arith, All-push}
+use Rattle.bt_lines.proofs.Std.{◌≡◌, true, List, [], ◌∷◌, ◌++◌, ℕ, Bool, false, ◌||◌, Option, None, Some, refl, sym, ap, ◌∙◌, subst, append-nil, append_assoc, flat_map, option_to_list, IsSome, is_none, option_map, list_all, false≢true, and_from, or_left, or_right, flat_map-append, list_all-append, suc, ◌≤◌, length, drop, ◌+◌, inl, inr, ◌⊎◌, All, IfSome, append_cancel_left, map-append, same_from_push, ◌<◌, Err, arith, All-push}
 use Rattle.bt_lines.specs.declared.device.Source.{Ghosts as Source}
 use Rattle.bt_lines.specs.calls.Reader.{end_told, source_of, lines_given, lines_left, Hands, HasRead, bytes_taken}
 use Rattle.bt_bed.specs.model.Good.{Member}
@@ -44,10 +44,7 @@ pub record TakesFurther {S A State : Type 0} (device : Source S)
 -- one more member is decided and has these bytes
 one_more : {X : Type 0} (test : X → Bool) (write : X → List ℕ) (written : List X) (a : X) (bytes more : List ℕ) → (list_all test written ≡ true) × (flat_map write written ≡ bytes)
     → test a ≡ true → write a ≡ more → (list_all test (written ++ a ∷ []) ≡ true) × (flat_map write (written ++ a ∷ []) ≡ bytes ++ more)
-one_more test write written a bytes more was here is = (
-  list_all-append test written (a ∷ []) ∙ and_from (list_all test written) (test a && true) was.0 (and_from (test a) true here refl),
-  flat_map-append write written (a ∷ []) ∙ ap (λ l. l ++ flat_map write (a ∷ [])) was.1 ∙ ap (λ l. bytes ++ l) (append-nil (write a) ∙ is),
-)
+one_more test write written a bytes more was here is = grind (arith, list_all-append, flat_map-append, append-nil)
 
 -- if something is so, or a test holds of each, either is so of each
 pub all_or : {X : Type 0} (test : X → Bool) (b : Bool) (xs : List X) → (b || list_all test xs) ≡ true → list_all (λ x. b || test x) xs ≡ true
@@ -197,8 +194,7 @@ read_same {S} {A} {State} device old past given more now new same e read = recor
 
 -- if nothing is buffered, nothing is ahead
 pub seen_alone : {S A State : Type 0} (taken : List A) (now : MemberReader S A State) → now.buffered ≡ [] → taken ++ option_to_list (item_ahead now) ≡ taken
-seen_alone {S} {A} {State} taken now none =
-    ap (λ (l : List A). taken ++ option_to_list (option_map (λ m. m.item) (first_from (suc (lines_given now.below)) l))) none ∙ append-nil taken
+seen_alone {S} {A} {State} taken now none = grind (arith, append-nil)
 
 module _ {A B X Y U V : Type 0} (join : JoinDef X Y) (pair : Pair A B X Y U V) (out : Output) where
   abbrev pub first_stage : PairStage X Y
@@ -220,228 +216,225 @@ module _ {A B X Y U V : Type 0} (join : JoinDef X Y) (pair : Pair A B X Y U V) (
     near_first = ([], refl, read_here pair.source_a pair.first [] pair.first passes, λ e. absurd (false≢true e));
   }
 
-  module _ (stage : PairStage X Y) (past_first : List (Member X)) (past_second : List (Member Y)) (first : MemberReader A X U) (second : MemberReader B Y V) (grown : Output) (s : Comes join pair out stage past_first past_second first second grown) where
-    -- if none waits, all are written
-    pub all_written : stage.waiting ≡ None → stage.written ≡ member_items past_first
-    all_written none = sym (append-nil stage.written) ∙ ap (λ (o : Option X). stage.written ++ option_to_list o) (sym none) ∙ s.all_given
+-- a run has come so far
+module _ {A B X Y U V : Type 0} {join : JoinDef X Y} {pair : Pair A B X Y U V} {out : Output} {stage : PairStage X Y} {past_first : List (Member X)} {past_second : List (Member Y)}
+    {first : MemberReader A X U} {second : MemberReader B Y V} {grown : Output} (s : Comes join pair out stage past_first past_second first second grown) where
+  -- if none waits, all are written
+  pub all_written : stage.waiting ≡ None → stage.written ≡ member_items past_first
+  all_written none = sym (append-nil stage.written) ∙ ap (λ (o : Option X). stage.written ++ option_to_list o) (sym none) ∙ s.all_given
 
-    -- the first input was read on, perhaps to its end
-    with_first : (b : Bool) → stage.waiting ≡ None → (first_now : MemberReader A X U) (p : Passes pair.source_a pair.first past_first first_now)
-        → (b ≡ true → AreAll pair.source_a pair.first past_first × (first_now.buffered ≡ []) × (end_told first_now.below ≡ true))
-        → (b ≡ true → HasNoMore pair first_now (read_here pair.source_a pair.first past_first first_now p).to.count)
-        → Comes join pair out (record stage { first_ended = b }) past_first past_second first_now second grown
-    with_first b none first_now p all no_more = record {
-      first_passes = p;
-      second_passes = s.second_passes;
-      all_given = s.all_given;
-      all_taken = s.all_taken;
-      bytes = s.bytes;
-      settles = s.settles;
-      first_all = λ e. let over = all e in (over.0, none, over.1, over.2);
-      second_all = s.second_all;
-      put = s.put;
-      near_first = (past_first, sym (all_written none), read_here pair.source_a pair.first past_first first_now p, no_more);
-    }
+  -- the first input was read on, perhaps to its end
+  with_first : (b : Bool) → stage.waiting ≡ None → (first_now : MemberReader A X U) (p : Passes pair.source_a pair.first past_first first_now)
+      → (b ≡ true → AreAll pair.source_a pair.first past_first × (first_now.buffered ≡ []) × (end_told first_now.below ≡ true))
+      → (b ≡ true → HasNoMore pair first_now (read_here pair.source_a pair.first past_first first_now p).to.count)
+      → Comes join pair out (record stage { first_ended = b }) past_first past_second first_now second grown
+  with_first b none first_now p all no_more = record {
+    first_passes = p;
+    second_passes = s.second_passes;
+    all_given = s.all_given;
+    all_taken = s.all_taken;
+    bytes = s.bytes;
+    settles = s.settles;
+    first_all = λ e. let over = all e in (over.0, none, over.1, over.2);
+    second_all = s.second_all;
+    put = s.put;
+    near_first = (past_first, sym (all_written none), read_here pair.source_a pair.first past_first first_now p, no_more);
+  }
 
-    pub reads_first : stage.waiting ≡ None → stage.first_ended ≡ false → (first_now : MemberReader A X U) → Passes pair.source_a pair.first past_first first_now
-        → Comes join pair out stage past_first past_second first_now second grown
-    reads_first none going first_now p = with_first stage.first_ended none first_now p (λ e. absurd (false≢true (sym going ∙ e))) (λ e. absurd (false≢true (sym going ∙ e)))
+  pub reads_first : stage.waiting ≡ None → stage.first_ended ≡ false → (first_now : MemberReader A X U) → Passes pair.source_a pair.first past_first first_now
+      → Comes join pair out stage past_first past_second first_now second grown
+  reads_first none going first_now p = with_first stage.first_ended none first_now p (λ e. absurd (false≢true (sym going ∙ e))) (λ e. absurd (false≢true (sym going ∙ e)))
 
-    -- a member of it is buffered
-    pub fills_first : stage.waiting ≡ None → stage.first_ended ≡ false → (first_now : MemberReader A X U) → IsFilled pair.source_a first first_now
-        → Comes join pair out stage past_first past_second first_now second grown
-    fills_first none going first_now filled = reads_first none going first_now (passes_fill pair.source_a pair.first past_first first s.first_passes first_now filled)
+  -- a member of it is buffered
+  pub fills_first : stage.waiting ≡ None → stage.first_ended ≡ false → (first_now : MemberReader A X U) → IsFilled pair.source_a first first_now
+      → Comes join pair out stage past_first past_second first_now second grown
+  fills_first none going first_now filled = reads_first none going first_now (passes_fill pair.source_a pair.first past_first first s.first_passes first_now filled)
 
-    -- a member of the second is
-    pub fills_second : stage.second_ended ≡ false → (second_now : MemberReader B Y V) → IsFilled pair.source_b second second_now
-        → Comes join pair out stage past_first past_second first second_now grown
-    fills_second going second_now filled = record {
-      first_passes = s.first_passes;
-      second_passes = passes_fill pair.source_b pair.second past_second second s.second_passes second_now filled;
-      all_given = s.all_given;
-      all_taken = s.all_taken;
-      bytes = s.bytes;
-      settles = λ known.
-          rw going (subst (λ (o : Option (Member Y)). SettlesPair join stage.written s.bytes (stage.taken ++ option_to_list (option_map (λ m. m.item) o)) false) (sym filled.gives.ahead)
-          (seen_by join pair.source_b second second_now filled.m _ refl filled.gives stage.written s.bytes stage.taken
-          (subst (λ (b : Bool). SettlesPair join stage.written s.bytes (stage.taken ++ option_to_list (item_ahead second)) b) going (s.settles known))));
-      first_all = s.first_all;
-      second_all = λ e. absurd (false≢true (sym going ∙ e));
-      put = s.put;
-      near_first = s.near_first;
-    }
+  -- a member of the second is
+  pub fills_second : stage.second_ended ≡ false → (second_now : MemberReader B Y V) → IsFilled pair.source_b second second_now
+      → Comes join pair out stage past_first past_second first second_now grown
+  fills_second going second_now filled = record {
+    first_passes = s.first_passes;
+    second_passes = passes_fill pair.source_b pair.second past_second second s.second_passes second_now filled;
+    all_given = s.all_given;
+    all_taken = s.all_taken;
+    bytes = s.bytes;
+    settles = λ known.
+        rw going (subst (λ (o : Option (Member Y)). SettlesPair join stage.written s.bytes (stage.taken ++ option_to_list (option_map (λ m. m.item) o)) false) (sym filled.gives.ahead)
+        (seen_by join pair.source_b second second_now filled.m _ refl filled.gives stage.written s.bytes stage.taken
+        (subst (λ (b : Bool). SettlesPair join stage.written s.bytes (stage.taken ++ option_to_list (item_ahead second)) b) going (s.settles known))));
+    first_all = s.first_all;
+    second_all = λ e. absurd (false≢true (sym going ∙ e));
+    put = s.put;
+    near_first = s.near_first;
+  }
 
-    -- more members of both were taken, after their ends none, and these bytes were put for those that are written now
-    module _ (more_first : List (Member X)) (more_second : List (Member Y)) (first_now : MemberReader A X U) (second_now : MemberReader B Y V)
-        (takes : TakesFurther pair.source_a pair.first past_first more_first first first_now)
-        (takes_second : TakesFurther pair.source_b pair.second past_second more_second second second_now)
-        (ended : stage.first_ended ≡ true → (more_first ≡ []) × (first_now.buffered ≡ [])) (ended_second : stage.second_ended ≡ true → (more_second ≡ []) × (second_now.buffered ≡ []))
-        (newly : List X) (new : PairStage X Y) (follows : Follows stage (member_items more_first) newly (member_items more_second) new) where
-      all_now : firsts_given new ≡ member_items (past_first ++ more_first)
-      all_now = follows.given_is ∙ ap (λ l. l ++ member_items more_first) s.all_given ∙ sym (map-append (λ m. m.item) past_first more_first)
+  -- more members of both were taken, after their ends none, and these bytes were put for those that are written now
+  module _ (more_first : List (Member X)) (more_second : List (Member Y)) (first_now : MemberReader A X U) (second_now : MemberReader B Y V)
+      (takes : TakesFurther pair.source_a pair.first past_first more_first first first_now)
+      (takes_second : TakesFurther pair.source_b pair.second past_second more_second second second_now)
+      (ended : stage.first_ended ≡ true → (more_first ≡ []) × (first_now.buffered ≡ [])) (ended_second : stage.second_ended ≡ true → (more_second ≡ []) × (second_now.buffered ≡ []))
+      (newly : List X) (new : PairStage X Y) (follows : Follows stage (member_items more_first) newly (member_items more_second) new) where
+    all_now : firsts_given new ≡ member_items (past_first ++ more_first)
+    all_now = follows.given_is ∙ ap (λ l. l ++ member_items more_first) s.all_given ∙ sym (map-append (λ m. m.item) past_first more_first)
 
-      none_more : {T : Type 0} (past more : List T) → more ≡ [] → past ≡ past ++ more
-      none_more {T} past more e = sym (append-nil past) ∙ ap (λ (l : List T). past ++ l) (sym e)
+    none_more : {T : Type 0} (past more : List T) → more ≡ [] → past ≡ past ++ more
+    none_more {T} past more e = sym (append-nil past) ∙ ap (λ (l : List T). past ++ l) (sym e)
 
-      -- what waited before, and what is given now
-      parts : option_to_list stage.waiting ++ member_items more_first ≡ newly ++ option_to_list new.waiting
-      parts =
-          append_cancel_left stage.written (option_to_list stage.waiting ++ member_items more_first) (newly ++ option_to_list new.waiting)
-          (sym (append_assoc stage.written (option_to_list stage.waiting) (member_items more_first)) ∙ sym follows.given_is ∙ ap (λ l. l ++ option_to_list new.waiting) follows.written_is
-          ∙ append_assoc stage.written newly (option_to_list new.waiting))
+    -- what waited before, and what is given now
+    parts : option_to_list stage.waiting ++ member_items more_first ≡ newly ++ option_to_list new.waiting
+    parts = grind (arith, append_cancel_left, append_assoc)
 
-      unless_more : more_first ≡ [] → option_to_list stage.waiting ≡ newly ++ option_to_list new.waiting
-      unless_more e = sym (append-nil (option_to_list stage.waiting)) ∙ ap (λ (l : List (Member X)). option_to_list stage.waiting ++ member_items l) (sym e) ∙ parts
+    unless_more : more_first ≡ [] → option_to_list stage.waiting ≡ newly ++ option_to_list new.waiting
+    unless_more e = sym (append-nil (option_to_list stage.waiting)) ∙ ap (λ (l : List (Member X)). option_to_list stage.waiting ++ member_items l) (sym e) ∙ parts
 
-      none_then : stage.first_ended ≡ true → (newly ≡ []) × (new.waiting ≡ None)
-      none_then e = none_new newly new.waiting (sym (unless_more (ended e).0) ∙ ap (λ (o : Option X). option_to_list o) (s.first_all e).1)
+    none_then : stage.first_ended ≡ true → (newly ≡ []) × (new.waiting ≡ None)
+    none_then e = none_new newly new.waiting (sym (unless_more (ended e).0) ∙ ap (λ (o : Option X). option_to_list o) (s.first_all e).1)
 
-      same_written : newly ≡ [] → stage.written ≡ new.written
-      same_written e = none_more stage.written newly e ∙ sym follows.written_is
+    same_written : newly ≡ [] → stage.written ≡ new.written
+    same_written e = none_more stage.written newly e ∙ sym follows.written_is
 
-      abbrev Near : Type 0
-      Near =
-          (past : List (Member X)) × (member_items past ≡ new.written)
-          × (read : IsReadFor pair.source_a pair.first past (past_first ++ more_first) first_now)
-          × (new.first_ended ≡ true → HasNoMore pair first_now read.to.count)
+    abbrev Near : Type 0
+    Near =
+        (past : List (Member X)) × (member_items past ≡ new.written)
+        × (read : IsReadFor pair.source_a pair.first past (past_first ++ more_first) first_now)
+        × (new.first_ended ≡ true → HasNoMore pair first_now read.to.count)
 
-      -- no more was given of the first
-      near_same : more_first ≡ [] → newly ≡ [] → Near
-      unfolding read_same
-      near_same none unwritten =
-          let was = s.near_first in (
-            was.0,
-            was.1 ∙ same_written unwritten,
-            read_same pair.source_a pair.first was.0 past_first (past_first ++ more_first) first first_now takes.source (none_more past_first more_first none) was.2,
-            λ e. let all = was.3 (sym follows.first_is ∙ e) in (ap pair.source_a.end_told takes.source ∙ all.0, all.1),
+    -- no more was given of the first
+    near_same : more_first ≡ [] → newly ≡ [] → Near
+    unfolding read_same
+    near_same none unwritten =
+        let was = s.near_first in (
+          was.0,
+          was.1 ∙ same_written unwritten,
+          read_same pair.source_a pair.first was.0 past_first (past_first ++ more_first) first first_now takes.source (none_more past_first more_first none) was.2,
+          λ e. let all = was.3 (sym follows.first_is ∙ e) in (ap pair.source_a.end_told takes.source ∙ all.0, all.1),
+        )
+
+    near_waiting : (x : X) → new.waiting ≡ Some x → stage.first_ended ≡ false → Near
+    near_waiting x waits going =
+        elim (last_of more_first) [
+          | inl none ↦ near_same none (few_waited newly x stage.waiting (ap (λ (o : Option X). newly ++ option_to_list o) (sym waits) ∙ sym (unless_more none)))
+          | inr some ↦ (
+            past_first ++ some.0,
+            (same_from_push (member_items (past_first ++ some.0)) new.written some.1.item x
+                (sym (map-append (λ m. m.item) (past_first ++ some.0) (some.1 ∷ [])) ∙ ap member_items (append_assoc past_first some.0 (some.1 ∷ []) ∙ ap (λ (l : List (Member X)). past_first ++ l) (sym some.2))
+                ∙ sym all_now ∙ ap (λ (o : Option X). new.written ++ option_to_list o) waits)).0,
+            takes.last some.0 some.1 some.2,
+            λ e. absurd (false≢true (sym going ∙ sym follows.first_is ∙ e)),
           )
+        ]
 
-      near_waiting : (x : X) → new.waiting ≡ Some x → stage.first_ended ≡ false → Near
-      near_waiting x waits going =
-          elim (last_of more_first) [
-            | inl none ↦ near_same none (few_waited newly x stage.waiting (ap (λ (o : Option X). newly ++ option_to_list o) (sym waits) ∙ sym (unless_more none)))
-            | inr some ↦ (
-              past_first ++ some.0,
-              (same_from_push (member_items (past_first ++ some.0)) new.written some.1.item x
-                  (sym (map-append (λ m. m.item) (past_first ++ some.0) (some.1 ∷ [])) ∙ ap member_items (append_assoc past_first some.0 (some.1 ∷ []) ∙ ap (λ (l : List (Member X)). past_first ++ l) (sym some.2))
-                  ∙ sym all_now ∙ ap (λ (o : Option X). new.written ++ option_to_list o) waits)).0,
-              takes.last some.0 some.1 some.2,
-              λ e. absurd (false≢true (sym going ∙ sym follows.first_is ∙ e)),
-            )
-          ]
+    near_by : (w : Option X) → new.waiting ≡ w → (b : Bool) → stage.first_ended ≡ b → Near
+    near_by w e true done = near_same (ended done).0 (none_then done).0
+    near_by (Some x) e false going = near_waiting x e going
+    near_by None e false going = (
+      past_first ++ more_first,
+      sym all_now ∙ ap (λ (o : Option X). new.written ++ option_to_list o) e ∙ append-nil new.written,
+      read_here pair.source_a pair.first (past_first ++ more_first) first_now takes.passes,
+      λ e. absurd (false≢true (sym going ∙ sym follows.first_is ∙ e)),
+    )
 
-      near_by : (w : Option X) → new.waiting ≡ w → (b : Bool) → stage.first_ended ≡ b → Near
-      near_by w e true done = near_same (ended done).0 (none_then done).0
-      near_by (Some x) e false going = near_waiting x e going
-      near_by None e false going = (
-        past_first ++ more_first,
-        sym all_now ∙ ap (λ (o : Option X). new.written ++ option_to_list o) e ∙ append-nil new.written,
-        read_here pair.source_a pair.first (past_first ++ more_first) first_now takes.passes,
-        λ e. absurd (false≢true (sym going ∙ sym follows.first_is ∙ e)),
-      )
+    pub goes_on : (more : List ℕ) (now : Output) → (IsKnown pair → SettlesPair join new.written (s.bytes ++ more) (new.taken ++ option_to_list (item_ahead second_now)) new.second_ended)
+        → Grown grown more now → Comes join pair out new (past_first ++ more_first) (past_second ++ more_second) first_now second_now now
+    goes_on more now settles adds = record {
+      first_passes = takes.passes;
+      second_passes = takes_second.passes;
+      all_given = all_now;
+      all_taken = follows.taken_is ∙ ap (λ l. l ++ member_items more_second) s.all_taken ∙ sym (map-append (λ m. m.item) past_second more_second);
+      bytes = s.bytes ++ more;
+      settles = settles;
+      first_all = λ e.
+          let was = sym follows.first_is ∙ e in
+          let all = s.first_all was in (
+            subst (AreAll pair.source_a pair.first) (none_more past_first more_first (ended was).0) all.0,
+            (none_then was).1,
+            (ended was).1,
+            takes.told all.3,
+          );
+      second_all = λ e.
+          let was = sym follows.second_is ∙ e in
+          let all = s.second_all was in (
+            subst (AreAll pair.source_b pair.second) (none_more past_second more_second (ended_second was).0) all.0,
+            (ended_second was).1,
+            takes_second.told all.2,
+          );
+      put = put_more out grown now s.bytes more s.put adds;
+      near_first = near_by new.waiting refl stage.first_ended refl;
+    }
 
-      pub goes_on : (more : List ℕ) (now : Output) → (IsKnown pair → SettlesPair join new.written (s.bytes ++ more) (new.taken ++ option_to_list (item_ahead second_now)) new.second_ended)
-          → Grown grown more now → Comes join pair out new (past_first ++ more_first) (past_second ++ more_second) first_now second_now now
-      goes_on more now settles adds = record {
-        first_passes = takes.passes;
-        second_passes = takes_second.passes;
-        all_given = all_now;
-        all_taken = follows.taken_is ∙ ap (λ l. l ++ member_items more_second) s.all_taken ∙ sym (map-append (λ m. m.item) past_second more_second);
-        bytes = s.bytes ++ more;
-        settles = settles;
-        first_all = λ e.
-            let was = sym follows.first_is ∙ e in
-            let all = s.first_all was in (
-              subst (AreAll pair.source_a pair.first) (none_more past_first more_first (ended was).0) all.0,
-              (none_then was).1,
-              (ended was).1,
-              takes.told all.3,
-            );
-        second_all = λ e.
-            let was = sym follows.second_is ∙ e in
-            let all = s.second_all was in (
-              subst (AreAll pair.source_b pair.second) (none_more past_second more_second (ended_second was).0) all.0,
-              (ended_second was).1,
-              takes_second.told all.2,
-            );
-        put = put_more out grown now s.bytes more s.put adds;
-        near_first = near_by new.waiting refl stage.first_ended refl;
-      }
+  -- the first input has ended
+  module _ (none : stage.waiting ≡ None) (going : stage.first_ended ≡ false) (first_now : MemberReader A X U) (over : IsOver pair.source_a first first_now) where
+    ended_passes : Passes pair.source_a pair.first past_first first_now
+    ended_passes = passes_end pair.source_a pair.first past_first first s.first_passes first_now over
 
-    -- the first input has ended
-    module _ (none : stage.waiting ≡ None) (going : stage.first_ended ≡ false) (first_now : MemberReader A X U) (over : IsOver pair.source_a first first_now) where
-      ended_passes : Passes pair.source_a pair.first past_first first_now
-      ended_passes = passes_end pair.source_a pair.first past_first first s.first_passes first_now over
+    no_more_first : HasNoMore pair first_now (read_here pair.source_a pair.first past_first first_now ended_passes).to.count
+    unfolding read_here
+    no_more_first = (
+      (ended_passes.kept.end over.ends.told).0,
+      ended_after_all pair.source_a pair.first past_first first s.first_passes first_now over,
+    )
 
-      no_more_first : HasNoMore pair first_now (read_here pair.source_a pair.first past_first first_now ended_passes).to.count
-      unfolding read_here
-      no_more_first = (
-        (ended_passes.kept.end over.ends.told).0,
-        ended_after_all pair.source_a pair.first past_first first s.first_passes first_now over,
-      )
+    pub ends_first : Comes join pair out (record stage { first_ended = true }) past_first past_second first_now second grown
+    ends_first = with_first true none first_now ended_passes (λ e. (passes_all pair.source_a pair.first past_first first s.first_passes first_now over, over.ends.none_buffered, over.ends.told)) (λ e. no_more_first)
 
-      pub ends_first : Comes join pair out (record stage { first_ended = true }) past_first past_second first_now second grown
-      ends_first = with_first true none first_now ended_passes (λ e. (passes_all pair.source_a pair.first past_first first s.first_passes first_now over, over.ends.none_buffered, over.ends.told)) (λ e. no_more_first)
+  -- if a member waits, the first input hasn't ended
+  waits_by : (a : X) → stage.waiting ≡ Some a → (b : Bool) → stage.first_ended ≡ b → b ≡ false
+  waits_by a waits b e = grind arith
 
-    -- if a member waits, the first input hasn't ended
-    waits_by : (a : X) → stage.waiting ≡ Some a → (b : Bool) → stage.first_ended ≡ b → b ≡ false
-    waits_by a waits true e = absurd (let apart : Some a ≡ None = sym waits ∙ (s.first_all e).1 in cc)
-    waits_by a waits false e = refl
+  pub first_waits : (a : X) → stage.waiting ≡ Some a → stage.first_ended ≡ false
+  first_waits a waits = waits_by a waits stage.first_ended refl
 
-    pub first_waits : (a : X) → stage.waiting ≡ Some a → stage.first_ended ≡ false
-    first_waits a waits = waits_by a waits stage.first_ended refl
+  -- if the second input ends now
+  module _ (goes : stage.second_ended ≡ false) (second_now : MemberReader B Y V) (over : IsOver pair.source_b second second_now) where
+    -- those written are settled by what was taken
+    pub settles_ended : IsKnown pair → SettlesPair join stage.written s.bytes stage.taken false
+    settles_ended known =
+        subst (λ (l : List Y). SettlesPair join stage.written s.bytes l false) (seen_alone stage.taken second over.ends.was_none)
+        (subst (λ (b : Bool). SettlesPair join stage.written s.bytes (stage.taken ++ option_to_list (item_ahead second)) b) goes (s.settles known))
 
-    -- if the second input ends now
-    module _ (goes : stage.second_ended ≡ false) (second_now : MemberReader B Y V) (over : IsOver pair.source_b second second_now) where
-      -- those written are settled by what was taken
-      pub settles_ended : IsKnown pair → SettlesPair join stage.written s.bytes stage.taken false
-      settles_ended known =
-          subst (λ (l : List Y). SettlesPair join stage.written s.bytes l false) (seen_alone stage.taken second over.ends.was_none)
-          (subst (λ (b : Bool). SettlesPair join stage.written s.bytes (stage.taken ++ option_to_list (item_ahead second)) b) goes (s.settles known))
+    -- its end was given
+    ends_by : (now : Output) (bytes : List ℕ) → (IsKnown pair → SettlesPair join (firsts_given stage) bytes stage.taken true) → HasPut out bytes now
+        → ((past : List (Member X)) × (member_items past ≡ firsts_given stage)
+        × (read : IsReadFor pair.source_a pair.first past past_first first) × (stage.first_ended ≡ true → HasNoMore pair first read.to.count))
+        → Comes join pair out (record stage { written = firsts_given stage; waiting = None; second_ended = true }) past_first past_second first second_now now
+    ends_by now bytes settles put near = record {
+      first_passes = s.first_passes;
+      second_passes = passes_end pair.source_b pair.second past_second second s.second_passes second_now over;
+      all_given = append-nil (firsts_given stage) ∙ s.all_given;
+      all_taken = s.all_taken;
+      bytes = bytes;
+      settles = λ known. subst (λ (l : List Y). SettlesPair join (firsts_given stage) bytes l true) (sym (seen_alone stage.taken second_now over.ends.none_buffered)) (settles known);
+      first_all = λ e. let was = s.first_all e in (was.0, refl, was.2, was.3);
+      second_all = λ e. (passes_all pair.source_b pair.second past_second second s.second_passes second_now over, over.ends.none_buffered, over.ends.told);
+      put = put;
+      near_first = near;
+    }
 
-      -- its end was given
-      ends_by : (now : Output) (bytes : List ℕ) → (IsKnown pair → SettlesPair join (firsts_given stage) bytes stage.taken true) → HasPut out bytes now
-          → ((past : List (Member X)) × (member_items past ≡ firsts_given stage)
-          × (read : IsReadFor pair.source_a pair.first past past_first first) × (stage.first_ended ≡ true → HasNoMore pair first read.to.count))
-          → Comes join pair out (record stage { written = firsts_given stage; waiting = None; second_ended = true }) past_first past_second first second_now now
-      ends_by now bytes settles put near = record {
-        first_passes = s.first_passes;
-        second_passes = passes_end pair.source_b pair.second past_second second s.second_passes second_now over;
-        all_given = append-nil (firsts_given stage) ∙ s.all_given;
-        all_taken = s.all_taken;
-        bytes = bytes;
-        settles = λ known. subst (λ (l : List Y). SettlesPair join (firsts_given stage) bytes l true) (sym (seen_alone stage.taken second_now over.ends.none_buffered)) (settles known);
-        first_all = λ e. let was = s.first_all e in (was.0, refl, was.2, was.3);
-        second_all = λ e. (passes_all pair.source_b pair.second past_second second s.second_passes second_now over, over.ends.none_buffered, over.ends.told);
-        put = put;
-        near_first = near;
-      }
+    -- the waiting member was written
+    pub ends_waiting : (a : X) → stage.waiting ≡ Some a → (now : Output) → Grown grown (join.bytes a stage.taken) now
+        → Comes join pair out (record stage { written = firsts_given stage; waiting = None; second_ended = true }) past_first past_second first second_now now
+    ends_waiting a waits now adds =
+        let more = join.bytes a stage.taken in
+        let with_waiting : firsts_given stage ≡ stage.written ++ a ∷ [] = ap (λ (o : Option X). stage.written ++ option_to_list o) waits in
+        ends_by now (s.bytes ++ more)
+        (λ known. subst (λ (w : List X). SettlesPair join w (s.bytes ++ more) stage.taken true) (sym with_waiting) (settles_end join stage.written s.bytes stage.taken false a (settles_ended known)))
+        (put_more out grown now s.bytes more s.put adds) (past_first, sym s.all_given, read_here pair.source_a pair.first past_first first s.first_passes, λ e. absurd (false≢true (sym (first_waits a waits) ∙ e)))
 
-      -- the waiting member was written
-      pub ends_waiting : (a : X) → stage.waiting ≡ Some a → (now : Output) → Grown grown (join.bytes a stage.taken) now
-          → Comes join pair out (record stage { written = firsts_given stage; waiting = None; second_ended = true }) past_first past_second first second_now now
-      ends_waiting a waits now adds =
-          let more = join.bytes a stage.taken in
-          let with_waiting : firsts_given stage ≡ stage.written ++ a ∷ [] = ap (λ (o : Option X). stage.written ++ option_to_list o) waits in
-          ends_by now (s.bytes ++ more)
-          (λ known. subst (λ (w : List X). SettlesPair join w (s.bytes ++ more) stage.taken true) (sym with_waiting) (settles_end join stage.written s.bytes stage.taken false a (settles_ended known)))
-          (put_more out grown now s.bytes more s.put adds) (past_first, sym s.all_given, read_here pair.source_a pair.first past_first first s.first_passes, λ e. absurd (false≢true (sym (first_waits a waits) ∙ e)))
-
-      -- or none waited
-      pub ends_alone : stage.waiting ≡ None → Comes join pair out (record stage { written = firsts_given stage; waiting = None; second_ended = true }) past_first past_second first second_now grown
-      ends_alone none =
-          let all : stage.written ≡ firsts_given stage = sym (append-nil stage.written) ∙ ap (λ (o : Option X). stage.written ++ option_to_list o) (sym none) in
-          let near = s.near_first in
-          ends_by grown s.bytes
-          (λ known. subst (λ (w : List X). SettlesPair join w s.bytes stage.taken true) all (settles_close join stage.written s.bytes stage.taken (settles_ended known)))
-          s.put (near.0, near.1 ∙ all, near.2, near.3)
+    -- or none waited
+    pub ends_alone : stage.waiting ≡ None → Comes join pair out (record stage { written = firsts_given stage; waiting = None; second_ended = true }) past_first past_second first second_now grown
+    ends_alone none =
+        let all : stage.written ≡ firsts_given stage = sym (append-nil stage.written) ∙ ap (λ (o : Option X). stage.written ++ option_to_list o) (sym none) in
+        let near = s.near_first in
+        ends_by grown s.bytes
+        (λ known. subst (λ (w : List X). SettlesPair join w s.bytes stage.taken true) all (settles_close join stage.written s.bytes stage.taken (settles_ended known)))
+        s.put (near.0, near.1 ∙ all, near.2, near.3)
 
 -- Lemmas on reading an input to its end, from wherever its reader is.
 
 -- something is buffered if a member is ahead
 pub some_buffered : {A : Type 0} (line : ℕ) (items : List A) (m : Member A) → first_from line items ≡ Some m → 0 < length items
-some_buffered line [] m e = cc
-some_buffered line (x ∷ items) m e = omega arith
+some_buffered line items m e = grind arith
 
 -- and it is on the line after those given
 first_line : {A : Type 0} (line : ℕ) (items : List A) (m : Member A) → first_from line items ≡ Some m → m.line ≡ line

@@ -70,8 +70,7 @@ module _ {A State : Type 0} (format : Format A State) (input : Input) where
   ascending_beyond : (line from : ℕ) (members : List (Member A)) → line < from → AreAscending from members
       → All (λ m. line < m.line) members
   ascending_beyond line from [] h a = All-nil (λ (m : Member A). line < m.line)
-  ascending_beyond line from (m ∷ ms) h a =
-      All-cons (λ (m : Member A). line < m.line) m ms (omega (arith, a.0)) (ascending_beyond line (suc m.line) ms (omega (arith, a.0)) a.1)
+  ascending_beyond line from (m ∷ ms) h a = grind (arith, ascending_beyond line (suc m.line) ms (omega (arith, a.0)) a.1)
 
   -- a first member, what comes after it and the fault lie after the lines before its own
   beyond_first : (state : State) (number : ℕ) (lines : List TextLine) (rest : List (Member A)) (m : Member A) (count : ℕ) → AreNumbered number lines

@@ -5,7 +5,7 @@ use Rattle.bt_sweep.specs.calls.Sweeping.{first_stage, IsInOrder, MovesTo, Stage
 use Rattle.bt_sweep.specs.calls.SweepView.{order_of as sweep_order, state_of}
 use Rattle.bt_tool.specs.inside.Feed.{IsFresh, KeepsOwnFault, ConsumesGiven}
 use Rattle.bt_tool.specs.declared.loops.sweeping.SweepConfig.{SweepConfig}
-use Rattle.bt_tool.specs.inside.SweepLoop.{sweep_join, ReadsRest, SweepComes, SweepIsOver, Sweeps, config_of, is_sweep_ready, left_to_sweep, records_pair, sweep_rounds}
+use Rattle.bt_tool.specs.inside.SweepLoop.{sweep_join, ReadsRest, SweepComes, SweepIsOver, Sweeps, config_of, left_to_sweep, records_pair, sweep_rounds, sweep_run}
 use Rattle.bt_tool.proofs.lemmas.running.members.MemberLemmas.{passes_start}
 use Rattle.bt_tool.proofs.lemmas.running.pair.PairTurns.{comes_start, some_buffered}
 use Rattle.bt_tool.proofs.lemmas.running.members.PassedLemmas.{line_going, taken_reads}
@@ -105,13 +105,13 @@ module _ {A B O : Type 0} {g : Ghosts O} {source_a : Source A} {source_b : Sourc
   IsLess new = left_to_sweep new < left_to_sweep old
 
   abbrev Filled : SweepRun A B O g → Type 0
-  Filled = IsLessOrReady is_sweep_ready left_to_sweep old
+  Filled = IsLessOrReady (sweep_run source_a source_b) old
 
   abbrev Given : SweepRun A B O g → Type 0
-  Given = IsLessIfReady is_sweep_ready left_to_sweep old
+  Given = IsLessIfReady (sweep_run source_a source_b) old
 
   abbrev Leads : {T : Type 0} → (SweepRun A B O g → Type 0) → Result T Fault → SweepRun A B O g → Output → Type 0
-  Leads = LeadsTo (SweepComes source_a source_b) (SweepIsOver source_a source_b) start out
+  Leads = LeadsTo (sweep_run source_a source_b) start out
 
   -- it has come to these
   abbrev comes_to : (new : SweepRun A B O g) (later : Output) → Sweeps source_a source_b (order_in start.first) (config_of (state_of start.sweep)) start.first start.second out new.first new.second (state_of new.sweep) later

@@ -222,7 +222,7 @@ module _ {A B O : Type 0} {g : Ghosts O} {source_a : Source A} {source_b : Sourc
       ap (decided order last) items ∙ none_before order last (member_items past_second) m.item c.begun.total known with_m (undecided_beside order c.begun.total last m.item known on starts) in
       let parts : given later ≡ later.written ++ last ∷ [] = ap (λ (o : Option Feature). later.written ++ option_to_list o) waits in
       let held : is_held last m.item ≡ true = and_from (bytes_eq last.chrom m.item.chrom) (ltb last.start m.item.stop) (name_eq last.chrom m.item.chrom (sym on)) (lt-ltb last.start m.item.stop ends) in
-      stop.passes_limit join pair out (stage_of later) past_first past_second (view_of first_now) (view_of second_now) grown comes asks fits last waits m ahead TooManyHeld
+      stop.passes_limit comes asks fits last waits m ahead TooManyHeld
       (inr (some_limit config.limit (length (held_for (Some last) later.taken)) full, refl)) fault is undecided
       (λ known_now.
       cuts_at order config.limit later.written last past_second m fault is (subst (λ (l : List Feature). AreWithin order config.limit l past_second) parts (fits known_now))
@@ -273,7 +273,7 @@ module _ {A B O : Type 0} {g : Ghosts O} {source_a : Source A} {source_b : Sourc
   asked = s.stands.holds.reached
 
   asks_here : stage.a_ended ≡ false → AsksFor join pair out s.past_first (view_of second)
-  asks_here going = stop.asks_now join pair out (stage_of stage) s.past_first s.past_second (view_of first) (view_of second) grown s.comes asked
+  asks_here going = stop.asks_now s.comes asked
 
   -- no more was taken, and the sweep is at another stage
   goes_on : (first_now : Records A O g) (second_now : Records B O g) (swept : Sweeping) (now : Output) (next : Stage) → StandsAt order next swept → config_of swept ≡ config
@@ -303,19 +303,19 @@ module _ {A B O : Type 0} {g : Ghosts O} {source_a : Source A} {source_b : Sourc
     pub fills_first : (first_now : Records A O g) → FillsRecords source_a first (Ok true) first_now → Going first_now second sweep grown
     fills_first first_now fills =
         goes_on first_now second sweep grown stage s.stands s.config_is
-        (turned.fills_first join pair out (stage_of stage) s.past_first s.past_second (view_of first) (view_of second) grown s.comes none_waits not_ended (view_of first_now) (is_filled source_a first first_now fills))
+        (turned.fills_first s.comes none_waits not_ended (view_of first_now) (is_filled source_a first first_now fills))
         fills.order refl s.fits
 
     pub ends_first : (first_now : Records A O g) (swept : Sweeping) → FillsRecords source_a first (Ok false) first_now
         → MovesTo order sweep (with_a_ended stage) swept → Going first_now second swept grown
     ends_first first_now swept fills moves =
         goes_on first_now second swept grown (with_a_ended stage) moves.stands (moved swept (with_a_ended stage) moves)
-        (turned.ends_first join pair out (stage_of stage) s.past_first s.past_second (view_of first) (view_of second) grown s.comes none_waits not_ended (view_of first_now) (is_over source_a first first_now fills))
+        (turned.ends_first s.comes none_waits not_ended (view_of first_now) (is_over source_a first first_now fills))
         fills.order refl s.fits
 
     pub stops_first : (fault : Fault) (first_now : Records A O g) → FillsRecords source_a first (Err fault) first_now → Ends (Some (fault_value fault)) first_now second grown
     stops_first fault first_now fills =
-        stop.stops_first join pair out (stage_of stage) s.past_first s.past_second (view_of first) (view_of second) grown s.comes asks_here s.fits wrong none_waits not_ended (fault_value fault) (view_of first_now)
+        stop.stops_first s.comes asks_here s.fits wrong none_waits not_ended (fault_value fault) (view_of first_now)
         (is_stopped source_a first first_now fault fills)
 
   -- ---- one of the second is
@@ -333,14 +333,14 @@ module _ {A B O : Type 0} {g : Ghosts O} {source_a : Source A} {source_b : Sourc
     pub fills_second : (second_now : Records B O g) → FillsRecords source_b second (Ok true) second_now → Going first second_now sweep grown
     fills_second second_now fills =
         goes_on first second_now sweep grown stage s.stands s.config_is
-        (turned.fills_second join pair out (stage_of stage) s.past_first s.past_second (view_of first) (view_of second) grown s.comes goes (view_of second_now) (is_filled source_b second second_now fills))
+        (turned.fills_second s.comes goes (view_of second_now) (is_filled source_b second second_now fills))
         refl fills.order s.fits
 
     pub ends_second : (second_now : Records B O g) (swept : Sweeping) (now : Output) → FillsRecords source_b second (Ok false) second_now
         → MovesTo order sweep (with_b_ended stage) swept → Grown grown (lines_for sweep.shape sweep.rule a stage.taken) now → Going first second_now swept now
     ends_second second_now swept now fills moves adds =
         goes_on first second_now swept now (with_b_ended stage) moves.stands (moved swept (with_b_ended stage) moves)
-        (turned.ends_waiting join pair out (stage_of stage) s.past_first s.past_second (view_of first) (view_of second) grown s.comes goes (view_of second_now) (is_over source_b second second_now fills) a waiting.1 now
+        (turned.ends_waiting s.comes goes (view_of second_now) (is_over source_b second second_now fills) a waiting.1 now
         (by_config (λ c. Grown grown (lines_for c.shape c.rule a stage.taken) now) adds))
         refl fills.order (λ known. subst (λ (gs : List Feature). AreWithin order config.limit gs s.past_second) (sym (append-nil (given stage))) (s.fits known))
 
@@ -355,13 +355,13 @@ module _ {A B O : Type 0} {g : Ghosts O} {source_a : Source A} {source_b : Sourc
 
     pub stops_second : (fault : Fault) (second_now : Records B O g) → FillsRecords source_b second (Err fault) second_now → Ends (Some (fault_value fault)) first second_now grown
     stops_second fault second_now fills =
-        stop.stops_second join pair out (stage_of stage) s.past_first s.past_second (view_of first) (view_of second) grown s.comes asks_here s.fits a waiting.1 wrong_second asked goes opens (fault_value fault) (view_of second_now)
+        stop.stops_second s.comes asks_here s.fits a waiting.1 wrong_second asked goes opens (fault_value fault) (view_of second_now)
         (is_stopped source_b second second_now fault fills)
 
     pub fails_at_end : (fault : FaultValue) (second_now : Records B O g) (now : Output) → FillsRecords source_b second (Ok false) second_now → FailsToAdd grown (lines_for sweep.shape sweep.rule a stage.taken) fault now
         → Ends (Some fault) first second_now now
     fails_at_end fault second_now now fills fails =
-        stop.fails_at_end join pair out (stage_of stage) s.past_first s.past_second (view_of first) (view_of second) grown s.comes asks_here s.fits a waiting.1 asked goes fault (view_of second_now) now
+        stop.fails_at_end s.comes asks_here s.fits a waiting.1 asked goes fault (view_of second_now) now
         (is_over source_b second second_now fills) (by_config (λ c. FailsToAdd grown (lines_for c.shape c.rule a stage.taken) fault now) fails)
 
   -- ---- what both have buffered was given
@@ -485,7 +485,7 @@ module _ {A B O : Type 0} {g : Ghosts O} {source_a : Source A} {source_b : Sourc
           → (fault : FaultValue) (now : Output) → FailsToAdd grown (intersect config.shape config.rule newly (stage.taken ++ ss)) fault now → Ends (Some fault) first_now second_now now
       cuts_later each settles fault now fails =
           let items : given later ≡ given stage ++ member_items more_first = given_later ∙ ap (λ (l : List Feature). given stage ++ l) (sym items_first) in
-          stop.fails_to_write join pair out (stage_of stage) s.past_first s.past_second (view_of first) (view_of second) grown s.comes asks_here s.fits more_first more_second (view_of first_now) (view_of second_now) further further_second
+          stop.fails_to_write s.comes asks_here s.fits more_first more_second (view_of first_now) (view_of second_now) further further_second
           (stage.written ++ newly) (option_to_list w) items
           (λ known. subst (λ (l : List Feature). AreWithin order config.limit l (s.past_second ++ more_second)) items (fits_later each known))
           ended_second [] (intersect config.shape config.rule newly (stage.taken ++ ss))
@@ -496,7 +496,7 @@ module _ {A B O : Type 0} {g : Ghosts O} {source_a : Source A} {source_b : Sourc
       module _ (each : Settles order sweep.phase newly (ss ++ option_to_list (item_ahead (view_of second_now)))) (now : Output) (puts : PutsEach order sweep fs ss newly grown now) where
         comes_later : Comes join pair out (stage_of later) (s.past_first ++ more_first) (s.past_second ++ more_second) (view_of first_now) (view_of second_now) now
         comes_later =
-            turned.goes_on join pair out (stage_of stage) s.past_first s.past_second (view_of first) (view_of second) grown s.comes more_first more_second (view_of first_now) (view_of second_now) further further_second ended_first ended_second newly (stage_of later)
+            turned.goes_on s.comes more_first more_second (view_of first_now) (view_of second_now) further further_second ended_first ended_second newly (stage_of later)
             (record { given_is = given_later ∙ ap (λ (l : List Feature). given stage ++ l) (sym items_first); written_is = refl; taken_is = ap (λ (l : List Feature). stage.taken ++ l) (sym items_second); first_is = refl; second_is = refl })
             (intersect config.shape config.rule newly (stage.taken ++ ss)) now (λ known. settled_more stage.written newly s.comes.bytes newly_placed each (settled_seen known))
             (by_config (λ c. Grown grown (intersect c.shape c.rule newly (stage.taken ++ ss)) now) (puts stage s.stands placed_first placed_second))
@@ -545,7 +545,7 @@ module _ {A B O : Type 0} {g : Ghosts O} {source_a : Source A} {source_b : Sourc
         let past_first = s.past_first ++ members_from (suc (lines_given (below first))) fs in
         let past_second = s.past_second ++ members_from (suc (lines_given (below second))) ss in
         let asks : stage.a_ended ≡ false → AsksFor join pair out past_first (view_of second_now) =
-        λ going. stop.asks_then join pair out (stage_of stage) s.past_first s.past_second (view_of first) (view_of second) grown s.comes asked (λ more asks. leaves_more order (given stage) more stage.taken asks)
+        λ going. stop.asks_then s.comes asked (λ more asks. leaves_more order (given stage) more stage.taken asks)
         (members_from (suc (lines_given (below first))) fs) (members_from (suc (lines_given (below second))) ss) (view_of second_now) (further_second takes) in
         elim fails.cause [
           | inl write ↦ cuts_later takes fails.proceeds.newly fails.waiting fails.proceeds.are each settles fault now
@@ -564,13 +564,13 @@ module _ {A B O : Type 0} {g : Ghosts O} {source_a : Source A} {source_b : Sourc
                   | inl full ↦
                       limit_case fault first_now second_now (takes.second_order ∙ s.second_order ∙ c.begun.same_order) (stage_after stage fails.proceeds.newly (Some last) ss) last refl
                       (not_ended_with takes m ahead stage.b_ended refl) past_first past_second now comes asks fits m ahead lack.shares.chrom lack.shares.starts lack.shares.ends placed_last.0 full.0 full.1
-                  | inr ran ↦ stop.lacks_memory join pair out (stage_of (stage_after stage fails.proceeds.newly (Some last) ss)) past_first past_second (view_of first_now) (view_of second_now) now comes asks fits fault ran.1
+                  | inr ran ↦ stop.lacks_memory comes asks fits fault ran.1
                 ]
             | inr keep ↦
                 let are = fails.proceeds.are ∙ ap (λ (o : Option Feature). fails.proceeds.newly ++ option_to_list o) keep.waits in
                 let comes = comes_later takes fails.proceeds.newly (Some keep.last) are settles now keep.puts in
                 let fits = fits_later takes fails.proceeds.newly (Some keep.last) are each in
-                stop.lacks_memory join pair out (stage_of (stage_after stage fails.proceeds.newly (Some keep.last) ss)) past_first past_second (view_of first_now) (view_of second_now) now comes asks fits fault keep.is
+                stop.lacks_memory comes asks fits fault keep.is
           ]
         ]
 
@@ -584,10 +584,10 @@ module _ {A B O : Type 0} {g : Ghosts O} {source_a : Source A} {source_b : Sourc
         → Ends (fault_in result) first second_now grown
     finishes_both {T} (Ok unit) second_now reads =
         let checks = subst (λ (o : Order). ReadsRest {T = T} source_b (IsBedKind o) (view_of second) (Ok unit) (view_of second_now)) (s.second_order ∙ c.begun.same_order) reads (view_of old_second) s.past_second s.comes.second_passes wrong_bed in
-        stop.ends_rest join pair out (stage_of stage) s.past_first s.past_second (view_of first) (view_of second) grown s.comes asks_here s.fits done (view_of second_now) (λ some. absurd (false≢true (ap is_some (sym checks.1.going) ∙ some))) checks.1.bytes (s.past_second ++ checks.0) None
+        stop.ends_rest s.comes asks_here s.fits done (view_of second_now) (λ some. absurd (false≢true (ap is_some (sym checks.1.going) ∙ some))) checks.1.bytes (s.past_second ++ checks.0) None
         (inl (refl, checks.2, record { served = checks.1.served; within = checks.1.kept.within checks.1.clear }, refl))
     finishes_both {T} (Err fault) second_now reads =
         let checks = subst (λ (o : Order). ReadsRest {T = T} source_b (IsBedKind o) (view_of second) (Err fault) (view_of second_now)) (s.second_order ∙ c.begun.same_order) reads (view_of old_second) s.past_second s.comes.second_passes wrong_bed in
-        stop.stops_rest join pair out (stage_of stage) s.past_first s.past_second (view_of first) (view_of second) grown s.comes asks_here s.fits done (view_of second_now) (λ some. checks.low) (s.past_second ++ checks.more) (fault_value fault)
+        stop.stops_rest s.comes asks_here s.fits done (view_of second_now) (λ some. checks.low) (s.past_second ++ checks.more) (fault_value fault)
         (stops_wider source_b (view_of old_second) (IsBedKind order) join.second_kinds (λ kind of_bed. inl of_bed) (s.past_second ++ checks.more) (fault_value fault) (view_of second_now) checks.stops)
         (λ e. checks.before_end (s.comes.second_all e).2) refl

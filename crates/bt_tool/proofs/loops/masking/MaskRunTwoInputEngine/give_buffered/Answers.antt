@@ -35,13 +35,12 @@ returns g c = λ start out begun.
     let are = lines_consumed lines first_lines last_lines gives.texts begins gives.passes.left_is gives.passes.all_is gives.passes.given gives.passes.open_is c.consumed-consumed.result c.consumed-consumed.ensures in
     let taken = blocks_given records c.buffered-beds.result c.advance-masked.new.records gives.taken c.consumed-consumed-2.result c.buffered-beds.ensures.lends gives.given c.consumed-consumed-2.ensures in
     let has = blocks_taken g.B.Source records c.consume-2.new.self (count_in records c.consumed-consumed-2.result) gives.taken taken c.buffered-beds.ensures.comes c.consume-2.ensures in
-    gave_both g.A.Source g.B.Source start out c.args.self.now c.args.out.now.output begun
+    gave_both begun
     (record { lines = c.consume.new.self; records = c.consume-2.new.self; mask = c.advance-masked.new.self }) c.advance-masked.new.out.output
     (counts_none g.A.Source.is_read (source_of lines) (source_of c.consume.new.self) (bytes_taken lines) (bytes_taken c.consume.new.self) c.consume.ensures.source_is c.consume.ensures.taken_is)
     (taken_reads g.B.Source second gives.taken (view_of c.consume-2.new.self) has) c.consume.ensures.fault_is has.takes.goes
     c.advance-masked.result (λ start before going.
     let s = going.1 in
-    gives_both g.A.Source g.B.Source start before going.0 lines second c.args.self.now.mask c.args.out.now.output s
-    first_lines last_lines begins gives.texts parts numbered c.buffered-beds.result c.advance-masked.new.records (lent_are records c.buffered-beds.result c.buffered-beds.ensures.lends) (lent_at records c.buffered-beds.result c.buffered-beds.ensures.lends)
-    gives.taken gives.given c.consume.new.self (none_over lines) c.consumed-consumed.result are c.consume.ensures (view_of c.consume-2.new.self) has
+    gives_both s begins last_lines gives.texts parts numbered (lent_are records c.buffered-beds.result c.buffered-beds.ensures.lends) (lent_at records c.buffered-beds.result c.buffered-beds.ensures.lends)
+    gives.given (none_over lines) are c.consume.ensures has
     c.advance-masked.result c.advance-masked.new.self c.advance-masked.new.out.output (λ next. gives.comes s.stage s.stands next) c.advance-masked.ensures.stops)
