@@ -70,9 +70,7 @@ flipped_worth (byte ∷ bytes) all =
 
 flipped_within : (bytes : List ℕ) → AreWithin 0 255 bytes → AreWithin 0 255 (flipped bytes)
 flipped_within [] all = tt
-flipped_within (byte ∷ bytes) all =
-    let small = xor_of_8 byte 48 (omega arith) (omega arith) in
-    (omega arith, omega arith, flipped_within bytes all.2)
+flipped_within (byte ∷ bytes) all = grind (arith, (flipped_within bytes all.2), xor_of_8)
 
 -- both halves of a byte whose bits are flipped
 flipped_byte : (byte : ℕ) → bit_xor byte 48 ≡ bit_xor (byte / 16) 3 * 16 + byte % 16
@@ -82,31 +80,19 @@ flipped_byte byte =
     ∙ ap (λ n. bit_xor (byte / 16) 3 * 16 + n) (xor_zero_r (byte % 16))
 
 flipped_digit : (byte : ℕ) → 48 ≤ byte → byte ≤ 57 → bit_xor byte 48 ≡ byte - 48
-flipped_digit byte low high =
-    let upper : byte / 16 ≡ 3 = omega arith in
-    flipped_byte byte ∙ ap (λ n. bit_xor n 3 * 16 + byte % 16) upper ∙ omega arith
+flipped_digit byte low high = grind (arith, flipped_byte)
 
 -- a byte that is small with its bits flipped is a digit
 digit_flipped : (byte : ℕ) → bit_xor byte 48 ≤ 9 → (48 ≤ byte) × (byte ≤ 57)
-digit_flipped byte small =
-    let is = flipped_byte byte in
-    let sum = xor_add_and (byte / 16) 3 in
-    let most = and_le_r (byte / 16) 3 in
-    let own = and_le_l (byte / 16) 3 in
-    let none : bit_xor (byte / 16) 3 ≡ 0 = omega arith in
-    (omega arith, omega arith)
+digit_flipped byte small = grind (arith, flipped_byte, xor_add_and, and_le_r, and_le_l)
 
 flipped_digits : (bytes : List ℕ) → AreWithin 48 57 bytes → AreWithin 0 9 (flipped bytes)
 flipped_digits [] all = tt
-flipped_digits (byte ∷ bytes) all =
-    let is = flipped_digit byte all.0 all.1 in
-    (omega arith, omega arith, flipped_digits bytes all.2)
+flipped_digits (byte ∷ bytes) all = grind (arith, (flipped_digits bytes all.2), flipped_digit)
 
 digits_flipped : (bytes : List ℕ) → AreWithin 0 9 (flipped bytes) → AreWithin 48 57 bytes
 digits_flipped [] all = tt
-digits_flipped (byte ∷ bytes) all =
-    let is = digit_flipped byte all.1 in
-    (is.0, is.1, digits_flipped bytes all.2)
+digits_flipped (byte ∷ bytes) all = grind (arith, (digits_flipped bytes all.2), digit_flipped)
 
 -- the upper half of a byte
 upper : (byte : ℕ) → bit_and byte 240 ≡ (byte / 16 % 16) * 16
@@ -122,10 +108,7 @@ uppers (byte ∷ bytes) all e =
 
 no_uppers : (bytes : List ℕ) → AreWithin 0 15 bytes → worth (masked bytes 240) ≡ 0
 no_uppers [] all = refl
-no_uppers (byte ∷ bytes) all =
-    let is = upper byte in
-    let rest = no_uppers bytes all.2 in
-    omega arith
+no_uppers (byte ∷ bytes) all = grind (arith, (no_uppers bytes all.2), upper)
 
 lowered_within : (bytes : List ℕ) (high more : ℕ) → AreWithin 0 (high + more) (raised bytes more) → AreWithin 0 high bytes
 lowered_within [] high more all = tt
@@ -141,8 +124,7 @@ digits_within : (bytes : List ℕ) → list_all is_ascii_digit bytes ≡ true �
 digits_within [] all = tt
 digits_within (byte ∷ bytes) all =
     let parts = and_parts (is_ascii_digit byte) (list_all is_ascii_digit bytes) all in
-    let here = digit_within byte parts.0 in
-    (here.0, here.1, digits_within bytes parts.1)
+    grind (arith, (digits_within bytes parts.1), digit_within)
 
 within_digits : (bytes : List ℕ) → AreWithin 48 57 bytes → list_all is_ascii_digit bytes ≡ true
 within_digits [] all = refl
@@ -177,8 +159,7 @@ eight = by_eight Eight (λ a b c d e f g h.
 
 no_digits : (bytes : List ℕ) → list_all is_ascii_digit bytes ≡ false → None ≡ value_of bytes
 unfolding value_of
-no_digits bytes e =
-    sym (refused_second (ltb 0 (length bytes)) (list_all is_ascii_digit bytes) (leb (digits_value 10 bytes) 999999999999) (Some (digits_value 10 bytes)) None e)
+no_digits bytes e = grind arith
 
 -- eight bytes as one number with the bits of the zeros' codes flipped
 abbrev pub ones_in : List ℕ → ℕ
@@ -232,30 +213,18 @@ sixes_fit bytes n all small = let most = ones_up_to bytes n all small in omega a
 -- some half isn't 0
 pub none_by_halves : (bytes : List ℕ) → length bytes ≡ 8 → AreWithin 0 255 bytes → (halves_in (ones_in bytes) ≡ 0 → ⊥) → None ≡ value_of bytes
 none_by_halves bytes n all other = elim (cases_Bool (list_all is_ascii_digit bytes)) [
-  | inl digits ↦
-      let nines = flipped_digits bytes (digits_within bytes digits) in
-      let small = looser (flipped bytes) 0 9 0 15 (omega arith) (omega arith) nines in
-      let lower = upper_ones bytes n all ∙ no_uppers (flipped bytes) small in
-      let sums = upper_sums bytes n all small ∙ no_uppers (raised (flipped bytes) 6) (raised_within (flipped bytes) 0 9 6 nines) in
-      absurd (other (rw (sixes_fit bytes n all small) (and_or_apart 17361641481138401520 (ones_in bytes) (ones_in bytes + 434041037028460038) sums ∙ lower)))
+  | inl digits ↦ grind (arith, flipped_digits, digits_within, looser, upper_ones, no_uppers, upper_sums, raised_within, sixes_fit, and_or_apart)
   | inr none ↦ no_digits bytes none
 ]
 
 -- all eight are digits
 all_digits : (bytes : List ℕ) → length bytes ≡ 8 → AreWithin 0 255 bytes → AreWithin 0 15 (flipped bytes)
     → bit_and (ones_in bytes + 434041037028460038) 17361641481138401520 ≡ 0 → AreWithin 48 57 bytes
-all_digits bytes n all small same =
-    let fs = flipped bytes in
-    let within = looser (raised fs 6) 0 21 0 255 (omega arith) (omega arith) (raised_within fs 0 15 6 small) in
-    digits_flipped bytes (lowered_within fs 9 6 (uppers (raised fs 6) within (sym (upper_sums bytes n all small) ∙ same)))
+all_digits bytes n all small same = grind (arith, looser, raised_within, digits_flipped, lowered_within, uppers, upper_sums)
 
 -- all halves are 0
 pub digits_by_halves : (bytes : List ℕ) → length bytes ≡ 8 → AreWithin 0 255 bytes → halves_in (ones_in bytes) ≡ 0 → AreWithin 48 57 bytes
-digits_by_halves bytes n all none =
-    let ones = ones_in bytes in
-    let sixes = (ones + 434041037028460038) % 18446744073709551616 in
-    let small = some_uppers bytes n all (no_bit sixes ones 17361641481138401520 (ap (λ x. bit_and x 17361641481138401520) (or_comm sixes ones) ∙ none)) in
-    all_digits bytes n all small (ap (λ x. bit_and x 17361641481138401520) (sym (sixes_fit bytes n all small)) ∙ no_bit ones sixes 17361641481138401520 none)
+digits_by_halves bytes n all none = grind (arith, some_uppers, no_bit, or_comm, all_digits, sixes_fit)
 
 -- bytes by their index
 pub are_bytes : (bytes : List ℕ) → ((i : ℕ) → get_or bytes i 0 < 256) → AreWithin 0 255 bytes
@@ -292,11 +261,7 @@ value_small pairs = omega arith
 
 value_fours : (a c e g : ℕ) → a ≤ 99 → c ≤ 99 → e ≤ 99 → g ≤ 99
     → value_in (worth (a ∷ 0 ∷ c ∷ 0 ∷ e ∷ 0 ∷ g ∷ 0 ∷ [])) ≡ a * 1000000 + c * 10000 + e * 100 + g
-value_fours a c e g i j k l =
-    let pairs = worth (a ∷ 0 ∷ c ∷ 0 ∷ e ∷ 0 ∷ g ∷ 0 ∷ []) in
-    let rest : pairs / 65536 ≡ c + e * 65536 + g * 4294967296 = omega arith in
-    let fours : pairs * 100 + pairs / 65536 ≡ (100 * a + c) + (100 * c + e) * 65536 + (100 * e + g) * 4294967296 + (100 * g) * 281474976710656 = omega arith in
-    rw fours (omega arith)
+value_fours a c e g i j k l = grind arith
 
 value_eight : (a b c d e f g h ones : ℕ) → a ≤ 9 → b ≤ 9 → c ≤ 9 → d ≤ 9 → e ≤ 9 → f ≤ 9 → g ≤ 9 → h ≤ 9
     → ones ≡ worth (a ∷ b ∷ c ∷ d ∷ e ∷ f ∷ g ∷ h ∷ [])
@@ -304,12 +269,7 @@ value_eight : (a b c d e f g h ones : ℕ) → a ≤ 9 → b ≤ 9 → c ≤ 9 �
 value_eight a b c d e f g h ones i j k l m n o p is =
     let rest : ones / 256 ≡ b + c * 256 + d * 65536 + e * 16777216 + f * 4294967296 + g * 1099511627776 + h * 281474976710656 = omega arith in
     let pairs : ones * 10 + ones / 256 ≡ worth ((10 * a + b) ∷ (10 * b + c) ∷ (10 * c + d) ∷ (10 * d + e) ∷ (10 * e + f) ∷ (10 * f + g) ∷ (10 * g + h) ∷ (10 * h) ∷ []) = omega arith in
-    rw (
-      pairs,
-      four_bytes (10 * a + b) (10 * b + c) (10 * c + d) (10 * d + e) (10 * e + f) (10 * f + g) (10 * g + h) (10 * h)
-          (omega arith) (omega arith) (omega arith) (omega arith) (omega arith) (omega arith) (omega arith) (omega arith),
-    )
-    (value_fours (10 * a + b) (10 * c + d) (10 * e + f) (10 * g + h) (omega arith) (omega arith) (omega arith) (omega arith) ∙ omega arith)
+    grind (arith, four_bytes, value_fours)
 
 digit_at : (byte : ℕ) → 48 ≤ byte → byte ≤ 57 → digit_value byte ≡ byte - 48
 digit_at byte low high = digit_is byte (within_digit byte low high)
@@ -351,9 +311,7 @@ eight_small = by_eight (λ bytes. AreWithin 48 57 bytes → (value_in (pairs_in 
 
 -- eight digits denote their value
 pub value_of_eight_digits : (bytes : List ℕ) → length bytes ≡ 8 → AreWithin 48 57 bytes → Some (digits_value 10 bytes) ≡ value_of bytes
-value_of_eight_digits bytes n all =
-    let is = eight_small bytes n all in
-    value_of_digits bytes (omega arith) (within_digits bytes all) is.1
+value_of_eight_digits bytes n all = grind (arith, eight_small, value_of_digits, within_digits)
 
 -- eight digits' values are so large at most
 ones_of_digits : (bytes : List ℕ) → length bytes ≡ 8 → AreWithin 48 57 bytes → ones_in bytes ≤ 651061555542690057
@@ -456,8 +414,7 @@ module _ (bytes : List ℕ) (count : ℕ) (n : length bytes ≡ 8) (few : count 
       ∙ ap worth (after_append (8 - count) 0 (take count fs) (drop count fs))
       ∙ worth_append front (drop count fs)
       ∙ ap (λ k. worth front + worth (drop count fs) * 256 ^ k) size in
-      rw all_are (omega (arith, small))
-      ∙ ap worth (sym is) ∙ sym (ones_are padded padded_length within)
+      grind (arith, ones_are, padded_length)
 
   -- what is read of them, if they are digits
   pub few_read : list_all is_ascii_digit (take count bytes) ≡ true → (ones_in padded ≤ 651061555542690057) × AreOnes padded (ones_in padded)
