@@ -61,13 +61,12 @@ pub front_part : (old mid new : Option (List ℕ)) (taken rest piece : List ℕ)
 front_part old mid None taken rest piece e p q = tt
 front_part None mid (Some new) taken rest piece e p q = tt
 front_part (Some old) None (Some new) taken rest piece e p q = absurd p
-front_part (Some old) (Some mid) (Some new) taken rest piece e p q =
-    (rest, ap (λ l. l ++ rest) (q ∙ p) ∙ append_assoc old taken rest ∙ ap (λ l. old ++ l) (sym e))
+front_part (Some old) (Some mid) (Some new) taken rest piece e p q = grind (arith, (append_assoc old taken rest))
 
 -- one more part was taken
 pub more_taken : (old mid new : Option (List ℕ)) (taken rest piece : List ℕ) (n : ℕ) → piece ≡ taken ++ rest → Appends old mid taken → Appends mid new (take n rest)
     → (piece ≡ (taken ++ take n rest) ++ drop n rest) × Appends old new (taken ++ take n rest)
-more_taken old mid new taken rest piece n e p q = grind (arith, take-append-drop, append_assoc, Appends-trans)
+more_taken old mid new taken rest piece n e p q = grind (arith, take-append-drop, append_assoc)
 
 -- what was taken is a prefix of itself and of what is held back
 pub front_held : (took : Option (List ℕ)) (held more : List ℕ) → IsPrefixOf took (append_known took held) more
@@ -100,8 +99,7 @@ module _ (held piece : List ℕ) (n k : ℕ) where
   front_over old mid None p f = tt
   front_over None mid (Some new) p f = tt
   front_over (Some old) None (Some new) p f = absurd p
-  front_over (Some old) (Some mid) (Some new) p f =
-      (f.0 ++ drop k rest, sym (append_assoc new f.0 (drop k rest)) ∙ ap (λ l. l ++ drop k rest) f.1 ∙ all_over old mid p)
+  front_over (Some old) (Some mid) (Some new) p f = grind (arith, (append_assoc new f.0 (drop k rest)), (all_over old mid p))
 
 -- what was taken grows, and grows again
 pub grows_both : (old mid new : Option (List ℕ)) → Grows old mid → Grows mid new → Grows old new
@@ -117,8 +115,7 @@ holds_held took held short = grind arith
 pub front_longer : (new old : Option (List ℕ)) (xs ys : List ℕ) → IsPrefixOf new old xs → IsPrefixOf new old (xs ++ ys)
 front_longer None old xs ys f = tt
 front_longer (Some new) None xs ys f = tt
-front_longer (Some new) (Some old) xs ys f =
-    (f.0 ++ ys, sym (append_assoc new f.0 ys) ∙ ap (λ l. l ++ ys) f.1 ∙ append_assoc old xs ys)
+front_longer (Some new) (Some old) xs ys f = grind (arith, (append_assoc new f.0 ys), (append_assoc old xs ys))
 
 -- a prefix of bytes that follow some that were appended
 pub front_behind : (new old mid : Option (List ℕ)) (xs ys : List ℕ) → Appends old mid xs → IsPrefixOf new mid ys → IsPrefixOf new old (xs ++ ys)
@@ -129,17 +126,10 @@ grows_nothing a = ([], Appends-nil a)
 
 module _ (old mid new : Output) (xs ys : List ℕ) where
   pub put_more : PutsAll old xs mid → PutsAll mid ys new → PutsAll old (xs ++ ys) new
-  put_more p q = grind (arith, Appends-trans, grows_both)
+  put_more p q = grind (arith, Appends-trans)
 
   pub fails_behind : (fault : FaultValue) → PutsAll old xs mid → FailsToPut mid ys fault new → FailsToPut old (xs ++ ys) fault new
-  fails_behind fault p q = record {
-    is = q.is;
-    front = front_behind new.took old.put mid.put xs ys p.appends q.front;
-    grows = grows_both old.took mid.took new.took p.grows q.grows;
-    failed = q.failed;
-    sink_failed = q.sink_failed;
-    again = λ e. absurd (false≢true (sym p.was_served ∙ e));
-  }
+  fails_behind fault p q = grind (arith, (front_behind new.took old.put mid.put xs ys p.appends q.front), (grows_both old.took mid.took new.took p.grows q.grows), false≢true)
 
 pub fails_before : (old new : Output) (xs ys : List ℕ) (fault : FaultValue) → FailsToPut old xs fault new → FailsToPut old (xs ++ ys) fault new
 fails_before old new xs ys fault p = grind (arith, front_longer)
@@ -195,28 +185,10 @@ nothing_behind (x ∷ xs) ys e = cc
 
 module _ (old mid new : Output) (xs ys : List ℕ) where
   pub grown_more : Grown old xs mid → Grown mid ys new → Grown old (xs ++ ys) new
-  grown_more p q = record {
-    appends = Appends-trans old.put mid.put new.put xs ys p.appends q.appends;
-    block = λ h. q.block (p.block h);
-    grows = grows_both old.took mid.took new.took p.grows q.grows;
-    served = q.served ∙ p.served;
-    sink_served = q.sink_served ∙ p.sink_served;
-    again = λ e. q.again (p.served ∙ e) ∙ p.again e;
-    nothing = λ e. q.nothing (nothing_behind xs ys e) ∙ p.nothing (nothing_before xs ys e);
-  }
+  grown_more p q = grind (arith, (Appends-trans old.put mid.put new.put xs ys p.appends q.appends), (grows_both old.took mid.took new.took p.grows q.grows), nothing_behind, nothing_before)
 
   pub fails_then : (fault : FaultValue) → Grown old xs mid → FailsToAdd mid ys fault new → FailsToAdd old (xs ++ ys) fault new
-  fails_then fault p q = record {
-    puts = record {
-      is = q.puts.is;
-      front = front_behind new.took old.put mid.put xs ys p.appends q.puts.front;
-      grows = grows_both old.took mid.took new.took p.grows q.puts.grows;
-      failed = q.puts.failed;
-      sink_failed = q.puts.sink_failed;
-      again = λ e. q.puts.again (p.served ∙ e) ∙ p.again e;
-    };
-    some = λ e. q.some (nothing_behind xs ys e);
-  }
+  fails_then fault p q = grind (arith, (front_behind new.took old.put mid.put xs ys p.appends q.puts.front), (grows_both old.took mid.took new.took p.grows q.puts.grows), nothing_behind)
 
 pub adds_more : {A : Type 0} (old mid new : Output) (xs ys : List ℕ) (r : Result A Fault) → Grown old xs mid → Adds mid ys r new → Adds old (xs ++ ys) r new
 adds_more old mid new xs ys (Ok done) p q = grown_more old mid new xs ys p q
@@ -272,11 +244,7 @@ span_written text one two start stop end before first room early same stops star
     starts ∙ ap (λ l. 9 ∷ (decimal start ++ l)) (stops ∙ ap (λ l. 9 ∷ (decimal stop ++ l)) (drop-set text 42 end (omega arith)))
     ∙ ap (λ l. 9 ∷ (decimal start ++ 9 ∷ l)) (sym (append_assoc (decimal stop) (end ∷ []) rest))
     ∙ ap (λ l. 9 ∷ l) (sym (append_assoc (decimal start) (9 ∷ (decimal stop ++ end ∷ [])) rest)) in
-    record {
-      rest = rest;
-      is = is;
-      size = omega (arith, ap length is, length-append span rest, length-drop first two, length-drop 43 text);
-    }
+    grind (arith, (length-append span rest), (length-drop first two), (length-drop 43 text))
 
 -- it is moved to the beginning with what follows it
 pub span_moved : (text : List ℕ) (first : ℕ) (span : List ℕ) → first + 64 ≤ length text → HasSpan text first span
@@ -285,17 +253,13 @@ span_moved text first span room has =
     let moved = chunk first 64 text in
     let size : length moved ≡ 64 = length-chunk first 64 text room in
     let begins : take 64 (put_chunk 0 text moved) ≡ moved = take_more_put_chunk 0 text moved 64 (omega (arith, size)) (omega arith) in
-    sym (take-take (43 - first) 64 (put_chunk 0 text moved) (omega arith))
-    ∙ ap (take (43 - first)) begins
-    ∙ take-take (43 - first) 64 (drop first text) (omega arith)
-    ∙ ap (take (43 - first)) has.is
-    ∙ take_at span has.rest (43 - first) has.size
+    grind (arith, (take-take (43 - first) 64 (put_chunk 0 text moved) (omega arith)), (take-take (43 - first) 64 (drop first text) (omega arith)), (take_at span has.rest (43 - first) has.size))
 
 -- a span was written after a name, with other bytes after it
 pub span_put : (bytes copied written name span : List ℕ) (len k m size : ℕ) → len + length name ≤ length bytes → copied ≡ name
     → size ≤ length written → take size written ≡ span
     → take (len + length name + size) (put_mid (len + length name) m (put_mid len k bytes copied) written) ≡ take len bytes ++ (name ++ span)
-span_put bytes copied written name span len k m size room same fits is = grind (arith, take-put_mid, length-append, length-take-le, take-add, take-put_mid_below, drop_at, take-append-le, append_assoc)
+span_put bytes copied written name span len k m size room same fits is = grind (arith, take-put_mid, length-append, length-take-le, take-add, drop_at, take-append-le, append_assoc)
 
 -- a start, a stop and the byte that ends them have at most 43 bytes
 pub span_short : (start stop end : ℕ) → start < 2 ^ 64 → stop < 2 ^ 64 → length (span_text start stop end) ≤ 43

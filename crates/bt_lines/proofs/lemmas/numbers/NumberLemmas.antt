@@ -25,19 +25,15 @@ value_of_empty text e = grind arith
 
 pub value_of_other : (text : List ℕ) (i : ℕ) → i < length text → is_ascii_digit (get_or text i 0) ≡ false → None ≡ value_of text
 unfolding value_of
-value_of_other text i h other = grind (arith, refused_second, list_all_at)
+value_of_other text i h other = grind (arith, list_all_at)
 
 -- a prefix of the digits has at most the value of all of them
 front_le : (text : List ℕ) (i : ℕ) → digits_value 10 (take i text) ≤ digits_value 10 text
-front_le text i =
-    let front = map digit_value (take i text) in
-    let rest = map digit_value (drop i text) in
-    let joined : map digit_value text ≡ front ++ rest = ap (map digit_value) (sym (take-append-drop i text)) ∙ map-append digit_value (take i text) (drop i text) in
-    grind (arith, digits_value_is, number_after_append, number_after_ge)
+front_le text i = grind (arith, (take-append-drop i text), (map-append digit_value (take i text) (drop i text)), digits_value_is, number_after_append, number_after_ge)
 
 pub value_of_large : (text : List ℕ) (i : ℕ) → 999999999999 < digits_value 10 (take i text) → None ≡ value_of text
 unfolding value_of
-value_of_large text i large = grind (arith, front_le, nat_tests, refused_third)
+value_of_large text i large = grind (arith, front_le)
 
 pub value_of_digits : (text : List ℕ) → 0 < length text → list_all is_ascii_digit text ≡ true → digits_value 10 text ≤ 999999999999 → Some (digits_value 10 text) ≡ value_of text
 unfolding value_of
@@ -45,12 +41,12 @@ value_of_digits text some digits small = grind arith
 
 -- a digit stands for its distance from '0'
 pub digit_is : (b : ℕ) → is_ascii_digit b ≡ true → digit_value b ≡ b - 48
-digit_is b digit = grind (arith, nat_tests)
+digit_is b digit = grind arith
 
 -- the value with one more digit
 pub value_more : (text : List ℕ) (i value : ℕ) → i < length text → value ≡ digits_value 10 (take i text) → is_ascii_digit (get_or text i 0) ≡ true
     → value * 10 + (get_or text i 0 - 48) ≡ digits_value 10 (take (i + 1) text)
-value_more text i value h e digit = grind (arith, digits_value_more, digit_is)
+value_more text i value h e digit = grind (arith, digits_value_more)
 
 -- all of these are digits, and so is the next
 pub digits_more : (text : List ℕ) (i : ℕ) → i < length text → list_all is_ascii_digit (take i text) ≡ true → is_ascii_digit (get_or text i 0) ≡ true
@@ -64,7 +60,7 @@ value_of_whole text i value some end e all small = grind (arith, take_all, value
 
 -- a digit stands for at most 9
 pub digit_small : (b : ℕ) → is_ascii_digit b ≡ true → b - 48 ≤ 9
-digit_small b digit = grind (arith, nat_tests)
+digit_small b digit = grind arith
 
 -- one digit more than `i` digits
 pub value_below : (i value digit : ℕ) → value < 10 ^ i → digit ≤ 9 → value * 10 + digit < 10 ^ (i + 1)
@@ -76,9 +72,7 @@ value_short i value below short = grind (arith, pow-le-pow_right)
 
 pub all_digits_in : (text : List ℕ) → list_all is_ascii_digit text ≡ true → AllDigits 10 text
 all_digits_in [] all = tt
-all_digits_in (byte ∷ bytes) all =
-    let parts = and_parts (is_ascii_digit byte) (list_all is_ascii_digit bytes) all in
-    grind (arith, (all_digits_in bytes parts.1), digit_is, digit_small)
+all_digits_in (byte ∷ bytes) all = grind (arith, (and_parts (is_ascii_digit byte) (list_all is_ascii_digit bytes) all), (all_digits_in bytes (and_parts (is_ascii_digit byte) (list_all is_ascii_digit bytes) all).1))
 
 -- `n` digits have a value below 10 ^ n
 pub digits_below : (text : List ℕ) → list_all is_ascii_digit text ≡ true → digits_value 10 text < 10 ^ length text
@@ -111,20 +105,14 @@ small_bit a = grind arith
 -- the bits of what one of two tests accepts
 pub or_masks : (p q : ℕ → Bool) (xs : List ℕ) → bit_or (mask_l (map p xs)) (mask_l (map q xs)) ≡ mask_l (map (λ x. p x || q x) xs)
 or_masks p q [] = refl
-or_masks p q (x ∷ xs) =
-    let m = mask_l (map p xs) in
-    let n = mask_l (map q xs) in
-    let first : cond (p x) 1 0 + 2 * m ≡ m * 2 ^ 1 + cond (p x) 1 0 = omega arith in
-    let second : cond (q x) 1 0 + 2 * n ≡ n * 2 ^ 1 + cond (q x) 1 0 = omega arith in
-    let rest = or_masks p q xs in
-    rw (first, second, or_block 1 m n (cond (p x) 1 0) (cond (q x) 1 0) (small_bit (p x)) (small_bit (q x)), or_bits (p x) (q x), rest) (omega arith)
+or_masks p q (x ∷ xs) = grind (arith, (or_masks p q xs), (or_block 1 (mask_l (map p xs)) (mask_l (map q xs)) (cond (p x) 1 0) (cond (q x) 1 0) (small_bit (p x)) (small_bit (q x))), (or_bits (p x) (q x)))
 
 -- no other byte is a digit, and a digit is none
 digit_if_no_other : (byte : ℕ) → is_other byte ≡ false → is_ascii_digit byte ≡ true
-digit_if_no_other byte e = grind (arith, nat_tests)
+digit_if_no_other byte e = grind arith
 
 other_is_no_digit : (byte : ℕ) → not (is_other byte) ≡ false → is_ascii_digit byte ≡ false
-other_is_no_digit byte e = grind (arith, nat_tests)
+other_is_no_digit byte e = grind arith
 
 front_of : (bytes : List ℕ) (byte n : ℕ) (b : Bool) → is_other byte ≡ b → list_all is_ascii_digit (take n bytes) ≡ true
     → list_all is_ascii_digit (take (cond (not b) (1 + n) 0) (byte ∷ bytes)) ≡ true
@@ -142,20 +130,11 @@ pub record AreFront (bytes : List ℕ) (count : ℕ) : Type 0 where
   pub all : count < length bytes → is_ascii_digit (get_or bytes count 0) ≡ false
 
 front : (bytes : List ℕ) → AreFront bytes (prefix_len (λ b. not (is_other b)) bytes)
-front bytes = record {
-  few = prefix_len-le-length (λ b. not (is_other b)) bytes;
-  digits = front_digits bytes;
-  all = λ less. other_is_no_digit (get_or bytes (prefix_len (λ b. not (is_other b)) bytes) 0) (prefix_len_stops (λ b. not (is_other b)) bytes 0 less);
-}
+front bytes = grind (arith, (prefix_len-le-length (λ b. not (is_other b)) bytes), (front_digits bytes), other_is_no_digit, prefix_len_stops)
 
 -- by the bits of the other bytes, as they are loaded: if there is none, and if there is one
 pub front_whole : (bytes : List ℕ) (mask : ℕ) → length bytes ≡ 8 → mask ≡ mask_l (map is_other (chunk 0 8 bytes)) → mask ≡ 0 → AreFront bytes 8
-front_whole bytes mask size is none = grind (arith, common_steps, chunk, take-length, first_set_mask_l, front)
+front_whole bytes mask size is none = grind (arith, common_steps)
 
 pub front_part : (bytes : List ℕ) (mask : ℕ) → length bytes ≡ 8 → mask ≡ mask_l (map is_other (chunk 0 8 bytes)) → (mask ≡ 0 → ⊥) → AreFront bytes (count_trailing_zeros 64 mask)
-front_part bytes mask size loaded some =
-    let whole : chunk 0 8 bytes ≡ bytes = ap (λ n. take n bytes) (sym size) ∙ take-length bytes in
-    let is = loaded ∙ ap (λ l. mask_l (map is_other l)) whole in
-    let bit : 0 < mask_l (map is_other bytes) = rw (← is) (omega (arith, some)) in
-    let count = trailing_mask_l is_other 64 bytes (omega (arith, size)) bit in
-    subst (AreFront bytes) (sym (ap (count_trailing_zeros 64) is ∙ count)) (front bytes)
+front_part bytes mask size loaded some = grind (arith, (take-length bytes), trailing_mask_l, (front bytes))

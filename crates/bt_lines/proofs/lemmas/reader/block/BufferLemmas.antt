@@ -56,9 +56,7 @@ none_searched xs a = record { clear = rw (range_none xs a) (All-nil (λ b. eqb b
 
 -- a part, as what comes after some of the first bytes
 pub range_drop : (xs : List ℕ) (a b : ℕ) → a ≤ b → slice_range xs a b ≡ drop a (take b xs)
-range_drop xs a b h =
-    let all : a + (b - a) ≡ b = omega arith in
-    sym (drop-take a (b - a) xs) ∙ ap (λ (n : ℕ). drop a (take n xs)) all
+range_drop xs a b h = grind (arith, (drop-take a (b - a) xs))
 
 shorter_front : (l : List ℕ) (b c : ℕ) → b ≤ c → take b l ≡ take b (take c l)
 shorter_front l b c h = sym (take-take b c l h)
@@ -116,12 +114,9 @@ are_in_block xs h = record { fed = h; one = λ e. absurd (false≢true e) }
 
 -- ---- taking lines
 
-by_size : (n : ℕ) (bytes : List ℕ) (start whole : ℕ) → n ≤ length (slice_range bytes start whole) → slice_range bytes (start + n) whole ≡ drop n (slice_range bytes start whole)
-by_size n bytes start whole h = grind (arith, consumed, length-take)
-
 pub lines_dropped : (is_spilled : Bool) (spilled bytes : List ℕ) (start whole n : ℕ) → n ≤ length (cond is_spilled (drop start spilled) (slice_range bytes start whole))
     → cond is_spilled (drop (start + n) spilled) (slice_range bytes (start + n) whole) ≡ drop n (cond is_spilled (drop start spilled) (slice_range bytes start whole))
-lines_dropped is_spilled spilled bytes start whole n h = grind (arith, drop-drop, by_size)
+lines_dropped is_spilled spilled bytes start whole n h = grind (arith, drop-drop, consumed, length-take)
 
 pub lines_ordered : (is_spilled : Bool) (spilled bytes : List ℕ) (start whole n : ℕ) → start ≤ cond is_spilled (length spilled) whole
     → n ≤ length (cond is_spilled (drop start spilled) (slice_range bytes start whole)) → start + n ≤ cond is_spilled (length spilled) whole
@@ -149,13 +144,7 @@ last_feed bytes from end last h k is =
     let front : slice_range bytes from (from + last + 1) ≡ take last hay ++ 10 ∷ [] =
     ap (λ (n : ℕ). take n (drop from bytes)) count ∙ shorter_front (drop from bytes) (last + 1) (end - from) (omega (arith, inside))
     ∙ take_more hay last 0 below ∙ ap (λ (b : ℕ). take last hay ++ b ∷ []) byte in
-    record {
-      inside = inside;
-      fed = rw front (fed_push (take last hay));
-      clear = subst NoLineFeed (sym (consumed bytes from end (last + 1) (omega (arith, inside))) ∙ ap (λ (n : ℕ). slice_range bytes n end) (sum from last))
-          (λ i d b. let there : last + 1 + i < length hay = omega (arith, b, length-drop (last + 1) hay) in
-          rw (get_or-drop (last + 1) hay i d, get_or_default hay (last + 1 + i) d 0 there) (false_from_ne_true _ (is.0.after (last + 1 + i) (omega arith) there)));
-    }
+    grind (arith, (fed_push (take last hay)), (consumed bytes from end (last + 1) (omega (arith, inside))), (sum from last), (length-drop (last + 1) hay), get_or-drop, get_or_default, false_from_ne_true)
 
 -- the text of a line that was taken
 pub line_text : (is_spilled : Bool) (spilled bytes : List ℕ) (start whole text line : ℕ) → text ≤ line → line ≤ length (cond is_spilled (drop start spilled) (slice_range bytes start whole))
@@ -206,10 +195,6 @@ not_found bytes whole searched end w s clear nowhere =
 
 -- ---- a range that was moved to the start
 
-pub front_moved : (bytes : List ℕ) (from end n : ℕ) → from ≤ end → end ≤ length bytes → n ≤ end - from
-    → slice_range (paste bytes 0 (drop from bytes) (end - from)) 0 n ≡ slice_range bytes from (from + n)
-front_moved bytes from end n h k b = grind (arith, length-take-le, length-drop, paste, take-append-le, shorter_front)
-
 -- ---- a line feed that was added
 
 pub end_added : (bytes : List ℕ) (whole end : ℕ) → whole ≤ end → end < length bytes → slice_range (set bytes end 10) whole (end + 1) ≡ slice_range bytes whole end ++ 10 ∷ []
@@ -217,7 +202,7 @@ end_added bytes whole end h k = grind (arith, range_drop, take_more_set, drop-ap
 
 pub front_to : (bytes moved : List ℕ) (from to end : ℕ) → from ≤ to → to ≤ end → end ≤ length bytes → moved ≡ paste bytes 0 (drop from bytes) (end - from)
     → slice_range moved 0 (to - from) ≡ slice_range bytes from to
-front_to bytes moved from to end h k b e = grind (arith, front_moved)
+front_to bytes moved from to end h k b e = grind (arith, length-take-le, length-drop, take-append-le, shorter_front)
 
 -- the first bytes are the same
 pub front_same : (old new : List ℕ) (a b end : ℕ) → take end new ≡ take end old → a ≤ b → b ≤ end → IsSearched (slice_range old a b) → IsSearched (slice_range new a b)
@@ -257,10 +242,10 @@ pub closed_some : (xs : List ℕ) → 0 < length xs → closed xs ≡ xs ++ 10 �
 closed_some xs h = grind arith
 
 pub not_full : (n : ℕ) → false ≡ nat_eq n 8192 → n ≤ 8192 → n < 8192
-not_full n e h = grind (arith, nat_tests)
+not_full n e h = grind arith
 
 pub some_full : (n : ℕ) → true ≡ nat_eq n 8192 → 0 < n
-some_full n e = grind (arith, nat_tests)
+some_full n e = grind arith
 
 pub then_counted : {S : Type 0} (IsRead : S → Option ℕ → S → Type 0) (a b c : S) (m n k : ℕ) (stop : Stop) → ReadsCounted IsRead a m b n → AreCounted IsRead stop b n c k → AreCounted IsRead stop a m c k
 then_counted IsRead a b c m n k LineFeed one two = counts_then IsRead a b c m n k one two
@@ -319,7 +304,7 @@ module _ {S : Type 0} (device : Source S) where
 
       pub more_read : (new : S) (next_unread : List ℕ) (next_taken : ℕ) → AsksMore device mid same taken Bytes new next_unread next_taken
           → ReadSoFar old old_unread old_taken new next_unread next_taken
-      more_read new next_unread next_taken asks = grind (arith, consumed, both, counts, all, never)
+      more_read new next_unread next_taken asks = grind (arith, both, counts, all, never)
 
       pub shorter : (new : S) (next_unread : List ℕ) (next_taken : ℕ) → AsksMore device mid same taken Bytes new next_unread next_taken → 2 ^ 63 - next_taken < 2 ^ 63 - taken
       shorter new next_unread next_taken asks = omega (arith, asks.counted, asks.came.0, asks.within, so_far.within)
@@ -328,7 +313,7 @@ module _ {S : Type 0} (device : Source S) where
       stops_by : (stop : Stop) (new : S) (next complete rest : List ℕ) (next_taken : ℕ) → Consumes (device.left mid) (device.left new) next → next_taken + uncounted stop ≡ taken + length next → next_taken < 2 ^ 63
           → StopsWith stop (device.left new) (device.has_failed old) (device.has_failed new) (device.end_told new) (old_unread ++ (so_far.bytes ++ next)) complete rest next_taken
           → Buffers device old old_unread old_taken stop new complete rest next_taken
-      stops_by stop new next complete rest next_taken consumed counted within stopped = grind (arith, consumed, both, counts, never, zero_of)
+      stops_by stop new next complete rest next_taken consumed counted within stopped = grind (arith, both, counts, never)
 
       pub text_ended : (new : S) (next_unread : List ℕ) (next_taken : ℕ) (complete rest : List ℕ) → AsksMore device mid same taken NoBytes new next_unread next_taken
           → complete ≡ closed next_unread → rest ≡ [] → Buffers device old old_unread old_taken End new complete rest next_taken
@@ -353,7 +338,7 @@ module _ {S : Type 0} (device : Source S) where
       -- the line is longer than a block
       pub then_long : (stop : Stop) (new : S) (complete rest : List ℕ) (next_taken : ℕ) → Buffers device mid same taken stop new complete rest next_taken
           → Buffers device old old_unread old_taken stop new complete rest next_taken
-      then_long stop new complete rest next_taken long = grind (arith, common_steps, stops_by, consumed, then_stopped, all)
+      then_long stop new complete rest next_taken long = grind (arith, common_steps)
 
 -- Lemmas on a line that is longer than a block.
 
@@ -377,7 +362,7 @@ module _ {S : Type 0} (device : Source S) where
     long_by : (stop : Stop) (new : S) (bytes complete unread : List ℕ) (taken : ℕ) → Consumes (device.left old) (device.left new) bytes → taken + uncounted stop ≡ old_taken + length bytes → taken < 2 ^ 63
         → StopsWith stop (device.left new) (device.has_failed old) (device.has_failed new) (device.end_told new) (old_block ++ bytes) complete unread taken
         → Buffers device old old_block old_taken stop new complete unread taken
-    long_by stop new bytes complete unread taken consumed counted within stopped = grind (arith, consumed, line_feeds-none)
+    long_by stop new bytes complete unread taken consumed counted within stopped = grind (arith, line_feeds-none)
 
     module _ (mid : S) (block text : List ℕ) (taken : ℕ) (so_far : SoFar old old_block old_taken mid block text taken)
         {E : Type 0} (moved : Result Bool E) (new_block new_text : List ℕ) (moves : MovesPiece block text moved new_block new_text) where
@@ -437,15 +422,7 @@ module _ {S : Type 0} (device : Source S) where
             count = length-append so_far.bytes next
 
           pub more_came : (same : List ℕ) → same ≡ new_text → AsksMore device mid new_block taken Bytes new next_block next_taken → SoFar old old_block old_taken new next_block same next_taken
-          more_came same e asks = rw e (record {
-            bytes = so_far.bytes ++ asks.bytes;
-            consumed = both_consumed asks.bytes asks.consumed;
-            counted = omega (arith, so_far.counted, asks.counted, count asks.bytes asks.consumed);
-            within = asks.within;
-            joined = more asks.bytes ∙ ap (λ l. new_text ++ l) (sym (asks.came.1 ∙ ap (λ l. l ++ asks.bytes) empty));
-            clear = no_feed;
-            served = asks.came.2 ∙ so_far.served;
-          })
+          more_came same e asks = grind (arith, common_steps, consumed, (more asks.bytes), empty, no_feed)
 
           -- bytes came, if any, and where the reading stopped
           more_by : (stop : Stop) (more : More) (complete rest : List ℕ) (asks : AsksMore device mid new_block taken more new next_block next_taken) → uncounted stop ≡ uncounted_more more

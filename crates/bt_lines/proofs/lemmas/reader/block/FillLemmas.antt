@@ -37,7 +37,7 @@ some_told : (fault : Fault) (kept : Option FaultValue) → kept ≡ Some (fault_
 some_told fault kept e f = false≢true (ap is_some (sym f ∙ e))
 
 none_left_at : (told : Bool) (held : List ℕ) (n : ℕ) (a : Option (List ℕ)) → told ≡ true → held ≡ [] → IfSome (option_map (lines_from n) (left_at told held a)) (λ lines. lines ≡ [])
-none_left_at told held n a e none = grind (arith, none_told, false≢true)
+none_left_at told held n a e none = grind (arith, none_told)
 
 -- no line is left once the end was reported and nothing is held
 none_left_told : {S : Type 0} (left : S → Option (List ℕ)) (reader : LineReader S) → end_told reader ≡ true → held reader ≡ [] → IfSome (lines_left left reader) (λ lines. lines ≡ [])
@@ -54,15 +54,15 @@ module _ {S : Type 0} (device : Source S) where
   pub fills_after_last : (old new : LineReader S) → complete old.buffer ≡ [] → old.state ≡ LastLine → new.source ≡ old.source → new.buffer ≡ old.buffer → new.taken ≡ old.taken → new.lines ≡ old.lines
       → new.input ≡ old.input → new.state ≡ Ended → FillsLines device old (Ok false) new
   unfolding source_of input_of lines_given bytes_taken held fault_kept has_ended end_told feeds_taken buffered_bytes
-  fills_after_last old new none was same_source same_buffer same_taken same_lines same_input ended = grind (arith, same_lines, none_left_told, Consumes-nil, add-zero, false≢true, append-nil)
+  fills_after_last old new none was same_source same_buffer same_taken same_lines same_input ended = grind (arith, none_left_told)
 
   pub fills_again : (old : LineReader S) → complete old.buffer ≡ [] → old.state ≡ Ended → FillsLines device old (Ok false) old
   unfolding source_of lines_given bytes_taken held fault_kept has_ended end_told buffered_bytes
-  fills_again old none was = grind (arith, none_left_told, hands_none, append-nil)
+  fills_again old none was = grind (arith, none_left_told)
 
   -- a line that was made buffered, and then given
   gives_after : (old mid new : LineReader S) (line : TextLine) → MakesLine device old mid → GivesLine device mid line new → GivesLine device old line new
-  gives_after old mid new line made gives = grind (arith, first_after, hands_both, append_assoc, line_feeds-append, length-append)
+  gives_after old mid new line made gives = grind (arith, append_assoc, line_feeds-append, length-append)
 
   -- a step that met a fault, which the reader keeps
   pub stops_by : (old new : LineReader S) (fault : Fault) → FillsLines device old (Err fault) new → TellsOwnFailure {A = Bool} device.is_read old (Err fault) new
@@ -85,9 +85,7 @@ module _ {S : Type 0} (device : Source S) where
       → (b ≡ true → (line : Line) → Some (line_seen line) ≡ line_at new → GivesLine device mid (line_seen line) new) → (b ≡ true → IsSome (line_at new)) → (b ≡ true → IsKept device mid → IsSound device new)
       → TellsOwnFailure device.is_read old answer mid → (b ≡ true → HasRead device.is_read mid new)
       → (line : Option Line) → option_map line_seen line ≡ line_at new → NextLine device old (Ok line) new
-  moves_by old mid new answer b e fills none gives some sound read then None at =
-      let none_at : is_some (line_at new) ≡ false = ap is_some (sym at) in
-      absurd (false≢true (sym none_at ∙ some (is_cut old mid answer b e fills none)))
+  moves_by old mid new answer b e fills none gives some sound read then None at = grind (arith, (false≢true (sym (ap is_some (sym at)) ∙ some (is_cut old mid answer b e fills none))))
   moves_by old mid new answer b e fills none gives some sound read then (Some line) at =
       let filled = filled old mid answer e fills in
       let cut = is_cut old mid answer b e fills none in
@@ -102,10 +100,7 @@ module _ {S : Type 0} (device : Source S) where
 
 -- bytes that are cut at one before which there is none
 pub feed_at : (value : ℕ) (text xs ys : List ℕ) (n : ℕ) → text ≡ xs ++ value ∷ ys → Lacks value xs → n ≡ length xs → IsFirstOf value text (Some n)
-feed_at value text xs ys n e clear size =
-    let front : take n text ≡ xs = ap (take n) e ∙ take_at xs (value ∷ ys) n (sym size) in
-    let whole : text ≡ (xs ++ value ∷ []) ++ ys = e ∙ sym (append_assoc xs (value ∷ []) ys) in
-    grind (arith, drop_at, length-append)
+feed_at value text xs ys n e clear size = grind (arith, (take_at xs (value ∷ ys) n (sym size)), (append_assoc xs (value ∷ []) ys), drop_at, length-append)
 
 -- the next `n` bytes
 pub record Chunk (text : List ℕ) (at : ℕ) (near : List ℕ) (n : ℕ) : Type 0 where
@@ -113,7 +108,7 @@ pub record Chunk (text : List ℕ) (at : ℕ) (near : List ℕ) (n : ℕ) : Type
   pub same : near ≡ take n (drop at text)
 
 pub chunk_of : (text : List ℕ) (at : ℕ) (near : List ℕ) (n : ℕ) → near ≡ take n (take (length text - at) (drop at text)) → n ≤ length (take (length text - at) (drop at text)) → Chunk text at near n
-chunk_of text at near n e h = grind (arith, common_steps, length-drop, take-length)
+chunk_of text at near n e h = grind (arith, common_steps)
 
 pub chunk_first : (text near : List ℕ) (n : ℕ) → near ≡ take n text → n ≤ length text → Chunk text 0 near n
 chunk_first text near n e h = record { enough = h; same = e }
@@ -132,8 +127,7 @@ module _ (value : ℕ) (text : List ℕ) (at : ℕ) (inside : at ≤ length text
       (omega (arith, length-append (take at text) (take place near), length-take-le at text inside, length-take-le place near (omega (arith, first.0))))
 
   pub none_behind : (near : List ℕ) (n : ℕ) → Chunk text at near n → Lacks value near → Lacks value (take (at + n) text)
-  none_behind near n chunk none =
-      rw (take-add at n text, ← chunk.same) (All-append (λ b. eqb b value ≡ false) (take at text) near clear none)
+  none_behind near n chunk none = grind (arith, take-add, (All-append (λ b. eqb b value ≡ false) (take at text) near clear none))
 
   pub chunk_inside : (near : List ℕ) (n : ℕ) → Chunk text at near n → at + n ≤ length text
   chunk_inside near n chunk = omega (arith, chunk.enough, length-drop at text, inside)

@@ -45,7 +45,7 @@ cut_within bytes line cut = omega (arith, cut.size_is, ap length cut.cut, length
 
 lines_fit_by : (is_spilled : Bool) (spilled bytes : List ℕ) (start whole end : ℕ) → is_spilled ≡ false → start ≤ cond is_spilled (length spilled) whole → whole ≤ end → end ≤ block_size
     → length (cond is_spilled (drop start spilled) (slice_range bytes start whole) ++ slice_range bytes whole end) ≤ block_size
-lines_fit_by is_spilled spilled bytes start whole end e o w b = grind (arith, false≢true, length-append, length-take)
+lines_fit_by is_spilled spilled bytes start whole end e o w b = grind (arith, length-append, length-take)
 
 -- what the block has room for
 pub lines_fit : (buffer : ReadBuffer) → buffer.is_spilled ≡ false → length (complete buffer ++ unread buffer) ≤ block_size
@@ -59,9 +59,7 @@ alone lines piece rest e clear one fed = fed_none rest fed (omega (arith, one, a
 near_by : (is_spilled : Bool) (buffer : ReadBuffer) (lines piece : List ℕ) → buffer.is_spilled ≡ is_spilled → AreComplete is_spilled lines → lines ≡ piece ++ 10 ∷ complete buffer → NoLineFeed piece
     → length (complete buffer ++ unread buffer) ≤ block_size
 near_by false buffer lines piece same are e clear = lines_fit buffer same
-near_by true buffer lines piece same are e clear =
-    let none : complete buffer ≡ [] = alone lines piece (complete buffer) e clear (are.one refl) (are_fed buffer).fed in
-    rw none (unread_fits buffer)
+near_by true buffer lines piece same are e clear = grind (arith, (alone lines piece (complete buffer) e clear (are.one refl) (are_fed buffer).fed), (unread_fits buffer))
 
 fed_ending : (b : Bool) (piece : List ℕ) → b ≡ ends_with_byte 13 piece → ending_at false b ≡ cond (ends_with_byte 13 piece) CrLf Lf
 fed_ending b piece e = rw e refl
@@ -70,7 +68,7 @@ last_ending : (b : Bool) (piece : List ℕ) → b ≡ ends_with_byte 13 piece �
 last_ending b piece e = rw e refl
 
 pub some_size : (n : ℕ) (piece : List ℕ) → n ≡ length piece + 1 → nat_eq n 1 ≡ false → 0 < length piece
-some_size n piece e one = grind (arith, nat_tests)
+some_size n piece e one = grind arith
 
 module _ {S : Type 0} (device : Source S) (old new : LineReader S) (line : Shown)
     (same_state : new.state ≡ old.state) (same : new.input ≡ old.input) (same_source : new.source ≡ old.source) (same_taken : new.taken ≡ old.taken) (more : new.lines ≡ old.lines + 1)
@@ -90,7 +88,7 @@ module _ {S : Type 0} (device : Source S) (old new : LineReader S) (line : Shown
   number = omega (arith, more)
 
   counts_some : nat_lt 0 (suc old.lines) ≡ true
-  counts_some = grind (arith, nat_tests)
+  counts_some = grind arith
 
   cut_fed : old.state ≡ Reading → CutsFirst device old new
   unfolding source_of input_of lines_given line_at
@@ -150,14 +148,11 @@ module _ (state : State) (old_lines old_unread lines unread_now : List ℕ) (giv
   gone_by : open_at state ≡ true → lines ≡ []
   gone_by e = alone old_lines piece lines parts clear (last.one e) fed
 
-  spaced_reading : open_at state ≡ false → given + 1 + length (held_at (open_at state) lines unread_now) ≤ taken
-  spaced_reading e = grind (arith, parts, length-append)
-
   spaced_open : open_at state ≡ true → given + 1 + length (held_at (open_at state) lines unread_now) ≤ taken
-  spaced_open e = grind (arith, gone_by, parts, length-append, some_size, length-take)
+  spaced_open e = grind (arith, length-append, length-take)
 
   spaced_by : (state ≡ Reading) ⊎ (state ≡ LastLine) → given + 1 + length (held_at (open_at state) lines unread_now) ≤ taken
-  spaced_by p1 = grind (arith, spaced_reading, spaced_open)
+  spaced_by p1 = grind (arith, spaced_open, length-append)
 
   pub spaced_cut : given + 1 + length (held_at (open_at state) lines unread_now) ≤ taken
   spaced_cut = spaced_by (some_state state some_lends)
@@ -185,7 +180,7 @@ lines_first true lines bytes line cut fed last =
     let whole : bytes ≡ cut.piece ++ 10 ∷ [] = cut.cut ∙ ap (λ l. cut.piece ++ 10 ∷ l) gone in
     let size : length bytes ≡ length cut.piece + 1 = omega (arith, ap length whole, length-append cut.piece (10 ∷ [])) in
     let less : length bytes - 1 ≡ length cut.piece = omega (arith, size) in
-    grind (arith, take-append_seam, some_size, lines_from-nil, lines_from-last, last_line-some)
+    grind (arith, take-append_seam, lines_from-last)
 
 -- none is left if there is no line feed
 lines_none : (is_open : Bool) (lines : ℕ) (bytes : List ℕ) → NoLineFeed bytes → is_fed bytes ≡ true → buffered_lines is_open lines bytes ≡ []
@@ -203,10 +198,7 @@ strip_begins line = begins_by (ends_with_byte 13 line) refl
 
 -- what bytes begin with begins by its own first bytes
 pub take_front : (xs tail line bytes : List ℕ) → line ≡ xs ++ tail → take (length line) bytes ≡ line → take (length xs) bytes ≡ xs
-take_front xs tail line bytes is front =
-    let all : bytes ≡ xs ++ (tail ++ drop (length line) bytes) =
-    sym (take-append-drop (length line) bytes) ∙ ap (λ l. l ++ drop (length line) bytes) (front ∙ is) ∙ append_assoc xs tail (drop (length line) bytes) in
-    ap (take (length xs)) all ∙ take-append_seam xs (tail ++ drop (length line) bytes)
+take_front xs tail line bytes is front = grind (arith, (take-append-drop (length line) bytes), (append_assoc xs tail (drop (length line) bytes)), (take-append_seam xs (tail ++ drop (length line) bytes)))
 
 -- whether a carriage return was taken off
 returned_by : (line : List ℕ) (b : Bool) → ends_with_byte 13 line ≡ b → nat_lt (length (strip_last 13 line) + 1) (length line + 1) ≡ b
@@ -214,11 +206,11 @@ returned_by line b e = search rules
 
 -- the first line, as it was cut
 cut_of : (bytes line : List ℕ) → IsBefore 10 bytes (length line) → take (length line) bytes ≡ line → length line < length bytes → Cut bytes (shown_of line)
-cut_of bytes line before front inside = grind (arith, common_steps, take_front, strip_begins, returned_by)
+cut_of bytes line before front inside = grind (arith, common_steps)
 
 -- bytes that are complete lines have a line feed, if there are some
 inside_by : (bytes line : List ℕ) → IsBefore 10 bytes (length line) → take (length line) bytes ≡ line → is_fed bytes ≡ true → 0 < length bytes → length line < length bytes
-inside_by bytes line before front fed some = grind (arith, cases_lt, take_all, fed_clear)
+inside_by bytes line before front fed some = grind (arith, take_all, fed_clear)
 
 pub line_first : (cursor : BufferedLines) (line : List ℕ) → IsBefore 10 (rest_in cursor) (length line) → take (length line) (rest_in cursor) ≡ line → 0 < length (rest_in cursor)
     → Cut (rest_in cursor) (shown_of line) × (lines_in cursor ≡ line_of cursor (shown_of line) ∷ lines_after cursor (length line + 1))
@@ -269,10 +261,6 @@ none_left lines bytes e = ap (buffered_lines false lines) e ∙ whole_lines_from
 
 -- Lemmas on lines that were consumed, one after another.
 
--- complete lines after others
-fed_both : (xs ys : List ℕ) → is_fed xs ≡ true → is_fed ys ≡ true → is_fed (xs ++ ys) ≡ true
-fed_both xs ys fed more = grind (arith, common_steps, append-nil, fed_after)
-
 pub passes_none : (cursor : BufferedLines) → PassesLines cursor 0 cursor
 passes_none cursor = grind arith
 
@@ -287,7 +275,7 @@ module _ (old mid new : BufferedLines) (n m : ℕ) (first : PassesLines old n mi
       grind (arith, take-add, rest_mid)
 
   pub passes_more : PassesLines old (n + m) new
-  passes_more = grind (arith, drop-drop, both, fed_both, line_feeds-append)
+  passes_more = grind (arith, drop-drop, both, line_feeds-append, common_steps, fed_after)
 
 -- the first line was consumed
 module _ (old new : BufferedLines) (line : Shown) (cut : Cut (rest_in old) line) (at : new.at ≡ old.at + line.size) (lines : new.lines ≡ old.lines + 1) (all_is : new.all ≡ old.all) (open_is : new.is_open ≡ old.is_open) where
@@ -295,9 +283,7 @@ module _ (old new : BufferedLines) (line : Shown) (cut : Cut (rest_in old) line)
   front_is = grind (arith, take_line)
     where
       take_line : (xs ys : List ℕ) → take (length xs + 1) (xs ++ 10 ∷ ys) ≡ xs ++ 10 ∷ []
-      take_line xs ys =
-          let size : length xs + 1 ≡ length (xs ++ 10 ∷ []) = omega (arith, length-append xs (10 ∷ [])) in
-          ap (λ k. take k (xs ++ 10 ∷ ys)) size ∙ ap (take (length (xs ++ 10 ∷ []))) (sym (append_assoc xs (10 ∷ []) ys)) ∙ take-append_seam (xs ++ 10 ∷ []) ys
+      take_line xs ys = grind (arith, (length-append xs (10 ∷ [])), (append_assoc xs (10 ∷ []) ys), (take-append_seam (xs ++ 10 ∷ []) ys))
 
   left_after : lines_in new ≡ drop 1 (lines_in old)
   unfolding lines_in rest_in
@@ -325,7 +311,7 @@ count_by n none = grind arith
 
 -- if bytes were consumed, lines were
 pub some_lines : {S : Type 0} (reader : LineReader S) (consumed : ConsumedLines) (count : ℕ) → TakenLines reader consumed count → (consumed.bytes ≡ 0 → ⊥) → 0 < count
-some_lines reader consumed count are some = grind (arith, count_by, fed_none, length-take)
+some_lines reader consumed count are some = grind (arith, fed_none)
 
 -- and if none were, none were
 pub no_lines : {S : Type 0} (reader : LineReader S) (consumed : ConsumedLines) (count : ℕ) → TakenLines reader consumed count → consumed.bytes ≡ 0 → count ≡ 0

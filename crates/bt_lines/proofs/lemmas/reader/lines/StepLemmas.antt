@@ -52,12 +52,6 @@ told_ended reader e = record { good = rw e refl; is_told = rw e refl; taken = rw
 
 -- ---- lines of known bytes
 
--- the first of them, after the bytes that are held
-first_of_known : (n : ℕ) (a b : Option (List ℕ)) (block bytes rest : List ℕ) (line : TextLine) → Consumes a b bytes
-    → ((ys : List ℕ) → lines_from n ((block ++ bytes) ++ ys) ≡ line ∷ lines_from (suc n) (rest ++ ys))
-    → GivesFirst (option_map (lines_from n) (prepend_known block a)) line (option_map (lines_from (suc n)) (prepend_known rest b))
-first_of_known n a b block bytes rest line c h = grind (arith, append_assoc)
-
 -- the last one, which was held
 last_of_known : (n : ℕ) (a : Option (List ℕ)) (piece rest : List ℕ) (line : TextLine) → lines_from n piece ≡ line ∷ [] → rest ≡ []
     → GivesFirst (option_map (lines_from n) (option_map (λ ys. piece) a)) line (option_map (lines_from (suc n)) (option_map (λ ys. rest) a))
@@ -76,11 +70,6 @@ same_at_end n a b old new bytes c end e = search rules
 -- none is left once the end was reported and nothing is held
 pub none_told : (n : ℕ) (a : Option (List ℕ)) (held : List ℕ) → held ≡ [] → IfSome (option_map (lines_from n) (option_map (λ ys. held) a)) (λ lines. lines ≡ [])
 none_told n a held e = grind (arith, lines_from-nil)
-
--- none is left of bytes that have ended
-none_of_known : (n : ℕ) (a b : Option (List ℕ)) (block bytes : List ℕ) → Consumes a b bytes → IsAtEnd b → block ++ bytes ≡ []
-    → IfSome (option_map (lines_from n) (prepend_known block a)) (λ lines. lines ≡ [])
-none_of_known n a b block bytes c e none = grind (arith, append-nil, lines_from-nil)
 
 -- those after the first are what is left, except what was taken after a prefix without a line feed
 near_known : (n : ℕ) (a b : Option (List ℕ)) (block bytes front back : List ℕ) (k : ℕ) → NoLineFeed front → length back ≤ k → Consumes a b bytes → block ++ bytes ≡ front ++ back
@@ -102,9 +91,6 @@ module _ {S : Type 0} (device : Source S) (old new : LineReader S) (bytes piece 
       ≡ fed_line (suc (lines_given old)) piece ∷ lines_from (suc (suc (lines_given old))) (held new ++ ys)
   fed_first ys = grind (arith, append_assoc, lines_from-fed)
 
-  fed_counts : lines_given new + line_feeds (held new) ≡ lines_given old + line_feeds (held old) + line_feeds bytes
-  fed_counts = grind (arith, line_feeds-append, line_feeds-fed)
-
   fed_size : length (held old) + length bytes ≡ length piece + suc (length (held new))
   fed_size = omega (arith, length-append (held old) bytes, ap length joined, length-append piece (10 ∷ held new))
 
@@ -120,15 +106,14 @@ module _ {S : Type 0} (device : Source S) (old new : LineReader S) (bytes piece 
 
   fed_hands : Hands device.left old bytes new
   unfolding feeds_taken
-  fed_hands = grind (arith, taken_more, fed_counts, false≢true)
+  fed_hands = grind (arith, line_feeds-append, line_feeds-fed)
 
   fed_held : held old ++ bytes ≡ spelled (fed_line (suc (lines_given old)) piece) ++ held new
-  fed_held =
-      rw (spelled-fed (suc (lines_given old)) piece) (joined ∙ sym (append_assoc piece (10 ∷ []) (held new)))
+  fed_held = grind (arith, (spelled-fed (suc (lines_given old)) piece), (append_assoc piece (10 ∷ []) (held new)))
 
   pub gives_fed : GivesLine device old (fed_line (suc (lines_given old)) piece) new
   unfolding bytes_left
-  gives_fed = grind (arith, first_of_known, fed_first, fed_hands, fed_held, fed_below, taken_more, within, fed_size, goes)
+  gives_fed = grind (arith, fed_first, fed_hands, fed_held, fed_below, fed_size, append_assoc)
 
   pub sound_fed : IsKept device old → IsSound device new
   sound_fed h = grind arith
@@ -148,7 +133,7 @@ module _ {S : Type 0} (device : Source S) (old new : LineReader S) (piece : List
   last_hands = grind arith
 
   last_held : held old ++ [] ≡ spelled line ++ held new
-  last_held = grind (arith, common_steps, one, spelled-last, append-nil)
+  last_held = grind (arith, common_steps)
 
   last_below : lines_given new < 2 ^ 63
   unfolding lines_given
@@ -160,7 +145,7 @@ module _ {S : Type 0} (device : Source S) (old new : LineReader S) (piece : List
   module _ (at : line_at new ≡ Some line) where
     pub gives_last : GivesLine device old line new
     unfolding bytes_left
-    gives_last = grind (arith, last_of_known, lines_from-last, one, last_hands, last_held, last_below, last_within, goes)
+    gives_last = grind (arith, lines_from-last, last_held, last_below)
 
     pub sound_last : IsKept device old → IsSound device new
     sound_last h = grind arith
@@ -174,14 +159,11 @@ module _ {S : Type 0} (device : Source S) (old new : LineReader S) (bytes : List
     (some : 0 < length (buffered_bytes new)) (within : bytes_taken new < 2 ^ 63) (empty : buffered_bytes old ≡ []) where
   made_hands : Hands device.left old bytes new
   unfolding feeds_taken
-  made_hands = grind (arith, line_feeds-append, false≢true)
-
-  made_by : DropsLines (option_map (lines_from (suc (lines_given old))) (bytes_left device.left old)) 0 (option_map (lines_from (suc (lines_given new))) (bytes_left device.left new)) → MakesLine device old new
-  made_by kept = grind (arith, made_hands, goes, within)
+  made_hands = grind (arith, line_feeds-append)
 
   pub makes_line : end_told new ≡ false → FillsLines device old (Ok true) new
   unfolding bytes_left
-  makes_line untold = grind (arith, made_by, same_known, false≢true, within)
+  makes_line untold = grind (arith, same_known, made_hands)
 
   pub makes_last : end_told new ≡ true → device.end_told (source_of new) ≡ true → IsAtEnd (device.left (source_of new)) → FillsLines device old (Ok true) new
   unfolding bytes_left
@@ -198,7 +180,7 @@ module _ {S : Type 0} (device : Source S) (old new : LineReader S) (bytes : List
 
   pub fills_end : FillsLines device old (Ok false) new
   unfolding bytes_left
-  fills_end = grind (arith, none_of_known, none_told, end_hands, goes, false≢true, within)
+  fills_end = grind (arith, none_told, append-nil, lines_from-nil)
 
 -- ---- a line that couldn't be given
 
@@ -212,11 +194,7 @@ some_place e = false≢true (sym (ap (λ fault. is_some fault.place) e))
 
 -- a prefix of bytes that were joined, without the bytes after it
 front_of_joined : (block bytes text behind : List ℕ) → block ++ bytes ≡ text ++ behind → length behind ≤ length bytes → text ≡ block ++ take (length bytes - length behind) bytes
-front_of_joined block bytes text behind e short =
-    let size : length text ≡ length block + (length bytes - length behind) =
-    omega (arith, ap length e, length-append block bytes, length-append text behind) in
-    sym (take-append_seam text behind) ∙ ap (take (length text)) (sym e) ∙ ap (λ k. take k (block ++ bytes)) size
-    ∙ take-append-add block bytes (length bytes - length behind)
+front_of_joined block bytes text behind e short = grind (arith, (length-append block bytes), (length-append text behind), (take-append_seam text behind), (take-append-add block bytes (length bytes - length behind)))
 
 -- what was taken of the line has no line feed, except in the bytes after it
 module _ {S : Type 0} (device : Source S) (old new : LineReader S) (bytes text behind : List ℕ) (fault : Fault) (was : Goes old) (no_line : line_feeds (held old) ≡ 0)
@@ -246,7 +224,7 @@ module _ {S : Type 0} (device : Source S) (old new : LineReader S) (bytes text b
   pub stepped_cut : (fault_value fault ≡ read_failed (input_of old) (suc (lines_given old)) → text ≡ held old ++ take (2 ^ 63 - 1 - bytes_taken old) bytes)
       → FailsToRead device old (fault_value fault) new ⊎ (fault_value fault ≡ no_memory) → (fault_value fault ≡ no_memory → device.has_failed (source_of new) ≡ device.has_failed (source_of old))
       → FillsLines device old (Err fault) new
-  stepped_cut cut cause served = grind (arith, cut_hands, some_fault, cut_given, cut_near, false≢true, within)
+  stepped_cut cut cause served = grind (arith, cut_hands, cut_given, cut_near)
 
 -- ---- the same, by the fields of the reader
 
@@ -255,7 +233,7 @@ held_told complete unread e = ap (λ l. take (length l - 1) l) e
 
 -- a last piece with its line feed holds the piece
 pub held_closed : (all complete unread : List ℕ) → complete ≡ closed all → held_at true complete unread ≡ all
-held_closed all complete unread e = grind (arith, common_steps, held_told, length-append, take-append_seam)
+held_closed all complete unread e = grind (arith, common_steps)
 
 no_feeds_by : (stop : Stop) (n : ℕ) → (stop ≡ StopLineFeed → ⊥) → (n ≡ 0) ⊎ (stop ≡ StopLineFeed) → n ≡ 0
 no_feeds_by stop n other p1 = grind arith
@@ -278,15 +256,15 @@ module _ {S : Type 0} (device : Source S) (old new : LineReader S) (going : old.
 
   pub line_step : stop ≡ StopLineFeed → new.state ≡ Reading → FillsLines device old (Ok true) new
   unfolding source_of input_of lines_given buffered_bytes
-  line_step is state = grind (arith, goes, makes_line, old_holds, within, nothing_buffered)
+  line_step is state = grind (arith, goes, makes_line)
 
   pub last_step : stop ≡ StopEnd → (length (complete new.buffer) ≡ 0 → ⊥) → new.state ≡ LastLine → FillsLines device old (Ok true) new
   unfolding source_of input_of lines_given held buffered_bytes end_told
-  last_step is some state = grind (arith, goes, told_last, held_closed, old_holds, makes_last, some_length, within, nothing_buffered)
+  last_step is some state = grind (arith, goes, told_last, held_closed, makes_last)
 
   pub end_step : stop ≡ StopEnd → length (complete new.buffer) ≡ 0 → new.state ≡ Ended → FillsLines device old (Ok false) new
   unfolding source_of input_of lines_given held has_ended
-  end_step is empty state = grind (arith, goes, nil_from_length, closed_none, fills_end, told_ended, old_holds, nothing_buffered)
+  end_step is empty state = grind (arith, goes, fills_end, told_ended, nothing_buffered)
 
   no_feeds : (stop ≡ StopLineFeed → ⊥) → line_feeds (held old) ≡ 0
   no_feeds other = rw old_holds (no_feeds_by stop (line_feeds (unread old.buffer)) other buffers.first)
@@ -367,15 +345,12 @@ last_going state e complete unread = rw e (last_of_none complete unread)
 pub quiet_going : (state : State) → state ≡ Reading → lends_at state ≡ false → ⊥
 quiet_going state e f = false≢true (sym f ∙ ap lends_at e)
 
-closed_one : (all : List ℕ) → nat_eq (length (closed all)) 1 ≡ false
-closed_one all = grind (arith, nat_tests, length-append)
-
 closed_feeds : (all : List ℕ) → NoLineFeed all → line_feeds (closed all) ≤ 1
 closed_feeds [] clear = omega arith
 closed_feeds (x ∷ xs) clear = one_line (x ∷ xs ++ 10 ∷ []) (x ∷ xs) clear refl
 
 pub last_closed : (all complete unread : List ℕ) → NoLineFeed all → complete ≡ closed all → unread ≡ [] → IsLast true true complete unread
-last_closed all complete unread clear e none = grind (arith, closed_feeds, closed_one)
+last_closed all complete unread clear e none = grind (arith, closed_feeds, length-append)
 
 -- each line given has a byte, and those held come after them
 module _ (lines : ℕ) (old_complete old_unread bytes : List ℕ) (old_taken taken : ℕ) (none : old_complete ≡ []) (counted : taken + 0 ≡ old_taken + length bytes) where

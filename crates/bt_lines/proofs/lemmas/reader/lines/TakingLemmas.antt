@@ -25,21 +25,20 @@ not_one : (n m : ℕ) → n ≡ m → nat_eq m 1 ≡ false → nat_eq n 1 ≡ fa
 not_one n m e h = rw e h
 
 two_of : (n : ℕ) → 0 < n → nat_eq n 1 ≡ false → 2 ≤ n
-two_of n some h = grind (arith, nat_tests)
+two_of n some h = grind arith
 
 -- a last line is taken whole or not at all
 pub record Whole (lines : List ℕ) (n : ℕ) : Type 0 where
   pub is : ((drop n lines ≡ lines) × (line_feeds (take n lines) ≡ 0) × (n ≡ 0)) ⊎ ((drop n lines ≡ []) × (line_feeds (take n lines) ≡ 1) × (0 < length lines))
 
 whole_by : (lines : List ℕ) (n : ℕ) → n ≤ length lines → is_fed lines ≡ true → line_feeds lines ≤ 1 → (take n lines ≡ []) ⊎ ((front : List ℕ) × (take n lines ≡ front ++ 10 ∷ [])) → Whole lines n
-whole_by lines n within fed one (inl e) = grind (arith, common_steps, length-take)
+whole_by lines n within fed one (inl e) = grind (arith, common_steps)
 whole_by lines n within fed one (inr f) =
     let feed : line_feeds (10 ∷ []) ≡ 1 = refl in
     let all : line_feeds lines ≡ line_feeds (take n lines) + line_feeds (drop n lines) =
     ap line_feeds (sym (take-append-drop n lines)) ∙ line_feeds-append (take n lines) (drop n lines) in
     let some : line_feeds (take n lines) ≡ line_feeds f.0 + 1 = ap line_feeds f.1 ∙ line_feeds-append f.0 (10 ∷ []) in
-    let gone : drop n lines ≡ [] = fed_none (drop n lines) (fed_drop n lines fed) (omega (arith, all, some, one)) in
-    record { is = inr (gone, omega (arith, all, one), omega (arith, ap length f.1, length-append f.0 (10 ∷ []), length-take n lines)) }
+    grind (arith, (fed_none (drop n lines) (fed_drop n lines fed) (omega (arith, all, some, one))), (length-append f.0 (10 ∷ [])), (length-take n lines))
 
 pub whole : (lines : List ℕ) (n : ℕ) → n ≤ length lines → is_fed lines ≡ true → is_fed (take n lines) ≡ true → line_feeds lines ≤ 1 → Whole lines n
 whole lines n within fed front one = whole_by lines n within fed one (fed_last (take n lines) front)
@@ -59,7 +58,7 @@ module _ (state : State) (lines unread : List ℕ) (given taken n : ℕ) (within
   some_by some p1 = grind arith
 
   spaced_closed : (b : Bool) → open_at state ≡ b → given + line_feeds (take n lines) + length (held_at b (drop n lines) unread) ≤ taken
-  spaced_closed b e = grind (arith, common_steps, feeds_le, length-take, length-drop, length-append, spaced_whole, alone_by)
+  spaced_closed b e = grind (arith, common_steps)
 
   pub spaced_taken : given + line_feeds (take n lines) + length (held_at (open_at state) (drop n lines) unread) ≤ taken
   spaced_taken = spaced_closed (open_at state) refl
@@ -68,7 +67,7 @@ module _ (state : State) (lines unread : List ℕ) (given taken n : ℕ) (within
   quiet_taken e = drop_all n lines (omega (arith, ap length (quiet e)))
 
   pub last_taken : IsLast (told_at state) (open_at state) (drop n lines) unread
-  last_taken = grind (arith, take-append-drop, line_feeds-append, some_by, alone_by)
+  last_taken = grind (arith, alone_by)
 
 -- ---- the lines that are left
 
@@ -80,9 +79,7 @@ one_fed : (more : List ℕ) (n : ℕ) (piece rest : List ℕ) → NoLineFeed pie
     → drop (line_feeds (piece ++ 10 ∷ rest)) (lines_from n ((piece ++ 10 ∷ rest) ++ more)) ≡ lines_from (n + line_feeds (piece ++ 10 ∷ rest)) more
 one_fed more n piece rest clear fed is =
     let feeds = line_feeds-fed piece rest clear in
-    let behind : drop (length piece + 1) (piece ++ 10 ∷ rest) ≡ rest =
-    ap (drop (length piece + 1)) (sym (append_assoc piece (10 ∷ []) rest)) ∙ drop_at (piece ++ 10 ∷ []) rest (length piece + 1) (length-append piece (10 ∷ [])) in
-    grind (arith, fed_drop, append_assoc, lines_from-fed)
+    grind (arith, (append_assoc piece (10 ∷ []) rest), (drop_at (piece ++ 10 ∷ []) rest (length piece + 1) (length-append piece (10 ∷ []))), fed_drop, append_assoc, lines_from-fed)
 
 -- those after bytes that end with a line feed
 drop_fed : (more : List ℕ) (n : ℕ) (bytes : List ℕ) → is_fed bytes ≡ true → drop (line_feeds bytes) (lines_from n (bytes ++ more)) ≡ lines_from (n + line_feeds bytes) more
@@ -91,20 +88,15 @@ drop_fed more = by_lines (λ n bytes. is_fed bytes ≡ true → drop (line_feeds
     (λ n piece rest clear is fed. one_fed more n piece rest clear fed is)
 
 parts_of : (lines unread more : List ℕ) (n : ℕ) → (lines ++ unread) ++ more ≡ take n lines ++ ((drop n lines ++ unread) ++ more)
-parts_of lines unread more n =
-    ap (λ l. (l ++ unread) ++ more) (sym (take-append-drop n lines)) ∙ ap (λ l. l ++ more) (append_assoc (take n lines) (drop n lines) unread) ∙ append_assoc (take n lines) (drop n lines ++ unread) more
+parts_of lines unread more n = grind (arith, (take-append-drop n lines), (append_assoc (take n lines) (drop n lines) unread), (append_assoc (take n lines) (drop n lines ++ unread) more))
 
 left_drops : (told : Bool) (number : ℕ) (lines unread : List ℕ) (n : ℕ) (left : Option (List ℕ)) → is_fed (take n lines) ≡ true
     → DropsLines (option_map (lines_from number) (left_at told (lines ++ unread) left)) (line_feeds (take n lines))
     (option_map (lines_from (number + line_feeds (take n lines))) (left_at told (drop n lines ++ unread) left))
 left_drops true number lines unread n None fed = tt
 left_drops false number lines unread n None fed = tt
-left_drops false number lines unread n (Some rest) fed =
-    ap Some (sym (ap (λ l. drop (line_feeds (take n lines)) (lines_from number l)) (parts_of lines unread rest n) ∙ drop_fed ((drop n lines ++ unread) ++ rest) number (take n lines) fed))
-left_drops true number lines unread n (Some rest) fed =
-    let all : lines ++ unread ≡ take n lines ++ (drop n lines ++ unread) =
-    ap (λ l. l ++ unread) (sym (take-append-drop n lines)) ∙ append_assoc (take n lines) (drop n lines) unread in
-    ap Some (sym (ap (λ l. drop (line_feeds (take n lines)) (lines_from number l)) all ∙ drop_fed (drop n lines ++ unread) number (take n lines) fed))
+left_drops false number lines unread n (Some rest) fed = grind (arith, (parts_of lines unread rest n), (drop_fed ((drop n lines ++ unread) ++ rest) number (take n lines) fed))
+left_drops true number lines unread n (Some rest) fed = grind (arith, (take-append-drop n lines), (append_assoc (take n lines) (drop n lines) unread), (drop_fed (drop n lines ++ unread) number (take n lines) fed))
 
 held_plain : (b : Bool) (lines unread : List ℕ) → b ≡ false → held_at b lines unread ≡ lines ++ unread
 held_plain b lines unread e = rw e refl
@@ -132,7 +124,7 @@ first_whole number lines more = ap (λ k. take k (lines_from number (lines ++ mo
 
 prefix_by : (told open_now : Bool) (given : ℕ) (lines unread : List ℕ) (left : Option (List ℕ)) → (open_now ≡ true → told ≡ true)
     → IfSome (option_map (lines_from (suc given)) (left_at told (held_at open_now lines unread) left)) (λ all. take (length (buffered_lines open_now given lines)) all ≡ buffered_lines open_now given lines)
-prefix_by told open_now given lines unread left h = grind (arith, take_whole, first_whole, false≢true, append_assoc)
+prefix_by told open_now given lines unread left h = grind (arith, take_whole, first_whole, append_assoc)
 
 open_told : (state : State) → open_at state ≡ true → told_at state ≡ true
 open_told state e = grind arith
@@ -145,10 +137,6 @@ is_prefix left reader = prefix_by (told_at reader.state) (open_at reader.state) 
 
 gone_by : (lines : List ℕ) (n : ℕ) → 0 < n → ((drop n lines ≡ lines) × (line_feeds (take n lines) ≡ 0) × (n ≡ 0)) ⊎ ((drop n lines ≡ []) × (line_feeds (take n lines) ≡ 1) × (0 < length lines)) → drop n lines ≡ []
 gone_by lines n some p1 = grind arith
-
-near_behind : (is_spilled : Bool) (buffer : ReadBuffer) (lines : List ℕ) (n : ℕ) → buffer.is_spilled ≡ is_spilled → AreComplete is_spilled lines → complete buffer ≡ drop n lines → n ≤ length lines
-    → is_fed (take n lines) ≡ true → 0 < n → length (complete buffer ++ unread buffer) ≤ block_size
-near_behind is_spilled buffer lines n same are is within fed some = grind (arith, lines_fit, gone_by, whole, unread_fits)
 
 held_short : (b : Bool) (lines unread : List ℕ) → length (held_at b lines unread) ≤ length (lines ++ unread)
 held_short b lines unread = grind (arith, length-take, length-append)
@@ -166,12 +154,6 @@ few_lines = by_lines (λ number bytes. length (lines_from number bytes) ≤ line
 
 front_feeds : (lines : List ℕ) → line_feeds lines ≤ 1 → (lines ≡ []) ⊎ ((front : List ℕ) × (lines ≡ front ++ 10 ∷ [])) → line_feeds (take (length lines - 1) lines) ≡ 0
 front_feeds lines one p1 = grind (arith, length-append, take_at, line_feeds-append)
-
-open_drops : (number : ℕ) (lines unread : List ℕ) (n : ℕ) (left : Option (List ℕ)) → is_fed lines ≡ true → line_feeds lines ≤ 1
-    → ((drop n lines ≡ lines) × (line_feeds (take n lines) ≡ 0) × (n ≡ 0)) ⊎ ((drop n lines ≡ []) × (line_feeds (take n lines) ≡ 1) × (0 < length lines))
-    → DropsLines (option_map (lines_from number) (left_at true (held_at true lines unread) left)) (line_feeds (take n lines))
-    (option_map (lines_from (number + line_feeds (take n lines))) (left_at true (held_at true (drop n lines) unread) left))
-open_drops number lines unread n left fed one w = grind (arith, drop_all, few_lines, front_feeds, fed_last, lines_from-nil)
 
 held_open : (b : Bool) (lines unread : List ℕ) → b ≡ true → held_at b lines unread ≡ held_at true lines unread
 held_open b lines unread e = rw e refl
@@ -199,7 +181,7 @@ none_taken lines n e = ap line_feeds (ap (take n) e ∙ take_all n [] (omega ari
 module _ {S : Type 0} (device : Source S) (old new : LineReader S) (n : ℕ) (takes : Takes old new n) where
   near_taken : 0 < n → length (held new) ≤ block_size
   unfolding held
-  near_taken some = grind (arith, held_short, near_behind, are_fed)
+  near_taken some = grind (arith, held_short, are_fed, lines_fit, whole, unread_fits)
 
   told_taken : end_told new ≡ end_told old
   unfolding end_told
@@ -221,11 +203,11 @@ module _ {S : Type 0} (device : Source S) (old new : LineReader S) (n : ℕ) (ta
 
   closed_taken : open_at old.state ≡ false → DropsLines (lines_left device.left old) (line_feeds (take n (complete old.buffer))) (lines_left device.left new)
   unfolding bytes_left
-  closed_taken plain = grind (arith, told_taken, sources, closed_held, closed_new, numbers, left_drops)
+  closed_taken plain = grind (arith, told_taken, sources, closed_held, numbers, left_drops)
 
   open_taken : open_at old.state ≡ true → DropsLines (lines_left device.left old) (line_feeds (take n (complete old.buffer))) (lines_left device.left new)
   unfolding bytes_left
-  open_taken opened = grind (arith, open_held, still, are_fed, open_is_told, sources, numbers, open_drops, whole)
+  open_taken opened = grind (arith, open_held, are_fed, open_is_told, sources, numbers, whole, drop_all, few_lines, front_feeds, fed_last, lines_from-nil)
 
   both_taken : (b : Bool) → open_at old.state ≡ b → DropsLines (lines_left device.left old) (line_feeds (take n (complete old.buffer))) (lines_left device.left new)
   both_taken b e = grind (arith, open_taken, closed_taken)
@@ -274,12 +256,12 @@ module _ {S : Type 0} (device : Source S) (old new : LineReader S) (n : ℕ) (ta
 
   -- nothing is handed over
   hands_taken : Hands device.left old [] new
-  hands_taken = grind (arith, sources, Consumes-nil, same_bytes, inputs, feeds_kept, told_taken)
+  hands_taken = grind (arith, sources, same_bytes, inputs, feeds_kept, told_taken)
 
   -- and so much less is held
   held_taken : length (held new) + line_feeds (take n (complete old.buffer)) ≤ length (held old)
   unfolding held
-  held_taken = grind (arith, common_steps, spaced_taken, are_fed)
+  held_taken = grind (arith, common_steps)
 
 -- all that taking lines does
 pub takes_lines : {S : Type 0} (device : Source S) (old new : LineReader S) (consumed : ConsumedLines) → new.lines ≡ consumed.lines → Takes old new consumed.bytes → TakesLines device old consumed new
@@ -311,23 +293,15 @@ near_all number held false None short = tt
 near_all number held true (Some rest) short = omega (arith, short, bytes_in-lines number held, bytes_in-drop 1 (lines_from number held))
 near_all number held false (Some rest) short = omega (arith, short, bytes_in-lines number (held ++ rest), bytes_in-drop 1 (lines_from number (held ++ rest)), length-append held rest)
 
-behind_one : (number : ℕ) (lines more : List ℕ) → is_fed lines ≡ true → line_feeds lines ≡ 1 → bytes_in (drop 1 (lines_from number (lines ++ more))) ≡ length more
-behind_one number lines more fed one = grind (arith, drop_fed, bytes_in-lines)
-
 near_one : (number : ℕ) (lines unread : List ℕ) (told : Bool) (left : Option (List ℕ)) → is_fed lines ≡ true → line_feeds lines ≡ 1 → length unread ≤ block_size
     → IfSome (option_map (lines_from number) (left_at told (lines ++ unread) left)) (λ all. IfSome left (λ rest. bytes_in (drop 1 all) ≤ length rest + block_size))
-near_one number lines unread told left fed one short = grind (arith, behind_one, length-append, append_assoc)
+near_one number lines unread told left fed one short = grind (arith, length-append, append_assoc, drop_fed, bytes_in-lines)
 
 one_or_none : (n : ℕ) → n ≤ 1 → (n ≡ 0) ⊎ (n ≡ 1)
 one_or_none n small = grind arith
 
-near_closed : (spilled : Bool) (buffer : ReadBuffer) (number : ℕ) (told : Bool) (left : Option (List ℕ)) → buffer.is_spilled ≡ spilled
-    → IfSome (option_map (lines_from number) (left_at told (complete buffer ++ unread buffer) left)) (λ all. IfSome left (λ rest. bytes_in (drop 1 all) ≤ length rest + block_size))
-near_closed spilled buffer number told left e = grind (arith, near_all, lines_fit, are_fed, one_or_none, fed_none, unread_fits, near_one)
-
 open_few : (number : ℕ) (lines : List ℕ) → is_fed lines ≡ true → line_feeds lines ≤ 1 → drop 1 (lines_from number (take (length lines - 1) lines)) ≡ []
-open_few number lines fed one =
-    drop_all 1 (lines_from number (take (length lines - 1) lines)) (omega (arith, few_lines number (take (length lines - 1) lines), front_feeds lines one (fed_last lines fed)))
+open_few number lines fed one = grind (arith, common_steps, drop_all, (few_lines number (take (length lines - 1) lines)), (front_feeds lines one (fed_last lines fed)))
 
 near_open : (number : ℕ) (lines : List ℕ) (left : Option (List ℕ)) → is_fed lines ≡ true → line_feeds lines ≤ 1
     → IfSome (option_map (lines_from number) (left_at true (take (length lines - 1) lines) left)) (λ all. IfSome left (λ rest. bytes_in (drop 1 all) ≤ length rest + block_size))
@@ -341,7 +315,7 @@ module _ {S : Type 0} (left : S → Option (List ℕ)) (reader : LineReader S) w
 
   near_by : (b : Bool) → open_at reader.state ≡ b → IsNearNext
   unfolding bytes_left source_of
-  near_by b e = grind (arith, open_held, open_is_told, near_open, are_fed, closed_held, near_closed)
+  near_by b e = grind (arith, open_held, open_is_told, near_open, are_fed, closed_held, near_all, lines_fit, fed_none, unread_fits, near_one)
 
   pub near_next : IsNearNext
   near_next = near_by (open_at reader.state) refl
@@ -349,7 +323,7 @@ module _ {S : Type 0} (left : S → Option (List ℕ)) (reader : LineReader S) w
 -- if a line is buffered, its number is below 2^63
 module _ {S : Type 0} (reader : LineReader S) (some : 0 < length (complete reader.buffer)) where
   below_by : (b : Bool) → open_at reader.state ≡ b → reader.lines + 1 ≤ reader.taken
-  below_by b e = grind (arith, length-append, two_of, length-take)
+  below_by b e = grind (arith, length-append, length-take)
 
   pub next_below : suc (lines_given reader) < 2 ^ 63
   unfolding lines_given
@@ -373,11 +347,8 @@ head_number : (n k : ℕ) (all : List TextLine) (line : TextLine) (more : List T
 head_number n k all line more a e = grind arith
 
 number_by : (b : Bool) (given : ℕ) (bytes : List ℕ) (line : TextLine) (more : List TextLine) → buffered_lines b given bytes ≡ line ∷ more → line.number ≡ suc given
-number_by true given bytes line more e =
-    let front = take (length bytes - 1) bytes in
-    head_number (suc given) (length (lines_from (suc given) front)) (lines_from (suc given) front) line more (lines_are_numbered (suc given) front) (take_whole (lines_from (suc given) front) ∙ e)
-number_by false given bytes line more e =
-    head_number (suc given) (length (whole_lines_from (suc given) bytes)) (lines_from (suc given) (bytes ++ [])) line more (lines_are_numbered (suc given) (bytes ++ [])) (first_whole (suc given) bytes [] ∙ e)
+number_by true given bytes line more e = grind (arith, head_number, (lines_are_numbered (suc given) (take (length bytes - 1) bytes)), (take_whole (lines_from (suc given) (take (length bytes - 1) bytes))))
+number_by false given bytes line more e = grind (arith, head_number, (lines_are_numbered (suc given) (bytes ++ [])), (first_whole (suc given) bytes []))
 
 pub next_number : {S : Type 0} (reader : LineReader S) (line : TextLine) (more : List TextLine) → buffered_in reader ≡ line ∷ more → line.number ≡ suc (lines_given reader)
 next_number reader line more e = number_by (is_open reader) (lines_given reader) (buffered_bytes reader) line more e
@@ -395,12 +366,10 @@ next_bytes reader line more e = some_bytes_by (buffered_bytes reader) (is_open r
 -- and if bytes are, one is
 none_buffered : (b : Bool) (given : ℕ) (bytes : List ℕ) → is_fed bytes ≡ true → (b ≡ true → nat_eq (length bytes) 1 ≡ false) → buffered_lines b given bytes ≡ [] → length bytes ≡ 0
 none_buffered false given bytes fed two none = ap length (fed_none bytes fed (sym (whole_count (suc given) bytes) ∙ ap length none))
-none_buffered true given bytes fed two none =
-    let few : length bytes ≤ 1 = omega (arith, ap bytes_in none, bytes_in-lines (suc given) (take (length bytes - 1) bytes), length-take (length bytes - 1) bytes) in
-    none_of (length bytes) few (two refl)
+none_buffered true given bytes fed two none = grind (arith, (bytes_in-lines (suc given) (take (length bytes - 1) bytes)), (length-take (length bytes - 1) bytes))
   where
     none_of : (n : ℕ) → n ≤ 1 → nat_eq n 1 ≡ false → n ≡ 0
-    none_of n few two = grind (arith, nat_tests)
+    none_of n few two = grind arith
 
 pub some_buffered : {S : Type 0} (reader : LineReader S) → 0 < length (buffered_bytes reader) → buffered_in reader ≡ [] → ⊥
 unfolding buffered_bytes is_open
@@ -418,7 +387,7 @@ not_told a b stays e = grind arith
 -- one call after another
 pub hands_both : {S : Type 0} (left : S → Option (List ℕ)) (old mid new : LineReader S) (first second : List ℕ)
     → Hands left old first mid → Hands left mid second new → Hands left old (first ++ second) new
-hands_both left old mid new first second p q = grind (arith, Consumes-trans, length-append, not_told, line_feeds-append)
+hands_both left old mid new first second p q = grind (arith, Consumes-trans, length-append, line_feeds-append)
 
 -- after the lines given, at most a block more than the source has
 near_left : (told : Bool) (held : List ℕ) (n : ℕ) (left : Option (List ℕ)) (k : ℕ) → length held ≤ k

@@ -27,7 +27,7 @@ lines_from-nil n = refl
 
 -- a byte that ends a text, and the text before it
 pub strip_last-push : (byte : ℕ) (xs : List ℕ) → ends_with_byte byte xs ≡ true → strip_last byte xs ++ byte ∷ [] ≡ xs
-strip_last-push byte xs e = grind (arith, and_parts, ltb-true, eqb-true, drop_more, drop_all, take-append-drop)
+strip_last-push byte xs e = grind (arith, drop_more, drop_all, take-append-drop)
 
 pub strip_last-other : (byte : ℕ) (xs : List ℕ) → ends_with_byte byte xs ≡ false → strip_last byte xs ≡ xs
 strip_last-other byte xs e = rw e refl
@@ -44,12 +44,12 @@ spelled-fed n piece = fed_end (ends_with_byte 13 piece) piece (strip_last 13 pie
 
 -- a last line, as the text has it
 pub spelled-last : (n : ℕ) (piece : List ℕ) → flat_map spelled (last_line n piece) ≡ piece
-spelled-last n piece = grind (arith, append-nil, last_end, strip_last-push, strip_last-other)
+spelled-last n piece = grind (arith, append-nil, strip_last-push)
 
 joined : (n : ℕ) (parts : List (List ℕ)) → flat_map spelled (numbered n parts) ≡ join_with_byte 10 parts
 joined n [] = refl
 joined n (piece ∷ []) = spelled-last n piece
-joined n (piece ∷ next ∷ rest) = grind (arith, common_steps, (joined (suc n) (next ∷ rest)), spelled-fed, append_assoc)
+joined n (piece ∷ next ∷ rest) = grind (arith, common_steps, (joined (suc n) (next ∷ rest)))
 
 -- the lines with their line ends are the text
 pub lines_lose_nothing : (n : ℕ) (bytes : List ℕ) → flat_map spelled (lines_from n bytes) ≡ bytes
@@ -65,8 +65,7 @@ module _ (P : ℕ → List ℕ → Type 0) (last : (n : ℕ) (piece : List ℕ) 
       → (b : Bool) → eqb byte 10 ≡ b → P n (front ++ byte ∷ rest)
   at_byte n front byte rest clear behind true e =
       subst (λ b. P n (front ++ b ∷ rest)) (sym (eqb-true byte 10 e)) (fed n front rest clear (behind (suc n) [] (All-nil (λ b. eqb b 10 ≡ false))))
-  at_byte n front byte rest clear behind false e =
-      subst (P n) (append_assoc front (byte ∷ []) rest) (behind n (front ++ byte ∷ []) (All-push (λ b. eqb b 10 ≡ false) front byte clear e))
+  at_byte n front byte rest clear behind false e = grind (arith, (append_assoc front (byte ∷ []) rest), (All-push (λ b. eqb b 10 ≡ false) front byte clear e))
 
   from_front : (rest : List ℕ) (n : ℕ) (front : List ℕ) → NoLineFeed front → P n (front ++ rest)
   from_front [] n front clear = subst (P n) (sym (append-nil front)) (last n front clear)
@@ -82,13 +81,11 @@ line_feeds-append xs ys = sum_by-append _ xs ys
 
 -- a piece without a line feed has none
 pub line_feeds-none : (piece : List ℕ) → NoLineFeed piece → line_feeds piece ≡ 0
-line_feeds-none piece clear =
-    omega (arith, length-slice_split (λ b. eqb b 10) piece, ap length (slice_split_none (λ b. eqb b 10) piece clear))
+line_feeds-none piece clear = grind (arith, (length-slice_split (λ b. eqb b 10) piece), (slice_split_none (λ b. eqb b 10) piece clear))
 
 -- a piece, its line feed and the rest
 pub line_feeds-fed : (piece rest : List ℕ) → NoLineFeed piece → line_feeds (piece ++ 10 ∷ rest) ≡ suc (line_feeds rest)
-line_feeds-fed piece rest clear =
-    omega (arith, length-slice_split (λ b. eqb b 10) rest, length-slice_split (λ b. eqb b 10) (piece ++ 10 ∷ rest), ap length (slice_split_at (λ b. eqb b 10) piece 10 rest clear refl))
+line_feeds-fed piece rest clear = grind (arith, (length-slice_split (λ b. eqb b 10) rest), (length-slice_split (λ b. eqb b 10) (piece ++ 10 ∷ rest)), (slice_split_at (λ b. eqb b 10) piece 10 rest clear refl))
 
 -- ---- complete lines
 
@@ -141,7 +138,7 @@ whole_lines_are_numbered = by_lines (λ n bytes. AreNumbered n (whole_lines_from
 
 -- lines after one another have the bytes of both
 pub bytes_in-append : (xs ys : List TextLine) → bytes_in (xs ++ ys) ≡ bytes_in xs + bytes_in ys
-bytes_in-append xs ys = grind (arith, common_steps, length-append)
+bytes_in-append xs ys = grind (arith, common_steps)
 
 -- the lines of a text have its bytes
 pub bytes_in-lines : (n : ℕ) (bytes : List ℕ) → bytes_in (lines_from n bytes) ≡ length bytes
@@ -164,7 +161,7 @@ first_cut [] rest (byte ∷ front) back clear e = absurd (false≢true (sym (All
 
     heads : (x y : ℕ) (xs ys : List ℕ) → x ∷ xs ≡ y ∷ ys → x ≡ y
     heads x y xs ys e = ap first e
-first_cut (other ∷ piece) rest (byte ∷ front) back clear e = grind (arith, (first_cut piece rest front back (All-tail (λ b. eqb b 10 ≡ false) byte front clear) (ap (drop 1) e)), All-tail)
+first_cut (other ∷ piece) rest (byte ∷ front) back clear e = grind (arith, (first_cut piece rest front back (All-tail (λ b. eqb b 10 ≡ false) byte front clear) (ap (drop 1) e)))
 
 -- after a piece without a line feed: the lines except the first have at most the bytes that come there
 pub bytes_behind_first : (n : ℕ) (front back : List ℕ) → NoLineFeed front → bytes_in (drop 1 (lines_from n (front ++ back))) ≤ length back
@@ -189,32 +186,27 @@ IsColumn column = All IsInside column
 
 -- a column that a tab follows is the first
 pub cut_at : (text : List ℕ) (n : ℕ) → n < length text → get_or text n 0 ≡ 9 → IsColumn (take n text) → pieces 9 text ≡ take n text ∷ pieces 9 (drop (n + 1) text)
-cut_at text n within tab column =
-    let there : drop n text ≡ 9 ∷ drop (n + 1) text = drop_more text n 0 within ∙ ap (λ b. b ∷ drop (n + 1) text) tab in
-    let whole : text ≡ take n text ++ 9 ∷ drop (n + 1) text = sym (take-append-drop n text) ∙ ap (λ l. take n text ++ l) there in
-    ap (pieces 9) whole ∙ slice_split_at (λ byte. eqb byte 9) (take n text) 9 (drop (n + 1) text) column refl
+cut_at text n within tab column = grind (arith, (drop_more text n 0 within), (take-append-drop n text), (slice_split_at (λ byte. eqb byte 9) (take n text) 9 (drop (n + 1) text) column refl))
 
 -- Lemmas on the pieces of a text between separators.
 
 -- none comes before the first separator
 clear_before : (s : ℕ) (bytes : List ℕ) (i : ℕ) → IsFirstByte (is_byte s) bytes (Some i) → All (λ x. eqb x s ≡ false) (take i bytes)
-clear_before s bytes i first = grind (arith, length-take-le, get_or-take, get_or_default, false_from_ne_true)
+clear_before s bytes i first = grind (arith, length-take-le, get_or-take, get_or_default)
 
 -- a text that is cut at its first separator
 pub pieces_cut : (s : ℕ) (bytes : List ℕ) (i : ℕ) → IsFirstByte (is_byte s) bytes (Some i) → pieces s bytes ≡ take i bytes ∷ pieces s (drop (i + 1) bytes)
 pieces_cut s bytes i first =
     let below : i < length bytes = first.0.high in
-    let cut = slice_split_at (λ x. eqb x s) (take i bytes) (get_or bytes i 0) (drop (i + 1) bytes) (clear_before s bytes i first) first.1 in
-    ap (pieces s) (sym (take-append-drop i bytes) ∙ ap (λ l. take i bytes ++ l) (drop_more bytes i 0 below)) ∙ cut
+    grind (arith, (slice_split_at (λ x. eqb x s) (take i bytes) (get_or bytes i 0) (drop (i + 1) bytes) (clear_before s bytes i first) first.1), (take-append-drop i bytes), (drop_more bytes i 0 below))
 
 -- a text without a separator is one piece
 pub pieces_whole : (s : ℕ) (bytes : List ℕ) → IsFirstByte (is_byte s) bytes None → pieces s bytes ≡ bytes ∷ []
-pieces_whole s bytes nowhere =
-    slice_split_none (λ x. eqb x s) bytes (λ k d h. rw (get_or_default bytes k d 0 h) (false_from_ne_true _ (nowhere k (omega arith) h)))
+pieces_whole s bytes nowhere = grind (arith, (slice_split_none (λ x. eqb x s) bytes (λ k d h. rw (get_or_default bytes k d 0 h) (false_from_ne_true _ (nowhere k (omega arith) h)))))
 
 -- the first tab divides the first column from the others
 pub tab_divides : (text : List ℕ) (found : Option ℕ) → IsFirstByte (is_byte 9) text found → IsFirstOf 9 text found × CutAt text found
-tab_divides text found nowhere = grind (arith, common_steps, get_or_default, false_from_ne_true, pieces_whole, take-append-drop, drop_more, eqb-true, clear_before, pieces_cut)
+tab_divides text found nowhere = grind (arith, common_steps, pieces_whole, clear_before, pieces_cut)
 
 -- the first column ends before the first tab
 pub before_tab : (text : List ℕ) (end : ℕ) → IsBefore 9 text end → end < length text → pieces 9 text ≡ take end text ∷ pieces 9 (drop (end + 1) text)
