@@ -129,7 +129,7 @@ module _ (old mid new : Output) (xs ys : List ℕ) where
   put_more p q = grind (arith, Appends-trans)
 
   pub fails_behind : (fault : FaultValue) → PutsAll old xs mid → FailsToPut mid ys fault new → FailsToPut old (xs ++ ys) fault new
-  fails_behind fault p q = grind (arith, (front_behind new.took old.put mid.put xs ys p.appends q.front), (grows_both old.took mid.took new.took p.grows q.grows), false≢true)
+  fails_behind fault p q = grind (arith, (front_behind new.took old.put mid.put xs ys p.appends q.front), (grows_both old.took mid.took new.took p.grows q.grows))
 
 pub fails_before : (old new : Output) (xs ys : List ℕ) (fault : FaultValue) → FailsToPut old xs fault new → FailsToPut old (xs ++ ys) fault new
 fails_before old new xs ys fault p = grind (arith, front_longer)
@@ -185,7 +185,7 @@ nothing_behind (x ∷ xs) ys e = cc
 
 module _ (old mid new : Output) (xs ys : List ℕ) where
   pub grown_more : Grown old xs mid → Grown mid ys new → Grown old (xs ++ ys) new
-  grown_more p q = grind (arith, (Appends-trans old.put mid.put new.put xs ys p.appends q.appends), (grows_both old.took mid.took new.took p.grows q.grows), nothing_behind, nothing_before)
+  grown_more p q = grind (arith, (Appends-trans old.put mid.put new.put xs ys p.appends q.appends), (grows_both old.took mid.took new.took p.grows q.grows), nothing_before)
 
   pub fails_then : (fault : FaultValue) → Grown old xs mid → FailsToAdd mid ys fault new → FailsToAdd old (xs ++ ys) fault new
   fails_then fault p q = grind (arith, (front_behind new.took old.put mid.put xs ys p.appends q.puts.front), (grows_both old.took mid.took new.took p.grows q.puts.grows), nothing_behind)

@@ -69,7 +69,7 @@ flipped_within (byte ∷ bytes) all = grind (arith, (flipped_within bytes all.2)
 
 -- both halves of a byte whose bits are flipped
 flipped_byte : (byte : ℕ) → bit_xor byte 48 ≡ bit_xor (byte / 16) 3 * 16 + byte % 16
-flipped_byte byte = grind (arith, (shr_split byte 4), (xor_block 4 (byte / 16) 3 (byte % 16) 0 (mod_below byte 16 (omega arith)) (omega arith)), (xor_zero_r (byte % 16)))
+flipped_byte byte = grind (arith, (xor_block 4 (byte / 16) 3 (byte % 16) 0 (mod_below byte 16 (omega arith)) (omega arith)), (xor_zero_r (byte % 16)))
 
 flipped_digit : (byte : ℕ) → 48 ≤ byte → byte ≤ 57 → bit_xor byte 48 ≡ byte - 48
 flipped_digit byte low high = grind (arith, flipped_byte)
@@ -107,7 +107,7 @@ within_digit byte low high = grind arith
 
 digits_within : (bytes : List ℕ) → list_all is_ascii_digit bytes ≡ true → AreWithin 48 57 bytes
 digits_within [] all = tt
-digits_within (byte ∷ bytes) all = grind (arith, (and_parts (is_ascii_digit byte) (list_all is_ascii_digit bytes) all), (digits_within bytes (and_parts (is_ascii_digit byte) (list_all is_ascii_digit bytes) all).1))
+digits_within (byte ∷ bytes) all = grind (arith, (digits_within bytes (and_parts (is_ascii_digit byte) (list_all is_ascii_digit bytes) all).1))
 
 within_digits : (bytes : List ℕ) → AreWithin 48 57 bytes → list_all is_ascii_digit bytes ≡ true
 within_digits [] all = refl
@@ -192,7 +192,7 @@ sixes_fit bytes n all small = let most = ones_up_to bytes n all small in omega a
 
 -- some half isn't 0
 pub none_by_halves : (bytes : List ℕ) → length bytes ≡ 8 → AreWithin 0 255 bytes → (halves_in (ones_in bytes) ≡ 0 → ⊥) → None ≡ value_of bytes
-none_by_halves bytes n all other = grind (arith, (cases_Bool (list_all is_ascii_digit bytes)), flipped_digits, digits_within, looser, upper_ones, no_uppers, upper_sums, raised_within, sixes_fit, and_or_apart, no_digits)
+none_by_halves bytes n all other = grind (arith, flipped_digits, digits_within, looser, upper_ones, no_uppers, upper_sums, raised_within, sixes_fit, and_or_apart, no_digits)
 
 -- all halves are 0
 pub digits_by_halves : (bytes : List ℕ) → length bytes ≡ 8 → AreWithin 0 255 bytes → halves_in (ones_in bytes) ≡ 0 → AreWithin 48 57 bytes
@@ -323,15 +323,15 @@ after_flipped (suc k) bytes = ap (λ l. 0 ∷ l) (after_flipped k bytes)
 -- bytes of 0 before them shift them
 after_worth : (k : ℕ) (bytes : List ℕ) → worth (after k 0 bytes) ≡ worth bytes * 256 ^ k
 after_worth zero bytes = omega arith
-after_worth (suc k) bytes = grind (arith, (after_worth k bytes), (pow-suc 256 k), (mul_assoc (worth bytes) (256 ^ k) 256))
+after_worth (suc k) bytes = grind (arith, (after_worth k bytes), (mul_assoc (worth bytes) (256 ^ k) 256))
 
 pow_bytes : (k : ℕ) → 2 ^ (8 * k) ≡ 256 ^ k
 pow_bytes zero = refl
-pow_bytes (suc k) = grind (arith, (pow-add 2 (8 * k) 8), (pow_bytes k), (pow-suc 256 k))
+pow_bytes (suc k) = grind (arith, (pow-add 2 (8 * k) 8), (pow_bytes k))
 
 worth_append : (xs ys : List ℕ) → worth (xs ++ ys) ≡ worth xs + worth ys * 256 ^ length xs
 worth_append [] ys = omega arith
-worth_append (x ∷ xs) ys = grind (arith, (worth_append xs ys), (pow-suc 256 (length xs)), (mul_assoc (worth ys) (256 ^ length xs) 256))
+worth_append (x ∷ xs) ys = grind (arith, (worth_append xs ys), (mul_assoc (worth ys) (256 ^ length xs) 256))
 
 flipped_take : (n : ℕ) (bytes : List ℕ) → take n (flipped bytes) ≡ flipped (take n bytes)
 flipped_take zero bytes = refl

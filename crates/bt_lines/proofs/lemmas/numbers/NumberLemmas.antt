@@ -72,17 +72,14 @@ value_short i value below short = grind (arith, pow-le-pow_right)
 
 pub all_digits_in : (text : List ℕ) → list_all is_ascii_digit text ≡ true → AllDigits 10 text
 all_digits_in [] all = tt
-all_digits_in (byte ∷ bytes) all = grind (arith, (and_parts (is_ascii_digit byte) (list_all is_ascii_digit bytes) all), (all_digits_in bytes (and_parts (is_ascii_digit byte) (list_all is_ascii_digit bytes) all).1))
+all_digits_in (byte ∷ bytes) all = grind (arith, (all_digits_in bytes (and_parts (is_ascii_digit byte) (list_all is_ascii_digit bytes) all).1))
 
 -- `n` digits have a value below 10 ^ n
 pub digits_below : (text : List ℕ) → list_all is_ascii_digit text ≡ true → digits_value 10 text < 10 ^ length text
 digits_below text all = digits_value-lt 10 text (all_digits_in text all)
 
 taken : (a b c : Bool) (x value : ℕ) → Some value ≡ cond ((a && b) && c) (Some x) None → (b ≡ true) × (value ≡ x)
-taken true true true x value e = (refl, cc)
-taken true true false x value e = cc
-taken true false c x value e = cc
-taken false b c x value e = cc
+taken a b c x value e = grind arith
 
 -- what denotes a number is its digits
 pub digits_denoting : (text : List ℕ) (value : ℕ) → Some value ≡ value_of text → (list_all is_ascii_digit text ≡ true) × (value ≡ digits_value 10 text)
@@ -105,7 +102,7 @@ small_bit a = grind arith
 -- the bits of what one of two tests accepts
 pub or_masks : (p q : ℕ → Bool) (xs : List ℕ) → bit_or (mask_l (map p xs)) (mask_l (map q xs)) ≡ mask_l (map (λ x. p x || q x) xs)
 or_masks p q [] = refl
-or_masks p q (x ∷ xs) = grind (arith, (or_masks p q xs), (or_block 1 (mask_l (map p xs)) (mask_l (map q xs)) (cond (p x) 1 0) (cond (q x) 1 0) (small_bit (p x)) (small_bit (q x))), (or_bits (p x) (q x)))
+or_masks p q (x ∷ xs) = grind (arith, (or_masks p q xs), (or_block 1 (mask_l (map p xs)) (mask_l (map q xs)) (cond (p x) 1 0) (cond (q x) 1 0) (small_bit (p x)) (small_bit (q x))))
 
 -- no other byte is a digit, and a digit is none
 digit_if_no_other : (byte : ℕ) → is_other byte ≡ false → is_ascii_digit byte ≡ true
@@ -130,7 +127,7 @@ pub record AreFront (bytes : List ℕ) (count : ℕ) : Type 0 where
   pub all : count < length bytes → is_ascii_digit (get_or bytes count 0) ≡ false
 
 front : (bytes : List ℕ) → AreFront bytes (prefix_len (λ b. not (is_other b)) bytes)
-front bytes = grind (arith, (prefix_len-le-length (λ b. not (is_other b)) bytes), (front_digits bytes), other_is_no_digit, prefix_len_stops)
+front bytes = grind (arith, (prefix_len-le-length (λ b. not (is_other b)) bytes), (front_digits bytes), prefix_len_stops)
 
 -- by the bits of the other bytes, as they are loaded: if there is none, and if there is one
 pub front_whole : (bytes : List ℕ) (mask : ℕ) → length bytes ≡ 8 → mask ≡ mask_l (map is_other (chunk 0 8 bytes)) → mask ≡ 0 → AreFront bytes 8

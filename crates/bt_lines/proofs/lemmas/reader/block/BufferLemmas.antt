@@ -23,8 +23,7 @@ use Rattle.bt_lines.specs.declared.reader.spill.More.{More}
 pub consumed : (xs : List ℕ) (start end count : ℕ) → start + count ≤ end → slice_range xs (start + count) end ≡ drop count (slice_range xs start end)
 consumed xs start end count inside =
     let parts : end - start ≡ count + (end - (start + count)) = omega arith in
-    sym (ap (λ j. drop count (take j (drop start xs))) parts ∙ drop-take count _ (drop start xs)
-    ∙ ap (take (end - (start + count))) (drop-drop count start xs))
+    grind (arith, drop-take, drop-drop)
 
 -- a part of a list is at most as long as its ends are apart
 pub length-range-le : (xs : List ℕ) (start end : ℕ) → length (slice_range xs start end) ≤ end - start
@@ -144,7 +143,7 @@ last_feed bytes from end last h k is =
     let front : slice_range bytes from (from + last + 1) ≡ take last hay ++ 10 ∷ [] =
     ap (λ (n : ℕ). take n (drop from bytes)) count ∙ shorter_front (drop from bytes) (last + 1) (end - from) (omega (arith, inside))
     ∙ take_more hay last 0 below ∙ ap (λ (b : ℕ). take last hay ++ b ∷ []) byte in
-    grind (arith, (fed_push (take last hay)), (consumed bytes from end (last + 1) (omega (arith, inside))), (sum from last), (length-drop (last + 1) hay), get_or-drop, get_or_default, false_from_ne_true)
+    grind (arith, (fed_push (take last hay)), (consumed bytes from end (last + 1) (omega (arith, inside))), (length-drop (last + 1) hay), get_or-drop, get_or_default)
 
 -- the text of a line that was taken
 pub line_text : (is_spilled : Bool) (spilled bytes : List ℕ) (start whole text line : ℕ) → text ≤ line → line ≤ length (cond is_spilled (drop start spilled) (slice_range bytes start whole))
@@ -176,14 +175,7 @@ found bytes whole searched end last w s e is =
     let feed = last_feed bytes searched end last s e is in
     let size : length (slice_range bytes searched (searched + last + 1)) ≡ searched + last + 1 - searched = length-range bytes searched (searched + last + 1) (omega (arith, feed.inside, e)) in
     let split = range_split bytes whole searched (searched + last + 1) w (omega arith) in
-    let lines : length (slice_range bytes whole (searched + last + 1)) ≡ searched + last + 1 - whole = length-range bytes whole (searched + last + 1) (omega (arith, feed.inside, e)) in
-    record {
-      inside = feed.inside;
-      are = are_in_block _ (rw split (fed_after (slice_range bytes whole searched) (slice_range bytes searched (searched + last + 1)) (omega (arith, size)) feed.fed));
-      clear = record { clear = feed.clear };
-      split = sym (range_split bytes whole (searched + last + 1) end (omega (arith, w)) (omega (arith, feed.inside)));
-      some = omega (arith, lines, w);
-    }
+    grind (arith, length-range, fed_after, range_split)
 
 -- nothing was found
 pub not_found : (bytes : List ℕ) (whole searched end : ℕ) → whole ≤ searched → searched ≤ end → IsSearched (slice_range bytes whole searched) → IsLastByte (is_byte 10) (slice_range bytes searched end) None
@@ -422,7 +414,7 @@ module _ {S : Type 0} (device : Source S) where
             count = length-append so_far.bytes next
 
           pub more_came : (same : List ℕ) → same ≡ new_text → AsksMore device mid new_block taken Bytes new next_block next_taken → SoFar old old_block old_taken new next_block same next_taken
-          more_came same e asks = grind (arith, common_steps, consumed, (more asks.bytes), empty, no_feed)
+          more_came same e asks = grind (arith, common_steps, (more asks.bytes), no_feed)
 
           -- bytes came, if any, and where the reading stopped
           more_by : (stop : Stop) (more : More) (complete rest : List ℕ) (asks : AsksMore device mid new_block taken more new next_block next_taken) → uncounted stop ≡ uncounted_more more

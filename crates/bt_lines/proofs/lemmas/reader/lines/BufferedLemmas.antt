@@ -148,11 +148,8 @@ module _ (state : State) (old_lines old_unread lines unread_now : List ℕ) (giv
   gone_by : open_at state ≡ true → lines ≡ []
   gone_by e = alone old_lines piece lines parts clear (last.one e) fed
 
-  spaced_open : open_at state ≡ true → given + 1 + length (held_at (open_at state) lines unread_now) ≤ taken
-  spaced_open e = grind (arith, length-append, length-take)
-
   spaced_by : (state ≡ Reading) ⊎ (state ≡ LastLine) → given + 1 + length (held_at (open_at state) lines unread_now) ≤ taken
-  spaced_by p1 = grind (arith, spaced_open, length-append)
+  spaced_by p1 = grind (arith, length-append, length-take)
 
   pub spaced_cut : given + 1 + length (held_at (open_at state) lines unread_now) ≤ taken
   spaced_cut = spaced_by (some_state state some_lends)
@@ -275,7 +272,7 @@ module _ (old mid new : BufferedLines) (n m : ℕ) (first : PassesLines old n mi
       grind (arith, take-add, rest_mid)
 
   pub passes_more : PassesLines old (n + m) new
-  passes_more = grind (arith, drop-drop, both, line_feeds-append, common_steps, fed_after)
+  passes_more = grind (arith, both, common_steps, fed_after)
 
 -- the first line was consumed
 module _ (old new : BufferedLines) (line : Shown) (cut : Cut (rest_in old) line) (at : new.at ≡ old.at + line.size) (lines : new.lines ≡ old.lines + 1) (all_is : new.all ≡ old.all) (open_is : new.is_open ≡ old.is_open) where

@@ -87,10 +87,6 @@ module _ {S : Type 0} (device : Source S) (old new : LineReader S) (bytes piece 
     (same : input_of new ≡ input_of old) (more : lines_given new ≡ suc (lines_given old)) (consumed : Consumes (device.left (source_of old)) (device.left (source_of new)) bytes)
     (counted : new.taken ≡ old.taken + length bytes) (joined : held old ++ bytes ≡ piece ++ 10 ∷ held new) (clear : NoLineFeed piece)
     (at : line_at new ≡ Some (fed_line (suc (lines_given old)) piece)) (near : length (held new) ≤ block_size) (ready : 0 < line_feeds (held old) → source_of new ≡ source_of old) (served : device.has_failed (source_of new) ≡ device.has_failed (source_of old)) where
-  fed_first : (ys : List ℕ) → lines_from (suc (lines_given old)) ((held old ++ bytes) ++ ys)
-      ≡ fed_line (suc (lines_given old)) piece ∷ lines_from (suc (suc (lines_given old))) (held new ++ ys)
-  fed_first ys = grind (arith, append_assoc, lines_from-fed)
-
   fed_size : length (held old) + length bytes ≡ length piece + suc (length (held new))
   fed_size = omega (arith, length-append (held old) bytes, ap length joined, length-append piece (10 ∷ held new))
 
@@ -113,7 +109,7 @@ module _ {S : Type 0} (device : Source S) (old new : LineReader S) (bytes piece 
 
   pub gives_fed : GivesLine device old (fed_line (suc (lines_given old)) piece) new
   unfolding bytes_left
-  gives_fed = grind (arith, fed_first, fed_hands, fed_held, fed_below, fed_size, append_assoc)
+  gives_fed = grind (arith, fed_hands, fed_held, fed_below, fed_size, append_assoc, lines_from-fed)
 
   pub sound_fed : IsKept device old → IsSound device new
   sound_fed h = grind arith
@@ -180,7 +176,7 @@ module _ {S : Type 0} (device : Source S) (old new : LineReader S) (bytes : List
 
   pub fills_end : FillsLines device old (Ok false) new
   unfolding bytes_left
-  fills_end = grind (arith, none_told, append-nil, lines_from-nil)
+  fills_end = grind (arith, append-nil, lines_from-nil)
 
 -- ---- a line that couldn't be given
 

@@ -79,7 +79,7 @@ one_fed : (more : List ℕ) (n : ℕ) (piece rest : List ℕ) → NoLineFeed pie
     → drop (line_feeds (piece ++ 10 ∷ rest)) (lines_from n ((piece ++ 10 ∷ rest) ++ more)) ≡ lines_from (n + line_feeds (piece ++ 10 ∷ rest)) more
 one_fed more n piece rest clear fed is =
     let feeds = line_feeds-fed piece rest clear in
-    grind (arith, (append_assoc piece (10 ∷ []) rest), (drop_at (piece ++ 10 ∷ []) rest (length piece + 1) (length-append piece (10 ∷ []))), fed_drop, append_assoc, lines_from-fed)
+    grind (arith, (drop_at (piece ++ 10 ∷ []) rest (length piece + 1) (length-append piece (10 ∷ []))), fed_drop, append_assoc, lines_from-fed)
 
 -- those after bytes that end with a line feed
 drop_fed : (more : List ℕ) (n : ℕ) (bytes : List ℕ) → is_fed bytes ≡ true → drop (line_feeds bytes) (lines_from n (bytes ++ more)) ≡ lines_from (n + line_feeds bytes) more
@@ -181,7 +181,7 @@ none_taken lines n e = ap line_feeds (ap (take n) e ∙ take_all n [] (omega ari
 module _ {S : Type 0} (device : Source S) (old new : LineReader S) (n : ℕ) (takes : Takes old new n) where
   near_taken : 0 < n → length (held new) ≤ block_size
   unfolding held
-  near_taken some = grind (arith, held_short, are_fed, lines_fit, whole, unread_fits)
+  near_taken some = grind (arith, are_fed, lines_fit, whole, unread_fits)
 
   told_taken : end_told new ≡ end_told old
   unfolding end_told
@@ -301,11 +301,7 @@ one_or_none : (n : ℕ) → n ≤ 1 → (n ≡ 0) ⊎ (n ≡ 1)
 one_or_none n small = grind arith
 
 open_few : (number : ℕ) (lines : List ℕ) → is_fed lines ≡ true → line_feeds lines ≤ 1 → drop 1 (lines_from number (take (length lines - 1) lines)) ≡ []
-open_few number lines fed one = grind (arith, common_steps, drop_all, (few_lines number (take (length lines - 1) lines)), (front_feeds lines one (fed_last lines fed)))
-
-near_open : (number : ℕ) (lines : List ℕ) (left : Option (List ℕ)) → is_fed lines ≡ true → line_feeds lines ≤ 1
-    → IfSome (option_map (lines_from number) (left_at true (take (length lines - 1) lines) left)) (λ all. IfSome left (λ rest. bytes_in (drop 1 all) ≤ length rest + block_size))
-near_open number lines left fed one = grind (arith, open_few)
+open_few number lines fed one = grind (arith, common_steps, (few_lines number (take (length lines - 1) lines)), (front_feeds lines one (fed_last lines fed)))
 
 module _ {S : Type 0} (left : S → Option (List ℕ)) (reader : LineReader S) where
   -- of known bytes, those after the next line are left at the source, except a block at most
@@ -315,7 +311,7 @@ module _ {S : Type 0} (left : S → Option (List ℕ)) (reader : LineReader S) w
 
   near_by : (b : Bool) → open_at reader.state ≡ b → IsNearNext
   unfolding bytes_left source_of
-  near_by b e = grind (arith, open_held, open_is_told, near_open, are_fed, closed_held, near_all, lines_fit, fed_none, unread_fits, near_one)
+  near_by b e = grind (arith, open_held, open_is_told, are_fed, closed_held, near_all, lines_fit, fed_none, unread_fits, near_one, open_few)
 
   pub near_next : IsNearNext
   near_next = near_by (open_at reader.state) refl
@@ -347,8 +343,8 @@ head_number : (n k : ℕ) (all : List TextLine) (line : TextLine) (more : List T
 head_number n k all line more a e = grind arith
 
 number_by : (b : Bool) (given : ℕ) (bytes : List ℕ) (line : TextLine) (more : List TextLine) → buffered_lines b given bytes ≡ line ∷ more → line.number ≡ suc given
-number_by true given bytes line more e = grind (arith, head_number, (lines_are_numbered (suc given) (take (length bytes - 1) bytes)), (take_whole (lines_from (suc given) (take (length bytes - 1) bytes))))
-number_by false given bytes line more e = grind (arith, head_number, (lines_are_numbered (suc given) (bytes ++ [])), (first_whole (suc given) bytes []))
+number_by true given bytes line more e = grind (arith, (lines_are_numbered (suc given) (take (length bytes - 1) bytes)))
+number_by false given bytes line more e = grind (arith, (lines_are_numbered (suc given) (bytes ++ [])), (first_whole (suc given) bytes []))
 
 pub next_number : {S : Type 0} (reader : LineReader S) (line : TextLine) (more : List TextLine) → buffered_in reader ≡ line ∷ more → line.number ≡ suc (lines_given reader)
 next_number reader line more e = number_by (is_open reader) (lines_given reader) (buffered_bytes reader) line more e
