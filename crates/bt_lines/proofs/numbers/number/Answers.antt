@@ -6,9 +6,7 @@ pub returns-then-is_empty : goal.returns-then-is_empty
 returns-then-is_empty c = search (rules, value_of_empty)
 
 pub returns-then-not-is_ascii_digit : goal.returns-then-not-is_ascii_digit
-returns-then-not-is_ascii_digit c =
-    value_of_other c.args.text.now c.loop-byte.byte-index c.loop-byte-test.true
-    (sym c.is_ascii_digit.ensures.value ∙ c.if-not-is_ascii_digit.true)
+returns-then-not-is_ascii_digit c = grind (arith, value_of_other)
 
 pub loop-byte-preserved : goal.loop-byte-preserved
 loop-byte-preserved c =
