@@ -53,6 +53,7 @@ const EVEN_BYTES: u64 = 0x00ff_00ff_00ff_00ff;
 /// The number that eight decimal digits denote, or none if a byte isn't a digit: a sign or a space isn't allowed.
 /// All eight are read at once.
 #[inline(always)]
+#[tactic(auto, using(crate::proofs::lemmas::numbers::EightLemmas::none_by_halves, crate::proofs::lemmas::numbers::EightLemmas::are_bytes, crate::proofs::lemmas::numbers::EightLemmas::digits_by_halves, crate::proofs::lemmas::numbers::EightLemmas::ones_read, crate::proofs::lemmas::numbers::EightLemmas::value_of_eight_digits))]
 pub fn eight_digits(bytes: &[u8; 8]) -> Option<u64>
     ensures { result ≡ value_of bytes.now }
 {
@@ -67,6 +68,7 @@ pub fn eight_digits(bytes: &[u8; 8]) -> Option<u64>
 /// The digits that come first in eight bytes: the number that they denote, and how many they are. All are
 /// read at once.
 #[inline]
+#[tactic(auto, using(crate::proofs::lemmas::numbers::EightLemmas::shifted, crate::proofs::lemmas::numbers::EightLemmas::are_bytes, crate::proofs::lemmas::numbers::EightLemmas::few_read, crate::proofs::lemmas::numbers::EightLemmas::padded_value))]
 pub fn few_digits(bytes: &[u8; 8]) -> (u64, usize)
     ensures few { result.1 ≤ 8 }
     ensures digits { list_all is_ascii_digit (take result.1 bytes.now) ≡ true }
