@@ -20,6 +20,7 @@ const MAX_DIGITS: usize = 12;
 
 /// The number that a text of one or more decimal digits denotes, if it is at most
 /// [`MAX_NUMBER`]. Leading zeros are allowed, a sign or a space isn't.
+#[tactic(auto, using(crate::proofs::lemmas::numbers::NumberLemmas::value_of_empty, crate::proofs::lemmas::numbers::NumberLemmas::value_of_other))]
 pub fn number(text: &[u8]) -> Option<u64>
     ensures { result ≡ value_of text.now }
 {
@@ -122,6 +123,7 @@ fn joined(ones: u64) -> u64
 }
 
 // The number of a text of more digits: they are too many unless the first ones are zeros.
+#[tactic(auto, using(crate::proofs::lemmas::numbers::NumberLemmas::value_of_other, crate::proofs::lemmas::numbers::NumberLemmas::value_more, crate::proofs::lemmas::numbers::NumberLemmas::value_of_large, crate::proofs::lemmas::numbers::NumberLemmas::digits_more))]
 fn long_number(text: &[u8]) -> Option<u64>
     requires { 0 < length text.now }
     ensures { result ≡ value_of text.now }

@@ -2,15 +2,6 @@ use Rattle.bt_lines.proofs.Std.{arith, ◌+◌, sym, ◌∙◌}
 use Rattle.bt_lines.proofs.lemmas.numbers.NumberLemmas.{value_of_other, value_of_large, value_of_whole, value_more, digits_more}
 use Rattle.bt_lines.proofs.numbers.long_number.Goals as goal
 
-pub returns-then-not-is_ascii_digit : goal.returns-then-not-is_ascii_digit
-returns-then-not-is_ascii_digit c = grind (arith, value_of_other)
-
-pub returns-then-value-gt-MAX_NUMBER : goal.returns-then-value-gt-MAX_NUMBER
-returns-then-value-gt-MAX_NUMBER c = grind (arith, value_more, value_of_large)
-
-pub loop-byte-preserved : goal.loop-byte-preserved
-loop-byte-preserved c = grind (arith, value_more, digits_more)
-
 pub returns : goal.returns
 returns c =
     value_of_whole c.args.text.now c.loop-byte.byte-index c.loop-byte.value c.requires c.loop-byte-test.false

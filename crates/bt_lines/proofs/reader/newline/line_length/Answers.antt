@@ -7,9 +7,6 @@ returns-in-Some-find_near c =
     before_feed 10 c.args.text.now c.in-Some-find_near.at
     (feed_first 10 c.args.text.now _ 32 c.in-Some-find_near.at c.in-Some.ensures.cases.same c.in-Some.ensures.cases.enough c.in-Some-find_near.ensures)
 
-pub late_length-requires-in_default-first_chunk-clause-clear : goal.late_length-requires-in_default-first_chunk-clause-clear
-late_length-requires-in_default-first_chunk-clause-clear c = grind arith
-
 pub overflow_add-result : goal.overflow_add-result
 overflow_add-result c = grind (arith, (length-take-le 32 _ c.in-Some-first_chunk.ensures.cases.enough))
 

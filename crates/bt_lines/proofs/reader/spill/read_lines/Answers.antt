@@ -17,12 +17,6 @@ returns-then-is_full-clause-buffers g c =
 pub ask_more-requires-clause-room : goal.ask_more-requires-clause-room
 ask_more-requires-clause-room g c = not_full _ c.if-is_full.ensures (unread_fits c.find_lines.new.self)
 
-pub loop-buffer-preserved : goal.loop-buffer-preserved
-loop-buffer-preserved g c = grind (arith, more_read, counts_then)
-
-pub end_text-requires-clause-room : goal.end_text-requires-clause-room
-end_text-requires-clause-room g c = grind (arith, not_full, unread_fits)
-
 pub returns-in-NoBytes-clause-buffers : goal.returns-in-NoBytes-clause-buffers
 returns-in-NoBytes-clause-buffers g c =
     let finds = c.loop-buffer-test.ensures.finds in

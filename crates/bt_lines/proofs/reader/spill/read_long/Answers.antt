@@ -3,9 +3,6 @@ use Rattle.bt_lines.proofs.lemmas.reader.block.BufferLemmas.{fed_line, one_line,
 use Rattle.bt_lines.proofs.lemmas.reader.block.ReadsLemmas.{counts_none, counts_then, fails_then}
 use Rattle.bt_lines.proofs.reader.spill.read_long.Goals as goal
 
-pub reads-init : goal.reads-init
-reads-init g c = grind (arith, at_first, counts_none)
-
 pub returns-in-Err-clause-buffers : goal.returns-in-Err-clause-buffers
 returns-in-Err-clause-buffers g c = at_refusal _ _ _ _ c.requires.some c.requires.clear _ _ _ _ (rw c.begin_spill.ensures.unread at c.reads.invariant.0) _ _ _ c.spill.ensures.moves _ _ c.in-Err.is c.spill.ensures.none
 
@@ -19,12 +16,6 @@ use_spilled-requires g c =
 pub returns-in-Ok-true-clause-buffers : goal.returns-in-Ok-true-clause-buffers
 returns-in-Ok-true-clause-buffers g c =
     at_feed _ _ _ _ c.requires.some c.requires.clear _ _ _ _ (rw c.begin_spill.ensures.unread at c.reads.invariant.0) _ _ _ c.spill.ensures.moves _ _ (c.in-Ok-true.is ∙ ap Ok c.in-Ok-true.field-0-test) c.use_spilled.ensures.lines c.use_spilled.ensures.unread
-
-pub ask_more-requires : goal.ask_more-requires
-ask_more-requires g c = grind arith
-
-pub reads-preserved : goal.reads-preserved
-reads-preserved g c = grind (arith, more_came, counts_then)
 
 pub returns-in-BadRead-clause-buffers : goal.returns-in-BadRead-clause-buffers
 returns-in-BadRead-clause-buffers g c =

@@ -8,6 +8,3 @@ use Rattle.bt_lines.proofs.tests.block_tests.takes_two.Goals as goal
 -- one more line was consumed, or none
 passes_next : (first old new : BufferedLines) (next : Option Line) → (n : ℕ) × PassesLines first n old → IfSome next (λ line. PassesLines old 1 new) → IfNone next (new ≡ old) → (n : ℕ) × PassesLines first n new
 passes_next first old new next so_far some none = grind arith
-
-pub consume-requires : goal.consume-requires
-consume-requires g c = grind arith

@@ -4,9 +4,6 @@ use Rattle.bt_lines.specs.inside.ReadBuffer.{complete, unread}
 use Rattle.bt_lines.specs.inside.Shape.{AreComplete}
 use Rattle.bt_lines.proofs.reader.read_buffer.ReadBuffer.end_text.Goals as goal
 
-pub invariant_of-self-clause-ordered : goal.invariant_of-self-clause-ordered
-invariant_of-self-clause-ordered c = grind arith
-
 pub invariant_of-self-clause-within : goal.invariant_of-self-clause-within
 unfolding unread
 invariant_of-self-clause-within c = search rules
