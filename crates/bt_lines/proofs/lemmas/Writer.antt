@@ -1,5 +1,5 @@
 -- Lemmas on writing.
-use Rattle.bt_lines.proofs.Std.{◌≡◌, ℕ, ◌+◌, ◌-◌, ◌*◌, ◌/◌, ◌≤◌, List, [], ◌∷◌, ◌++◌, set, slice_index, length, take, drop, refl, sym, ap, ◌∙◌, append_assoc, arith, length-append, length-take-le, take-add, take-take, take_all, length-chunk, length-put_chunk, take_more_put_chunk, take-put_mid, chunk, put_chunk, Option, None, Some, take-append-drop, Appends-trans, Appends, Keeps, append_known, Bool, Result, Ok, Err, true, false, append-nil, OnOk, OnErr, IfErr, IsErr, flat_map, flat_map-append, Appends-nil, false≢true, ◌^◌, ◌<◌, decimal, length-decimal-le, drop-set, drop_at, length-drop, take-append-le, take_at, take-put_mid_below}
+use Rattle.bt_lines.proofs.Std.{rules, ◌≡◌, ℕ, ◌+◌, ◌-◌, ◌*◌, ◌/◌, ◌≤◌, List, [], ◌∷◌, ◌++◌, set, slice_index, length, take, drop, refl, sym, ap, ◌∙◌, append_assoc, arith, length-append, length-take-le, take-add, take-take, take_all, length-chunk, length-put_chunk, take_more_put_chunk, take-put_mid, chunk, put_chunk, Option, None, Some, take-append-drop, Appends-trans, Appends, Keeps, append_known, Bool, Result, Ok, Err, true, false, append-nil, OnOk, OnErr, IfErr, IsErr, flat_map, flat_map-append, Appends-nil, false≢true, ◌^◌, ◌<◌, decimal, length-decimal-le, drop-set, drop_at, length-drop, take-append-le, take_at, take-put_mid_below}
 use borrow.Rule.Slice.PartMut.{put_mid}
 use Rattle.bt_lines.specs.calls.Output.{IsPrefixOf, Grows, HoldsBlock, block_size, Output, WorksAsBefore, PutsAll, FailsToPut, Puts, Grown, FailsToAdd, Adds, span_text}
 use Rattle.bt_lines.specs.model.Fault.{FaultValue, write_failed}
@@ -52,13 +52,7 @@ few_copied (x ∷ y ∷ z ∷ w ∷ to) piece same some few = absurd (omega arit
 -- two pieces are written after the first bytes, the second after the first
 pub two_put : (bytes piece end : List ℕ) (len : ℕ) (k m : ℕ) → len + (length piece + length end) ≤ length bytes
     → take (len + length piece + length end) (put_mid (len + length piece) m (put_mid len k bytes piece) end) ≡ take len bytes ++ (piece ++ end)
-two_put bytes piece end len k m room =
-    let first = put_mid len k bytes piece in
-    let long : len + length piece ≤ length first =
-    omega (arith, length-append (take len bytes) (piece ++ drop k (drop len bytes)), length-append piece (drop k (drop len bytes)), length-take-le len bytes (omega arith)) in
-    take-put_mid (len + length piece) m first end (len + length piece + length end) refl long
-    ∙ ap (λ l. l ++ end) (take-put_mid len k bytes piece (len + length piece) refl (omega arith))
-    ∙ append_assoc (take len bytes) piece end
+two_put bytes piece end len k m room = grind (arith, length-append, length-take-le, take-put_mid, append_assoc)
 
 -- Lemmas on what was put and what was taken.
 
@@ -67,14 +61,12 @@ pub front_part : (old mid new : Option (List ℕ)) (taken rest piece : List ℕ)
 front_part old mid None taken rest piece e p q = tt
 front_part None mid (Some new) taken rest piece e p q = tt
 front_part (Some old) None (Some new) taken rest piece e p q = absurd p
-front_part (Some old) (Some mid) (Some new) taken rest piece e p q =
-    (rest, ap (λ l. l ++ rest) (q ∙ p) ∙ append_assoc old taken rest ∙ ap (λ l. old ++ l) (sym e))
+front_part (Some old) (Some mid) (Some new) taken rest piece e p q = grind (arith, (append_assoc old taken rest))
 
 -- one more part was taken
 pub more_taken : (old mid new : Option (List ℕ)) (taken rest piece : List ℕ) (n : ℕ) → piece ≡ taken ++ rest → Appends old mid taken → Appends mid new (take n rest)
     → (piece ≡ (taken ++ take n rest) ++ drop n rest) × Appends old new (taken ++ take n rest)
-more_taken old mid new taken rest piece n e p q =
-    (e ∙ ap (λ l. taken ++ l) (sym (take-append-drop n rest)) ∙ sym (append_assoc taken (take n rest) (drop n rest)), Appends-trans old mid new taken (take n rest) p q)
+more_taken old mid new taken rest piece n e p q = grind (arith, take-append-drop, append_assoc)
 
 -- what was taken is a prefix of itself and of what is held back
 pub front_held : (took : Option (List ℕ)) (held more : List ℕ) → IsPrefixOf took (append_known took held) more
@@ -98,22 +90,16 @@ module _ (held piece : List ℕ) (n k : ℕ) where
   rest = drop n piece
 
   all_over : (old mid : List ℕ) → mid ≡ old ++ (held ++ take n piece) → (mid ++ take k rest) ++ drop k rest ≡ (old ++ held) ++ piece
-  all_over old mid p =
-      append_assoc mid (take k rest) (drop k rest) ∙ ap (λ l. mid ++ l) (take-append-drop k rest) ∙ ap (λ l. l ++ rest) p ∙ append_assoc old (held ++ take n piece) rest
-      ∙ ap (λ l. old ++ l) (append_assoc held (take n piece) rest ∙ ap (λ l. held ++ l) (take-append-drop n piece)) ∙ sym (append_assoc old held piece)
+  all_over old mid p = grind (arith, append_assoc, take-append-drop)
 
   pub put_over : (old mid new : Option (List ℕ)) → Appends old mid (held ++ take n piece) → Appends mid new (take k rest) → Appends (append_known old held) (append_known new (drop k rest)) piece
-  put_over None mid new p q = tt
-  put_over (Some old) None new p q = absurd p
-  put_over (Some old) (Some mid) None p q = absurd q
-  put_over (Some old) (Some mid) (Some new) p q = ap (λ l. l ++ drop k rest) q ∙ all_over old mid p
+  put_over old mid new p q = grind (arith, all_over)
 
   pub front_over : (old mid new : Option (List ℕ)) → Appends old mid (held ++ take n piece) → IsPrefixOf new mid (take k rest) → IsPrefixOf new (append_known old held) piece
   front_over old mid None p f = tt
   front_over None mid (Some new) p f = tt
   front_over (Some old) None (Some new) p f = absurd p
-  front_over (Some old) (Some mid) (Some new) p f =
-      (f.0 ++ drop k rest, sym (append_assoc new f.0 (drop k rest)) ∙ ap (λ l. l ++ drop k rest) f.1 ∙ all_over old mid p)
+  front_over (Some old) (Some mid) (Some new) p f = grind (arith, (append_assoc new f.0 (drop k rest)), (all_over old mid p))
 
 -- what was taken grows, and grows again
 pub grows_both : (old mid new : Option (List ℕ)) → Grows old mid → Grows mid new → Grows old new
@@ -121,8 +107,7 @@ grows_both old mid new p q = (p.0 ++ q.0, Appends-trans old mid new p.0 q.0 p.1 
 
 -- what is held back is what was put and not taken
 pub holds_held : (took : Option (List ℕ)) (held : List ℕ) → length held ≤ block_size → HoldsBlock took (append_known took held)
-holds_held None held short = (held, tt, short)
-holds_held (Some took) held short = (held, refl, short)
+holds_held took held short = grind arith
 
 -- What one put after another does to an output.
 
@@ -130,49 +115,24 @@ holds_held (Some took) held short = (held, refl, short)
 pub front_longer : (new old : Option (List ℕ)) (xs ys : List ℕ) → IsPrefixOf new old xs → IsPrefixOf new old (xs ++ ys)
 front_longer None old xs ys f = tt
 front_longer (Some new) None xs ys f = tt
-front_longer (Some new) (Some old) xs ys f =
-    (f.0 ++ ys, sym (append_assoc new f.0 ys) ∙ ap (λ l. l ++ ys) f.1 ∙ append_assoc old xs ys)
+front_longer (Some new) (Some old) xs ys f = grind (arith, (append_assoc new f.0 ys), (append_assoc old xs ys))
 
 -- a prefix of bytes that follow some that were appended
 pub front_behind : (new old mid : Option (List ℕ)) (xs ys : List ℕ) → Appends old mid xs → IsPrefixOf new mid ys → IsPrefixOf new old (xs ++ ys)
-front_behind None old mid xs ys p f = tt
-front_behind (Some new) None mid xs ys p f = tt
-front_behind (Some new) (Some old) None xs ys p f = absurd p
-front_behind (Some new) (Some old) (Some mid) xs ys p f = (f.0, f.1 ∙ ap (λ l. l ++ ys) p ∙ append_assoc old xs ys)
+front_behind new old mid xs ys p f = grind (arith, append_assoc)
 
 pub grows_nothing : (a : Option (List ℕ)) → Grows a a
 grows_nothing a = ([], Appends-nil a)
 
 module _ (old mid new : Output) (xs ys : List ℕ) where
   pub put_more : PutsAll old xs mid → PutsAll mid ys new → PutsAll old (xs ++ ys) new
-  put_more p q = record {
-    appends = Appends-trans old.put mid.put new.put xs ys p.appends q.appends;
-    block = q.block;
-    grows = grows_both old.took mid.took new.took p.grows q.grows;
-    was_served = p.was_served;
-    served = q.served;
-    sink_served = q.sink_served ∙ p.sink_served;
-  }
+  put_more p q = grind (arith, Appends-trans)
 
   pub fails_behind : (fault : FaultValue) → PutsAll old xs mid → FailsToPut mid ys fault new → FailsToPut old (xs ++ ys) fault new
-  fails_behind fault p q = record {
-    is = q.is;
-    front = front_behind new.took old.put mid.put xs ys p.appends q.front;
-    grows = grows_both old.took mid.took new.took p.grows q.grows;
-    failed = q.failed;
-    sink_failed = q.sink_failed;
-    again = λ e. absurd (false≢true (sym p.was_served ∙ e));
-  }
+  fails_behind fault p q = grind (arith, (front_behind new.took old.put mid.put xs ys p.appends q.front), (grows_both old.took mid.took new.took p.grows q.grows))
 
 pub fails_before : (old new : Output) (xs ys : List ℕ) (fault : FaultValue) → FailsToPut old xs fault new → FailsToPut old (xs ++ ys) fault new
-fails_before old new xs ys fault p = record {
-  is = p.is;
-  front = front_longer new.took old.put xs ys p.front;
-  grows = p.grows;
-  failed = p.failed;
-  sink_failed = p.sink_failed;
-  again = p.again;
-}
+fails_before old new xs ys fault p = grind (arith, front_longer)
 
 -- whatever the second call returns
 pub puts_more : {A : Type 0} (old mid new : Output) (xs ys : List ℕ) (r : Result A Fault) → PutsAll old xs mid → Puts mid ys r new → Puts old (xs ++ ys) r new
@@ -185,15 +145,11 @@ pub puts_from : {A : Type 0} (old new : Output) (bytes : List ℕ) (r : Result A
     → OnOk r ((new.has_failed ≡ false) × (old.has_failed ≡ false) × (new.sink_has_failed ≡ old.sink_has_failed))
     → IfErr r (λ fault. fault_value fault ≡ write_failed) → OnErr r ((new.has_failed ≡ true) × (new.sink_has_failed ≡ true))
     → (old.has_failed ≡ true → IsErr r × (new ≡ old)) → Puts old bytes r new
-puts_from old new bytes (Ok done) p b f g s w c a =
-    record { appends = p; block = b; grows = g; was_served = s.1; served = s.0; sink_served = s.2 }
-puts_from old new bytes (Err fault) p b f g s w c a =
-    record { is = w; front = f; grows = g; failed = c.0; sink_failed = c.1; again = λ e. (a e).1 }
+puts_from old new bytes r p b f g s w c a = grind arith
 
 held_further : (took : Option (List ℕ)) (held more : List ℕ)
     → Appends (append_known took held) (append_known took (held ++ more)) more
-held_further None held more = tt
-held_further (Some took) held more = sym (append_assoc took held more)
+held_further took held more = grind (arith, append_assoc)
 
 -- bytes are held back
 module _ (took : Option (List ℕ)) (failed sink_failed flushed : Bool) where
@@ -207,37 +163,14 @@ module _ (took : Option (List ℕ)) (failed sink_failed flushed : Bool) where
   }
 
   pub puts_held : (held bytes all : List ℕ) → failed ≡ false → all ≡ held ++ bytes → length held + length bytes ≤ block_size → PutsAll (holding held) bytes (holding all)
-  puts_held held bytes all works is fits = record {
-    appends = rw is (held_further took held bytes);
-    block = holds_held took all (omega (arith, fits, ap length is, length-append held bytes));
-    grows = grows_nothing took;
-    was_served = works;
-    served = works;
-    sink_served = refl;
-  }
+  puts_held held bytes all works is fits = grind (arith, held_further, holds_held, length-append, grows_nothing)
 
 -- bytes that were put, or none
 pub grown_all : (old new : Output) (bytes : List ℕ) → (bytes ≡ [] → ⊥) → PutsAll old bytes new → Grown old bytes new
-grown_all old new bytes some p = record {
-  appends = p.appends;
-  block = λ h. p.block;
-  grows = p.grows;
-  served = p.served ∙ sym p.was_served;
-  sink_served = p.sink_served;
-  again = λ e. absurd (false≢true (sym p.was_served ∙ e));
-  nothing = λ e. absurd (some e);
-}
+grown_all old new bytes some p = grind arith
 
 pub grown_none : (old : Output) → Grown old [] old
-grown_none old = record {
-  appends = Appends-nil old.put;
-  block = λ h. h;
-  grows = grows_nothing old.took;
-  served = refl;
-  sink_served = refl;
-  again = λ e. refl;
-  nothing = λ e. refl;
-}
+grown_none old = search rules
 
 pub grown_works : (old new : Output) (bytes : List ℕ) → Grown old bytes new → WorksAsBefore old new
 grown_works old new bytes g = record { served = g.served; sink_served = g.sink_served; put = (bytes, g.appends); block = g.block }
@@ -252,28 +185,10 @@ nothing_behind (x ∷ xs) ys e = cc
 
 module _ (old mid new : Output) (xs ys : List ℕ) where
   pub grown_more : Grown old xs mid → Grown mid ys new → Grown old (xs ++ ys) new
-  grown_more p q = record {
-    appends = Appends-trans old.put mid.put new.put xs ys p.appends q.appends;
-    block = λ h. q.block (p.block h);
-    grows = grows_both old.took mid.took new.took p.grows q.grows;
-    served = q.served ∙ p.served;
-    sink_served = q.sink_served ∙ p.sink_served;
-    again = λ e. q.again (p.served ∙ e) ∙ p.again e;
-    nothing = λ e. q.nothing (nothing_behind xs ys e) ∙ p.nothing (nothing_before xs ys e);
-  }
+  grown_more p q = grind (arith, (Appends-trans old.put mid.put new.put xs ys p.appends q.appends), (grows_both old.took mid.took new.took p.grows q.grows), nothing_before)
 
   pub fails_then : (fault : FaultValue) → Grown old xs mid → FailsToAdd mid ys fault new → FailsToAdd old (xs ++ ys) fault new
-  fails_then fault p q = record {
-    puts = record {
-      is = q.puts.is;
-      front = front_behind new.took old.put mid.put xs ys p.appends q.puts.front;
-      grows = grows_both old.took mid.took new.took p.grows q.puts.grows;
-      failed = q.puts.failed;
-      sink_failed = q.puts.sink_failed;
-      again = λ e. q.puts.again (p.served ∙ e) ∙ p.again e;
-    };
-    some = λ e. q.some (nothing_behind xs ys e);
-  }
+  fails_then fault p q = grind (arith, (front_behind new.took old.put mid.put xs ys p.appends q.puts.front), (grows_both old.took mid.took new.took p.grows q.puts.grows), nothing_behind)
 
 pub adds_more : {A : Type 0} (old mid new : Output) (xs ys : List ℕ) (r : Result A Fault) → Grown old xs mid → Adds mid ys r new → Adds old (xs ++ ys) r new
 adds_more old mid new xs ys (Ok done) p q = grown_more old mid new xs ys p q
@@ -281,15 +196,11 @@ adds_more old mid new xs ys (Err fault) p q = fails_then old mid new xs ys (faul
 
 -- what was cut off is cut off of more
 pub cut_off : (old new : Output) (xs ys : List ℕ) (fault : FaultValue) → FailsToAdd old xs fault new → FailsToAdd old (xs ++ ys) fault new
-cut_off old new xs ys fault p = record {
-  puts = fails_before old new xs ys fault p.puts;
-  some = λ e. p.some (nothing_before xs ys e);
-}
+cut_off old new xs ys fault p = grind (arith, fails_before, nothing_before)
 
 -- a call that puts bytes writes them
 pub adds_some : {A : Type 0} (old new : Output) (bytes : List ℕ) (r : Result A Fault) → (bytes ≡ [] → ⊥) → Puts old bytes r new → Adds old bytes r new
-adds_some old new bytes (Ok done) some p = grown_all old new bytes some p
-adds_some old new bytes (Err fault) some p = record { puts = p; some = some }
+adds_some old new bytes r some p = grind arith
 
 -- the lines of items, one list after another, and that of an item alone
 module _ {X : Type 0} (line : X → List ℕ) where
@@ -307,8 +218,7 @@ module _ {X : Type 0} (line : X → List ℕ) where
 
 -- what always holds, holds at an error
 pub always_err : {T E P : Type 0} (r : Result T E) → P → OnErr r P
-always_err (Ok x) p = tt
-always_err (Err e) p = p
+always_err r p = grind arith
 
 -- A start and a stop that are written to the right of where they belong, and moved there.
 
@@ -334,11 +244,7 @@ span_written text one two start stop end before first room early same stops star
     starts ∙ ap (λ l. 9 ∷ (decimal start ++ l)) (stops ∙ ap (λ l. 9 ∷ (decimal stop ++ l)) (drop-set text 42 end (omega arith)))
     ∙ ap (λ l. 9 ∷ (decimal start ++ 9 ∷ l)) (sym (append_assoc (decimal stop) (end ∷ []) rest))
     ∙ ap (λ l. 9 ∷ l) (sym (append_assoc (decimal start) (9 ∷ (decimal stop ++ end ∷ [])) rest)) in
-    record {
-      rest = rest;
-      is = is;
-      size = omega (arith, ap length is, length-append span rest, length-drop first two, length-drop 43 text);
-    }
+    grind (arith, (length-append span rest), (length-drop first two), (length-drop 43 text))
 
 -- it is moved to the beginning with what follows it
 pub span_moved : (text : List ℕ) (first : ℕ) (span : List ℕ) → first + 64 ≤ length text → HasSpan text first span
@@ -347,35 +253,14 @@ span_moved text first span room has =
     let moved = chunk first 64 text in
     let size : length moved ≡ 64 = length-chunk first 64 text room in
     let begins : take 64 (put_chunk 0 text moved) ≡ moved = take_more_put_chunk 0 text moved 64 (omega (arith, size)) (omega arith) in
-    sym (take-take (43 - first) 64 (put_chunk 0 text moved) (omega arith))
-    ∙ ap (take (43 - first)) begins
-    ∙ take-take (43 - first) 64 (drop first text) (omega arith)
-    ∙ ap (take (43 - first)) has.is
-    ∙ take_at span has.rest (43 - first) has.size
+    grind (arith, (take-take (43 - first) 64 (put_chunk 0 text moved) (omega arith)), (take-take (43 - first) 64 (drop first text) (omega arith)), (take_at span has.rest (43 - first) has.size))
 
 -- a span was written after a name, with other bytes after it
 pub span_put : (bytes copied written name span : List ℕ) (len k m size : ℕ) → len + length name ≤ length bytes → copied ≡ name
     → size ≤ length written → take size written ≡ span
     → take (len + length name + size) (put_mid (len + length name) m (put_mid len k bytes copied) written) ≡ take len bytes ++ (name ++ span)
-span_put bytes copied written name span len k m size room same fits is =
-    let at = len + length name in
-    let front = put_mid len k bytes copied in
-    let more = drop m (drop at front) in
-    let begun : take at front ≡ take len bytes ++ name =
-    ap (λ l. take at (put_mid len k bytes l)) same ∙ take-put_mid len k bytes name at refl (omega arith) in
-    let long : at ≤ length front =
-    omega (arith, length-append (take len bytes) (copied ++ drop k (drop len bytes)), length-append copied (drop k (drop len bytes)), length-take-le len bytes (omega arith), ap length same) in
-    take-add at size (put_mid at m front written)
-    ∙ (λ i. (take-put_mid_below at m front written at (omega arith) long ∙ begun) i
-    ++ take size (drop_at (take at front) (written ++ more) at (length-take-le at front long) i))
-    ∙ ap (λ l. (take len bytes ++ name) ++ l) (take-append-le size written more fits ∙ is)
-    ∙ append_assoc (take len bytes) name span
+span_put bytes copied written name span len k m size room same fits is = grind (arith, take-put_mid, length-append, length-take-le, take-add, drop_at, take-append-le, append_assoc)
 
 -- a start, a stop and the byte that ends them have at most 43 bytes
 pub span_short : (start stop end : ℕ) → start < 2 ^ 64 → stop < 2 ^ 64 → length (span_text start stop end) ≤ 43
-span_short start stop end a b =
-    let first = twenty_digits start a in
-    let second = twenty_digits stop b in
-    let both = length-append (decimal start) (9 ∷ (decimal stop ++ end ∷ [])) in
-    let one = length-append (decimal stop) (end ∷ []) in
-    omega arith
+span_short start stop end a b = grind (arith, twenty_digits, length-append)

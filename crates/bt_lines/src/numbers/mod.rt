@@ -20,6 +20,7 @@ const MAX_DIGITS: usize = 12;
 
 /// The number that a text of one or more decimal digits denotes, if it is at most
 /// [`MAX_NUMBER`]. Leading zeros are allowed, a sign or a space isn't.
+#[tactic(auto, using(crate::proofs::lemmas::numbers::NumberLemmas::value_of_empty, crate::proofs::lemmas::numbers::NumberLemmas::value_of_other))]
 pub fn number(text: &[u8]) -> Option<u64>
     ensures { result ≡ value_of text.now }
 {
@@ -53,6 +54,7 @@ const EVEN_BYTES: u64 = 0x00ff_00ff_00ff_00ff;
 /// The number that eight decimal digits denote, or none if a byte isn't a digit: a sign or a space isn't allowed.
 /// All eight are read at once.
 #[inline(always)]
+#[tactic(auto, using(crate::proofs::lemmas::numbers::EightLemmas::none_by_halves, crate::proofs::lemmas::numbers::EightLemmas::are_bytes, crate::proofs::lemmas::numbers::EightLemmas::digits_by_halves, crate::proofs::lemmas::numbers::EightLemmas::ones_read, crate::proofs::lemmas::numbers::EightLemmas::value_of_eight_digits))]
 pub fn eight_digits(bytes: &[u8; 8]) -> Option<u64>
     ensures { result ≡ value_of bytes.now }
 {
@@ -67,6 +69,7 @@ pub fn eight_digits(bytes: &[u8; 8]) -> Option<u64>
 /// The digits that come first in eight bytes: the number that they denote, and how many they are. All are
 /// read at once.
 #[inline]
+#[tactic(auto, using(crate::proofs::lemmas::numbers::EightLemmas::shifted, crate::proofs::lemmas::numbers::EightLemmas::are_bytes, crate::proofs::lemmas::numbers::EightLemmas::few_read, crate::proofs::lemmas::numbers::EightLemmas::padded_value))]
 pub fn few_digits(bytes: &[u8; 8]) -> (u64, usize)
     ensures few { result.1 ≤ 8 }
     ensures digits { list_all is_ascii_digit (take result.1 bytes.now) ≡ true }
@@ -120,6 +123,7 @@ fn joined(ones: u64) -> u64
 }
 
 // The number of a text of more digits: they are too many unless the first ones are zeros.
+#[tactic(auto, using(crate::proofs::lemmas::numbers::NumberLemmas::value_of_other, crate::proofs::lemmas::numbers::NumberLemmas::value_more, crate::proofs::lemmas::numbers::NumberLemmas::value_of_large, crate::proofs::lemmas::numbers::NumberLemmas::digits_more))]
 fn long_number(text: &[u8]) -> Option<u64>
     requires { 0 < length text.now }
     ensures { result ≡ value_of text.now }

@@ -10,6 +10,7 @@ pub const COLUMN: usize = 21;
 /// Writes a tab and a number in decimal, without leading zeros, so that they end before the offset `end`, and returns
 /// the offset of the tab. So a line is written from its last column to its first. It doesn't allocate.
 #[inline]
+#[tactic(auto, using(crate::proofs::lemmas::Writer::twenty_digits))]
 pub fn write_column(number: u64, text: &mut [u8], end: usize) -> usize
     requires room { COLUMN ≤ end }
     requires within { end ≤ length text.old }

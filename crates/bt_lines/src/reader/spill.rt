@@ -41,7 +41,7 @@ pub(crate) enum More {
 }
 
 // Makes at least one line buffered, or the end, if none is. It counts all bytes that it takes.
-#[tactic(auto, using(crate::proofs::lemmas::reader::block::ReadsLemmas::counts_then))]
+#[tactic(auto, using(crate::proofs::lemmas::reader::block::ReadsLemmas::counts_then, crate::proofs::lemmas::reader::block::BufferLemmas::more_read, crate::proofs::lemmas::reader::block::BufferLemmas::not_full, crate::proofs::lemmas::reader::block::BufferLemmas::unread_fits))]
 pub(crate) fn read_lines<S: Source>(
     source: &mut S,
     buffer: &mut ReadBuffer,
@@ -71,7 +71,7 @@ pub(crate) fn read_lines<S: Source>(
 }
 
 // Reads on in a line that fills the block: moves it to a vector, and reads up to its line feed.
-#[tactic(auto, using(crate::proofs::lemmas::reader::block::ReadsLemmas::counts_then))]
+#[tactic(auto, using(crate::proofs::lemmas::reader::block::ReadsLemmas::counts_then, crate::proofs::lemmas::reader::block::BufferLemmas::at_first, crate::proofs::lemmas::reader::block::ReadsLemmas::counts_none, crate::proofs::lemmas::reader::block::BufferLemmas::more_came))]
 fn read_long<S: Source>(source: &mut S, buffer: &mut ReadBuffer, taken: &mut u64) -> Stop
     requires counted { taken.old < 2 ^ 63 }
     requires none { complete buffer.old ≡ [] }

@@ -206,6 +206,7 @@ impl<K: Sink> Out<K> {
 // full blocks, as long as it takes each in full.
 #[cold]
 #[inline(never)]
+#[tactic(auto, using(crate::proofs::lemmas::Writer::always_err, crate::proofs::lemmas::Writer::front_filled, crate::proofs::lemmas::Writer::front_over, crate::proofs::Std::take_rest, crate::proofs::lemmas::Writer::put_over))]
 fn put_across<K: Sink>(
     sink: &mut K,
     held: &mut WriteBuffer,
@@ -247,6 +248,7 @@ fn send<K: Sink>(sink: &mut K, held: &mut WriteBuffer) -> Result<(), DeviceFaile
 }
 
 // Hands a whole piece to the sink, by as many writes as it takes.
+#[tactic(auto, using(crate::proofs::lemmas::Writer::always_err, crate::proofs::lemmas::Writer::front_part))]
 fn write_whole<K: Sink>(sink: &mut K, piece: &[u8]) -> Result<(), DeviceFailed>
     ensures whole { OnOk result (Appends (K.took sink.old) (K.took sink.new) piece.now) }
     ensures front { OnErr result (IsPrefixOf (K.took sink.new) (K.took sink.old) piece.now) }

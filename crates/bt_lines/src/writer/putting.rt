@@ -13,6 +13,7 @@ use itoa::Buffer;
 
 /// Puts a column and what ends it, as a tab or a line feed. It fails with `WriteFailed`, only if the sink has failed:
 /// then the sink took a prefix of all bytes put.
+#[tactic(auto, using(crate::proofs::lemmas::Writer::puts_more, crate::proofs::lemmas::Writer::puts_from))]
 pub fn put_column<K: Sink>(column: &[u8], end: &[u8], out: &mut Out<K>) -> Result<(), Fault>
     ensures { Puts out.old.output (column.now ++ end.now) result out.new.output }
 {

@@ -32,9 +32,7 @@ raised (byte ∷ bytes) more = (byte + more) ∷ raised bytes more
 -- a mask is applied byte by byte
 and_worth : (bytes : List ℕ) (mask : ℕ) → mask < 256 → AreWithin 0 255 bytes → bit_and (worth bytes) (worth (all_of mask bytes)) ≡ worth (masked bytes mask)
 and_worth [] mask h all = refl
-and_worth (byte ∷ bytes) mask h all =
-    let low : byte < 2 ^ 8 = omega arith in
-    and_block 8 (worth bytes) (worth (all_of mask bytes)) byte mask low h ∙ ap (λ n. n * 2 ^ 8 + bit_and byte mask) (and_worth bytes mask h all.2)
+and_worth (byte ∷ bytes) mask h all = grind (arith, (and_block 8 (worth bytes) (worth (all_of mask bytes)) byte mask (omega arith) h), (and_worth bytes mask h all.2))
 
 raised_worth : (bytes : List ℕ) (more : ℕ) → worth bytes + worth (all_of more bytes) ≡ worth (raised bytes more)
 raised_worth [] more = refl
@@ -63,50 +61,26 @@ flipped_length (byte ∷ bytes) = ap suc (flipped_length bytes)
 
 flipped_worth : (bytes : List ℕ) → AreWithin 0 255 bytes → bit_xor (worth bytes) (worth (all_of 48 bytes)) ≡ worth (flipped bytes)
 flipped_worth [] all = refl
-flipped_worth (byte ∷ bytes) all =
-    let low : byte < 2 ^ 8 = omega arith in
-    let zero : 48 < 2 ^ 8 = omega arith in
-    xor_block 8 (worth bytes) (worth (all_of 48 bytes)) byte 48 low zero ∙ ap (λ n. n * 2 ^ 8 + bit_xor byte 48) (flipped_worth bytes all.2)
+flipped_worth (byte ∷ bytes) all = grind (arith, (xor_block 8 (worth bytes) (worth (all_of 48 bytes)) byte 48 (omega arith) (omega arith)), (flipped_worth bytes all.2))
 
 flipped_within : (bytes : List ℕ) → AreWithin 0 255 bytes → AreWithin 0 255 (flipped bytes)
 flipped_within [] all = tt
-flipped_within (byte ∷ bytes) all =
-    let small = xor_of_8 byte 48 (omega arith) (omega arith) in
-    (omega arith, omega arith, flipped_within bytes all.2)
+flipped_within (byte ∷ bytes) all = grind (arith, (flipped_within bytes all.2), xor_of_8)
 
 -- both halves of a byte whose bits are flipped
 flipped_byte : (byte : ℕ) → bit_xor byte 48 ≡ bit_xor (byte / 16) 3 * 16 + byte % 16
-flipped_byte byte =
-    ap (λ b. bit_xor b 48) (sym (shr_split byte 4))
-    ∙ xor_block 4 (byte / 16) 3 (byte % 16) 0 (mod_below byte 16 (omega arith)) (omega arith)
-    ∙ ap (λ n. bit_xor (byte / 16) 3 * 16 + n) (xor_zero_r (byte % 16))
+flipped_byte byte = grind (arith, (xor_block 4 (byte / 16) 3 (byte % 16) 0 (mod_below byte 16 (omega arith)) (omega arith)), (xor_zero_r (byte % 16)))
 
 flipped_digit : (byte : ℕ) → 48 ≤ byte → byte ≤ 57 → bit_xor byte 48 ≡ byte - 48
-flipped_digit byte low high =
-    let upper : byte / 16 ≡ 3 = omega arith in
-    flipped_byte byte ∙ ap (λ n. bit_xor n 3 * 16 + byte % 16) upper ∙ omega arith
-
--- a byte that is small with its bits flipped is a digit
-digit_flipped : (byte : ℕ) → bit_xor byte 48 ≤ 9 → (48 ≤ byte) × (byte ≤ 57)
-digit_flipped byte small =
-    let is = flipped_byte byte in
-    let sum = xor_add_and (byte / 16) 3 in
-    let most = and_le_r (byte / 16) 3 in
-    let own = and_le_l (byte / 16) 3 in
-    let none : bit_xor (byte / 16) 3 ≡ 0 = omega arith in
-    (omega arith, omega arith)
+flipped_digit byte low high = grind (arith, flipped_byte)
 
 flipped_digits : (bytes : List ℕ) → AreWithin 48 57 bytes → AreWithin 0 9 (flipped bytes)
 flipped_digits [] all = tt
-flipped_digits (byte ∷ bytes) all =
-    let is = flipped_digit byte all.0 all.1 in
-    (omega arith, omega arith, flipped_digits bytes all.2)
+flipped_digits (byte ∷ bytes) all = grind (arith, (flipped_digits bytes all.2), flipped_digit)
 
 digits_flipped : (bytes : List ℕ) → AreWithin 0 9 (flipped bytes) → AreWithin 48 57 bytes
 digits_flipped [] all = tt
-digits_flipped (byte ∷ bytes) all =
-    let is = digit_flipped byte all.1 in
-    (is.0, is.1, digits_flipped bytes all.2)
+digits_flipped (byte ∷ bytes) all = grind (arith, (digits_flipped bytes all.2), flipped_byte, xor_add_and, and_le_r)
 
 -- the upper half of a byte
 upper : (byte : ℕ) → bit_and byte 240 ≡ (byte / 16 % 16) * 16
@@ -115,17 +89,11 @@ upper byte = and_high byte 4 4
 -- bytes whose upper halves are 0
 uppers : (bytes : List ℕ) → AreWithin 0 255 bytes → worth (masked bytes 240) ≡ 0 → AreWithin 0 15 bytes
 uppers [] all e = tt
-uppers (byte ∷ bytes) all e =
-    let is = upper byte in
-    let rest : worth (masked bytes 240) ≡ 0 = omega arith in
-    (omega arith, omega arith, uppers bytes all.2 rest)
+uppers (byte ∷ bytes) all e = grind (arith, (upper byte), (uppers bytes all.2 (omega arith)))
 
 no_uppers : (bytes : List ℕ) → AreWithin 0 15 bytes → worth (masked bytes 240) ≡ 0
 no_uppers [] all = refl
-no_uppers (byte ∷ bytes) all =
-    let is = upper byte in
-    let rest = no_uppers bytes all.2 in
-    omega arith
+no_uppers (byte ∷ bytes) all = grind (arith, (no_uppers bytes all.2), upper)
 
 lowered_within : (bytes : List ℕ) (high more : ℕ) → AreWithin 0 (high + more) (raised bytes more) → AreWithin 0 high bytes
 lowered_within [] high more all = tt
@@ -135,14 +103,11 @@ digit_within : (byte : ℕ) → is_ascii_digit byte ≡ true → (48 ≤ byte) �
 digit_within byte digit = (grind (arith, nat_tests), grind (arith, nat_tests))
 
 within_digit : (byte : ℕ) → 48 ≤ byte → byte ≤ 57 → is_ascii_digit byte ≡ true
-within_digit byte low high = grind (arith, nat_tests)
+within_digit byte low high = grind arith
 
 digits_within : (bytes : List ℕ) → list_all is_ascii_digit bytes ≡ true → AreWithin 48 57 bytes
 digits_within [] all = tt
-digits_within (byte ∷ bytes) all =
-    let parts = and_parts (is_ascii_digit byte) (list_all is_ascii_digit bytes) all in
-    let here = digit_within byte parts.0 in
-    (here.0, here.1, digits_within bytes parts.1)
+digits_within (byte ∷ bytes) all = grind (arith, (digits_within bytes (and_parts (is_ascii_digit byte) (list_all is_ascii_digit bytes) all).1))
 
 within_digits : (bytes : List ℕ) → AreWithin 48 57 bytes → list_all is_ascii_digit bytes ≡ true
 within_digits [] all = refl
@@ -177,8 +142,7 @@ eight = by_eight Eight (λ a b c d e f g h.
 
 no_digits : (bytes : List ℕ) → list_all is_ascii_digit bytes ≡ false → None ≡ value_of bytes
 unfolding value_of
-no_digits bytes e =
-    sym (refused_second (ltb 0 (length bytes)) (list_all is_ascii_digit bytes) (leb (digits_value 10 bytes) 999999999999) (Some (digits_value 10 bytes)) None e)
+no_digits bytes e = grind arith
 
 -- eight bytes as one number with the bits of the zeros' codes flipped
 abbrev pub ones_in : List ℕ → ℕ
@@ -199,8 +163,7 @@ upper_sums : (bytes : List ℕ) → length bytes ≡ 8 → AreWithin 0 255 bytes
 upper_sums bytes n all small =
     let fs = flipped bytes in
     let within = looser (raised fs 6) 0 21 0 255 (omega arith) (omega arith) (raised_within fs 0 15 6 small) in
-    rw (ones_are bytes n all, ← (masks bytes n).sixes, raised_worth fs 6, ← (masks bytes n).uppers, ← raised_masks fs 6 240)
-    (and_worth (raised fs 6) 240 (omega arith) within)
+    grind (arith, (ones_are bytes n all), (masks bytes n), (raised_worth fs 6), (raised_masks fs 6 240), (and_worth (raised fs 6) 240 (omega arith) within))
 
 -- the upper halves are 0
 some_uppers : (bytes : List ℕ) → length bytes ≡ 8 → AreWithin 0 255 bytes → bit_and (ones_in bytes) 17361641481138401520 ≡ 0 → AreWithin 0 15 (flipped bytes)
@@ -216,9 +179,7 @@ ones_up_to bytes n all small = rw (ones_are bytes n all, ← (masks bytes n).fif
 
 -- what shares no bit with a mask beside another number shares none alone
 no_bit : (a b mask : ℕ) → bit_and (bit_or a b) mask ≡ 0 → bit_and b mask ≡ 0
-no_bit a b mask none =
-    ap (λ n. bit_and n mask) (sym (and_or_self b a) ∙ and_comm (bit_or a b) b)
-    ∙ and_assoc mask b (bit_or a b) ∙ ap (bit_and b) none ∙ and_zero_r b
+no_bit a b mask none = grind (arith, (and_or_self b a), (and_comm (bit_or a b) b), (and_assoc mask b (bit_or a b)), (and_zero_r b))
 
 -- the upper halves of the bytes as they are, and with six more
 abbrev pub halves_in : ℕ → ℕ
@@ -231,31 +192,11 @@ sixes_fit bytes n all small = let most = ones_up_to bytes n all small in omega a
 
 -- some half isn't 0
 pub none_by_halves : (bytes : List ℕ) → length bytes ≡ 8 → AreWithin 0 255 bytes → (halves_in (ones_in bytes) ≡ 0 → ⊥) → None ≡ value_of bytes
-none_by_halves bytes n all other = elim (cases_Bool (list_all is_ascii_digit bytes)) [
-  | inl digits ↦
-      let nines = flipped_digits bytes (digits_within bytes digits) in
-      let small = looser (flipped bytes) 0 9 0 15 (omega arith) (omega arith) nines in
-      let lower = upper_ones bytes n all ∙ no_uppers (flipped bytes) small in
-      let sums = upper_sums bytes n all small ∙ no_uppers (raised (flipped bytes) 6) (raised_within (flipped bytes) 0 9 6 nines) in
-      absurd (other (rw (sixes_fit bytes n all small) (and_or_apart 17361641481138401520 (ones_in bytes) (ones_in bytes + 434041037028460038) sums ∙ lower)))
-  | inr none ↦ no_digits bytes none
-]
-
--- all eight are digits
-all_digits : (bytes : List ℕ) → length bytes ≡ 8 → AreWithin 0 255 bytes → AreWithin 0 15 (flipped bytes)
-    → bit_and (ones_in bytes + 434041037028460038) 17361641481138401520 ≡ 0 → AreWithin 48 57 bytes
-all_digits bytes n all small same =
-    let fs = flipped bytes in
-    let within = looser (raised fs 6) 0 21 0 255 (omega arith) (omega arith) (raised_within fs 0 15 6 small) in
-    digits_flipped bytes (lowered_within fs 9 6 (uppers (raised fs 6) within (sym (upper_sums bytes n all small) ∙ same)))
+none_by_halves bytes n all other = grind (arith, flipped_digits, digits_within, looser, upper_ones, no_uppers, upper_sums, raised_within, sixes_fit, and_or_apart, no_digits)
 
 -- all halves are 0
 pub digits_by_halves : (bytes : List ℕ) → length bytes ≡ 8 → AreWithin 0 255 bytes → halves_in (ones_in bytes) ≡ 0 → AreWithin 48 57 bytes
-digits_by_halves bytes n all none =
-    let ones = ones_in bytes in
-    let sixes = (ones + 434041037028460038) % 18446744073709551616 in
-    let small = some_uppers bytes n all (no_bit sixes ones 17361641481138401520 (ap (λ x. bit_and x 17361641481138401520) (or_comm sixes ones) ∙ none)) in
-    all_digits bytes n all small (ap (λ x. bit_and x 17361641481138401520) (sym (sixes_fit bytes n all small)) ∙ no_bit ones sixes 17361641481138401520 none)
+digits_by_halves bytes n all none = grind (arith, some_uppers, no_bit, or_comm, sixes_fit, looser, raised_within, digits_flipped, lowered_within, uppers, upper_sums)
 
 -- bytes by their index
 pub are_bytes : (bytes : List ℕ) → ((i : ℕ) → get_or bytes i 0 < 256) → AreWithin 0 255 bytes
@@ -264,10 +205,7 @@ are_bytes (byte ∷ bytes) all = let here = all 0 in (omega arith, omega arith, 
 
 -- every second byte of a number
 even_bytes : (n m a b : ℕ) → a < 256 → b < 256 → bit_and ((n * 2 ^ 8 + b) * 2 ^ 8 + a) ((m * 2 ^ 8 + 0) * 2 ^ 8 + 255) ≡ (bit_and n m * 2 ^ 8 + 0) * 2 ^ 8 + a
-even_bytes n m a b small odd =
-    let here : bit_and a 255 ≡ a = and_mask a 8 ∙ omega arith in
-    let next : bit_and (n * 2 ^ 8 + b) (m * 2 ^ 8 + 0) ≡ bit_and n m * 2 ^ 8 + 0 = and_block 8 n m b 0 odd (omega arith) ∙ ap (λ x. bit_and n m * 2 ^ 8 + x) (and_zero_r b) in
-    and_block 8 (n * 2 ^ 8 + b) (m * 2 ^ 8 + 0) a 255 small (omega arith) ∙ rw (here, next) refl
+even_bytes n m a b small odd = grind (arith, (and_mask a 8), (and_block 8 n m b 0 odd (omega arith)), (and_zero_r b), (and_block 8 (n * 2 ^ 8 + b) (m * 2 ^ 8 + 0) a 255 small (omega arith)))
 
 -- the bytes 0, 2, 4 and 6 of eight
 four_bytes : (a b c d e f g h : ℕ) → a < 256 → b < 256 → c < 256 → d < 256 → e < 256 → f < 256 → g < 256 → h < 256
@@ -292,11 +230,7 @@ value_small pairs = omega arith
 
 value_fours : (a c e g : ℕ) → a ≤ 99 → c ≤ 99 → e ≤ 99 → g ≤ 99
     → value_in (worth (a ∷ 0 ∷ c ∷ 0 ∷ e ∷ 0 ∷ g ∷ 0 ∷ [])) ≡ a * 1000000 + c * 10000 + e * 100 + g
-value_fours a c e g i j k l =
-    let pairs = worth (a ∷ 0 ∷ c ∷ 0 ∷ e ∷ 0 ∷ g ∷ 0 ∷ []) in
-    let rest : pairs / 65536 ≡ c + e * 65536 + g * 4294967296 = omega arith in
-    let fours : pairs * 100 + pairs / 65536 ≡ (100 * a + c) + (100 * c + e) * 65536 + (100 * e + g) * 4294967296 + (100 * g) * 281474976710656 = omega arith in
-    rw fours (omega arith)
+value_fours a c e g i j k l = grind arith
 
 value_eight : (a b c d e f g h ones : ℕ) → a ≤ 9 → b ≤ 9 → c ≤ 9 → d ≤ 9 → e ≤ 9 → f ≤ 9 → g ≤ 9 → h ≤ 9
     → ones ≡ worth (a ∷ b ∷ c ∷ d ∷ e ∷ f ∷ g ∷ h ∷ [])
@@ -304,12 +238,7 @@ value_eight : (a b c d e f g h ones : ℕ) → a ≤ 9 → b ≤ 9 → c ≤ 9 �
 value_eight a b c d e f g h ones i j k l m n o p is =
     let rest : ones / 256 ≡ b + c * 256 + d * 65536 + e * 16777216 + f * 4294967296 + g * 1099511627776 + h * 281474976710656 = omega arith in
     let pairs : ones * 10 + ones / 256 ≡ worth ((10 * a + b) ∷ (10 * b + c) ∷ (10 * c + d) ∷ (10 * d + e) ∷ (10 * e + f) ∷ (10 * f + g) ∷ (10 * g + h) ∷ (10 * h) ∷ []) = omega arith in
-    rw (
-      pairs,
-      four_bytes (10 * a + b) (10 * b + c) (10 * c + d) (10 * d + e) (10 * e + f) (10 * f + g) (10 * g + h) (10 * h)
-          (omega arith) (omega arith) (omega arith) (omega arith) (omega arith) (omega arith) (omega arith) (omega arith),
-    )
-    (value_fours (10 * a + b) (10 * c + d) (10 * e + f) (10 * g + h) (omega arith) (omega arith) (omega arith) (omega arith) ∙ omega arith)
+    grind (arith, four_bytes)
 
 digit_at : (byte : ℕ) → 48 ≤ byte → byte ≤ 57 → digit_value byte ≡ byte - 48
 digit_at byte low high = digit_is byte (within_digit byte low high)
@@ -351,15 +280,11 @@ eight_small = by_eight (λ bytes. AreWithin 48 57 bytes → (value_in (pairs_in 
 
 -- eight digits denote their value
 pub value_of_eight_digits : (bytes : List ℕ) → length bytes ≡ 8 → AreWithin 48 57 bytes → Some (digits_value 10 bytes) ≡ value_of bytes
-value_of_eight_digits bytes n all =
-    let is = eight_small bytes n all in
-    value_of_digits bytes (omega arith) (within_digits bytes all) is.1
+value_of_eight_digits bytes n all = grind (arith, eight_small, value_of_digits, within_digits)
 
 -- eight digits' values are so large at most
 ones_of_digits : (bytes : List ℕ) → length bytes ≡ 8 → AreWithin 48 57 bytes → ones_in bytes ≤ 651061555542690057
-ones_of_digits bytes n all =
-    rw (ones_are bytes n (looser bytes 48 57 0 255 (omega arith) (omega arith) all), ← (masks bytes n).nines)
-    (worth_up_to (flipped bytes) 0 9 (flipped_digits bytes all))
+ones_of_digits bytes n all = grind (arith, (ones_are bytes n (looser bytes 48 57 0 255 (omega arith) (omega arith) all)), (masks bytes n), (worth_up_to (flipped bytes) 0 9 (flipped_digits bytes all)))
 
 -- what is read of eight digits
 pub ones_read : (bytes : List ℕ) → length bytes ≡ 8 → AreWithin 48 57 bytes → (ones_in bytes ≤ 651061555542690057) × AreOnes bytes (ones_in bytes)
@@ -398,23 +323,15 @@ after_flipped (suc k) bytes = ap (λ l. 0 ∷ l) (after_flipped k bytes)
 -- bytes of 0 before them shift them
 after_worth : (k : ℕ) (bytes : List ℕ) → worth (after k 0 bytes) ≡ worth bytes * 256 ^ k
 after_worth zero bytes = omega arith
-after_worth (suc k) bytes =
-    let rest = after_worth k bytes in
-    let power : worth bytes * 256 ^ suc k ≡ worth bytes * 256 ^ k * 256 = ap (λ p. worth bytes * p) (pow-suc 256 k) ∙ sym (mul_assoc (worth bytes) (256 ^ k) 256) in
-    rw power (omega (arith, rest))
+after_worth (suc k) bytes = grind (arith, (after_worth k bytes), (mul_assoc (worth bytes) (256 ^ k) 256))
 
 pow_bytes : (k : ℕ) → 2 ^ (8 * k) ≡ 256 ^ k
 pow_bytes zero = refl
-pow_bytes (suc k) =
-    let sum : 8 * suc k ≡ 8 * k + 8 = omega arith in
-    ap (λ n. 2 ^ n) sum ∙ pow-add 2 (8 * k) 8 ∙ ap (λ p. p * 256) (pow_bytes k) ∙ sym (pow-suc 256 k)
+pow_bytes (suc k) = grind (arith, (pow-add 2 (8 * k) 8), (pow_bytes k))
 
 worth_append : (xs ys : List ℕ) → worth (xs ++ ys) ≡ worth xs + worth ys * 256 ^ length xs
 worth_append [] ys = omega arith
-worth_append (x ∷ xs) ys =
-    let rest = worth_append xs ys in
-    let power : worth ys * 256 ^ suc (length xs) ≡ worth ys * 256 ^ length xs * 256 = ap (λ p. worth ys * p) (pow-suc 256 (length xs)) ∙ sym (mul_assoc (worth ys) (256 ^ length xs) 256) in
-    rw power (omega (arith, rest))
+worth_append (x ∷ xs) ys = grind (arith, (worth_append xs ys), (mul_assoc (worth ys) (256 ^ length xs) 256))
 
 flipped_take : (n : ℕ) (bytes : List ℕ) → take n (flipped bytes) ≡ flipped (take n bytes)
 flipped_take zero bytes = refl
@@ -456,8 +373,7 @@ module _ (bytes : List ℕ) (count : ℕ) (n : length bytes ≡ 8) (few : count 
       ∙ ap worth (after_append (8 - count) 0 (take count fs) (drop count fs))
       ∙ worth_append front (drop count fs)
       ∙ ap (λ k. worth front + worth (drop count fs) * 256 ^ k) size in
-      rw all_are (omega (arith, small))
-      ∙ ap worth (sym is) ∙ sym (ones_are padded padded_length within)
+      grind (arith, ones_are, padded_length)
 
   -- what is read of them, if they are digits
   pub few_read : list_all is_ascii_digit (take count bytes) ≡ true → (ones_in padded ≤ 651061555542690057) × AreOnes padded (ones_in padded)

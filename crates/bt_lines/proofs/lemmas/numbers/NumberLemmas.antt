@@ -1,4 +1,5 @@
 -- Lemmas on the number that a text denotes.
+use Rattle.std.proofs.lemmas.Grind.{common_steps}
 use Rattle.bt_lines.proofs.Std.{[], ◌∷◌, ◌≡◌, ℕ, ◌+◌, ◌-◌, ◌*◌, ◌<◌, ◌≤◌, Bool, true, false, ◌&&◌, List, ◌++◌, length, take, drop, get_or, Some, None, refl, sym, ap, ◌∙◌, arith, ltb, leb, cond, map, ◌^◌, pow-suc, add-one, pow-le-pow_right, take-append-drop, map-append, take_all, list_all_more, list_all_at, and_parts, digits_value-lt, digits_value_is, digits_value_more, number_after_append, number_after_ge, nat_tests, list_all, is_ascii_digit, digit_value, AllDigits, digits_value, number_from_digits, number_from_digits_after, suc, ◌||◌, not, replicate, subst, bit_or, take-length, prefix_len-le-length, prefix_len_stops, or_block, first_set_mask_l, trailing_mask_l, prefix_len, chunk, mask_l}
 use Rattle.bt_lines.specs.model.Lines.{value_of}
 use Rattle.bt_lines.specs.inside.Digits.{is_other}
@@ -13,61 +14,39 @@ refused_first : {X : Type 0} (a b c : Bool) (x y : X) → a ≡ false → cond (
 refused_first a b c x y p = rw p refl
 
 pub refused_second : {X : Type 0} (a b c : Bool) (x y : X) → b ≡ false → cond ((a && b) && c) x y ≡ y
-refused_second true b c x y p = rw p refl
-refused_second false b c x y p = refl
+refused_second a b c x y p = grind arith
 
 refused_third : {X : Type 0} (a b c : Bool) (x y : X) → c ≡ false → cond ((a && b) && c) x y ≡ y
-refused_third true true c x y p = rw p refl
-refused_third true false c x y p = refl
-refused_third false b c x y p = refl
+refused_third a b c x y p = grind arith
 
 pub value_of_empty : (text : List ℕ) → length text ≡ 0 → None ≡ value_of text
 unfolding value_of
-value_of_empty text e =
-    let none : ltb 0 (length text) ≡ false = grind (arith, nat_tests) in
-    sym (refused_first (ltb 0 (length text)) (list_all is_ascii_digit text) (leb (digits_value 10 text) 999999999999) (Some (digits_value 10 text)) None none)
+value_of_empty text e = grind arith
 
 pub value_of_other : (text : List ℕ) (i : ℕ) → i < length text → is_ascii_digit (get_or text i 0) ≡ false → None ≡ value_of text
 unfolding value_of
-value_of_other text i h other =
-    sym (refused_second (ltb 0 (length text)) (list_all is_ascii_digit text) (leb (digits_value 10 text) 999999999999) (Some (digits_value 10 text)) None (list_all_at is_ascii_digit text i 0 h other))
+value_of_other text i h other = grind (arith, list_all_at)
 
 -- a prefix of the digits has at most the value of all of them
 front_le : (text : List ℕ) (i : ℕ) → digits_value 10 (take i text) ≤ digits_value 10 text
-front_le text i =
-    let front = map digit_value (take i text) in
-    let rest = map digit_value (drop i text) in
-    let joined : map digit_value text ≡ front ++ rest = ap (map digit_value) (sym (take-append-drop i text)) ∙ map-append digit_value (take i text) (drop i text) in
-    let whole : digits_value 10 text ≡ number_from_digits_after 10 (number_from_digits_after 10 0 front) rest =
-    digits_value_is 10 text ∙ ap (number_from_digits 10) joined ∙ number_after_append 10 0 front rest in
-    let part : digits_value 10 (take i text) ≡ number_from_digits_after 10 0 front = digits_value_is 10 (take i text) in
-    let more : number_from_digits_after 10 0 front ≤ number_from_digits_after 10 (number_from_digits_after 10 0 front) rest =
-    number_after_ge 10 (number_from_digits_after 10 0 front) rest (omega arith) in
-    rw (part, whole) more
+front_le text i = grind (arith, (take-append-drop i text), (map-append digit_value (take i text) (drop i text)), digits_value_is, number_after_append, number_after_ge)
 
 pub value_of_large : (text : List ℕ) (i : ℕ) → 999999999999 < digits_value 10 (take i text) → None ≡ value_of text
 unfolding value_of
-value_of_large text i large =
-    let more = front_le text i in
-    let past : leb (digits_value 10 text) 999999999999 ≡ false = grind (arith, nat_tests) in
-    sym (refused_third (ltb 0 (length text)) (list_all is_ascii_digit text) (leb (digits_value 10 text) 999999999999) (Some (digits_value 10 text)) None past)
+value_of_large text i large = grind (arith, front_le)
 
 pub value_of_digits : (text : List ℕ) → 0 < length text → list_all is_ascii_digit text ≡ true → digits_value 10 text ≤ 999999999999 → Some (digits_value 10 text) ≡ value_of text
 unfolding value_of
-value_of_digits text some digits small =
-    let within : leb (digits_value 10 text) 999999999999 ≡ true = grind (arith, nat_tests) in
-    let here : ltb 0 (length text) ≡ true = grind (arith, nat_tests) in
-    sym (chosen (ltb 0 (length text)) (list_all is_ascii_digit text) (leb (digits_value 10 text) 999999999999) (Some (digits_value 10 text)) None here digits within)
+value_of_digits text some digits small = grind arith
 
 -- a digit stands for its distance from '0'
 pub digit_is : (b : ℕ) → is_ascii_digit b ≡ true → digit_value b ≡ b - 48
-digit_is b digit = grind (arith, nat_tests)
+digit_is b digit = grind arith
 
 -- the value with one more digit
 pub value_more : (text : List ℕ) (i value : ℕ) → i < length text → value ≡ digits_value 10 (take i text) → is_ascii_digit (get_or text i 0) ≡ true
     → value * 10 + (get_or text i 0 - 48) ≡ digits_value 10 (take (i + 1) text)
-value_more text i value h e digit =
-    rw (digits_value_more 10 text i h, ← e, digit_is (get_or text i 0) digit) refl
+value_more text i value h e digit = grind (arith, digits_value_more)
 
 -- all of these are digits, and so is the next
 pub digits_more : (text : List ℕ) (i : ℕ) → i < length text → list_all is_ascii_digit (take i text) ≡ true → is_ascii_digit (get_or text i 0) ≡ true
@@ -77,16 +56,11 @@ digits_more text i h all digit = rw (list_all_more is_ascii_digit text i 0 h, al
 -- the value after the last digit
 pub value_of_whole : (text : List ℕ) (i value : ℕ) → 0 < length text → length text ≤ i → value ≡ digits_value 10 (take i text)
     → list_all is_ascii_digit (take i text) ≡ true → value ≤ 999999999999 → Some value ≡ value_of text
-value_of_whole text i value some end e all small =
-    let whole : take i text ≡ text = take_all i text end in
-    let is : value ≡ digits_value 10 text = e ∙ ap (digits_value 10) whole in
-    let digits : list_all is_ascii_digit text ≡ true = sym (ap (list_all is_ascii_digit) whole) ∙ all in
-    let within : digits_value 10 text ≤ 999999999999 = rw is at small in
-    ap Some is ∙ value_of_digits text some digits within
+value_of_whole text i value some end e all small = grind (arith, take_all, value_of_digits)
 
 -- a digit stands for at most 9
 pub digit_small : (b : ℕ) → is_ascii_digit b ≡ true → b - 48 ≤ 9
-digit_small b digit = grind (arith, nat_tests)
+digit_small b digit = grind arith
 
 -- one digit more than `i` digits
 pub value_below : (i value digit : ℕ) → value < 10 ^ i → digit ≤ 9 → value * 10 + digit < 10 ^ (i + 1)
@@ -94,26 +68,18 @@ value_below i value digit below small = rw (add-one i, pow-suc 10 i) (omega (ari
 
 -- at most twelve digits are within the greatest number
 pub value_short : (i value : ℕ) → value < 10 ^ i → i ≤ 12 → value ≤ 999999999999
-value_short i value below short =
-    let most : 10 ^ i ≤ 1000000000000 = pow-le-pow_right {n = 10} (omega arith) {i = i} {j = 12} short in
-    omega (arith, below, most)
+value_short i value below short = grind (arith, pow-le-pow_right)
 
 pub all_digits_in : (text : List ℕ) → list_all is_ascii_digit text ≡ true → AllDigits 10 text
 all_digits_in [] all = tt
-all_digits_in (byte ∷ bytes) all =
-    let parts = and_parts (is_ascii_digit byte) (list_all is_ascii_digit bytes) all in
-    let small : digit_value byte < 10 = rw (digit_is byte parts.0) (let most = digit_small byte parts.0 in omega arith) in
-    (small, all_digits_in bytes parts.1)
+all_digits_in (byte ∷ bytes) all = grind (arith, (all_digits_in bytes (and_parts (is_ascii_digit byte) (list_all is_ascii_digit bytes) all).1))
 
 -- `n` digits have a value below 10 ^ n
 pub digits_below : (text : List ℕ) → list_all is_ascii_digit text ≡ true → digits_value 10 text < 10 ^ length text
 digits_below text all = digits_value-lt 10 text (all_digits_in text all)
 
 taken : (a b c : Bool) (x value : ℕ) → Some value ≡ cond ((a && b) && c) (Some x) None → (b ≡ true) × (value ≡ x)
-taken true true true x value e = (refl, cc)
-taken true true false x value e = cc
-taken true false c x value e = cc
-taken false b c x value e = cc
+taken a b c x value e = grind arith
 
 -- what denotes a number is its digits
 pub digits_denoting : (text : List ℕ) (value : ℕ) → Some value ≡ value_of text → (list_all is_ascii_digit text ≡ true) × (value ≡ digits_value 10 text)
@@ -128,39 +94,26 @@ splat_before t y [] = refl
 splat_before t y (x ∷ xs) = ap (λ l. t y x ∷ l) (splat_before t y xs)
 
 or_bits : (a b : Bool) → bit_or (cond a 1 0) (cond b 1 0) ≡ cond (a || b) 1 0
-or_bits true true = refl
-or_bits true false = refl
-or_bits false true = refl
-or_bits false false = refl
+or_bits a b = grind arith
 
 small_bit : (a : Bool) → cond a 1 0 < 2 ^ 1
-small_bit true = omega arith
-small_bit false = omega arith
+small_bit a = grind arith
 
 -- the bits of what one of two tests accepts
 pub or_masks : (p q : ℕ → Bool) (xs : List ℕ) → bit_or (mask_l (map p xs)) (mask_l (map q xs)) ≡ mask_l (map (λ x. p x || q x) xs)
 or_masks p q [] = refl
-or_masks p q (x ∷ xs) =
-    let m = mask_l (map p xs) in
-    let n = mask_l (map q xs) in
-    let first : cond (p x) 1 0 + 2 * m ≡ m * 2 ^ 1 + cond (p x) 1 0 = omega arith in
-    let second : cond (q x) 1 0 + 2 * n ≡ n * 2 ^ 1 + cond (q x) 1 0 = omega arith in
-    let rest = or_masks p q xs in
-    rw (first, second, or_block 1 m n (cond (p x) 1 0) (cond (q x) 1 0) (small_bit (p x)) (small_bit (q x)), or_bits (p x) (q x), rest) (omega arith)
+or_masks p q (x ∷ xs) = grind (arith, (or_masks p q xs), (or_block 1 (mask_l (map p xs)) (mask_l (map q xs)) (cond (p x) 1 0) (cond (q x) 1 0) (small_bit (p x)) (small_bit (q x))))
 
 -- no other byte is a digit, and a digit is none
 digit_if_no_other : (byte : ℕ) → is_other byte ≡ false → is_ascii_digit byte ≡ true
-digit_if_no_other byte e = grind (arith, nat_tests)
+digit_if_no_other byte e = grind arith
 
 other_is_no_digit : (byte : ℕ) → not (is_other byte) ≡ false → is_ascii_digit byte ≡ false
-other_is_no_digit byte e = grind (arith, nat_tests)
+other_is_no_digit byte e = grind arith
 
 front_of : (bytes : List ℕ) (byte n : ℕ) (b : Bool) → is_other byte ≡ b → list_all is_ascii_digit (take n bytes) ≡ true
     → list_all is_ascii_digit (take (cond (not b) (1 + n) 0) (byte ∷ bytes)) ≡ true
-front_of bytes byte n true e all = refl
-front_of bytes byte n false e all =
-    let next : 1 + n ≡ suc n = omega arith in
-    rw (next, digit_if_no_other byte e, all) refl
+front_of bytes byte n b e all = grind arith
 
 -- the bytes before the first other one are digits
 front_digits : (bytes : List ℕ) → list_all is_ascii_digit (take (prefix_len (λ b. not (is_other b)) bytes) bytes) ≡ true
@@ -174,23 +127,11 @@ pub record AreFront (bytes : List ℕ) (count : ℕ) : Type 0 where
   pub all : count < length bytes → is_ascii_digit (get_or bytes count 0) ≡ false
 
 front : (bytes : List ℕ) → AreFront bytes (prefix_len (λ b. not (is_other b)) bytes)
-front bytes = record {
-  few = prefix_len-le-length (λ b. not (is_other b)) bytes;
-  digits = front_digits bytes;
-  all = λ less. other_is_no_digit (get_or bytes (prefix_len (λ b. not (is_other b)) bytes) 0) (prefix_len_stops (λ b. not (is_other b)) bytes 0 less);
-}
+front bytes = grind (arith, (prefix_len-le-length (λ b. not (is_other b)) bytes), (front_digits bytes), prefix_len_stops)
 
 -- by the bits of the other bytes, as they are loaded: if there is none, and if there is one
 pub front_whole : (bytes : List ℕ) (mask : ℕ) → length bytes ≡ 8 → mask ≡ mask_l (map is_other (chunk 0 8 bytes)) → mask ≡ 0 → AreFront bytes 8
-front_whole bytes mask size is none =
-    let whole : chunk 0 8 bytes ≡ bytes = ap (λ n. take n bytes) (sym size) ∙ take-length bytes in
-    let count = first_set_mask_l is_other bytes 8 size (omega arith) in
-    subst (AreFront bytes) (sym count ∙ rw (ap (λ l. mask_l (map is_other l)) (sym whole) ∙ sym is ∙ none) refl) (front bytes)
+front_whole bytes mask size is none = grind (arith, common_steps)
 
 pub front_part : (bytes : List ℕ) (mask : ℕ) → length bytes ≡ 8 → mask ≡ mask_l (map is_other (chunk 0 8 bytes)) → (mask ≡ 0 → ⊥) → AreFront bytes (count_trailing_zeros 64 mask)
-front_part bytes mask size loaded some =
-    let whole : chunk 0 8 bytes ≡ bytes = ap (λ n. take n bytes) (sym size) ∙ take-length bytes in
-    let is = loaded ∙ ap (λ l. mask_l (map is_other l)) whole in
-    let bit : 0 < mask_l (map is_other bytes) = rw (← is) (omega (arith, some)) in
-    let count = trailing_mask_l is_other 64 bytes (omega (arith, size)) bit in
-    subst (AreFront bytes) (sym (ap (count_trailing_zeros 64) is ∙ count)) (front bytes)
+front_part bytes mask size loaded some = grind (arith, (take-length bytes), trailing_mask_l, (front bytes))

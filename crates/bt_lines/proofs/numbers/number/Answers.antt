@@ -2,14 +2,6 @@ use Rattle.bt_lines.proofs.Std.{rules, arith, ◌≤◌, ◌+◌, ◌-◌, ◌*�
 use Rattle.bt_lines.proofs.lemmas.numbers.NumberLemmas.{value_of_empty, value_of_other, value_of_whole, value_more, digits_more, value_below, value_short, digit_small}
 use Rattle.bt_lines.proofs.numbers.number.Goals as goal
 
-pub returns-then-is_empty : goal.returns-then-is_empty
-returns-then-is_empty c = search (rules, value_of_empty)
-
-pub returns-then-not-is_ascii_digit : goal.returns-then-not-is_ascii_digit
-returns-then-not-is_ascii_digit c =
-    value_of_other c.args.text.now c.loop-byte.byte-index c.loop-byte-test.true
-    (sym c.is_ascii_digit.ensures.value ∙ c.if-not-is_ascii_digit.true)
-
 pub loop-byte-preserved : goal.loop-byte-preserved
 loop-byte-preserved c =
     let digit = sym c.is_ascii_digit.ensures.value ∙ c.if-not-is_ascii_digit.false in

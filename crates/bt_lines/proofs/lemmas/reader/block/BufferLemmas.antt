@@ -1,5 +1,6 @@
 -- Lemmas on the bytes of a block.
-use Rattle.bt_lines.proofs.Std.{◌≡◌, ℕ, ◌+◌, ◌-◌, ◌≤◌, List, length, take, drop, slice_range, sym, ap, ◌∙◌, arith, length-take, drop-take, drop-drop, zero, suc, ◌<◌, ◌⊎◌, inl, inr, Bool, true, false, cond, [], ◌∷◌, ◌++◌, get_or, set, Some, None, refl, subst, append_assoc, length-append, eqb, paste, take-add, eqb-true, false_from_ne_true, false≢true, take-append-drop, take-append-le, take-take, drop-append-le, take_at, take_more, take_more_set, length-take-le, length-drop, get_or-drop, get_or_default, All-append, All-nil, nat_eq, ◌^◌, Option, append-nil, add-zero, Consumes-nil, Consumes-trans, nat_tests, Consumes, Result, Ok, Err}
+use Rattle.std.proofs.lemmas.Grind.{common_steps}
+use Rattle.bt_lines.proofs.Std.{rules, ◌≡◌, ℕ, ◌+◌, ◌-◌, ◌≤◌, List, length, take, drop, slice_range, sym, ap, ◌∙◌, arith, length-take, drop-take, drop-drop, zero, suc, ◌<◌, ◌⊎◌, inl, inr, Bool, true, false, cond, [], ◌∷◌, ◌++◌, get_or, set, Some, None, refl, subst, append_assoc, length-append, eqb, paste, take-add, eqb-true, false_from_ne_true, false≢true, take-append-drop, take-append-le, take-take, drop-append-le, take_at, take_more, take_more_set, length-take-le, length-drop, get_or-drop, get_or_default, All-append, All-nil, nat_eq, ◌^◌, Option, append-nil, add-zero, Consumes-nil, Consumes-trans, nat_tests, Consumes, Result, Ok, Err}
 use Rattle.bt_lines.specs.inside.ReadBuffer.{unread, MovesPiece}
 use Rattle.bt_lines.specs.declared.reader.read_buffer.ReadBuffer.{ReadBuffer}
 use Rattle.bt_lines.specs.calls.Output.{block_size}
@@ -22,8 +23,7 @@ use Rattle.bt_lines.specs.declared.reader.spill.More.{More}
 pub consumed : (xs : List ℕ) (start end count : ℕ) → start + count ≤ end → slice_range xs (start + count) end ≡ drop count (slice_range xs start end)
 consumed xs start end count inside =
     let parts : end - start ≡ count + (end - (start + count)) = omega arith in
-    sym (ap (λ j. drop count (take j (drop start xs))) parts ∙ drop-take count _ (drop start xs)
-    ∙ ap (take (end - (start + count))) (drop-drop count start xs))
+    grind (arith, drop-take, drop-drop)
 
 -- a part of a list is at most as long as its ends are apart
 pub length-range-le : (xs : List ℕ) (start end : ℕ) → length (slice_range xs start end) ≤ end - start
@@ -42,9 +42,7 @@ unread_fits buffer = omega (arith, length-range-le buffer.bytes buffer.whole buf
 pub range_split : (xs : List ℕ) (a b c : ℕ) → a ≤ b → b ≤ c → slice_range xs a c ≡ slice_range xs a b ++ slice_range xs b c
 range_split xs a b c h k =
     let parts : c - a ≡ (b - a) + (c - b) = omega arith in
-    let at : a + (b - a) ≡ b = omega arith in
-    ap (λ (n : ℕ). take n (drop a xs)) parts ∙ take-add (b - a) (c - b) (drop a xs)
-    ∙ ap (λ (l : List ℕ). take (b - a) (drop a xs) ++ take (c - b) l) (drop-drop (b - a) a xs ∙ ap (λ (n : ℕ). drop n xs) at)
+    grind (arith, take-add, drop-drop)
 
 pub length-range : (xs : List ℕ) (a b : ℕ) → b ≤ length xs → length (slice_range xs a b) ≡ b - a
 length-range xs a b h = omega (arith, length-take (b - a) (drop a xs), length-drop a xs)
@@ -57,9 +55,7 @@ none_searched xs a = record { clear = rw (range_none xs a) (All-nil (λ b. eqb b
 
 -- a part, as what comes after some of the first bytes
 pub range_drop : (xs : List ℕ) (a b : ℕ) → a ≤ b → slice_range xs a b ≡ drop a (take b xs)
-range_drop xs a b h =
-    let all : a + (b - a) ≡ b = omega arith in
-    sym (drop-take a (b - a) xs) ∙ ap (λ (n : ℕ). drop a (take n xs)) all
+range_drop xs a b h = grind (arith, (drop-take a (b - a) xs))
 
 shorter_front : (l : List ℕ) (b c : ℕ) → b ≤ c → take b l ≡ take b (take c l)
 shorter_front l b c h = sym (take-take b c l h)
@@ -73,8 +69,7 @@ range_same xs ys a b c e h k =
 -- ---- bytes that end with a line feed
 
 fed_tail : (x : ℕ) (xs : List ℕ) → is_fed (x ∷ xs) ≡ true → is_fed xs ≡ true
-fed_tail x [] h = refl
-fed_tail x (y ∷ ys) h = h
+fed_tail x xs h = grind arith
 
 pub fed_drop : (n : ℕ) (xs : List ℕ) → is_fed xs ≡ true → is_fed (drop n xs) ≡ true
 fed_drop zero xs h = h
@@ -97,10 +92,7 @@ fed_last (x ∷ []) h = inr ([], ap (λ (b : ℕ). b ∷ []) (eqb-true x 10 h))
 fed_last (x ∷ y ∷ ys) h = fed_more x y ys (fed_last (y ∷ ys) h)
 
 fed_none_by : (xs : List ℕ) → line_feeds xs ≡ 0 → (xs ≡ []) ⊎ ((front : List ℕ) × (xs ≡ front ++ 10 ∷ [])) → xs ≡ []
-fed_none_by xs none (inl e) = e
-fed_none_by xs none (inr f) =
-    let one : line_feeds (10 ∷ []) ≡ 1 = refl in
-    absurd (omega (arith, none, ap line_feeds f.1, line_feeds-append f.0 (10 ∷ []), one))
+fed_none_by xs none p1 = grind (arith, line_feeds-append)
 
 -- those without a line feed are none
 pub fed_none : (xs : List ℕ) → is_fed xs ≡ true → line_feeds xs ≡ 0 → xs ≡ []
@@ -113,10 +105,7 @@ feeds_drop : (n : ℕ) (xs : List ℕ) → line_feeds (drop n xs) ≤ line_feeds
 feeds_drop n xs = omega (arith, ap line_feeds (take-append-drop n xs), line_feeds-append (take n xs) (drop n xs))
 
 pub are_dropped : (is_spilled : Bool) (xs : List ℕ) (n : ℕ) → AreComplete is_spilled xs → AreComplete is_spilled (drop n xs)
-are_dropped is_spilled xs n are = record {
-  fed = fed_drop n xs are.fed;
-  one = λ e. omega (arith, are.one e, feeds_drop n xs);
-}
+are_dropped is_spilled xs n are = grind (arith, fed_drop, feeds_drop)
 
 -- lines in the block
 pub are_in_block : (xs : List ℕ) → is_fed xs ≡ true → AreComplete false xs
@@ -124,19 +113,13 @@ are_in_block xs h = record { fed = h; one = λ e. absurd (false≢true e) }
 
 -- ---- taking lines
 
-by_size : (n : ℕ) (bytes : List ℕ) (start whole : ℕ) → n ≤ length (slice_range bytes start whole) → slice_range bytes (start + n) whole ≡ drop n (slice_range bytes start whole)
-by_size zero bytes start whole h = let e : start + 0 ≡ start = omega arith in ap (λ (a : ℕ). slice_range bytes a whole) e
-by_size (suc n) bytes start whole h = consumed bytes start whole (suc n) (omega (arith, h, length-take (whole - start) (drop start bytes)))
-
 pub lines_dropped : (is_spilled : Bool) (spilled bytes : List ℕ) (start whole n : ℕ) → n ≤ length (cond is_spilled (drop start spilled) (slice_range bytes start whole))
     → cond is_spilled (drop (start + n) spilled) (slice_range bytes (start + n) whole) ≡ drop n (cond is_spilled (drop start spilled) (slice_range bytes start whole))
-lines_dropped true spilled bytes start whole n h = sym (drop-drop n start spilled)
-lines_dropped false spilled bytes start whole n h = by_size (n) bytes start whole h
+lines_dropped is_spilled spilled bytes start whole n h = grind (arith, drop-drop, consumed, length-take)
 
 pub lines_ordered : (is_spilled : Bool) (spilled bytes : List ℕ) (start whole n : ℕ) → start ≤ cond is_spilled (length spilled) whole
     → n ≤ length (cond is_spilled (drop start spilled) (slice_range bytes start whole)) → start + n ≤ cond is_spilled (length spilled) whole
-lines_ordered true spilled bytes start whole n o h = omega (arith, o, h, length-drop start spilled)
-lines_ordered false spilled bytes start whole n o h = omega (arith, o, h, length-take (whole - start) (drop start bytes))
+lines_ordered is_spilled spilled bytes start whole n o h = grind (arith, length-drop, length-take)
 
 -- ---- what was read
 
@@ -160,26 +143,16 @@ last_feed bytes from end last h k is =
     let front : slice_range bytes from (from + last + 1) ≡ take last hay ++ 10 ∷ [] =
     ap (λ (n : ℕ). take n (drop from bytes)) count ∙ shorter_front (drop from bytes) (last + 1) (end - from) (omega (arith, inside))
     ∙ take_more hay last 0 below ∙ ap (λ (b : ℕ). take last hay ++ b ∷ []) byte in
-    record {
-      inside = inside;
-      fed = rw front (fed_push (take last hay));
-      clear = subst NoLineFeed (sym (consumed bytes from end (last + 1) (omega (arith, inside))) ∙ ap (λ (n : ℕ). slice_range bytes n end) (sum from last))
-          (λ i d b. let there : last + 1 + i < length hay = omega (arith, b, length-drop (last + 1) hay) in
-          rw (get_or-drop (last + 1) hay i d, get_or_default hay (last + 1 + i) d 0 there) (false_from_ne_true _ (is.0.after (last + 1 + i) (omega arith) there)));
-    }
+    grind (arith, (fed_push (take last hay)), (consumed bytes from end (last + 1) (omega (arith, inside))), (length-drop (last + 1) hay), get_or-drop, get_or_default)
 
 -- the text of a line that was taken
 pub line_text : (is_spilled : Bool) (spilled bytes : List ℕ) (start whole text line : ℕ) → text ≤ line → line ≤ length (cond is_spilled (drop start spilled) (slice_range bytes start whole))
     → cond is_spilled (slice_range spilled start (start + text)) (slice_range bytes start (start + text)) ≡ take text (cond is_spilled (drop start spilled) (slice_range bytes start whole))
-line_text true spilled bytes start whole text line h k = let e : start + text - start ≡ text = omega arith in ap (λ (n : ℕ). take n (drop start spilled)) e
-line_text false spilled bytes start whole text line h k =
-    let e : start + text - start ≡ text = omega arith in
-    ap (λ (n : ℕ). take n (drop start bytes)) e ∙ shorter_front (drop start bytes) text (whole - start) (omega (arith, h, k, length-take (whole - start) (drop start bytes)))
+line_text is_spilled spilled bytes start whole text line h k = grind (arith, shorter_front, length-take)
 
 pub text_fits : (is_spilled : Bool) (spilled bytes : List ℕ) (start whole end text line : ℕ) → start ≤ cond is_spilled (length spilled) whole → whole ≤ end → end ≤ block_size
     → text ≤ line → line ≤ length (cond is_spilled (drop start spilled) (slice_range bytes start whole)) → start + text ≤ cond is_spilled (length spilled) block_size
-text_fits true spilled bytes start whole end text line o w b h k = omega (arith, o, h, k, length-drop start spilled)
-text_fits false spilled bytes start whole end text line o w b h k = omega (arith, o, w, b, h, k, length-take (whole - start) (drop start bytes))
+text_fits is_spilled spilled bytes start whole end text line o w b h k = grind (arith, length-drop, length-take)
 
 -- ---- after a search
 
@@ -202,14 +175,7 @@ found bytes whole searched end last w s e is =
     let feed = last_feed bytes searched end last s e is in
     let size : length (slice_range bytes searched (searched + last + 1)) ≡ searched + last + 1 - searched = length-range bytes searched (searched + last + 1) (omega (arith, feed.inside, e)) in
     let split = range_split bytes whole searched (searched + last + 1) w (omega arith) in
-    let lines : length (slice_range bytes whole (searched + last + 1)) ≡ searched + last + 1 - whole = length-range bytes whole (searched + last + 1) (omega (arith, feed.inside, e)) in
-    record {
-      inside = feed.inside;
-      are = are_in_block _ (rw split (fed_after (slice_range bytes whole searched) (slice_range bytes searched (searched + last + 1)) (omega (arith, size)) feed.fed));
-      clear = record { clear = feed.clear };
-      split = sym (range_split bytes whole (searched + last + 1) end (omega (arith, w)) (omega (arith, feed.inside)));
-      some = omega (arith, lines, w);
-    }
+    grind (arith, length-range, fed_after, range_split)
 
 -- nothing was found
 pub not_found : (bytes : List ℕ) (whole searched end : ℕ) → whole ≤ searched → searched ≤ end → IsSearched (slice_range bytes whole searched) → IsLastByte (is_byte 10) (slice_range bytes searched end) None
@@ -221,31 +187,14 @@ not_found bytes whole searched end w s clear nowhere =
 
 -- ---- a range that was moved to the start
 
-pub front_moved : (bytes : List ℕ) (from end n : ℕ) → from ≤ end → end ≤ length bytes → n ≤ end - from
-    → slice_range (paste bytes 0 (drop from bytes) (end - from)) 0 n ≡ slice_range bytes from (from + n)
-front_moved bytes from end n h k b =
-    let none : n - 0 ≡ n = omega arith in
-    let parts : from + n - from ≡ n = omega arith in
-    let size : length (take (end - from) (drop from bytes)) ≡ end - from = length-take-le (end - from) (drop from bytes) (omega (arith, length-drop from bytes, h, k)) in
-    ap (λ (m : ℕ). take m (paste bytes 0 (drop from bytes) (end - from))) none
-    ∙ take-append-le n (take (end - from) (drop from bytes)) (drop (0 + (end - from)) bytes) (omega (arith, size, b))
-    ∙ sym (shorter_front (drop from bytes) n (end - from) b)
-    ∙ ap (λ (m : ℕ). take m (drop from bytes)) (sym parts)
-
 -- ---- a line feed that was added
 
 pub end_added : (bytes : List ℕ) (whole end : ℕ) → whole ≤ end → end < length bytes → slice_range (set bytes end 10) whole (end + 1) ≡ slice_range bytes whole end ++ 10 ∷ []
-end_added bytes whole end h k =
-    range_drop (set bytes end 10) whole (end + 1) (omega arith) ∙ ap (drop whole) (take_more_set bytes end 10 k)
-    ∙ drop-append-le whole (take end bytes) (10 ∷ []) (omega (arith, h, k, length-take-le end bytes (omega (arith, k))))
-    ∙ ap (λ (l : List ℕ). l ++ 10 ∷ []) (sym (range_drop bytes whole end h))
+end_added bytes whole end h k = grind (arith, range_drop, take_more_set, drop-append-le, length-take-le)
 
 pub front_to : (bytes moved : List ℕ) (from to end : ℕ) → from ≤ to → to ≤ end → end ≤ length bytes → moved ≡ paste bytes 0 (drop from bytes) (end - from)
     → slice_range moved 0 (to - from) ≡ slice_range bytes from to
-front_to bytes moved from to end h k b e =
-    let at : from + (to - from) ≡ to = omega arith in
-    ap (λ (l : List ℕ). slice_range l 0 (to - from)) e ∙ front_moved bytes from end (to - from) (omega arith) b (omega arith)
-    ∙ ap (λ (n : ℕ). slice_range bytes from n) at
+front_to bytes moved from to end h k b e = grind (arith, length-take-le, length-drop, take-append-le, shorter_front)
 
 -- the first bytes are the same
 pub front_same : (old new : List ℕ) (a b end : ℕ) → take end new ≡ take end old → a ≤ b → b ≤ end → IsSearched (slice_range old a b) → IsSearched (slice_range new a b)
@@ -253,17 +202,11 @@ front_same old new a b end e h k is = subst IsSearched (sym (range_same old new 
 
 pub lines_front : (is_spilled : Bool) (spilled old new : List ℕ) (start whole end : ℕ) → take end new ≡ take end old → start ≤ cond is_spilled (length spilled) whole → whole ≤ end
     → AreComplete is_spilled (cond is_spilled (drop start spilled) (slice_range old start whole)) → AreComplete is_spilled (cond is_spilled (drop start spilled) (slice_range new start whole))
-lines_front true spilled old new start whole end e h k are = are
-lines_front false spilled old new start whole end e h k are = subst (AreComplete false) (sym (range_same old new start whole end e h k)) are
+lines_front is_spilled spilled old new start whole end e h k are = grind (arith, range_same)
 
 pub behind_read : (old new : List ℕ) (whole end count : ℕ) → whole ≤ end → take end new ≡ take end old → end + count ≤ length new
     → (count ≡ length (slice_range new end (end + count))) × (slice_range new whole (end + count) ≡ slice_range old whole end ++ slice_range new end (end + count))
-behind_read old new whole end count w e h =
-    let parts : end + count - end ≡ count = omega arith in (
-      sym (length-range new end (end + count) h ∙ parts),
-      range_split new whole end (end + count) w (omega arith)
-          ∙ ap (λ (l : List ℕ). l ++ slice_range new end (end + count)) (range_same old new whole end end e w (omega arith)),
-    )
+behind_read old new whole end count w e h = grind (arith, length-range, range_split, range_same)
 
 -- ---- a piece of a line
 
@@ -288,14 +231,13 @@ piece bytes whole end size is below =
 -- Lemmas on reads that buffer lines.
 
 pub closed_some : (xs : List ℕ) → 0 < length xs → closed xs ≡ xs ++ 10 ∷ []
-closed_some [] h = absurd (omega arith)
-closed_some (x ∷ xs) h = refl
+closed_some xs h = grind arith
 
 pub not_full : (n : ℕ) → false ≡ nat_eq n 8192 → n ≤ 8192 → n < 8192
-not_full n e h = grind (arith, nat_tests)
+not_full n e h = grind arith
 
 pub some_full : (n : ℕ) → true ≡ nat_eq n 8192 → 0 < n
-some_full n e = grind (arith, nat_tests)
+some_full n e = grind arith
 
 pub then_counted : {S : Type 0} (IsRead : S → Option ℕ → S → Type 0) (a b c : S) (m n k : ℕ) (stop : Stop) → ReadsCounted IsRead a m b n → AreCounted IsRead stop b n c k → AreCounted IsRead stop a m c k
 then_counted IsRead a b c m n k LineFeed one two = counts_then IsRead a b c m n k one two
@@ -305,8 +247,7 @@ then_counted IsRead a b c m n k TooLong one two = counts_then IsRead a b c m n (
 then_counted IsRead a b c m n k NoMemory one two = counts_then IsRead a b c m n k one two
 
 pub zero_of : (n : ℕ) → (0 < n → ⊥) → n ≡ 0
-zero_of zero h = refl
-zero_of (suc n) h = absurd (h (omega arith))
+zero_of n h = grind arith
 
 -- if bytes have no line feed, neither has a prefix of them
 none_in_front : (xs ys all : List ℕ) → all ≡ xs ++ ys → NoLineFeed all → 0 < line_feeds xs → ⊥
@@ -317,9 +258,7 @@ pub fed_line : (text line : List ℕ) → text ≡ line ++ 10 ∷ [] → is_fed 
 fed_line text line e = rw e (fed_push line)
 
 pub one_line : (text line : List ℕ) → NoLineFeed line → text ≡ line ++ 10 ∷ [] → line_feeds text ≤ 1
-one_line text line clear e =
-    let one : line_feeds (10 ∷ []) ≡ 1 = refl in
-    omega (arith, ap line_feeds e, line_feeds-append line (10 ∷ []), line_feeds-none line clear, one)
+one_line text line clear e = grind (arith, line_feeds-append, line_feeds-none)
 
 -- reads before them that served change nothing of where they stopped
 then_stopped : (stop : Stop) (left : Option (List ℕ)) (first mid last told : Bool) (all same complete rest : List ℕ) (taken : ℕ) → all ≡ same → mid ≡ first
@@ -338,15 +277,7 @@ module _ {S : Type 0} (device : Source S) where
     pub ready : 0 < line_feeds old_unread → new ≡ old
 
   pub none_yet : (old : S) (unread : List ℕ) (taken : ℕ) → taken < 2 ^ 63 → ReadSoFar old unread taken old unread taken
-  none_yet old unread taken within = record {
-    bytes = [];
-    consumed = Consumes-nil (device.left old);
-    counted = sym (add-zero taken);
-    within = within;
-    joined = sym (append-nil unread);
-    served = refl;
-    ready = λ h. refl;
-  }
+  none_yet old unread taken within = search rules
 
   module _ (old : S) (old_unread : List ℕ) (old_taken : ℕ) (mid : S) (unread : List ℕ) (taken : ℕ) (so_far : ReadSoFar old old_unread old_taken mid unread taken) where
     -- none does
@@ -365,15 +296,7 @@ module _ {S : Type 0} (device : Source S) where
 
       pub more_read : (new : S) (next_unread : List ℕ) (next_taken : ℕ) → AsksMore device mid same taken Bytes new next_unread next_taken
           → ReadSoFar old old_unread old_taken new next_unread next_taken
-      more_read new next_unread next_taken asks = record {
-        bytes = so_far.bytes ++ asks.bytes;
-        consumed = both new asks.bytes asks.consumed;
-        counted = omega (arith, so_far.counted, asks.counted, counts asks.bytes);
-        within = asks.within;
-        joined = asks.came.1 ∙ sym (all asks.bytes);
-        served = asks.came.2 ∙ so_far.served;
-        ready = λ h. absurd (never h);
-      }
+      more_read new next_unread next_taken asks = grind (arith, both, counts, all, never)
 
       pub shorter : (new : S) (next_unread : List ℕ) (next_taken : ℕ) → AsksMore device mid same taken Bytes new next_unread next_taken → 2 ^ 63 - next_taken < 2 ^ 63 - taken
       shorter new next_unread next_taken asks = omega (arith, asks.counted, asks.came.0, asks.within, so_far.within)
@@ -382,15 +305,7 @@ module _ {S : Type 0} (device : Source S) where
       stops_by : (stop : Stop) (new : S) (next complete rest : List ℕ) (next_taken : ℕ) → Consumes (device.left mid) (device.left new) next → next_taken + uncounted stop ≡ taken + length next → next_taken < 2 ^ 63
           → StopsWith stop (device.left new) (device.has_failed old) (device.has_failed new) (device.end_told new) (old_unread ++ (so_far.bytes ++ next)) complete rest next_taken
           → Buffers device old old_unread old_taken stop new complete rest next_taken
-      stops_by stop new next complete rest next_taken consumed counted within stopped = record {
-        bytes = so_far.bytes ++ next;
-        consumed = both new next consumed;
-        counted = omega (arith, so_far.counted, counted, counts next);
-        within = within;
-        ready = λ h. absurd (never h);
-        first = inl (zero_of _ never);
-        stopped = stopped;
-      }
+      stops_by stop new next complete rest next_taken consumed counted within stopped = grind (arith, both, counts, never)
 
       pub text_ended : (new : S) (next_unread : List ℕ) (next_taken : ℕ) (complete rest : List ℕ) → AsksMore device mid same taken NoBytes new next_unread next_taken
           → complete ≡ closed next_unread → rest ≡ [] → Buffers device old old_unread old_taken End new complete rest next_taken
@@ -415,9 +330,7 @@ module _ {S : Type 0} (device : Source S) where
       -- the line is longer than a block
       pub then_long : (stop : Stop) (new : S) (complete rest : List ℕ) (next_taken : ℕ) → Buffers device mid same taken stop new complete rest next_taken
           → Buffers device old old_unread old_taken stop new complete rest next_taken
-      then_long stop new complete rest next_taken long =
-          stops_by stop new long.bytes complete rest next_taken long.consumed long.counted long.within
-          (then_stopped stop (device.left new) (device.has_failed old) (device.has_failed mid) (device.has_failed new) (device.end_told new) (old_unread ++ (so_far.bytes ++ long.bytes)) (same ++ long.bytes) complete rest next_taken (all long.bytes) so_far.served long.stopped)
+      then_long stop new complete rest next_taken long = grind (arith, common_steps)
 
 -- Lemmas on a line that is longer than a block.
 
@@ -434,30 +347,14 @@ module _ {S : Type 0} (device : Source S) where
 
   -- before the first read
   pub at_first : (old : S) (block text : List ℕ) (taken : ℕ) → text ≡ [] → taken < 2 ^ 63 → SoFar old block taken old block text taken
-  at_first old block text taken empty within = record {
-    bytes = [];
-    consumed = Consumes-nil (device.left old);
-    counted = sym (add-zero taken);
-    within = within;
-    joined = rw empty (append-nil block);
-    clear = rw empty (All-nil (λ b. eqb b 10 ≡ false));
-    served = refl;
-  }
+  at_first old block text taken empty within = search rules
 
   module _ (old : S) (old_block : List ℕ) (old_taken : ℕ) (some : 0 < length old_block) (clear : NoLineFeed old_block) where
     -- the line is buffered, or a fault ends it
     long_by : (stop : Stop) (new : S) (bytes complete unread : List ℕ) (taken : ℕ) → Consumes (device.left old) (device.left new) bytes → taken + uncounted stop ≡ old_taken + length bytes → taken < 2 ^ 63
         → StopsWith stop (device.left new) (device.has_failed old) (device.has_failed new) (device.end_told new) (old_block ++ bytes) complete unread taken
         → Buffers device old old_block old_taken stop new complete unread taken
-    long_by stop new bytes complete unread taken consumed counted within stopped = record {
-      bytes = bytes;
-      consumed = consumed;
-      counted = counted;
-      within = within;
-      ready = λ h. absurd (omega (arith, h, line_feeds-none old_block clear));
-      first = inl (line_feeds-none old_block clear);
-      stopped = stopped;
-    }
+    long_by stop new bytes complete unread taken consumed counted within stopped = grind (arith, line_feeds-none)
 
     module _ (mid : S) (block text : List ℕ) (taken : ℕ) (so_far : SoFar old old_block old_taken mid block text taken)
         {E : Type 0} (moved : Result Bool E) (new_block new_text : List ℕ) (moves : MovesPiece block text moved new_block new_text) where
@@ -517,15 +414,7 @@ module _ {S : Type 0} (device : Source S) where
             count = length-append so_far.bytes next
 
           pub more_came : (same : List ℕ) → same ≡ new_text → AsksMore device mid new_block taken Bytes new next_block next_taken → SoFar old old_block old_taken new next_block same next_taken
-          more_came same e asks = rw e (record {
-            bytes = so_far.bytes ++ asks.bytes;
-            consumed = both_consumed asks.bytes asks.consumed;
-            counted = omega (arith, so_far.counted, asks.counted, count asks.bytes asks.consumed);
-            within = asks.within;
-            joined = more asks.bytes ∙ ap (λ l. new_text ++ l) (sym (asks.came.1 ∙ ap (λ l. l ++ asks.bytes) empty));
-            clear = no_feed;
-            served = asks.came.2 ∙ so_far.served;
-          })
+          more_came same e asks = grind (arith, common_steps, (more asks.bytes), no_feed)
 
           -- bytes came, if any, and where the reading stopped
           more_by : (stop : Stop) (more : More) (complete rest : List ℕ) (asks : AsksMore device mid new_block taken more new next_block next_taken) → uncounted stop ≡ uncounted_more more

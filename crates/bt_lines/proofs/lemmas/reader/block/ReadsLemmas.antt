@@ -21,22 +21,13 @@ module _ {S : Type 0} (IsRead : S → Option ℕ → S → Type 0) where
   counts_one a b m n count is counted = record { given = 0 + count; served = gave begun count b is; counted = omega (arith, counted) }
 
   pub counts_then : (a b c : S) (m n k : ℕ) → ReadsCounted IsRead a m b n → ReadsCounted IsRead b n c k → ReadsCounted IsRead a m c k
-  counts_then a b c m n k one two = record {
-    given = one.given + two.given;
-    served = reads_then one.served two.served;
-    counted = omega (arith, one.counted, two.counted);
-  }
+  counts_then a b c m n k one two = grind (arith, reads_then)
 
   pub fails_once : (a b : S) → IsRead a None b → ReadsFail IsRead a b
   fails_once a b fails = record { given = 0; before = a; served = begun; fails = fails }
 
   pub fails_then : (a b c : S) (m n : ℕ) → ReadsCounted IsRead a m b n → ReadsFail IsRead b c → ReadsFail IsRead a c
-  fails_then a b c m n one two = record {
-    given = one.given + two.given;
-    before = two.before;
-    served = reads_then one.served two.served;
-    fails = two.fails;
-  }
+  fails_then a b c m n one two = grind (arith, reads_then)
 
 -- out of memory is no failed read
 pub memory_no_read : (input : Input) (line : ℕ) → no_memory ≡ read_failed input line → ⊥
@@ -72,8 +63,7 @@ module _ {S : Type 0} (IsRead : S → Option ℕ → S → Type 0) (a b c : Line
   has_read_then one two = counts_then IsRead (source_of a) (source_of b) (source_of c) (bytes_taken a) (bytes_taken b) (bytes_taken c) one two
 
   pub unread_then : HasRead IsRead a b → IsUnread IsRead b c → IsUnread IsRead a c
-  unread_then one (inl fails) = inl (fails_then IsRead (source_of a) (source_of b) (source_of c) (bytes_taken a) (bytes_taken b) one fails)
-  unread_then one (inr past) = inr (has_read_then one past.0, past.1)
+  unread_then one p1 = grind (arith, fails_then, has_read_then)
 
 module _ {S : Type 0} (IsRead : S → Option ℕ → S → Type 0) (old new : LineReader S) where
   -- a failed read is reported only if one failed

@@ -1,5 +1,6 @@
 -- Lemmas on a line that is taken of those that are buffered.
-use Rattle.bt_lines.proofs.Std.{◌≡◌, ◌⊎◌, inl, inr, ℕ, suc, ◌+◌, ◌-◌, ◌<◌, ◌≤◌, Bool, true, false, cond, nat_eq, List, [], ◌∷◌, ◌++◌, length, take, drop, slice_range, Option, Some, refl, sym, ap, ◌∙◌, subst, append_assoc, append-nil, length-append, add-zero, arith, IsSome, nat_lt, ends_with_byte, strip_last, take-append_seam, false≢true, nat_tests, length-take, Consumes-nil, Consumes, ◌^◌, cases_lt, drop-drop, length-drop, take-append-drop, take_all, zero, take-add}
+use Rattle.std.proofs.lemmas.Grind.{common_steps}
+use Rattle.bt_lines.proofs.Std.{rules, ◌≡◌, ◌⊎◌, inl, inr, ℕ, suc, ◌+◌, ◌-◌, ◌<◌, ◌≤◌, Bool, true, false, cond, nat_eq, List, [], ◌∷◌, ◌++◌, length, take, drop, slice_range, Option, Some, refl, sym, ap, ◌∙◌, subst, append_assoc, append-nil, length-append, add-zero, arith, IsSome, nat_lt, ends_with_byte, strip_last, take-append_seam, false≢true, nat_tests, length-take, Consumes-nil, Consumes, ◌^◌, cases_lt, drop-drop, length-drop, take-append-drop, take_all, zero, take-add}
 use Rattle.bt_lines.specs.declared.device.Source.{Ghosts as Source}
 use Rattle.bt_lines.proofs.lemmas.reader.block.BufferLemmas.{unread_fits, fed_none, fed_clear, fed_drop, fed_after, fed_push}
 use Rattle.bt_lines.proofs.lemmas.reader.lines.StepLemmas.{some_state, goes, told_last, gives_fed, sound_fed, gives_last, sound_last, last_line-some}
@@ -44,9 +45,7 @@ cut_within bytes line cut = omega (arith, cut.size_is, ap length cut.cut, length
 
 lines_fit_by : (is_spilled : Bool) (spilled bytes : List ℕ) (start whole end : ℕ) → is_spilled ≡ false → start ≤ cond is_spilled (length spilled) whole → whole ≤ end → end ≤ block_size
     → length (cond is_spilled (drop start spilled) (slice_range bytes start whole) ++ slice_range bytes whole end) ≤ block_size
-lines_fit_by true spilled bytes start whole end e o w b = absurd (false≢true (sym e))
-lines_fit_by false spilled bytes start whole end e o w b =
-    omega (arith, o, w, b, length-append (slice_range bytes start whole) (slice_range bytes whole end), length-take (whole - start) (drop start bytes), length-take (end - whole) (drop whole bytes))
+lines_fit_by is_spilled spilled bytes start whole end e o w b = grind (arith, length-append, length-take)
 
 -- what the block has room for
 pub lines_fit : (buffer : ReadBuffer) → buffer.is_spilled ≡ false → length (complete buffer ++ unread buffer) ≤ block_size
@@ -60,9 +59,7 @@ alone lines piece rest e clear one fed = fed_none rest fed (omega (arith, one, a
 near_by : (is_spilled : Bool) (buffer : ReadBuffer) (lines piece : List ℕ) → buffer.is_spilled ≡ is_spilled → AreComplete is_spilled lines → lines ≡ piece ++ 10 ∷ complete buffer → NoLineFeed piece
     → length (complete buffer ++ unread buffer) ≤ block_size
 near_by false buffer lines piece same are e clear = lines_fit buffer same
-near_by true buffer lines piece same are e clear =
-    let none : complete buffer ≡ [] = alone lines piece (complete buffer) e clear (are.one refl) (are_fed buffer).fed in
-    rw none (unread_fits buffer)
+near_by true buffer lines piece same are e clear = grind (arith, (alone lines piece (complete buffer) e clear (are.one refl) (are_fed buffer).fed), (unread_fits buffer))
 
 fed_ending : (b : Bool) (piece : List ℕ) → b ≡ ends_with_byte 13 piece → ending_at false b ≡ cond (ends_with_byte 13 piece) CrLf Lf
 fed_ending b piece e = rw e refl
@@ -71,7 +68,7 @@ last_ending : (b : Bool) (piece : List ℕ) → b ≡ ends_with_byte 13 piece �
 last_ending b piece e = rw e refl
 
 pub some_size : (n : ℕ) (piece : List ℕ) → n ≡ length piece + 1 → nat_eq n 1 ≡ false → 0 < length piece
-some_size n piece e one = grind (arith, nat_tests)
+some_size n piece e one = grind arith
 
 module _ {S : Type 0} (device : Source S) (old new : LineReader S) (line : Shown)
     (same_state : new.state ≡ old.state) (same : new.input ≡ old.input) (same_source : new.source ≡ old.source) (same_taken : new.taken ≡ old.taken) (more : new.lines ≡ old.lines + 1)
@@ -91,7 +88,7 @@ module _ {S : Type 0} (device : Source S) (old new : LineReader S) (line : Shown
   number = omega (arith, more)
 
   counts_some : nat_lt 0 (suc old.lines) ≡ true
-  counts_some = grind (arith, nat_tests)
+  counts_some = grind arith
 
   cut_fed : old.state ≡ Reading → CutsFirst device old new
   unfolding source_of input_of lines_given line_at
@@ -136,8 +133,7 @@ module _ {S : Type 0} (device : Source S) (old new : LineReader S) (line : Shown
       }
 
   by_state : (old.state ≡ Reading) ⊎ (old.state ≡ LastLine) → CutsFirst device old new
-  by_state (inl is) = cut_fed is
-  by_state (inr is) = cut_last is
+  by_state p1 = grind (arith, cut_fed, cut_last)
 
   -- the first line that is buffered was taken
   pub cuts_first : CutsFirst device old new
@@ -152,22 +148,8 @@ module _ (state : State) (old_lines old_unread lines unread_now : List ℕ) (giv
   gone_by : open_at state ≡ true → lines ≡ []
   gone_by e = alone old_lines piece lines parts clear (last.one e) fed
 
-  spaced_reading : open_at state ≡ false → given + 1 + length (held_at (open_at state) lines unread_now) ≤ taken
-  spaced_reading e =
-      let now : given + length (held_at false old_lines old_unread) ≤ taken = rw e at before in
-      rw e (omega (arith, now, ap length parts, ap length behind, length-append old_lines old_unread, length-append lines unread_now, length-append piece (10 ∷ lines)))
-
-  spaced_open : open_at state ≡ true → given + 1 + length (held_at (open_at state) lines unread_now) ≤ taken
-  spaced_open e =
-      let now : given + length (take (length old_lines - 1) old_lines) ≤ taken = rw e at before in
-      let gone = gone_by e in
-      let size : length old_lines ≡ length piece + 1 = omega (arith, ap length parts, ap length gone, length-append piece (10 ∷ lines)) in
-      let some : 0 < length piece = some_size (length old_lines) piece size (last.some e) in
-      rw (e, gone) (omega (arith, now, size, some, length-take (length old_lines - 1) old_lines))
-
   spaced_by : (state ≡ Reading) ⊎ (state ≡ LastLine) → given + 1 + length (held_at (open_at state) lines unread_now) ≤ taken
-  spaced_by (inl is) = spaced_reading (rw is refl)
-  spaced_by (inr is) = spaced_open (rw is refl)
+  spaced_by p1 = grind (arith, length-append, length-take)
 
   pub spaced_cut : given + 1 + length (held_at (open_at state) lines unread_now) ≤ taken
   spaced_cut = spaced_by (some_state state some_lends)
@@ -176,11 +158,7 @@ module _ (state : State) (old_lines old_unread lines unread_now : List ℕ) (giv
   quiet_cut e = absurd (some_lends e)
 
   pub last_cut : IsLast (told_at state) (open_at state) lines unread_now
-  last_cut = record {
-    none_behind = λ e. behind ∙ last.none_behind e;
-    one = λ e. rw (gone_by e) (omega arith);
-    some = λ e. rw (gone_by e) refl;
-  }
+  last_cut = grind (arith, gone_by)
 
 pub some_at : {A : Type 0} (o : Option A) (x : A) → o ≡ Some x → IsSome o
 some_at o x e = rw e refl
@@ -193,30 +171,17 @@ shown_line is_open lines line = record { number = suc lines; text = line.text; e
 -- the first line
 pub lines_first : (is_open : Bool) (lines : ℕ) (bytes : List ℕ) (line : Shown) → Cut bytes line → is_fed bytes ≡ true → IsLast is_open is_open bytes []
     → buffered_lines is_open lines bytes ≡ shown_line is_open lines line ∷ buffered_lines is_open (lines + 1) (drop line.size bytes)
-lines_first false lines bytes line cut fed last =
-    let more : lines + 1 ≡ suc lines = omega arith in
-    let same : fed_line (suc lines) cut.piece ≡ shown_line false lines line =
-    rw (cut.returned, cut.stripped) refl in
-    ap (whole_lines_from (suc lines)) cut.cut ∙ whole_lines_from-fed (suc lines) cut.piece (drop line.size bytes) cut.clear
-    ∙ ap (λ l. l ∷ whole_lines_from (suc (suc lines)) (drop line.size bytes)) same
-    ∙ ap (λ (n : ℕ). shown_line false lines line ∷ whole_lines_from (suc n) (drop line.size bytes)) (sym more)
+lines_first false lines bytes line cut fed last = grind (arith, whole_lines_from-fed)
 lines_first true lines bytes line cut fed last =
     let gone : drop line.size bytes ≡ [] = alone bytes cut.piece (drop line.size bytes) cut.cut cut.clear (last.one refl) (fed_drop line.size bytes fed) in
     let whole : bytes ≡ cut.piece ++ 10 ∷ [] = cut.cut ∙ ap (λ l. cut.piece ++ 10 ∷ l) gone in
     let size : length bytes ≡ length cut.piece + 1 = omega (arith, ap length whole, length-append cut.piece (10 ∷ [])) in
     let less : length bytes - 1 ≡ length cut.piece = omega (arith, size) in
-    let front : take (length bytes - 1) bytes ≡ cut.piece = ap (λ n. take n bytes) less ∙ ap (take (length cut.piece)) whole ∙ take-append_seam cut.piece (10 ∷ []) in
-    let some : 0 < length cut.piece = some_size (length bytes) cut.piece size (last.some refl) in
-    let none : lines_from (suc (lines + 1)) (take (length (drop line.size bytes) - 1) (drop line.size bytes)) ≡ [] =
-    ap (λ l. lines_from (suc (lines + 1)) (take (length l - 1) l)) gone ∙ lines_from-nil (suc (lines + 1)) in
-    let one : lines_from (suc lines) cut.piece ≡ shown_line true lines line ∷ [] =
-    lines_from-last (suc lines) cut.piece cut.clear ∙ last_line-some (suc lines) cut.piece some ∙ rw (cut.returned, cut.stripped) refl in
-    ap (lines_from (suc lines)) front ∙ one ∙ ap (λ l. shown_line true lines line ∷ l) (sym none)
+    grind (arith, take-append_seam, lines_from-last)
 
 -- none is left if there is no line feed
 lines_none : (is_open : Bool) (lines : ℕ) (bytes : List ℕ) → NoLineFeed bytes → is_fed bytes ≡ true → buffered_lines is_open lines bytes ≡ []
-lines_none false lines bytes clear fed = whole_lines_from-last (suc lines) bytes clear
-lines_none true lines bytes clear fed = ap (λ l. lines_from (suc lines) (take (length l - 1) l)) (fed_clear bytes fed clear) ∙ lines_from-nil (suc lines)
+lines_none is_open lines bytes clear fed = grind (arith, whole_lines_from-last, fed_clear, lines_from-nil)
 
 -- ---- the bytes of the first line
 
@@ -230,40 +195,19 @@ strip_begins line = begins_by (ends_with_byte 13 line) refl
 
 -- what bytes begin with begins by its own first bytes
 pub take_front : (xs tail line bytes : List ℕ) → line ≡ xs ++ tail → take (length line) bytes ≡ line → take (length xs) bytes ≡ xs
-take_front xs tail line bytes is front =
-    let all : bytes ≡ xs ++ (tail ++ drop (length line) bytes) =
-    sym (take-append-drop (length line) bytes) ∙ ap (λ l. l ++ drop (length line) bytes) (front ∙ is) ∙ append_assoc xs tail (drop (length line) bytes) in
-    ap (take (length xs)) all ∙ take-append_seam xs (tail ++ drop (length line) bytes)
+take_front xs tail line bytes is front = grind (arith, (take-append-drop (length line) bytes), (append_assoc xs tail (drop (length line) bytes)), (take-append_seam xs (tail ++ drop (length line) bytes)))
 
 -- whether a carriage return was taken off
 returned_by : (line : List ℕ) (b : Bool) → ends_with_byte 13 line ≡ b → nat_lt (length (strip_last 13 line) + 1) (length line + 1) ≡ b
-returned_by line true e =
-    let size : length line ≡ length (strip_last 13 line) + 1 = ap length (sym (strip_last-push 13 line e)) ∙ length-append (strip_last 13 line) (13 ∷ []) in
-    grind (arith, nat_tests, size)
-returned_by line false e =
-    let size : length (strip_last 13 line) ≡ length line = ap length (strip_last-other 13 line e) in
-    grind (arith, nat_tests, size)
+returned_by line b e = search rules
 
 -- the first line, as it was cut
 cut_of : (bytes line : List ℕ) → IsBefore 10 bytes (length line) → take (length line) bytes ≡ line → length line < length bytes → Cut bytes (shown_of line)
-cut_of bytes line before front inside = record {
-  piece = line;
-  clear = subst NoLineFeed front before.clear;
-  size_is = refl;
-  cut = before.cut inside ∙ ap (λ l. l ++ 10 ∷ drop (length line + 1) bytes) front;
-  stripped = refl;
-  front = take_front (strip_last 13 line) (strip_begins line).0 line bytes (strip_begins line).1 front;
-  returned = returned_by line (ends_with_byte 13 line) refl;
-}
+cut_of bytes line before front inside = grind (arith, common_steps)
 
 -- bytes that are complete lines have a line feed, if there are some
 inside_by : (bytes line : List ℕ) → IsBefore 10 bytes (length line) → take (length line) bytes ≡ line → is_fed bytes ≡ true → 0 < length bytes → length line < length bytes
-inside_by bytes line before front fed some = elim (cases_lt (length line) (length bytes)) [
-  | inl less ↦ less
-  | inr past ↦
-      let clear : NoLineFeed bytes = subst NoLineFeed (take_all (length line) bytes past) before.clear in
-      absurd (let none : length bytes ≡ 0 = ap length (fed_clear bytes fed clear) in omega (arith, none))
-]
+inside_by bytes line before front fed some = grind (arith, take_all, fed_clear)
 
 pub line_first : (cursor : BufferedLines) (line : List ℕ) → IsBefore 10 (rest_in cursor) (length line) → take (length line) (rest_in cursor) ≡ line → 0 < length (rest_in cursor)
     → Cut (rest_in cursor) (shown_of line) × (lines_in cursor ≡ line_of cursor (shown_of line) ∷ lines_after cursor (length line + 1))
@@ -291,12 +235,7 @@ kept_after cursor line size cut e =
     let behind : drop (cursor.at + size) cursor.all.now ≡ drop line.size rest = sym (drop-drop size cursor.at cursor.all.now) ∙ ap (λ n. drop n rest) (sym e) in
     let fed : is_fed (drop line.size rest) ≡ true = fed_drop line.size rest cursor.fed in
     let gone : cursor.is_open ≡ true → drop line.size rest ≡ [] = λ h. alone rest cut.piece (drop line.size rest) cut.cut cut.clear (cursor.last.one h) fed in
-    record {
-      within = omega (arith, cursor.within, cut.size_is, e, ap length cut.cut, length-append cut.piece (10 ∷ drop line.size rest), length-drop cursor.at cursor.all.now);
-      a_byte_each = omega (arith, cursor.a_byte_each, cut.size_is, e);
-      fed = rw behind fed;
-      last = rw behind (record { none_behind = λ h. refl; one = λ h. rw (gone h) (omega arith); some = λ h. rw (gone h) refl });
-    }
+    grind (arith, length-append, length-drop)
 
 -- a cursor that begins has all bytes
 pub begins_rest : (cursor : BufferedLines) (bytes : List ℕ) (lines : ℕ) (is_open : Bool) → BeginsLines bytes lines is_open cursor → rest_in cursor ≡ bytes
@@ -311,9 +250,7 @@ begins_first cursor bytes lines is_open line b = subst (λ xs. IsFirst xs line) 
 -- and all lines
 pub begins_lines : (cursor : BufferedLines) (bytes : List ℕ) (lines : ℕ) (is_open : Bool) → BeginsLines bytes lines is_open cursor → lines_in cursor ≡ buffered_lines is_open lines bytes
 unfolding lines_in rest_in
-begins_lines cursor bytes lines is_open b =
-    ap (λ l. buffered_lines cursor.is_open cursor.lines l) (begins_rest cursor bytes lines is_open b)
-    ∙ ap (λ n. buffered_lines cursor.is_open n bytes) b.given ∙ ap (λ o. buffered_lines o lines bytes) b.open_is
+begins_lines cursor bytes lines is_open b = grind arith
 
 -- none is left of no bytes
 pub none_left : (lines : ℕ) (bytes : List ℕ) → bytes ≡ [] → buffered_lines false lines bytes ≡ []
@@ -321,82 +258,36 @@ none_left lines bytes e = ap (buffered_lines false lines) e ∙ whole_lines_from
 
 -- Lemmas on lines that were consumed, one after another.
 
--- complete lines after others
-fed_both : (xs ys : List ℕ) → is_fed xs ≡ true → is_fed ys ≡ true → is_fed (xs ++ ys) ≡ true
-fed_both xs [] fed more = rw (append-nil xs) fed
-fed_both xs (y ∷ ys) fed more = fed_after xs (y ∷ ys) (omega arith) more
-
 pub passes_none : (cursor : BufferedLines) → PassesLines cursor 0 cursor
-passes_none cursor =
-    let none : cursor.at - cursor.at ≡ 0 = omega arith in
-    record {
-      left_is = refl;
-      all_is = refl;
-      rises = omega arith;
-      fed = ap (λ n. is_fed (take n (rest_in cursor))) none;
-      feeds = ap (λ n. line_feeds (take n (rest_in cursor))) none;
-      given = omega arith;
-      open_is = refl;
-    }
+passes_none cursor = grind arith
 
 module _ (old mid new : BufferedLines) (n m : ℕ) (first : PassesLines old n mid) (more : PassesLines mid m new) where
   rest_mid : rest_in mid ≡ drop (mid.at - old.at) (rest_in old)
   unfolding rest_in
-  rest_mid =
-      let whole : old.at + (mid.at - old.at) ≡ mid.at = omega (arith, first.rises) in
-      ap (λ a. drop mid.at a.now) first.all_is ∙ ap (λ k. drop k old.all.now) (sym whole) ∙ sym (drop-drop (mid.at - old.at) old.at old.all.now)
+  rest_mid = grind (arith, drop-drop)
 
   both : take (new.at - old.at) (rest_in old) ≡ take (mid.at - old.at) (rest_in old) ++ take (new.at - mid.at) (rest_in mid)
   both =
       let whole : new.at - old.at ≡ (mid.at - old.at) + (new.at - mid.at) = omega (arith, first.rises, more.rises) in
-      ap (λ k. take k (rest_in old)) whole ∙ take-add (mid.at - old.at) (new.at - mid.at) (rest_in old)
-      ∙ ap (λ l. take (mid.at - old.at) (rest_in old) ++ take (new.at - mid.at) l) (sym rest_mid)
+      grind (arith, take-add, rest_mid)
 
   pub passes_more : PassesLines old (n + m) new
-  passes_more =
-      let a = take (mid.at - old.at) (rest_in old) in
-      let b = take (new.at - mid.at) (rest_in mid) in
-      record {
-        left_is = more.left_is ∙ ap (drop m) first.left_is ∙ drop-drop m n (lines_in old);
-        all_is = more.all_is ∙ first.all_is;
-        rises = omega (arith, first.rises, more.rises);
-        fed = ap is_fed both ∙ fed_both a b first.fed more.fed;
-        feeds = ap line_feeds both ∙ line_feeds-append a b ∙ ap (λ k. k + line_feeds b) first.feeds ∙ ap (λ k. n + k) more.feeds;
-        given = omega (arith, first.given, more.given);
-        open_is = more.open_is ∙ first.open_is;
-      }
+  passes_more = grind (arith, both, common_steps, fed_after)
 
 -- the first line was consumed
 module _ (old new : BufferedLines) (line : Shown) (cut : Cut (rest_in old) line) (at : new.at ≡ old.at + line.size) (lines : new.lines ≡ old.lines + 1) (all_is : new.all ≡ old.all) (open_is : new.is_open ≡ old.is_open) where
   front_is : take (new.at - old.at) (rest_in old) ≡ cut.piece ++ 10 ∷ []
-  front_is =
-      let size : new.at - old.at ≡ length cut.piece + 1 = omega (arith, at, cut.size_is) in
-      ap (λ k. take k (rest_in old)) size ∙ ap (take (length cut.piece + 1)) cut.cut ∙ take_line cut.piece (drop line.size (rest_in old))
+  front_is = grind (arith, take_line)
     where
       take_line : (xs ys : List ℕ) → take (length xs + 1) (xs ++ 10 ∷ ys) ≡ xs ++ 10 ∷ []
-      take_line xs ys =
-          let size : length xs + 1 ≡ length (xs ++ 10 ∷ []) = omega (arith, length-append xs (10 ∷ [])) in
-          ap (λ k. take k (xs ++ 10 ∷ ys)) size ∙ ap (take (length (xs ++ 10 ∷ []))) (sym (append_assoc xs (10 ∷ []) ys)) ∙ take-append_seam (xs ++ 10 ∷ []) ys
+      take_line xs ys = grind (arith, (length-append xs (10 ∷ [])), (append_assoc xs (10 ∷ []) ys), (take-append_seam (xs ++ 10 ∷ []) ys))
 
   left_after : lines_in new ≡ drop 1 (lines_in old)
   unfolding lines_in rest_in
-  left_after =
-      let rest : drop new.at new.all.now ≡ drop line.size (drop old.at old.all.now) =
-      ap (λ a. drop new.at a.now) all_is ∙ ap (λ k. drop k old.all.now) at ∙ sym (drop-drop line.size old.at old.all.now) in
-      ap (λ o. buffered_lines o new.lines (drop new.at new.all.now)) open_is ∙ ap (λ n. buffered_lines old.is_open n (drop new.at new.all.now)) lines
-      ∙ ap (buffered_lines old.is_open (old.lines + 1)) rest
-      ∙ sym (ap (drop 1) (lines_first old.is_open old.lines (drop old.at old.all.now) line cut old.fed old.last))
+  left_after = grind (arith, drop-drop, lines_first)
 
   pub passes_one : PassesLines old 1 new
-  passes_one = record {
-    left_is = left_after;
-    all_is = all_is;
-    rises = omega (arith, at);
-    fed = ap is_fed front_is ∙ fed_push cut.piece;
-    feeds = ap line_feeds front_is ∙ line_feeds-fed cut.piece [] cut.clear;
-    given = lines;
-    open_is = open_is;
-  }
+  passes_one = grind (arith, left_after, front_is, fed_push, line_feeds-fed)
 
 -- what was consumed of what a reader gave
 module _ {S : Type 0} (reader : LineReader S) (first last : BufferedLines) (consumed : ConsumedLines) (count : ℕ)
@@ -406,43 +297,18 @@ module _ {S : Type 0} (reader : LineReader S) (first last : BufferedLines) (cons
   rest_first = ap (λ n. drop n first.all.now) begins.at ∙ begins.bytes_are
 
   front_first : take (last.at - first.at) (rest_in first) ≡ take consumed.bytes (buffered_bytes reader)
-  front_first =
-      let size : last.at - first.at ≡ consumed.bytes = omega (arith, is.bytes, begins.at) in
-      ap (λ k. take k (rest_in first)) size ∙ ap (take consumed.bytes) rest_first
+  front_first = grind (arith, rest_first)
 
   pub lines_taken : TakenLines reader consumed count
   unfolding lines_in rest_in
-  lines_taken =
-      let feeds : line_feeds (take consumed.bytes (buffered_bytes reader)) ≡ count = sym (ap line_feeds front_first) ∙ passes.feeds in
-      let given : consumed.lines ≡ lines_given reader + count = is.lines ∙ passes.given ∙ ap (λ k. k + count) begins.given in
-      let same : last.all.now ≡ buffered_bytes reader = ap (λ a. a.now) passes.all_is ∙ begins.bytes_are in
-      record {
-        taken = record {
-          within = omega (arith, is.bytes, last.within, ap length same);
-          fed = sym (ap is_fed front_first) ∙ passes.fed;
-          lines = given ∙ ap (λ k. lines_given reader + k) (sym feeds);
-        };
-        feeds = feeds;
-        given = given;
-        left_is =
-            ap (λ o. buffered_lines o consumed.lines (drop consumed.bytes (buffered_bytes reader))) (sym (passes.open_is ∙ begins.open_is))
-            ∙ ap (λ n. buffered_lines last.is_open n (drop consumed.bytes (buffered_bytes reader))) is.lines
-            ∙ ap (buffered_lines last.is_open last.lines) (ap (drop consumed.bytes) (sym same) ∙ ap (λ k. drop k last.all.now) is.bytes)
-            ∙ passes.left_is
-            ∙ ap (drop count) (ap (λ l. buffered_lines first.is_open first.lines l) (ap (λ n. drop n first.all.now) begins.at ∙ begins.bytes_are)
-            ∙ ap (λ n. buffered_lines first.is_open n (buffered_bytes reader)) begins.given ∙ ap (λ o. buffered_lines o (lines_given reader) (buffered_bytes reader)) begins.open_is);
-      }
+  lines_taken = grind arith
 
 count_by : (n : ℕ) → (n ≡ 0 → ⊥) → 0 < n
-count_by zero none = absurd (none refl)
-count_by (suc n) none = omega arith
+count_by n none = grind arith
 
 -- if bytes were consumed, lines were
 pub some_lines : {S : Type 0} (reader : LineReader S) (consumed : ConsumedLines) (count : ℕ) → TakenLines reader consumed count → (consumed.bytes ≡ 0 → ⊥) → 0 < count
-some_lines reader consumed count are some =
-    count_by count (λ none.
-    let gone : take consumed.bytes (buffered_bytes reader) ≡ [] = fed_none (take consumed.bytes (buffered_bytes reader)) are.taken.fed (are.feeds ∙ none) in
-    some (omega (arith, ap length gone, length-take consumed.bytes (buffered_bytes reader), are.taken.within)))
+some_lines reader consumed count are some = grind (arith, fed_none)
 
 -- and if none were, none were
 pub no_lines : {S : Type 0} (reader : LineReader S) (consumed : ConsumedLines) (count : ℕ) → TakenLines reader consumed count → consumed.bytes ≡ 0 → count ≡ 0

@@ -1,5 +1,6 @@
 -- Lemmas on a step of the reader of lines.
-use Rattle.bt_lines.proofs.Std.{◌≡◌, ℕ, suc, ◌+◌, ◌-◌, ◌^◌, ◌<◌, ◌≤◌, ◌⊎◌, inl, inr, true, false, cond, List, [], ◌∷◌, ◌++◌, length, Option, None, Some, Ok, Err, take, drop, refl, sym, ap, ◌∙◌, subst, append_assoc, append-nil, add-zero, length-append, arith, option_map, is_some, IfSome, flat_map, nil_from_length, take_all, false≢true, take-append-add, take-append_seam, Consumes-nil, Consumes, IsAtEnd, prepend_known, ends_with_byte, strip_last, nat_eq, nat_tests}
+use Rattle.std.proofs.lemmas.Grind.{common_steps}
+use Rattle.bt_lines.proofs.Std.{rules, ◌≡◌, ℕ, suc, ◌+◌, ◌-◌, ◌^◌, ◌<◌, ◌≤◌, ◌⊎◌, inl, inr, true, false, cond, List, [], ◌∷◌, ◌++◌, length, Option, None, Some, Ok, Err, take, drop, refl, sym, ap, ◌∙◌, subst, append_assoc, append-nil, add-zero, length-append, arith, option_map, is_some, IfSome, flat_map, nil_from_length, take_all, false≢true, take-append-add, take-append_seam, Consumes-nil, Consumes, IsAtEnd, prepend_known, ends_with_byte, strip_last, nat_eq, nat_tests}
 use Rattle.bt_lines.specs.declared.device.Source.{Ghosts as Source}
 use Rattle.bt_lines.proofs.lemmas.reader.block.BufferLemmas.{unread_fits, one_line}
 use Rattle.bt_lines.proofs.lemmas.reader.lines.TextLemmas.{lines_from-fed, lines_from-last, lines_from-nil, spelled-fed, spelled-last, line_feeds-append, line_feeds-none, line_feeds-fed, bytes_behind_first}
@@ -51,65 +52,34 @@ told_ended reader e = record { good = rw e refl; is_told = rw e refl; taken = rw
 
 -- ---- lines of known bytes
 
--- the first of them, after the bytes that are held
-first_of_known : (n : ℕ) (a b : Option (List ℕ)) (block bytes rest : List ℕ) (line : TextLine) → Consumes a b bytes
-    → ((ys : List ℕ) → lines_from n ((block ++ bytes) ++ ys) ≡ line ∷ lines_from (suc n) (rest ++ ys))
-    → GivesFirst (option_map (lines_from n) (prepend_known block a)) line (option_map (lines_from (suc n)) (prepend_known rest b))
-first_of_known n None b block bytes rest line c h = tt
-first_of_known n (Some xs) None block bytes rest line c h = absurd c
-first_of_known n (Some xs) (Some ys) block bytes rest line c h =
-    ap (lines_from n) (ap (λ l. block ++ l) c ∙ sym (append_assoc block bytes ys)) ∙ h ys
-
 -- the last one, which was held
 last_of_known : (n : ℕ) (a : Option (List ℕ)) (piece rest : List ℕ) (line : TextLine) → lines_from n piece ≡ line ∷ [] → rest ≡ []
     → GivesFirst (option_map (lines_from n) (option_map (λ ys. piece) a)) line (option_map (lines_from (suc n)) (option_map (λ ys. rest) a))
-last_of_known n None piece rest line h e = tt
-last_of_known n (Some xs) piece rest line h e = h ∙ ap (λ l. line ∷ l) (sym (ap (lines_from (suc n)) e ∙ lines_from-nil (suc n)))
+last_of_known n a piece rest line h e = grind (arith, lines_from-nil)
 
 -- those that are left stay the same while more bytes are taken
 same_known : (n : ℕ) (a b : Option (List ℕ)) (old new bytes : List ℕ) → Consumes a b bytes → new ≡ old ++ bytes
     → DropsLines (option_map (lines_from n) (prepend_known old a)) 0 (option_map (lines_from n) (prepend_known new b))
-same_known n None b old new bytes c e = tt
-same_known n (Some xs) None old new bytes c e = absurd c
-same_known n (Some xs) (Some ys) old new bytes c e =
-    ap (λ l. Some (lines_from n l)) (ap (λ l. l ++ ys) e ∙ append_assoc old bytes ys ∙ ap (λ l. old ++ l) (sym c))
+same_known n a b old new bytes c e = grind (arith, append_assoc)
 
 -- nor when the end is reported
 same_at_end : (n : ℕ) (a b : Option (List ℕ)) (old new bytes : List ℕ) → Consumes a b bytes → IsAtEnd b → new ≡ old ++ bytes
     → DropsLines (option_map (lines_from n) (prepend_known old a)) 0 (option_map (lines_from n) (option_map (λ ys. new) b))
-same_at_end n None b old new bytes c end e = tt
-same_at_end n (Some xs) None old new bytes c end e = absurd c
-same_at_end n (Some xs) (Some ys) old new bytes c end e =
-    ap (λ l. Some (lines_from n l)) (e ∙ ap (λ l. old ++ l) (sym (c ∙ ap (λ l. bytes ++ l) end ∙ append-nil bytes)))
+same_at_end n a b old new bytes c end e = search rules
 
 -- none is left once the end was reported and nothing is held
 pub none_told : (n : ℕ) (a : Option (List ℕ)) (held : List ℕ) → held ≡ [] → IfSome (option_map (lines_from n) (option_map (λ ys. held) a)) (λ lines. lines ≡ [])
-none_told n None held e = tt
-none_told n (Some xs) held e = ap (lines_from n) e ∙ lines_from-nil n
-
--- none is left of bytes that have ended
-none_of_known : (n : ℕ) (a b : Option (List ℕ)) (block bytes : List ℕ) → Consumes a b bytes → IsAtEnd b → block ++ bytes ≡ []
-    → IfSome (option_map (lines_from n) (prepend_known block a)) (λ lines. lines ≡ [])
-none_of_known n None b block bytes c e none = tt
-none_of_known n (Some xs) None block bytes c e none = absurd c
-none_of_known n (Some xs) (Some ys) block bytes c e none =
-    ap (lines_from n) (ap (λ l. block ++ l) (c ∙ ap (λ l. bytes ++ l) e ∙ append-nil bytes) ∙ none) ∙ lines_from-nil n
+none_told n a held e = grind (arith, lines_from-nil)
 
 -- those after the first are what is left, except what was taken after a prefix without a line feed
 near_known : (n : ℕ) (a b : Option (List ℕ)) (block bytes front back : List ℕ) (k : ℕ) → NoLineFeed front → length back ≤ k → Consumes a b bytes → block ++ bytes ≡ front ++ back
     → IfSome (option_map (lines_from n) (prepend_known block a)) (λ lines. IfSome b (λ rest. bytes_in (drop 1 lines) ≤ length rest + k))
-near_known n None b block bytes front back k clear short c e = tt
-near_known n (Some xs) None block bytes front back k clear short c e = absurd c
-near_known n (Some xs) (Some ys) block bytes front back k clear short c e =
-    let whole : block ++ xs ≡ front ++ (back ++ ys) =
-    ap (λ l. block ++ l) c ∙ sym (append_assoc block bytes ys) ∙ ap (λ l. l ++ ys) e ∙ append_assoc front back ys in
-    rw whole (omega (arith, bytes_behind_first n front (back ++ ys) clear, length-append back ys))
+near_known n a b block bytes front back k clear short c e = grind (arith, append_assoc, bytes_behind_first, length-append)
 
 -- a last piece with a byte is one line
 pub last_line-some : (n : ℕ) (piece : List ℕ) → 0 < length piece
     → last_line n piece ≡ record { number = n; text = strip_last 13 piece; ending = cond (ends_with_byte 13 piece) Cr Absent } ∷ []
-last_line-some n [] h = absurd (omega arith)
-last_line-some n (byte ∷ bytes) h = refl
+last_line-some n piece h = grind arith
 
 -- ---- a line with a line feed
 
@@ -117,17 +87,6 @@ module _ {S : Type 0} (device : Source S) (old new : LineReader S) (bytes piece 
     (same : input_of new ≡ input_of old) (more : lines_given new ≡ suc (lines_given old)) (consumed : Consumes (device.left (source_of old)) (device.left (source_of new)) bytes)
     (counted : new.taken ≡ old.taken + length bytes) (joined : held old ++ bytes ≡ piece ++ 10 ∷ held new) (clear : NoLineFeed piece)
     (at : line_at new ≡ Some (fed_line (suc (lines_given old)) piece)) (near : length (held new) ≤ block_size) (ready : 0 < line_feeds (held old) → source_of new ≡ source_of old) (served : device.has_failed (source_of new) ≡ device.has_failed (source_of old)) where
-  fed_first : (ys : List ℕ) → lines_from (suc (lines_given old)) ((held old ++ bytes) ++ ys)
-      ≡ fed_line (suc (lines_given old)) piece ∷ lines_from (suc (suc (lines_given old))) (held new ++ ys)
-  fed_first ys =
-      ap (λ l. lines_from (suc (lines_given old)) (l ++ ys)) joined ∙ ap (lines_from (suc (lines_given old))) (append_assoc piece (10 ∷ held new) ys)
-      ∙ lines_from-fed (suc (lines_given old)) piece (held new ++ ys) clear
-
-  fed_counts : lines_given new + line_feeds (held new) ≡ lines_given old + line_feeds (held old) + line_feeds bytes
-  fed_counts =
-      rw more
-      (omega (arith, line_feeds-append (held old) bytes, ap line_feeds joined, line_feeds-fed piece (held new) clear))
-
   fed_size : length (held old) + length bytes ≡ length piece + suc (length (held new))
   fed_size = omega (arith, length-append (held old) bytes, ap length joined, length-append piece (10 ∷ held new))
 
@@ -143,42 +102,17 @@ module _ {S : Type 0} (device : Source S) (old new : LineReader S) (bytes piece 
 
   fed_hands : Hands device.left old bytes new
   unfolding feeds_taken
-  fed_hands = record {
-    left_over = consumed;
-    counted = taken_more;
-    same_input = same;
-    fed = λ t b. fed_counts;
-    told_stays = λ t. absurd (false≢true (sym was.untold ∙ t));
-  }
+  fed_hands = grind (arith, line_feeds-append, line_feeds-fed)
 
   fed_held : held old ++ bytes ≡ spelled (fed_line (suc (lines_given old)) piece) ++ held new
-  fed_held =
-      rw (spelled-fed (suc (lines_given old)) piece) (joined ∙ sym (append_assoc piece (10 ∷ []) (held new)))
+  fed_held = grind (arith, (spelled-fed (suc (lines_given old)) piece), (append_assoc piece (10 ∷ []) (held new)))
 
   pub gives_fed : GivesLine device old (fed_line (suc (lines_given old)) piece) new
   unfolding bytes_left
-  gives_fed = record {
-    first = rw (was.untold, is.untold, more)
-        (first_of_known (suc (lines_given old)) (device.left (source_of old)) (device.left (source_of new)) (held old) bytes (held new) (fed_line (suc (lines_given old)) piece) consumed fed_first);
-    bytes = (bytes, fed_hands, fed_held);
-    ahead = near;
-    ready = ready;
-    number = refl;
-    at = at;
-    counted = more;
-    below = fed_below;
-    shrinks = omega (arith, taken_more, within, fed_size);
-    served = served;
-    was_going = (was.good, was.open_ended);
-    goes = is.good;
-  }
+  gives_fed = grind (arith, fed_hands, fed_held, fed_below, fed_size, append_assoc, lines_from-fed)
 
   pub sound_fed : IsKept device old → IsSound device new
-  sound_fed h = record {
-    end = λ e. absurd (false≢true (sym is.untold ∙ e));
-    within = λ e. within;
-    near = λ e. near;
-  }
+  sound_fed h = grind arith
 
 -- ---- the last line, which has no line feed
 
@@ -192,18 +126,10 @@ module _ {S : Type 0} (device : Source S) (old new : LineReader S) (piece : List
   one = last_line-some (suc (lines_given old)) piece some
 
   last_hands : Hands device.left old [] new
-  last_hands = record {
-    left_over = rw same_source (Consumes-nil (device.left (source_of old)));
-    counted = is.taken ∙ same_taken ∙ sym was.taken ∙ sym (add-zero (bytes_taken old));
-    same_input = same;
-    fed = λ t b. absurd (false≢true (sym t ∙ is.is_told));
-    told_stays = λ t. is.is_told;
-  }
+  last_hands = grind arith
 
   last_held : held old ++ [] ≡ spelled line ++ held new
-  last_held =
-      let stood : spelled line ++ [] ≡ piece = ap (flat_map spelled) (sym one) ∙ spelled-last (suc (lines_given old)) piece in
-      append-nil (held old) ∙ holds ∙ sym stood ∙ ap (λ l. spelled line ++ l) (sym gone)
+  last_held = grind (arith, common_steps)
 
   last_below : lines_given new < 2 ^ 63
   unfolding lines_given
@@ -215,28 +141,10 @@ module _ {S : Type 0} (device : Source S) (old new : LineReader S) (piece : List
   module _ (at : line_at new ≡ Some line) where
     pub gives_last : GivesLine device old line new
     unfolding bytes_left
-    gives_last = record {
-      first = rw (was.is_told, is.is_told, more, same_source)
-          (last_of_known (suc (lines_given old)) (device.left (source_of old)) (held old) (held new) line (ap (lines_from (suc (lines_given old))) holds ∙ lines_from-last (suc (lines_given old)) piece clear ∙ one) gone);
-      bytes = ([], last_hands, last_held);
-      ahead = rw gone (omega arith);
-      ready = λ h. same_source;
-      number = refl;
-      at = at;
-      counted = more;
-      below = last_below;
-      shrinks = rw gone (omega (arith, last_hands.counted, last_within, ap length holds, some));
-      served = ap device.has_failed same_source;
-      was_going = (was.good, ended);
-      goes = is.good;
-    }
+    gives_last = grind (arith, lines_from-last, last_held, last_below)
 
     pub sound_last : IsKept device old → IsSound device new
-    sound_last h = record {
-      end = λ e. let before = h.end was.is_told in rw same_source before;
-      within = λ e. rw is.taken new.counted;
-      near = λ e. rw gone (omega arith);
-    }
+    sound_last h = grind arith
 
 -- ---- a line that was made buffered
 
@@ -247,42 +155,15 @@ module _ {S : Type 0} (device : Source S) (old new : LineReader S) (bytes : List
     (some : 0 < length (buffered_bytes new)) (within : bytes_taken new < 2 ^ 63) (empty : buffered_bytes old ≡ []) where
   made_hands : Hands device.left old bytes new
   unfolding feeds_taken
-  made_hands = record {
-    left_over = consumed;
-    counted = taken;
-    same_input = same;
-    fed = λ t b. rw (same_lines, holds) (omega (arith, line_feeds-append (held old) bytes));
-    told_stays = λ t. absurd (false≢true (sym was.untold ∙ t));
-  }
-
-  made_by : DropsLines (option_map (lines_from (suc (lines_given old))) (bytes_left device.left old)) 0 (option_map (lines_from (suc (lines_given new))) (bytes_left device.left new)) → MakesLine device old new
-  made_by kept = record {
-    some = some;
-    bytes = (bytes, made_hands, holds);
-    same = kept;
-    counted = same_lines;
-    ready = ready;
-    served = served;
-    was_going = (was.good, was.open_ended);
-    goes = good;
-    within = within;
-  }
+  made_hands = grind (arith, line_feeds-append)
 
   pub makes_line : end_told new ≡ false → FillsLines device old (Ok true) new
   unfolding bytes_left
-  makes_line untold = record {
-    answers = made_by (rw (was.untold, untold, same_lines) (same_known (suc (lines_given old)) (device.left (source_of old)) (device.left (source_of new)) (held old) (held new) bytes consumed holds));
-    unread = λ h. absurd (omega (arith, h, ap length empty));
-    kept = λ h. record { end = λ e. absurd (false≢true (sym untold ∙ e)); within = λ e. within };
-  }
+  makes_line untold = grind (arith, same_known, made_hands)
 
   pub makes_last : end_told new ≡ true → device.end_told (source_of new) ≡ true → IsAtEnd (device.left (source_of new)) → FillsLines device old (Ok true) new
   unfolding bytes_left
-  makes_last is_told told none = record {
-    answers = made_by (rw (was.untold, is_told, same_lines) (same_at_end (suc (lines_given old)) (device.left (source_of old)) (device.left (source_of new)) (held old) (held new) bytes consumed none holds));
-    unread = λ h. absurd (omega (arith, h, ap length empty));
-    kept = λ h. record { end = λ e. (told, none); within = λ e. within };
-  }
+  makes_last is_told told none = search rules
 
 -- ---- the end of the text
 
@@ -291,33 +172,11 @@ module _ {S : Type 0} (device : Source S) (old new : LineReader S) (bytes : List
     (counted : new.taken ≡ old.taken + length bytes) (nothing : held old ++ bytes ≡ []) (gone : held new ≡ [])
     (served : device.has_failed (source_of new) ≡ device.has_failed (source_of old)) (told : device.end_told (source_of new) ≡ true) (none : IsAtEnd (device.left (source_of new))) (ended : has_ended new ≡ true) (empty : buffered_bytes old ≡ []) where
   end_hands : Hands device.left old bytes new
-  end_hands = record {
-    left_over = consumed;
-    counted = is.taken ∙ counted ∙ ap (λ n. n + length bytes) (sym was.taken);
-    same_input = same;
-    fed = λ t b. absurd (false≢true (sym t ∙ is.is_told));
-    told_stays = λ t. is.is_told;
-  }
+  end_hands = grind arith
 
   pub fills_end : FillsLines device old (Ok false) new
   unfolding bytes_left
-  fills_end = record {
-    answers = record {
-      none_left = rw was.untold (none_of_known (suc (lines_given old)) (device.left (source_of old)) (device.left (source_of new)) (held old) bytes consumed none nothing);
-      none_comes = rw is.is_told (none_told (suc (lines_given new)) (device.left (source_of new)) (held new) gone);
-      nothing_held = gone;
-      counted = same_lines;
-      bytes = (bytes, end_hands, nothing);
-      served = served;
-      was_going = was.good;
-      goes = is.good;
-      ends = ended;
-      told = is.is_told;
-      again = λ e. absurd (false≢true (sym was.open_ended ∙ e));
-    };
-    unread = λ h. absurd (omega (arith, h, ap length empty));
-    kept = λ h. record { end = λ e. (told, none); within = λ e. rw is.taken new.counted };
-  }
+  fills_end = grind (arith, append-nil, lines_from-nil)
 
 -- ---- a line that couldn't be given
 
@@ -331,11 +190,7 @@ some_place e = false≢true (sym (ap (λ fault. is_some fault.place) e))
 
 -- a prefix of bytes that were joined, without the bytes after it
 front_of_joined : (block bytes text behind : List ℕ) → block ++ bytes ≡ text ++ behind → length behind ≤ length bytes → text ≡ block ++ take (length bytes - length behind) bytes
-front_of_joined block bytes text behind e short =
-    let size : length text ≡ length block + (length bytes - length behind) =
-    omega (arith, ap length e, length-append block bytes, length-append text behind) in
-    sym (take-append_seam text behind) ∙ ap (take (length text)) (sym e) ∙ ap (λ k. take k (block ++ bytes)) size
-    ∙ take-append-add block bytes (length bytes - length behind)
+front_of_joined block bytes text behind e short = grind (arith, (length-append block bytes), (length-append text behind), (take-append_seam text behind), (take-append-add block bytes (length bytes - length behind)))
 
 -- what was taken of the line has no line feed, except in the bytes after it
 module _ {S : Type 0} (device : Source S) (old new : LineReader S) (bytes text behind : List ℕ) (fault : Fault) (was : Goes old) (no_line : line_feeds (held old) ≡ 0)
@@ -344,18 +199,11 @@ module _ {S : Type 0} (device : Source S) (old new : LineReader S) (bytes text b
     (short : length behind ≤ block_size) (holds : bytes_taken new < 2 ^ 63 → lines_given old + line_feeds (held new) ≡ lines_given old + line_feeds (held old) + line_feeds bytes)
     (kept : fault_kept new ≡ Some (fault_value fault)) (untold : end_told new ≡ false) (empty : buffered_bytes old ≡ []) where
   cut_counts : bytes_taken new < 2 ^ 63 → lines_given new + line_feeds (held new) ≡ lines_given old + line_feeds (held old) + line_feeds bytes
-  cut_counts below =
-      rw same_lines (holds below)
+  cut_counts below = grind arith
 
   cut_hands : Hands device.left old bytes new
   unfolding feeds_taken
-  cut_hands = record {
-    left_over = consumed;
-    counted = counted;
-    same_input = same;
-    fed = λ t b. cut_counts b;
-    told_stays = λ t. absurd (false≢true (sym was.untold ∙ t));
-  }
+  cut_hands = grind arith
 
   cut_near : IsNear device.left old new
   unfolding bytes_left
@@ -367,32 +215,12 @@ module _ {S : Type 0} (device : Source S) (old new : LineReader S) (bytes text b
   cut_given : text ≡ held old ++ take (2 ^ 63 - 1 - bytes_taken old) bytes
       → lines_given new ≡ feeds_taken old + line_feeds (take (2 ^ 63 - 1 - bytes_taken old) bytes)
   unfolding feeds_taken
-  cut_given e =
-      (omega (arith, same_lines, line_feeds-append (held old) (take (2 ^ 63 - 1 - bytes_taken old) bytes), ap line_feeds e, line_feeds-none text clear))
+  cut_given e = grind (arith, line_feeds-append, line_feeds-none)
 
   pub stepped_cut : (fault_value fault ≡ read_failed (input_of old) (suc (lines_given old)) → text ≡ held old ++ take (2 ^ 63 - 1 - bytes_taken old) bytes)
       → FailsToRead device old (fault_value fault) new ⊎ (fault_value fault ≡ no_memory) → (fault_value fault ≡ no_memory → device.has_failed (source_of new) ≡ device.has_failed (source_of old))
       → FillsLines device old (Err fault) new
-  stepped_cut cut cause served = record {
-    answers = record {
-      kept = kept;
-      bytes = (bytes, cut_hands);
-      counted = same_lines;
-      again = λ before e. absurd (some_fault before (sym was.good ∙ e));
-      was_going = was.open_ended;
-      before_end = λ e. was.untold;
-      no_line = λ e. no_line;
-      first = λ e. cause;
-      cut_off = λ e f. record { bytes = bytes; hands = cut_hands; given = cut_given (cut f) };
-      near = λ e. cut_near;
-      served = served;
-    };
-    unread = λ h. absurd (omega (arith, h, ap length empty));
-    kept = λ h. record {
-      end = λ e. absurd (false≢true (sym untold ∙ e));
-      within = λ e. absurd (some_fault (fault_value fault) (sym e ∙ kept));
-    };
-  }
+  stepped_cut cut cause served = grind (arith, cut_hands, cut_given, cut_near)
 
 -- ---- the same, by the fields of the reader
 
@@ -401,23 +229,16 @@ held_told complete unread e = ap (λ l. take (length l - 1) l) e
 
 -- a last piece with its line feed holds the piece
 pub held_closed : (all complete unread : List ℕ) → complete ≡ closed all → held_at true complete unread ≡ all
-held_closed [] complete unread e = held_told complete unread e
-held_closed (x ∷ xs) complete unread e =
-    let whole : List ℕ = x ∷ xs in
-    let size : length (whole ++ 10 ∷ []) - 1 ≡ length whole = omega (arith, length-append whole (10 ∷ [])) in
-    ap (λ l. take (length l - 1) l) e ∙ ap (λ n. take n (whole ++ 10 ∷ [])) size ∙ take-append_seam whole (10 ∷ [])
+held_closed all complete unread e = grind (arith, common_steps)
 
 no_feeds_by : (stop : Stop) (n : ℕ) → (stop ≡ StopLineFeed → ⊥) → (n ≡ 0) ⊎ (stop ≡ StopLineFeed) → n ≡ 0
-no_feeds_by stop n other (inl e) = e
-no_feeds_by stop n other (inr e) = absurd (other e)
+no_feeds_by stop n other p1 = grind arith
 
 pub some_length : (xs : List ℕ) → (length xs ≡ 0 → ⊥) → 0 < length xs
-some_length [] h = absurd (h refl)
-some_length (x ∷ xs) h = omega arith
+some_length xs h = grind arith
 
 closed_none : (xs : List ℕ) → closed xs ≡ [] → xs ≡ []
-closed_none [] e = refl
-closed_none (x ∷ xs) e = absurd (omega (arith, ap length e))
+closed_none xs e = grind arith
 
 module _ {S : Type 0} (device : Source S) (old new : LineReader S) (going : old.state ≡ Reading) (none : complete old.buffer ≡ [])
     (same : new.input ≡ old.input) (same_lines : new.lines ≡ old.lines) (stop : Stop)
@@ -431,34 +252,15 @@ module _ {S : Type 0} (device : Source S) (old new : LineReader S) (going : old.
 
   pub line_step : stop ≡ StopLineFeed → new.state ≡ Reading → FillsLines device old (Ok true) new
   unfolding source_of input_of lines_given buffered_bytes
-  line_step is state =
-      let b = rw is at buffers in
-      let was = goes old going in
-      let now = goes new state in
-      let counted : new.taken ≡ old.taken + length b.bytes = omega (arith, b.counted) in
-      makes_line device old new b.bytes was same same_lines b.consumed (now.taken ∙ counted ∙ ap (λ n. n + length b.bytes) (sym was.taken))
-      (now.holds ∙ sym b.stopped.0 ∙ ap (λ l. l ++ b.bytes) (sym old_holds)) now.good (λ h. b.ready (rw old_holds at h)) b.stopped.2 b.stopped.1 (rw now.taken b.within) nothing_buffered now.untold
+  line_step is state = grind (arith, goes, makes_line)
 
   pub last_step : stop ≡ StopEnd → (length (complete new.buffer) ≡ 0 → ⊥) → new.state ≡ LastLine → FillsLines device old (Ok true) new
   unfolding source_of input_of lines_given held buffered_bytes end_told
-  last_step is some state =
-      let b = rw is at buffers in
-      let was = goes old going in
-      let now = told_last new state in
-      let counted : new.taken ≡ old.taken + length b.bytes = omega (arith, b.counted) in
-      let holds : held new ≡ held old ++ b.bytes = rw state (held_closed (unread old.buffer ++ b.bytes) (complete new.buffer) (unread new.buffer) b.stopped.1) ∙ ap (λ l. l ++ b.bytes) (sym old_holds) in
-      makes_last device old new b.bytes was same same_lines b.consumed (now.taken ∙ counted ∙ ap (λ n. n + length b.bytes) (sym was.taken))
-      holds now.good (λ h. b.ready (rw old_holds at h)) b.stopped.3 (some_length (complete new.buffer) some) (rw now.taken b.within) nothing_buffered now.is_told b.stopped.4 b.stopped.5
+  last_step is some state = grind (arith, goes, told_last, held_closed, makes_last)
 
   pub end_step : stop ≡ StopEnd → length (complete new.buffer) ≡ 0 → new.state ≡ Ended → FillsLines device old (Ok false) new
   unfolding source_of input_of lines_given held has_ended
-  end_step is empty state =
-      let b = rw is at buffers in
-      let was = goes old going in
-      let lines : complete new.buffer ≡ [] = nil_from_length (complete new.buffer) empty in
-      let all : unread old.buffer ++ b.bytes ≡ [] = closed_none (unread old.buffer ++ b.bytes) (sym b.stopped.1 ∙ lines) in
-      fills_end device old new b.bytes was (told_ended new state) same same_lines b.consumed (omega (arith, b.counted))
-      (ap (λ l. l ++ b.bytes) old_holds ∙ all) (rw (state, lines, b.stopped.2) refl) b.stopped.3 b.stopped.4 b.stopped.5 (rw state refl) nothing_buffered
+  end_step is empty state = grind (arith, goes, fills_end, told_ended, nothing_buffered)
 
   no_feeds : (stop ≡ StopLineFeed → ⊥) → line_feeds (held old) ≡ 0
   no_feeds other = rw old_holds (no_feeds_by stop (line_feeds (unread old.buffer)) other buffers.first)
@@ -539,31 +341,21 @@ last_going state e complete unread = rw e (last_of_none complete unread)
 pub quiet_going : (state : State) → state ≡ Reading → lends_at state ≡ false → ⊥
 quiet_going state e f = false≢true (sym f ∙ ap lends_at e)
 
-closed_one : (all : List ℕ) → nat_eq (length (closed all)) 1 ≡ false
-closed_one [] = refl
-closed_one (x ∷ xs) = grind (arith, nat_tests, length-append xs (10 ∷ []))
-
 closed_feeds : (all : List ℕ) → NoLineFeed all → line_feeds (closed all) ≤ 1
 closed_feeds [] clear = omega arith
 closed_feeds (x ∷ xs) clear = one_line (x ∷ xs ++ 10 ∷ []) (x ∷ xs) clear refl
 
 pub last_closed : (all complete unread : List ℕ) → NoLineFeed all → complete ≡ closed all → unread ≡ [] → IsLast true true complete unread
-last_closed all complete unread clear e none = record {
-  none_behind = λ h. none;
-  one = λ h. rw e (closed_feeds all clear);
-  some = λ h. rw e (closed_one all);
-}
+last_closed all complete unread clear e none = grind (arith, closed_feeds, length-append)
 
 -- each line given has a byte, and those held come after them
 module _ (lines : ℕ) (old_complete old_unread bytes : List ℕ) (old_taken taken : ℕ) (none : old_complete ≡ []) (counted : taken + 0 ≡ old_taken + length bytes) where
   pub spaced : (state : State) → state ≡ Reading → lines + length (held_at (open_at state) old_complete old_unread) ≤ old_taken
       → (complete unread : List ℕ) → old_unread ++ bytes ≡ complete ++ unread → lines + length (held_at (open_at state) complete unread) ≤ taken
-  spaced state e before complete unread joined =
-      rw e (omega (arith, rw e at before, counted, ap length none, ap length joined, length-append old_complete old_unread, length-append old_unread bytes))
+  spaced state e before complete unread joined = grind (arith, length-append)
 
   spaced_all : (state : State) → state ≡ Reading → lines + length (held_at (open_at state) old_complete old_unread) ≤ old_taken → lines + length (old_unread ++ bytes) ≤ taken
-  spaced_all state e before =
-      omega (arith, rw e at before, counted, ap length none, length-append old_complete old_unread, length-append old_unread bytes)
+  spaced_all state e before = grind (arith, length-append)
 
   pub spaced_last : (state : State) → state ≡ Reading → lines + length (held_at (open_at state) old_complete old_unread) ≤ old_taken
       → (complete unread : List ℕ) → complete ≡ closed (old_unread ++ bytes) → lines + length (held_at true complete unread) ≤ taken
@@ -571,13 +363,7 @@ module _ (lines : ℕ) (old_complete old_unread bytes : List ℕ) (old_taken tak
 
   pub spaced_fault : (state : State) → state ≡ Reading → lines + length (held_at (open_at state) old_complete old_unread) ≤ old_taken
       → (complete unread text : List ℕ) → complete ≡ [] → old_unread ++ bytes ≡ text ++ unread → lines + length (held_at false complete unread) ≤ taken
-  spaced_fault state e before complete unread text gone joined =
-      omega (arith, spaced_all state e before, ap length gone, ap length joined, length-append text unread, length-append complete unread)
+  spaced_fault state e before complete unread text gone joined = grind (arith, spaced_all, length-append)
 
 pub some_state : (state : State) → (lends_at state ≡ false → ⊥) → (state ≡ Reading) ⊎ (state ≡ LastLine)
-some_state Reading h = inl refl
-some_state LastLine h = inr refl
-some_state Ended h = absurd (h refl)
-some_state ReadFailed h = absurd (h refl)
-some_state TooLong h = absurd (h refl)
-some_state NoMemory h = absurd (h refl)
+some_state state h = grind arith

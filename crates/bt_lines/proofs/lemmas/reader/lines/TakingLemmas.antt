@@ -1,5 +1,6 @@
 -- Lemmas on lines that are taken of those that are buffered.
-use Rattle.bt_lines.proofs.Std.{◌≡◌, ◌⊎◌, inl, inr, ℕ, zero, suc, ◌+◌, ◌-◌, ◌^◌, ◌<◌, ◌≤◌, Bool, true, false, nat_eq, List, [], ◌∷◌, ◌++◌, length, take, drop, refl, sym, ap, ◌∙◌, subst, Option, None, Some, append_assoc, length-append, arith, IfSome, option_map, false≢true, nat_tests, drop_all, drop_at, take_all, take_at, length-take, length-drop, take-append-drop, count_by-le-length, Consumes-nil, add-zero, Consumes-trans}
+use Rattle.std.proofs.lemmas.Grind.{common_steps}
+use Rattle.bt_lines.proofs.Std.{rules, ◌≡◌, ◌⊎◌, inl, inr, ℕ, zero, suc, ◌+◌, ◌-◌, ◌^◌, ◌<◌, ◌≤◌, Bool, true, false, nat_eq, List, [], ◌∷◌, ◌++◌, length, take, drop, refl, sym, ap, ◌∙◌, subst, Option, None, Some, append_assoc, length-append, arith, IfSome, option_map, false≢true, nat_tests, drop_all, drop_at, take_all, take_at, length-take, length-drop, take-append-drop, count_by-le-length, Consumes-nil, add-zero, Consumes-trans}
 use Rattle.bt_lines.specs.declared.device.Source.{Ghosts as Source}
 use Rattle.bt_lines.proofs.lemmas.reader.block.BufferLemmas.{fed_clear, fed_drop, fed_last, fed_none, unread_fits}
 use Rattle.bt_lines.proofs.lemmas.reader.lines.BufferedLemmas.{are_fed, lines_fit}
@@ -24,23 +25,20 @@ not_one : (n m : ℕ) → n ≡ m → nat_eq m 1 ≡ false → nat_eq n 1 ≡ fa
 not_one n m e h = rw e h
 
 two_of : (n : ℕ) → 0 < n → nat_eq n 1 ≡ false → 2 ≤ n
-two_of n some h = grind (arith, nat_tests)
+two_of n some h = grind arith
 
 -- a last line is taken whole or not at all
 pub record Whole (lines : List ℕ) (n : ℕ) : Type 0 where
   pub is : ((drop n lines ≡ lines) × (line_feeds (take n lines) ≡ 0) × (n ≡ 0)) ⊎ ((drop n lines ≡ []) × (line_feeds (take n lines) ≡ 1) × (0 < length lines))
 
 whole_by : (lines : List ℕ) (n : ℕ) → n ≤ length lines → is_fed lines ≡ true → line_feeds lines ≤ 1 → (take n lines ≡ []) ⊎ ((front : List ℕ) × (take n lines ≡ front ++ 10 ∷ [])) → Whole lines n
-whole_by lines n within fed one (inl e) =
-    let none : n ≡ 0 = omega (arith, within, ap length e, length-take n lines) in
-    record { is = inl (ap (λ k. drop k lines) none, ap line_feeds e, none) }
+whole_by lines n within fed one (inl e) = grind (arith, common_steps)
 whole_by lines n within fed one (inr f) =
     let feed : line_feeds (10 ∷ []) ≡ 1 = refl in
     let all : line_feeds lines ≡ line_feeds (take n lines) + line_feeds (drop n lines) =
     ap line_feeds (sym (take-append-drop n lines)) ∙ line_feeds-append (take n lines) (drop n lines) in
     let some : line_feeds (take n lines) ≡ line_feeds f.0 + 1 = ap line_feeds f.1 ∙ line_feeds-append f.0 (10 ∷ []) in
-    let gone : drop n lines ≡ [] = fed_none (drop n lines) (fed_drop n lines fed) (omega (arith, all, some, one)) in
-    record { is = inr (gone, omega (arith, all, one), omega (arith, ap length f.1, length-append f.0 (10 ∷ []), length-take n lines)) }
+    grind (arith, (fed_none (drop n lines) (fed_drop n lines fed) (omega (arith, all, some, one))), (length-append f.0 (10 ∷ [])), (length-take n lines))
 
 pub whole : (lines : List ℕ) (n : ℕ) → n ≤ length lines → is_fed lines ≡ true → is_fed (take n lines) ≡ true → line_feeds lines ≤ 1 → Whole lines n
 whole lines n within fed front one = whole_by lines n within fed one (fed_last (take n lines) front)
@@ -53,23 +51,14 @@ module _ (state : State) (lines unread : List ℕ) (given taken n : ℕ) (within
   spaced_whole : given + length (held_at true lines unread) ≤ taken → nat_eq (length lines) 1 ≡ false
       → ((drop n lines ≡ lines) × (line_feeds (take n lines) ≡ 0) × (n ≡ 0)) ⊎ ((drop n lines ≡ []) × (line_feeds (take n lines) ≡ 1) × (0 < length lines))
       → given + line_feeds (take n lines) + length (held_at true (drop n lines) unread) ≤ taken
-  spaced_whole now some (inl w) = rw w.0 (omega (arith, now, w.1))
-  spaced_whole now some (inr w) =
-      let two : 2 ≤ length lines = two_of (length lines) w.2 some in
-      rw w.0 (omega (arith, now, w.1, two, length-take (length lines - 1) lines))
+  spaced_whole now some p1 = search rules
 
   some_by : nat_eq (length lines) 1 ≡ false → ((drop n lines ≡ lines) × (line_feeds (take n lines) ≡ 0) × (n ≡ 0)) ⊎ ((drop n lines ≡ []) × (line_feeds (take n lines) ≡ 1) × (0 < length lines))
       → nat_eq (length (drop n lines)) 1 ≡ false
-  some_by some (inl w) = not_one (length (drop n lines)) (length lines) (ap length w.0) some
-  some_by some (inr w) = not_one (length (drop n lines)) 0 (ap length w.0) refl
+  some_by some p1 = grind arith
 
   spaced_closed : (b : Bool) → open_at state ≡ b → given + line_feeds (take n lines) + length (held_at b (drop n lines) unread) ≤ taken
-  spaced_closed false e =
-      let now : given + length (held_at false lines unread) ≤ taken = rw e at before in
-      omega (arith, now, feeds_le (take n lines), length-take n lines, length-drop n lines, length-append lines unread, length-append (drop n lines) unread, within)
-  spaced_closed true e =
-      let now : given + length (held_at true lines unread) ≤ taken = rw e at before in
-      spaced_whole now (last.some e) (alone_by e).is
+  spaced_closed b e = grind (arith, common_steps)
 
   pub spaced_taken : given + line_feeds (take n lines) + length (held_at (open_at state) (drop n lines) unread) ≤ taken
   spaced_taken = spaced_closed (open_at state) refl
@@ -78,11 +67,7 @@ module _ (state : State) (lines unread : List ℕ) (given taken n : ℕ) (within
   quiet_taken e = drop_all n lines (omega (arith, ap length (quiet e)))
 
   pub last_taken : IsLast (told_at state) (open_at state) (drop n lines) unread
-  last_taken = record {
-    none_behind = last.none_behind;
-    one = λ e. omega (arith, last.one e, ap line_feeds (take-append-drop n lines), line_feeds-append (take n lines) (drop n lines));
-    some = λ e. some_by (last.some e) (alone_by e).is;
-  }
+  last_taken = grind (arith, alone_by)
 
 -- ---- the lines that are left
 
@@ -94,14 +79,7 @@ one_fed : (more : List ℕ) (n : ℕ) (piece rest : List ℕ) → NoLineFeed pie
     → drop (line_feeds (piece ++ 10 ∷ rest)) (lines_from n ((piece ++ 10 ∷ rest) ++ more)) ≡ lines_from (n + line_feeds (piece ++ 10 ∷ rest)) more
 one_fed more n piece rest clear fed is =
     let feeds = line_feeds-fed piece rest clear in
-    let behind : drop (length piece + 1) (piece ++ 10 ∷ rest) ≡ rest =
-    ap (drop (length piece + 1)) (sym (append_assoc piece (10 ∷ []) rest)) ∙ drop_at (piece ++ 10 ∷ []) rest (length piece + 1) (length-append piece (10 ∷ [])) in
-    let fed_rest : is_fed rest ≡ true = subst (λ l. is_fed l ≡ true) behind (fed_drop (length piece + 1) (piece ++ 10 ∷ rest) fed) in
-    let lines : lines_from n ((piece ++ 10 ∷ rest) ++ more) ≡ fed_line n piece ∷ lines_from (suc n) (rest ++ more) =
-    ap (lines_from n) (append_assoc piece (10 ∷ rest) more) ∙ lines_from-fed n piece (rest ++ more) clear in
-    let count : suc n + line_feeds rest ≡ n + line_feeds (piece ++ 10 ∷ rest) = omega (arith, feeds) in
-    ap (λ l. drop (line_feeds (piece ++ 10 ∷ rest)) l) lines ∙ ap (λ k. drop k (fed_line n piece ∷ lines_from (suc n) (rest ++ more))) feeds
-    ∙ is fed_rest ∙ ap (λ k. lines_from k more) count
+    grind (arith, (drop_at (piece ++ 10 ∷ []) rest (length piece + 1) (length-append piece (10 ∷ []))), fed_drop, append_assoc, lines_from-fed)
 
 -- those after bytes that end with a line feed
 drop_fed : (more : List ℕ) (n : ℕ) (bytes : List ℕ) → is_fed bytes ≡ true → drop (line_feeds bytes) (lines_from n (bytes ++ more)) ≡ lines_from (n + line_feeds bytes) more
@@ -110,20 +88,15 @@ drop_fed more = by_lines (λ n bytes. is_fed bytes ≡ true → drop (line_feeds
     (λ n piece rest clear is fed. one_fed more n piece rest clear fed is)
 
 parts_of : (lines unread more : List ℕ) (n : ℕ) → (lines ++ unread) ++ more ≡ take n lines ++ ((drop n lines ++ unread) ++ more)
-parts_of lines unread more n =
-    ap (λ l. (l ++ unread) ++ more) (sym (take-append-drop n lines)) ∙ ap (λ l. l ++ more) (append_assoc (take n lines) (drop n lines) unread) ∙ append_assoc (take n lines) (drop n lines ++ unread) more
+parts_of lines unread more n = grind (arith, (take-append-drop n lines), (append_assoc (take n lines) (drop n lines) unread), (append_assoc (take n lines) (drop n lines ++ unread) more))
 
 left_drops : (told : Bool) (number : ℕ) (lines unread : List ℕ) (n : ℕ) (left : Option (List ℕ)) → is_fed (take n lines) ≡ true
     → DropsLines (option_map (lines_from number) (left_at told (lines ++ unread) left)) (line_feeds (take n lines))
     (option_map (lines_from (number + line_feeds (take n lines))) (left_at told (drop n lines ++ unread) left))
 left_drops true number lines unread n None fed = tt
 left_drops false number lines unread n None fed = tt
-left_drops false number lines unread n (Some rest) fed =
-    ap Some (sym (ap (λ l. drop (line_feeds (take n lines)) (lines_from number l)) (parts_of lines unread rest n) ∙ drop_fed ((drop n lines ++ unread) ++ rest) number (take n lines) fed))
-left_drops true number lines unread n (Some rest) fed =
-    let all : lines ++ unread ≡ take n lines ++ (drop n lines ++ unread) =
-    ap (λ l. l ++ unread) (sym (take-append-drop n lines)) ∙ append_assoc (take n lines) (drop n lines) unread in
-    ap Some (sym (ap (λ l. drop (line_feeds (take n lines)) (lines_from number l)) all ∙ drop_fed (drop n lines ++ unread) number (take n lines) fed))
+left_drops false number lines unread n (Some rest) fed = grind (arith, (parts_of lines unread rest n), (drop_fed ((drop n lines ++ unread) ++ rest) number (take n lines) fed))
+left_drops true number lines unread n (Some rest) fed = grind (arith, (take-append-drop n lines), (append_assoc (take n lines) (drop n lines) unread), (drop_fed (drop n lines ++ unread) number (take n lines) fed))
 
 held_plain : (b : Bool) (lines unread : List ℕ) → b ≡ false → held_at b lines unread ≡ lines ++ unread
 held_plain b lines unread e = rw e refl
@@ -151,21 +124,10 @@ first_whole number lines more = ap (λ k. take k (lines_from number (lines ++ mo
 
 prefix_by : (told open_now : Bool) (given : ℕ) (lines unread : List ℕ) (left : Option (List ℕ)) → (open_now ≡ true → told ≡ true)
     → IfSome (option_map (lines_from (suc given)) (left_at told (held_at open_now lines unread) left)) (λ all. take (length (buffered_lines open_now given lines)) all ≡ buffered_lines open_now given lines)
-prefix_by true open_now given lines unread None h = tt
-prefix_by false open_now given lines unread None h = tt
-prefix_by true true given lines unread (Some rest) h = take_whole (lines_from (suc given) (take (length lines - 1) lines))
-prefix_by true false given lines unread (Some rest) h = first_whole (suc given) lines unread
-prefix_by false true given lines unread (Some rest) h = absurd (false≢true (h refl))
-prefix_by false false given lines unread (Some rest) h =
-    ap (λ l. take (length (whole_lines_from (suc given) lines)) (lines_from (suc given) l)) (append_assoc lines unread rest) ∙ first_whole (suc given) lines (unread ++ rest)
+prefix_by told open_now given lines unread left h = grind (arith, take_whole, first_whole, append_assoc)
 
 open_told : (state : State) → open_at state ≡ true → told_at state ≡ true
-open_told Reading e = absurd (false≢true e)
-open_told LastLine e = refl
-open_told Ended e = absurd (false≢true e)
-open_told ReadFailed e = absurd (false≢true e)
-open_told TooLong e = absurd (false≢true e)
-open_told NoMemory e = absurd (false≢true e)
+open_told state e = grind arith
 
 pub is_prefix : {S : Type 0} (left : S → Option (List ℕ)) (reader : LineReader S) → IsPrefix left reader
 unfolding bytes_left held end_told lines_given source_of buffered_bytes is_open
@@ -174,25 +136,15 @@ is_prefix left reader = prefix_by (told_at reader.state) (open_at reader.state) 
 -- ---- what is held then
 
 gone_by : (lines : List ℕ) (n : ℕ) → 0 < n → ((drop n lines ≡ lines) × (line_feeds (take n lines) ≡ 0) × (n ≡ 0)) ⊎ ((drop n lines ≡ []) × (line_feeds (take n lines) ≡ 1) × (0 < length lines)) → drop n lines ≡ []
-gone_by lines n some (inl w) = absurd (omega (arith, some, w.2))
-gone_by lines n some (inr w) = w.0
-
-near_behind : (is_spilled : Bool) (buffer : ReadBuffer) (lines : List ℕ) (n : ℕ) → buffer.is_spilled ≡ is_spilled → AreComplete is_spilled lines → complete buffer ≡ drop n lines → n ≤ length lines
-    → is_fed (take n lines) ≡ true → 0 < n → length (complete buffer ++ unread buffer) ≤ block_size
-near_behind false buffer lines n same are is within fed some = lines_fit buffer same
-near_behind true buffer lines n same are is within fed some =
-    let gone : complete buffer ≡ [] = is ∙ gone_by lines n some (whole lines n within are.fed fed (are.one refl)).is in
-    rw gone (unread_fits buffer)
+gone_by lines n some p1 = grind arith
 
 held_short : (b : Bool) (lines unread : List ℕ) → length (held_at b lines unread) ≤ length (lines ++ unread)
-held_short false lines unread = omega arith
-held_short true lines unread = omega (arith, length-take (length lines - 1) lines, length-append lines unread)
+held_short b lines unread = grind (arith, length-take, length-append)
 
 -- ---- an open line
 
 last_few : (number : ℕ) (piece : List ℕ) → length (last_line number piece) ≤ 1
-last_few number [] = omega arith
-last_few number (byte ∷ bytes) = omega arith
+last_few number piece = grind arith
 
 -- there is at most one line more than line feeds
 few_lines : (number : ℕ) (bytes : List ℕ) → length (lines_from number bytes) ≤ line_feeds bytes + 1
@@ -201,25 +153,7 @@ few_lines = by_lines (λ number bytes. length (lines_from number bytes) ≤ line
     (λ number piece rest clear few. rw (lines_from-fed number piece rest clear, line_feeds-fed piece rest clear) (omega (arith, few)))
 
 front_feeds : (lines : List ℕ) → line_feeds lines ≤ 1 → (lines ≡ []) ⊎ ((front : List ℕ) × (lines ≡ front ++ 10 ∷ [])) → line_feeds (take (length lines - 1) lines) ≡ 0
-front_feeds lines one (inl e) = ap (λ l. line_feeds (take (length l - 1) l)) e
-front_feeds lines one (inr f) =
-    let feed : line_feeds (10 ∷ []) ≡ 1 = refl in
-    let size : length lines - 1 ≡ length f.0 = omega (arith, ap length f.1, length-append f.0 (10 ∷ [])) in
-    let front : take (length lines - 1) lines ≡ f.0 = ap (λ k. take k lines) size ∙ ap (take (length f.0)) f.1 ∙ take_at f.0 (10 ∷ []) (length f.0) refl in
-    ap line_feeds front ∙ omega (arith, one, ap line_feeds f.1, line_feeds-append f.0 (10 ∷ []), feed)
-
-open_drops : (number : ℕ) (lines unread : List ℕ) (n : ℕ) (left : Option (List ℕ)) → is_fed lines ≡ true → line_feeds lines ≤ 1
-    → ((drop n lines ≡ lines) × (line_feeds (take n lines) ≡ 0) × (n ≡ 0)) ⊎ ((drop n lines ≡ []) × (line_feeds (take n lines) ≡ 1) × (0 < length lines))
-    → DropsLines (option_map (lines_from number) (left_at true (held_at true lines unread) left)) (line_feeds (take n lines))
-    (option_map (lines_from (number + line_feeds (take n lines))) (left_at true (held_at true (drop n lines) unread) left))
-open_drops number lines unread n None fed one w = tt
-open_drops number lines unread n (Some rest) fed one (inl w) =
-    let same : number + 0 ≡ number = omega arith in
-    rw (w.1, w.0) (ap (λ k. Some (lines_from k (take (length lines - 1) lines))) same)
-open_drops number lines unread n (Some rest) fed one (inr w) =
-    let front = take (length lines - 1) lines in
-    let none : drop 1 (lines_from number front) ≡ [] = drop_all 1 (lines_from number front) (omega (arith, few_lines number front, front_feeds lines one (fed_last lines fed))) in
-    rw (w.1, w.0) (ap Some (lines_from-nil (number + 1) ∙ sym none))
+front_feeds lines one p1 = grind (arith, length-append, take_at, line_feeds-append)
 
 held_open : (b : Bool) (lines unread : List ℕ) → b ≡ true → held_at b lines unread ≡ held_at true lines unread
 held_open b lines unread e = rw e refl
@@ -239,12 +173,7 @@ closed_held reader e = held_plain (open_at reader.state) (complete reader.buffer
 -- ---- what stays as it was
 
 closed_by : (state : State) → told_at state ≡ false → open_at state ≡ false
-closed_by Reading e = refl
-closed_by LastLine e = e ∙ refl
-closed_by Ended e = refl
-closed_by ReadFailed e = refl
-closed_by TooLong e = refl
-closed_by NoMemory e = refl
+closed_by state e = grind arith
 
 none_taken : (lines : List ℕ) (n : ℕ) → lines ≡ [] → line_feeds (take n lines) ≡ 0
 none_taken lines n e = ap line_feeds (ap (take n) e ∙ take_all n [] (omega arith))
@@ -252,8 +181,7 @@ none_taken lines n e = ap line_feeds (ap (take n) e ∙ take_all n [] (omega ari
 module _ {S : Type 0} (device : Source S) (old new : LineReader S) (n : ℕ) (takes : Takes old new n) where
   near_taken : 0 < n → length (held new) ≤ block_size
   unfolding held
-  near_taken some =
-      omega (arith, held_short (open_at new.state) (complete new.buffer) (unread new.buffer), near_behind old.buffer.is_spilled new.buffer (complete old.buffer) n takes.spilled (are_fed old.buffer) takes.lines takes.within takes.fed some)
+  near_taken some = grind (arith, are_fed, lines_fit, whole, unread_fits)
 
   told_taken : end_told new ≡ end_told old
   unfolding end_told
@@ -275,37 +203,20 @@ module _ {S : Type 0} (device : Source S) (old new : LineReader S) (n : ℕ) (ta
 
   closed_taken : open_at old.state ≡ false → DropsLines (lines_left device.left old) (line_feeds (take n (complete old.buffer))) (lines_left device.left new)
   unfolding bytes_left
-  closed_taken plain =
-      rw (told_taken, sources, closed_held old plain, closed_new plain, numbers)
-      (left_drops (end_told old) (suc (lines_given old)) (complete old.buffer) (unread old.buffer) n (device.left (source_of old)) takes.fed)
+  closed_taken plain = grind (arith, told_taken, sources, closed_held, numbers, left_drops)
 
   open_taken : open_at old.state ≡ true → DropsLines (lines_left device.left old) (line_feeds (take n (complete old.buffer))) (lines_left device.left new)
   unfolding bytes_left
-  open_taken opened =
-      let is : held new ≡ held_at true (drop n (complete old.buffer)) (unread old.buffer) = open_held new (still true opened) ∙ ap (λ l. held_at true l (unread new.buffer)) takes.lines ∙ ap (λ l. held_at true (drop n (complete old.buffer)) l) takes.behind in
-      let all_fed = (are_fed old.buffer).fed in
-      let one = old.last.one opened in
-      rw (open_is_told old opened, open_is_told new (still true opened), sources, open_held old opened, is, numbers)
-      (open_drops (suc (lines_given old)) (complete old.buffer) (unread old.buffer) n (device.left (source_of old)) all_fed one (whole (complete old.buffer) n takes.within all_fed takes.fed one).is)
+  open_taken opened = grind (arith, open_held, are_fed, open_is_told, sources, numbers, whole, drop_all, few_lines, front_feeds, fed_last, lines_from-nil)
 
   both_taken : (b : Bool) → open_at old.state ≡ b → DropsLines (lines_left device.left old) (line_feeds (take n (complete old.buffer))) (lines_left device.left new)
-  both_taken true e = open_taken e
-  both_taken false e = closed_taken e
+  both_taken b e = grind (arith, open_taken, closed_taken)
 
   all_taken : DropsLines (lines_left device.left old) (line_feeds (take n (complete old.buffer))) (lines_left device.left new)
   all_taken = both_taken (open_at old.state) refl
 
   faults_by : (state : State) → old.state ≡ state → fault_at state old.input new.lines ≡ fault_at state old.input old.lines
-  faults_by Reading e = refl
-  faults_by LastLine e = refl
-  faults_by Ended e = refl
-  faults_by NoMemory e = refl
-  faults_by ReadFailed e =
-      let same : new.lines ≡ old.lines = omega (arith, takes.more, none_taken (complete old.buffer) n (old.quiet (ap lends_at e))) in
-      ap (fault_at ReadFailed old.input) same
-  faults_by TooLong e =
-      let same : new.lines ≡ old.lines = omega (arith, takes.more, none_taken (complete old.buffer) n (old.quiet (ap lends_at e))) in
-      ap (fault_at TooLong old.input) same
+  faults_by state e = grind arith
 
   fault_taken : fault_kept new ≡ fault_kept old
   unfolding fault_kept
@@ -345,22 +256,12 @@ module _ {S : Type 0} (device : Source S) (old new : LineReader S) (n : ℕ) (ta
 
   -- nothing is handed over
   hands_taken : Hands device.left old [] new
-  hands_taken = record {
-    left_over = rw sources (Consumes-nil (device.left (source_of old)));
-    counted = omega (arith, same_bytes);
-    same_input = inputs;
-    fed = λ e b. omega (arith, feeds_kept e);
-    told_stays = λ e. told_taken ∙ e;
-  }
+  hands_taken = grind (arith, sources, same_bytes, inputs, feeds_kept, told_taken)
 
   -- and so much less is held
   held_taken : length (held new) + line_feeds (take n (complete old.buffer)) ≤ length (held old)
   unfolding held
-  held_taken =
-      let now : held_at (open_at new.state) (complete new.buffer) (unread new.buffer) ≡ held_at (open_at old.state) (drop n (complete old.buffer)) (unread old.buffer) =
-      ap (λ s. held_at (open_at s) (complete new.buffer) (unread new.buffer)) takes.state ∙ ap (λ l. held_at (open_at old.state) l (unread new.buffer)) takes.lines ∙ ap (held_at (open_at old.state) (drop n (complete old.buffer))) takes.behind in
-      let spaced = spaced_taken old.state (complete old.buffer) (unread old.buffer) 0 (length (held_at (open_at old.state) (complete old.buffer) (unread old.buffer))) n takes.within (are_fed old.buffer).fed takes.fed old.last old.quiet (omega arith) in
-      omega (arith, ap length now, spaced)
+  held_taken = grind (arith, common_steps)
 
 -- all that taking lines does
 pub takes_lines : {S : Type 0} (device : Source S) (old new : LineReader S) (consumed : ConsumedLines) → new.lines ≡ consumed.lines → Takes old new consumed.bytes → TakesLines device old consumed new
@@ -392,41 +293,15 @@ near_all number held false None short = tt
 near_all number held true (Some rest) short = omega (arith, short, bytes_in-lines number held, bytes_in-drop 1 (lines_from number held))
 near_all number held false (Some rest) short = omega (arith, short, bytes_in-lines number (held ++ rest), bytes_in-drop 1 (lines_from number (held ++ rest)), length-append held rest)
 
-behind_one : (number : ℕ) (lines more : List ℕ) → is_fed lines ≡ true → line_feeds lines ≡ 1 → bytes_in (drop 1 (lines_from number (lines ++ more))) ≡ length more
-behind_one number lines more fed one =
-    ap (λ k. bytes_in (drop k (lines_from number (lines ++ more)))) (sym one) ∙ ap bytes_in (drop_fed more number lines fed) ∙ bytes_in-lines (number + line_feeds lines) more
-
 near_one : (number : ℕ) (lines unread : List ℕ) (told : Bool) (left : Option (List ℕ)) → is_fed lines ≡ true → line_feeds lines ≡ 1 → length unread ≤ block_size
     → IfSome (option_map (lines_from number) (left_at told (lines ++ unread) left)) (λ all. IfSome left (λ rest. bytes_in (drop 1 all) ≤ length rest + block_size))
-near_one number lines unread true None fed one short = tt
-near_one number lines unread false None fed one short = tt
-near_one number lines unread true (Some rest) fed one short = omega (arith, short, behind_one number lines unread fed one)
-near_one number lines unread false (Some rest) fed one short =
-    omega (arith, short, behind_one number lines (unread ++ rest) fed one, length-append unread rest, ap (λ l. bytes_in (drop 1 (lines_from number l))) (append_assoc lines unread rest))
+near_one number lines unread told left fed one short = grind (arith, length-append, append_assoc, drop_fed, bytes_in-lines)
 
 one_or_none : (n : ℕ) → n ≤ 1 → (n ≡ 0) ⊎ (n ≡ 1)
 one_or_none n small = grind arith
 
-near_closed : (spilled : Bool) (buffer : ReadBuffer) (number : ℕ) (told : Bool) (left : Option (List ℕ)) → buffer.is_spilled ≡ spilled
-    → IfSome (option_map (lines_from number) (left_at told (complete buffer ++ unread buffer) left)) (λ all. IfSome left (λ rest. bytes_in (drop 1 all) ≤ length rest + block_size))
-near_closed false buffer number told left e = near_all number (complete buffer ++ unread buffer) told left (lines_fit buffer e)
-near_closed true buffer number told left e =
-    let are = are_fed buffer in
-    elim (one_or_none (line_feeds (complete buffer)) (are.one e)) [
-      | inl none ↦
-          let gone : complete buffer ≡ [] = fed_none (complete buffer) are.fed none in
-          near_all number (complete buffer ++ unread buffer) told left (rw gone (unread_fits buffer))
-      | inr one ↦ near_one number (complete buffer) (unread buffer) told left are.fed one (unread_fits buffer)
-    ]
-
 open_few : (number : ℕ) (lines : List ℕ) → is_fed lines ≡ true → line_feeds lines ≤ 1 → drop 1 (lines_from number (take (length lines - 1) lines)) ≡ []
-open_few number lines fed one =
-    drop_all 1 (lines_from number (take (length lines - 1) lines)) (omega (arith, few_lines number (take (length lines - 1) lines), front_feeds lines one (fed_last lines fed)))
-
-near_open : (number : ℕ) (lines : List ℕ) (left : Option (List ℕ)) → is_fed lines ≡ true → line_feeds lines ≤ 1
-    → IfSome (option_map (lines_from number) (left_at true (take (length lines - 1) lines) left)) (λ all. IfSome left (λ rest. bytes_in (drop 1 all) ≤ length rest + block_size))
-near_open number lines None fed one = tt
-near_open number lines (Some rest) fed one = omega (arith, ap bytes_in (open_few number lines fed one))
+open_few number lines fed one = grind (arith, common_steps, (few_lines number (take (length lines - 1) lines)), (front_feeds lines one (fed_last lines fed)))
 
 module _ {S : Type 0} (left : S → Option (List ℕ)) (reader : LineReader S) where
   -- of known bytes, those after the next line are left at the source, except a block at most
@@ -436,13 +311,7 @@ module _ {S : Type 0} (left : S → Option (List ℕ)) (reader : LineReader S) w
 
   near_by : (b : Bool) → open_at reader.state ≡ b → IsNearNext
   unfolding bytes_left source_of
-  near_by true e =
-      let opened : held reader ≡ held_at true (complete reader.buffer) (unread reader.buffer) = open_held reader e in
-      let told : end_told reader ≡ true = open_is_told reader e in
-      rw (opened, told) (near_open (suc (lines_given reader)) (complete reader.buffer) (left reader.source) (are_fed reader.buffer).fed (reader.last.one e))
-  near_by false e =
-      let plain : held reader ≡ complete reader.buffer ++ unread reader.buffer = closed_held reader e in
-      rw plain (near_closed reader.buffer.is_spilled reader.buffer (suc (lines_given reader)) (end_told reader) (left reader.source) refl)
+  near_by b e = grind (arith, open_held, open_is_told, are_fed, closed_held, near_all, lines_fit, fed_none, unread_fits, near_one, open_few)
 
   pub near_next : IsNearNext
   near_next = near_by (open_at reader.state) refl
@@ -450,13 +319,7 @@ module _ {S : Type 0} (left : S → Option (List ℕ)) (reader : LineReader S) w
 -- if a line is buffered, its number is below 2^63
 module _ {S : Type 0} (reader : LineReader S) (some : 0 < length (complete reader.buffer)) where
   below_by : (b : Bool) → open_at reader.state ≡ b → reader.lines + 1 ≤ reader.taken
-  below_by false e =
-      let each : reader.lines + length (complete reader.buffer ++ unread reader.buffer) ≤ reader.taken = rw e at reader.a_byte_each in
-      omega (arith, each, some, length-append (complete reader.buffer) (unread reader.buffer))
-  below_by true e =
-      let each : reader.lines + length (take (length (complete reader.buffer) - 1) (complete reader.buffer)) ≤ reader.taken = rw e at reader.a_byte_each in
-      let two : 2 ≤ length (complete reader.buffer) = two_of (length (complete reader.buffer)) some (reader.last.some e) in
-      omega (arith, each, two, length-take (length (complete reader.buffer) - 1) (complete reader.buffer))
+  below_by b e = grind (arith, length-append, length-take)
 
   pub next_below : suc (lines_given reader) < 2 ^ 63
   unfolding lines_given
@@ -467,12 +330,7 @@ unfolding lines_given
 given_below reader = omega (arith, reader.a_byte_each, reader.counted)
 
 taken_by : (state : State) (input : Input) (lines taken : ℕ) → taken < 2 ^ 63 → fault_at state input lines ≡ None → taken_at state taken < 2 ^ 63
-taken_by Reading input lines taken below going = below
-taken_by LastLine input lines taken below going = below
-taken_by Ended input lines taken below going = below
-taken_by ReadFailed input lines taken below going = cc
-taken_by TooLong input lines taken below going = cc
-taken_by NoMemory input lines taken below going = cc
+taken_by state input lines taken below going = grind arith
 
 -- without a fault, fewer than 2^63 bytes were taken
 pub taken_below : {S : Type 0} (reader : LineReader S) → fault_kept reader ≡ None → bytes_taken reader < 2 ^ 63
@@ -482,28 +340,21 @@ taken_below reader going = taken_by reader.state reader.input reader.lines reade
 -- ---- the number of the next line
 
 head_number : (n k : ℕ) (all : List TextLine) (line : TextLine) (more : List TextLine) → AreNumbered n all → take k all ≡ line ∷ more → line.number ≡ n
-head_number n zero all line more a e = cc
-head_number n (suc k) [] line more a e = cc
-head_number n (suc k) (x ∷ xs) line more a e = let same : x ≡ line = cc in ap (λ (l : TextLine). l.number) (sym same) ∙ a.0
+head_number n k all line more a e = grind arith
 
 number_by : (b : Bool) (given : ℕ) (bytes : List ℕ) (line : TextLine) (more : List TextLine) → buffered_lines b given bytes ≡ line ∷ more → line.number ≡ suc given
-number_by true given bytes line more e =
-    let front = take (length bytes - 1) bytes in
-    head_number (suc given) (length (lines_from (suc given) front)) (lines_from (suc given) front) line more (lines_are_numbered (suc given) front) (take_whole (lines_from (suc given) front) ∙ e)
-number_by false given bytes line more e =
-    head_number (suc given) (length (whole_lines_from (suc given) bytes)) (lines_from (suc given) (bytes ++ [])) line more (lines_are_numbered (suc given) (bytes ++ [])) (first_whole (suc given) bytes [] ∙ e)
+number_by true given bytes line more e = grind (arith, (lines_are_numbered (suc given) (take (length bytes - 1) bytes)))
+number_by false given bytes line more e = grind (arith, (lines_are_numbered (suc given) (bytes ++ [])), (first_whole (suc given) bytes []))
 
 pub next_number : {S : Type 0} (reader : LineReader S) (line : TextLine) (more : List TextLine) → buffered_in reader ≡ line ∷ more → line.number ≡ suc (lines_given reader)
 next_number reader line more e = number_by (is_open reader) (lines_given reader) (buffered_bytes reader) line more e
 
 -- a line is buffered only if bytes are
 no_bytes : (b : Bool) (given : ℕ) (line : TextLine) (more : List TextLine) → buffered_lines b given [] ≡ line ∷ more → ⊥
-no_bytes true given line more e = let none : [] ≡ line ∷ more = sym (lines_from-nil (suc given)) ∙ e in cc
-no_bytes false given line more e = let none : [] ≡ line ∷ more = sym (whole_lines_from-last (suc given) [] (λ k d below. absurd (omega (arith, below)))) ∙ e in cc
+no_bytes b given line more e = grind (arith, lines_from-nil, whole_lines_from-last)
 
 some_bytes_by : (bytes : List ℕ) (b : Bool) (given : ℕ) (line : TextLine) (more : List TextLine) → buffered_lines b given bytes ≡ line ∷ more → 0 < length bytes
-some_bytes_by [] b given line more e = absurd (no_bytes b given line more e)
-some_bytes_by (x ∷ xs) b given line more e = omega arith
+some_bytes_by bytes b given line more e = grind (arith, common_steps, no_bytes)
 
 pub next_bytes : {S : Type 0} (reader : LineReader S) (line : TextLine) (more : List TextLine) → buffered_in reader ≡ line ∷ more → 0 < length (buffered_bytes reader)
 next_bytes reader line more e = some_bytes_by (buffered_bytes reader) (is_open reader) (lines_given reader) line more e
@@ -511,55 +362,33 @@ next_bytes reader line more e = some_bytes_by (buffered_bytes reader) (is_open r
 -- and if bytes are, one is
 none_buffered : (b : Bool) (given : ℕ) (bytes : List ℕ) → is_fed bytes ≡ true → (b ≡ true → nat_eq (length bytes) 1 ≡ false) → buffered_lines b given bytes ≡ [] → length bytes ≡ 0
 none_buffered false given bytes fed two none = ap length (fed_none bytes fed (sym (whole_count (suc given) bytes) ∙ ap length none))
-none_buffered true given bytes fed two none =
-    let few : length bytes ≤ 1 = omega (arith, ap bytes_in none, bytes_in-lines (suc given) (take (length bytes - 1) bytes), length-take (length bytes - 1) bytes) in
-    none_of (length bytes) few (two refl)
+none_buffered true given bytes fed two none = grind (arith, (bytes_in-lines (suc given) (take (length bytes - 1) bytes)), (length-take (length bytes - 1) bytes))
   where
     none_of : (n : ℕ) → n ≤ 1 → nat_eq n 1 ≡ false → n ≡ 0
-    none_of n few two = grind (arith, nat_tests)
+    none_of n few two = grind arith
 
 pub some_buffered : {S : Type 0} (reader : LineReader S) → 0 < length (buffered_bytes reader) → buffered_in reader ≡ [] → ⊥
 unfolding buffered_bytes is_open
-some_buffered reader some none =
-    let gone : length (complete reader.buffer) ≡ 0 = none_buffered (open_at reader.state) (lines_given reader) (complete reader.buffer) (are_fed reader.buffer).fed reader.last.some none in
-    omega (arith, some, gone)
+some_buffered reader some none = grind (arith, none_buffered, are_fed)
 
 -- Lemmas on readers of lines, for callers too.
 
 -- a call that took nothing
 pub hands_none : {S : Type 0} (left : S → Option (List ℕ)) (reader : LineReader S) → Hands left reader [] reader
-hands_none left reader = record {
-  left_over = Consumes-nil (left (source_of reader));
-  counted = sym (add-zero _);
-  same_input = refl;
-  fed = λ t b. sym (add-zero _);
-  told_stays = λ t. t;
-}
+hands_none left reader = grind arith
 
 pub not_told : (a b : Bool) → (a ≡ true → b ≡ true) → b ≡ false → a ≡ false
-not_told false b stays e = refl
-not_told true b stays e = absurd (false≢true (sym e ∙ stays refl))
+not_told a b stays e = grind arith
 
 -- one call after another
 pub hands_both : {S : Type 0} (left : S → Option (List ℕ)) (old mid new : LineReader S) (first second : List ℕ)
     → Hands left old first mid → Hands left mid second new → Hands left old (first ++ second) new
-hands_both left old mid new first second p q = record {
-  left_over = Consumes-trans (left (source_of old)) (left (source_of mid)) (left (source_of new)) first second p.left_over q.left_over;
-  counted = omega (arith, p.counted, q.counted, length-append first second);
-  same_input = q.same_input ∙ p.same_input;
-  fed = λ t b.
-      let going : end_told mid ≡ false = not_told (end_told mid) (end_told new) q.told_stays t in
-      omega (arith, q.fed t b, p.fed going (omega (arith, q.counted)), line_feeds-append first second);
-  told_stays = λ t. q.told_stays (p.told_stays t);
-}
+hands_both left old mid new first second p q = grind (arith, Consumes-trans, length-append, line_feeds-append)
 
 -- after the lines given, at most a block more than the source has
 near_left : (told : Bool) (held : List ℕ) (n : ℕ) (left : Option (List ℕ)) (k : ℕ) → length held ≤ k
     → IfSome (option_map (lines_from n) (left_at told held left)) (λ lines. IfSome left (λ rest. bytes_in lines ≤ length rest + k))
-near_left true held n None k short = tt
-near_left false held n None k short = tt
-near_left true held n (Some rest) k short = omega (arith, bytes_in-lines n held, short)
-near_left false held n (Some rest) k short = omega (arith, bytes_in-lines n (held ++ rest), length-append held rest)
+near_left told held n left k short = grind (arith, bytes_in-lines, length-append)
 
 -- of known bytes, those of the lines that are left are left at the source, except at most a block
 pub sound_near : {S : Type 0} (device : Source S) (reader : LineReader S) → IsSound device reader → fault_kept reader ≡ None
@@ -569,6 +398,4 @@ sound_near device reader sound going = near_left (end_told reader) (held reader)
 
 -- of known lines, those left after one was given are the others
 pub given_drops : (old : Option (List TextLine)) (line : TextLine) (new : Option (List TextLine)) → GivesFirst old line new → IfSome old (λ lines. new ≡ Some (drop 1 lines))
-given_drops None line new h = tt
-given_drops (Some lines) line None h = absurd h
-given_drops (Some lines) line (Some rest) h = rw h refl
+given_drops old line new h = grind arith

@@ -1,5 +1,6 @@
 -- Lemmas on the lines of a text.
-use Rattle.bt_lines.proofs.Std.{◌≡◌, ℕ, suc, ◌+◌, ◌-◌, ◌<◌, Bool, true, false, cond, List, [], ◌∷◌, ◌++◌, length, take, drop, get_or, refl, sym, ap, ◌∙◌, append_assoc, append-nil, eqb, arith, flat_map, nat_lt, join_with_byte, ends_with_byte, strip_last, take-append-drop, drop_more, drop_all, slice_split_at, slice_split_none, length-slice_split, join_with_byte-slice_split, eqb-true, ltb-true, and_parts, zero, ◌≤◌, subst, length-append, All-push, All-nil, All-head, All-tail, sum_by-append, false≢true, All, Option, Some, None, get_or-take, get_or_default, length-take-le, take_all, false_from_ne_true, slice_index, eq-eqb}
+use Rattle.std.proofs.lemmas.Grind.{common_steps}
+use Rattle.bt_lines.proofs.Std.{rules, ◌≡◌, ℕ, suc, ◌+◌, ◌-◌, ◌<◌, Bool, true, false, cond, List, [], ◌∷◌, ◌++◌, length, take, drop, get_or, refl, sym, ap, ◌∙◌, append_assoc, append-nil, eqb, arith, flat_map, nat_lt, join_with_byte, ends_with_byte, strip_last, take-append-drop, drop_more, drop_all, slice_split_at, slice_split_none, length-slice_split, join_with_byte-slice_split, eqb-true, ltb-true, and_parts, zero, ◌≤◌, subst, length-append, All-push, All-nil, All-head, All-tail, sum_by-append, false≢true, All, Option, Some, None, get_or-take, get_or_default, length-take-le, take_all, false_from_ne_true, slice_index, eq-eqb}
 use Rattle.bt_lines.specs.model.Lines.{pieces, fed_line, last_line, numbered, lines_from, spelled, end_bytes, TextLine, whole_lines_from, numbered_whole, line_feeds, bytes_in, AreNumbered}
 use Rattle.bt_lines.specs.calls.Columns.{IsBefore, IsFirstOf, Lacks, CutAt}
 use Rattle.bt_lines.specs.calls.Line.{NoLineFeed}
@@ -8,15 +9,12 @@ use Rattle.memchr.specs.Find.{FindsNeedle, IsFirstByte, OccursAt, Passes, is_byt
 
 -- a piece is followed by others
 numbered-more : (n : ℕ) (piece : List ℕ) (rest : List (List ℕ)) → 0 < length rest → numbered n (piece ∷ rest) ≡ fed_line n piece ∷ numbered (suc n) rest
-numbered-more n piece [] h = absurd (omega arith)
-numbered-more n piece (next ∷ rest) h = refl
+numbered-more n piece rest h = grind arith
 
 -- the first line of a text that has a line feed
 pub lines_from-fed : (n : ℕ) (piece rest : List ℕ) → NoLineFeed piece → lines_from n (piece ++ 10 ∷ rest) ≡ fed_line n piece ∷ lines_from (suc n) rest
 unfolding lines_from
-lines_from-fed n piece rest clear =
-    ap (numbered n) (slice_split_at (λ b. eqb b 10) piece 10 rest clear refl)
-    ∙ numbered-more n piece (pieces 10 rest) (omega (arith, length-slice_split (λ b. eqb b 10) rest))
+lines_from-fed n piece rest clear = grind (arith, slice_split_at, numbered-more, length-slice_split)
 
 -- a text without a line feed is its last line
 pub lines_from-last : (n : ℕ) (piece : List ℕ) → NoLineFeed piece → lines_from n piece ≡ last_line n piece
@@ -29,25 +27,16 @@ lines_from-nil n = refl
 
 -- a byte that ends a text, and the text before it
 pub strip_last-push : (byte : ℕ) (xs : List ℕ) → ends_with_byte byte xs ≡ true → strip_last byte xs ++ byte ∷ [] ≡ xs
-strip_last-push byte xs e =
-    let tests = and_parts (nat_lt 0 (length xs)) (eqb (get_or xs (length xs - 1) 0) byte) e in
-    let some : 0 < length xs = ltb-true 0 (length xs) tests.0 in
-    let i = length xs - 1 in
-    let is : get_or xs i 0 ≡ byte = eqb-true (get_or xs i 0) byte tests.1 in
-    let end : drop i xs ≡ byte ∷ [] =
-    drop_more xs i 0 (omega arith) ∙ ap (λ b. b ∷ drop (i + 1) xs) is ∙ ap (λ l. byte ∷ l) (drop_all (i + 1) xs (omega arith)) in
-    rw e (ap (λ l. take i xs ++ l) (sym end) ∙ take-append-drop i xs)
+strip_last-push byte xs e = grind (arith, drop_more, drop_all, take-append-drop)
 
 pub strip_last-other : (byte : ℕ) (xs : List ℕ) → ends_with_byte byte xs ≡ false → strip_last byte xs ≡ xs
 strip_last-other byte xs e = rw e refl
 
 fed_end : (b : Bool) (piece stripped : List ℕ) → (b ≡ true → stripped ++ 13 ∷ [] ≡ piece) → (b ≡ false → stripped ≡ piece) → stripped ++ end_bytes (cond b CrLf Lf) ≡ piece ++ 10 ∷ []
-fed_end true piece stripped with without = sym (append_assoc stripped (13 ∷ []) (10 ∷ [])) ∙ ap (λ l. l ++ 10 ∷ []) (with refl)
-fed_end false piece stripped with without = ap (λ l. l ++ 10 ∷ []) (without refl)
+fed_end b piece stripped with without = grind (arith, append_assoc)
 
 last_end : (b : Bool) (piece stripped : List ℕ) → (b ≡ true → stripped ++ 13 ∷ [] ≡ piece) → (b ≡ false → stripped ≡ piece) → stripped ++ end_bytes (cond b Cr Absent) ≡ piece
-last_end true piece stripped with without = with refl
-last_end false piece stripped with without = append-nil stripped ∙ without refl
+last_end b piece stripped with without = search rules
 
 -- a line with a line feed, as the text has it
 pub spelled-fed : (n : ℕ) (piece : List ℕ) → spelled (fed_line n piece) ≡ piece ++ 10 ∷ []
@@ -55,19 +44,12 @@ spelled-fed n piece = fed_end (ends_with_byte 13 piece) piece (strip_last 13 pie
 
 -- a last line, as the text has it
 pub spelled-last : (n : ℕ) (piece : List ℕ) → flat_map spelled (last_line n piece) ≡ piece
-spelled-last n [] = refl
-spelled-last n (byte ∷ bytes) =
-    let piece = byte ∷ bytes in
-    append-nil (spelled (record { number = n; text = strip_last 13 piece; ending = cond (ends_with_byte 13 piece) Cr Absent }))
-    ∙ last_end (ends_with_byte 13 piece) piece (strip_last 13 piece) (strip_last-push 13 piece) (strip_last-other 13 piece)
+spelled-last n piece = grind (arith, append-nil, strip_last-push)
 
 joined : (n : ℕ) (parts : List (List ℕ)) → flat_map spelled (numbered n parts) ≡ join_with_byte 10 parts
 joined n [] = refl
 joined n (piece ∷ []) = spelled-last n piece
-joined n (piece ∷ next ∷ rest) =
-    ap (λ l. l ++ flat_map spelled (numbered (suc n) (next ∷ rest))) (spelled-fed n piece)
-    ∙ append_assoc piece (10 ∷ []) (flat_map spelled (numbered (suc n) (next ∷ rest)))
-    ∙ ap (λ l. piece ++ 10 ∷ l) (joined (suc n) (next ∷ rest))
+joined n (piece ∷ next ∷ rest) = grind (arith, common_steps, (joined (suc n) (next ∷ rest)))
 
 -- the lines with their line ends are the text
 pub lines_lose_nothing : (n : ℕ) (bytes : List ℕ) → flat_map spelled (lines_from n bytes) ≡ bytes
@@ -83,8 +65,7 @@ module _ (P : ℕ → List ℕ → Type 0) (last : (n : ℕ) (piece : List ℕ) 
       → (b : Bool) → eqb byte 10 ≡ b → P n (front ++ byte ∷ rest)
   at_byte n front byte rest clear behind true e =
       subst (λ b. P n (front ++ b ∷ rest)) (sym (eqb-true byte 10 e)) (fed n front rest clear (behind (suc n) [] (All-nil (λ b. eqb b 10 ≡ false))))
-  at_byte n front byte rest clear behind false e =
-      subst (P n) (append_assoc front (byte ∷ []) rest) (behind n (front ++ byte ∷ []) (All-push (λ b. eqb b 10 ≡ false) front byte clear e))
+  at_byte n front byte rest clear behind false e = grind (arith, (append_assoc front (byte ∷ []) rest), (All-push (λ b. eqb b 10 ≡ false) front byte clear e))
 
   from_front : (rest : List ℕ) (n : ℕ) (front : List ℕ) → NoLineFeed front → P n (front ++ rest)
   from_front [] n front clear = subst (P n) (sym (append-nil front)) (last n front clear)
@@ -100,26 +81,21 @@ line_feeds-append xs ys = sum_by-append _ xs ys
 
 -- a piece without a line feed has none
 pub line_feeds-none : (piece : List ℕ) → NoLineFeed piece → line_feeds piece ≡ 0
-line_feeds-none piece clear =
-    omega (arith, length-slice_split (λ b. eqb b 10) piece, ap length (slice_split_none (λ b. eqb b 10) piece clear))
+line_feeds-none piece clear = grind (arith, (length-slice_split (λ b. eqb b 10) piece), (slice_split_none (λ b. eqb b 10) piece clear))
 
 -- a piece, its line feed and the rest
 pub line_feeds-fed : (piece rest : List ℕ) → NoLineFeed piece → line_feeds (piece ++ 10 ∷ rest) ≡ suc (line_feeds rest)
-line_feeds-fed piece rest clear =
-    omega (arith, length-slice_split (λ b. eqb b 10) rest, length-slice_split (λ b. eqb b 10) (piece ++ 10 ∷ rest), ap length (slice_split_at (λ b. eqb b 10) piece 10 rest clear refl))
+line_feeds-fed piece rest clear = grind (arith, (length-slice_split (λ b. eqb b 10) rest), (length-slice_split (λ b. eqb b 10) (piece ++ 10 ∷ rest)), (slice_split_at (λ b. eqb b 10) piece 10 rest clear refl))
 
 -- ---- complete lines
 
 whole-more : (n : ℕ) (piece : List ℕ) (rest : List (List ℕ)) → 0 < length rest → numbered_whole n (piece ∷ rest) ≡ fed_line n piece ∷ numbered_whole (suc n) rest
-whole-more n piece [] h = absurd (omega arith)
-whole-more n piece (next ∷ rest) h = refl
+whole-more n piece rest h = grind arith
 
 -- the first complete line
 pub whole_lines_from-fed : (n : ℕ) (piece rest : List ℕ) → NoLineFeed piece → whole_lines_from n (piece ++ 10 ∷ rest) ≡ fed_line n piece ∷ whole_lines_from (suc n) rest
 unfolding whole_lines_from
-whole_lines_from-fed n piece rest clear =
-    ap (numbered_whole n) (slice_split_at (λ b. eqb b 10) piece 10 rest clear refl)
-    ∙ whole-more n piece (pieces 10 rest) (omega (arith, length-slice_split (λ b. eqb b 10) rest))
+whole_lines_from-fed n piece rest clear = grind (arith, slice_split_at, whole-more, length-slice_split)
 
 -- a text without a line feed has no complete line
 pub whole_lines_from-last : (n : ℕ) (piece : List ℕ) → NoLineFeed piece → whole_lines_from n piece ≡ []
@@ -144,8 +120,7 @@ whole_front n bytes more = by_lines (λ n bytes. take (line_feeds bytes) (lines_
 -- ---- numbers
 
 last_is_numbered : (n : ℕ) (piece : List ℕ) → AreNumbered n (last_line n piece)
-last_is_numbered n [] = tt
-last_is_numbered n (byte ∷ bytes) = (refl, tt)
+last_is_numbered n piece = grind arith
 
 -- the lines of a text count up from the number given
 pub lines_are_numbered : (n : ℕ) (bytes : List ℕ) → AreNumbered n (lines_from n bytes)
@@ -163,9 +138,7 @@ whole_lines_are_numbered = by_lines (λ n bytes. AreNumbered n (whole_lines_from
 
 -- lines after one another have the bytes of both
 pub bytes_in-append : (xs ys : List TextLine) → bytes_in (xs ++ ys) ≡ bytes_in xs + bytes_in ys
-bytes_in-append [] ys = omega arith
-bytes_in-append (x ∷ xs) ys =
-    omega (arith, bytes_in-append xs ys, length-append (spelled x) (flat_map spelled xs), length-append (spelled x) (flat_map spelled (xs ++ ys)))
+bytes_in-append xs ys = grind (arith, common_steps)
 
 -- the lines of a text have its bytes
 pub bytes_in-lines : (n : ℕ) (bytes : List ℕ) → bytes_in (lines_from n bytes) ≡ length bytes
@@ -179,8 +152,7 @@ bytes_in-drop (suc k) (line ∷ lines) = omega (arith, bytes_in-drop k lines, le
 
 -- a list of bytes that begins with a piece without a line feed, cut at its first one
 first_cut : (piece rest front back : List ℕ) → NoLineFeed front → front ++ back ≡ piece ++ 10 ∷ rest → length rest ≤ length back
-first_cut piece rest [] back clear e =
-    omega (arith, ap length e, length-append piece (10 ∷ rest))
+first_cut piece rest [] back clear e = grind (arith, length-append)
 first_cut [] rest (byte ∷ front) back clear e = absurd (false≢true (sym (All-head (λ b. eqb b 10 ≡ false) byte front clear) ∙ ap (λ b. eqb b 10) (heads byte 10 (front ++ back) rest e)))
   where
     first : List ℕ → ℕ
@@ -189,8 +161,7 @@ first_cut [] rest (byte ∷ front) back clear e = absurd (false≢true (sym (All
 
     heads : (x y : ℕ) (xs ys : List ℕ) → x ∷ xs ≡ y ∷ ys → x ≡ y
     heads x y xs ys e = ap first e
-first_cut (other ∷ piece) rest (byte ∷ front) back clear e =
-    first_cut piece rest front back (All-tail (λ b. eqb b 10 ≡ false) byte front clear) (ap (drop 1) e)
+first_cut (other ∷ piece) rest (byte ∷ front) back clear e = grind (arith, (first_cut piece rest front back (All-tail (λ b. eqb b 10 ≡ false) byte front clear) (ap (drop 1) e)))
 
 -- after a piece without a line feed: the lines except the first have at most the bytes that come there
 pub bytes_behind_first : (n : ℕ) (front back : List ℕ) → NoLineFeed front → bytes_in (drop 1 (lines_from n (front ++ back))) ≤ length back
@@ -215,40 +186,27 @@ IsColumn column = All IsInside column
 
 -- a column that a tab follows is the first
 pub cut_at : (text : List ℕ) (n : ℕ) → n < length text → get_or text n 0 ≡ 9 → IsColumn (take n text) → pieces 9 text ≡ take n text ∷ pieces 9 (drop (n + 1) text)
-cut_at text n within tab column =
-    let there : drop n text ≡ 9 ∷ drop (n + 1) text = drop_more text n 0 within ∙ ap (λ b. b ∷ drop (n + 1) text) tab in
-    let whole : text ≡ take n text ++ 9 ∷ drop (n + 1) text = sym (take-append-drop n text) ∙ ap (λ l. take n text ++ l) there in
-    ap (pieces 9) whole ∙ slice_split_at (λ byte. eqb byte 9) (take n text) 9 (drop (n + 1) text) column refl
+cut_at text n within tab column = grind (arith, (drop_more text n 0 within), (take-append-drop n text), (slice_split_at (λ byte. eqb byte 9) (take n text) 9 (drop (n + 1) text) column refl))
 
 -- Lemmas on the pieces of a text between separators.
 
 -- none comes before the first separator
 clear_before : (s : ℕ) (bytes : List ℕ) (i : ℕ) → IsFirstByte (is_byte s) bytes (Some i) → All (λ x. eqb x s ≡ false) (take i bytes)
-clear_before s bytes i first = λ k d h.
-    let below : i < length bytes = first.0.high in
-    let size : length (take i bytes) ≡ i = length-take-le i bytes (omega arith) in
-    let small : k < i = omega (arith, size, h) in
-    rw (get_or-take i bytes k d small, get_or_default bytes k d 0 (omega arith)) (false_from_ne_true _ (first.0.before k (omega arith) small))
+clear_before s bytes i first = grind (arith, length-take-le, get_or-take, get_or_default)
 
 -- a text that is cut at its first separator
 pub pieces_cut : (s : ℕ) (bytes : List ℕ) (i : ℕ) → IsFirstByte (is_byte s) bytes (Some i) → pieces s bytes ≡ take i bytes ∷ pieces s (drop (i + 1) bytes)
 pieces_cut s bytes i first =
     let below : i < length bytes = first.0.high in
-    let cut = slice_split_at (λ x. eqb x s) (take i bytes) (get_or bytes i 0) (drop (i + 1) bytes) (clear_before s bytes i first) first.1 in
-    ap (pieces s) (sym (take-append-drop i bytes) ∙ ap (λ l. take i bytes ++ l) (drop_more bytes i 0 below)) ∙ cut
+    grind (arith, (slice_split_at (λ x. eqb x s) (take i bytes) (get_or bytes i 0) (drop (i + 1) bytes) (clear_before s bytes i first) first.1), (take-append-drop i bytes), (drop_more bytes i 0 below))
 
 -- a text without a separator is one piece
 pub pieces_whole : (s : ℕ) (bytes : List ℕ) → IsFirstByte (is_byte s) bytes None → pieces s bytes ≡ bytes ∷ []
-pieces_whole s bytes nowhere =
-    slice_split_none (λ x. eqb x s) bytes (λ k d h. rw (get_or_default bytes k d 0 h) (false_from_ne_true _ (nowhere k (omega arith) h)))
+pieces_whole s bytes nowhere = grind (arith, (slice_split_none (λ x. eqb x s) bytes (λ k d h. rw (get_or_default bytes k d 0 h) (false_from_ne_true _ (nowhere k (omega arith) h)))))
 
 -- the first tab divides the first column from the others
 pub tab_divides : (text : List ℕ) (found : Option ℕ) → IsFirstByte (is_byte 9) text found → IsFirstOf 9 text found × CutAt text found
-tab_divides text None nowhere = (λ k d h. rw (get_or_default text k d 0 h) (false_from_ne_true _ (nowhere k (omega arith) h)), pieces_whole 9 text nowhere)
-tab_divides text (Some i) first = (
-  (first.0.high, sym (take-append-drop i text) ∙ ap (λ l. take i text ++ l) (drop_more text i 0 first.0.high ∙ ap (λ byte. byte ∷ drop (i + 1) text) (eqb-true (get_or text i 0) 9 first.1)), clear_before 9 text i first),
-  pieces_cut 9 text i first,
-)
+tab_divides text found nowhere = grind (arith, common_steps, pieces_whole, clear_before, pieces_cut)
 
 -- the first column ends before the first tab
 pub before_tab : (text : List ℕ) (end : ℕ) → IsBefore 9 text end → end < length text → pieces 9 text ≡ take end text ∷ pieces 9 (drop (end + 1) text)
@@ -261,18 +219,10 @@ without_tab text end is all = slice_split_none (λ x. eqb x 9) text (subst (Lack
 -- a needle of one byte
 module _ (hay : List ℕ) (b : ℕ) where
   byte_occurs : (k : ℕ) → k < length hay → Passes (is_byte b) hay k → OccursAt hay (b ∷ []) k
-  byte_occurs k h e = record {
-    fits = omega (arith, h);
-    reads = λ j below.
-        let none : j ≡ zero = omega (arith, below) in
-        let at : k + zero ≡ k = omega arith in
-        rw (none, at) (eqb-true (slice_index hay k) b e);
-  }
+  byte_occurs k h e = grind arith
 
   occurs_byte : (k : ℕ) → OccursAt hay (b ∷ []) k → Passes (is_byte b) hay k
-  occurs_byte k o =
-      let at : k + zero ≡ k = omega arith in
-      eq-eqb (slice_index hay k) b (ap (slice_index hay) (sym at) ∙ o.reads zero (omega arith))
+  occurs_byte k o = grind arith
 
   -- the needle's first match is the first such byte
   pub finds_byte : (found : Option ℕ) → FindsNeedle hay (b ∷ []) 0 found → IsFirstByte (is_byte b) hay found

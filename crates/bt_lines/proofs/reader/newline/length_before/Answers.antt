@@ -8,6 +8,4 @@ returns-in-Some-find_near c =
     (feed_first c.args.byte c.args.text.now _ 32 c.in-Some-find_near.at c.in-Some.ensures.cases.same c.in-Some.ensures.cases.enough c.in-Some-find_near.ensures)
 
 pub late_length-requires-2-clause-clear : goal.late_length-requires-2-clause-clear
-late_length-requires-2-clause-clear c =
-    let text = c.args.text.now in
-    none_behind c.args.byte text 0 (omega arith) (λ k d h. absurd (omega (arith, h))) _ 32 (chunk_first text _ 32 c.in-Some.ensures.cases.same c.in-Some.ensures.cases.enough) c.in_default-find_near.ensures
+late_length-requires-2-clause-clear c = grind arith

@@ -7,16 +7,8 @@ returns-in-Some-find_near c =
     before_feed 10 c.args.text.now c.in-Some-find_near.at
     (feed_first 10 c.args.text.now _ 32 c.in-Some-find_near.at c.in-Some.ensures.cases.same c.in-Some.ensures.cases.enough c.in-Some-find_near.ensures)
 
-pub late_length-requires-in_default-first_chunk-clause-clear : goal.late_length-requires-in_default-first_chunk-clause-clear
-late_length-requires-in_default-first_chunk-clause-clear c =
-    let text = c.args.text.now in
-    none_behind 10 text 0 (omega arith) (λ k d h. absurd (omega (arith, h))) _ 32 (chunk_first text _ 32 c.in-Some.ensures.cases.same c.in-Some.ensures.cases.enough) c.in_default-find_near.ensures
-
 pub overflow_add-result : goal.overflow_add-result
-overflow_add-result c =
-    let size : length c.in-Some-first_chunk.next.now ≡ 32 =
-    ap length c.in-Some-first_chunk.ensures.cases.same ∙ length-take-le 32 _ c.in-Some-first_chunk.ensures.cases.enough in
-    omega (arith, c.in-Some-find_near-2.ensures.0, size)
+overflow_add-result c = grind (arith, (length-take-le 32 _ c.in-Some-first_chunk.ensures.cases.enough))
 
 pub returns-in-Some-find_near-2 : goal.returns-in-Some-find_near-2
 returns-in-Some-find_near-2 c =

@@ -1,4 +1,4 @@
-use Rattle.bt_lines.proofs.Std.{refl}
+use Rattle.bt_lines.proofs.Std.{arith, refl}
 use Rattle.bt_lines.proofs.lemmas.reader.block.BufferLemmas.{unread_fits, more_read, none_yet, not_full, some_full, source_failed, text_ended, text_too_long, then_counted, then_long}
 use Rattle.bt_lines.proofs.lemmas.reader.block.ReadsLemmas.{counts_none, counts_then, fails_then}
 use Rattle.bt_lines.proofs.reader.spill.read_lines.Goals as goal
@@ -16,19 +16,6 @@ returns-then-is_full-clause-buffers g c =
 
 pub ask_more-requires-clause-room : goal.ask_more-requires-clause-room
 ask_more-requires-clause-room g c = not_full _ c.if-is_full.ensures (unread_fits c.find_lines.new.self)
-
-pub loop-buffer-preserved : goal.loop-buffer-preserved
-loop-buffer-preserved g c =
-    let finds = c.loop-buffer-test.ensures.finds in (
-      more_read _ _ _ _ _ _ _ c.loop-buffer.invariant.0 _ finds.1 finds.2 _ _ _ c.in-Bytes.ensures.asks,
-      counts_then g.S.Source.is_read _ _ _ _ _ _ c.loop-buffer.invariant.1 c.in-Bytes.ensures.counted,
-      c.in-Bytes.ensures.none,
-    )
-
-pub end_text-requires-clause-room : goal.end_text-requires-clause-room
-end_text-requires-clause-room g c =
-    let room = not_full _ c.if-is_full.ensures (unread_fits c.find_lines.new.self) in
-    rw c.in-NoBytes.ensures.asks.came.1 room
 
 pub returns-in-NoBytes-clause-buffers : goal.returns-in-NoBytes-clause-buffers
 returns-in-NoBytes-clause-buffers g c =

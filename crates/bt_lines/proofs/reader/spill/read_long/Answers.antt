@@ -3,10 +3,6 @@ use Rattle.bt_lines.proofs.lemmas.reader.block.BufferLemmas.{fed_line, one_line,
 use Rattle.bt_lines.proofs.lemmas.reader.block.ReadsLemmas.{counts_none, counts_then, fails_then}
 use Rattle.bt_lines.proofs.reader.spill.read_long.Goals as goal
 
-pub reads-init : goal.reads-init
-reads-init g c =
-    (at_first _ _ _ _ _ c.begin_spill.ensures.empty c.requires.counted, counts_none g.S.Source.is_read _ _ _ _ refl refl, c.begin_spill.ensures.none, c.begin_spill.ensures.plain)
-
 pub returns-in-Err-clause-buffers : goal.returns-in-Err-clause-buffers
 returns-in-Err-clause-buffers g c = at_refusal _ _ _ _ c.requires.some c.requires.clear _ _ _ _ (rw c.begin_spill.ensures.unread at c.reads.invariant.0) _ _ _ c.spill.ensures.moves _ _ c.in-Err.is c.spill.ensures.none
 
@@ -20,21 +16,6 @@ use_spilled-requires g c =
 pub returns-in-Ok-true-clause-buffers : goal.returns-in-Ok-true-clause-buffers
 returns-in-Ok-true-clause-buffers g c =
     at_feed _ _ _ _ c.requires.some c.requires.clear _ _ _ _ (rw c.begin_spill.ensures.unread at c.reads.invariant.0) _ _ _ c.spill.ensures.moves _ _ (c.in-Ok-true.is ∙ ap Ok c.in-Ok-true.field-0-test) c.use_spilled.ensures.lines c.use_spilled.ensures.unread
-
-pub ask_more-requires : goal.ask_more-requires
-ask_more-requires g c = record {
-  counted = c.reads.invariant.0.within;
-  none = c.spill.ensures.none;
-  room = let moves = rw (c.in-Ok-false.is ∙ ap Ok c.in-Ok-false.field-0-test) at c.spill.ensures.moves in omega (arith, ap length moves.1);
-}
-
-pub reads-preserved : goal.reads-preserved
-reads-preserved g c = (
-  rw c.begin_spill.ensures.unread (more_came _ _ _ _ c.requires.some c.requires.clear _ _ _ _ (rw c.begin_spill.ensures.unread at c.reads.invariant.0) _ _ _ c.spill.ensures.moves (c.in-Ok-false.is ∙ ap Ok c.in-Ok-false.field-0-test) _ _ _ _ c.in-Bytes.ensures.spilled c.in-Bytes.ensures.asks),
-  counts_then g.S.Source.is_read _ _ _ _ _ _ c.reads.invariant.1 c.in-Bytes.ensures.counted,
-  c.in-Bytes.ensures.none,
-  c.in-Bytes.ensures.plain,
-)
 
 pub returns-in-BadRead-clause-buffers : goal.returns-in-BadRead-clause-buffers
 returns-in-BadRead-clause-buffers g c =

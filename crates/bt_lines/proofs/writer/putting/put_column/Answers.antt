@@ -1,4 +1,4 @@
-use Rattle.bt_lines.proofs.Std.{Ok, Err, err_from_is_err_and}
+use Rattle.bt_lines.proofs.Std.{arith, Ok, Err, err_from_is_err_and}
 use Rattle.bt_lines.proofs.lemmas.Writer.{fails_before, puts_from, puts_more}
 use Rattle.bt_lines.proofs.writer.putting.put_column.Goals as goal
 
@@ -7,11 +7,3 @@ returns-in_err-put g c =
     let p = err_from_is_err_and c.from_residual.result c.from_residual.ensures.1 in
     let e = c.in_err-put.ensures in
     rw (p.1, p.2) (fails_before _ _ _ _ _ (puts_from {A = Unit {0}} _ _ c.args.column.now (Err c.in_err-put.field-0.0) e.put e.block e.front e.grows e.served e.fault e.cause e.again))
-
-pub returns : goal.returns
-returns g c =
-    let e = c.in_ok-put.ensures in
-    let s = c.put-2.ensures in
-    puts_more _ _ _ _ _ c.put-2.result
-    (puts_from {A = Unit {0}} c.args.out.now.output c.put.new.self.output c.args.column.now (Ok tt) e.put e.block e.front e.grows e.served e.fault e.cause e.again)
-    (puts_from _ _ _ _ s.put s.block s.front s.grows s.served s.fault s.cause s.again)

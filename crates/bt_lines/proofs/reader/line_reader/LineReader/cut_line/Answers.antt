@@ -1,3 +1,5 @@
+use Rattle.bt_lines.proofs.Std.{arith}
+use Rattle.std.proofs.lemmas.Grind.{common_steps}
 use Rattle.bt_lines.proofs.Std.{◌∙◌, ◌+◌, ◌∷◌, ◌++◌, None, Some, ap, length, refl, sym, nat_lt}
 use Rattle.bt_lines.proofs.lemmas.reader.block.BufferLemmas.{fed_clear}
 use Rattle.bt_lines.proofs.lemmas.reader.lines.BufferedLemmas.{begins_first, are_fed, cut_gives, cut_within, cuts_first, last_cut, quiet_cut, some_at, spaced_cut}
@@ -9,8 +11,7 @@ use Rattle.bt_lines.proofs.reader.line_reader.LineReader.cut_line.Goals as goal
 
 pub take_line-requires-clause-line : goal.take_line-requires-clause-line
 unfolding buffered_bytes
-take_line-requires-clause-line g c =
-    cut_within _ (line_shown c.in-Some.field-0) (begins_first c.buffered.result _ _ _ (Some (line_shown c.in-Some.field-0)) c.buffered.ensures.begins c.in-Some.ensures.cut)
+take_line-requires-clause-line g c = grind (arith, common_steps, cut_within, (begins_first c.buffered.result _ _ _ (Some (line_shown c.in-Some.field-0)) c.buffered.ensures.begins c.in-Some.ensures.cut))
 
 pub returns-clause-cut : goal.returns-clause-cut
 unfolding buffered_bytes

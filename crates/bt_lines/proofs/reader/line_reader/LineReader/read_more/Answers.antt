@@ -1,3 +1,5 @@
+use Rattle.bt_lines.proofs.Std.{arith}
+use Rattle.std.proofs.lemmas.Grind.{common_steps}
 use Rattle.bt_lines.proofs.Std.{◌∙◌, ◌++◌, ap, eqb, length, refl, sym, eqb-true, false≢true}
 use Rattle.bt_lines.specs.calls.Reader.{fault_kept, input_of, lines_given}
 use Rattle.bt_lines.specs.inside.ReadBuffer.{complete, unread}
@@ -6,15 +8,7 @@ use Rattle.bt_lines.proofs.lemmas.reader.block.ReadsLemmas.{some_is, tells_unrea
 use Rattle.bt_lines.proofs.reader.line_reader.LineReader.read_more.Goals as goal
 
 pub invariant_of-self : goal.invariant_of-self
-invariant_of-self g c =
-    let old = c.args.self.now in
-    let b = c.in-LineFeed.ensures.buffers in
-    record {
-      counted = b.within;
-      a_byte_each = spaced old.lines (complete old.buffer) (unread old.buffer) b.bytes _ _ c.requires.none b.counted old.state c.requires.going old.a_byte_each _ _ b.stopped.0;
-      quiet = λ e. absurd (quiet_going old.state c.requires.going e);
-      last = last_going old.state c.requires.going _ _;
-    }
+invariant_of-self g c = grind (arith, common_steps, spaced, quiet_going, last_going)
 
 pub invariant_of-self-in-End-2 : goal.invariant_of-self-in-End-2
 invariant_of-self-in-End-2 g c =
@@ -80,5 +74,4 @@ returns-in-NoMemory-clause-fills g c =
 
 pub returns-in-Failed-clause-own_failure : goal.returns-in-Failed-clause-own_failure
 unfolding fault_kept
-returns-in-Failed-clause-own_failure g c = λ was.
-    tells_unread g.S.Source.is_read c.args.self.now _ _ _ _ (sym (some_is _ _ c.fault.ensures)) (unread_by g.S.Source.is_read c.args.self.now _ c.in-Failed.ensures.counted)
+returns-in-Failed-clause-own_failure g c = grind (arith, tells_unread, some_is, unread_by)

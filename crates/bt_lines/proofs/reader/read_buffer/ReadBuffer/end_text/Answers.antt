@@ -4,18 +4,9 @@ use Rattle.bt_lines.specs.inside.ReadBuffer.{complete, unread}
 use Rattle.bt_lines.specs.inside.Shape.{AreComplete}
 use Rattle.bt_lines.proofs.reader.read_buffer.ReadBuffer.end_text.Goals as goal
 
-pub invariant_of-self-clause-ordered : goal.invariant_of-self-clause-ordered
-invariant_of-self-clause-ordered c =
-    let old = c.args.self.now in
-    omega (arith, old.whole_searched, old.searched_within)
-
 pub invariant_of-self-clause-within : goal.invariant_of-self-clause-within
 unfolding unread
-invariant_of-self-clause-within c =
-    let old = c.args.self.now in
-    let size : length old.bytes ≡ 8192 = search rules in
-    let fits : old.end ≤ length old.bytes = omega (arith, size, old.within) in
-    omega (arith, length-range old.bytes old.whole old.end fits, c.requires.front, c.requires.room)
+invariant_of-self-clause-within c = search rules
 
 pub invariant_of-self-clause-clear : goal.invariant_of-self-clause-clear
 invariant_of-self-clause-clear c = none_searched (set c.args.self.now.bytes c.args.self.now.end 10) (c.args.self.now.end + 1)
@@ -32,10 +23,4 @@ invariant_of-self-clause-are_complete c =
 
 pub returns-clause-lines : goal.returns-clause-lines
 unfolding complete unread
-returns-clause-lines c =
-    let old = c.args.self.now in
-    let size : length old.bytes ≡ 8192 = search rules in
-    let fits : old.end ≤ length old.bytes = omega (arith, size, old.within) in
-    let below : old.end < length old.bytes = omega (arith, size, length-range old.bytes old.whole old.end fits, c.requires.front, c.requires.room) in
-    end_added old.bytes old.whole old.end (omega (arith, old.whole_searched, old.searched_within)) below
-    ∙ sym (closed_some (slice_range old.bytes old.whole old.end) (omega (arith, length-range old.bytes old.whole old.end fits, old.whole_searched, old.searched_within, c.if-self.false)))
+returns-clause-lines c = grind (arith, length-range, end_added, closed_some)

@@ -12,21 +12,12 @@ invariant_of-self-clause-clear c =
 
 pub returns-clause-unread : goal.returns-clause-unread
 unfolding unread
-returns-clause-unread c =
-    let old = c.args.self.now in
-    let size : length old.bytes ≡ 8192 = search rules in
-    front_to old.bytes _ old.whole old.end old.end (omega (arith, old.whole_searched, old.searched_within)) (omega arith) (omega (arith, size, old.within)) c.copy_within.ensures.after
+returns-clause-unread c = grind (arith, front_to)
 
 pub returns-clause-end : goal.returns-clause-end
 unfolding unread
-returns-clause-end c =
-    let old = c.args.self.now in
-    let size : length old.bytes ≡ 8192 = search rules in
-    sym (length-range old.bytes old.whole old.end (omega (arith, size, old.within)))
+returns-clause-end c = grind (arith, length-range)
 
 pub returns-then-self-eq0-clause-end : goal.returns-then-self-eq0-clause-end
 unfolding unread
-returns-then-self-eq0-clause-end c =
-    let old = c.args.self.now in
-    let size : length old.bytes ≡ 8192 = search rules in
-    omega (arith, length-range old.bytes old.whole old.end (omega (arith, size, old.within)), c.if-self-eq0.true, c.clear_lines.ensures.searched.1)
+returns-then-self-eq0-clause-end c = search rules

@@ -3,10 +3,6 @@ use Rattle.bt_lines.proofs.lemmas.reader.block.BufferLemmas.{behind_read, front_
 use Rattle.bt_lines.specs.inside.ReadBuffer.{unread}
 use Rattle.bt_lines.proofs.reader.read_buffer.ReadBuffer.read_more.Goals as goal
 
-pub read_behind-requires-clause-some : goal.read_behind-requires-clause-some
-read_behind-requires-clause-some g c =
-    omega (arith, c.move_front.ensures.end, c.requires.room, c.requires.some, c.min-most.ensures)
-
 pub invariant_of-self : goal.invariant_of-self
 invariant_of-self g c =
     let mid = c.move_front.new.self in
@@ -26,11 +22,6 @@ pub invariant_of-self-2-clause-clear : goal.invariant_of-self-2-clause-clear
 invariant_of-self-2-clause-clear g c =
     let mid = c.move_front.new.self in
     front_same mid.bytes _ mid.whole mid.searched mid.end c.in_ok-count.ensures.before mid.whole_searched mid.searched_within mid.clear
-
-pub invariant_of-self-2-clause-are_complete : goal.invariant_of-self-2-clause-are_complete
-invariant_of-self-2-clause-are_complete g c =
-    let mid = c.move_front.new.self in
-    lines_front mid.is_spilled mid.spilled.items mid.bytes _ mid.start mid.whole mid.end c.in_ok-count.ensures.before mid.ordered (omega (arith, mid.whole_searched, mid.searched_within)) mid.are_complete
 
 pub returns-clause-bytes : goal.returns-clause-bytes
 unfolding unread

@@ -22,12 +22,8 @@ invariant_of-self c =
 
 pub returns-clause-text : goal.returns-clause-text
 unfolding complete text_in
-returns-clause-text c =
-    let old = c.args.self.now in
-    line_text old.is_spilled old.spilled.items old.bytes old.start old.whole c.args.text c.args.line c.requires.text c.requires.line
+returns-clause-text c = grind (arith, line_text)
 
 pub returns-clause-lines : goal.returns-clause-lines
 unfolding complete
-returns-clause-lines c =
-    let old = c.args.self.now in
-    lines_dropped old.is_spilled old.spilled.items old.bytes old.start old.whole c.args.line c.requires.line
+returns-clause-lines c = grind (arith, lines_dropped)

@@ -6,6 +6,4 @@ pub returns-then-self-clause-front : goal.returns-then-self-clause-front
 returns-then-self-clause-front g c = rw (← c.self.view_is) (front_held _ _ _)
 
 pub returns-then-piece-room-clause-block : goal.returns-then-piece-room-clause-block
-returns-then-piece-room-clause-block g c =
-    holds_held _ _
-    (omega (arith, ap length c.append.ensures, length-append c.self.inside.held c.args.piece.now, c.room.ensures, c.if-piece-room.true))
+returns-then-piece-room-clause-block g c = grind (arith, holds_held, length-append)
