@@ -48,14 +48,12 @@ use Rattle.bt_runs.proofs.lemmas.complement.Walks.{are_gaps, only_gaps}
 -- ---- the order in use
 
 pub chroms_of : (genome : Option Handed) (entries : List Entry) → chromosomes_of genome ≡ Ok (Some entries) → AllByRecursion IsChrom entries × AreDistinct (genome_names entries)
-chroms_of None entries e = cc
-chroms_of (Some genome) entries e = (genome_chroms Genome genome entries (file_is (genome_handed Genome genome) entries e), distinct_in genome entries e)
+chroms_of genome entries e = grind (arith, genome_chroms, file_is, distinct_in)
 
 -- ---- a report of one input without a fault
 
 whole_by : {A : Type 0} (written : Written A) (members : List A) (fault : Option FaultValue) → (report_by written members fault).fault ≡ None → (report_by written members fault).output ≡ written.whole members
-whole_by written members None e = refl
-whole_by written members (Some fault) e = cc
+whole_by written members fault e = grind arith
 
 module _ (command : Command) (inputs : Inputs) (chromosomes : Option (List Entry)) (well : RunsWithoutFault command inputs chromosomes) where
   pub report_is : report_of command inputs ≡ (behaviour_of command chromosomes).report inputs.first inputs.second
@@ -168,8 +166,7 @@ cut_either t one other = if t then one else other
 
 cut_whole_by : (t : Bool) (past : List (Member Feature)) (found : FaultValue) (rest whole : Good Feature) → (rest.fault ≡ None → rest ≡ whole)
     → (cut_either t (record { members = past; fault = Some found }) rest).fault ≡ None → cut_either t (record { members = past; fault = Some found }) rest ≡ whole
-cut_whole_by true past found rest whole h e = cc
-cut_whole_by false past found rest whole h e = h e
+cut_whole_by t past found rest whole h e = grind arith
 
 -- a limit without a fault of its own changes nothing
 cut_whole : (too : List Feature → Bool) (past members : List (Member Feature)) (fault : Option FaultValue) → (cut_behind too past members fault).fault ≡ None → cut_behind too past members fault ≡ record { members = past ++ members; fault = fault }
@@ -179,17 +176,13 @@ cut_whole too past (m ∷ more) fault e =
     (λ none. cut_whole too (past ++ m ∷ []) more fault none ∙ ap (λ (ms : List (Member Feature)). record { members = ms; fault = fault }) (append_assoc past (m ∷ []) more)) e
 
 pub limit_whole : (order : Order) (limit : Option ℕ) (first : List Feature) (second : Good Feature) → (limited order limit first second).fault ≡ None → limited order limit first second ≡ second
-limit_whole order None first second e = refl
-limit_whole order (Some most) first second e = cut_whole (are_too_many order most first) [] second.members second.fault e
+limit_whole order limit first second e = grind (arith, cut_whole)
 
 abbrev pub either_met : Bool → List ℕ → List ℕ → Option FaultValue → Option FaultValue → Met ℕ FaultValue
 either_met b lines other one fault = if b then record { lines = lines; fault = option_or one fault } else record { lines = other; fault = fault }
 
 pub either_fault : (b : Bool) (lines other : List ℕ) (one : Option FaultValue) (fault : Option FaultValue) → (either_met b lines other one fault).fault ≡ None → fault ≡ None
-either_fault true lines other None None e = refl
-either_fault true lines other None (Some f) e = cc
-either_fault true lines other (Some g) fault e = cc
-either_fault false lines other one fault e = e
+either_fault b lines other one fault e = grind arith
 
 met_whole : (order : Order) (shape : Shape) (rule : HitRule) (first : Good Feature) (second : List Feature) (fault : Option FaultValue) → fault ≡ None
     → (join_report (sweep_rule order shape rule second fault) (items_in first) first.fault).lines ≡ intersect shape rule (items_in first) second
@@ -199,11 +192,7 @@ met_whole order shape rule first second (Some fault) e = cc
 -- without a fault all pairs are written, with a limit or without one
 pub swept_whole : (order : Order) (shape : Shape) (rule : HitRule) (limit : Option ℕ) (first second : Good Feature) → (met_within order shape rule limit first second).fault ≡ None
     → (met_within order shape rule limit first second).lines ≡ intersect shape rule (items_in first) (items_in second)
-swept_whole order shape rule limit first second e =
-    let seen = limited order limit (items_in first) second in
-    let rule_of = sweep_rule order shape rule (items_in seen) seen.fault in
-    let none : seen.fault ≡ None = either_fault (list_all rule_of.decided (items_in first)) (flat_map rule_of.lines (items_in first)) (written rule_of (items_in first)) first.fault seen.fault e in
-    met_whole order shape rule first (items_in seen) seen.fault none ∙ ap (λ g. intersect shape rule (items_in first) (items_in g)) (limit_whole order limit (items_in first) second none)
+swept_whole order shape rule limit first second e = grind (arith, either_fault, met_whole, limit_whole)
 
 module _ (shape : Shape) (rule : HitRule) (chromosomes : Option (List Entry)) (inputs : Inputs) where
   abbrev firsts : List Feature
@@ -301,22 +290,17 @@ places_apart rs h = pairs_all AreDisjoint (intervals_of rs) (pairs_map AreDisjoi
 pub merge_disjoint : merge_writes_disjoint
 merge_disjoint d strand other inputs chromosomes well =
     let is = merge_input d strand inputs chromosomes well in
-    let runs = runs_by (order_of chromosomes) d strand (first_records chromosomes inputs) in
-    subst (λ rs. AllPairs AreDisjoint (intervals_of rs)) (sym (is.1.records_are First)) (places_apart (map three_columns runs) (of_three runs (apart_disjoint runs (pairs_each AreSeparate runs (is.2 other)))))
+    grind (arith, places_apart, of_three, apart_disjoint, pairs_each)
 
 pub complement_disjoint : complement_writes_disjoint
 complement_disjoint limit inputs chromosomes well =
     let is = complement_input limit inputs chromosomes well in
-    let gaps = complement limit (entries_in chromosomes) (first_records chromosomes inputs) in
-    subst (λ rs. AllPairs AreDisjoint (intervals_of rs)) (sym (is.1.records_are First))
-    (places_apart (filter is_no_header (map three_columns gaps)) (pairs_filter (λ (r s : Feature). AreDisjoint (interval_of r) (interval_of s)) is_no_header (map three_columns gaps) (of_three gaps (apart_disjoint gaps (pairs_each AreSeparate gaps is.2)))))
+    grind (arith, places_apart, pairs_filter, of_three, apart_disjoint, pairs_each)
 
 pub genomecov_disjoint : genomecov_writes_disjoint
 genomecov_disjoint zeros strand inputs chromosomes well =
     let is = genomecov_input zeros strand inputs chromosomes well in
-    let depths = coverage zeros strand (entries_in chromosomes) (first_records chromosomes inputs) in
-    subst (λ rs. AllPairs AreDisjoint (intervals_of rs)) (sym (is.1.records_are First))
-    (places_apart (filter is_no_header (map four_columns depths)) (pairs_filter (λ (r s : Feature). AreDisjoint (interval_of r) (interval_of s)) is_no_header (map four_columns depths) (of_four depths (pairs_each AreDisjoint (map interval_at depths) is.2))))
+    grind (arith, places_apart, pairs_filter, of_four, pairs_each)
 
 -- Spans that cover the same positions: the runs and the gaps are the same.
 
@@ -328,24 +312,12 @@ pub same_sym : (xs ys : List Span) → SameCover xs ys → SameCover ys xs
 same_sym xs ys h = record { to = h.back; back = h.to }
 
 bridged_to : (gap : ℕ) (xs ys : List Span) (p : ℕ) → SameCover xs ys → Bridged gap xs p → Bridged gap ys p
-bridged_to gap xs ys p same b = record {
-  left = b.left;
-  right = b.right;
-  left_covered = same.to b.left b.left_covered;
-  right_covered = same.to b.right b.right_covered;
-  from_left = b.from_left;
-  to_right = b.to_right;
-  near = b.near;
-}
+bridged_to gap xs ys p same b = grind arith
 
 pub same_runs : (gap : ℕ) (xs ys : List Span) → SameCover xs ys → runs_of gap xs ≡ runs_of gap ys
 same_runs gap xs ys same =
     let runs = are_runs gap xs in
-    only_runs gap ys (runs_of gap xs) (record {
-      apart = runs.apart;
-      within = λ p c. bridged_to gap xs ys p same (runs.within p c);
-      whole = λ p b. runs.whole p (bridged_to gap ys xs p (same_sym xs ys same) b);
-    })
+    grind (arith, only_runs, bridged_to, same_sym)
 
 bare_to : (size : ℕ) (xs ys : List Span) (p : ℕ) → SameCover xs ys → IsBare size xs p → IsBare size ys p
 bare_to size xs ys p same b = record { within = b.within; bare = λ c. b.bare (same.back p c) }
@@ -353,20 +325,10 @@ bare_to size xs ys p same b = record { within = b.within; bare = λ c. b.bare (s
 pub same_gaps : (size : ℕ) (xs ys : List Span) → SameCover xs ys → gaps_of size xs ≡ gaps_of size ys
 same_gaps size xs ys same =
     let gaps = are_gaps size xs in
-    only_gaps size ys (gaps_of size xs) (record {
-      apart = gaps.apart;
-      within = λ p c. bare_to size xs ys p same (gaps.within p c);
-      whole = λ p b. gaps.whole p (bare_to size ys xs p (same_sym xs ys same) b);
-    })
+    grind (arith, only_gaps, bare_to, same_sym)
 
 pub same_levels : (u v : ℕ → Option ℕ) (size : ℕ) → ((p : ℕ) → u p ≡ v p) → levels_of u size ≡ levels_of v size
-same_levels u v size same =
-    let levels = are_levels u size in
-    only_levels v size (levels_of u size) (record {
-      disjoint = levels.disjoint;
-      within = λ p n h. let w = levels.within p n h in (w.0, sym (same p) ∙ w.1);
-      whole = λ p n below h. levels.whole p n below (same p ∙ h);
-    })
+same_levels u v size same = grind arith
 
 -- ---- what bridges the runs
 
@@ -376,37 +338,17 @@ again_by gap spans p b l r = elim (cases_lt l.right p) [
   | inr below ↦ record { left = l.left; right = l.right; left_covered = l.left_covered; right_covered = l.right_covered; from_left = omega (arith, l.from_left, b.from_left); to_right = below; near = l.near }
   | inl above ↦ elim (cases_lt p r.left) [
     | inr past ↦ record { left = r.left; right = r.right; left_covered = r.left_covered; right_covered = r.right_covered; from_left = past; to_right = omega (arith, b.to_right, r.to_right); near = r.near }
-    | inl between ↦ record {
-      left = l.right;
-      right = r.left;
-      left_covered = l.right_covered;
-      right_covered = r.left_covered;
-      from_left = omega (arith, above);
-      to_right = omega (arith, between);
-      near = omega (arith, b.near, l.to_right, r.from_left);
-    }
+    | inl between ↦ grind arith
   ]
 ]
 
 pub runs_again : (gap : ℕ) (spans : List Span) → runs_of gap (runs_of gap spans) ≡ runs_of gap spans
 runs_again gap spans =
     let runs = are_runs gap spans in
-    sym (only_runs gap (runs_of gap spans) (runs_of gap spans) (record {
-      apart = runs.apart;
-      within = λ p c. bridged_here gap (runs_of gap spans) p c;
-      whole = λ p b. runs.whole p (again_by gap spans p b (runs.within b.left b.left_covered) (runs.within b.right b.right_covered));
-    }))
+    grind (arith, only_runs, bridged_here, again_by)
 
 bridged_covered : (spans : List Span) (p : ℕ) → Bridged 0 spans p → IsCovered spans p
-bridged_covered spans p b = elim (cases_eq b.left p) [
-  | inl same ↦ subst (IsCovered spans) same b.left_covered
-  | inr other ↦
-      let low = b.from_left in
-      let high = b.to_right in
-      let near = b.near in
-      let same : b.right ≡ p = omega arith in
-      subst (IsCovered spans) same b.right_covered
-]
+bridged_covered spans p b = grind arith
 
 -- without a gap the runs cover what the spans cover
 pub runs_cover : (spans : List Span) → SameCover (runs_of 0 spans) spans
@@ -427,7 +369,4 @@ pub some_covered : (xs : List Span) (p : ℕ) → 0 < depth_at xs p → IsCovere
 some_covered xs p some = (is_covered-Decides xs p).0 (covered_depth xs p ∙ lt-ltb 0 (depth_at xs p) some)
 
 pub same_by_depth : (xs ys : List Span) → ((p : ℕ) → 0 < depth_at xs p → 0 < depth_at ys p) → ((p : ℕ) → 0 < depth_at ys p → 0 < depth_at xs p) → SameCover xs ys
-same_by_depth xs ys to back = record {
-  to = λ p c. some_covered ys p (to p (covered_some xs p c));
-  back = λ p c. some_covered xs p (back p (covered_some ys p c));
-}
+same_by_depth xs ys to back = grind (arith, some_covered, covered_some)

@@ -1,5 +1,6 @@
 -- Lemmas on alignments and masked sequences.
-use Rattle.bt_lines.proofs.Std.{◌≡◌, ℕ, ◌<◌, ◌≤◌, Bool, true, false, cond, List, [], ◌∷◌, ◌++◌, length, Option, Some, None, refl, sym, ap, ◌∙◌, length-append, arith, bytes_eq, append_cancel_right, ◌+◌, subst, option_map, nat_tests, sum_by-cons, add-zero, not, list_all, not-true, and_parts, ◌&&◌, append_assoc, flat_map, nat_lt, nat_le, is_ascii_digit, digits_value, is_none, AllByRecursion, or_left, or_right, ◌≢◌, bytes_decides, All-nil, All-cons, Ok, Err, inl, inr, false≢true, ◌⊎◌}
+use Rattle.bt_lines.proofs.Std.{rules, ◌≡◌, ℕ, ◌<◌, ◌≤◌, Bool, true, false, cond, List, [], ◌∷◌, ◌++◌, length, Option, Some, None, refl, sym, ap, ◌∙◌, length-append, arith, bytes_eq, append_cancel_right, ◌+◌, subst, option_map, nat_tests, sum_by-cons, add-zero, not, list_all, not-true, and_parts, ◌&&◌, append_assoc, flat_map, nat_lt, nat_le, is_ascii_digit, digits_value, is_none, AllByRecursion, or_left, or_right, ◌≢◌, bytes_decides, All-nil, All-cons, Ok, Err, inl, inr, false≢true, ◌⊎◌}
+use Rattle.std.proofs.lemmas.Grind.{common_steps}
 use Rattle.bt_bed.specs.model.Feature.{Feature, Span}
 use Rattle.bt_seq.specs.model.Masked.{Block, blocks_by, left_at_last, names_behind, owned_from, decided, mask_rule, masked_line, SequenceLine}
 use Rattle.bt_laws.specs.Sequences.{owners_stay, owners_were, AreBetween, blocks_are_within, unskipped_are_one_block, Divides, division_is_found, division_is_one, is_operation, operations_are_divided, spelled, early_mask_rule, faultless_are_masked, masked_are_a_prefix, AreApart, AreOfChrom, DividesAt, blocks_are_maximal_runs, items_of, owners_are_first, unowned_find_no_name, quiet_records_are_taken, taken_are_first}
@@ -23,8 +24,7 @@ use Rattle.bt_seq.specs.calls.MaskSteps.{IsOpen}
 -- ---- one name
 more_by : (b : Bool) (name : List ℕ) (names more rest : List (List ℕ)) → (names_behind name names ≡ Some rest → names_behind name (names ++ more) ≡ Some (rest ++ more))
     → cond b (Some names) (names_behind name names) ≡ Some rest → cond b (Some (names ++ more)) (names_behind name (names ++ more)) ≡ Some (rest ++ more)
-more_by true name names more rest next e = let same : names ≡ rest = cc in ap (λ l. Some (l ++ more)) same
-more_by false name names more rest next e = next e
+more_by b name names more rest next e = grind arith
 
 behind_more : (name : List ℕ) (names more rest : List (List ℕ)) → names_behind name names ≡ Some rest → names_behind name (names ++ more) ≡ Some (rest ++ more)
 behind_more name [] more rest e = cc
@@ -33,8 +33,7 @@ behind_more name (n ∷ ns) more rest e = more_by (bytes_eq n name) name ns more
 -- fewer names come after the one that is found than there are
 fewer_by : (b : Bool) (name : List ℕ) (names rest : List (List ℕ)) → (names_behind name names ≡ Some rest → length rest < length names)
     → cond b (Some names) (names_behind name names) ≡ Some rest → length rest ≤ length names
-fewer_by true name names rest next e = let same : names ≡ rest = cc in omega (arith, ap length same)
-fewer_by false name names rest next e = let few = next e in omega (arith, few)
+fewer_by b name names rest next e = grind arith
 
 behind_fewer : (name : List ℕ) (names rest : List (List ℕ)) → names_behind name names ≡ Some rest → length rest < length names
 behind_fewer name [] rest e = cc
@@ -48,12 +47,7 @@ record Within (name : List ℕ) (names more all : List (List ℕ)) : Type 0 wher
 
 within_by : (b : Bool) (name n : List ℕ) (names more all : List (List ℕ)) → (names_behind name (names ++ more) ≡ Some all → Within name names more all)
     → bytes_eq n name ≡ b → cond b (Some (names ++ more)) (names_behind name (names ++ more)) ≡ Some all → Within name (n ∷ names) more all
-within_by true name n names more all next is e =
-    let same : names ++ more ≡ all = cc in
-    record { left = names; is = sym same; found = ap (λ b. cond b (Some names) (names_behind name names)) is }
-within_by false name n names more all next is e =
-    let w = next e in
-    record { left = w.left; is = w.is; found = ap (λ b. cond b (Some names) (names_behind name names)) is ∙ w.found }
+within_by b name n names more all next is e = grind arith
 
 behind_within : (name : List ℕ) (names more all : List (List ℕ)) → length more ≤ length all → names_behind name (names ++ more) ≡ Some all → Within name names more all
 behind_within name [] more all least e = absurd (let few = behind_fewer name more all e in omega (arith, few, least))
@@ -70,11 +64,7 @@ module _ {A : Type 0} where
 
   last_fewer_by : (b : Block A) (bs : List (Block A)) (names rest : List (List ℕ)) → ((left : List (List ℕ)) → at_last (Some left) bs ≡ Some rest → length rest ≤ length left)
       → (o : Option (List (List ℕ))) → names_behind b.chrom names ≡ o → at_last o bs ≡ Some rest → length rest ≤ length names
-  last_fewer_by b bs names rest next None is e = absurd (let apart : None ≡ Some rest = sym (none_at_last bs) ∙ e in cc)
-  last_fewer_by b bs names rest next (Some left) is e =
-      let here = next left e in
-      let before = behind_fewer b.chrom names left is in
-      omega (arith, here, before)
+  last_fewer_by b bs names rest next o is e = grind (arith, none_at_last, behind_fewer)
 
   last_fewer : (rest : List (List ℕ)) (bs : List (Block A)) (names : List (List ℕ)) → at_last (Some names) bs ≡ Some rest → length rest ≤ length names
   last_fewer rest [] names e = let same : names ≡ rest = cc in omega (arith, ap length same)
@@ -82,8 +72,7 @@ module _ {A : Type 0} where
 
   last_more_by : (b : Block A) (bs : List (Block A)) (names more rest : List (List ℕ)) → ((left : List (List ℕ)) → at_last (Some left) bs ≡ Some rest → at_last (Some (left ++ more)) bs ≡ Some (rest ++ more))
       → (o : Option (List (List ℕ))) → names_behind b.chrom names ≡ o → at_last o bs ≡ Some rest → at_last (names_behind b.chrom (names ++ more)) bs ≡ Some (rest ++ more)
-  last_more_by b bs names more rest next None is e = absurd (let apart : None ≡ Some rest = sym (none_at_last bs) ∙ e in cc)
-  last_more_by b bs names more rest next (Some left) is e = ap (λ o. at_last o bs) (behind_more b.chrom names more left is) ∙ next left e
+  last_more_by b bs names more rest next o is e = grind (arith, none_at_last, behind_more)
 
   last_more : (more rest : List (List ℕ)) (bs : List (Block A)) (names : List (List ℕ)) → at_last (Some names) bs ≡ Some rest → at_last (Some (names ++ more)) bs ≡ Some (rest ++ more)
   last_more more rest [] names e = let same : names ≡ rest = cc in ap (λ l. Some (l ++ more)) same
@@ -122,14 +111,10 @@ between_by : (k : Bool) (operation : Operation) (operations : List Operation) (s
     → (is_skip operation ≡ true → AreBetween (stop + operation.length) last (open_blocks (stop + operation.length) (stop + operation.length) operations))
     → (is_skip operation ≡ false → AreBetween start last (open_blocks start (stop + covered_by operation) operations))
     → AreBetween start last (cond k (with_bases start stop ++ open_blocks (stop + operation.length) (stop + operation.length) operations) (open_blocks start (stop + covered_by operation) operations))
-between_by true operation operations start stop last e h skipped more =
-    let rest = open_blocks (stop + operation.length) (stop + operation.length) operations in
-    first_between start stop last rest h (later stop (stop + operation.length) last rest (omega arith) (skipped e))
-between_by false operation operations start stop last e h skipped more = more e
+between_by k operation operations start stop last e h skipped more = grind (arith, first_between, later)
 
 open_between : (start stop : ℕ) (operations : List Operation) → start ≤ stop → AreBetween start (stop + reference_length operations) (open_blocks start stop operations)
-open_between start stop [] h =
-    let alone : AreBetween start (stop + 0) (with_bases start stop) = grind (arith, nat_tests) in alone
+open_between start stop [] h = grind arith
 open_between start stop (operation ∷ operations) h =
     let last = stop + reference_length (operation ∷ operations) in
     let size = sum_by-cons covered_by operation operations in
@@ -143,10 +128,7 @@ open_between start stop (operation ∷ operations) h =
 
 cut_between : (start stop : ℕ) (operations : Option (List Operation)) → option_map (λ length. start + length) (option_map reference_length operations) ≡ Some stop
     → AreBetween start stop (blocks_in start operations)
-cut_between start stop None e = cc
-cut_between start stop (Some operations) e =
-    let same : start + reference_length operations ≡ stop = cc in
-    rw (← same) (subst (λ blocks. AreBetween start (start + reference_length operations) blocks) (sym (blocks_open start operations)) (open_between start start operations (omega arith)))
+cut_between start stop operations e = grind (arith, blocks_open, open_between)
 
 pub within : blocks_are_within
 within true a h e = cut_between a.start a.stop (operations_of a.cigar) e
@@ -161,8 +143,7 @@ open_unskipped start stop (operation ∷ operations) all =
     let p = and_parts (not (is_skip operation)) (list_all (λ o. not (is_skip o)) operations) all in
     let goes : is_skip operation ≡ false = not-true (is_skip operation) p.0 in
     let sum : stop + covered_by operation + reference_length operations ≡ stop + reference_length (operation ∷ operations) = omega (arith, sum_by-cons covered_by operation operations) in
-    ap (λ b. cond b (with_bases start stop ++ open_blocks (stop + operation.length) (stop + operation.length) operations) (open_blocks start (stop + covered_by operation) operations)) goes
-    ∙ open_unskipped start (stop + covered_by operation) operations p.1 ∙ ap (with_bases start) sum
+    grind (arith, (open_unskipped start (stop + covered_by operation) operations p.1))
 
 pub one_block : unskipped_are_one_block
 one_block start operations all = blocks_open start operations ∙ open_unskipped start start operations all
@@ -232,8 +213,7 @@ byte_lettered byte (Some (part ∷ others)) parts e h =
 
 lettered_by : (byte : ℕ) (bytes : List ℕ) (b : Bool) (parts : List Part) → is_letter byte ≡ b → cond b (with_part (record { digits = []; letter = byte }) (parts_of bytes)) (onto_part byte (parts_of bytes)) ≡ Some parts
     → ((others : List Part) → parts_of bytes ≡ Some others → letters others ≡ true) → letters parts ≡ true
-lettered_by byte bytes true parts is e h = letter_lettered byte (parts_of bytes) parts is e h
-lettered_by byte bytes false parts is e h = byte_lettered byte (parts_of bytes) parts e h
+lettered_by byte bytes b parts is e h = grind (arith, letter_lettered, byte_lettered)
 
 lettered : (text : List ℕ) (parts : List Part) → parts_of text ≡ Some parts → letters parts ≡ true
 lettered [] parts e = let is : [] ≡ parts = cc in ap letters (sym is)
@@ -260,9 +240,7 @@ each_is (part ∷ parts) operations e h =
 
 divided_by : (text : List ℕ) (operations : List Operation) (found_parts : Option (List Part)) → parts_of text ≡ found_parts → option_and_then each_operation found_parts ≡ Some operations
     → (parts : List Part) × (Divides text parts × (each_operation parts ≡ Some operations))
-divided_by text operations None is e = absurd cc
-divided_by text operations (Some parts) is e =
-    (parts, (record { whole = whole text parts is; all = each_is parts operations e (lettered text parts is) }, e))
+divided_by text operations found_parts is e = grind (arith, whole, each_is, lettered)
 
 pub divided : operations_are_divided
 unfolding operations_in
@@ -284,8 +262,7 @@ module _ (how : MaskHow) (names : List (List ℕ)) (second : Good Feature) where
 
   all_decided : (first : List SequenceLine) → second.fault ≡ None → list_all (mask_rule how names second).decided first ≡ true
   all_decided [] e = refl
-  all_decided (line ∷ lines) e =
-      ap (λ b. b && list_all (mask_rule how names second).decided lines) (or_left (is_none second.fault) (decided line (items_in second)) (ap is_none e)) ∙ all_decided lines e
+  all_decided (line ∷ lines) e = grind (arith, (all_decided lines e), or_left)
 
 pub masked_front : masked_are_a_prefix
 masked_front how names first more_first fault second seen more is placed =
@@ -304,28 +281,17 @@ record Runs (records : List Feature) (bs : List (Block Feature)) : Type 0 where
   chroms : AllByRecursion AreOfChrom bs
 
 still_apart : (b : Block Feature) (items : List Feature) (bs : List (Block Feature)) → AreApart (b ∷ bs) → AreApart (record { chrom = b.chrom; items = items } ∷ bs)
-still_apart b items [] apart = tt
-still_apart b items (c ∷ bs) apart = apart
+still_apart b items bs apart = grind arith
 
 one_of : (r : Feature) → AreOfChrom (record { chrom = r.chrom; items = r ∷ [] })
 one_of r = record { chrom = All-cons (λ (s : Feature). s.chrom ≡ r.chrom) r [] refl (All-nil (λ (s : Feature). s.chrom ≡ r.chrom)); some = omega arith }
 
 runs_with : (r : Feature) (rs : List Feature) (b : Block Feature) (bs : List (Block Feature)) → Runs rs (b ∷ bs) → (t : Bool) → bytes_eq r.chrom b.chrom ≡ t
     → Runs (r ∷ rs) (cond t (record { chrom = b.chrom; items = r ∷ b.items } ∷ bs) (record { chrom = r.chrom; items = r ∷ [] } ∷ b ∷ bs))
-runs_with r rs b bs runs true e = record {
-  items = ap (λ (ss : List Feature). r ∷ ss) runs.items;
-  apart = still_apart b (r ∷ b.items) bs runs.apart;
-  chroms = (record { chrom = All-cons (λ (s : Feature). s.chrom ≡ b.chrom) r b.items ((bytes_decides r.chrom b.chrom).0 e) runs.chroms.0.chrom; some = omega arith }, runs.chroms.1);
-}
-runs_with r rs b bs runs false e = record {
-  items = ap (λ (ss : List Feature). r ∷ ss) runs.items;
-  apart = (e, runs.apart);
-  chroms = (one_of r, runs.chroms);
-}
+runs_with r rs b bs runs t e = search rules
 
 runs_step : (r : Feature) (rs : List Feature) (bs : List (Block Feature)) → blocks_by (λ r. r.chrom) rs ≡ bs → Runs rs bs → Runs (r ∷ rs) (blocks_by (λ r. r.chrom) (r ∷ rs))
-runs_step r rs [] e runs = rw e (record { items = ap (λ (ss : List Feature). r ∷ ss) runs.items; apart = tt; chroms = (one_of r, tt) })
-runs_step r rs (b ∷ bs) e runs = rw e (runs_with r rs b bs runs (bytes_eq r.chrom b.chrom) refl)
+runs_step r rs bs e runs = search rules
 
 runs_of : (records : List Feature) → Runs records (blocks_by (λ r. r.chrom) records)
 runs_of [] = record { items = refl; apart = tt; chroms = tt }
@@ -336,8 +302,7 @@ maximal_runs records = let runs = runs_of records in (runs.items, runs.apart, ru
 
 -- names that differ are distinguished
 apart_names : (n name : List ℕ) → n ≢ name → (t : Bool) → bytes_eq n name ≡ t → t ≡ false
-apart_names n name differ true e = absurd (differ ((bytes_decides n name).0 e))
-apart_names n name differ false e = refl
+apart_names n name differ t e = search rules
 
 other_name : (n name : List ℕ) → bytes_eq n name ≡ false → n ≢ name
 other_name n name e is = let same = (bytes_decides n name).1 is in cc
@@ -361,8 +326,7 @@ module _ (name : List ℕ) where
 
   none_with : (n : List ℕ) (ns : List (List ℕ)) → (names_behind name ns ≡ None → AllByRecursion (λ (other : List ℕ). other ≢ name) ns)
       → (t : Bool) → bytes_eq n name ≡ t → cond t (Some ns) (names_behind name ns) ≡ None → AllByRecursion (λ (other : List ℕ). other ≢ name) (n ∷ ns)
-  none_with n ns later true e is = cc
-  none_with n ns later false e is = (other_name n name e, later is)
+  none_with n ns later t e is = search rules
 
   none_has : (names : List (List ℕ)) → names_behind name names ≡ None → AllByRecursion (λ (other : List ℕ). other ≢ name) names
   none_has [] is = tt
@@ -381,10 +345,7 @@ lacking_names name names = (none_has name names, none_found name names)
 -- Lemmas on records that change nothing.
 
 no_more : (rs : List Feature) (r : Feature) → rs ≡ rs ++ r ∷ [] → ⊥
-no_more rs r e =
-    let same : length rs ≡ length (rs ++ r ∷ []) = ap length e in
-    let more : length (rs ++ r ∷ []) ≡ length rs + 1 = length-append rs (r ∷ []) in
-    omega arith
+no_more rs r e = grind (arith, common_steps, length-append)
 
 pub quiet_taken : quiet_records_are_taken
 quiet_taken how full stage line r out (Ok Yes) new grown takes undecided free = (refl, takes.same_output)

@@ -1,5 +1,5 @@
 -- Lemmas on what a sweep decides, takes and writes.
-use Rattle.bt_lines.proofs.Std.{false, List, [], ◌∷◌, ◌++◌, Option, refl, sym, ◌∙◌, not, ◌||◌, ap, ◌-◌, ◌&&◌, ltb, is_none, AllByRecursion, or_right, or_left, list_any-append, inl, inr, ◌≡◌, Bool, true, cond, subst, append_assoc, IsTrue, list_all, take_while, and_parts, or_from, cases_Bool, take_while-cons, ℕ, Some, filter, length, map, nat_lt, find, false≢true, and_from, lt-ltb, ltb-true, false_from_ne_true, Ok, Err}
+use Rattle.bt_lines.proofs.Std.{arith, false, List, [], ◌∷◌, ◌++◌, Option, refl, sym, ◌∙◌, not, ◌||◌, ap, ◌-◌, ◌&&◌, ltb, is_none, AllByRecursion, or_right, or_left, list_any-append, inl, inr, ◌≡◌, Bool, true, cond, subst, append_assoc, IsTrue, list_all, take_while, and_parts, or_from, cases_Bool, take_while-cons, ℕ, Some, filter, length, map, nat_lt, find, false≢true, and_from, lt-ltb, ltb-true, false_from_ne_true, Ok, Err}
 use Rattle.bt_lines.specs.model.Fault.{FaultValue}
 use Rattle.bt_bed.specs.model.Feature.{Feature, intervals_of, is_strand}
 use Rattle.bt_bed.specs.model.BedLine.{fault_at_line}
@@ -99,12 +99,10 @@ module _ (order : Order) (most : ℕ) (second : List Feature) where
   -- if they are too many, there is a record for which they are
   too_many_for : (first : List Feature) → are_too_many order most first second ≡ true → Found first
   too_many_for [] many = absurd (false≢true (sym (none_many most) ∙ many))
-  too_many_for (x ∷ first) many =
-      found_at (decided order x second) x first refl many (too_many_for first)
+  too_many_for (x ∷ first) many = grind (arith, (too_many_for first), found_at)
 
   pub enough_few : (first : List Feature) → HoldsEnough order most first second → are_too_many order most first second ≡ false
-  enough_few first enough =
-      false_from_ne_true (are_too_many order most first second) (λ many. let found = too_many_for first many in enough found.0 found.1 found.2 found.3 found.4)
+  enough_few first enough = grind (arith, false_from_ne_true, too_many_for)
 
 pub limit_kept : limit_is_kept
 limit_kept order most first second enough =
