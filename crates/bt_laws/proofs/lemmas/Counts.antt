@@ -77,7 +77,7 @@ sum_one l = sum_by-cons weight l [] ∙ omega arith
 
 goes_by : (same : Bool) (b : Begun) (v p t : ℕ) → eqb b.value v ≡ same → b.start ≤ p
     → sum_by weight (cond same [] (ended_at (Some b) p)) + (pending (cond same (Some b) (begun_at p (Some v))) (p + 1) + t) ≡ pending (Some b) p + (v + t)
-goes_by same b v p t e low = grind (arith, eqb-true, one_longer, sum_one, just_one)
+goes_by same b v p t e low = grind (arith, one_longer)
 
 step_by : (g : Option Begun) (v : Option ℕ) (p t : ℕ) → IsLow g p → sum_by weight (next_ended p v g) + (pending (next_begun p v g) (p + 1) + t) ≡ pending g p + (value_in v + t)
 step_by None None p t low = refl
@@ -161,7 +161,7 @@ level_sum spans size =
 -- ---- chromosome by chromosome
 
 map_sum : (name : List ℕ) (ls : List Level) → sum_by depth_bases (map (depth_on name) ls) ≡ sum_by weight ls
-map_sum name ls = grind (arith, common_steps, sum_by-cons)
+map_sum name ls = grind (arith, common_steps)
 
 abbrev bases_in : List Entry → Interval → ℕ
 bases_in entries r = min r.stop (length_in entries r.chrom) - r.start
@@ -179,7 +179,7 @@ no_entries (r ∷ rs) = let cons = sum_by-cons (bases_in []) r rs in let more = 
 one_entry : (entry : Entry) (entries : List Entry) (rs : List Interval) → is_among (genome_names entries) entry.name ≡ false
     → sum_by (below entry.length) (spans_on entry.name rs) + sum_by (bases_in entries) rs ≡ sum_by (bases_in (entry ∷ entries)) rs
 one_entry entry entries [] absent = refl
-one_entry entry entries (r ∷ rs) absent = grind (arith, common_steps, (one_entry entry entries rs absent), sum_by-cons, cases_name, spans_on-here, name_eq, absent_size, spans_on-elsewhere, name_ne-sym)
+one_entry entry entries (r ∷ rs) absent = grind (arith, common_steps, (one_entry entry entries rs absent), cases_name, name_eq, absent_size)
 
 module _ (strand : Option Strand) (records : List Feature) where
   abbrev used : List Feature
@@ -190,7 +190,7 @@ module _ (strand : Option Strand) (records : List Feature) where
   entries_sum (entry ∷ entries) distinct = grind (arith, (entries_sum entries distinct.1), sum_by-append, map_sum, level_sum, one_entry)
 
 features_sum : (entries : List Entry) (rs : List Feature) → sum_by (bases_in entries) (intervals_of rs) ≡ sum_by (bases_below entries) rs
-features_sum entries rs = grind (arith, common_steps, sum_by-cons)
+features_sum entries rs = grind (arith, common_steps)
 
 pub sum_depths : depths_sum
 unfolding coverage
@@ -225,11 +225,11 @@ enough_by x y both e = grind arith
 
 enough_swap : (rule : HitRule) (bases : ℕ) (a b : Feature) → IsMutual rule → is_enough rule bases a b ≡ is_enough rule bases b a
 unfolding is_enough
-enough_swap rule bases a b p1 = grind (arith, enough_of_nothing, enough_by)
+enough_swap rule bases a b p1 = grind (arith, enough_of_nothing)
 
 hits_swap : (rule : HitRule) (a b : Feature) → IsMutual rule → hits rule a b ≡ hits rule b a
 unfolding hits strands_agree
-hits_swap rule a b even = grind (arith, shared_swap, enough_swap, strand_swap)
+hits_swap rule a b even = grind (arith, shared_swap, enough_swap)
 
 -- ---- lists of lists
 
@@ -348,7 +348,7 @@ module _ (S : Feature → List Span) where
   places_so P [] h name p c = absurd c
   places_so P (a ∷ more) h name p c = elim (cases_name a.chrom name) [
     | inl same ↦ here_so P a more h name p same (covered_parts (S a) (spans_on name (places more)) p (subst (λ l. IsCovered l p) (spans_here name a more same) c)) (places_so P more h name p)
-    | inr other ↦ grind (arith, (places_so P more h name p (subst (λ l. IsCovered l p) (spans_there name a more other) c)), spans_there)
+    | inr other ↦ grind (arith, (places_so P more h name p (subst (λ l. IsCovered l p) (spans_there name a more other) c)))
   ]
 
 module _ (bs : List Feature) where

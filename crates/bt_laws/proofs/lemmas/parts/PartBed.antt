@@ -57,7 +57,7 @@ module _ (order : Order) (total : IsTotal order) where
     pub fresh_from : (ms : List TextLine) → Leading last.chrom (records_on ms) → good_from (bed_format (sorting_of order)) input (Some last) ms ≡ good_from (bed_format (sorting_of order)) input None ms
     unfolding good_from line_says
     fresh_from [] leads = refl
-    fresh_from (m ∷ ms) leads = grind (arith, (fresh_from ms (all_back _ (said_record (record_of m.text)) (records_on ms) leads)), fresh_with, all_front, all_back)
+    fresh_from (m ∷ ms) leads = grind (arith, (fresh_from ms (all_back _ (said_record (record_of m.text)) (records_on ms) leads)), fresh_with)
 
   -- the members are among the records that the lines say, and their chromosomes are known
   module _ (input : Input) (Q : Feature → Type 0) where

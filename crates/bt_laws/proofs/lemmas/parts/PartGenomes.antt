@@ -55,7 +55,7 @@ pub rank_behind : (xs ys : List (List ℕ)) (name : List ℕ) → is_among xs na
 rank_behind [] ys name e = sym (shift_none (rank_of ys name))
 rank_behind (x ∷ xs) ys name e =
     let parts = or_parts (bytes_eq x name) (is_among xs name) e in
-    grind (arith, (rank_behind xs ys name parts.1), rank_of-later, shift_more)
+    grind (arith, (rank_behind xs ys name parts.1))
 
 -- of one that isn't among the later ones
 pub rank_before : (xs ys : List (List ℕ)) (name : List ℕ) → is_among ys name ≡ false → rank_of (xs ++ ys) name ≡ rank_of xs name
@@ -94,7 +94,7 @@ module _ (xs ys : List (List ℕ)) where
   not_within a b h e = grind arith
 
   rank_of_part : (name : List ℕ) → Within xs (xs ++ ys) name → rank_of (xs ++ ys) name ≡ rank_of xs name
-  rank_of_part name within = grind (arith, cases_Bool, rank_first, rank_before, or_parts, among_append, not_within)
+  rank_of_part name within = grind (arith, rank_first, rank_before, among_append)
 
   pub first_agree : Agree (rank_order (xs ++ ys)) (rank_order xs) (Within xs (xs ++ ys))
   first_agree = grind (arith, rank_of_part)
@@ -108,17 +108,17 @@ module _ (xs ys : List (List ℕ)) where
         by_first : (bytes_eq x name ≡ true) ⊎ (bytes_eq x name ≡ false) → is_among xs name ≡ false → is_among (x ∷ xs) name ≡ false
         by_first (inl is) more =
             let same = same_name x name is in
-            grind (arith, among_append, or_right)
+            grind (arith, among_append)
         by_first (inr is) more = ap (λ b. b || is_among xs name) is ∙ more
 
     pub no_first : (name : List ℕ) → is_among ys name ≡ true → is_among xs name ≡ false
     no_first name e = not_first xs ys name distinct e
 
     rank_of_second : (name : List ℕ) → Within ys (xs ++ ys) name → rank_of (xs ++ ys) name ≡ shifted (length xs) (rank_of ys name)
-    rank_of_second name within = grind (arith, cases_Bool, rank_behind, no_first, or_parts, among_append, not_within)
+    rank_of_second name within = grind (arith, rank_behind, no_first, among_append)
 
     pub second_agree : Agree (rank_order (xs ++ ys)) (rank_order ys) (Within ys (xs ++ ys))
-    second_agree = grind (arith, rank_of_second, some_shifted, compare_shifted)
+    second_agree = grind (arith, rank_of_second)
 
   rank_low : (xs : List (List ℕ)) (name : List ℕ) (i : ℕ) → rank_of xs name ≡ Some i → i < length xs
   rank_low [] name i e = cc
@@ -242,7 +242,7 @@ leave_append left last (r ∷ rs) more = leave_append (one_leaves left last r) (
 -- after a block that belongs to none, all belong to none
 none_tags : (last : Option (List ℕ)) (rs : List Feature) → tags chrom_of None last rs ≡ tag_items None rs
 none_tags last [] = refl
-none_tags last (r ∷ rs) = grind (arith, (none_tags (Some r.chrom) rs), none_next)
+none_tags last (r ∷ rs) = grind (arith, (none_tags (Some r.chrom) rs))
 
 none_own : (rs : List Feature) → own_in (tag_items None rs) ≡ []
 none_own [] = refl
@@ -268,7 +268,7 @@ or_true b = grind arith
 
 -- and the first of them decides each of its lines
 pub any_first : (bases : ℕ) (names : Names) (ones : List Feature) (r : Feature) (rs : List Feature) → IsLost names ones (r ∷ rs) → list_any (tag_decides bases) (tags_of names (ones ++ r ∷ rs)) ≡ true
-any_first bases names ones r rs lost = grind (arith, tags_first, list_any-append, or_true)
+any_first bases names ones r rs lost = grind (arith, tags_first, list_any-append)
 
 -- ---- after more names
 
@@ -346,7 +346,7 @@ module _ (names rest : Names) (ones : List Feature) (kept : leave (Some names) N
   pub later_leave : (more : Names) (r : Feature) (rs : List Feature) → IsLost names ones (r ∷ rs) → leave (Some (names ++ more)) None (ones ++ r ∷ rs) ≡ leave (Some more) None (r ∷ rs)
   later_leave more r rs lost =
       let is = (stays_from more rest names None ones kept).leaves in
-      grind (arith, next_enters, lost_next, leave_append)
+      grind (arith, next_enters, leave_append)
 
   -- whether all belong to a sequence
   pub both_owned : (more : Names) (twos : List Feature) → IsLost names ones twos → is_some (leave (Some (names ++ more)) None (ones ++ twos)) ≡ is_some (leave (Some more) None twos)
@@ -380,7 +380,7 @@ lost_more left more last (r ∷ rs) off e = by_next (one_leaves (Some left) last
   where
     by_next : (o : Option Names) → one_leaves (Some left) last r ≡ o → leave o (Some r.chrom) rs ≡ None → ((now : Names) → leave (Some now) (Some r.chrom) rs ≡ None → leave (Some (now ++ more)) (Some r.chrom) rs ≡ None)
         → leave (one_leaves (Some (left ++ more)) last r) (Some r.chrom) rs ≡ None
-    by_next None is e next = grind (arith, next_enters, off_found, none_leaves)
+    by_next None is e next = grind (arith, next_enters, off_found)
     by_next (Some now) is e next = ap (λ o. leave o (Some r.chrom) rs) (next_more left now more last r is) ∙ next now e
 
 -- a record that is named as no sequence belongs to none

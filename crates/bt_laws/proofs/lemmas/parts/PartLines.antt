@@ -31,7 +31,7 @@ alike_lines n m bytes = alike_numbered n m (pieces 10 bytes)
 no_feed_ends : (piece : List ℕ) → NoLineFeed piece → IsTrue (ends_line piece) → piece ≡ []
 no_feed_ends [] clear e = refl
 no_feed_ends (byte ∷ []) clear e = grind (arith, All-head)
-no_feed_ends (byte ∷ next ∷ bytes) clear e = grind (arith, (no_feed_ends (next ∷ bytes) (All-tail (λ (b : ℕ). eqb b 10 ≡ false) byte (next ∷ bytes) clear) e), All-tail)
+no_feed_ends (byte ∷ next ∷ bytes) clear e = grind (arith, (no_feed_ends (next ∷ bytes) (All-tail (λ (b : ℕ). eqb b 10 ≡ false) byte (next ∷ bytes) clear) e))
 
 ends_behind : (piece rest : List ℕ) → IsTrue (ends_line (piece ++ 10 ∷ rest)) → IsTrue (ends_line rest)
 ends_behind [] [] e = refl

@@ -90,7 +90,7 @@ module _ (how : MaskHow) (full : Bool) where
           (joint.0, none_like (blocks_of two.second).fault (blocks_of (one.second ++ two.second)).fault (sym joint.1) second.records)
 
       pub whole_sound : IsSound (fasta_of (one.first ++ two.first)) (blocks_of (one.second ++ two.second))
-      whole_sound = grind (arith, lines_of_both, records_both, names_of_both, both_owned, rest_of)
+      whole_sound = grind (arith, lines_of_both, records_both, names_of_both, both_owned)
 
       pub whole_output : (texts_report (joined_two one two)).output ≡ (texts_report one).output ++ (texts_report two).output
       whole_output =
@@ -218,7 +218,7 @@ module _ (how : MaskHow) (full : Bool) where
     pub lost : leave (Some (N texts.first)) None (R texts.second) ≡ None
 
   lacks_one : (texts : Texts) → Lacks texts → (line : SequenceLine) → (more : List (List ℕ)) × (N texts.first ≡ line.names ++ more) → (rule_on texts).decided line ≡ true
-  lacks_one texts lacks line begins = grind (arith, decided_by_tags, any_lost, or_true)
+  lacks_one texts lacks line begins = grind (arith, decided_by_tags, any_lost)
 
   lacks_decided : (texts : Texts) → Lacks texts → list_all (rule_on texts).decided (items_in (F texts.first)) ≡ true
   lacks_decided texts lacks = all_true (rule_on texts).decided (items_in (F texts.first)) (all_so _ _ (items_in (F texts.first)) (λ line b. lacks_one texts lacks line b) (names_begin full First (text_lines texts.first)))
@@ -293,7 +293,7 @@ module _ (how : MaskHow) (full : Bool) where
       unnamed_text records line u = grind (arith, unnamed_own)
 
       unnamed_output : (names : List (List ℕ)) (second : Good Feature) → (join_report (mask_rule how names second) (items_in (F one.first)) (F one.first).fault).lines ≡ flat_map (masked_line how []) (items_in (F one.first))
-      unnamed_output names second = grind (arith, met_lines, all_written, all_true, all_so, or_left, or_true, unnamed, flat_map_same, unnamed_text)
+      unnamed_output names second = grind (arith, all_true, all_so, unnamed, flat_map_same, unnamed_text)
 
       stops_unnamed : (report_on one).output ≡ (report_on both).output
       stops_unnamed = grind (arith, unnamed_output, same_lines)
@@ -387,7 +387,7 @@ module _ (how : MaskHow) (full : Bool) where
             ∙ sym (met_lines (rule_on two) (items_in (F two.first)) (F two.first).fault))
           where
             each : (line : SequenceLine) → (more : List (List ℕ)) × (N one.first ≡ line.names ++ more) → W.decided line ≡ true
-            each line begins = grind (arith, joint, decided_by_tags, any_first, lost_fewer, lost, or_true)
+            each line begins = grind (arith, joint, decided_by_tags, any_first, lost_fewer, lost)
 
             named : (names : List (List ℕ)) (n : List ℕ) (ns : List (List ℕ)) → is_unnamed (names ++ n ∷ ns) ≡ false
             named [] n ns = refl

@@ -147,7 +147,7 @@ module _ (gap : ℕ) where
     all_strand strand = grind (arith, runs_both, map-append)
 
     begun_first : (before : List Feature) (r : Feature) → has_records r.chrom (intervals_of twos) ≡ false → begun_by (runs_of_strand gap (ones ++ twos) r.strand) before r ≡ begun_by (runs_of_strand gap ones r.strand) before r
-    begun_first before r e = grind (arith, all_strand, filter-append, filter_none, all_so, and_left, not_in, items_elsewhere, append-nil)
+    begun_first before r e = grind (arith, all_strand, filter-append, filter_none, all_so, items_elsewhere, append-nil)
 
     listed_first : (before rs : List Feature) → AllByRecursion (λ r. has_records r.chrom (intervals_of twos) ≡ false) rs → listed_behind (runs_of_strand gap (ones ++ twos)) before rs ≡ listed_behind (runs_of_strand gap ones) before rs
     listed_first before [] h = refl

@@ -118,10 +118,10 @@ module _ (whole : List Entry) (distinct : AreDistinct (genome_names whole)) wher
   Lies shard = AllByRecursion (LiesWithin shard.entries whole) (records_of shard.texts)
 
   among_more : (shard : PairShard) (shards : List PairShard) (name : List ℕ) → IsTrue (is_among (genome_names (pair_entries shards)) name) → IsTrue (is_among (genome_names (pair_entries (shard ∷ shards))) name)
-  among_more shard shards name e = grind (arith, names_both, among_append, or_right)
+  among_more shard shards name e = grind (arith, names_both, among_append)
 
   among_here : (shard : PairShard) (shards : List PairShard) (name : List ℕ) → IsTrue (is_among (genome_names shard.entries) name) → IsTrue (is_among (genome_names (pair_entries (shard ∷ shards))) name)
-  among_here shard shards name e = grind (arith, names_both, among_append, or_left)
+  among_here shard shards name e = grind (arith, names_both, among_append)
 
   -- the records of all parts lie on the chromosomes of these parts
   lie_all : (shards : List PairShard) → AllByRecursion Lies shards → AllByRecursion (λ shard. AllByRecursion (LiesWithin (pair_entries shards) whole) (records_of shard.texts)) shards
@@ -147,7 +147,7 @@ module _ (whole : List Entry) (distinct : AreDistinct (genome_names whole)) wher
     come shard shards is lines h =
         let split : genome_names whole ≡ (before ++ genome_names shard.entries) ++ genome_names (pair_entries shards) = is ∙ ap (λ ns. before ++ ns) (names_both shard.entries (pair_entries shards)) ∙ sym (append_assoc before (genome_names shard.entries) (genome_names (pair_entries shards))) in
         let later = lie_joined shards (lines_less shard.texts.first (map (λ (p : Texts). p.first) (pair_texts shards)) lines.0, lines_less shard.texts.second (map (λ (p : Texts). p.second) (pair_texts shards)) lines.1) h.1 in
-        grind (arith, all_so, first_less, among_append, or_right, among_ranked)
+        grind (arith, all_so, first_less, among_append, among_ranked)
 
   ascend_from : (before : List (List ℕ)) (shards : List PairShard) → genome_names whole ≡ before ++ genome_names (pair_entries shards) → ArePairs (pair_texts shards) → AllByRecursion Lies shards
       → PairsAscend (rank_order (genome_names whole)) (pair_texts shards)

@@ -92,7 +92,7 @@ module _ {T : Type 0} (join : List T → T) (report : T → Report) (Fits : List
       → (ts : List T) → Fits ts → AddUp (map report ts) (report (join ts))
   parts_add two [] fits = add_none (report (join [])) (ap (λ (r : Report). r.fault) empty) (ap (λ (r : Report). r.output) empty)
   parts_add two (t ∷ []) fits = subst (λ r. AddUp (report t ∷ []) r) (sym (one t)) (add_one (report t))
-  parts_add two (t ∷ u ∷ ts) fits = grind (arith, (parts_add two (u ∷ ts) (less t (u ∷ ts) fits)), add_more)
+  parts_add two (t ∷ u ∷ ts) fits = grind (arith, (parts_add two (u ∷ ts) (less t (u ∷ ts) fits)))
 
   pub parts_stop : ((t u : T) (ts : List T) → Fits (t ∷ u ∷ ts) → Stops (report t) (report (join (u ∷ ts))) (report (join (t ∷ u ∷ ts))))
       → (ts : List T) → Fits ts → StopWithin (map report ts) (report (join ts))

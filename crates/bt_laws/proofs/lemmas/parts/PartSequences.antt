@@ -126,7 +126,7 @@ module _ (full : Bool) (input : Input) where
   moved_from names s [] named = record { items = refl; none = refl; same = refl; named = tt }
   moved_from names s (l ∷ ls) named =
       let m = moves_by names s l named (is_header l.text) refl in
-      grind (arith, (moved_from names (Fasta.after s m.it) ls m.named), moved_with)
+      grind (arith, (moved_from names (Fasta.after s m.it) ls m.named))
 
   -- from a header on
   moved_header : (r : Reached) (ls : List TextLine) → BeginsAtHeader ls → AreMoved r.names (good_from Fasta input r ls) (good_from Fasta input Fasta.begin ls)
@@ -227,7 +227,7 @@ module _ (full : Bool) (input : Input) where
   front_header byte rest e = grind arith
 
   fed_header : (n : ℕ) (piece rest : List ℕ) (ls : List TextLine) → IsTrue (begins_sequence (piece ++ 10 ∷ rest)) → BeginsAtHeader (fed_line n piece ∷ ls)
-  fed_header n piece rest ls e = grind (arith, common_steps, front_header)
+  fed_header n piece rest ls e = grind (arith, common_steps)
 
   last_header : (n : ℕ) (piece : List ℕ) → IsTrue (begins_sequence piece) → BeginsAtHeader (last_line n piece)
   last_header n piece e = grind arith
@@ -386,18 +386,18 @@ module _ (input : Input) where
     put_none fault g h e = grind arith
 
     elsewhere : BeginsElsewhere (last_from None (items_in First-good)) (said_records two) → BeginsElsewhere (name_at Last) (records_on Lines-behind)
-    elsewhere h = grind (arith, reached_last, alike_records, alike_lines, lines_join)
+    elsewhere h = grind (arith, reached_last, alike_records, alike_lines)
 
     -- if those of the second text begin on another chromosome
     pub fresh_joint : First-good.fault ≡ None → BeginsElsewhere (last_from None (items_in First-good)) (said_records two) → AreJoint
-    fresh_joint none h = grind (arith, joint_of, like_two, whole_is, put_none, fresh_from, elsewhere)
+    fresh_joint none h = grind (arith, joint_of, like_two, whole_is, fresh_from, elsewhere)
 
     none_by : (fault : Option FaultValue) (g h : Good Feature) → g.fault ≡ fault → (put_on block_format fault g h).fault ≡ None → (fault ≡ None) × (h.fault ≡ None)
     none_by fault g h is e = grind arith
 
     -- or if both texts have no fault
     pub calm_joint : Whole-good.fault ≡ None → (First-good.fault ≡ None) × (Second-good.fault ≡ None) × (items_in Whole-good ≡ items_in First-good ++ items_in Second-good)
-    calm_joint none = grind (arith, none_by, whole_is, calm_from, joint_of, like_two, put_none, none_like)
+    calm_joint none = grind (arith, whole_is, calm_from, joint_of, like_two)
 
     -- a fault of the first text is that of both
     pub faulty_same : (fault : FaultValue) → First-good.fault ≡ Some fault → Whole-good ≡ First-good

@@ -44,7 +44,7 @@ use Rattle.bt_laws.proofs.lemmas.parts.PartTexts.{lines_less}
 -- each entry's name is among those of its list
 own_names : (es : List Entry) (all : List (List ℕ)) → ((n : List ℕ) → is_among (genome_names es) n ≡ true → is_among all n ≡ true) → AllByRecursion (λ e. is_among all e.name ≡ true) es
 own_names [] all f = tt
-own_names (e ∷ es) all f = grind (arith, (own_names es all (λ n h. f n (or_right (bytes_eq e.name n) (is_among (genome_names es) n) h))), or_left, name_eq, or_right)
+own_names (e ∷ es) all f = grind (arith, (own_names es all (λ n h. f n (or_right (bytes_eq e.name n) (is_among (genome_names es) n) h))), name_eq)
 
 over_less : (o : Ordering) (b : Bool) → o ≡ Less → is_over_at o b ≡ true
 over_less o b e = grind arith
@@ -217,7 +217,7 @@ module _ (limit : Bool) where
 
   gaps_settled : (entries : List Entry) (records : List Feature) → settled_gaps limit entries records ≡ settled_of gap_chrom gap_ends interval_line gaps_here entries records
   unfolding settled_gaps
-  gaps_settled entries records = grind (arith, complement_is, over_same)
+  gaps_settled entries records = grind (arith, complement_is)
 
   gaps_named : (records : List Feature) (e : Entry) → AllByRecursion (λ gap. gap.chrom ≡ e.name) (gaps_here records e)
   unfolding gaps_here
@@ -225,11 +225,11 @@ module _ (limit : Bool) where
 
   gaps_first : (ones twos : List Feature) (e : Entry) → has_records e.name (intervals_of twos) ≡ false → gaps_here (ones ++ twos) e ≡ gaps_here ones e
   unfolding gaps_here
-  gaps_first ones twos e none = grind (arith, map-append, has_append, or_not, spans_first)
+  gaps_first ones twos e none = grind (arith, map-append, has_append, spans_first)
 
   gaps_second : (ones twos : List Feature) (e : Entry) → has_records e.name (intervals_of ones) ≡ false → gaps_here (ones ++ twos) e ≡ gaps_here twos e
   unfolding gaps_here
-  gaps_second ones twos e none = grind (arith, map-append, has_append, or_is, spans_second)
+  gaps_second ones twos e none = grind (arith, map-append, has_append, spans_second)
 
   gaps_begin : (entries : List Entry) (ones : List Feature) → AreTaken entries ones → (rest : List Interval) × (whole_of gap_chrom gap_ends interval_line gaps_here entries ones ≡ settled_of gap_chrom gap_ends interval_line gaps_here entries ones ++ rest)
   gaps_begin entries ones taken =
@@ -265,7 +265,7 @@ module _ (zeros : Bool) (strand : Option Strand) where
 
   depths_settled : (entries : List Entry) (records : List Feature) → settled_depths zeros strand entries records ≡ settled_of depth_chrom depth_ends depth_line depths_here entries records
   unfolding settled_depths
-  depths_settled entries records = grind (arith, coverage_is, ended_same)
+  depths_settled entries records = grind (arith, coverage_is)
 
   depths_named : (records : List Feature) (e : Entry) → AllByRecursion (λ item. item.chrom ≡ e.name) (depths_here records e)
   depths_named records e = grind (arith, all_map, all_any)
@@ -280,10 +280,10 @@ module _ (zeros : Bool) (strand : Option Strand) where
   depths_by e xs ys is = ap (λ spans. map (depth_on e.name) (levels_of (depth_of zeros spans) e.length)) is
 
   depths_first : (ones twos : List Feature) (e : Entry) → has_records e.name (intervals_of twos) ≡ false → depths_here (ones ++ twos) e ≡ depths_here ones e
-  depths_first ones twos e none = grind (arith, depths_by, counted_both, spans_first, fewer)
+  depths_first ones twos e none = grind (arith, counted_both, spans_first, fewer)
 
   depths_second : (ones twos : List Feature) (e : Entry) → has_records e.name (intervals_of ones) ≡ false → depths_here (ones ++ twos) e ≡ depths_here twos e
-  depths_second ones twos e none = grind (arith, depths_by, counted_both, spans_second, fewer)
+  depths_second ones twos e none = grind (arith, counted_both, spans_second, fewer)
 
   depths_begin : (entries : List Entry) (ones : List Feature) → AreTaken entries ones → (rest : List DepthInterval) × (whole_of depth_chrom depth_ends depth_line depths_here entries ones ≡ settled_of depth_chrom depth_ends depth_line depths_here entries ones ++ rest)
   depths_begin entries ones taken =
@@ -423,7 +423,7 @@ module _ (W : List Entry → Written Feature) (command : Command)
   among_less e_one e_two name h = ap (λ ns. is_among ns name) (names_both e_one e_two) ∙ among_append (genome_names e_one) (genome_names e_two) name ∙ or_left (is_among (genome_names e_one) name) (is_among (genome_names e_two) name) h
 
   fit_less : (t : Shard) (ts : List Shard) → Fit (t ∷ ts) → Fit ts
-  fit_less t ts fit = grind (arith, back_distinct, names_both, lines_less, all_so, among_more)
+  fit_less t ts fit = grind (arith, back_distinct, names_both, all_so, among_more)
 
   within_all : (whole : List Entry) (shards : List Shard) → AreOfLines (shard_texts shards) → AllByRecursion (λ shard. AllByRecursion (LiesWithin shard.entries whole) (said_records shard.text)) shards
       → AllByRecursion (LiesWithin (all_entries shards) whole) (said_records (joined (shard_texts shards)))

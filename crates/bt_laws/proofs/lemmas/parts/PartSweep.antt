@@ -55,13 +55,13 @@ any_behind t [] ys h = refl
 any_behind t (x ∷ xs) ys h = ap (λ b. b || list_any t (xs ++ ys)) h.0 ∙ any_behind t xs ys h.1
 
 any_here : {A : Type 0} (t : A → Bool) (xs : List A) (y : A) (ys : List A) → t y ≡ true → list_any t (xs ++ y ∷ ys) ≡ true
-any_here t xs y ys e = grind (arith, common_steps, or_true)
+any_here t xs y ys e = grind (arith, common_steps)
 
 kept_by : {A : Type 0} (P : A → Type 0) (x : A) (kept : List A) (b : Bool) → P x → AllByRecursion P kept → AllByRecursion P (cond b (x ∷ kept) [])
 kept_by P x kept b p h = grind arith
 
 all_kept : {A : Type 0} (P : A → Type 0) (t : A → Bool) (xs : List A) → AllByRecursion P xs → AllByRecursion P (take_while t xs)
-all_kept P t xs h = grind (arith, common_steps, take_while-cons, kept_by)
+all_kept P t xs h = grind (arith, common_steps)
 
 pub written_same : {A : Type 0} (mine yours : Rule A ℕ FaultValue) (xs : List A) → AllByRecursion (λ x. (mine.decided x ≡ yours.decided x) × (mine.lines x ≡ yours.lines x)) xs → written mine xs ≡ written yours xs
 written_same mine yours xs h = grind (arith, take_same, all_so, flat_map_same, all_kept)
@@ -128,7 +128,7 @@ module _ (order : Order) (shape : Shape) (rule : HitRule) where
   some_by given fa bs f b e none = grind arith
 
   pub report_none : (given : List Feature) (fa : Option FaultValue) (bs : List Feature) (fb : Option FaultValue) → (sweep_report given fa bs fb).fault ≡ None → (fa ≡ None) × (fb ≡ None)
-  report_none given fa bs fb e = grind (arith, fault_none, some_by)
+  report_none given fa bs fb e = grind (arith, fault_none)
 
   pub none_report : (given : List Feature) (fa : Option FaultValue) (bs : List Feature) (fb : Option FaultValue) → fa ≡ None → fb ≡ None → (sweep_report given fa bs fb).fault ≡ None
   none_report given fa bs fb e d = grind arith
@@ -162,7 +162,7 @@ module _ (order : Order) (total : IsTotal order) (shape : Shape) (rule : HitRule
   first_decided b bs e = from aones split.known_first split.first_second
     where
       one : (a : Feature) → IsTrue (order.knows a.chrom) → AllByRecursion (λ s. order.compare a.chrom s.chrom ≡ Less) btwos → decided order a (bones ++ btwos) ≡ true
-      one a known less = grind (arith, any_here, later_decides)
+      one a known less = grind (arith, any_here)
 
       from : (given : List Feature) → AllByRecursion (λ r. IsTrue (order.knows r.chrom)) given → Earlier order total given btwos → AllByRecursion (λ a. decided order a (bones ++ btwos) ≡ true) given
       from [] known early = tt
@@ -179,7 +179,7 @@ module _ (order : Order) (total : IsTotal order) (shape : Shape) (rule : HitRule
     Whole = sweep_report order shape rule all fa bs fb
 
     pub sweep_adds : Adds One Two Whole
-    sweep_adds = grind (arith, report_none, together_parts, none_report, together_both, output_none, together_all, lines_both)
+    sweep_adds = grind (arith, report_none, output_none, lines_both)
 
   -- if the second input of the first part is at fault, nothing after it is written
   module _ (f : FaultValue) (fa1 fa2 fa fb2 fb : Option FaultValue) (all bs : List Feature) (ja : Contiguous fa1 fa2 fa aones atwos all) (jb : Contiguous (Some f) fb2 fb bones btwos bs) where

@@ -70,7 +70,7 @@ record IsPlain (text : List ℕ) : Type 0 where
   plain : ends_with_byte 13 text ≡ false
 
 plain_by : (text : List ℕ) (span : ℕ) (b : Bool) → ends_with_byte 13 text ≡ b → length_of text ≡ Some span → b ≡ false
-plain_by text span b ends e = grind (arith, common_steps, strip_last-push, no_length)
+plain_by text span b ends e = grind (arith, common_steps, no_length)
 
 plain_cigar : (text : List ℕ) (span : ℕ) → length_of text ≡ Some span → IsPlain text
 plain_cigar text span e = grind (arith, plain_by)
@@ -113,7 +113,7 @@ module _ (fields : Fields) (are : AreColumns fields) where
   nothing_by nothing flag position quality span a some plain e is = grind arith
 
   columns_by : (flag : Option ℕ) (chrom : List ℕ) (position quality span : Option ℕ) (a : Alignment) → chrom ≡ fields.chrom → length_of fields.cigar ≡ span → columns_say fields flag chrom position quality span ≡ Ok (Some a) → IsAligned a
-  columns_by flag chrom position quality span a e long is = grind (arith, nothing_by, plain_cigar)
+  columns_by flag chrom position quality span a e long is = grind (arith, plain_cigar)
 
 said_by : (fields : Option Fields) (a : Alignment) → ((f : Fields) → fields ≡ Some f → AreColumns f) → fields_say fields ≡ Ok (Some a) → IsAligned a
 unfolding fields_say
@@ -227,7 +227,7 @@ sign_column : (reverse : Bool) → IsColumn (strand_sign reverse)
 sign_column reverse = grind arith
 
 after_columns : (cigar : Bool) (a : Alignment) → IsAligned a → AllByRecursion IsColumn (columns_after cigar a)
-after_columns cigar a is = grind (arith, number_column, sign_column)
+after_columns cigar a is = grind (arith, number_column)
 
 sign_named : (reverse : Bool) → strand_named (strand_sign reverse) ≡ (if reverse then Minus else Plus)
 sign_named reverse = grind arith
@@ -344,13 +344,13 @@ fed_by m new rest true clear last =
     ap (lines_from m) (append_assoc new (13 ∷ 10 ∷ []) rest ∙ sym (append_assoc new (13 ∷ []) (10 ∷ rest)))
     ∙ lines_from-fed m (new ++ 13 ∷ []) rest (clear_return new clear)
     ∙ ap₂ (λ t (e : Bool). record { number = m; text = t; ending = if e then CrLf else Lf } ∷ lines_from (suc m) rest) (stripped new) (returned new)
-fed_by m new rest false clear last = grind (arith, append_assoc, lines_from-fed, strip_last-other)
+fed_by m new rest false clear last = grind (arith, append_assoc, lines_from-fed)
 
 last_some : (m : ℕ) (bytes : List ℕ) → 0 < length bytes → last_line m bytes ≡ record { number = m; text = strip_last 13 bytes; ending = if ends_with_byte 13 bytes then Cr else Absent } ∷ []
 last_some m bytes some = grind arith
 
 last_by : (m : ℕ) (new : List ℕ) (b : Bool) → NoLineFeed new → (b ≡ false → ends_with_byte 13 new ≡ false) → (b ≡ false → 0 < length new) → lines_from m (new ++ end_bytes (cond b Cr Absent)) ≡ line_at m new (cond b Cr Absent) ∷ []
-last_by m new b clear last some = grind (arith, lines_from-last, clear_return, last_some, length-append, stripped, returned, append-nil, strip_last-other)
+last_by m new b clear last some = grind (arith, lines_from-last, clear_return, last_some, stripped, returned, append-nil, strip_last-other)
 
 -- ---- all lines
 
@@ -402,7 +402,7 @@ module _ (full : Bool) (input : Input) (f : SequenceLine → List ℕ) (safe : (
       let b = ends_with_byte 13 piece in
       let line = line_at n (strip_last 13 piece) (cond b Cr Absent) in
       let text_clear = clear_strip 13 piece clear in
-      grind (arith, again_with, none_again, single_by, append-nil, last_by, strip_last-other, lines_from-nil)
+      grind (arith, append-nil, last_by)
 
   piece_again : (n : ℕ) (piece : List ℕ) → NoLineFeed piece → ReadsAgain (last_line n piece)
   unfolding good_from
@@ -415,7 +415,7 @@ module _ (full : Bool) (input : Input) (f : SequenceLine → List ℕ) (safe : (
       let b = ends_with_byte 13 piece in
       let line = fed_line n piece in
       let text_clear = clear_strip 13 piece clear in
-      grind (arith, again_with, fed_by, strip_last-other)
+      grind (arith, fed_by)
 
   last_again : (n : ℕ) (piece : List ℕ) → NoLineFeed piece → ReadsAgain (lines_from n piece)
   last_again n piece clear m reached none =

@@ -96,7 +96,7 @@ deep_coverage strand entries records = deep_all strand records entries
 
 zero_again : (rs : List DepthInterval) → filter (λ (r : DepthInterval). eqb r.depth 0) rs ≡ map without_depth (map interval_at (filter (λ (r : DepthInterval). eqb r.depth 0) rs))
 zero_again [] = refl
-zero_again (r ∷ rs) = grind (arith, (zero_again rs), cases_Bool, eqb-true)
+zero_again (r ∷ rs) = grind (arith, (zero_again rs))
 
 pub zero_depths : depth_0_is_complement
 zero_depths inputs chromosomes well =

@@ -29,7 +29,7 @@ use Rattle.bt_bed.proofs.lemmas.Definitions.{line_said}
 
 pub clear_front : (xs ys : List ℕ) → NoLineFeed (xs ++ ys) → NoLineFeed xs
 clear_front [] ys h = All-nil (λ b. eqb b 10 ≡ false)
-clear_front (x ∷ xs) ys h = grind (arith, (clear_front xs ys (All-tail (λ b. eqb b 10 ≡ false) x (xs ++ ys) h)), All-cons, All-head, All-tail)
+clear_front (x ∷ xs) ys h = grind (arith, (clear_front xs ys (All-tail (λ b. eqb b 10 ≡ false) x (xs ++ ys) h)), All-head)
 
 pub clear_back : (xs ys : List ℕ) → NoLineFeed (xs ++ ys) → NoLineFeed ys
 clear_back [] ys h = h
@@ -42,7 +42,7 @@ pub clear_tab : (xs : List ℕ) → NoLineFeed xs → NoLineFeed (9 ∷ xs)
 clear_tab xs h = All-cons (λ b. eqb b 10 ≡ false) 9 xs refl h
 
 clear_by : (byte : ℕ) (xs : List ℕ) (b : Bool) → ends_with_byte byte xs ≡ b → NoLineFeed xs → NoLineFeed (strip_last byte xs)
-clear_by byte xs b e h = grind (arith, common_steps, clear_front, strip_last-push, strip_last-other)
+clear_by byte xs b e h = grind (arith, common_steps)
 
 pub clear_strip : (byte : ℕ) (xs : List ℕ) → NoLineFeed xs → NoLineFeed (strip_last byte xs)
 clear_strip byte xs h = clear_by byte xs (ends_with_byte byte xs) refl h
@@ -86,13 +86,13 @@ unfolding digits
 decimal_digits n = onto_digits 64 n [] tt
 
 clear_digit : (c : ℕ) → IsDigit c → eqb c 10 ≡ false
-clear_digit c h = grind (arith, nat_tests)
+clear_digit c h = grind arith
 
 no_return : (c : ℕ) → IsDigit c → eqb c 13 ≡ false
-no_return c h = grind (arith, nat_tests)
+no_return c h = grind arith
 
 clear_digits : (ds : List ℕ) → AllByRecursion IsDigit ds → NoLineFeed ds
-clear_digits ds h = grind (arith, common_steps, All-nil, All-cons, clear_digit)
+clear_digits ds h = grind (arith, common_steps)
 
 pub clear_number : (n : ℕ) → NoLineFeed (decimal n)
 clear_number n = clear_digits (decimal n) (decimal_digits n)
@@ -102,7 +102,7 @@ digits_none [] h = tt
 digits_none (c ∷ cs) h = (no_return c h.0, digits_none cs h.1)
 
 strip_none_by : (ds : List ℕ) (b : Bool) → ends_with_byte 13 ds ≡ b → AllByRecursion (λ b. eqb b 13 ≡ false) ds → strip_last 13 ds ≡ ds
-strip_none_by ds b e h = grind (arith, common_steps, all_back, strip_last-push, strip_last-other)
+strip_none_by ds b e h = grind (arith, common_steps)
 
 -- no carriage return ends it, with a tab before it
 pub strip_number : (n : ℕ) → strip_last 13 (9 ∷ decimal n) ≡ 9 ∷ decimal n
@@ -113,7 +113,7 @@ strip_decimal n = strip_none_by (decimal n) (ends_with_byte 13 (decimal n)) refl
 
 -- a number is a column
 digit_inside : (c : ℕ) → IsDigit c → IsInside c
-digit_inside c h = grind (arith, nat_tests)
+digit_inside c h = grind arith
 
 digits_inside : (ds : List ℕ) → AllByRecursion IsDigit ds → AllByRecursion IsInside ds
 digits_inside [] h = tt
@@ -127,10 +127,10 @@ number_column n = All-from_recursion IsInside (decimal n) (digits_inside (decima
 -- ---- a byte at the end
 
 pub ends_both : (byte : ℕ) (front back : List ℕ) → 0 < length back → ends_with_byte byte (front ++ back) ≡ ends_with_byte byte back
-ends_both byte front back some = grind (arith, length-append, lt-ltb, get_or-append-add)
+ends_both byte front back some = grind (arith, length-append, get_or-append-add)
 
 strip_both_by : (byte : ℕ) (front back : List ℕ) (b : Bool) → 0 < length back → ends_with_byte byte back ≡ b → strip_last byte (front ++ back) ≡ front ++ strip_last byte back
-strip_both_by byte front back b some e = grind (arith, common_steps, append_cancel_right, strip_last-push, ends_both, append_assoc, strip_last-other)
+strip_both_by byte front back b some e = grind (arith, common_steps)
 
 pub strip_both : (byte : ℕ) (front back : List ℕ) → 0 < length back → strip_last byte (front ++ back) ≡ front ++ strip_last byte back
 strip_both byte front back some = strip_both_by byte front back (ends_with_byte byte back) some refl
@@ -179,8 +179,8 @@ module _ (chrom : List ℕ) (start stop : ℕ) (named : IsName chrom) (below : s
       (header_first tail ∙ e)
 
   pub strip_columns : (tail : List ℕ) → strip_last 13 (columns_text chrom start stop tail) ≡ columns_text chrom start stop (strip_last 13 tail)
-  strip_columns [] = grind (arith, append_assoc, strip_both, length-append, some_digits, append-nil, strip_decimal)
-  strip_columns (byte ∷ bytes) = grind (arith, append_assoc, strip_both)
+  strip_columns [] = grind (arith, strip_both, some_digits, append-nil, strip_decimal)
+  strip_columns (byte ∷ bytes) = grind (arith, strip_both)
 
   -- what is kept of what follows is empty, or begins with a tab
   pub kept_by : (tail : List ℕ) (b : Bool) → ends_with_byte 13 tail ≡ b → IsTrue (is_kept tail) → (some : List ℕ) → strip_last 13 tail ≡ some → IsTrue (is_kept some)
@@ -188,7 +188,7 @@ module _ (chrom : List ℕ) (start stop : ℕ) (named : IsName chrom) (below : s
 
   pub tail_says : (tail : List ℕ) → IsTrue (is_kept tail)
       → record_of (strip_last 13 (columns_text chrom start stop tail)) ≡ Ok (unless_header chrom (record_with chrom start stop (strip_last 13 tail)))
-  tail_says tail kept = grind (arith, common_steps, strip_columns, first_says, kept_by)
+  tail_says tail kept = grind (arith, common_steps, strip_columns, first_says)
 
   pub tail_clear : (tail : List ℕ) → NoLineFeed chrom → NoLineFeed tail → NoLineFeed (columns_text chrom start stop tail)
   tail_clear tail clear behind =
@@ -295,7 +295,7 @@ said_by header r rs = grind arith
 
 said_are : (lines : List Columns) → flat_map (λ line. some_said (said_back line)) lines ≡ filter is_no_header (map record_back lines)
 said_are [] = refl
-said_are (line ∷ lines) = grind (arith, (said_are lines), said_by)
+said_are (line ∷ lines) = grind (arith, (said_are lines))
 
 pub placed_known : (order : Order) (rs : List Interval) → ArePlaced order rs → AllByRecursion (λ (r : Interval). IsTrue (order.knows r.chrom)) rs
 placed_known order [] placed = tt
@@ -429,7 +429,7 @@ with_chrom entry rest is h = grind arith
 
 new_chrom : (input : Input) (n : ℕ) (names : List (List ℕ)) (text : List ℕ) (said : Result (Option Entry) Kind) (rest : List (List ℕ) → Result (List Entry) FaultValue) → NoLineFeed text → entry_of text ≡ said
     → ((now : List (List ℕ)) → AreChroms (rest now)) → AreChroms (genome_with input n names (new_entry names said) rest)
-new_chrom input n names text said rest clear e h = grind (arith, with_chrom, line_is_chrom)
+new_chrom input n names text said rest clear e h = grind (arith, line_is_chrom)
 
 chroms_from : (input : Input) (names : List (List ℕ)) (lines : List TextLine) → AreClear lines → AreChroms (genome_from input names lines)
 unfolding genome_from
@@ -441,4 +441,4 @@ cut_chroms : (fault : Option FaultValue) (answer : Result (List Entry) FaultValu
 cut_chroms fault answer h = grind arith
 
 pub genome_chroms : (input : Input) (handed : Handed) (entries : List Entry) → genome_handed input handed ≡ Ok entries → AllByRecursion IsChrom entries
-genome_chroms input handed entries e = grind (arith, cut_chroms, chroms_from, clear_handed)
+genome_chroms input handed entries e = grind (arith, chroms_from, clear_handed)

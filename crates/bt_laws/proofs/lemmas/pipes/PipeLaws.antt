@@ -48,7 +48,7 @@ use Rattle.bt_runs.proofs.lemmas.complement.Walks.{are_gaps, only_gaps}
 -- ---- the order in use
 
 pub chroms_of : (genome : Option Handed) (entries : List Entry) → chromosomes_of genome ≡ Ok (Some entries) → AllByRecursion IsChrom entries × AreDistinct (genome_names entries)
-chroms_of genome entries e = grind (arith, genome_chroms, file_is, distinct_in)
+chroms_of genome entries e = grind (arith, genome_chroms, distinct_in)
 
 -- ---- a report of one input without a fault
 
@@ -192,7 +192,7 @@ met_whole order shape rule first second (Some fault) e = cc
 -- without a fault all pairs are written, with a limit or without one
 pub swept_whole : (order : Order) (shape : Shape) (rule : HitRule) (limit : Option ℕ) (first second : Good Feature) → (met_within order shape rule limit first second).fault ≡ None
     → (met_within order shape rule limit first second).lines ≡ intersect shape rule (items_in first) (items_in second)
-swept_whole order shape rule limit first second e = grind (arith, either_fault, met_whole, limit_whole)
+swept_whole order shape rule limit first second e = grind (arith, met_whole, limit_whole)
 
 module _ (shape : Shape) (rule : HitRule) (chromosomes : Option (List Entry)) (inputs : Inputs) where
   abbrev firsts : List Feature
@@ -290,12 +290,12 @@ places_apart rs h = pairs_all AreDisjoint (intervals_of rs) (pairs_map AreDisjoi
 pub merge_disjoint : merge_writes_disjoint
 merge_disjoint d strand other inputs chromosomes well =
     let is = merge_input d strand inputs chromosomes well in
-    grind (arith, places_apart, of_three, apart_disjoint, pairs_each)
+    grind (arith, places_apart, of_three, pairs_each)
 
 pub complement_disjoint : complement_writes_disjoint
 complement_disjoint limit inputs chromosomes well =
     let is = complement_input limit inputs chromosomes well in
-    grind (arith, places_apart, pairs_filter, of_three, apart_disjoint, pairs_each)
+    grind (arith, places_apart, pairs_filter, of_three, pairs_each)
 
 pub genomecov_disjoint : genomecov_writes_disjoint
 genomecov_disjoint zeros strand inputs chromosomes well =
@@ -317,7 +317,7 @@ bridged_to gap xs ys p same b = grind arith
 pub same_runs : (gap : ℕ) (xs ys : List Span) → SameCover xs ys → runs_of gap xs ≡ runs_of gap ys
 same_runs gap xs ys same =
     let runs = are_runs gap xs in
-    grind (arith, only_runs, bridged_to, same_sym)
+    grind (arith, only_runs)
 
 bare_to : (size : ℕ) (xs ys : List Span) (p : ℕ) → SameCover xs ys → IsBare size xs p → IsBare size ys p
 bare_to size xs ys p same b = record { within = b.within; bare = λ c. b.bare (same.back p c) }
@@ -325,7 +325,7 @@ bare_to size xs ys p same b = record { within = b.within; bare = λ c. b.bare (s
 pub same_gaps : (size : ℕ) (xs ys : List Span) → SameCover xs ys → gaps_of size xs ≡ gaps_of size ys
 same_gaps size xs ys same =
     let gaps = are_gaps size xs in
-    grind (arith, only_gaps, bare_to, same_sym)
+    grind (arith, only_gaps)
 
 pub same_levels : (u v : ℕ → Option ℕ) (size : ℕ) → ((p : ℕ) → u p ≡ v p) → levels_of u size ≡ levels_of v size
 same_levels u v size same = grind arith
@@ -345,7 +345,7 @@ again_by gap spans p b l r = elim (cases_lt l.right p) [
 pub runs_again : (gap : ℕ) (spans : List Span) → runs_of gap (runs_of gap spans) ≡ runs_of gap spans
 runs_again gap spans =
     let runs = are_runs gap spans in
-    grind (arith, only_runs, bridged_here, again_by)
+    grind (arith, only_runs, again_by)
 
 bridged_covered : (spans : List Span) (p : ℕ) → Bridged 0 spans p → IsCovered spans p
 bridged_covered spans p b = grind arith

@@ -63,7 +63,7 @@ some_rank b o e = grind arith
 
 pub known_names : (names : List (List ℕ)) → AllByRecursion (λ name. IsTrue ((rank_order names).knows name)) names
 known_names [] = tt
-known_names (n ∷ ns) = grind (arith, (known_names ns), rank_of-here, all_so, some_rank)
+known_names (n ∷ ns) = grind (arith, (known_names ns), rank_of-here, all_so)
 
 pub others : (n : List ℕ) (ns : List (List ℕ)) → is_among ns n ≡ false → AllByRecursion (λ m. bytes_eq n m ≡ false) ns
 others n [] e = tt

@@ -81,7 +81,7 @@ runs_apart gap spans = scanned _ (end_of spans)
 
 put_all : (P : List ℕ → Type 0) (order : Order) (name : List ℕ) (names : List (List ℕ)) → P name → AllByRecursion P names → AllByRecursion P (put_in_order order name names)
 put_all P order name [] one all = (one, tt)
-put_all P order name (n ∷ ns) one all = grind (arith, (put_all P order name ns one all.1), is_lt)
+put_all P order name (n ∷ ns) one all = grind (arith, (put_all P order name ns one all.1))
 
 pub ordered_all : (P : List ℕ → Type 0) (order : Order) (names : List (List ℕ)) → AllByRecursion P names → AllByRecursion P (in_order order names)
 ordered_all P order [] all = tt

@@ -171,7 +171,7 @@ module _ (rule : HitRule) (a : Feature) (is : IsSaid a) where
 
   hit_is : (shape : Shape) (b : Feature) → Hit rule a b → IsColumns (hit_columns shape a b)
   unfolding hit_columns
-  hit_is shape b hit = grind (arith, cut_columns, plain_columns, kept_more, with_record, whole_columns, clear_both, clear_tab, clear_record, clear_number)
+  hit_is shape b hit = grind (arith, cut_columns, clear_both, clear_record, clear_number)
 
   hits_are : (shape : Shape) (found : List Feature) → AllByRecursion (Hit rule a) found → AllByRecursion IsColumns (map (hit_columns shape a) found)
   hits_are shape found h = all_map IsColumns (hit_columns shape a) found (all_so (Hit rule a) (λ b. IsColumns (hit_columns shape a b)) found (λ b k. hit_is shape b k) h)
@@ -198,8 +198,8 @@ module _ (rule : HitRule) (a : Feature) (is : IsSaid a) where
   part_is Once (b ∷ more) h = (plain_columns, tt)
   part_is Missing [] h = (plain_columns, tt)
   part_is Missing (b ∷ more) h = tt
-  part_is Count found h = grind (arith, whole_columns, kept_more, clear_both, clear_tab, clear_number)
-  part_is Pieces found h = grind (arith, all_map, all_so, said_columns, piece_bounds)
+  part_is Count found h = grind (arith, clear_both, clear_number)
+  part_is Pieces found h = grind (arith, all_map, all_so, piece_bounds)
   part_is Whole [] h = (plain_columns, tt)
   part_is Whole (b ∷ more) h = tt
 

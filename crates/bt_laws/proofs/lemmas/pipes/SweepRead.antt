@@ -122,10 +122,10 @@ module _ (a : Feature) (is : IsSaid a) where
   after_number : (n : ℕ) → (read_before (decimal n) a).strand ≡ a.strand
   after_number n =
       let number : columns_of 9 (decimal n) ≡ decimal n ∷ [] = ap (columns_of 9) (sym (append-nil (decimal n))) ∙ kept_is_cut (decimal n) [] (number_column n) tt in
-      grind (arith, strip_number, columns_both, more_strand, number_unsigned)
+      grind (arith, strip_number, columns_both, number_unsigned)
 
   after_columns : (chrom : List ℕ) (start stop : ℕ) (tail : List ℕ) → IsName chrom → IsTrue (is_kept tail) → (length (columns_in a.rest) ≡ 2 → strand_named chrom ≡ Dot) → strand_of (columns_in (a.rest ++ 9 ∷ columns_text chrom start stop tail)) ≡ a.strand
-  after_columns chrom start stop tail named kept unsigned = grind (arith, columns_both, line_columns, more_strand, number_unsigned)
+  after_columns chrom start stop tail named kept unsigned = grind (arith, columns_both, line_columns, number_unsigned)
 
   module _ (rule : HitRule) (unsigned : length (columns_in a.rest) ≡ 2 → strand_named a.chrom ≡ Dot) (b : Feature) (hit : Hit rule a b) where
     same_unsigned : length (columns_in a.rest) ≡ 2 → strand_named b.chrom ≡ Dot
@@ -146,7 +146,7 @@ module _ (a : Feature) (is : IsSaid a) where
         let said = hit.0.feature in
         let text : strip_last 13 (9 ∷ (bed_text b ++ 9 ∷ decimal n)) ≡ 9 ∷ columns_text b.chrom b.start b.stop (b.rest ++ 9 ∷ decimal n) =
         strip_both 13 (9 ∷ bed_text b) (9 ∷ decimal n) (omega arith) ∙ ap (λ l. (9 ∷ bed_text b) ++ l) (strip_number n) ∙ simp append_assoc in
-        grind (arith, after_columns, kept_more, same_unsigned)
+        grind (arith, after_columns, same_unsigned)
 
   strands_for : (rule : HitRule) (shape : Shape) (found : List Feature) → begins_with_a shape ≡ true → is_a_alone shape ≡ false → TakesNoStrand shape a → AllByRecursion (Hit rule a) found
       → map (λ (r : Feature). r.strand) (records_for shape a found) ≡ map (λ (r : Feature). r.strand) (replicate (line_count shape (length found)) a)

@@ -46,7 +46,7 @@ module _ (records : List Interval) where
 
   pub gaps_there : (name : List ℕ) (entries : List Entry) → AreDistinct (genome_names entries) → spans_on name (flat_map (gaps_on records) entries) ≡ gaps_of (length_in entries name) (spans_on name records)
   gaps_there name [] distinct = sym (no_gaps (spans_on name records))
-  gaps_there name (entry ∷ entries) distinct = grind (arith, (gaps_there name entries distinct.1), cases_name, spans_on-append, here_all, gaps_absent, append-nil, name_eq, none_there)
+  gaps_there name (entry ∷ entries) distinct = grind (arith, (gaps_there name entries distinct.1), cases_name, spans_on-append, here_all, gaps_absent, append-nil, none_there)
 
 pub complement_spans : (entries : List Entry) (records : List Feature) (name : List ℕ) → AreDistinct (genome_names entries) → spans_on name (complement false entries records) ≡ gaps_of (length_in entries name) (spans_on name (intervals_of records))
 unfolding complement
@@ -60,7 +60,7 @@ hidden_other chrom name hidden plain = search rules
 -- lines of header words hide nothing of another chromosome
 pub unhidden : (name : List ℕ) (rs : List Interval) → is_header name ≡ false → spans_on name (intervals_of (filter is_no_header (map three_columns rs))) ≡ spans_on name rs
 unhidden name [] e = refl
-unhidden name (r ∷ rs) e = grind (arith, (unhidden name rs e), cases_Bool, spans_on-elsewhere, hidden_other)
+unhidden name (r ∷ rs) e = grind (arith, (unhidden name rs e), hidden_other)
 
 -- ---- what a has in the gaps
 

@@ -60,7 +60,7 @@ covered_or spans p h = elim (cases_Bool (is_covered spans p)) [
 
 cut_apart : (size first : ℕ) (spans : List Span) → AreApartFrom first spans → AreApartFrom first (cut_spans size spans)
 cut_apart size first [] h = tt
-cut_apart size first (s ∷ ss) h = grind (arith, (cut_apart size (s.stop + 1) ss h.2), cases_lt, lt-ltb, nearer, le-ltb)
+cut_apart size first (s ∷ ss) h = grind (arith, (cut_apart size (s.stop + 1) ss h.2), nearer)
 
 cut_to : (size : ℕ) (spans : List Span) (p : ℕ) → IsCovered (cut_spans size spans) p → IsCovered spans p × (p < size)
 cut_to size [] p c = absurd c
@@ -205,7 +205,7 @@ module _ (records : List Feature) where
 
   depths_there : (name : List ℕ) (entries : List Entry) → AreDistinct (genome_names entries) → spans_on name (map interval_at (flat_map (depths_on false None records) entries)) ≡ spans_for name (length_in entries name)
   depths_there name [] distinct = sym (no_levels name)
-  depths_there name (entry ∷ entries) distinct = grind (arith, (depths_there name entries distinct.1), at_both, spans_on-append, cases_name, here_all, depths_absent, append-nil, name_eq, none_there)
+  depths_there name (entry ∷ entries) distinct = grind (arith, (depths_there name entries distinct.1), at_both, spans_on-append, cases_name, here_all, depths_absent, append-nil, none_there)
 
   counted_all : (name : List ℕ) → counted_on None name records ≡ spans_on name (intervals_of records)
   counted_all name = ap (λ rs. spans_on name (intervals_of rs)) (filter_all (λ (r : Feature). true) records (all_any _ records (λ r. refl)))
@@ -242,12 +242,12 @@ covered_within entries name (r ∷ rs) p within c = elim (cases_name r.chrom nam
 -- lines of header words
 unhidden_depths : (name : List ℕ) (rs : List DepthInterval) → is_header name ≡ false → spans_on name (intervals_of (filter is_no_header (map four_columns rs))) ≡ spans_on name (map interval_at rs)
 unhidden_depths name [] e = refl
-unhidden_depths name (r ∷ rs) e = grind (arith, (unhidden_depths name rs e), cases_Bool, spans_on-elsewhere, hidden_other)
+unhidden_depths name (r ∷ rs) e = grind (arith, (unhidden_depths name rs e), hidden_other)
 
 -- no record that was read lies on a chromosome of a header word
 none_hidden : (name : List ℕ) (records : List Feature) → is_header name ≡ true → AllByRecursion IsSaid records → spans_on name (intervals_of records) ≡ []
 none_hidden name [] e said = refl
-none_hidden name (r ∷ rs) e said = grind (arith, (none_hidden name rs e said.1), cases_name, false≢true, spans_on-elsewhere)
+none_hidden name (r ∷ rs) e said = grind (arith, (none_hidden name rs e said.1), cases_name)
 
 module _ (entries : List Entry) (distinct : AreDistinct (genome_names entries)) (records : List Feature) (said : AllByRecursion IsSaid records) (within : LieWithinLengths entries records)
     (read : List Feature) (read_said : AllByRecursion IsSaid read) (is : read ≡ filter is_no_header (map four_columns (coverage false None entries records))) where

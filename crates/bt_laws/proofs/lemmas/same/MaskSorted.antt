@@ -177,17 +177,17 @@ skip_behind c n z zs other p1 = grind arith
 -- another name is found before it, or not at all
 other_behind : (c n : List ℕ) (zs : Names) → bytes_eq c n ≡ false → Other c n zs
 other_behind c n [] e = inr (ap (λ b. behind_by b [] None) (name_ne-sym c n e))
-other_behind c n (z ∷ zs) e = grind (arith, (other_behind c n zs e), cases_name, name_eq, skip_behind)
+other_behind c n (z ∷ zs) e = grind (arith, (other_behind c n zs e))
 
 abbrev is_on : List ℕ → Feature → Bool
 is_on n r = bytes_eq r.chrom n
 
 any_rest : (q : Feature → Bool) (xs ys : List Feature) → list_any q (xs ++ ys) ≡ false → list_any q ys ≡ false
-any_rest q xs ys e = grind (arith, common_steps, or_parts)
+any_rest q xs ys e = grind (arith, common_steps)
 
 first_off : (n c : List ℕ) (xs more : List Feature) → AllByRecursion (λ (r : Feature). r.chrom ≡ c) xs → 0 < length xs → list_any (is_on n) (xs ++ more) ≡ false → (bytes_eq c n ≡ false) × (list_any (is_on n) more ≡ false)
 first_off n c [] more h some e = absurd (omega (arith, some))
-first_off n c (r ∷ rs) more h some e = grind (arith, or_parts, any_rest)
+first_off n c (r ∷ rs) more h some e = grind (arith, any_rest)
 
 abbrev IsFull : Block Feature → Type 0
 IsFull b = 0 < length b.items
@@ -226,7 +226,7 @@ some_one : (n : List ℕ) (xs ys : Names) → 0 < length (named n (xs ++ n ∷ y
 some_one n xs ys = grind (arith, common_steps, name_eq)
 
 once_around : (n : List ℕ) (xs ys : Names) → length (named n (xs ++ n ∷ ys)) ≤ 1 → (is_among xs n ≡ false) × (is_among ys n ≡ false)
-once_around n xs ys once = grind (arith, common_steps, name_eq, none_few, cases_Bool, some_one)
+once_around n xs ys once = grind (arith, common_steps, name_eq, none_few)
 
 once_named : (n : List ℕ) (names : Names) (rs : List Feature) → AllByRecursion (NamesOne names) rs → list_any (is_on n) rs ≡ true → length (named n names) ≤ 1
 once_named n names [] h e = cc
@@ -259,7 +259,7 @@ module _ (t : Feature → Bool) (rs ss both : List Feature) (permuted : IsPermut
         grind (arith, own_on, both_by)
 
     no_own : (front : Names) (n : List ℕ) → list_any (is_on n) both ≡ false → list_any t (own_records (front ++ n ∷ []) both) ≡ (list_any t (own_records (front ++ n ∷ []) rs) || list_any t (own_records (front ++ n ∷ []) ss))
-    no_own front n none = grind (arith, or_parts, both_by, none_on_it)
+    no_own front n none = grind (arith, both_by, none_on_it)
 
     both_own : (own more : Names) → names ≡ own ++ more → list_any t (own_records own both) ≡ (list_any t (own_records own rs) || list_any t (own_records own ss))
     both_own [] more e =
@@ -269,7 +269,7 @@ module _ (t : Feature → Bool) (rs ss both : List Feature) (permuted : IsPermut
         let end = ends x xs in
         let n = end.last in
         let whole : names ≡ end.front ++ n ∷ more = e ∙ ap (λ l. l ++ more) end.is ∙ append_assoc end.front (n ∷ []) more in
-        grind (arith, cases_Bool, some_own, no_own)
+        grind (arith, some_own, no_own)
 
 -- ---- the runs
 

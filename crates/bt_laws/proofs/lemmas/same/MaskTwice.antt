@@ -57,7 +57,7 @@ masked_not : (how : MaskHow) (base byte : ℕ) → IsNot how byte → byte ≤ 6
 masked_not how base byte is low other = grind arith
 
 high_not : (n : ℕ) → 91 ≤ n → is_ascii_uppercase n ≡ false
-high_not n h = grind (arith, nat_tests)
+high_not n h = grind arith
 
 twice_by : (upper : Bool) (base : ℕ) → is_ascii_uppercase base ≡ upper → (if is_ascii_uppercase (if upper then base + 32 else base) then (if upper then base + 32 else base) + 32 else (if upper then base + 32 else base)) ≡ (if upper then base + 32 else base)
 twice_by upper base e = grind arith
@@ -95,7 +95,7 @@ module _ (how : MaskHow) (keeps : KeepsLines how) where
 
     clear_from : (position : ℕ) (bases : List ℕ) → NoLineFeed bases → NoLineFeed (masked_from how records position bases)
     clear_from position [] h = All-nil (λ b. eqb b 10 ≡ false)
-    clear_from position (base ∷ bases) h = grind (arith, (clear_from (suc position) bases (All-tail (λ b. eqb b 10 ≡ false) base bases h)), All-cons, kept_not, apart, All-head, All-tail)
+    clear_from position (base ∷ bases) h = grind (arith, (clear_from (suc position) bases (All-tail (λ b. eqb b 10 ≡ false) base bases h)), All-head)
 
     pub header_from : (position : ℕ) (bases : List ℕ) → is_header bases ≡ false → is_header (masked_from how records position bases) ≡ false
     header_from position bases e = grind arith
@@ -116,13 +116,13 @@ module _ (how : MaskHow) (keeps : KeepsLines how) where
     text_by header line = if header then line.text else masked_from how (own_records line.names records) line.before line.text
 
     stands_by : (header : Bool) (line : SequenceLine) → is_header line.text ≡ header → NoLineFeed line.text → Stands line.text (text_by header line)
-    stands_by header line e clear = grind (arith, clear_from, size_from, header_from, last_from, false≢true)
+    stands_by header line e clear = grind (arith, clear_from, size_from, last_from)
 
     safe_text : (line : SequenceLine) → NoLineFeed line.text → Stands line.text (masked_text how records line)
     safe_text line clear = stands_by (is_header line.text) line refl clear
 
     again_by : (header : Bool) (line : SequenceLine) → is_header line.text ≡ header → masked_text how records (with_text line (text_by header line)) ≡ text_by header line
-    again_by header line e = grind (arith, header_from, from_again)
+    again_by header line e = grind (arith, from_again)
 
     text_again : (line : SequenceLine) → masked_line how records (with_text line (masked_text how records line)) ≡ masked_line how records line
     text_again line = ap (λ t. t ++ end_bytes line.ending) (again_by (is_header line.text) line refl)
@@ -225,7 +225,7 @@ module _ (how : MaskHow) (full : Bool) (inputs : Inputs) (chromosomes : Option (
     read_items = grind (arith, same_items, is_again)
 
     pub read_none : read.fault ≡ None
-    read_none = grind (arith, or_else_none, same_items, is_again)
+    read_none = grind (arith, same_items, is_again)
 
     layouts : (all : List SequenceLine) → map layout_of (map again_line all) ≡ map layout_of all
     layouts [] = refl
@@ -279,7 +279,7 @@ module _ (how : MaskHow) where
 
   both_from : (rs ss ts : List Feature) (position : ℕ) (bases : List ℕ) → ((p : ℕ) → position ≤ p → p < position + length bases → list_any (covers p) ts ≡ (list_any (covers p) rs || list_any (covers p) ss)) → masked_from how ss position (masked_from how rs position bases) ≡ masked_from how ts position bases
   both_from rs ss ts position [] e = refl
-  both_from rs ss ts position (base ∷ bases) e = grind (arith, (both_from rs ss ts (suc position) bases (λ p from to. e p (omega (arith, from)) (omega (arith, to)))), base_both)
+  both_from rs ss ts position (base ∷ bases) e = grind (arith, (both_from rs ss ts (suc position) bases (λ p from to. e p (omega (arith, from)) (omega (arith, to)))))
 
   both_by : (keeps : KeepsLines how) (header : Bool) (rs ss ts : List Feature) (line : SequenceLine) → is_header line.text ≡ header
       → ((p : ℕ) → line.before ≤ p → p < line.before + (if header then 0 else length line.text) → list_any (covers p) (own_records line.names ts) ≡ (list_any (covers p) (own_records line.names rs) || list_any (covers p) (own_records line.names ss)))

@@ -48,7 +48,7 @@ or_swap : (a b c : Bool) → (a || (b || c)) ≡ (b || (a || c))
 or_swap a b c = grind arith
 
 any_twice : (q : Feature → Bool) (before : List Feature) (r : Feature) (after : List Feature) → list_any q (before ++ r ∷ after) ≡ (q r || list_any q (before ++ r ∷ after))
-any_twice q before r after = grind (arith, common_steps, or_twice, or_swap)
+any_twice q before r after = grind (arith, common_steps)
 
 -- ---- of the records that are kept
 
@@ -132,7 +132,7 @@ module _ (order : Order) (total : IsTotal order) where
   not_before n known less = let apart : Less ≡ Equal = sym less ∙ total.same n known in cc
 
   not_among : (n : List ℕ) (ns : List (List ℕ)) → IsTrue (order.knows n) → AllByRecursion (Earlier order n) ns → is_among ns n ≡ false
-  not_among n ns known later = grind (arith, cases_Bool, not_before, among_so)
+  not_among n ns known later = grind (arith, among_so)
 
   same_names : (xs ys : List (List ℕ)) → AreKnown order xs → AreKnown order ys → EachPair (Earlier order) xs → EachPair (Earlier order) ys → ((name : List ℕ) → is_among xs name ≡ is_among ys name) → xs ≡ ys
   same_names [] [] k l up vp same = refl
@@ -145,7 +145,7 @@ module _ (order : Order) (total : IsTotal order) where
           | inl s ↦ subst (λ n. is_among xs n ≡ false) s (not_among x xs k.0 up.0) ∙ sym (subst (λ n. is_among ys n ≡ false) (sym e ∙ s) (not_among y ys l.0 vp.0))
           | inr other ↦ ap (λ b. b || is_among xs name) (sym other) ∙ same name ∙ ap (λ b. b || is_among ys name) (subst (λ n. bytes_eq n name ≡ false) e other)
         ]))
-    | inr other ↦ grind (arith, among_so, among_first, name_ne-sym, not_before)
+    | inr other ↦ grind (arith, among_so, among_first, name_ne-sym)
   ]
 
   abbrev named : (Feature → Bool) → List Feature → List (List ℕ)
@@ -186,7 +186,7 @@ all_kept rs = ap intervals_of (filter_all (λ r. true) rs (all_any _ rs (λ r. r
 pub gaps_by : (limit : Bool) (entries : List Entry) (rs ss : List Feature) → ((name : List ℕ) → has_records name (intervals_of rs) ≡ has_records name (intervals_of ss))
     → ((name : List ℕ) → SameCover (spans_on name (intervals_of rs)) (spans_on name (intervals_of ss))) → complement limit entries rs ≡ complement limit entries ss
 unfolding complement
-gaps_by limit entries rs ss has cover = grind (arith, filter_same, all_any, flat_map_same, same_gaps)
+gaps_by limit entries rs ss has cover = grind (arith, same_gaps)
 
 alike_gaps : (limit : Bool) (entries : List Entry) (rs ss : List Feature) → IsAlike rs ss → complement limit entries rs ≡ complement limit entries ss
 alike_gaps limit entries rs ss is =
@@ -269,7 +269,7 @@ again name ns = filter_all (λ other. not (bytes_eq other name)) (without name n
 -- what holds of each name that has records
 names_so : (P : List ℕ → Type 0) (rs : List Interval) → ((name : List ℕ) → has_records name rs ≡ true → P name) → AllByRecursion P (chromosomes rs)
 names_so P [] h = tt
-names_so P (r ∷ rs) h = grind (arith, (names_so P rs (λ name has. h name (or_right (bytes_eq r.chrom name) (has_records name rs) has))), name_eq, all_filter, or_right)
+names_so P (r ∷ rs) h = grind (arith, (names_so P rs (λ name has. h name (or_right (bytes_eq r.chrom name) (has_records name rs) has))), name_eq, all_filter)
 
 -- ---- the spans of runs, name by name
 
@@ -300,7 +300,7 @@ module _ (f : List ℕ → List Span) where
 
   -- what no name has, stays nothing
   pub spans_by : (name : List ℕ) (names : List (List ℕ)) → AreDistinct names → (is_among names name ≡ false → f name ≡ []) → spans_on name (flat_map placed_by names) ≡ f name
-  spans_by name names distinct none = grind (arith, cases_Bool, spans_present, spans_absent)
+  spans_by name names distinct none = grind (arith, spans_present, spans_absent)
 
   -- the names that come are all names, if each has some
   ones_first : (n : List ℕ) (ss : List Span) (rest : List Interval) → without n (chromosomes (map (placed_on n) ss ++ rest)) ≡ without n (chromosomes rest)
@@ -371,7 +371,7 @@ module _ (order : Order) (total : IsTotal order) (gap : ℕ) (strand : MergeStra
   -- merged again they stay as they are
   pub merged_again : ArePlaced order (ordered_runs order gap strand records) → ordered_runs order gap All (map three_columns (ordered_runs order gap strand records)) ≡ ordered_runs order gap strand records
   unfolding merged
-  merged_again there = grind (arith, ordered_come, back, all_of_them, run_names, flat_map_same, all_any, run_spans, runs_again, runs_are_by)
+  merged_again there = grind (arith, ordered_come, back, all_of_them, run_names, run_spans, runs_again)
 
 -- ---- a run on an output
 

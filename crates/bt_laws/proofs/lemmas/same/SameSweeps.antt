@@ -152,7 +152,7 @@ one_base_lines both shape first bs = grind (arith, one_base_among)
 
 any_hits : (a b : Feature) → a.chrom ≡ b.chrom → max a.start b.start < min a.stop b.stop → hits any_overlap a b ≡ true
 unfolding hits strands_agree
-any_hits a b same some = grind (arith, name_eq, lt-ltb, enough_of_nothing)
+any_hits a b same some = grind (arith, name_eq, enough_of_nothing)
 
 -- one more record
 first_or : (a b : Feature) (bs : List Feature) (p : ℕ) → IsCovered (spans_of (b ∷ hits_among any_overlap a bs)) p → (IsCovered (spans_of (hits_among any_overlap a bs)) p → IsCovered (spans_on a.chrom (intervals_of bs)) p) → IsCovered (span_of (interval_of b) ∷ spans_on a.chrom (intervals_of bs)) p
@@ -166,7 +166,7 @@ longer a b bs p c = grind arith
 
 here_back : (a b : Feature) (bs : List Feature) (p : ℕ) → a.start ≤ p → p < a.stop → b.chrom ≡ a.chrom → IsCovered (span_of (interval_of b) ∷ spans_on a.chrom (intervals_of bs)) p
     → (IsCovered (spans_on a.chrom (intervals_of bs)) p → IsCovered (spans_of (hits_among any_overlap a bs)) p) → IsCovered (spans_of (hits_among any_overlap a (b ∷ bs))) p
-here_back a b bs p from to same p1 more = grind (arith, any_hits, longer)
+here_back a b bs p from to same p1 more = grind (arith, any_hits)
 
 -- the positions of a that the second input has, and those that its hits have
 pub hit_to : (a : Feature) (bs : List Feature) (p : ℕ) → IsCovered (spans_of (hits_among any_overlap a bs)) p → IsCovered (spans_on a.chrom (intervals_of bs)) p
@@ -202,7 +202,7 @@ covered_length (b ∷ found) p c = omega arith
 
 module _ (a : Feature) (bs cs : List Feature) (full : AllByRecursion IsSaid bs) (same : SameCover (spans_on a.chrom (intervals_of bs)) (spans_on a.chrom (intervals_of cs))) where
   left_to : (p : ℕ) → IsLeft a (hits_among any_overlap a bs) p → IsLeft a (hits_among any_overlap a cs) p
-  left_to p left = grind (arith, hit_back, back, hit_to)
+  left_to p left = grind (arith, hit_back, hit_to)
 
   left_back : (p : ℕ) → IsLeft a (hits_among any_overlap a cs) p → IsLeft a (hits_among any_overlap a bs) p
   left_back p left = grind (arith, hit_back, hit_to)
@@ -247,14 +247,14 @@ alone_none : (b : Bool) (lines other : List ℕ) (one : Option FaultValue) → b
 alone_none b lines other one e f = grind arith
 
 first_none : (order : Order) (shape : Shape) (rule : HitRule) (first : Good Feature) (second : List Feature) (fault : Option FaultValue) → fault ≡ None → (join_report (sweep_rule order shape rule second fault) (items_in first) first.fault).fault ≡ None → first.fault ≡ None
-first_none order shape rule first second fault none e = grind (arith, alone_none, all_true, all_any)
+first_none order shape rule first second fault none e = grind (arith, all_true, all_any)
 
 pub met_none : (order : Order) (shape : Shape) (rule : HitRule) (first second : Good Feature) → first.fault ≡ None → second.fault ≡ None → (met_within order shape rule None first second).fault ≡ None
 met_none order shape rule first second one two = grind arith
 
 -- a run without a fault has inputs without one
 pub met_faultless : (order : Order) (shape : Shape) (rule : HitRule) (limit : Option ℕ) (first second : Good Feature) → (met_within order shape rule limit first second).fault ≡ None → (first.fault ≡ None) × (second.fault ≡ None)
-met_faultless order shape rule limit first second e = grind (arith, either_fault, first_none, limit_whole)
+met_faultless order shape rule limit first second e = grind (arith, first_none, limit_whole)
 
 -- a text without a fault as one input has none as another, and the same records
 like_with : (sorting : Sorting) (n : ℕ) (last : Option Locus) (one other : Input) (said : Result (Option Feature) Kind) (ls ms : Option Locus → Good Feature) → ((now : Option Locus) → (ls now).fault ≡ None → (items_in (ms now) ≡ items_in (ls now)) × ((ms now).fault ≡ None))
@@ -394,7 +394,7 @@ not_false : (b : Bool) → not b ≡ true → b ≡ false
 not_false b e = grind arith
 
 without_others : (n : List ℕ) (ns : List (List ℕ)) → AllByRecursion (λ m. bytes_eq n m ≡ false) (without n ns)
-without_others n ns = grind (arith, all_so, name_ne-sym, not_false, kept_pass)
+without_others n ns = grind (arith, all_so, name_ne-sym, kept_pass)
 
 -- ---- one block for each chromosome
 
@@ -442,7 +442,7 @@ both_ways a b to back = grind arith
 module _ (rs ss : List Feature) where
   -- the same positions of a chromosome
   same_on : (p : ℕ) (name : List ℕ) → SameCover (spans_on name (intervals_of rs)) (spans_on name (intervals_of ss)) → list_any (covers p) (on_name name rs) ≡ list_any (covers p) (on_name name ss)
-  same_on p name same = grind (arith, covers_on, both_ways, is_covered-Decides, back)
+  same_on p name same = grind (arith, covers_on, is_covered-Decides)
 
   if_last : (p : ℕ) (left : Option (List (List ℕ))) (xs ys : List Feature) → list_any (covers p) xs ≡ list_any (covers p) ys → list_any (covers p) (items_if_last left xs) ≡ list_any (covers p) (items_if_last left ys)
   if_last p left xs ys e = grind arith
@@ -455,7 +455,7 @@ module _ (rs ss : List Feature) where
   own_same p same left [] = refl
   own_same p same left (n ∷ ns) =
       let next = left_by left n in
-      grind (arith, (own_same p same next ns), list_any-append, if_last, same_on)
+      grind (arith, (own_same p same next ns), list_any-append, same_on)
 
   left_same : (left : Option (List (List ℕ))) (names : List (List ℕ)) → left_at_last left (owned_from left (map (block_of rs) names)) ≡ left_at_last left (owned_from left (map (block_of ss) names))
   left_same left [] = refl
@@ -474,4 +474,4 @@ module _ (rs ss : List Feature) where
 
     -- and leave the same names
     pub leave_alike : (names : List (List ℕ)) → leave (Some names) None ss ≡ leave (Some names) None rs
-    leave_alike names = grind (arith, leave_all, blocks_two, left_same, together_blocks)
+    leave_alike names = grind (arith, leave_all, left_same, together_blocks)

@@ -76,7 +76,7 @@ same_levels f g (x ∷ xs) (y ∷ ys) a b to back =
     let long = stop_up_to g f y x ys xs b a back (sym starts) in
     let stops : x.stop ≡ y.stop = omega arith in
     let heads = same_level x y starts stops (sym (same_value f g x y xs ys a b to starts)) in
-    grind (arith, (same_levels x.stop y.stop xs ys a.3 b.3 (tail_within f x y xs ys a stops to) (tail_within g y x ys xs b (sym stops) back)), tail_within)
+    grind (arith, (same_levels x.stop y.stop xs ys a.3 b.3 (tail_within f x y xs ys a stops to) (tail_within g y x ys xs b (sym stops) back)))
 
 -- the list has the values of n positions before an end, from a first one on
 record IsScanOf (value : ℕ → Option ℕ) (first end : ℕ) (levels : List Level) : Type 0 where
@@ -122,7 +122,7 @@ one_before value begun first p end rest b up scan other =
 
 -- a position without a value before a scan
 skips : (value : ℕ → Option ℕ) (p end : ℕ) (levels : List Level) → value p ≡ None → IsScanOf value (p + 1) end levels → IsScanOf value p end levels
-skips value p end levels none scan = grind (arith, looser, cases_eq)
+skips value p end levels none scan = grind (arith, looser)
 
 -- the scan of the rest, whatever has begun
 abbrev ScansRest : (ℕ → Option ℕ) → ℕ → ℕ → (Option Begun → List Level) → Type 0
@@ -289,7 +289,7 @@ has_kept : (value : ℕ) (ls : List Level) (p : ℕ) → HasValue ls p value
     → HasValue (filter (has value) ls) p value
 has_kept value [] p h = absurd h
 has_kept value (l ∷ ls) p (inl w) = rw (eq-eqb l.value value w.2) (inl w)
-has_kept value (l ∷ ls) p (inr w) = grind (arith, (has_kept value ls p w), cases_Bool)
+has_kept value (l ∷ ls) p (inr w) = grind (arith, (has_kept value ls p w))
 
 -- an interval differs from the next if its value isn't found at its stop
 differs_from : (first : ℕ) (l : Level) (ms : List Level) → (HasValue ms l.stop l.value → ⊥)
@@ -352,7 +352,7 @@ places_kept : (name : List ℕ) (ls : List Level)
     ≡ map (level_place name) (filter (has 0) ls)
 unfolding no_depth level_place
 places_kept name [] = refl
-places_kept name (l ∷ ls) = grind (arith, (places_kept name ls), cases_Bool)
+places_kept name (l ∷ ls) = grind (arith, (places_kept name ls))
 
 places_of_spans : (name : List ℕ) (spans : List Span)
     → map (level_place name) (map (level_on 0) spans) ≡ map (placed_on name) spans

@@ -183,10 +183,10 @@ first_make_entries input count text beyond = first_entries_from input count coun
 
 -- a decimal digit is a digit and no tab
 in_range_digit : (c : ℕ) → IsInRange 48 57 c → is_ascii_digit c ≡ true
-in_range_digit c h = grind (arith, nat_tests)
+in_range_digit c h = grind arith
 
 in_range_inside : (c : ℕ) → IsInRange 48 57 c → IsInside c
-in_range_inside c h = grind (arith, nat_tests)
+in_range_inside c h = grind arith
 
 digits_pass : (ds : List ℕ) → AllDigits 10 ds → list_all is_ascii_digit ds ≡ true
 digits_pass [] h = refl
@@ -199,7 +199,7 @@ digits_are_column (c ∷ cs) h = All-cons IsInside c cs (in_range_inside c (digi
 -- the digits of a number denote it
 value_of_text : (text : List ℕ) (n : ℕ) → 0 < length text → AllDigits 10 text → digits_value 10 text ≡ n → n ≤ 999999999999 → value_of text ≡ Some n
 unfolding value_of
-value_of_text text n some digits e small = grind (arith, nat_tests, digits_pass)
+value_of_text text n some digits e small = grind (arith, digits_pass)
 
 value_of_decimal : (n : ℕ) → n ≤ 999999999999 → value_of (decimal n) ≡ Some n
 value_of_decimal n small = let d = decimal_is_IsNumeral n (omega arith) in value_of_text (decimal n) n d.0.0 d.0.1 d.1 small
@@ -228,7 +228,7 @@ whole_again : (f : Feature) → IsFeature f → whole f.chrom f.start f.stop (co
 whole_again f is = grind (arith, kept_again)
 
 text_says : (f : Feature) → IsFeature f → columns_say (pieces 9 (bed_text f)) ≡ Ok f
-text_says f is = grind (arith, columns_of_text, value_of_decimal, of_numbers, whole_again)
+text_says f is = grind (arith, columns_of_text, value_of_decimal, whole_again)
 
 pub said_feature : said_are_features
 said_feature text f e = said_is_feature text f (record_said text f e).1
@@ -336,13 +336,13 @@ has_records-push name (x ∷ xs) r f g =
 
 -- the next of a past in order: what the last record asks of it, it asks of all
 grows_from : (q : Interval) (qs : List Interval) (r : Interval) → AreContiguous (q ∷ qs) → ((r.chrom ≡ (last_from q qs).chrom) × ((last_from q qs).start ≤ r.start)) ⊎ (has_records r.chrom (q ∷ qs) ≡ false) → AreContiguous (q ∷ qs ++ r ∷ [])
-grows_from q [] r t next = grind (arith, or_from, name_ne-sym, or_parts)
+grows_from q [] r t next = grind (arith, name_ne-sym)
 grows_from q (s ∷ ss) r t next =
     let later : ((r.chrom ≡ (last_from s ss).chrom) × ((last_from s ss).start ≤ r.start)) ⊎ (has_records r.chrom (s ∷ ss) ≡ false) = elim next [
       | inl same ↦ inl same
       | inr new ↦ inr (or_parts (bytes_eq q.chrom r.chrom) (has_records r.chrom (s ∷ ss)) new).1
     ] in
-    grind (arith, (grows_from s ss r t.1 later), has_records-push, name_ne, false≢true, has_records-last, name_ne-sym, or_parts)
+    grind (arith, (grows_from s ss r t.1 later), has_records-push, name_ne, has_records-last, name_ne-sym, or_parts)
 
 pub grows_contiguous : contiguous_grows
 grows_contiguous [] r t next = (tt, tt)

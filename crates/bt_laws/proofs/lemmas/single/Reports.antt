@@ -27,7 +27,7 @@ items_of-spelled : (table : Table) (others : List Item) (rest : List Word)
     → All (IsItem table) others
     → items_of table (spelled others ++ rest) ≡ others ++ items_of table rest
 items_of-spelled table [] rest h = refl
-items_of-spelled table (item ∷ others) rest h = grind (arith, (items_of-spelled table others rest (All-tail (IsItem table) item others h)), All-head, All-tail, append_assoc, items_of-item)
+items_of-spelled table (item ∷ others) rest h = grind (arith, (items_of-spelled table others rest (All-tail (IsItem table) item others h)), All-head, append_assoc, items_of-item)
 
 longest : (table : Table) (words : List Word) (others : List Item) (rest : List Word)
     → All (IsItem table) others → words ≡ spelled others ++ rest
@@ -51,7 +51,7 @@ longest-items_of table words items h =
     let rest = h.front.0 in
     let read = ap (items_of table) h.front.1 ∙ items_of-spelled table items rest h.allowed in
     let all = front table words in
-    grind (arith, longest, allowed, flat_map-append, length-append, spelled-none, append-nil)
+    grind (arith, allowed, flat_map-append, length-append, spelled-none, append-nil)
 
 pub division-unique : LongestDivisionIsUnique
 division-unique table words items =
@@ -69,7 +69,7 @@ unfolding word_fault
 no_fault-all table at words e =
     let read = spelled (items_of table words) in
     let all = front table words in
-    grind (arith, drop-append_seam, fault_at-none, append-nil)
+    grind (arith, drop-append_seam, append-nil)
 
 all-no_fault : (table : Table) (at : ℕ) (words : List Word)
     → spelled (items_of table words) ≡ words → word_fault table at words ≡ None

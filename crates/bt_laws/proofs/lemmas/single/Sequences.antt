@@ -105,13 +105,13 @@ later less more stop (block ∷ blocks) h b = (omega (arith, b.0), b.1, b.2)
 
 -- a block before others, if it has a base
 first_between : (start stop last : ℕ) (rest : List Span) → start ≤ stop → AreBetween stop last rest → AreBetween start last (with_bases start stop ++ rest)
-first_between start stop last rest h r = grind (arith, nat_tests)
+first_between start stop last rest h r = grind arith
 
 between_by : (k : Bool) (operation : Operation) (operations : List Operation) (start stop last : ℕ) → is_skip operation ≡ k → start ≤ stop
     → (is_skip operation ≡ true → AreBetween (stop + operation.length) last (open_blocks (stop + operation.length) (stop + operation.length) operations))
     → (is_skip operation ≡ false → AreBetween start last (open_blocks start (stop + covered_by operation) operations))
     → AreBetween start last (cond k (with_bases start stop ++ open_blocks (stop + operation.length) (stop + operation.length) operations) (open_blocks start (stop + covered_by operation) operations))
-between_by k operation operations start stop last e h skipped more = grind (arith, first_between, later)
+between_by k operation operations start stop last e h skipped more = grind (arith, later)
 
 open_between : (start stop : ℕ) (operations : List Operation) → start ≤ stop → AreBetween start (stop + reference_length operations) (open_blocks start stop operations)
 open_between start stop [] h = grind arith
@@ -213,7 +213,7 @@ byte_lettered byte (Some (part ∷ others)) parts e h =
 
 lettered_by : (byte : ℕ) (bytes : List ℕ) (b : Bool) (parts : List Part) → is_letter byte ≡ b → cond b (with_part (record { digits = []; letter = byte }) (parts_of bytes)) (onto_part byte (parts_of bytes)) ≡ Some parts
     → ((others : List Part) → parts_of bytes ≡ Some others → letters others ≡ true) → letters parts ≡ true
-lettered_by byte bytes b parts is e h = grind (arith, letter_lettered, byte_lettered)
+lettered_by byte bytes b parts is e h = grind (arith, byte_lettered)
 
 lettered : (text : List ℕ) (parts : List Part) → parts_of text ≡ Some parts → letters parts ≡ true
 lettered [] parts e = let is : [] ≡ parts = cc in ap letters (sym is)
@@ -262,7 +262,7 @@ module _ (how : MaskHow) (names : List (List ℕ)) (second : Good Feature) where
 
   all_decided : (first : List SequenceLine) → second.fault ≡ None → list_all (mask_rule how names second).decided first ≡ true
   all_decided [] e = refl
-  all_decided (line ∷ lines) e = grind (arith, (all_decided lines e), or_left)
+  all_decided (line ∷ lines) e = grind (arith, (all_decided lines e))
 
 pub masked_front : masked_are_a_prefix
 masked_front how names first more_first fault second seen more is placed =
@@ -345,7 +345,7 @@ lacking_names name names = (none_has name names, none_found name names)
 -- Lemmas on records that change nothing.
 
 no_more : (rs : List Feature) (r : Feature) → rs ≡ rs ++ r ∷ [] → ⊥
-no_more rs r e = grind (arith, common_steps, length-append)
+no_more rs r e = grind (arith, common_steps)
 
 pub quiet_taken : quiet_records_are_taken
 quiet_taken how full stage line r out (Ok Yes) new grown takes undecided free = (refl, takes.same_output)

@@ -50,7 +50,7 @@ module _ {A : Type 0} where
       → test y ≡ true
       → (find test (xs ++ y ∷ []) ≡ Some y) × (position_or_len test (xs ++ y ∷ []) ≡ length xs)
   found_last test [] y e t = found_here test y [] t
-  found_last test (x ∷ xs) y e t = grind (arith, (found_last test xs y e.1 t), found_later)
+  found_last test (x ∷ xs) y e t = grind (arith, (found_last test xs y e.1 t))
 
   found_below : (test : A → Bool) (xs : List A) → Some_of (λ x. test x ≡ true) xs
       → position_or_len test xs < length xs
@@ -227,7 +227,7 @@ module _ (gap : ℕ) (past : List Feature) (r : Feature)
 
     placed_next : (rest : List Interval) → ArePlaced order (places_of old ++ interval_of r ∷ rest)
         → ArePlaced order (places_of (strand_runs gap (past ++ r ∷ [])) ++ rest)
-    placed_next rest p = grind (arith, listing_next, placed_same, cases_Bool, append-nil, placed_without, map-append, append_assoc)
+    placed_next rest p = grind (arith, listing_next, placed_same, placed_without, map-append, append_assoc)
 
 -- so it is of all records
 firsts_none : (gap : ℕ) → Firsts gap []
@@ -243,7 +243,7 @@ module _ (gap : ℕ) where
       let all = subst AreTaken (sym grown) t in
       let next = taken_front (past ++ r ∷ []) rs all in
       let listed = are_listed gap past (taken_front past (r ∷ []) next) in
-      grind (arith, (firsts_more (past ++ r ∷ []) rs all (firsts_next gap past r next listed f)), firsts_next)
+      grind (arith, (firsts_more (past ++ r ∷ []) rs all (firsts_next gap past r next listed f)))
 
   firsts : (records : List Feature) → AreTaken records → Firsts gap records
   firsts records t = firsts_more [] records t (firsts_none gap)
@@ -334,7 +334,7 @@ module _ (order : Order) where
   ascending_put : IsTotal order → (name : List ℕ) (ns : List (List ℕ)) → IsTrue (order.knows name) → AreKnown order ns
       → is_among ns name ≡ false → AreAscending order ns → AreAscending order (put_in_order order name ns)
   ascending_put total name [] one known none old = (tt, tt)
-  ascending_put total name (n ∷ ns) one known none old = grind (arith, (ascending_put total name ns one known.1 (or_parts (bytes_eq n name) (is_among ns name) none).1 old.1), ascending_by, or_parts)
+  ascending_put total name (n ∷ ns) one known none old = grind (arith, (ascending_put total name ns one known.1 (or_parts (bytes_eq n name) (is_among ns name) none).1 old.1), ascending_by)
 
   ascending_order : IsTotal order → (ns : List (List ℕ)) → AreKnown order ns → AreDistinct ns → AreAscending order (runs_in_order order ns)
   ascending_order total [] known distinct = tt

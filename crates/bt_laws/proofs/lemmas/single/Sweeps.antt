@@ -102,7 +102,7 @@ module _ (order : Order) (most : ℕ) (second : List Feature) where
   too_many_for (x ∷ first) many = grind (arith, (too_many_for first), found_at)
 
   pub enough_few : (first : List Feature) → HoldsEnough order most first second → are_too_many order most first second ≡ false
-  enough_few first enough = grind (arith, false_from_ne_true, too_many_for)
+  enough_few first enough = grind (arith, too_many_for)
 
 pub limit_kept : limit_is_kept
 limit_kept order most first second enough =
