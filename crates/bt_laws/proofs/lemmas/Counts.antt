@@ -65,9 +65,7 @@ no_times : (v : ℕ) → v * 0 ≡ 0
 no_times v = omega arith
 
 one_longer : (v p s : ℕ) → s ≤ p → v * ((p + 1) - s) ≡ v * (p - s) + v
-one_longer v p s low =
-    let e : (p + 1) - s ≡ suc (p - s) = omega (arith, low) in
-    ap (λ k. v * k) e ∙ mul-suc v (p - s)
+one_longer v p s low = grind (arith, (mul-suc v (p - s)))
 
 just_one : (v p : ℕ) → v * ((p + 1) - p) ≡ v
 just_one v p = grind arith
@@ -154,14 +152,9 @@ spans_sum (s ∷ ss) size =
     ∙ sym (sum_by-cons (below size) s ss)
 
 level_sum : (spans : List Span) (size : ℕ) → sum_by weight (levels_of (depth_of false spans) size) ≡ sum_by (below size) spans
-level_sum spans size =
-    let drop : 0 + total (λ q. value_in (depth_of false spans q)) 0 size ≡ total (λ q. value_in (depth_of false spans q)) 0 size = omega arith in
-    levels_sum (depth_of false spans) size 0 None tt ∙ drop ∙ total_same (λ q. value_in (depth_of false spans q)) (λ q. depth_at spans q) size 0 (depth_value spans) ∙ spans_sum spans size
+level_sum spans size = grind (arith, (levels_sum (depth_of false spans) size 0 None tt), (total_same (λ q. value_in (depth_of false spans q)) (λ q. depth_at spans q) size 0 (depth_value spans)), (spans_sum spans size))
 
 -- ---- chromosome by chromosome
-
-map_sum : (name : List ℕ) (ls : List Level) → sum_by depth_bases (map (depth_on name) ls) ≡ sum_by weight ls
-map_sum name ls = grind (arith, common_steps)
 
 abbrev bases_in : List Entry → Interval → ℕ
 bases_in entries r = min r.stop (length_in entries r.chrom) - r.start
@@ -187,7 +180,7 @@ module _ (strand : Option Strand) (records : List Feature) where
 
   entries_sum : (entries : List Entry) → AreDistinct (genome_names entries) → sum_by depth_bases (flat_map (depths_on false strand records) entries) ≡ sum_by (bases_in entries) (intervals_of used)
   entries_sum [] distinct = sym (no_entries (intervals_of used))
-  entries_sum (entry ∷ entries) distinct = grind (arith, (entries_sum entries distinct.1), sum_by-append, map_sum, level_sum, one_entry)
+  entries_sum (entry ∷ entries) distinct = grind (arith, (entries_sum entries distinct.1), sum_by-append, level_sum, one_entry, common_steps)
 
 features_sum : (entries : List Entry) (rs : List Feature) → sum_by (bases_in entries) (intervals_of rs) ≡ sum_by (bases_below entries) rs
 features_sum entries rs = grind (arith, common_steps)
@@ -234,10 +227,7 @@ hits_swap rule a b even = grind (arith, shared_swap, enough_swap)
 -- ---- lists of lists
 
 middle : {B : Type 0} (x f g y : List B) → IsPermutation ((x ++ f) ++ (g ++ y)) ((x ++ g) ++ (f ++ y))
-middle x f g y =
-    let from : (x ++ f) ++ (g ++ y) ≡ x ++ ((f ++ g) ++ y) = append_assoc x f (g ++ y) ∙ ap (λ l. x ++ l) (sym (append_assoc f g y)) in
-    let to : x ++ ((g ++ f) ++ y) ≡ (x ++ g) ++ (f ++ y) = ap (λ l. x ++ l) (append_assoc g f y) ∙ sym (append_assoc x g (f ++ y)) in
-    grind (arith, IsPermutation-append_right, IsPermutation-append_left, IsPermutation-append_comm)
+middle x f g y = grind (arith, (append_assoc x f (g ++ y)), (append_assoc f g y), (append_assoc g f y), (append_assoc x g (f ++ y)), IsPermutation-append_right, IsPermutation-append_left, IsPermutation-append_comm)
 
 module _ {A B : Type 0} where
   both_maps : (f g : A → List B) (xs : List A) → IsPermutation (flat_map f xs ++ flat_map g xs) (flat_map (λ x. f x ++ g x) xs)
@@ -300,8 +290,7 @@ other_second order handed e =
     let lines = lines_handed handed in
     let format = bed_format (sorting_of order) in
     let parts = cut_none (good format First lines).fault (cut_fault First handed) e in
-    let like = like_from (sorting_of order) First Second None lines parts.0 in
-    grind arith
+    grind (arith, (like_from (sorting_of order) First Second None lines parts.0))
 
 pub two_sides : pairs_have_two_sides
 two_sides rule held inputs chromosomes even well =
@@ -365,9 +354,7 @@ module _ (bs : List Feature) where
   cut_so a p c = let is = cut_covered a (hits_among any_overlap a bs) p c in (is.1, is.2, hit_to a bs p is.0)
 
   left_so : (a : Feature) (p : ℕ) → IsCovered (lefts a) p → (a.start ≤ p) × (p < a.stop) × (HasBase a.chrom p → ⊥)
-  left_so a p c =
-      let is = (are_pieces a (hits_among any_overlap a bs)).within p c in
-      (is.from_start, is.before_stop, λ has. is.bare (hit_back a bs p is.from_start is.before_stop has))
+  left_so a p c = grind (arith, (are_pieces a (hits_among any_overlap a bs)), hit_back)
 
   one_of : (a : Feature) (p : ℕ) → a.start ≤ p → p < a.stop → IsCovered (cuts a) p ⊎ IsCovered (lefts a) p
   one_of a p from to = elim (cases_Bool (is_covered (spans_of (hits_among any_overlap a bs)) p)) [

@@ -66,9 +66,7 @@ module _ (order : Order) (total : IsTotal order) where
         → (said : Result (Option Feature) Kind) → line_says (sorting_of order) last line.text ≡ said → AllByRecursion Q (items_in (good_with (bed_format (sorting_of order)) input line.number last said rest))
     items_with last line rest h q (Err kind) e = tt
     items_with last line rest h q (Ok None) e = h last
-    items_with last line rest h q (Ok (Some r)) e =
-        let said = line_said (sorting_of order) last line.text r e in
-        grind arith
+    items_with last line rest h q (Ok (Some r)) e = grind (arith, (line_said (sorting_of order) last line.text r e))
 
     pub items_all : (last : Option Locus) (lines : List TextLine) → AllByRecursion (λ r. IsTrue (order.knows r.chrom) → Q r) (records_on lines) → AllByRecursion Q (items_in (good_from (bed_format (sorting_of order)) input last lines))
     unfolding good_from
@@ -91,9 +89,7 @@ module _ (order : Order) (total : IsTotal order) where
     fresh input n (Some last) leads = fresh_from input last leads.0 (lines_from n two) (subst (Leading last.chrom) (alike_records (text_lines two) (lines_from n two) (alike_lines 1 n two)) leads.1)
 
     lead_line : (line : TextLine) → AllByRecursion (λ r. Leading r.chrom (said_records two)) (said_record (record_of line.text)) → LeadsOn (bed_format (sorting_of order)) Leads line
-    lead_line line h last r leads e =
-        let said = line_said (sorting_of order) last line.text r e in
-        grind arith
+    lead_line line h last r leads e = grind (arith, (line_said (sorting_of order) last line.text r e))
 
     lead_lines : (ls : List TextLine) → AllByRecursion (λ r. Leading r.chrom (said_records two)) (records_on ls) → AllByRecursion (LeadsOn (bed_format (sorting_of order)) Leads) ls
     lead_lines [] h = tt

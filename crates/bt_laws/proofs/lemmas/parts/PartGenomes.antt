@@ -53,9 +53,7 @@ rank_none xs name e = none_by (rank_of xs name) (among_ranked xs name ∙ e)
 -- the rank of a name that isn't among the first names
 pub rank_behind : (xs ys : List (List ℕ)) (name : List ℕ) → is_among xs name ≡ false → rank_of (xs ++ ys) name ≡ shifted (length xs) (rank_of ys name)
 rank_behind [] ys name e = sym (shift_none (rank_of ys name))
-rank_behind (x ∷ xs) ys name e =
-    let parts = or_parts (bytes_eq x name) (is_among xs name) e in
-    grind (arith, (rank_behind xs ys name parts.1))
+rank_behind (x ∷ xs) ys name e = grind (arith, (or_parts (bytes_eq x name) (is_among xs name) e), (rank_behind xs ys name (or_parts (bytes_eq x name) (is_among xs name) e).1))
 
 -- of one that isn't among the later ones
 pub rank_before : (xs ys : List (List ℕ)) (name : List ℕ) → is_among ys name ≡ false → rank_of (xs ++ ys) name ≡ rank_of xs name
@@ -93,11 +91,8 @@ module _ (xs ys : List (List ℕ)) where
   not_within : (a b : Bool) → (IsTrue a → IsTrue b) → b ≡ false → a ≡ false
   not_within a b h e = grind arith
 
-  rank_of_part : (name : List ℕ) → Within xs (xs ++ ys) name → rank_of (xs ++ ys) name ≡ rank_of xs name
-  rank_of_part name within = grind (arith, rank_first, rank_before, among_append)
-
   pub first_agree : Agree (rank_order (xs ++ ys)) (rank_order xs) (Within xs (xs ++ ys))
-  first_agree = grind (arith, rank_of_part)
+  first_agree = grind (arith, rank_first, rank_before, among_append)
 
   module _ (distinct : AreDistinct (xs ++ ys)) where
     -- no name is among both
@@ -106,19 +101,14 @@ module _ (xs ys : List (List ℕ)) where
     not_first (x ∷ xs) ys name distinct e = by_first (cases_Bool (bytes_eq x name)) (not_first xs ys name distinct.1 e)
       where
         by_first : (bytes_eq x name ≡ true) ⊎ (bytes_eq x name ≡ false) → is_among xs name ≡ false → is_among (x ∷ xs) name ≡ false
-        by_first (inl is) more =
-            let same = same_name x name is in
-            grind (arith, among_append)
+        by_first (inl is) more = grind (arith, (same_name x name is), among_append)
         by_first (inr is) more = ap (λ b. b || is_among xs name) is ∙ more
 
     pub no_first : (name : List ℕ) → is_among ys name ≡ true → is_among xs name ≡ false
     no_first name e = not_first xs ys name distinct e
 
-    rank_of_second : (name : List ℕ) → Within ys (xs ++ ys) name → rank_of (xs ++ ys) name ≡ shifted (length xs) (rank_of ys name)
-    rank_of_second name within = grind (arith, rank_behind, no_first, among_append)
-
     pub second_agree : Agree (rank_order (xs ++ ys)) (rank_order ys) (Within ys (xs ++ ys))
-    second_agree = grind (arith, rank_of_second)
+    second_agree = grind (arith, rank_behind, no_first, among_append)
 
   rank_low : (xs : List (List ℕ)) (name : List ℕ) (i : ℕ) → rank_of xs name ≡ Some i → i < length xs
   rank_low [] name i e = cc
@@ -135,16 +125,13 @@ module _ (xs ys : List (List ℕ)) where
       let i = known_rank (rank_of xs a) (among_ranked xs a ∙ one) in
       let j = known_rank (rank_of ys b) (among_ranked ys b ∙ two) in
       let low = rank_low xs a i.0 i.1 in
-      ap₂ compare_ranks (rank_first xs ys a one ∙ i.1) (rank_behind xs ys b (no_first distinct b two) ∙ ap (shifted (length xs)) j.1)
-      ∙ cmp_less i.0 (length xs + j.0) (omega arith)
+      grind (arith, (rank_first xs ys a one), (rank_behind xs ys b (no_first distinct b two)), (cmp_less i.0 (length xs + j.0) (omega arith)))
 
 -- ---- records of parts
 
 -- the records of two texts
 pub records_both : (one two : List ℕ) → StandsBefore one two → said_records (one ++ two) ≡ said_records one ++ said_records two
-records_both one two ends =
-    let split = lines_join 1 one two ends in
-    grind (arith, flat_map-append, alike_records, alike_lines)
+records_both one two ends = grind (arith, (lines_join 1 one two ends), flat_map-append, alike_records, alike_lines)
 
 module _ (mine yours : Order) (P : List ℕ → Type 0) (agree : Agree mine yours P) (input : Input) where
   abbrev Mine : Option Locus → Type 0
@@ -215,9 +202,7 @@ none_found name (x ∷ xs) ys e = by_first (bytes_eq x name) e (none_found name 
 
 pub off_found : (name : List ℕ) (xs : Names) → is_among xs name ≡ false → sequences_behind name xs ≡ None
 off_found name [] e = refl
-off_found name (x ∷ xs) e =
-    let parts = or_parts (bytes_eq x name) (is_among xs name) e in
-    ap (λ b. cond b (Some xs) (sequences_behind name xs)) parts.0 ∙ off_found name xs parts.1
+off_found name (x ∷ xs) e = grind (arith, (or_parts (bytes_eq x name) (is_among xs name) e), (off_found name xs (or_parts (bytes_eq x name) (is_among xs name) e).1))
 
 -- what isn't among names isn't among those after one of them
 pub off_behind : (name other : List ℕ) (xs now : Names) → is_among xs name ≡ false → sequences_behind other xs ≡ Some now → (is_among now name ≡ false) × (bytes_eq other name ≡ false)
@@ -228,9 +213,7 @@ off_behind name other (x ∷ xs) now off e =
   where
     by_first : (b : Bool) → bytes_eq x other ≡ b → bytes_eq x name ≡ false → is_among xs name ≡ false → cond b (Some xs) (sequences_behind other xs) ≡ Some now → (sequences_behind other xs ≡ Some now → (is_among now name ≡ false) × (bytes_eq other name ≡ false))
         → (is_among now name ≡ false) × (bytes_eq other name ≡ false)
-    by_first true is apart rest e next =
-        let same : xs ≡ now = cc in
-        (ap (λ l. is_among l name) (sym same) ∙ rest, ap (λ n. bytes_eq n name) (sym (same_name x other is)) ∙ apart)
+    by_first true is apart rest e next = grind (arith, (same_name x other is))
     by_first false is apart rest e next = next e
 
 -- ---- what records leave
@@ -337,16 +320,11 @@ module _ (names rest : Names) (ones : List Feature) (kept : leave (Some names) N
 
   later_tags : (more : Names) (twos : List Feature) → IsLost names ones twos → tags chrom_of (leave (Some (names ++ more)) None ones) (last_tagged None ones) twos ≡ tags_of more twos
   later_tags more [] lost = refl
-  later_tags more (r ∷ rs) lost =
-      let is = (stays_from more rest names None ones kept).leaves in
-      let enters = next_enters rest more (last_tagged None ones) r (lost_next r rs lost) in
-      grind arith
+  later_tags more (r ∷ rs) lost = grind (arith, (stays_from more rest names None ones kept), (next_enters rest more (last_tagged None ones) r (lost_next r rs lost)))
 
   -- what the later records leave, after the names of the first part
   pub later_leave : (more : Names) (r : Feature) (rs : List Feature) → IsLost names ones (r ∷ rs) → leave (Some (names ++ more)) None (ones ++ r ∷ rs) ≡ leave (Some more) None (r ∷ rs)
-  later_leave more r rs lost =
-      let is = (stays_from more rest names None ones kept).leaves in
-      grind (arith, next_enters, leave_append)
+  later_leave more r rs lost = grind (arith, (stays_from more rest names None ones kept), next_enters, leave_append)
 
   -- whether all belong to a sequence
   pub both_owned : (more : Names) (twos : List Feature) → IsLost names ones twos → is_some (leave (Some (names ++ more)) None (ones ++ twos)) ≡ is_some (leave (Some more) None twos)

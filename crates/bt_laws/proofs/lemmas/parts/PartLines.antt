@@ -137,7 +137,4 @@ module _ {A State : Type 0} (format : Format A State) where
     good_joint begins is on =
         let split = lines_join 1 one two ends in
         let behind = good_from format input format.begin (lines_from split.0 two) in
-        let first = good format input (text_lines one) in
-        let whole : good format input (text_lines (one ++ two)) ≡ put_behind first behind =
-        ap (good format input) split.1 ∙ put_from input Leads behind format.begin (text_lines one) (lines_from split.0 two) begins (is split.0) on in
-        grind (arith, joint_by, like_from, alike_lines)
+        grind (arith, (put_from input Leads behind format.begin (text_lines one) (lines_from split.0 two) begins (is split.0) on), joint_by, like_from, alike_lines)

@@ -67,9 +67,7 @@ module _ (how : MaskHow) (full : Bool) where
 
     first_lines_sound : (fault : Option FaultValue) → (fasta_of one.first).fault ≡ fault → (fasta_of (one.first ++ two.first)).fault ≡ None → fault ≡ None
     first_lines_sound None is e = refl
-    first_lines_sound (Some f) is e =
-        let same : fasta_of (one.first ++ two.first) ≡ fasta_of one.first = subst (λ f. AreBothBy full First f (fasta_of one.first) (fasta_of two.first) (fasta_of (one.first ++ two.first))) is (fasta_both full First one.first two.first are.first are.begins) in
-        let none : Some f ≡ None = sym is ∙ sym (ap (λ (g : Good SequenceLine). g.fault) same) ∙ e in cc
+    first_lines_sound (Some f) is e = grind (arith, (fasta_both full First one.first two.first are.first are.begins))
 
     -- both parts are sound, and no record of the second belongs to a sequence of the first
     module _ (first : IsSound (fasta_of one.first) (blocks_of one.second)) (second : IsSound (fasta_of two.first) (blocks_of two.second))
@@ -229,10 +227,7 @@ module _ (how : MaskHow) (full : Bool) where
 
   -- and this is reported
   pub lacks_kind : (texts : Texts) → Lacks texts → option_map (λ fault. fault.kind) (report_on texts).fault ≡ Some NoSequence
-  lacks_kind texts lacks =
-      ap (option_map (λ (fault : FaultValue). fault.kind))
-      (met_fault_all (rule_on texts) (items_in (F texts.first)) (F texts.first).fault (lacks_decided texts lacks)
-      ∙ ap₂ (λ a b. option_or a (or_else b (B texts.second).fault)) lacks.lines (told_lost (N texts.first) (B texts.second).members lacks.lost).1)
+  lacks_kind texts lacks = grind (arith, met_fault_all, (lacks_decided texts lacks), (told_lost (N texts.first) (B texts.second).members lacks.lost))
 
   module _ (one two : Texts) (are : AreTwo how full one two) (off_two : MasksNone full one two) (off_one : MasksNone full two one) where
     abbrev both : Texts
@@ -289,11 +284,8 @@ module _ (how : MaskHow) (full : Bool) where
       unnamed : AllByRecursion (λ line. is_unnamed line.names ≡ true) (items_in (F one.first))
       unnamed = unnamed_from full First (sequence_format full).begin (text_lines one.first) fault e
 
-      unnamed_text : (records : List Feature) (line : SequenceLine) → is_unnamed line.names ≡ true → masked_line how records line ≡ masked_line how [] line
-      unnamed_text records line u = grind (arith, unnamed_own)
-
       unnamed_output : (names : List (List ℕ)) (second : Good Feature) → (join_report (mask_rule how names second) (items_in (F one.first)) (F one.first).fault).lines ≡ flat_map (masked_line how []) (items_in (F one.first))
-      unnamed_output names second = grind (arith, all_true, all_so, unnamed, flat_map_same, unnamed_text)
+      unnamed_output names second = grind (arith, all_true, all_so, unnamed, flat_map_same, unnamed_own)
 
       stops_unnamed : (report_on one).output ≡ (report_on both).output
       stops_unnamed = grind (arith, unnamed_output, same_lines)
@@ -436,9 +428,7 @@ module _ (how : MaskHow) (full : Bool) where
         either (Some fault) e [] is = before_second fault e is
 
         pub stops_sound : (report_on one).fault ≡ None → Stops (report_on one) (report_on two) (report_on both)
-        stops_sound none =
-            let more = either (B two.second).fault refl (R two.second) refl in
-            (more.0, ap (λ l. (report_on one).output ++ l) (unless_none (report_on one).fault (report_on two).output none) ∙ more.1)
+        stops_sound none = grind (arith, (either (B two.second).fault refl (R two.second) refl), (unless_none (report_on one).fault (report_on two).output none))
 
     -- ---- any fault of the first part
 

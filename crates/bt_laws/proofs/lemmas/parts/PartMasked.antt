@@ -54,9 +54,7 @@ module _ (how : MaskHow) where
 
   sound_by : (names : List (List ℕ)) (lines : List SequenceLine) (fault : Option FaultValue) (members : List (Member Feature)) (second : Option FaultValue)
       → (join_report (rule_of names members second) lines fault).fault ≡ None → (fault ≡ None) × (second ≡ None) × (no_sequence names members ≡ None)
-  sound_by names lines fault members None e =
-      let both = both_none fault (no_sequence names members) (sym (met_fault_all (rule_of names members None) lines fault (all_decided names members lines)) ∙ e) in
-      (both.0, refl, both.1)
+  sound_by names lines fault members None e = grind (arith, (both_none fault (no_sequence names members) (sym (met_fault_all (rule_of names members None) lines fault (all_decided names members lines)) ∙ e)))
   sound_by names lines fault members (Some f) e = absurd (some_by names lines fault members f (list_all (rule_of names members (Some f)).decided lines) refl e)
 
   none_by : (names : List (List ℕ)) (lines : List SequenceLine) (fault : Option FaultValue) (members : List (Member Feature)) (second : Option FaultValue)

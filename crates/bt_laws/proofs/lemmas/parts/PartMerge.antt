@@ -79,9 +79,7 @@ module _ (gap : ℕ) where
     settled_is records = refl
 
     begins : (ones : List Feature) → AreTaken ones → (rest : List Interval) × (merged_runs gap strand ones ≡ passed_by gap (merged_runs gap strand ones) (last_of (intervals_of ones)) ++ rest)
-    begins ones taken =
-        let front = runs_begin gap strand ones [] (subst AreTaken (sym (append-nil ones)) taken) in
-        (front.0, ap (merged_runs gap strand) (sym (append-nil ones)) ∙ front.1 ∙ ap (λ l. l ++ front.0) (settled_is ones))
+    begins ones taken = grind (arith, (runs_begin gap strand ones [] (subst AreTaken (sym (append-nil ones)) taken)), (append-nil ones), (settled_is ones))
 
     begin_by : (ones twos : List Feature) → AreTaken ones → Away (intervals_of ones) (intervals_of twos)
         → (rest : List ℕ) × (interval_lines (merged_runs gap strand ones) ++ interval_lines (passed_by gap (merged_runs gap strand twos) (last_of (intervals_of twos)))
@@ -107,9 +105,7 @@ module _ (gap : ℕ) where
       away = records_away order total ones twos one early
 
       pub pooled_split : Splits (pooled_written order gap strand) (pooled_written order gap strand) (pooled_written order gap strand) ones twos
-      pooled_split =
-          let front = begin_by ones twos (record { contiguous = placed_contiguous order (intervals_of ones) total one; full = full }) away in
-          grind (arith, come, both_placed, runs_both, away, flat_map-append)
+      pooled_split = grind (arith, (begin_by ones twos (record { contiguous = placed_contiguous order (intervals_of ones) total one; full = full }) away), come, both_placed, runs_both, away, flat_map-append)
 
 -- ---- runs of each strand
 

@@ -243,9 +243,7 @@ module _ (W : List Entry → Written Feature) (command : Command)
       ∙ ap (λ (r : Report). r.fault) (sym (ap (λ c. report_on command c (whole_text shard.text) None) has ∙ is shard.entries shard.text)) ∙ e)
 
   shards_suffice : ShardsSuffice command
-  shards_suffice genome shards are all =
-      let within = all_zip _ _ _ shards (λ shard has e. shard_lies (all_entries shards) shard has e) are.parts (all_unmap _ _ shards all) in
-      grind arith
+  shards_suffice genome shards are all = grind (arith, (all_zip _ _ _ shards (λ shard has e. shard_lies (all_entries shards) shard has e) are.parts (all_unmap _ _ shards all)))
 
 pub merge_suffice : merge_shards_suffice
 merge_suffice d strand = shards_suffice (λ entries. merge_written (rank_order (genome_names entries)) d strand) (Merge d strand)
@@ -277,9 +275,7 @@ module _ (command : Command) (shape : Shape) (rule : HitRule)
       all_both _ (said_records shard.texts.first) (said_records shard.texts.second) (lies shard.entries whole First shard.texts.first none.0) (lies shard.entries whole Second shard.texts.second none.1)
 
   pairs_suffice : PairShardsSuffice command
-  pairs_suffice genome shards are all =
-      let within : PairsLieWithin shards = all_zip _ _ _ shards (λ shard has e. pair_lies (pair_entries shards) shard has e) are.parts (all_unmap _ _ shards all) in
-      add_suffices _ _ (add genome shards are within).0 all
+  pairs_suffice genome shards are all = grind (arith, (all_zip _ _ _ shards (λ shard has e. pair_lies (pair_entries shards) shard has e) are.parts (all_unmap _ _ shards all)), add_suffices)
 
 pub intersect_suffice : intersect_shards_suffice
 intersect_suffice shape rule = pairs_suffice (Intersect shape rule None) shape rule (λ genome entries has texts. intersect_is (Some genome) (Some entries) has shape rule texts) (intersect_genome_parts shape rule)

@@ -1,4 +1,5 @@
 -- The reports on two parts and on the whole, and from them those on any number of parts.
+use Rattle.std.proofs.lemmas.Grind.{common_steps}
 use Rattle.bt_lines.proofs.Std.{rules, arith, ◌≡◌, ℕ, true, false, List, [], ◌∷◌, ◌++◌, map, append-nil, append_assoc, Option, Some, None, refl, sym, ap, ap₂, ◌∙◌, subst, flat_map, is_none, flat_map-append}
 use Rattle.bt_lines.specs.model.Fault.{FaultValue}
 use Rattle.bt_bed.specs.model.Good.{Good, items_in}
@@ -39,10 +40,7 @@ add_more part parts rest whole more adds = grind arith
 
 stop_by : (fault : Option FaultValue) (first whole output outputs left : List ℕ) → outputs ≡ output ++ left
     → (rest : List ℕ) × (first ++ unless_fault fault output ≡ whole ++ rest) → (rest : List ℕ) × (first ++ unless_fault fault outputs ≡ whole ++ rest)
-stop_by None first whole output outputs left more stops = (
-  stops.0 ++ left,
-  ap (λ l. first ++ l) more ∙ sym (append_assoc first output left) ∙ ap (λ l. l ++ left) stops.1 ∙ append_assoc whole stops.0 left,
-)
+stop_by None first whole output outputs left more stops = grind (arith, (append_assoc first output left), (append_assoc whole stops.0 left))
 stop_by (Some fault) first whole output outputs left more stops = stops
 
 pub stop_more : (part : Report) (parts : List Report) (rest whole : Report) → StopWithin parts rest → Stops part rest whole → StopWithin (part ∷ parts) whole
@@ -114,8 +112,5 @@ splits_as one two whole one_too two_too whole_too ones twos a b c d e f g splits
 
 -- a prefix of what one part writes
 pub prefixes_begin_whole : prefixes_begin
-prefixes_begin_whole before later part whole front rest add none is = (
-  rest ++ flat_map (λ p. p.output) later,
-  add.output none ∙ flat_map-append (λ (p : Report). p.output) before (part ∷ later)
-      ∙ ap (λ l. flat_map (λ (p : Report). p.output) before ++ l) (ap (λ l. l ++ flat_map (λ (p : Report). p.output) later) is ∙ append_assoc front rest (flat_map (λ (p : Report). p.output) later)),
-)
+prefixes_begin_whole before later part whole front rest add none is =
+    grind (arith, common_steps, (flat_map-append (λ (p : Report). p.output) before (part ∷ later)), (append_assoc front rest (flat_map (λ (p : Report). p.output) later)))

@@ -99,22 +99,12 @@ module _ (full : Bool) (input : Input) where
   says_bases s line e named = grind arith
 
   header_moves : (names : List (List ℕ)) (s : Reached) (line : TextLine) → is_header line.text ≡ true → Moves names s line
-  header_moves names s line e = record {
-    it = header_behind full s line;
-    here = says_header s line e;
-    there = says_header (reached_after names s) line e
-        ∙ ap (λ (all : List (List ℕ)). Ok (Some (record { names = all; before = 0; text = line.text; ending = line.ending }))) (append_assoc names s.names (name_in full line.text ∷ []));
-    named = named_behind s.names (name_in full line.text);
-  }
+  header_moves names s line e =
+      grind (arith, (says_header s line e), (says_header (reached_after names s) line e), (append_assoc names s.names (name_in full line.text ∷ [])), (named_behind s.names (name_in full line.text)))
 
   moves_by : (names : List (List ℕ)) (s : Reached) (line : TextLine) → is_unnamed s.names ≡ false → (h : Bool) → is_header line.text ≡ h → Moves names s line
   moves_by names s line named true e = header_moves names s line e
-  moves_by names s line named false e = record {
-    it = line_behind s line;
-    here = says_bases s line e named;
-    there = says_bases (reached_after names s) line e (named_more names s.names named);
-    named = named;
-  }
+  moves_by names s line named false e = grind (arith, (says_bases s line e named), (says_bases (reached_after names s) line e (named_more names s.names named)))
 
   moved_with : (names : List (List ℕ)) (s : Reached) (n : ℕ) (it : SequenceLine) (here there : Result (Option SequenceLine) Kind) (hs ts : Reached → Good SequenceLine)
       → here ≡ Ok (Some it) → there ≡ Ok (Some (line_after names it)) → is_unnamed it.names ≡ false
@@ -132,10 +122,7 @@ module _ (full : Bool) (input : Input) where
   moved_header : (r : Reached) (ls : List TextLine) → BeginsAtHeader ls → AreMoved r.names (good_from Fasta input r ls) (good_from Fasta input Fasta.begin ls)
   unfolding good_from
   moved_header r [] h = record { items = refl; none = refl; same = refl; named = tt }
-  moved_header r (l ∷ ls) h =
-      let it = header_behind full Fasta.begin l in
-      moved_with r.names Fasta.begin l.number it (line_says full Fasta.begin l) (line_says full r l) (λ now. good_from Fasta input now ls) (λ now. good_from Fasta input now ls)
-      (says_header Fasta.begin l h) (says_header r l h) refl (moved_from r.names (Fasta.after Fasta.begin it) ls refl) r
+  moved_header r (l ∷ ls) h = grind (arith, moved_with, (says_header Fasta.begin l h), (says_header r l h), (moved_from r.names (Fasta.after Fasta.begin (header_behind full Fasta.begin l)) ls refl))
 
   -- if a line is at fault, no line before it has a sequence
   unnamed_with : (s : Reached) (l : TextLine) (rest : Reached → Good SequenceLine) (fault : FaultValue)
@@ -191,13 +178,9 @@ module _ (full : Bool) (input : Input) where
     is : (reached Fasta s xs).names ≡ s.names ++ more
     all : AllByRecursion (Begins (reached Fasta s xs).names) xs
 
-  -- an item that goes on from these names
-  grows_item : (s : Reached) (it : SequenceLine) (xs : List SequenceLine) (own : List (List ℕ)) → it.names ≡ s.names ++ own → Grows (Fasta.after s it) xs → Grows s (it ∷ xs)
-  grows_item s it xs own e more = grind (arith, append_assoc)
-
   grows_with : (s : Reached) (l : TextLine) (rest : Reached → Good SequenceLine) → ((now : Reached) → Grows now (items_in (rest now))) → (h m : Bool)
       → Grows s (items_in (good_with Fasta input l.number s (cond h (Ok (Some (header_behind full s l))) (cond m (Ok (Some (line_behind s l))) (Err TextBeforeHeader))) rest))
-  grows_with s l rest next h m = grind (arith, grows_item, append-nil)
+  grows_with s l rest next h m = grind (arith, append-nil, append_assoc)
 
   grows_from : (s : Reached) (ls : List TextLine) → Grows s (items_in (good_from Fasta input s ls))
   unfolding good_from
@@ -242,8 +225,7 @@ module _ (full : Bool) (input : Input) where
   moved_lines : (r : Reached) (n : ℕ) (two : List ℕ) → IsTrue (begins_sequence two) → AreMoved r.names (good_from Fasta input r (lines_from n two)) (good Fasta input (text_lines two))
   moved_lines r n two e =
       let moved = moved_header r (lines_from n two) (header_first n two e) in
-      let like = like_from Fasta input Fasta.begin (lines_from n two) (text_lines two) (λ state l m t d. same_said state l m t d) (alike_lines n 1 two) in
-      grind arith
+      grind (arith, (like_from Fasta input Fasta.begin (lines_from n two) (text_lines two) (λ state l m t d. same_said state l m t d) (alike_lines n 1 two)))
     where
       same_said : (state : Reached) (l m : TextLine) → l.text ≡ m.text → l.ending ≡ m.ending → line_says full state l ≡ line_says full state m
       same_said state l m t d = ap₂ (λ text ending. line_says full state (record { number = l.number; text = text; ending = ending })) t d
@@ -259,9 +241,7 @@ module _ (full : Bool) (input : Input) where
 
   module _ (one two : List ℕ) (ends : StandsBefore one two) (begins : IsTrue (begins_sequence two)) where
     pub fasta_both : AreBothBy (good Fasta input (text_lines one)).fault (good Fasta input (text_lines one)) (good Fasta input (text_lines two)) (good Fasta input (text_lines (one ++ two)))
-    fasta_both =
-        let split = lines_join 1 one two ends in
-        grind (arith, moved_lines, go_from, both_by, begin_names)
+    fasta_both = grind (arith, (lines_join 1 one two ends), moved_lines, go_from, both_by, begin_names)
 
     pub second_sound : (good Fasta input (text_lines two)).fault ≡ None
     second_sound = (moved_lines Fasta.begin 1 two begins).same
@@ -379,9 +359,6 @@ module _ (input : Input) where
     abbrev pub AreJoint : Type 0
     AreJoint = (items_in Whole-good ≡ items_in First-good ++ items_in Second-good) × (is_none Whole-good.fault ≡ is_none Second-good.fault)
 
-    joint_of : (g h : Good Feature) → IsLike h Second-good → Whole-good ≡ record { members = First-good.members ++ h.members; fault = h.fault } → AreJoint
-    joint_of g h like is = grind (arith, map-append)
-
     put_none : (fault : Option FaultValue) (g h : Good Feature) → fault ≡ None → put_on block_format fault g h ≡ record { members = g.members ++ h.members; fault = h.fault }
     put_none fault g h e = grind arith
 
@@ -390,14 +367,14 @@ module _ (input : Input) where
 
     -- if those of the second text begin on another chromosome
     pub fresh_joint : First-good.fault ≡ None → BeginsElsewhere (last_from None (items_in First-good)) (said_records two) → AreJoint
-    fresh_joint none h = grind (arith, joint_of, like_two, whole_is, fresh_from, elsewhere)
+    fresh_joint none h = grind (arith, like_two, whole_is, fresh_from, elsewhere, map-append)
 
     none_by : (fault : Option FaultValue) (g h : Good Feature) → g.fault ≡ fault → (put_on block_format fault g h).fault ≡ None → (fault ≡ None) × (h.fault ≡ None)
     none_by fault g h is e = grind arith
 
     -- or if both texts have no fault
     pub calm_joint : Whole-good.fault ≡ None → (First-good.fault ≡ None) × (Second-good.fault ≡ None) × (items_in Whole-good ≡ items_in First-good ++ items_in Second-good)
-    calm_joint none = grind (arith, whole_is, calm_from, joint_of, like_two)
+    calm_joint none = grind (arith, whole_is, calm_from, like_two, map-append)
 
     -- a fault of the first text is that of both
     pub faulty_same : (fault : FaultValue) → First-good.fault ≡ Some fault → Whole-good ≡ First-good
@@ -409,6 +386,4 @@ module _ (input : Input) where
 
     -- the records of the first text come first
     pub first_front : (more : List Feature) × (items_in Whole-good ≡ items_in First-good ++ more)
-    first_front =
-        let front = front_by First-good.fault First-good (good_from block_format input Last Lines-behind) in
-        (front.0, ap (λ (w : Good Feature). items_in w) whole_is ∙ front.1)
+    first_front = grind (arith, (front_by First-good.fault First-good (good_from block_format input Last Lines-behind)), whole_is)

@@ -96,9 +96,7 @@ module _ {T : Type 0} (chrom : T → List ℕ) (ends : Interval → T → Bool) 
     greater a b two one = reversed_less ((rank_order Both).compare b a) ((rank_order Both).compare a b) (less b a one two) ((ranks_total Both).swapped b a (one_in b one) (two_in a two))
 
     apart : (a b : List ℕ) → is_among One-names a ≡ true → is_among Two-names b ≡ true → bytes_eq b a ≡ false
-    apart a b one two = name_ne b a (λ same.
-        let not_one : is_among One-names b ≡ false = no_first One-names Two-names (apart_both e_one e_two distinct) b two in
-        let both : true ≡ false = sym one ∙ ap (is_among One-names) (sym same) ∙ not_one in absurd (cc))
+    apart a b one two = grind (arith, name_ne, (no_first One-names Two-names (apart_both e_one e_two distinct) b two))
 
     apart_too : (a b : List ℕ) → is_among One-names a ≡ true → is_among Two-names b ≡ true → bytes_eq a b ≡ false
     apart_too a b one two = grind (arith, name_ne, no_first, apart_both)
@@ -232,9 +230,7 @@ module _ (limit : Bool) where
   gaps_second ones twos e none = grind (arith, map-append, has_append, spans_second)
 
   gaps_begin : (entries : List Entry) (ones : List Feature) → AreTaken entries ones → (rest : List Interval) × (whole_of gap_chrom gap_ends interval_line gaps_here entries ones ≡ settled_of gap_chrom gap_ends interval_line gaps_here entries ones ++ rest)
-  gaps_begin entries ones taken =
-      let front = begins (settled_gaps limit entries) (complement limit entries) (AreTaken entries) (settles_gaps limit entries) ones [] (subst (AreTaken entries) (sym (append-nil ones)) taken) in
-      (front.0, sym (complement_is entries ones) ∙ ap (complement limit entries) (sym (append-nil ones)) ∙ front.1 ∙ ap (λ l. l ++ front.0) (gaps_settled entries ones))
+  gaps_begin entries ones taken = grind (arith, begins, (settles_gaps limit entries), (append-nil ones), (complement_is entries ones), (gaps_settled entries ones))
 
   pub gaps_split : (e_one e_two : List Entry) (ones twos : List Feature) → OwnParts e_one e_two ones twos → Splits (complement_written e_one limit) (complement_written e_two limit) (complement_written (e_one ++ e_two) limit) ones twos
   gaps_split e_one e_two ones twos own =
@@ -286,9 +282,7 @@ module _ (zeros : Bool) (strand : Option Strand) where
   depths_second ones twos e none = grind (arith, counted_both, spans_second, fewer)
 
   depths_begin : (entries : List Entry) (ones : List Feature) → AreTaken entries ones → (rest : List DepthInterval) × (whole_of depth_chrom depth_ends depth_line depths_here entries ones ≡ settled_of depth_chrom depth_ends depth_line depths_here entries ones ++ rest)
-  depths_begin entries ones taken =
-      let front = begins (settled_depths zeros strand entries) (coverage zeros strand entries) (AreTaken entries) (settles_depths zeros strand entries) ones [] (subst (AreTaken entries) (sym (append-nil ones)) taken) in
-      (front.0, sym (coverage_is entries ones) ∙ ap (coverage zeros strand entries) (sym (append-nil ones)) ∙ front.1 ∙ ap (λ l. l ++ front.0) (depths_settled entries ones))
+  depths_begin entries ones taken = grind (arith, begins, (settles_depths zeros strand entries), (append-nil ones), (coverage_is entries ones), (depths_settled entries ones))
 
   pub depths_split : (e_one e_two : List Entry) (ones twos : List Feature) → OwnParts e_one e_two ones twos → Splits (coverage_written e_one zeros strand) (coverage_written e_two zeros strand) (coverage_written (e_one ++ e_two) zeros strand) ones twos
   depths_split e_one e_two ones twos own =
@@ -338,8 +332,7 @@ pub file_is : (result : Result (List Entry) FaultValue) (entries : List Entry) �
 file_is result entries e = grind arith
 
 pub distinct_in : (genome : Handed) (entries : List Entry) → chromosomes_of (Some genome) ≡ Ok (Some entries) → AreDistinct (genome_names entries)
-distinct_in genome entries e =
-    distinct_genome Genome (lines_handed genome) entries (cut_none (cut_fault Genome genome) (genome_of Genome (lines_handed genome)) entries (file_is (genome_handed Genome genome) entries e))
+distinct_in genome entries e = grind (arith, distinct_genome, (cut_none (cut_fault Genome genome) (genome_of Genome (lines_handed genome)) entries (file_is (genome_handed Genome genome) entries e)))
 
 module _ (W : List Entry → Written Feature) (command : Command)
     (is : (entries : List Entry) (text : List ℕ) → report_on command (Ok (Some entries)) (whole_text text) None ≡ good_report (W entries) (good (bed_format (sorting_of (rank_order (genome_names entries)))) First (text_lines text)))
@@ -458,9 +451,7 @@ module _ (W : List Entry → Written Feature) (command : Command)
 
   pub shards_add : report_in [] [] ≡ nothing → (genome : Handed) (shards : List Shard) → AreShards genome shards → ShardsAddUp command genome shards
   unfolding on_shard join
-  shards_add empty genome shards are =
-      let both = parts_both join on_shard Fit empty alone fit_less next shards (fit_of shards genome are) in
-      rw (on_own shards are.parts, same_parts shards genome are) both
+  shards_add empty genome shards are = grind (arith, (parts_both join on_shard Fit empty alone fit_less next shards (fit_of shards genome are)), (on_own shards are.parts), (same_parts shards genome are))
 
 pub complement_parts : complement_divides
 unfolding lines_from good_from complement

@@ -54,9 +54,6 @@ pub any_behind : {A : Type 0} (t : A → Bool) (xs ys : List A) → AllByRecursi
 any_behind t [] ys h = refl
 any_behind t (x ∷ xs) ys h = ap (λ b. b || list_any t (xs ++ ys)) h.0 ∙ any_behind t xs ys h.1
 
-any_here : {A : Type 0} (t : A → Bool) (xs : List A) (y : A) (ys : List A) → t y ≡ true → list_any t (xs ++ y ∷ ys) ≡ true
-any_here t xs y ys e = grind (arith, common_steps)
-
 kept_by : {A : Type 0} (P : A → Type 0) (x : A) (kept : List A) (b : Bool) → P x → AllByRecursion P kept → AllByRecursion P (cond b (x ∷ kept) [])
 kept_by P x kept b p h = grind arith
 
@@ -136,9 +133,6 @@ module _ (order : Order) (shape : Shape) (rule : HitRule) where
   lines_none : (given : List Feature) (fa : Option FaultValue) (bs : List Feature) → (sweep_report given fa bs None).output ≡ intersect shape rule given bs
   lines_none given fa bs = met_lines (sweep_rule order shape rule bs None) given fa ∙ sym (all_written (sweep_rule order shape rule bs None) given (decided_none bs given))
 
-  output_none : (given : List Feature) (fa : Option FaultValue) (bs : List Feature) (fb : Option FaultValue) → fb ≡ None → (sweep_report given fa bs fb).output ≡ intersect shape rule given bs
-  output_none given fa bs fb e = grind (arith, lines_none)
-
 -- the records of the second part, beside those of the first
 pub record AreSplit (order : Order) (total : IsTotal order) (aones atwos bones btwos : List Feature) : Type 0 where
   pub known : AllByRecursion (λ r. IsTrue (order.knows r.chrom)) btwos
@@ -154,15 +148,14 @@ module _ (order : Order) (total : IsTotal order) (shape : Shape) (rule : HitRule
   lines_both = grind (arith, flat_map-append, flat_map_same, all_so, lines_first, lines_second)
 
   none_second : AllByRecursion (λ a. AllByRecursion (λ b. decides order a b ≡ false) bones) atwos
-  none_second = all_so _ _ atwos (λ a h. all_so (λ b. order.compare b.chrom a.chrom ≡ Less) _ bones (λ b less. earlier_leaves order total a b less) h)
-      (all_swapped (λ b a. order.compare b.chrom a.chrom ≡ Less) bones atwos split.second_first)
+  none_second = grind (arith, all_so, earlier_leaves, (all_swapped (λ b a. order.compare b.chrom a.chrom ≡ Less) bones atwos split.second_first))
 
   -- the first of the others decides all before it
   first_decided : (b : Feature) (bs : List Feature) → btwos ≡ b ∷ bs → AllByRecursion (λ a. decided order a (bones ++ btwos) ≡ true) aones
   first_decided b bs e = from aones split.known_first split.first_second
     where
       one : (a : Feature) → IsTrue (order.knows a.chrom) → AllByRecursion (λ s. order.compare a.chrom s.chrom ≡ Less) btwos → decided order a (bones ++ btwos) ≡ true
-      one a known less = grind (arith, any_here)
+      one a known less = grind (arith, common_steps)
 
       from : (given : List Feature) → AllByRecursion (λ r. IsTrue (order.knows r.chrom)) given → Earlier order total given btwos → AllByRecursion (λ a. decided order a (bones ++ btwos) ≡ true) given
       from [] known early = tt
@@ -179,7 +172,7 @@ module _ (order : Order) (total : IsTotal order) (shape : Shape) (rule : HitRule
     Whole = sweep_report order shape rule all fa bs fb
 
     pub sweep_adds : Adds One Two Whole
-    sweep_adds = grind (arith, report_none, output_none, lines_both)
+    sweep_adds = grind (arith, report_none, lines_both, lines_none)
 
   -- if the second input of the first part is at fault, nothing after it is written
   module _ (f : FaultValue) (fa1 fa2 fa fb2 fb : Option FaultValue) (all bs : List Feature) (ja : Contiguous fa1 fa2 fa aones atwos all) (jb : Contiguous (Some f) fb2 fb bones btwos bs) where
@@ -187,9 +180,7 @@ module _ (order : Order) (total : IsTotal order) (shape : Shape) (rule : HitRule
     same_rule xs = grind arith
 
     written_one : (fa1 : Option FaultValue) → Contiguous fa1 fa2 fa aones atwos all → written (sweep_rule order shape rule bones (Some f)) all ≡ written (sweep_rule order shape rule bones (Some f)) aones
-    written_one None j =
-        ap (written (sweep_rule order shape rule bones (Some f))) j.0
-        ∙ written_before (sweep_rule order shape rule bones (Some f)) aones atwos (all_so _ _ atwos (λ a h. any_false (decides order a) bones h) none_second)
+    written_one None j = grind (arith, (written_before (sweep_rule order shape rule bones (Some f)) aones atwos (all_so _ _ atwos (λ a h. any_false (decides order a) bones h) none_second)))
     written_one (Some g) j = ap (written (sweep_rule order shape rule bones (Some f))) j.0
 
     stops_second : Stops (sweep_report order shape rule aones fa1 bones (Some f)) (sweep_report order shape rule atwos fa2 btwos fb2) (sweep_report order shape rule all fa bs fb)
@@ -212,7 +203,7 @@ module _ (order : Order) (total : IsTotal order) (shape : Shape) (rule : HitRule
     second_report = sweep_report order shape rule atwos fa2 btwos fb2
 
     first_lines : first_report.output ≡ flat_map Rule-of-both.lines aones
-    first_lines = grind (arith, output_none, flat_map_same, all_so, lines_first)
+    first_lines = grind (arith, flat_map_same, all_so, lines_first, lines_none)
 
     front : (rest : List ℕ) × (first_report.output ≡ written Rule-of-both aones ++ rest)
     front = let some = take_front Rule-of-both.decided Rule-of-both.lines aones in (some.0, first_lines ∙ some.1)
@@ -239,11 +230,7 @@ module _ (order : Order) (total : IsTotal order) (shape : Shape) (rule : HitRule
 
     -- nothing of the second part is
     before_second : AllByRecursion (λ a. Rule-of-both.decided a ≡ false) atwos → all ≡ aones ++ atwos → (rest : List ℕ) × (first_report.output ++ second_report.output ≡ (sweep_report order shape rule all fa bs fb).output ++ rest)
-    before_second h is = (
-      front.0 ++ second_report.output,
-      ap (λ l. l ++ second_report.output) front.1 ∙ append_assoc (written Rule-of-both aones) front.0 second_report.output
-          ∙ ap (λ l. l ++ (front.0 ++ second_report.output)) (sym (met_lines Rule-of-both all fa ∙ ap (written Rule-of-both) is ∙ written_before Rule-of-both aones atwos h)),
-    )
+    before_second h is = grind (arith, (append_assoc (written Rule-of-both aones) front.0 second_report.output), (met_lines Rule-of-both all fa), (written_before Rule-of-both aones atwos h))
 
     or_decided : (a : Feature) → decided order a (bones ++ btwos) ≡ true → Rule-of-both.decided a ≡ true
     or_decided a e = ap (λ d. is_none fb || d) (ap (decided order a) jb.0 ∙ e) ∙ or_true (is_none fb)

@@ -1,4 +1,5 @@
 -- The reports of bamtobed, merge, intersect and subtract on two concatenated texts, and on any number.
+use Rattle.std.proofs.lemmas.Grind.{common_steps}
 use Rattle.bt_lines.proofs.Std.{rules, arith, ◌≡◌, ℕ, Bool, List, [], ◌∷◌, ◌++◌, append-nil, Option, Some, None, refl, sym, ap, ◌∙◌, map, Ok, ap₂, flat_map-append, IsTrue, AllByRecursion, ◌⊎◌, append_assoc, inl, inr, subst, flat_map, flat_map-map}
 use Rattle.bt_lines.specs.model.Lines.{lines_from, text_lines, Handed, whole_text}
 use Rattle.bt_lines.specs.declared.fault.Input.TheVariants.{First, Second}
@@ -96,8 +97,7 @@ module _ (order : Order) (total : IsTotal order) where
 
   module _ (d : ℕ) (strand : MergeStrand) (one two : List ℕ) (ends : StandsBefore one two) (before : ComeBefore order (said_records one) (said_records two)) where
     pub merge_joins : Joins (merge_report d strand one) (merge_report d strand two) (merge_report d strand (one ++ two))
-    merge_joins = good_joins (merge_written order d strand) (merge_written order d strand) (merge_written order d strand) (bed_text_good First one) (bed_text_good First two) (bed_text_good First (one ++ two))
-        (bed_joint order total one two before First ends) (merge_split d strand one two (good_earlier order total one two before First First))
+    merge_joins = grind (arith, common_steps, good_joins, (bed_joint order total one two before First ends), (merge_split d strand one two (good_earlier order total one two before First First)))
 
   -- ---- intersect
 
@@ -276,24 +276,12 @@ module _ (how : MaskHow) (full : Bool) where
     faulty fault outputs some = search rules
 
     end_faulty : ((T t).fault ≡ None → ⊥) → Ends (t ∷ u ∷ ts)
-    end_faulty some = elim (faulty_first how full t (joined_texts (u ∷ ts)) two own.own.0 own.own.1 some) [
-      | inl stops ↦ inl (stops.0, faulty (T t).fault Outputs some ∙ stops.1)
-      | inr goes ↦ inr (goes.0, (goes.1.0, goes.1.1 ∙ ap (λ l. l ++ goes.1.0) (sym (faulty (T t).fault Outputs some))))
-    ]
+    end_faulty some = grind (arith, (faulty_first how full t (joined_texts (u ∷ ts)) two own.own.0 own.own.1 some), (faulty (T t).fault Outputs some))
 
     end_sound : (T t).fault ≡ None → Ends (u ∷ ts) → Ends (t ∷ u ∷ ts)
     end_sound none ends = elim ends [
       | inl stops ↦ inl (stop_more (T t) (map T (u ∷ ts)) (T Rest) (T (joined_texts (t ∷ u ∷ ts))) stops (sound_stops how full t (joined_texts (u ∷ ts)) two own.own.0 own.own.1 none))
-      | inr goes ↦
-          let both = sound_goes how full t (joined_texts (u ∷ ts)) two own.own.0 own.own.1 none goes.0 in
-          inr (
-            both.0,
-            (
-              goes.1.0,
-              both.1 ∙ ap (λ l. (T t).output ++ l) goes.1.1 ∙ sym (append_assoc (T t).output Outputs goes.1.0)
-                  ∙ ap (λ l. ((T t).output ++ l) ++ goes.1.0) (sym (unless_none (T t).fault Outputs none)),
-            ),
-          )
+      | inr goes ↦ grind (arith, (sound_goes how full t (joined_texts (u ∷ ts)) two own.own.0 own.own.1 none goes.0), (append_assoc (T t).output Outputs goes.1.0), (unless_none (T t).fault Outputs none))
     ]
 
     end_by : (fault : Option FaultValue) → (T t).fault ≡ fault → Ends (u ∷ ts) → Ends (t ∷ u ∷ ts)
@@ -322,8 +310,7 @@ module _ (how : MaskHow) (full : Bool) where
   suffice_all (t ∷ []) cut all = (ap (λ (r : Report). r.fault) (alone t) ∙ all.0, ap (λ (r : Report). r.output) (alone t) ∙ sym (append-nil (T t).output))
   suffice_all (t ∷ u ∷ ts) cut all =
       let more = suffice_all (u ∷ ts) (record { fit = masked_less t (u ∷ ts) cut.fit; none = cut.none.1 }) all.1 in
-      let both = two_suffice how full t (joined_texts (u ∷ ts)) (are_two t u ts cut.fit) cut.none.0 all.0 more.0 in
-      (both.0, both.1 ∙ ap (λ l. (T t).output ++ l) more.1)
+      grind (arith, (two_suffice how full t (joined_texts (u ∷ ts)) (are_two t u ts cut.fit) cut.none.0 all.0 more.0))
 
 pub mask_divides : maskfasta_divides
 mask_divides how full parts lines headers own =

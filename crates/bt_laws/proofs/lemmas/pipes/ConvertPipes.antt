@@ -62,15 +62,12 @@ none_in : (text : List ℕ) → operations_in (text ++ 13 ∷ []) ≡ None
 unfolding operations_in
 none_in text = ap (option_and_then each_operation) (parts_none text)
 
-no_length : (text : List ℕ) → length_of (text ++ 13 ∷ []) ≡ None
-no_length text = grind (arith, none_in, name_ne, no_star)
-
 record IsPlain (text : List ℕ) : Type 0 where
   some : 0 < length text
   plain : ends_with_byte 13 text ≡ false
 
 plain_by : (text : List ℕ) (span : ℕ) (b : Bool) → ends_with_byte 13 text ≡ b → length_of text ≡ Some span → b ≡ false
-plain_by text span b ends e = grind (arith, common_steps, no_length)
+plain_by text span b ends e = grind (arith, common_steps, none_in, name_ne, no_star)
 
 plain_cigar : (text : List ℕ) (span : ℕ) → length_of text ≡ Some span → IsPlain text
 plain_cigar text span e = grind (arith, plain_by)
@@ -312,18 +309,7 @@ module _ (full : Bool) where
 
   says_new : (reached : Reached) (line : TextLine) (text : List ℕ) (number : ℕ) → Stands line.text text → line_says full reached (new_line number line text) ≡ said_with text (line_says full reached line)
   unfolding said_with
-  says_new reached line text number is = elim (cases_Bool (is_header line.text)) [
-    | inl t ↦
-        let same = is.same t in
-        ap (λ (b : Bool). if b then Ok (Some (header_behind full reached (new_line number line text))) else (if may_stand reached.names text then Ok (Some (line_behind reached (new_line number line text))) else Err TextBeforeHeader)) (is.header ∙ t)
-        ∙ ap (λ l. Ok (Some (record { names = reached.names ++ name_in full l ∷ []; before = 0; text = text; ending = line.ending }))) same
-        ∙ sym (ap (λ (b : Bool). said_with text (if b then Ok (Some (header_behind full reached line)) else (if may_stand reached.names line.text then Ok (Some (line_behind reached line)) else Err TextBeforeHeader))) t)
-    | inr f ↦
-        ap (λ (b : Bool). if b then Ok (Some (header_behind full reached (new_line number line text))) else (if may_stand reached.names text then Ok (Some (line_behind reached (new_line number line text))) else Err TextBeforeHeader)) (is.header ∙ f)
-        ∙ ap (λ (b : Bool). if b then Ok (Some (line_behind reached (new_line number line text))) else Err TextBeforeHeader) (may_same reached.names line.text text is.size)
-        ∙ stand_by reached line text number (may_stand reached.names line.text)
-        ∙ sym (ap (λ (b : Bool). said_with text (if b then Ok (Some (header_behind full reached line)) else (if may_stand reached.names line.text then Ok (Some (line_behind reached line)) else Err TextBeforeHeader))) f)
-  ]
+  says_new reached line text number is = grind (arith, (cases_Bool (is_header line.text)), (may_same reached.names line.text text is.size), (stand_by reached line text number (may_stand reached.names line.text)))
 
 -- ---- line ends
 
@@ -397,12 +383,7 @@ module _ (full : Bool) (input : Input) (f : SequenceLine → List ℕ) (safe : (
   one_again : (n m : ℕ) (byte : ℕ) (bytes : List ℕ) (reached : Reached) → NoLineFeed (byte ∷ bytes) → (goods reached (last_line n (byte ∷ bytes))).fault ≡ None
       → ReadAgain m reached (last_line n (byte ∷ bytes))
   unfolding good_from
-  one_again n m byte bytes reached clear none =
-      let piece = byte ∷ bytes in
-      let b = ends_with_byte 13 piece in
-      let line = line_at n (strip_last 13 piece) (cond b Cr Absent) in
-      let text_clear = clear_strip 13 piece clear in
-      grind (arith, append-nil, last_by)
+  one_again n m byte bytes reached clear none = grind (arith, (clear_strip 13 (byte ∷ bytes) clear), append-nil, last_by)
 
   piece_again : (n : ℕ) (piece : List ℕ) → NoLineFeed piece → ReadsAgain (last_line n piece)
   unfolding good_from
@@ -411,21 +392,14 @@ module _ (full : Bool) (input : Input) (f : SequenceLine → List ℕ) (safe : (
 
   next_again : (n : ℕ) (piece rest : List ℕ) → NoLineFeed piece → ReadsAgain (lines_from (suc n) rest) → ReadsAgain (fed_line n piece ∷ lines_from (suc n) rest)
   unfolding good_from
-  next_again n piece rest clear h m reached none =
-      let b = ends_with_byte 13 piece in
-      let line = fed_line n piece in
-      let text_clear = clear_strip 13 piece clear in
-      grind (arith, fed_by)
+  next_again n piece rest clear h m reached none = grind (arith, (clear_strip 13 piece clear), fed_by)
 
   last_again : (n : ℕ) (piece : List ℕ) → NoLineFeed piece → ReadsAgain (lines_from n piece)
-  last_again n piece clear m reached none =
-      subst (λ ls. ReadAgain m reached ls) (sym (lines_from-last n piece clear))
-      (piece_again n piece clear m reached (subst (λ ls. (goods reached ls).fault ≡ None) (lines_from-last n piece clear) none))
+  last_again n piece clear m reached none = grind (arith, (lines_from-last n piece clear), (piece_again n piece clear m reached (subst (λ ls. (goods reached ls).fault ≡ None) (lines_from-last n piece clear) none)))
 
   fed_again : (n : ℕ) (piece rest : List ℕ) → NoLineFeed piece → ReadsAgain (lines_from (suc n) rest) → ReadsAgain (lines_from n (piece ++ 10 ∷ rest))
   fed_again n piece rest clear h m reached none =
-      subst (λ ls. ReadAgain m reached ls) (sym (lines_from-fed n piece rest clear))
-      (next_again n piece rest clear h m reached (subst (λ ls. (goods reached ls).fault ≡ None) (lines_from-fed n piece rest clear) none))
+      grind (arith, (lines_from-fed n piece rest clear), (next_again n piece rest clear h m reached (subst (λ ls. (goods reached ls).fault ≡ None) (lines_from-fed n piece rest clear) none)))
 
   pub again_lines : (n : ℕ) (bytes : List ℕ) → ReadsAgain (lines_from n bytes)
   again_lines n bytes = by_lines (λ n bytes. ReadsAgain (lines_from n bytes)) last_again fed_again n bytes

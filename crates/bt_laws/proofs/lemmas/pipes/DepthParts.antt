@@ -27,11 +27,7 @@ module _ (t : Level → Bool) where
 
   differs_some : (l : Level) (ms : List Level) → DiffersFromNext l ms → AreDisjointFrom l.stop ms → DiffersFromNext l (filter t ms)
   differs_some l [] differs d = tt
-  differs_some l (m ∷ ms) differs d =
-      elim (t m) as (λ b. DiffersFromNext l (cond b (m ∷ filter t ms) (filter t ms))) [
-        | true ↦ differs
-        | false ↦ differs_far l m.stop ms (omega (arith, d.0, d.1)) d.3
-      ]
+  differs_some l (m ∷ ms) differs d = grind (arith, (differs_far l m.stop ms (omega (arith, d.0, d.1)) d.3))
 
   some_disjoint : (first : ℕ) (ls : List Level) → AreDisjointFrom first ls → AreDisjointFrom first (filter t ls)
   some_disjoint first [] d = tt
@@ -66,17 +62,7 @@ module _ (spans : List Span) (size : ℕ) where
   unfolding depth_of
   deep_levels =
       let all = are_levels (depth_of true spans) size in
-      sym (only_levels (depth_of false spans) size (filter is_deep (levels_of (depth_of true spans) size)) (record {
-        disjoint = some_disjoint is_deep 0 (levels_of (depth_of true spans) size) all.disjoint;
-        within = λ p v h.
-            let deep = deep_value (levels_of (depth_of true spans) size) p v h in
-            let w = all.within p v deep.0 in
-            let same : depth_at spans p ≡ v = cc in
-            (w.0, subst (λ d. cond (nat_lt 0 d) (Some d) None ≡ Some v) (sym same) (ap (λ b. cond b (Some v) None) (lt-ltb 0 v deep.1)));
-        whole = λ p v below h.
-            let is = shown (depth_at spans p) v h in
-            value_deep (levels_of (depth_of true spans) size) p v is.1 (all.whole p v below (ap Some is.0));
-      }))
+      grind (arith, only_levels, (some_disjoint is_deep 0 (levels_of (depth_of true spans) size) all.disjoint), deep_value, lt-ltb, shown, value_deep)
 
 map_filter : (name : List ℕ) (ls : List Level) → map (depth_on name) (filter is_deep ls) ≡ filter (λ (r : DepthInterval). nat_lt 0 r.depth) (map (depth_on name) ls)
 map_filter name [] = refl

@@ -77,9 +77,7 @@ glyph_is_digit d below = subst (λ b. IsDigit (cond b (48 + d) (87 + d))) (sym (
 
 onto_digits : (k n : ℕ) (acc : List ℕ) → AllByRecursion IsDigit acc → AllByRecursion IsDigit (digits_onto k 10 false n acc)
 onto_digits zero n acc h = h
-onto_digits (suc k) n acc h =
-    let here : IsDigit (digit_glyph false (n % 10)) = glyph_is_digit (n % 10) (omega arith) in
-    grind (arith, (onto_digits k (n / 10) (digit_glyph false (n % 10) ∷ acc) (here, h)))
+onto_digits (suc k) n acc h = grind (arith, (glyph_is_digit (n % 10) (omega arith)), (onto_digits k (n / 10) (digit_glyph false (n % 10) ∷ acc) ((glyph_is_digit (n % 10) (omega arith)), h)))
 
 pub decimal_digits : (n : ℕ) → AllByRecursion IsDigit (decimal n)
 unfolding digits
@@ -144,9 +142,7 @@ some_digits n small = (decimal_is_IsNumeral n (omega arith)).0.0
 
 until_tab : (chrom tail : List ℕ) → first_word (chrom ++ 9 ∷ tail) ≡ first_word chrom
 until_tab [] tail = refl
-until_tab (byte ∷ chrom) tail =
-    of_word byte (chrom ++ 9 ∷ tail) (ends_word byte) refl ∙ ap (λ l. cond (ends_word byte) [] (byte ∷ l)) (until_tab chrom tail)
-    ∙ sym (of_word byte chrom (ends_word byte) refl)
+until_tab (byte ∷ chrom) tail = grind (arith, (of_word byte (chrom ++ 9 ∷ tail) (ends_word byte) refl), (until_tab chrom tail), (of_word byte chrom (ends_word byte) refl))
 
 pub header_of_name : (chrom tail : List ℕ) → 0 < length chrom → is_header (chrom ++ 9 ∷ tail) ≡ is_header chrom
 header_of_name [] tail some = absurd (omega arith)
@@ -186,17 +182,8 @@ module _ (chrom : List ℕ) (start stop : ℕ) (named : IsName chrom) (below : s
   pub kept_by : (tail : List ℕ) (b : Bool) → ends_with_byte 13 tail ≡ b → IsTrue (is_kept tail) → (some : List ℕ) → strip_last 13 tail ≡ some → IsTrue (is_kept some)
   kept_by tail b e kept some is = grind arith
 
-  pub tail_says : (tail : List ℕ) → IsTrue (is_kept tail)
-      → record_of (strip_last 13 (columns_text chrom start stop tail)) ≡ Ok (unless_header chrom (record_with chrom start stop (strip_last 13 tail)))
-  tail_says tail kept = grind (arith, common_steps, strip_columns, first_says)
-
   pub tail_clear : (tail : List ℕ) → NoLineFeed chrom → NoLineFeed tail → NoLineFeed (columns_text chrom start stop tail)
-  tail_clear tail clear behind =
-      subst NoLineFeed (sym (name_first tail))
-      (clear_both chrom (9 ∷ (decimal start ++ 9 ∷ (decimal stop ++ tail))) clear
-      (clear_tab (decimal start ++ 9 ∷ (decimal stop ++ tail))
-      (clear_both (decimal start) (9 ∷ (decimal stop ++ tail)) (clear_number start)
-      (clear_tab (decimal stop ++ tail) (clear_both (decimal stop) tail (clear_number stop) behind)))))
+  tail_clear tail clear behind = grind (arith, (name_first tail), clear_both, clear_tab, (clear_number start), (clear_tab (decimal stop ++ tail) (clear_both (decimal stop) tail (clear_number stop) behind)))
 
 -- Lines of known records are an input without a fault.
 
@@ -303,7 +290,7 @@ placed_known order (r ∷ rs) placed = (placed.0, placed_known order rs placed.2
 
 module _ (order : Order) (total : IsTotal order) where
   says_columns : (line : Columns) → IsColumns line → SaysLine order total text_of_columns said_back line
-  says_columns line is = grind (arith, tail_clear, tail_says)
+  says_columns line is = grind (arith, tail_clear, common_steps, strip_columns, first_says)
 
   -- their lines are an input, whose records are those that no header word hides
   pub lines_back : (lines : List Columns) → AllByRecursion IsColumns lines → ArePlaced order (map (λ line. line.at) lines)
@@ -405,12 +392,7 @@ columns_said text (name ∷ size ∷ rest) entry clear cut e =
     let is = entry_said name (value_of size) entry e in
     let whole = joined_name name size rest in
     let split : text ≡ name ++ 9 ∷ whole.0 = sym (join_with_byte-slice_split 9 text) ∙ ap (join_with_byte 9) cut ∙ whole.1 in
-    record {
-      named = subst IsName is.0 (record { some = is.2; one_column = (subst (AllByRecursion IsColumn) cut (pieces_are_columns text)).0 });
-      clear = subst NoLineFeed is.0 (clear_front name (9 ∷ whole.0) (subst NoLineFeed split clear));
-      some = is.3;
-      small = value_at_most size entry.length is.1;
-    }
+    grind (arith, (pieces_are_columns text), (clear_front name (9 ∷ whole.0) (subst NoLineFeed split clear)), (value_at_most size entry.length is.1))
 
 skipped_entry : (skipped : Bool) (said : Result Entry Kind) (entry : Entry) → cond skipped (Ok None) (not_skipped said) ≡ Ok (Some entry) → said ≡ Ok entry
 skipped_entry skipped said entry e = grind arith

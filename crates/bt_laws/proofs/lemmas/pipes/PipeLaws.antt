@@ -118,8 +118,7 @@ module _ (limit : Bool) (inputs : Inputs) (chromosomes : Option (List Entry)) (w
   gaps_of_run = complement limit (entries_in chromosomes) (first_records chromosomes inputs)
 
   pub complement_whole : (report_of (Complement limit) inputs).output ≡ interval_lines gaps_of_run
-  complement_whole = output_is (Complement limit) inputs chromosomes well
-      ∙ whole_by (complement_written (entries_in chromosomes) limit) (first_records chromosomes inputs) (bed_good First (order_of chromosomes) inputs.first).fault (well_there (Complement limit) inputs chromosomes well)
+  complement_whole = grind (arith, (output_is (Complement limit) inputs chromosomes well), whole_by, (well_there (Complement limit) inputs chromosomes well))
 
 gaps_input : (limit : Bool) (genome : Option Handed) (chromosomes : Option (List Entry)) (records : List Feature) → chromosomes_of genome ≡ Ok chromosomes
     → IsInput (order_of chromosomes) (interval_lines (complement limit (entries_in chromosomes) records)) (filter is_no_header (map three_columns (complement limit (entries_in chromosomes) records)))
@@ -134,8 +133,7 @@ pub complement_input : complement_is_input
 complement_input limit inputs chromosomes well =
     let e = complement_whole limit inputs chromosomes well in
     let is = gaps_input limit inputs.genome chromosomes (first_records chromosomes inputs) well.genome in
-    let gaps = complement limit (entries_in chromosomes) (first_records chromosomes inputs) in
-    (e, subst (λ text. IsInput (order_of chromosomes) text (filter is_no_header (map three_columns gaps))) (sym e) is.0, pairs_all AreSeparate gaps is.1)
+    grind (arith, (pairs_all AreSeparate (complement limit (entries_in chromosomes) (first_records chromosomes inputs)) is.1))
 
 depths_input : (zeros : Bool) (strand : Option Strand) (genome : Option Handed) (chromosomes : Option (List Entry)) (records : List Feature) → chromosomes_of genome ≡ Ok chromosomes
     → IsInput (order_of chromosomes) (depth_lines (coverage zeros strand (entries_in chromosomes) records)) (filter is_no_header (map four_columns (coverage zeros strand (entries_in chromosomes) records)))
@@ -214,9 +212,7 @@ module _ (shape : Shape) (rule : HitRule) (chromosomes : Option (List Entry)) (i
   second_placed = placed_good Second (order_of chromosomes) (or_empty inputs.second) (order_total chromosomes)
 
   kept_input : begins_with_a shape ≡ true → IsInput (order_of chromosomes) (intersect shape rule firsts seconds) (records_written shape rule firsts seconds)
-  kept_input begins =
-      subst (IsInput (order_of chromosomes) (intersect shape rule firsts seconds)) (all_read shape rule firsts seconds)
-      (kept_back (order_of chromosomes) (order_total chromosomes) shape rule firsts seconds said said_second first_placed begins)
+  kept_input begins = grind (arith, (all_read shape rule firsts seconds), (kept_back (order_of chromosomes) (order_total chromosomes) shape rule firsts seconds said said_second first_placed begins))
 
   pub cut_input : begins_with_a shape ≡ false → AllPairs AreDisjoint (intervals_of firsts) → IsInput (order_of chromosomes) (intersect shape rule firsts seconds) (records_written shape rule firsts seconds)
   cut_input cuts apart =
@@ -288,19 +284,13 @@ places_apart : (rs : List Feature) → EachPair (λ (r s : Feature). AreDisjoint
 places_apart rs h = pairs_all AreDisjoint (intervals_of rs) (pairs_map AreDisjoint interval_of rs h)
 
 pub merge_disjoint : merge_writes_disjoint
-merge_disjoint d strand other inputs chromosomes well =
-    let is = merge_input d strand inputs chromosomes well in
-    grind (arith, places_apart, of_three, pairs_each)
+merge_disjoint d strand other inputs chromosomes well = grind (arith, (merge_input d strand inputs chromosomes well), places_apart, of_three, pairs_each)
 
 pub complement_disjoint : complement_writes_disjoint
-complement_disjoint limit inputs chromosomes well =
-    let is = complement_input limit inputs chromosomes well in
-    grind (arith, places_apart, pairs_filter, of_three, pairs_each)
+complement_disjoint limit inputs chromosomes well = grind (arith, (complement_input limit inputs chromosomes well), places_apart, pairs_filter, of_three, pairs_each)
 
 pub genomecov_disjoint : genomecov_writes_disjoint
-genomecov_disjoint zeros strand inputs chromosomes well =
-    let is = genomecov_input zeros strand inputs chromosomes well in
-    grind (arith, places_apart, pairs_filter, of_four, pairs_each)
+genomecov_disjoint zeros strand inputs chromosomes well = grind (arith, (genomecov_input zeros strand inputs chromosomes well), places_apart, pairs_filter, of_four, pairs_each)
 
 -- Spans that cover the same positions: the runs and the gaps are the same.
 
@@ -315,17 +305,13 @@ bridged_to : (gap : ℕ) (xs ys : List Span) (p : ℕ) → SameCover xs ys → B
 bridged_to gap xs ys p same b = grind arith
 
 pub same_runs : (gap : ℕ) (xs ys : List Span) → SameCover xs ys → runs_of gap xs ≡ runs_of gap ys
-same_runs gap xs ys same =
-    let runs = are_runs gap xs in
-    grind (arith, only_runs)
+same_runs gap xs ys same = grind (arith, (are_runs gap xs), only_runs)
 
 bare_to : (size : ℕ) (xs ys : List Span) (p : ℕ) → SameCover xs ys → IsBare size xs p → IsBare size ys p
 bare_to size xs ys p same b = record { within = b.within; bare = λ c. b.bare (same.back p c) }
 
 pub same_gaps : (size : ℕ) (xs ys : List Span) → SameCover xs ys → gaps_of size xs ≡ gaps_of size ys
-same_gaps size xs ys same =
-    let gaps = are_gaps size xs in
-    grind (arith, only_gaps)
+same_gaps size xs ys same = grind (arith, (are_gaps size xs), only_gaps)
 
 pub same_levels : (u v : ℕ → Option ℕ) (size : ℕ) → ((p : ℕ) → u p ≡ v p) → levels_of u size ≡ levels_of v size
 same_levels u v size same = grind arith
@@ -334,18 +320,10 @@ same_levels u v size same = grind arith
 
 -- a position between two runs that are near is bridged by what they cover
 again_by : (gap : ℕ) (spans : List Span) (p : ℕ) (b : Bridged gap (runs_of gap spans) p) (l : Bridged gap spans b.left) (r : Bridged gap spans b.right) → Bridged gap spans p
-again_by gap spans p b l r = elim (cases_lt l.right p) [
-  | inr below ↦ record { left = l.left; right = l.right; left_covered = l.left_covered; right_covered = l.right_covered; from_left = omega (arith, l.from_left, b.from_left); to_right = below; near = l.near }
-  | inl above ↦ elim (cases_lt p r.left) [
-    | inr past ↦ record { left = r.left; right = r.right; left_covered = r.left_covered; right_covered = r.right_covered; from_left = past; to_right = omega (arith, b.to_right, r.to_right); near = r.near }
-    | inl between ↦ grind arith
-  ]
-]
+again_by gap spans p b l r = grind (arith, (cases_lt l.right p), (cases_lt p r.left))
 
 pub runs_again : (gap : ℕ) (spans : List Span) → runs_of gap (runs_of gap spans) ≡ runs_of gap spans
-runs_again gap spans =
-    let runs = are_runs gap spans in
-    grind (arith, only_runs, again_by)
+runs_again gap spans = grind (arith, (are_runs gap spans), only_runs, again_by)
 
 bridged_covered : (spans : List Span) (p : ℕ) → Bridged 0 spans p → IsCovered spans p
 bridged_covered spans p b = grind arith

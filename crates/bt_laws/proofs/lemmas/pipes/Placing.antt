@@ -77,15 +77,7 @@ less_first o e = grind arith
 
 pub names_pairs : (names : List (List ℕ)) → AreDistinct names → EachPair (Earlier (rank_order names)) names
 names_pairs [] distinct = tt
-names_pairs (n ∷ ns) distinct =
-    let away = others n ns distinct.0 in
-    let first : (m : List ℕ) → bytes_eq n m ≡ false → is_some (rank_of ns m) ≡ true → Earlier (rank_order (n ∷ ns)) n m = λ m off known.
-    ap (λ o. compare_ranks o (rank_of (n ∷ ns) m)) (rank_of-here n n ns refl) ∙ ap (compare_ranks (Some 0)) (rank_of-later n m ns off) ∙ less_first (rank_of ns m) known in
-    let more : (m k : List ℕ) → bytes_eq n m ≡ false → bytes_eq n k ≡ false → Earlier (rank_order ns) m k → Earlier (rank_order (n ∷ ns)) m k = λ m k one two less.
-    ap (λ o. compare_ranks o (rank_of (n ∷ ns) k)) (rank_of-later n m ns one) ∙ ap (compare_ranks (option_map (λ rank. suc rank) (rank_of ns m))) (rank_of-later n k ns two) ∙ less_shift (rank_of ns m) (rank_of ns k) less in (
-      all_zip (λ m. bytes_eq n m ≡ false) (λ m. is_some (rank_of ns m) ≡ true) (Earlier (rank_order (n ∷ ns)) n) ns first away (known_names ns),
-      pairs_so (λ m. bytes_eq n m ≡ false) (Earlier (rank_order ns)) (Earlier (rank_order (n ∷ ns))) ns more away (names_pairs ns distinct.1),
-    )
+names_pairs (n ∷ ns) distinct = grind (arith, (others n ns distinct.0), (rank_of-here n n ns refl), rank_of-later, less_first, less_shift, all_zip, (known_names ns), pairs_so, (names_pairs ns distinct.1))
 
 -- ---- intervals chromosome by chromosome
 

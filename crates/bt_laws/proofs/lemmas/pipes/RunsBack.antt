@@ -93,10 +93,7 @@ pub record IsRun (r : Interval) : Type 0 where
   pub no_header : is_header r.chrom ≡ false
 
 runs_are_written : (name : List ℕ) (gap : ℕ) (rs : List Interval) → IsSaidName name → AllByRecursion (λ (r : Interval). r.stop ≤ 999999999999) rs → AllByRecursion IsRun (runs_on name gap rs)
-runs_are_written name gap rs is small =
-    all_zip IsWritten (λ r. r.chrom ≡ name) IsRun (runs_on name gap rs) (λ r w e. record { written = w; no_header = ap is_header e ∙ is.no_header })
-    (on_written name (end_of (spans_on name rs)) (runs_of gap (spans_on name rs)) is.named is.clear (end_small name rs small) (runs_apart gap (spans_on name rs)).1)
-    (on_name name (runs_of gap (spans_on name rs)))
+runs_are_written name gap rs is small = grind (arith, all_zip, on_written, (end_small name rs small), (runs_apart gap (spans_on name rs)), (on_name name (runs_of gap (spans_on name rs))))
 
 merged_written : (names : List (List ℕ)) (gap : ℕ) (rs : List Interval) → AllByRecursion IsSaidName names → AllByRecursion (λ (r : Interval). r.stop ≤ 999999999999) rs → AllByRecursion IsRun (merged names gap rs)
 unfolding merged
@@ -146,8 +143,7 @@ module _ (order : Order) (total : IsTotal order) where
 
     pub merge_runs : AllByRecursion IsRun (ordered_runs order gap strand records)
     unfolding ordered_runs
-    merge_runs = merged_written (in_order order (chromosomes (counted strand records))) gap (counted strand records)
-        (ordered_all IsSaidName order (chromosomes (counted strand records)) (named_all IsSaidName (counted strand records) (counted_names strand records said))) (counted_stops strand records said)
+    merge_runs = grind (arith, merged_written, ordered_all, (named_all IsSaidName (counted strand records) (counted_names strand records said)), (counted_stops strand records said))
 
     -- what merge writes
     pub merge_back : IsInput order (interval_lines (ordered_runs order gap strand records)) (map three_columns (ordered_runs order gap strand records))
@@ -156,9 +152,7 @@ module _ (order : Order) (total : IsTotal order) where
   -- each strand separately
   strand_written : (gap : ℕ) (records : List Feature) → AllByRecursion IsSaid records → (strand : Strand) → AllByRecursion (λ (item : StrandRun). IsRun item.run) (runs_of_strand gap records strand)
   strand_written gap records said strand =
-      all_map (λ (item : StrandRun). IsRun item.run) _ (merged_runs gap (One strand) records)
-      (merged_written (chromosomes (counted (One strand) records)) gap (counted (One strand) records)
-      (named_all IsSaidName (counted (One strand) records) (counted_names (One strand) records said)) (counted_stops (One strand) records said))
+      grind (arith, all_map, merged_written, (named_all IsSaidName (counted (One strand) records) (counted_names (One strand) records said)), (counted_stops (One strand) records said))
 
   pub strands_written : (gap : ℕ) (records : List Feature) → AllByRecursion IsSaid records → AllByRecursion IsRun (places_of (strand_runs gap records))
   unfolding strand_runs
@@ -294,8 +288,7 @@ module _ (entries : List Entry) (chroms : AllByRecursion IsChrom entries) (disti
 
   level_disjoint : (e : Entry) → EachPair AreDisjoint (level_part e)
   unfolding level_part
-  level_disjoint e = pairs_map AreDisjoint (level_place e.name) (levels_for e) (pairs_so (λ l. Unit {0}) (λ (k l : Level). k.stop ≤ l.start) (λ k l. AreDisjoint (level_place e.name k) (level_place e.name l)) (levels_for e) (λ k l p q up same. up)
-      (all_any (λ l. Unit {0}) (levels_for e) (λ l. tt)) (levels_pairs 0 (levels_for e) (levels_are_so e).disjoint))
+  level_disjoint e = grind (arith, pairs_map, pairs_so, (all_any (λ l. Unit {0}) (levels_for e) (λ l. tt)), (levels_pairs 0 (levels_for e) (levels_are_so e).disjoint))
 
   pub depths_disjoint : EachPair AreDisjoint (map interval_at (coverage zeros strand entries records))
   unfolding coverage level_part
@@ -304,9 +297,7 @@ module _ (entries : List Entry) (chroms : AllByRecursion IsChrom entries) (disti
 
   level_written : (e : Entry) → IsChrom e → AllByRecursion IsWritten (level_part e)
   unfolding level_part
-  level_written e is = all_map IsWritten (level_place e.name) (levels_for e) (all_so (λ (l : Level). (l.start < l.stop) × (l.stop ≤ e.length)) (λ l. IsWritten (level_place e.name l)) (levels_for e)
-      (λ l k. record { named = is.named; clear = is.clear; below = k.0; small = omega (arith, k.1, is.small) })
-      (levels_within 0 e.length (levels_for e) (levels_are_so e).disjoint (λ p v c. ((levels_are_so e).within p v c).0)))
+  level_written e is = grind (arith, all_map, all_so, (levels_within 0 e.length (levels_for e) (levels_are_so e).disjoint (λ p v c. ((levels_are_so e).within p v c).0)))
 
   depths_written : AllByRecursion IsWritten (map interval_at (coverage zeros strand entries records))
   unfolding coverage level_part

@@ -25,8 +25,7 @@ use Rattle.bt_laws.proofs.lemmas.pipes.Placing.{apart_pairs, pairs_both, pairs_f
 behind : {A B : Type 0} (R : B → B → Type 0) (part : A → List B) (x : A) (xs : List A) → AllByRecursion (λ y. AllByRecursion (λ r. AllByRecursion (R r) (part y)) (part x)) xs
     → AllByRecursion (λ r. AllByRecursion (R r) (flat_map part xs)) (part x)
 behind R part x [] cross = all_any _ (part x) (λ r. tt)
-behind R part x (y ∷ ys) cross =
-    all_zip (λ r. AllByRecursion (R r) (part y)) (λ r. AllByRecursion (R r) (flat_map part ys)) (λ r. AllByRecursion (R r) (part y ++ flat_map part ys)) (part x) (λ r h k. all_both (R r) (part y) (flat_map part ys) h k) cross.0 (behind R part x ys cross.1)
+behind R part x (y ∷ ys) cross = grind (arith, all_zip, all_both, (behind R part x ys cross.1))
 
 pub pairs_flat : {A B : Type 0} (R : B → B → Type 0) (part : A → List B) (xs : List A) → AllByRecursion (λ x. EachPair R (part x)) xs
     → EachPair (λ x y. AllByRecursion (λ r. AllByRecursion (R r) (part y)) (part x)) xs → EachPair R (flat_map part xs)
@@ -338,10 +337,7 @@ module _ (order : Order) (total : IsTotal order) where
   rise_by name b c known one two p1 = grind arith
 
   hits_rise : (rule : HitRule) (a : Feature) (bs : List Feature) → IsTrue (order.knows a.chrom) → AllByRecursion IsSaid bs → ArePlaced order (intervals_of bs) → EachPair Rise (hits_among rule a bs)
-  hits_rise rule a bs known said placed =
-      pairs_so (Hit rule a) (λ b c. UpTo order total (interval_of b) (interval_of c)) Rise (hits_among rule a bs)
-      (λ b c p q up. rise_by a.chrom b c known (sym (same_name rule a b p.1)) (sym (same_name rule a c q.1)) up)
-      (all_hits rule a bs said) (pairs_filter (λ b c. UpTo order total (interval_of b) (interval_of c)) (hits rule a) bs (pairs_of_places order total bs (placed_pairs order total (intervals_of bs) placed)))
+  hits_rise rule a bs known said placed = grind (arith, pairs_so, rise_by, same_name, (all_hits rule a bs said), pairs_filter, (pairs_of_places order total bs (placed_pairs order total (intervals_of bs) placed)))
 
   abbrev LineUpTo : Columns → Columns → Type 0
   LineUpTo k l = UpTo order total k.at l.at
@@ -350,9 +346,7 @@ module _ (order : Order) (total : IsTotal order) where
   unfolding columns_for hit_columns piece_columns
   part_rises Cut a found e h = pairs_map LineUpTo (hit_columns Cut a) found (pairs_so (λ b. Unit {0}) Rise (λ b c. LineUpTo (hit_columns Cut a b) (hit_columns Cut a c)) found (λ b c p q up. inr (refl, omega (arith, up))) (all_any (λ b. Unit {0}) found (λ b. tt)) h)
   part_rises CutAndB a found e h = pairs_map LineUpTo (hit_columns CutAndB a) found (pairs_so (λ b. Unit {0}) Rise (λ b c. LineUpTo (hit_columns CutAndB a b) (hit_columns CutAndB a c)) found (λ b c p q up. inr (refl, omega (arith, up))) (all_any (λ b. Unit {0}) found (λ b. tt)) h)
-  part_rises Pieces a found e h =
-      pairs_map LineUpTo (piece_columns a) (pieces a found) (pairs_so (λ (s : Span). s.start < s.stop) (λ (s t : Span). s.stop < t.start) (λ s t. LineUpTo (piece_columns a s) (piece_columns a t)) (pieces a found) (λ s t p q up. inr (refl, omega (arith, p, up)))
-      (apart_some 0 (pieces a found) (are_pieces a found).apart) (apart_pairs 0 (pieces a found) (are_pieces a found).apart))
+  part_rises Pieces a found e h = grind (arith, pairs_map, pairs_so, (apart_some 0 (pieces a found) (are_pieces a found).apart), (apart_pairs 0 (pieces a found) (are_pieces a found).apart))
   part_rises OrigA a found e h = cc
   part_rises OrigBoth a found e h = cc
   part_rises Overlap a found e h = cc
@@ -390,9 +384,7 @@ module _ (order : Order) (total : IsTotal order) where
 
     cut_pairs : EachPair LineUpTo cut_lines
     unfolding cut_lines
-    cut_pairs = pairs_flat LineUpTo cut_part first
-        (all_so (λ (a : Feature). IsTrue (order.knows a.chrom)) (λ a. EachPair LineUpTo (cut_part a)) first (λ a known. part_rises shape a (hits_among rule a second) cuts (hits_rise rule a second known said_second placed_second)) (all_unmap _ interval_of first (placed_known order (intervals_of first) placed)))
-        (cross_all LineUpTo cross_up)
+    cut_pairs = grind (arith, pairs_flat, all_so, part_rises, hits_rise, (all_unmap _ interval_of first (placed_known order (intervals_of first) placed)), (cross_all LineUpTo cross_up))
 
     cut_placed : ArePlaced order (map (λ (line : Columns). line.at) cut_lines)
     unfolding cut_lines

@@ -48,11 +48,8 @@ map_flat_same h f g (a ∷ first) e = map-append h (f a) (flat_map f first) ∙ 
 
 -- ---- places
 
-places_for : (shape : Shape) (a : Feature) (found : List Feature) → begins_with_a shape ≡ true → intervals_of (records_for shape a found) ≡ intervals_of (replicate (line_count shape (length found)) a)
-places_for shape a found e = grind (arith, same_copies, all_any)
-
 pub places_stay : (shape : Shape) (rule : HitRule) (first second : List Feature) → begins_with_a shape ≡ true → intervals_of (records_written shape rule first second) ≡ intervals_of (copies_written shape rule first second)
-places_stay shape rule first second e = grind (arith, map_flat_same, all_any, places_for)
+places_stay shape rule first second e = grind (arith, map_flat_same, all_any, same_copies)
 
 -- ---- records alone
 
@@ -120,9 +117,7 @@ more_strand xs more none one two = grind arith
 
 module _ (a : Feature) (is : IsSaid a) where
   after_number : (n : ℕ) → (read_before (decimal n) a).strand ≡ a.strand
-  after_number n =
-      let number : columns_of 9 (decimal n) ≡ decimal n ∷ [] = ap (columns_of 9) (sym (append-nil (decimal n))) ∙ kept_is_cut (decimal n) [] (number_column n) tt in
-      grind (arith, strip_number, columns_both, number_unsigned)
+  after_number n = grind (arith, (append-nil (decimal n)), (kept_is_cut (decimal n) [] (number_column n) tt), strip_number, columns_both, number_unsigned)
 
   after_columns : (chrom : List ℕ) (start stop : ℕ) (tail : List ℕ) → IsName chrom → IsTrue (is_kept tail) → (length (columns_in a.rest) ≡ 2 → strand_named chrom ≡ Dot) → strand_of (columns_in (a.rest ++ 9 ∷ columns_text chrom start stop tail)) ≡ a.strand
   after_columns chrom start stop tail named kept unsigned = grind (arith, columns_both, line_columns, number_unsigned)
@@ -137,24 +132,17 @@ module _ (a : Feature) (is : IsSaid a) where
         let text : strip_last 13 (9 ∷ bed_text b) ≡ 9 ∷ columns_text b.chrom b.start b.stop (strip_last 13 b.rest) =
         strip_both 13 (9 ∷ []) (bed_text b) (subst (λ l. 0 < length l) (sym (name_first b.chrom b.start b.stop said.named said.non_empty said.in_range b.rest)) (some_both b.chrom (9 ∷ (decimal b.start ++ 9 ∷ (decimal b.stop ++ b.rest))) said.named.some))
         ∙ ap (λ l. 9 ∷ l) (strip_columns b.chrom b.start b.stop said.named said.non_empty said.in_range b.rest) in
-        ap (λ l. strand_of (columns_in (a.rest ++ l))) text
-        ∙ after_columns b.chrom b.start b.stop (strip_last 13 b.rest) said.named
-        (kept_by b.chrom b.start b.stop said.named said.non_empty said.in_range b.rest (ends_with_byte 13 b.rest) refl said.kept (strip_last 13 b.rest) refl) same_unsigned
+        grind (arith, after_columns, (kept_by b.chrom b.start b.stop said.named said.non_empty said.in_range b.rest (ends_with_byte 13 b.rest) refl said.kept (strip_last 13 b.rest) refl), same_unsigned)
 
     overlap_strand : (n : ℕ) → (read_before (bed_text b ++ 9 ∷ decimal n) a).strand ≡ a.strand
-    overlap_strand n =
-        let said = hit.0.feature in
-        let text : strip_last 13 (9 ∷ (bed_text b ++ 9 ∷ decimal n)) ≡ 9 ∷ columns_text b.chrom b.start b.stop (b.rest ++ 9 ∷ decimal n) =
-        strip_both 13 (9 ∷ bed_text b) (9 ∷ decimal n) (omega arith) ∙ ap (λ l. (9 ∷ bed_text b) ++ l) (strip_number n) ∙ simp append_assoc in
-        grind (arith, after_columns, same_unsigned)
+    overlap_strand n = grind (arith, (strip_both 13 (9 ∷ bed_text b) (9 ∷ decimal n) (omega arith)), (strip_number n), append_assoc, after_columns, same_unsigned)
 
   strands_for : (rule : HitRule) (shape : Shape) (found : List Feature) → begins_with_a shape ≡ true → is_a_alone shape ≡ false → TakesNoStrand shape a → AllByRecursion (Hit rule a) found
       → map (λ (r : Feature). r.strand) (records_for shape a found) ≡ map (λ (r : Feature). r.strand) (replicate (line_count shape (length found)) a)
   strands_for rule Cut found e alone unsigned h = cc
   strands_for rule OrigA found e alone unsigned h = cc
   strands_for rule CutAndB found e alone unsigned h = cc
-  strands_for rule OrigBoth found e alone unsigned h =
-      same_copies (λ (r : Feature). r.strand) (λ b. read_before (bed_text b) a) a found (all_so (Hit rule a) (λ b. (read_before (bed_text b) a).strand ≡ a.strand) found (λ b hit. both_strand rule unsigned b hit) h)
+  strands_for rule OrigBoth found e alone unsigned h = grind (arith, same_copies, (all_so (Hit rule a) (λ b. (read_before (bed_text b) a).strand ≡ a.strand) found (λ b hit. both_strand rule unsigned b hit) h))
   strands_for rule Overlap found e alone unsigned h =
       same_copies (λ (r : Feature). r.strand) (λ b. read_before (bed_text b ++ 9 ∷ decimal (shared_bases a b)) a) a found
       (all_so (Hit rule a) (λ b. (read_before (bed_text b ++ 9 ∷ decimal (shared_bases a b)) a).strand ≡ a.strand) found (λ b hit. overlap_strand rule unsigned b hit (shared_bases a b)) h)

@@ -98,16 +98,7 @@ module _ (a : Feature) (bs gs : List Feature) (size : ℕ) (within : a.stop ≤ 
       (pairs_map (λ (s t : Span). s.stop < t.start) (cut_span a) found found_apart)
 
   pub left_in_gaps : map (cut_span a) found ≡ pieces a (hits_among any_overlap a bs)
-  left_in_gaps = only_pieces a (hits_among any_overlap a bs) (map (cut_span a) found) (record {
-    apart = cut_apart;
-    within = λ p c.
-        let is = cut_covered a found p c in
-        let gap = (are_gaps size (spans_on a.chrom (intervals_of bs))).within p (subst (λ l. IsCovered l p) are (hit_to a gs p is.0)) in
-        record { from_start = is.1; before_stop = is.2; bare = λ hit. gap.bare (hit_to a bs p hit) };
-    whole = λ p left.
-        let bare : IsBare size (spans_on a.chrom (intervals_of bs)) p = record { within = omega (arith, left.before_stop, within); bare = λ c. left.bare (hit_back a bs p left.from_start left.before_stop c) } in
-        covered_cut a found p left.from_start left.before_stop (hit_back a gs p left.from_start left.before_stop (subst (λ l. IsCovered l p) (sym are) ((are_gaps size (spans_on a.chrom (intervals_of bs))).whole p bare)));
-  })
+  left_in_gaps = grind (arith, only_pieces, cut_apart, cut_covered, (are_gaps size (spans_on a.chrom (intervals_of bs))), hit_to, hit_back, covered_cut)
 
 -- ---- the runs
 
@@ -128,10 +119,7 @@ module _ (inputs : Inputs) (entries : List Entry) (genome : chromosomes_of input
   alone = record { genome = inputs.genome; first = or_empty inputs.second; second = None }
 
   second_is : of_second (Complement false) inputs ≡ interval_lines gaps
-  second_is =
-      let good = bed_good First order (or_empty inputs.second) in
-      let other = other_input order (or_empty inputs.second) none in
-      ap (λ (r : Report). r.output) (report_there (Complement false) alone (Some entries) genome) ∙ output_by (complement_written entries false) (items_in good) good.fault other.1 ∙ ap (λ rs. interval_lines (complement false entries rs)) other.0
+  second_is = grind (arith, (other_input order (or_empty inputs.second) none), (report_there (Complement false) alone (Some entries) genome), output_by)
 
   known : AllByRecursion IsChrom entries × AreDistinct (genome_names entries)
   known = chroms_of inputs.genome entries genome
@@ -143,8 +131,7 @@ module _ (inputs : Inputs) (entries : List Entry) (genome : chromosomes_of input
   gaps_said = subst (AllByRecursion IsSaid) (second_input.records_are Second) (good_are_said Second order (whole_text (of_second (Complement false) inputs)))
 
   gaps_far : EachPair (λ (g h : Feature). AreSeparate (interval_of g) (interval_of h)) gap_records
-  gaps_far = pairs_filter (λ (g h : Feature). AreSeparate (interval_of g) (interval_of h)) is_no_header (map three_columns gaps)
-      (pairs_map (λ (g h : Feature). AreSeparate (interval_of g) (interval_of h)) three_columns gaps (gaps_pairs entries known.0 known.1 false seconds))
+  gaps_far = grind (arith, pairs_filter, (pairs_map (λ (g h : Feature). AreSeparate (interval_of g) (interval_of h)) three_columns gaps (gaps_pairs entries known.0 known.1 false seconds)))
 
   one_line : (a : Feature) → IsSaid a → a.stop ≤ length_in entries a.chrom → lines_for Cut any_overlap a gap_records ≡ lines_for Pieces any_overlap a seconds
   unfolding lines_for

@@ -53,10 +53,7 @@ one_more size s ss p (inl here) more = (inl (here.0, omega (arith, here.1)), ome
 one_more size s ss p (inr there) more = let rest = more there in (inr rest.0, rest.1)
 
 covered_or : (spans : List Span) (p : ℕ) → ((IsCovered spans p → ⊥) → ⊥) → IsCovered spans p
-covered_or spans p h = elim (cases_Bool (is_covered spans p)) [
-  | inl t ↦ (is_covered-Decides spans p).0 t
-  | inr f ↦ absurd (h (λ c. false≢true (sym f ∙ (is_covered-Decides spans p).1 c)))
-]
+covered_or spans p h = grind (arith, (cases_Bool (is_covered spans p)), (is_covered-Decides spans p), false≢true)
 
 cut_apart : (size first : ℕ) (spans : List Span) → AreApartFrom first spans → AreApartFrom first (cut_spans size spans)
 cut_apart size first [] h = tt
@@ -112,10 +109,7 @@ lengths_more e es (f ∷ fs) absent h =
 
 lengths_are : (entries : List Entry) → AreDistinct (genome_names entries) → AllByRecursion (λ (e : Entry). length_in entries e.name ≡ e.length) entries
 lengths_are [] distinct = tt
-lengths_are (e ∷ es) distinct = (
-  ap (λ b. cond b e.length (length_in es e.name)) (name_eq e.name e.name refl),
-  lengths_more e es es distinct.0 (lengths_are es distinct.1),
-)
+lengths_are (e ∷ es) distinct = grind (arith, (name_eq e.name e.name refl), (lengths_more e es es distinct.0 (lengths_are es distinct.1)))
 
 module _ (entries : List Entry) (distinct : AreDistinct (genome_names entries)) (records : List Feature) (placed : ArePlaced (rank_order (genome_names entries)) (intervals_of records)) where
   abbrev order : Order

@@ -56,30 +56,8 @@ find_more : (c n x : List ℕ) (xs ys : Names) → bytes_eq x c ≡ false → Fi
 find_more c n x xs ys other p1 = grind arith
 
 find : (c n : List ℕ) (xs ys : Names) → is_among xs n ≡ false → Finds c n xs ys
-find c n [] ys off = elim (cases_name n c) [
-  | inl same ↦ inr (inl (record {
-    same = name_eq c n (sym same);
-    all = ap (λ b. behind_by b ys (names_behind c ys)) (name_eq n c same);
-    few = ap (λ b. behind_by b [] None) (name_eq n c same);
-  }))
-  | inr other ↦ inr (inr (record {
-    apart = name_ne-sym n c other;
-    all = ap (λ b. behind_by b ys (names_behind c ys)) other;
-    few = ap (λ b. behind_by b [] None) other;
-  }))
-]
-find c n (x ∷ xs) ys off =
-    let parts = or_parts (bytes_eq x n) (is_among xs n) off in
-    elim (cases_name x c) [
-      | inl same ↦ inl (record {
-        rest = xs;
-        all = ap (λ b. behind_by b (xs ++ n ∷ ys) (names_behind c (xs ++ n ∷ ys))) (name_eq x c same);
-        few = ap (λ b. behind_by b (xs ++ n ∷ []) (names_behind c (xs ++ n ∷ []))) (name_eq x c same);
-        off = parts.1;
-        apart = subst (λ m. bytes_eq m n ≡ false) same parts.0;
-      })
-      | inr other ↦ find_more c n x xs ys other (find c n xs ys parts.1)
-    ]
+find c n [] ys off = grind (arith, (cases_name n c), name_eq, name_ne-sym)
+find c n (x ∷ xs) ys off = grind (arith, (or_parts (bytes_eq x n) (is_among xs n) off), (cases_name x c), name_eq, find_more, (find c n xs ys (or_parts (bytes_eq x n) (is_among xs n) off).1))
 
 -- ---- the records of blocks that belong to the sequence of a name that comes once
 
@@ -131,9 +109,7 @@ module _ (t : Feature → Bool) (n : List ℕ) where
     where
       by_left : (o : Option Names) → names_behind b.chrom names ≡ o → AreOwned o bs → ((rest : Names) → is_among rest n ≡ false → AreOwned (Some rest) bs → list_any on_it (items_of bs) ≡ false) → list_any on_it (items_of (b ∷ bs)) ≡ false
       by_left None e owned more = absurd (unowned bs owned)
-      by_left (Some rest) e owned more =
-          let far = off_behind n b.chrom names rest off e in
-          list_any-append on_it b.items (items_of bs) ∙ ap₂ (λ x y. x || y) (all_off b.chrom b.items on.0 far.1) (more rest far.0 owned)
+      by_left (Some rest) e owned more = grind (arith, (off_behind n b.chrom names rest off e), (list_any-append on_it b.items (items_of bs)), (all_off b.chrom b.items on.0 (off_behind n b.chrom names rest off e).1))
 
   own_named : (xs ys : Names) (bs : List (Block Feature)) → is_among xs n ≡ false → is_among ys n ≡ false → AllByRecursion IsOnIt bs → AreOwned (Some (xs ++ n ∷ ys)) bs
       → list_any t (own_of (owned_from (Some (xs ++ n ∷ [])) bs)) ≡ list_any on_it (items_of bs)
@@ -142,29 +118,18 @@ module _ (t : Feature → Bool) (n : List ℕ) where
     where
       by_find : Finds b.chrom n xs ys → ((rest : Names) → is_among rest n ≡ false → AreOwned (Some (rest ++ n ∷ ys)) bs → list_any t (own_of (owned_from (Some (rest ++ n ∷ [])) bs)) ≡ list_any on_it (items_of bs))
           → list_any t (own_of (owned_from (Some (xs ++ n ∷ [])) (b ∷ bs))) ≡ list_any on_it (items_of (b ∷ bs))
-      by_find (inl is) next =
-          ap (λ left. list_any t (items_if_last left b.items ++ own_of (owned_from left bs))) is.few
-          ∙ ap (λ l. list_any t (l ++ own_of (owned_from (Some (is.rest ++ n ∷ [])) bs))) (not_last is.rest n b.items)
-          ∙ next is.rest is.off (subst (λ left. AreOwned left bs) is.all owned)
-          ∙ ap (λ x. x || list_any on_it (items_of bs)) (sym (all_off b.chrom b.items on.0 is.apart))
-          ∙ sym (list_any-append on_it b.items (items_of bs))
+      by_find (inl is) next = grind (arith, (not_last is.rest n b.items), (all_off b.chrom b.items on.0 is.apart), (list_any-append on_it b.items (items_of bs)))
       by_find (inr (inl is)) next =
           ap (λ left. list_any t (items_if_last left b.items ++ own_of (owned_from left bs))) is.few
           ∙ list_any-append t b.items (own_of (owned_from (Some []) bs))
           ∙ ap₂ (λ x y. x || y) (sym (all_here b.chrom b.items on.0 is.same)) (ap (list_any t) (past_own bs) ∙ sym (later ys bs past on.1 (subst (λ left. AreOwned left bs) is.all owned)))
           ∙ sym (list_any-append on_it b.items (items_of bs))
-      by_find (inr (inr is)) next =
-          ap (λ left. list_any t (items_if_last left b.items ++ own_of (owned_from left bs))) is.few
-          ∙ ap (list_any t) (none_own bs)
-          ∙ sym (later ys (b ∷ bs) past on (subst (λ left. AreOwned left bs) is.all owned))
+      by_find (inr (inr is)) next = grind (arith, (none_own bs), (later ys (b ∷ bs) past on (subst (λ left. AreOwned left bs) is.all owned)))
 
   -- so these are the records of its name
   own_on : (xs ys : Names) (rs : List Feature) → is_among xs n ≡ false → is_among ys n ≡ false → is_some (leave (Some (xs ++ n ∷ ys)) None rs) ≡ true
       → list_any t (own_records (xs ++ n ∷ []) rs) ≡ list_any on_it rs
-  own_on xs ys rs off past owned =
-      let bs = blocks_by (λ (r : Feature). r.chrom) rs in
-      let runs = maximal_runs rs in
-      grind (arith, own_named, all_so, recursion_from_All, leave_all)
+  own_on xs ys rs off past owned = grind (arith, (maximal_runs rs), own_named, all_so, recursion_from_All, leave_all)
 
 -- ---- a name that no record has
 
@@ -182,12 +147,9 @@ other_behind c n (z ∷ zs) e = grind (arith, (other_behind c n zs e))
 abbrev is_on : List ℕ → Feature → Bool
 is_on n r = bytes_eq r.chrom n
 
-any_rest : (q : Feature → Bool) (xs ys : List Feature) → list_any q (xs ++ ys) ≡ false → list_any q ys ≡ false
-any_rest q xs ys e = grind (arith, common_steps)
-
 first_off : (n c : List ℕ) (xs more : List Feature) → AllByRecursion (λ (r : Feature). r.chrom ≡ c) xs → 0 < length xs → list_any (is_on n) (xs ++ more) ≡ false → (bytes_eq c n ≡ false) × (list_any (is_on n) more ≡ false)
 first_off n c [] more h some e = absurd (omega (arith, some))
-first_off n c (r ∷ rs) more h some e = grind (arith, any_rest)
+first_off n c (r ∷ rs) more h some e = grind (arith, common_steps)
 
 abbrev IsFull : Block Feature → Type 0
 IsFull b = 0 < length b.items
@@ -254,22 +216,11 @@ module _ (t : Feature → Bool) (rs ss both : List Feature) (permuted : IsPermut
     -- of a name that a record has
     some_own : (front : Names) (n : List ℕ) (more : Names) → names ≡ front ++ n ∷ more → list_any (is_on n) both ≡ true
         → list_any t (own_records (front ++ n ∷ []) both) ≡ (list_any t (own_records (front ++ n ∷ []) rs) || list_any t (own_records (front ++ n ∷ []) ss))
-    some_own front n more whole some =
-        let around = once_around n front more (subst (λ l. length (named n l) ≤ 1) whole (once_named n names both ones some)) in
-        grind (arith, own_on, both_by)
-
-    no_own : (front : Names) (n : List ℕ) → list_any (is_on n) both ≡ false → list_any t (own_records (front ++ n ∷ []) both) ≡ (list_any t (own_records (front ++ n ∷ []) rs) || list_any t (own_records (front ++ n ∷ []) ss))
-    no_own front n none = grind (arith, both_by, none_on_it)
+    some_own front n more whole some = grind (arith, (once_around n front more (subst (λ l. length (named n l) ≤ 1) whole (once_named n names both ones some))), own_on, both_by)
 
     both_own : (own more : Names) → names ≡ own ++ more → list_any t (own_records own both) ≡ (list_any t (own_records own rs) || list_any t (own_records own ss))
-    both_own [] more e =
-        ap (list_any t) (past_own (blocks_by (λ r. r.chrom) both))
-        ∙ ap₂ (λ x y. list_any t x || list_any t y) (sym (past_own (blocks_by (λ r. r.chrom) rs))) (sym (past_own (blocks_by (λ r. r.chrom) ss)))
-    both_own (x ∷ xs) more e =
-        let end = ends x xs in
-        let n = end.last in
-        let whole : names ≡ end.front ++ n ∷ more = e ∙ ap (λ l. l ++ more) end.is ∙ append_assoc end.front (n ∷ []) more in
-        grind (arith, some_own, no_own)
+    both_own [] more e = grind (arith, (past_own (blocks_by (λ r. r.chrom) both)), (past_own (blocks_by (λ r. r.chrom) rs)), (past_own (blocks_by (λ r. r.chrom) ss)))
+    both_own (x ∷ xs) more e = grind (arith, (ends x xs), (append_assoc (ends x xs).front (((ends x xs).last) ∷ []) more), some_own, both_by, none_on_it)
 
 -- ---- the runs
 

@@ -242,10 +242,7 @@ module _ (how : MaskHow) (full : Bool) (inputs : Inputs) (chromosomes : Option (
         ∙ ap₂ (λ l fault. record { lines = l; fault = fault }) (lines_again items) (ap (λ ns. (mask_rule how ns second).last) (names_same new_text items) ∙ nones.1)
 
     pub twice : RunWrites (MaskFasta how full) (piped (MaskFasta how full) inputs) (report_of (MaskFasta how full) inputs).output
-    twice = writes_is (MaskFasta how full) (piped (MaskFasta how full) inputs) (report_of (MaskFasta how full) inputs).output
-        (report_there (MaskFasta how full) (piped (MaskFasta how full) inputs) chromosomes well.genome
-        ∙ ap (λ text. met_report (mask_met how (sequence_good full First (whole_text text)) second)) output_there
-        ∙ ap met_report met_again ∙ ap (λ bytes. record { output = bytes; fault = None }) (sym output_there))
+    twice = grind (arith, writes_is, (report_there (MaskFasta how full) (piped (MaskFasta how full) inputs) chromosomes well.genome), output_there, met_again)
 
     pub layout : ((sequence_good full First (whole_text (report_of (MaskFasta how full) inputs).output)).fault ≡ None)
         × (map layout_of (items_in (sequence_good full First (whole_text (report_of (MaskFasta how full) inputs).output))) ≡ map layout_of items)

@@ -90,10 +90,7 @@ module _ (keep : Feature → Bool) where
   exchanged_depth rs ss is name p = depth_sum name rs p ∙ sym (sum_by-IsPermutation (λ r. depth_in name (r ∷ []) p) rs ss is) ∙ sym (depth_sum name ss p)
 
   repeated_has : (rs ss : List Feature) → IsRepeated rs ss → (name : List ℕ) → has_records name (kept rs) ≡ has_records name (kept ss)
-  repeated_has rs ss is name =
-      has_any name rs
-      ∙ subst (λ l. list_any (has_one name) l ≡ (has_one name is.twice || list_any (has_one name) l)) (sym is.first) (any_twice (has_one name) is.before is.twice is.after)
-      ∙ list_any-IsPermutation (has_one name) (is.twice ∷ rs) ss is.second ∙ sym (has_any name ss)
+  repeated_has rs ss is name = grind (arith, (has_any name rs), (any_twice (has_one name) is.before is.twice is.after), (list_any-IsPermutation (has_one name) (is.twice ∷ rs) ss is.second), (has_any name ss))
 
   exchanged_cover : (rs ss : List Feature) → IsPermutation rs ss → (name : List ℕ) → SameCover (spans_on name (kept rs)) (spans_on name (kept ss))
   exchanged_cover rs ss is name = same_by_depth (spans_on name (kept rs)) (spans_on name (kept ss)) (λ p some. subst (λ n. 0 < n) (exchanged_depth rs ss is name p) some) (λ p some. subst (λ n. 0 < n) (sym (exchanged_depth rs ss is name p)) some)
@@ -189,11 +186,7 @@ unfolding complement
 gaps_by limit entries rs ss has cover = grind (arith, same_gaps)
 
 alike_gaps : (limit : Bool) (entries : List Entry) (rs ss : List Feature) → IsAlike rs ss → complement limit entries rs ≡ complement limit entries ss
-alike_gaps limit entries rs ss is =
-    let every : Feature → Bool = λ r. true in
-    gaps_by limit entries rs ss
-    (λ name. ap (has_records name) (sym (all_kept rs)) ∙ is.has every name ∙ ap (has_records name) (all_kept ss))
-    (λ name. subst (λ l. SameCover (spans_on name l) (spans_on name (intervals_of ss))) (all_kept rs) (subst (λ l. SameCover (spans_on name (kept every rs)) (spans_on name l)) (all_kept ss) (is.cover every name)))
+alike_gaps limit entries rs ss is = grind (arith, gaps_by, (all_kept rs), (all_kept ss))
 
 exchanged_depths : (zeros : Bool) (strand : Option Strand) (entries : List Entry) (rs ss : List Feature) → IsPermutation rs ss → coverage zeros strand entries rs ≡ coverage zeros strand entries ss
 unfolding coverage depth_of
@@ -221,12 +214,11 @@ complement_alike limit inputs others chromosomes one two is =
     complement_whole limit inputs chromosomes one ∙ ap interval_lines (alike_gaps limit (entries_in chromosomes) (first_records chromosomes inputs) (first_records chromosomes others) is) ∙ sym (complement_whole limit others chromosomes two)
 
 pub merge_exchanged : exchanged_merge
-merge_exchanged d strand other inputs others chromosomes one two is =
-    merge_alike d strand inputs others chromosomes other one two (exchanged_alike (first_records chromosomes inputs) (first_records chromosomes others) is)
+merge_exchanged d strand other inputs others chromosomes one two is = grind (arith, merge_alike, (exchanged_alike (first_records chromosomes inputs) (first_records chromosomes others) is))
 
 pub complement_exchanged : exchanged_complement
 complement_exchanged limit inputs others chromosomes one two is =
-    complement_alike limit inputs others chromosomes one two (exchanged_alike (first_records chromosomes inputs) (first_records chromosomes others) is)
+    grind (arith, (complement_alike limit inputs others chromosomes one two (exchanged_alike (first_records chromosomes inputs) (first_records chromosomes others) is)))
 
 pub genomecov_exchanged : exchanged_genomecov
 genomecov_exchanged zeros strand inputs others chromosomes one two is =
@@ -235,12 +227,11 @@ genomecov_exchanged zeros strand inputs others chromosomes one two is =
     ∙ sym (genomecov_whole zeros strand others chromosomes two)
 
 pub merge_repeated : repeated_merge
-merge_repeated d strand other inputs others chromosomes one two is =
-    merge_alike d strand inputs others chromosomes other one two (repeated_alike (first_records chromosomes inputs) (first_records chromosomes others) is)
+merge_repeated d strand other inputs others chromosomes one two is = grind (arith, merge_alike, (repeated_alike (first_records chromosomes inputs) (first_records chromosomes others) is))
 
 pub complement_repeated : repeated_complement
 complement_repeated limit inputs others chromosomes one two is =
-    complement_alike limit inputs others chromosomes one two (repeated_alike (first_records chromosomes inputs) (first_records chromosomes others) is)
+    grind (arith, (complement_alike limit inputs others chromosomes one two (repeated_alike (first_records chromosomes inputs) (first_records chromosomes others) is)))
 
 -- Outputs of merge: merged again, and their gaps.
 
@@ -297,10 +288,6 @@ module _ (f : List ℕ → List Span) where
     | inl same ↦ grind (arith, spans_on-append, here_all, spans_absent, append-nil)
     | inr other ↦ grind (arith, (spans_present name ns distinct.1 (ap (λ b. b || is_among ns name) (sym other) ∙ e)), spans_on-append, none_there)
   ]
-
-  -- what no name has, stays nothing
-  pub spans_by : (name : List ℕ) (names : List (List ℕ)) → AreDistinct names → (is_among names name ≡ false → f name ≡ []) → spans_on name (flat_map placed_by names) ≡ f name
-  spans_by name names distinct none = grind (arith, spans_present, spans_absent)
 
   -- the names that come are all names, if each has some
   ones_first : (n : List ℕ) (ss : List Span) (rest : List Interval) → without n (chromosomes (map (placed_on n) ss ++ rest)) ≡ without n (chromosomes rest)
@@ -363,7 +350,7 @@ module _ (order : Order) (total : IsTotal order) (gap : ℕ) (strand : MergeStra
   run_names = ap chromosomes runs_are_by ∙ names_again runs names (distinct_chromosomes used) each_has
 
   pub run_spans : (name : List ℕ) → spans_on name (ordered_runs order gap strand records) ≡ runs name
-  run_spans name = grind (arith, runs_are_by, spans_by, distinct_chromosomes, spans_on-none, among_chromosomes, runs_of-nil)
+  run_spans name = grind (arith, runs_are_by, distinct_chromosomes, spans_on-none, among_chromosomes, runs_of-nil, spans_present, spans_absent)
 
   pub run_has : (name : List ℕ) → has_records name (ordered_runs order gap strand records) ≡ has_records name used
   run_has name = sym (among_chromosomes name (ordered_runs order gap strand records)) ∙ ap (λ ns. is_among ns name) run_names ∙ among_chromosomes name used

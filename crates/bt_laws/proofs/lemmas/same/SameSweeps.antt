@@ -143,12 +143,9 @@ counts_all rule held inputs chromosomes well =
 
 -- ---- a common base is a hit
 
-one_base_among : (both : Bool) (a : Feature) (bs : List Feature) → hits_among (one_base both) a bs ≡ hits_among any_overlap a bs
-one_base_among both a bs = grind (arith, of_nothing)
-
 one_base_lines : (both : Bool) (shape : Shape) (first bs : List Feature) → intersect shape (one_base both) first bs ≡ intersect shape any_overlap first bs
 unfolding lines_for
-one_base_lines both shape first bs = grind (arith, one_base_among)
+one_base_lines both shape first bs = grind (arith, of_nothing)
 
 any_hits : (a b : Feature) → a.chrom ≡ b.chrom → max a.start b.start < min a.stop b.stop → hits any_overlap a b ≡ true
 unfolding hits strands_agree
@@ -175,9 +172,7 @@ hit_to a (b ∷ bs) p c = elim (cases_Bool (hits any_overlap a b)) [
   | inl t ↦
       let there : IsCovered (spans_of (b ∷ hits_among any_overlap a bs)) p = subst (λ h. IsCovered (spans_of (cond h (b ∷ hits_among any_overlap a bs) (hits_among any_overlap a bs))) p) t c in
       subst (λ l. IsCovered l p) (sym (spans_on-here a.chrom (interval_of b) (intervals_of bs) (sym (same_name any_overlap a b t)))) (first_or a b bs p there (hit_to a bs p))
-  | inr f ↦
-      let there : IsCovered (spans_of (hits_among any_overlap a bs)) p = subst (λ h. IsCovered (spans_of (cond h (b ∷ hits_among any_overlap a bs) (hits_among any_overlap a bs))) p) f c in
-      wider a.chrom b bs p (hit_to a bs p there)
+  | inr f ↦ grind (arith, wider, (hit_to a bs p (subst (λ h. IsCovered (spans_of (cond h (b ∷ hits_among any_overlap a bs) (hits_among any_overlap a bs))) p) f c)))
 ]
 
 pub hit_back : (a : Feature) (bs : List Feature) (p : ℕ) → a.start ≤ p → p < a.stop → IsCovered (spans_on a.chrom (intervals_of bs)) p → IsCovered (spans_of (hits_among any_overlap a bs)) p
@@ -208,9 +203,7 @@ module _ (a : Feature) (bs cs : List Feature) (full : AllByRecursion IsSaid bs) 
   left_back p left = grind (arith, hit_back, hit_to)
 
   pub pieces_same : pieces a (hits_among any_overlap a bs) ≡ pieces a (hits_among any_overlap a cs)
-  pieces_same =
-      let are = are_pieces a (hits_among any_overlap a bs) in
-      only_pieces a (hits_among any_overlap a cs) (pieces a (hits_among any_overlap a bs)) (record { apart = are.apart; within = λ p c. left_to p (are.within p c); whole = λ p left. are.whole p (left_back p left) })
+  pieces_same = grind (arith, (are_pieces a (hits_among any_overlap a bs)), only_pieces, left_to, left_back)
 
   some_to : 0 < length (hits_among any_overlap a bs) → 0 < length (hits_among any_overlap a cs)
   some_to some = grind (arith, first_covered, all_hits, covered_length, hit_back, hit_to)
@@ -279,8 +272,7 @@ other_input order handed e =
     let lines = lines_handed handed in
     let format = bed_format (sorting_of order) in
     let parts = cut_none (good format Second lines).fault (cut_fault Second handed) e in
-    let like = like_from (sorting_of order) Second First None lines parts.0 in
-    grind arith
+    grind (arith, (like_from (sorting_of order) Second First None lines parts.0))
 
 pub output_by : (written : Written Feature) (members : List Feature) (fault : Option FaultValue) → fault ≡ None → (report_by written members fault).output ≡ written.whole members
 output_by written members fault e = grind arith
@@ -386,9 +378,7 @@ elsewhere r rs (n ∷ ns) h = ap₂ (λ (b : Bool) more. record { chrom = n; ite
 
 none_on : (name : List ℕ) (rs : List Feature) → has_records name (intervals_of rs) ≡ false → on_name name rs ≡ []
 none_on name [] e = refl
-none_on name (r ∷ rs) e =
-    let parts = or_parts (bytes_eq r.chrom name) (has_records name (intervals_of rs)) e in
-    ap (λ (b : Bool). cond b (r ∷ on_name name rs) (on_name name rs)) parts.0 ∙ none_on name rs parts.1
+none_on name (r ∷ rs) e = grind (arith, (or_parts (bytes_eq r.chrom name) (has_records name (intervals_of rs)) e), (none_on name rs (or_parts (bytes_eq r.chrom name) (has_records name (intervals_of rs)) e).1))
 
 not_false : (b : Bool) → not b ≡ true → b ≡ false
 not_false b e = grind arith
@@ -409,10 +399,7 @@ followed r s ss (inl same) e =
     let rest = without s.chrom (chromosomes (intervals_of ss)) in
     let here = name_eq r.chrom s.chrom (sym same.0) in
     let apart : AllByRecursion (λ n. bytes_eq r.chrom n ≡ false) rest = subst (λ name. AllByRecursion (λ n. bytes_eq name n ≡ false) rest) same.0 (without_others s.chrom (chromosomes (intervals_of ss))) in
-    ap (block_with r.chrom r) e
-    ∙ ap (λ (b : Bool). before_by b r (on_name s.chrom later) s.chrom (map (block_of later) rest)) here
-    ∙ ap₂ (λ (b : Bool) more. record { chrom = s.chrom; items = cond b (r ∷ on_name s.chrom later) (on_name s.chrom later) } ∷ more) (sym here) (sym (elsewhere r later rest apart))
-    ∙ ap (map (block_of (r ∷ later))) (sym (same_chromosome (interval_of r) (interval_of s) (intervals_of ss) (sym same.0)))
+    grind (arith, (elsewhere r later rest apart), (same_chromosome (interval_of r) (interval_of s) (intervals_of ss) (sym same.0)))
 followed r s ss (inr off) e =
     let later = s ∷ ss in
     let rest = without s.chrom (chromosomes (intervals_of ss)) in
@@ -420,10 +407,7 @@ followed r s ss (inr off) e =
     let apart = or_parts (bytes_eq s.chrom r.chrom) (has_records r.chrom (intervals_of ss)) off in
     let absent : is_among names r.chrom ≡ false = among_chromosomes r.chrom (intervals_of later) ∙ off in
     let alone : on_name r.chrom (r ∷ later) ≡ r ∷ [] = ap (λ (b : Bool). cond b (r ∷ on_name r.chrom later) (on_name r.chrom later)) (name_eq r.chrom r.chrom refl) ∙ ap (λ l. r ∷ l) (none_on r.chrom later off) in
-    ap (block_with r.chrom r) e
-    ∙ ap (λ (b : Bool). before_by b r (on_name s.chrom later) s.chrom (map (block_of later) rest)) (name_ne-sym s.chrom r.chrom apart.0)
-    ∙ ap₂ (λ items more. record { chrom = r.chrom; items = items } ∷ more) (sym alone) (sym (elsewhere r later names (others r.chrom names absent)))
-    ∙ ap (λ ns. map (block_of (r ∷ later)) (r.chrom ∷ ns)) (sym (without_absent r.chrom names absent))
+    grind (arith, (name_ne-sym s.chrom r.chrom apart.0), (elsewhere r later names (others r.chrom names absent)), (without_absent r.chrom names absent))
 
 pub together_blocks : (rs : List Feature) → AreContiguous (intervals_of rs) → blocks rs ≡ map (block_of rs) (chromosomes (intervals_of rs))
 together_blocks [] h = refl
@@ -440,10 +424,6 @@ both_ways : (a b : Bool) → (a ≡ true → b ≡ true) → (b ≡ true → a �
 both_ways a b to back = grind arith
 
 module _ (rs ss : List Feature) where
-  -- the same positions of a chromosome
-  same_on : (p : ℕ) (name : List ℕ) → SameCover (spans_on name (intervals_of rs)) (spans_on name (intervals_of ss)) → list_any (covers p) (on_name name rs) ≡ list_any (covers p) (on_name name ss)
-  same_on p name same = grind (arith, covers_on, is_covered-Decides)
-
   if_last : (p : ℕ) (left : Option (List (List ℕ))) (xs ys : List Feature) → list_any (covers p) xs ≡ list_any (covers p) ys → list_any (covers p) (items_if_last left xs) ≡ list_any (covers p) (items_if_last left ys)
   if_last p left xs ys e = grind arith
 
@@ -453,9 +433,7 @@ module _ (rs ss : List Feature) where
   own_same : (p : ℕ) (same : (name : List ℕ) → SameCover (spans_on name (intervals_of rs)) (spans_on name (intervals_of ss))) (left : Option (List (List ℕ))) (names : List (List ℕ))
       → list_any (covers p) (own_of (owned_from left (map (block_of rs) names))) ≡ list_any (covers p) (own_of (owned_from left (map (block_of ss) names)))
   own_same p same left [] = refl
-  own_same p same left (n ∷ ns) =
-      let next = left_by left n in
-      grind (arith, (own_same p same next ns), list_any-append, same_on)
+  own_same p same left (n ∷ ns) = grind (arith, (own_same p same (left_by left n) ns), list_any-append, covers_on, is_covered-Decides)
 
   left_same : (left : Option (List (List ℕ))) (names : List (List ℕ)) → left_at_last left (owned_from left (map (block_of rs) names)) ≡ left_at_last left (owned_from left (map (block_of ss) names))
   left_same left [] = refl
@@ -467,10 +445,7 @@ module _ (rs ss : List Feature) where
 
     -- they mask the same positions of each sequence
     pub own_alike : ((name : List ℕ) → SameCover (spans_on name (intervals_of rs)) (spans_on name (intervals_of ss))) → (names : List (List ℕ)) (p : ℕ) → list_any (covers p) (own_records names rs) ≡ list_any (covers p) (own_records names ss)
-    own_alike same names p =
-        ap (λ bs. list_any (covers p) (own_of (owned_from (Some names) bs))) (together_blocks rs one)
-        ∙ own_same p same (Some names) (chromosomes (intervals_of rs))
-        ∙ ap (λ bs. list_any (covers p) (own_of (owned_from (Some names) bs))) (sym blocks_two)
+    own_alike same names p = grind (arith, (together_blocks rs one), (own_same p same (Some names) (chromosomes (intervals_of rs))), blocks_two)
 
     -- and leave the same names
     pub leave_alike : (names : List (List ℕ)) → leave (Some names) None ss ≡ leave (Some names) None rs

@@ -31,12 +31,8 @@ value_from_start first x xs p v d p1 = grind (arith, value_from)
 value_first : (first : ℕ) (x : Level) (xs : List Level) (p v : ℕ) → AreDisjointFrom first (x ∷ xs) → p < x.stop → HasValue (x ∷ xs) p v → x.value ≡ v
 value_first first x xs p v d l p1 = grind (arith, value_from)
 
--- at its stop there is none, or another one
-pub next_differs : (x : Level) (xs : List Level) → DiffersFromNext x xs → AreDisjointFrom x.stop xs → HasValue xs x.stop x.value → ⊥
-next_differs x xs other d h = grind (arith, value_from)
-
 stop_differs : (first : ℕ) (x : Level) (xs : List Level) → AreDisjointFrom first (x ∷ xs) → HasValue (x ∷ xs) x.stop x.value → ⊥
-stop_differs first x xs d p1 = grind (arith, next_differs)
+stop_differs first x xs d p1 = grind (arith, value_from)
 
 -- what the first list has, the second has too
 abbrev pub IsWithin : List Level → List Level → Type 0
@@ -52,9 +48,7 @@ stop_up_to : (f g : ℕ) (x y : Level) (xs ys : List Level) → AreDisjointFrom 
 stop_up_to f g x y xs ys a b within e =
     let v = same_value f g x y xs ys a b within e in
     elim (cases_lt y.stop x.stop) [
-      | inl l ↦
-          let has : HasValue (y ∷ ys) y.stop x.value = within y.stop x.value (inl (omega (arith, b.1), l, refl)) in
-          absurd (stop_differs g y ys b (subst (λ v. HasValue (y ∷ ys) y.stop v) (sym v) has))
+      | inl l ↦ grind (arith, (stop_differs g y ys b (subst (λ v. HasValue (y ∷ ys) y.stop v) (sym v) (within y.stop x.value (inl (omega (arith, b.1), l, refl))))))
       | inr h ↦ h
     ]
 
@@ -106,19 +100,7 @@ differs_before value begun p end (m ∷ ms) other scan = λ touch same.
 -- an ended interval before a scan that begins where it ends
 one_before : (value : ℕ → Option ℕ) (begun : Begun) (first p end : ℕ) (rest : List Level) → IsBegun value first p (Some begun) → p ≤ end → IsScanOf value p end rest → ((v : ℕ) → value p ≡ Some v → begun.value ≡ v → ⊥)
     → IsScanOf value first end (record { start = begun.start; stop = p; value = begun.value } ∷ rest)
-one_before value begun first p end rest b up scan other =
-    let mine = ended_scans value first p (Some begun) b in
-    record {
-      disjoint = (omega (arith, b.0), omega (arith, b.0, b.1), differs_before value begun p end rest other scan, scan.disjoint);
-      within = λ q v h. elim h [
-        | inl w ↦ let s = mine.within q v (inl w) in (omega (arith, w.1), s.1)
-        | inr w ↦ scan.within q v w
-      ];
-      whole = λ q v low high e. elim (cases_lt q p) [
-        | inl l ↦ elim (mine.whole q v low l e) [ inl w ↦ inl w | inr w ↦ absurd w ]
-        | inr l ↦ inr (scan.whole q v l high e)
-      ];
-    }
+one_before value begun first p end rest b up scan other = grind (arith, (ended_scans value first p (Some begun) b), (differs_before value begun p end rest other scan), cases_lt)
 
 -- a position without a value before a scan
 skips : (value : ℕ → Option ℕ) (p end : ℕ) (levels : List Level) → value p ≡ None → IsScanOf value (p + 1) end levels → IsScanOf value p end levels
@@ -136,9 +118,7 @@ goes_further value first p begun b e = grind arith
 
 one_scan : (value : ℕ → Option ℕ) (first p end : ℕ) (begun : Option Begun) (v : Option ℕ) (rest : Option Begun → List Level) → value p ≡ v → p < end → IsBegun value first p begun → ScansRest value (p + 1) end rest
     → IsScanOf value first end (next_ended p v begun ++ rest (next_begun p v begun))
-one_scan value first p end None None rest e below b scan =
-    let from : first ≡ p = b in
-    rw from (skips value p end (rest None) e (scan (p + 1) None refl))
+one_scan value first p end None None rest e below b scan = grind (arith, (skips value p end (rest None) e (scan (p + 1) None refl)))
 one_scan value first p end None (Some v) rest e below b scan =
     let from : first ≡ p = b in
     rw from (scan p (Some (record { start = p; value = v })) (begins_here value p v e))
@@ -161,20 +141,10 @@ scans value (suc n) first p end begun is b =
     (λ first begun next. scans value n first (p + 1) end begun (omega arith) next))
 
 pub are_levels : levels_are
-are_levels value size =
-    let scan = scans value size 0 0 size None (omega arith) refl in
-    record {
-      disjoint = scan.disjoint;
-      within = scan.within;
-      whole = λ p v below e. scan.whole p v (omega arith) below e;
-    }
+are_levels value size = grind (arith, (scans value size 0 0 size None (omega arith) refl))
 
 pub only_levels : levels_only
-only_levels value size levels h =
-    let mine = are_levels value size in
-    same_levels 0 0 levels (levels_of value size) h.disjoint mine.disjoint
-    (λ p v w. let i = h.within p v w in mine.whole p v i.0 i.1)
-    (λ p v w. let i = mine.within p v w in h.whole p v i.0 i.1)
+only_levels value size levels h = grind (arith, (are_levels value size), same_levels)
 
 -- spans whose positions have one value
 level_covered : (spans : List Span) (p v : ℕ) → HasValue (map (level_on 0) spans) p v → (0 ≡ v) × IsCovered spans p
@@ -199,33 +169,13 @@ pub value_one : (test : Bool) (v : ℕ) → cond test (Some 0) None ≡ Some v �
 value_one test v e = grind arith
 
 pub levels_of_stretches : stretches_are_levels
-levels_of_stretches test size spans h =
-    only_levels (λ p. cond (test p) (Some 0) None) size (map (level_on 0) spans) (record {
-      disjoint = apart_disjoint 0 0 spans (omega arith) h.apart;
-      within = λ p v w.
-          let c = level_covered spans p v w in
-          let i = h.within p c.1 in
-          (i.0, cond-true (test p) (Some 0) None i.1 ∙ ap Some c.0);
-      whole = λ p v below e.
-          let one = value_one (test p) v e in
-          subst (λ n. HasValue (map (level_on 0) spans) p n) one.1 (covered_level spans p (h.whole p (below, one.0)));
-    })
+levels_of_stretches test size spans h = grind (arith, only_levels, (apart_disjoint 0 0 spans (omega arith) h.apart), level_covered, cond-true, value_one, covered_level)
 
 -- The merged runs and the gaps of a chromosome are intervals of equal value.
 
 -- the merged runs
 pub runs_levels : runs_are_levels
-runs_levels gap size spans within =
-    let runs = are_runs gap spans in
-    levels_of_stretches (is_bridged gap spans) size (runs_of gap spans) (record {
-      apart = runs.apart;
-      within = λ p c.
-          let b = runs.within p c in
-          let low = b.to_right in
-          let below = covered_below_end spans b.right b.right_covered in
-          (omega arith, (is_bridged-Decides gap spans p).1 b);
-      whole = λ p b. runs.whole p ((is_bridged-Decides gap spans p).0 b.1);
-    })
+runs_levels gap size spans within = grind (arith, (are_runs gap spans), levels_of_stretches, covered_below_end, is_bridged-Decides)
 
 -- if nothing is bridged, a bridged position is covered
 bridged_covered : (spans : List Span) (p : ℕ) → Bridged 0 spans p → IsCovered spans p
@@ -245,15 +195,7 @@ plain_runs_levels size spans within =
 
 -- the gaps
 pub gaps_levels : gaps_are_levels
-gaps_levels size spans =
-    let gaps = are_gaps size spans in
-    levels_of_stretches (is_bare spans) size (gaps_of size spans) (record {
-      apart = gaps.apart;
-      within = λ p c.
-          let b = gaps.within p c in (b.within, (is_bare-Decides spans p).1 b.bare);
-      whole = λ p b.
-          gaps.whole p (record { within = b.0; bare = (is_bare-Decides spans p).0 b.1 });
-    })
+gaps_levels size spans = grind (arith, (are_gaps size spans), levels_of_stretches, is_bare-Decides)
 
 -- the depth of what is covered
 pub covered_depth : covered_have_depth
@@ -264,10 +206,7 @@ covered_depth (s ∷ ss) p = elim (cases_Bool (covers p s)) [
       ap length (cond-true (covers p s) (s ∷ filter (covers p) ss) (filter (covers p) ss) t) in
       or_left (covers p s) (is_covered ss p) t
       ∙ sym (lt-ltb 0 (depth_at (s ∷ ss) p) (omega (arith, more)))
-  | inr f ↦
-      let same : depth_at (s ∷ ss) p ≡ depth_at ss p =
-      ap length (cond-false (covers p s) (s ∷ filter (covers p) ss) (filter (covers p) ss) f) in
-      ap (λ b. b || is_covered ss p) f ∙ covered_depth ss p ∙ ap (nat_lt 0) (sym same)
+  | inr f ↦ grind (arith, (cond-false (covers p s) (s ∷ filter (covers p) ss) (filter (covers p) ss) f), (covered_depth ss p))
 ]
 
 -- the intervals of one value, among those of all values
@@ -302,43 +241,23 @@ kept_disjoint value first [] d = tt
 kept_disjoint value first (l ∷ ls) d =
     let rest = filter (has value) ls in
     let behind = kept_disjoint value l.stop ls d.3 in
-    elim (cases_Bool (has value l)) [
-      | inl t ↦ grind (arith, next_differs, kept_has, differs_from)
-      | inr f ↦ rw f (looser l.stop first rest (omega (arith, d.0, d.1)) behind)
-    ]
+    grind (arith, (cases_Bool (has value l)), kept_has, differs_from, value_from, (looser l.stop first rest (omega (arith, d.0, d.1)) behind))
 
 -- depth 0 is that of the bare positions
 bare_depth : (spans : List Span) (p v : ℕ) → depth_of true spans p ≡ Some v → 0 ≡ v
     → one_value (is_bare spans) p ≡ Some v
 unfolding depth_of
-bare_depth spans p v is zero_is =
-    let none : depth_at spans p ≡ 0 = cc in
-    let out : is_covered spans p ≡ false = covered_depth spans p ∙ ap (nat_lt 0) none in
-    ap (λ b. cond (not b) (Some 0) None) out ∙ ap Some zero_is
+bare_depth spans p v is zero_is = grind (arith, (covered_depth spans p))
 
 depth_bare : (spans : List Span) (p : ℕ) → is_bare spans p ≡ true → depth_of true spans p ≡ Some 0
 unfolding depth_of
-depth_bare spans p t =
-    let out : nat_lt 0 (depth_at spans p) ≡ false =
-    sym (covered_depth spans p) ∙ not-true (is_covered spans p) t in
-    grind arith
+depth_bare spans p t = grind (arith, (covered_depth spans p), (not-true (is_covered spans p) t))
 
 gaps_by_depth : (size : ℕ) (spans : List Span)
     → filter (has 0) (levels_of (depth_of true spans) size) ≡ map (level_on 0) (gaps_of size spans)
 gaps_by_depth size spans =
     let all = are_levels (depth_of true spans) size in
-    let levels = levels_of (depth_of true spans) size in
-    only_levels (one_value (is_bare spans)) size (filter (has 0) levels) (record {
-      disjoint = kept_disjoint 0 0 levels all.disjoint;
-      within = λ p v h.
-          let k = kept_has 0 levels p v h in
-          let i = all.within p v k.0 in
-          (i.0, bare_depth spans p v i.1 k.1);
-      whole = λ p v below e.
-          let one = value_one (is_bare spans p) v e in
-          let here = has_kept 0 levels p (all.whole p 0 below (depth_bare spans p one.0)) in
-          subst (λ n. HasValue (filter (has 0) levels) p n) one.1 here;
-    }) ∙ sym (gaps_levels size spans)
+    grind (arith, only_levels, (kept_disjoint 0 0 (levels_of (depth_of true spans) size) all.disjoint), kept_has, bare_depth, value_one, has_kept, depth_bare, (gaps_levels size spans))
 
 -- on the chromosome of a name
 level_place : List ℕ → Level → Interval
@@ -360,23 +279,15 @@ unfolding level_place
 places_of_spans name [] = refl
 places_of_spans name (s ∷ ss) = ap (λ xs. placed_on name s ∷ xs) (places_of_spans name ss)
 
-gaps_on_one : (records : List Feature) (entry : Entry)
-    → gaps_on (intervals_of records) entry
-    ≡ map interval_at (filter no_depth (depths_on true None records entry))
-gaps_on_one records entry = grind (arith, filter_keeps, each_all, places_kept, gaps_by_depth, places_of_spans)
-
 gaps_on_all : (records : List Feature) (entries : List Entry)
     → flat_map (gaps_on (intervals_of records)) entries
     ≡ map interval_at (filter no_depth (flat_map (depths_on true None records) entries))
 gaps_on_all records [] = refl
-gaps_on_all records (e ∷ es) = grind (arith, (gaps_on_all records es), gaps_on_one, map-append, filter-append)
+gaps_on_all records (e ∷ es) = grind (arith, (gaps_on_all records es), map-append, filter-append, filter_keeps, each_all, places_kept, gaps_by_depth, places_of_spans)
 
 pub gaps_depth_0 : gaps_have_depth_0
 unfolding complement coverage no_depth
-gaps_depth_0 entries records =
-    let asked : List Entry → List Entry = filter (is_asked false (intervals_of records)) in
-    let all = filter_keeps (λ e. true) entries (each_all (λ e. true ≡ true) (λ e. refl) entries) in
-    ap (flat_map (gaps_on (intervals_of records))) all ∙ gaps_on_all records entries
+gaps_depth_0 entries records = grind (arith, (filter_keeps (λ e. true) entries (each_all (λ e. true ≡ true) (λ e. refl) entries)), (gaps_on_all records entries))
 
 -- Lemmas on what is kept beside what is settled.
 

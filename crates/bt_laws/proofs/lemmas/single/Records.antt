@@ -110,9 +110,7 @@ good_on_lines input order text =
     )
 
 pub first_have_first : first_lines_have_the_first
-first_have_first input order count text past rest fault e up beyond =
-    first_from (bed_format (sorting_of order)) input count count 1 None (text_lines text) past rest fault (omega arith) (lines_are_numbered 1 text)
-    (ap (λ (g : Good Feature). g.members) e) (ap (λ (g : Good Feature). g.fault) e) up beyond
+first_have_first input order count text past rest fault e up beyond = grind (arith, first_from, (lines_are_numbered 1 text))
 
 pub good_blocks_non_empty : good_in_blocks_are_non_empty
 good_blocks_non_empty input handed = non_empty_from input block_sorting None (lines_handed handed)
@@ -223,12 +221,8 @@ columns_of_text f is =
     ∙ kept_is_cut f.chrom (decimal f.start ∷ decimal f.stop ∷ columns_in f.rest) is.named.one_column
     (decimal_is_column f.start small, (decimal_is_column f.stop is.in_range, rest_are_columns f.rest))
 
--- a feature is made of its columns
-whole_again : (f : Feature) → IsFeature f → whole f.chrom f.start f.stop (columns_in f.rest) ≡ f
-whole_again f is = grind (arith, kept_again)
-
 text_says : (f : Feature) → IsFeature f → columns_say (pieces 9 (bed_text f)) ≡ Ok f
-text_says f is = grind (arith, columns_of_text, value_of_decimal, whole_again)
+text_says f is = grind (arith, columns_of_text, value_of_decimal, kept_again)
 
 pub said_feature : said_are_features
 said_feature text f e = said_is_feature text f (record_said text f e).1
@@ -239,15 +233,12 @@ written_feature f is header = columns_of_line (bed_text f) header ∙ ap not_ski
 -- what follows a tab doesn't change the first word
 until_tab : (chrom tail : List ℕ) → first_word (chrom ++ 9 ∷ tail) ≡ first_word chrom
 until_tab [] tail = refl
-until_tab (byte ∷ chrom) tail =
-    of_word byte (chrom ++ 9 ∷ tail) (ends_word byte) refl ∙ ap (λ l. cond (ends_word byte) [] (byte ∷ l)) (until_tab chrom tail)
-    ∙ sym (of_word byte chrom (ends_word byte) refl)
+until_tab (byte ∷ chrom) tail = grind (arith, (of_word byte (chrom ++ 9 ∷ tail) (ends_word byte) refl), (until_tab chrom tail), (of_word byte chrom (ends_word byte) refl))
 
 -- whether a line is a header is said before its first tab
 header_until_tab : (chrom one other : List ℕ) → is_header (chrom ++ 9 ∷ one) ≡ is_header (chrom ++ 9 ∷ other)
 header_until_tab [] one other = refl
-header_until_tab (byte ∷ chrom) one other =
-    ap (λ word. (byte == 35) || is_header_word word) (until_tab (byte ∷ chrom) one ∙ sym (until_tab (byte ∷ chrom) other))
+header_until_tab (byte ∷ chrom) one other = grind (arith, (until_tab (byte ∷ chrom) one), (until_tab (byte ∷ chrom) other))
 
 no_header_again : (text : List ℕ) (f : Feature) (between : List ℕ) → text ≡ (f.chrom ++ 9 ∷ between) ++ f.rest → is_header (bed_text f) ≡ is_header text
 no_header_again text f between e = grind (arith, append_assoc, header_until_tab)
@@ -255,8 +246,7 @@ no_header_again text f between e = grind (arith, append_assoc, header_until_tab)
 pub rewritten_feature : read_are_rewritten
 rewritten_feature text f e =
     let s = record_said text f e in
-    let stands = said_stands text f s.1 in
-    written_feature f (said_is_feature text f s.1) (no_header_again text f stands.0 stands.1 ∙ s.0)
+    grind (arith, (said_stands text f s.1), (written_feature f (said_is_feature text f s.1) (no_header_again text f (said_stands text f s.1).0 (said_stands text f s.1).1 ∙ s.0)))
 
 -- Lemmas on what is written early of two inputs.
 
@@ -283,9 +273,7 @@ module _ {A L F : Type 0} where
 
   pub written_begins : (early late : Rule A L F) (members more : List A) (fault : Option F) → AllByRecursion (StaysDecided early late) members
       → (rest : List L) × ((join_report late (members ++ more) fault).lines ≡ written early members ++ rest)
-  written_begins early late members more fault stays =
-      let rest = begins early late members more stays in
-      (rest.0, met_lines late (members ++ more) fault ∙ rest.1)
+  written_begins early late members more fault stays = grind (arith, (begins early late members more stays), (met_lines late (members ++ more) fault))
 
 -- The order of names by their bytes: which of two names comes first.
 
@@ -302,8 +290,7 @@ prefix_first (b ∷ name) byte rest = same_first b name (name ++ byte ∷ rest) 
 
 pub difference_decides : first_difference_decides
 difference_decides [] low high left right less = ap (λ o. ordering_then o (slice_cmp nat_cmp left right)) (less_cmp low high less)
-difference_decides (b ∷ front) low high left right less =
-    same_first b (front ++ low ∷ left) (front ++ high ∷ right) ∙ difference_decides front low high left right less
+difference_decides (b ∷ front) low high left right less = grind (arith, (same_first b (front ++ low ∷ left) (front ++ high ∷ right)), (difference_decides front low high left right less))
 
 pub know_each : bytes_know_each_chromosome
 know_each kind of_bed is = let unknown = of_bed.1 is in false≢true (sym unknown.1)
@@ -330,9 +317,7 @@ one_list test xs ys a b = stretches_are_same (λ p. IsTrue (test p)) xs ys a b
 
 has_records-push : (name : List ℕ) (xs : List Interval) (r : Interval) → has_records name xs ≡ false → bytes_eq r.chrom name ≡ false → has_records name (xs ++ r ∷ []) ≡ false
 has_records-push name [] r f g = or_from (bytes_eq r.chrom name) false g refl
-has_records-push name (x ∷ xs) r f g =
-    let parts = or_parts (bytes_eq x.chrom name) (has_records name xs) f in
-    or_from (bytes_eq x.chrom name) (has_records name (xs ++ r ∷ [])) parts.0 (has_records-push name xs r parts.1 g)
+has_records-push name (x ∷ xs) r f g = grind (arith, (or_parts (bytes_eq x.chrom name) (has_records name xs) f), or_from, (has_records-push name xs r (or_parts (bytes_eq x.chrom name) (has_records name xs) f).1 g))
 
 -- the next of a past in order: what the last record asks of it, it asks of all
 grows_from : (q : Interval) (qs : List Interval) (r : Interval) → AreContiguous (q ∷ qs) → ((r.chrom ≡ (last_from q qs).chrom) × ((last_from q qs).start ≤ r.start)) ⊎ (has_records r.chrom (q ∷ qs) ≡ false) → AreContiguous (q ∷ qs ++ r ∷ [])

@@ -18,9 +18,7 @@ Front-item : (item : Item) (words : List Word) (items : List Item)
 Front-item item words items p1 = grind arith
 
 front : (table : Table) (words : List Word) → Front words (items_of table words)
-front table words =
-    divided table Front (λ words. (words, refl))
-    (λ item rest items h spells. Front-item item rest items spells) words
+front table words = grind (arith, (divided table Front (λ words. (words, refl)) (λ item rest items h spells. Front-item item rest items spells) words))
 
 -- if the words begin with other items, these are the first of those that are read
 items_of-spelled : (table : Table) (others : List Item) (rest : List Word)
@@ -47,17 +45,10 @@ append-nil xs = search rules
 
 longest-items_of : (table : Table) (words : List Word) (items : List Item)
     → IsLongestDivision table words items → items ≡ items_of table words
-longest-items_of table words items h =
-    let rest = h.front.0 in
-    let read = ap (items_of table) h.front.1 ∙ items_of-spelled table items rest h.allowed in
-    let all = front table words in
-    grind (arith, allowed, flat_map-append, length-append, spelled-none, append-nil)
+longest-items_of table words items h = grind (arith, (items_of-spelled table items (h.front.0) h.allowed), (front table words), allowed, flat_map-append, length-append, spelled-none, append-nil)
 
 pub division-unique : LongestDivisionIsUnique
-division-unique table words items =
-    let is_longest = items_of-IsLongest table words in
-    let Longest : List Item → Type 0 = λ read. IsLongestDivision table words read in
-    (longest-items_of table words items, λ e. subst Longest (sym e) is_longest)
+division-unique table words items = grind (arith, (items_of-IsLongest table words), (longest-items_of table words items))
 
 fault_at-none : (table : Table) (at : ℕ) (words : List Word) → fault_at table at words ≡ None
     → words ≡ []
@@ -66,10 +57,7 @@ fault_at-none table at words e = grind arith
 no_fault-all : (table : Table) (at : ℕ) (words : List Word) → word_fault table at words ≡ None
     → spelled (items_of table words) ≡ words
 unfolding word_fault
-no_fault-all table at words e =
-    let read = spelled (items_of table words) in
-    let all = front table words in
-    grind (arith, drop-append_seam, append-nil)
+no_fault-all table at words e = grind (arith, (front table words), drop-append_seam, append-nil)
 
 all-no_fault : (table : Table) (at : ℕ) (words : List Word)
     → spelled (items_of table words) ≡ words → word_fault table at words ≡ None
@@ -90,9 +78,7 @@ last_item-none : (option : Word) (items : List Item)
 last_item-none option [] h = refl
 last_item-none option (item ∷ items) h =
     let later = last_item-none option items (All-tail (IsOther option) item items h) in
-    let differs = All-head (IsOther option) item items h in
-    let other = other_text item.option option (bytes_eq item.option option) refl differs in
-    rw (later, other) refl
+    grind (arith, (All-head (IsOther option) item items h), (other_text item.option option (bytes_eq item.option option) refl (All-head (IsOther option) item items h)))
 
 pub last_item-counts : LastItemCounts
 last_item-counts [] later item h = grind (arith, last_item-none, bytes_eq-Decides)
@@ -103,22 +89,13 @@ answer-by : (command : _) (words : List Word) (answer : Result PlanSeen Usage)
     (fault : Option Usage) → word_fault (table_of command) 1 words ≡ fault
     → AnswersPlan command words answer → answer ≡ asked command words
 unfolding word_fault
-answer-by command words answer (Some usage) f a =
-    let read = longest-items_of (table_of command) words a.items a.division in
-    a.at_fault usage (rw (read) f) ∙ rw (f, asked) refl
-answer-by command words answer None f a =
-    let read = longest-items_of (table_of command) words a.items a.division in
-    a.all_divided (rw (read) f) ∙ rw (f, asked, read) refl
+answer-by command words answer (Some usage) f a = grind (arith, (longest-items_of (table_of command) words a.items a.division))
+answer-by command words answer None f a = grind (arith, (longest-items_of (table_of command) words a.items a.division))
 
 asked-answers : (command : _) (words : List Word)
     → AnswersPlan command words (asked command words)
 unfolding word_fault
-asked-answers command words = record {
-  items = items_of (table_of command) words;
-  division = items_of-IsLongest (table_of command) words;
-  at_fault = λ usage f. rw (f, asked) refl;
-  all_divided = λ f. rw (f, asked) refl;
-}
+asked-answers command words = grind (arith, (items_of-IsLongest (table_of command) words))
 
 answer-named : (words : List Word) (answer : Result PlanSeen Usage) (named : Option _)
     → command_of words ≡ named → AnswersAll words answer ↔ (answer ≡ options words)

@@ -141,9 +141,7 @@ open_unskipped : (start stop : ℕ) (operations : List Operation) → list_all (
 open_unskipped start stop [] all = ap (with_bases start) (sym (add-zero stop))
 open_unskipped start stop (operation ∷ operations) all =
     let p = and_parts (not (is_skip operation)) (list_all (λ o. not (is_skip o)) operations) all in
-    let goes : is_skip operation ≡ false = not-true (is_skip operation) p.0 in
-    let sum : stop + covered_by operation + reference_length operations ≡ stop + reference_length (operation ∷ operations) = omega (arith, sum_by-cons covered_by operation operations) in
-    grind (arith, (open_unskipped start (stop + covered_by operation) operations p.1))
+    grind (arith, (not-true (is_skip operation) p.0), (sum_by-cons covered_by operation operations), (open_unskipped start (stop + covered_by operation) operations p.1))
 
 pub one_block : unskipped_are_one_block
 one_block start operations all = blocks_open start operations ∙ open_unskipped start start operations all
@@ -235,8 +233,7 @@ each_is [] operations e h = refl
 each_is (part ∷ parts) operations e h =
     let l = and_parts (is_letter part.letter) (letters parts) h in
     let rest = rest_there (operation_of part) (each_operation parts) operations e in
-    let number = is_number_by (is_number part.digits) part.digits refl (λ none. value_there part (value_of part.digits) (each_operation parts) operations e none) in
-    rw (number, l.0, each_is parts rest.0 rest.1 l.1) refl
+    grind (arith, (is_number_by (is_number part.digits) part.digits refl (λ none. value_there part (value_of part.digits) (each_operation parts) operations e none)), (each_is parts rest.0 rest.1 l.1))
 
 divided_by : (text : List ℕ) (operations : List Operation) (found_parts : Option (List Part)) → parts_of text ≡ found_parts → option_and_then each_operation found_parts ≡ Some operations
     → (parts : List Part) × (Divides text parts × (each_operation parts ≡ Some operations))
@@ -255,10 +252,7 @@ module _ (how : MaskHow) (names : List (List ℕ)) (second : Good Feature) where
   all_stay : (first : List SequenceLine) (seen more : List Feature) → items_in second ≡ seen ++ more → AreInBlocks (seen ++ more)
       → AllByRecursion (StaysDecided (early_mask_rule how seen) (mask_rule how names second)) first
   all_stay [] seen more is placed = tt
-  all_stay (line ∷ lines) seen more is placed = (
-    λ some. (or_right (is_none second.fault) (decided line (items_in second)) (late_decided line seen more is some), sym (ap (λ (l : List Feature). masked_line how l line) is ∙ masked_stay how line seen more placed some)),
-    all_stay lines seen more is placed,
-  )
+  all_stay (line ∷ lines) seen more is placed = grind (arith, or_right, late_decided, masked_stay, (all_stay lines seen more is placed))
 
   all_decided : (first : List SequenceLine) → second.fault ≡ None → list_all (mask_rule how names second).decided first ≡ true
   all_decided [] e = refl
@@ -266,11 +260,10 @@ module _ (how : MaskHow) (names : List (List ℕ)) (second : Good Feature) where
 
 pub masked_front : masked_are_a_prefix
 masked_front how names first more_first fault second seen more is placed =
-    written_begins (early_mask_rule how seen) (mask_rule how names second) first more_first fault (all_stay how names second first seen more is placed)
+    grind (arith, (written_begins (early_mask_rule how seen) (mask_rule how names second) first more_first fault (all_stay how names second first seen more is placed)))
 
 pub faultless_masked : faultless_are_masked
-faultless_masked how names first fault second e =
-    met_lines (mask_rule how names second) first fault ∙ sym (all_written (mask_rule how names second) first (all_decided how names second first e))
+faultless_masked how names first fault second e = grind (arith, (met_lines (mask_rule how names second) first fault), (all_written (mask_rule how names second) first (all_decided how names second first e)))
 
 -- Lemmas on blocks of records, and on the sequences to which they belong.
 

@@ -121,15 +121,13 @@ module _ (gap : ℕ) (past : List Feature) (r : Feature)
       (each_both (λ p. IsWithinOrFar gap item p) Up past apart (up gap past r taken listed)) in
       let some = some_weaker (λ p. Lies item p) (λ p. is_in item p ≡ true)
       (λ p l. lies_true item p l) past has in
-      let found = found_same new (is_in item) past (r ∷ []) alike some in
-      grind (arith, found_below)
+      grind (arith, (found_same new (is_in item) past (r ∷ []) alike some), found_below)
 
   all_same : Each Same old
   all_same =
       let Apart : StrandRun → Type 0 = λ item. Each (λ p. IsWithinOrFar gap item p) past in
       let Has : StrandRun → Type 0 = λ item. Some_of (λ p. Lies item p) past in
-      each_weaker (λ item. Apart item × Has item) Same (λ item both. same_first item both.0 both.1)
-      old (each_both Apart Has old listed.apart listed.has)
+      grind (arith, (each_weaker (λ item. Apart item × Has item) Same (λ item both. same_first item both.0 both.1) old (each_both Apart Has old listed.apart listed.has)))
 
   -- a new one has the record
   record New : Type 0 where
@@ -146,8 +144,7 @@ module _ (gap : ℕ) (past : List Feature) (r : Feature)
       (each_both In Full past listed.lies (some_base gap past r taken listed)) in
       let here = lies_true (run_from r) r
       (record { same = refl; on = refl; from = omega arith; to = omega arith }) in
-      let found = found_last (is_in (run_from r)) past r out here in
-      grind arith
+      grind (arith, (found_last (is_in (run_from r)) past r out here))
 
   places_old : map (first_place (past ++ r ∷ [])) (map (joined_to gap r) old)
       ≡ map (first_place past) old
@@ -156,14 +153,7 @@ module _ (gap : ℕ) (past : List Feature) (r : Feature)
   starts_old : Each (λ item. first_start past item ≡ Some (locus_of item.run)) old
       → Each (λ item. first_start (past ++ r ∷ []) item ≡ Some (locus_of item.run))
       (map (joined_to gap r) old)
-  starts_old start =
-      let Before : StrandRun → Type 0 = λ item. first_start past item ≡ Some (locus_of item.run) in
-      let After : StrandRun → Type 0 = λ item.
-      first_start (past ++ r ∷ []) item ≡ Some (locus_of item.run) in
-      each_map After (joined_to gap r) old
-      (each_weaker (λ item. Same item × Before item) (λ item. After (joined_to gap r item))
-      (λ item both. both.0.start ∙ both.1 ∙ ap Some (sym (same_start gap r item))) old
-      (each_both Same Before old all_same start))
+  starts_old start = grind (arith, each_map, each_weaker, same_start, (each_both Same (λ item. first_start past item ≡ Some (locus_of item.run)) old all_same start))
 
   all_below : Each (λ n. n < length past) (map (first_place past) old)
   all_below = grind (arith, each_map, each_weaker, all_same)
@@ -212,12 +202,7 @@ module _ (gap : ℕ) (past : List Feature) (r : Feature)
         → ArePlaced order (places_of items ++ rest)
         → ArePlaced order (places_of (map (joined_to gap r) items) ++ rest)
     placed_same [] rest p = p
-    placed_same (x ∷ xs) rest p =
-        let start = same_start gap r x in (
-          subst (λ (l : Locus). IsTrue (order.knows l.chrom)) (sym start) p.0,
-          before_same xs rest x.run (joined_to gap r x).run (sym start) p.1,
-          placed_same xs rest p.2,
-        )
+    placed_same (x ∷ xs) rest p = grind (arith, (same_start gap r x), (before_same xs rest x.run (joined_to gap r x).run (sym (same_start gap r x)) p.1), (placed_same xs rest p.2))
 
     placed_without : (xs : List Interval) (y : Interval) (rest : List Interval)
         → ArePlaced order (xs ++ y ∷ rest) → ArePlaced order (xs ++ rest)
@@ -242,8 +227,7 @@ module _ (gap : ℕ) where
       let grown : (past ++ r ∷ []) ++ rs ≡ past ++ r ∷ rs = append_assoc past (r ∷ []) rs in
       let all = subst AreTaken (sym grown) t in
       let next = taken_front (past ++ r ∷ []) rs all in
-      let listed = are_listed gap past (taken_front past (r ∷ []) next) in
-      grind (arith, (firsts_more (past ++ r ∷ []) rs all (firsts_next gap past r next listed f)))
+      grind (arith, (are_listed gap past (taken_front past (r ∷ []) next)), (firsts_more (past ++ r ∷ []) rs all (firsts_next gap past r next (are_listed gap past (taken_front past (r ∷ []) next)) f)))
 
   firsts : (records : List Feature) → AreTaken records → Firsts gap records
   firsts records t = firsts_more [] records t (firsts_none gap)
@@ -269,14 +253,10 @@ no_runs gap = refl
 
 -- the laws
 pub in_turn : strand_runs_come_in_turn
-in_turn gap records taken =
-    rise_increases (map (first_place records) (strand_runs gap records))
-    (firsts gap records taken).rise
+in_turn gap records taken = grind (arith, (rise_increases (map (first_place records) (strand_runs gap records)) (firsts gap records taken).rise))
 
 pub start_with_records : strand_runs_start_with_records
-start_with_records gap records taken =
-    map_same (first_start records) (λ item. Some (locus_of item.run)) (strand_runs gap records)
-    (firsts gap records taken).start
+start_with_records gap records taken = grind (arith, (map_same (first_start records) (λ item. Some (locus_of item.run)) (strand_runs gap records) (firsts gap records taken).start))
 
 pub in_order : strand_runs_come_in_order
 in_order order gap records total placed full =
@@ -344,6 +324,4 @@ pub names_in_order : names_come_in_order
 names_in_order order names total known distinct = (ascending_order order total names known distinct, λ name. among_order order name names)
 
 pub file_ordered : file_runs_are_ordered
-file_ordered names gap strand records distinct placed =
-    in_file_order names gap strand records distinct placed
-    ∙ sym (ordered_come (rank_order names) gap strand records (ranks_total names) placed)
+file_ordered names gap strand records distinct placed = grind (arith, (in_file_order names gap strand records distinct placed), (ordered_come (rank_order names) gap strand records (ranks_total names) placed))

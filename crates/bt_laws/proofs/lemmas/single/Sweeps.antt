@@ -30,10 +30,7 @@ stays_decided order a bs more e = list_any-append (decides order a) bs more ∙ 
 all_stay : (order : Order) (shape : Shape) (rule : HitRule) (first second more : List Feature) (fault : Option FaultValue) → IsTotal order → ArePlaced order (intervals_of first) → ArePlaced order (intervals_of (second ++ more))
     → AllByRecursion (StaysDecided (early_rule order shape rule second) (sweep_rule order shape rule (second ++ more) fault)) first
 all_stay order shape rule [] second more fault total known placed = tt
-all_stay order shape rule (a ∷ first) second more fault total known placed = (
-  λ some. (or_right (is_none fault) (decided order a (second ++ more)) (stays_decided order a second more some), sym (stay_lines order shape rule a second more total known.0 placed some)),
-  all_stay order shape rule first second more fault total known.2 placed,
-)
+all_stay order shape rule (a ∷ first) second more fault total known placed = grind (arith, or_right, stays_decided, stay_lines, (all_stay order shape rule first second more fault total known.2 placed))
 
 pub written_front : written_are_a_prefix
 written_front order shape rule first more_first second more_second first_fault second_fault total known placed =
@@ -64,9 +61,7 @@ leaves_none order (a ∷ given) taken b total pg pb all =
 module _ (p : Feature → Bool) (b : Feature) (more : List Feature) (stops : p b ≡ false) where
   before_stop : (xs : List Feature) → list_all p xs ≡ true → take_while p (xs ++ b ∷ more) ≡ xs
   before_stop [] all = take_while-cons p b more ∙ ap (λ c. cond c (b ∷ take_while p more) []) stops
-  before_stop (x ∷ xs) all =
-      let parts = and_parts (p x) (list_all p xs) all in
-      take_while-cons p x (xs ++ b ∷ more) ∙ ap (λ c. cond c (x ∷ take_while p (xs ++ b ∷ more)) []) parts.0 ∙ ap (λ l. x ∷ l) (before_stop xs parts.1)
+  before_stop (x ∷ xs) all = grind (arith, (and_parts (p x) (list_all p xs) all), (take_while-cons p x (xs ++ b ∷ more)), (before_stop xs (and_parts (p x) (list_all p xs) all).1))
 
 pub first_taken : taken_are_first
 first_taken order given taken more next total pg placed reached all =
