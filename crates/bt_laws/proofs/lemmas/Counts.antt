@@ -172,7 +172,7 @@ no_entries (r ∷ rs) = let cons = sum_by-cons (bases_in []) r rs in let more = 
 one_entry : (entry : Entry) (entries : List Entry) (rs : List Interval) → is_among (genome_names entries) entry.name ≡ false
     → sum_by (below entry.length) (spans_on entry.name rs) + sum_by (bases_in entries) rs ≡ sum_by (bases_in (entry ∷ entries)) rs
 one_entry entry entries [] absent = refl
-one_entry entry entries (r ∷ rs) absent = grind (arith, common_steps, (one_entry entry entries rs absent), cases_name, name_eq, absent_size)
+one_entry entry entries (r ∷ rs) absent = grind (arith, common_steps, (one_entry entry entries rs absent), cases_name, absent_size)
 
 module _ (strand : Option Strand) (records : List Feature) where
   abbrev used : List Feature
@@ -180,7 +180,7 @@ module _ (strand : Option Strand) (records : List Feature) where
 
   entries_sum : (entries : List Entry) → AreDistinct (genome_names entries) → sum_by depth_bases (flat_map (depths_on false strand records) entries) ≡ sum_by (bases_in entries) (intervals_of used)
   entries_sum [] distinct = sym (no_entries (intervals_of used))
-  entries_sum (entry ∷ entries) distinct = grind (arith, (entries_sum entries distinct.1), sum_by-append, level_sum, one_entry, common_steps)
+  entries_sum (entry ∷ entries) distinct = grind (arith, (entries_sum entries distinct.1), level_sum, one_entry, common_steps)
 
 features_sum : (entries : List Entry) (rs : List Feature) → sum_by (bases_in entries) (intervals_of rs) ≡ sum_by (bases_below entries) rs
 features_sum entries rs = grind (arith, common_steps)
@@ -248,11 +248,7 @@ module _ (rule : HitRule) (even : IsMutual rule) where
 
   one_more : (a : Feature) (as_read : List Feature) (b : Feature) → turned_of b (a ∷ as_read) ≡ one_pair a b ++ turned_of b as_read
   unfolding one_pair
-  one_more a as_read b =
-      elim (hits rule b a) as (λ h. map (λ (a : Feature). record { left = b; right = a }) (cond h (a ∷ filter (hits rule b) as_read) (filter (hits rule b) as_read)) ≡ cond h (record { left = b; right = a } ∷ []) [] ++ turned_of b as_read) [
-        | true ↦ refl
-        | false ↦ refl
-      ]
+  one_more a as_read b = grind arith
 
   all_more : (a : Feature) (as_read bs : List Feature) → flat_map (λ b. turned_of b (a ∷ as_read)) bs ≡ flat_map (λ b. one_pair a b ++ turned_of b as_read) bs
   all_more a as_read bs = grind (arith, one_more)

@@ -53,7 +53,7 @@ rank_none xs name e = none_by (rank_of xs name) (among_ranked xs name ∙ e)
 -- the rank of a name that isn't among the first names
 pub rank_behind : (xs ys : List (List ℕ)) (name : List ℕ) → is_among xs name ≡ false → rank_of (xs ++ ys) name ≡ shifted (length xs) (rank_of ys name)
 rank_behind [] ys name e = sym (shift_none (rank_of ys name))
-rank_behind (x ∷ xs) ys name e = grind (arith, (or_parts (bytes_eq x name) (is_among xs name) e), (rank_behind xs ys name (or_parts (bytes_eq x name) (is_among xs name) e).1))
+rank_behind (x ∷ xs) ys name e = grind (arith, (rank_behind xs ys name (or_parts (bytes_eq x name) (is_among xs name) e).1))
 
 -- of one that isn't among the later ones
 pub rank_before : (xs ys : List (List ℕ)) (name : List ℕ) → is_among ys name ≡ false → rank_of (xs ++ ys) name ≡ rank_of xs name
@@ -125,7 +125,7 @@ module _ (xs ys : List (List ℕ)) where
       let i = known_rank (rank_of xs a) (among_ranked xs a ∙ one) in
       let j = known_rank (rank_of ys b) (among_ranked ys b ∙ two) in
       let low = rank_low xs a i.0 i.1 in
-      grind (arith, (rank_first xs ys a one), (rank_behind xs ys b (no_first distinct b two)), (cmp_less i.0 (length xs + j.0) (omega arith)))
+      grind (arith, (rank_first xs ys a one), (rank_behind xs ys b (no_first distinct b two)))
 
 -- ---- records of parts
 
@@ -202,7 +202,7 @@ none_found name (x ∷ xs) ys e = by_first (bytes_eq x name) e (none_found name 
 
 pub off_found : (name : List ℕ) (xs : Names) → is_among xs name ≡ false → sequences_behind name xs ≡ None
 off_found name [] e = refl
-off_found name (x ∷ xs) e = grind (arith, (or_parts (bytes_eq x name) (is_among xs name) e), (off_found name xs (or_parts (bytes_eq x name) (is_among xs name) e).1))
+off_found name (x ∷ xs) e = grind (arith, (off_found name xs (or_parts (bytes_eq x name) (is_among xs name) e).1))
 
 -- what isn't among names isn't among those after one of them
 pub off_behind : (name other : List ℕ) (xs now : Names) → is_among xs name ≡ false → sequences_behind other xs ≡ Some now → (is_among now name ≡ false) × (bytes_eq other name ≡ false)

@@ -227,7 +227,7 @@ module _ (how : MaskHow) (full : Bool) where
 
   -- and this is reported
   pub lacks_kind : (texts : Texts) → Lacks texts → option_map (λ fault. fault.kind) (report_on texts).fault ≡ Some NoSequence
-  lacks_kind texts lacks = grind (arith, met_fault_all, (lacks_decided texts lacks), (told_lost (N texts.first) (B texts.second).members lacks.lost))
+  lacks_kind texts lacks = grind (arith, (lacks_decided texts lacks), (told_lost (N texts.first) (B texts.second).members lacks.lost))
 
   module _ (one two : Texts) (are : AreTwo how full one two) (off_two : MasksNone full one two) (off_one : MasksNone full two one) where
     abbrev both : Texts
@@ -284,11 +284,8 @@ module _ (how : MaskHow) (full : Bool) where
       unnamed : AllByRecursion (λ line. is_unnamed line.names ≡ true) (items_in (F one.first))
       unnamed = unnamed_from full First (sequence_format full).begin (text_lines one.first) fault e
 
-      unnamed_output : (names : List (List ℕ)) (second : Good Feature) → (join_report (mask_rule how names second) (items_in (F one.first)) (F one.first).fault).lines ≡ flat_map (masked_line how []) (items_in (F one.first))
-      unnamed_output names second = grind (arith, all_true, all_so, unnamed, flat_map_same, unnamed_own)
-
       stops_unnamed : (report_on one).output ≡ (report_on both).output
-      stops_unnamed = grind (arith, unnamed_output, same_lines)
+      stops_unnamed = grind (arith, same_lines, all_true, all_so, unnamed, flat_map_same, unnamed_own)
 
     -- ---- its records have sequences
 
@@ -428,7 +425,7 @@ module _ (how : MaskHow) (full : Bool) where
         either (Some fault) e [] is = before_second fault e is
 
         pub stops_sound : (report_on one).fault ≡ None → Stops (report_on one) (report_on two) (report_on both)
-        stops_sound none = grind (arith, (either (B two.second).fault refl (R two.second) refl), (unless_none (report_on one).fault (report_on two).output none))
+        stops_sound none = grind (arith, (either (B two.second).fault refl (R two.second) refl))
 
     -- ---- any fault of the first part
 

@@ -56,9 +56,7 @@ module _ (gap : ℕ) where
   pub passed_all : (last : Interval) (names : List (List ℕ)) (xs : List Interval) → AllByRecursion (λ n. bytes_eq n last.chrom ≡ false) names → filter (is_closed gap last) (merged names gap xs) ≡ merged names gap xs
   unfolding merged
   passed_all last [] xs h = refl
-  passed_all last (n ∷ names) xs h =
-      filter-append (is_closed gap last) (runs_on n gap xs) (flat_map (λ name. runs_on name gap xs) names)
-      ∙ ap₂ (λ a b. a ++ b) (placed_elsewhere gap last n (runs_of gap (spans_on n xs)) h.0) (passed_all last names xs h.1)
+  passed_all last (n ∷ names) xs h = grind (arith, (passed_all last names xs h.1), filter-append, placed_elsewhere)
 
   module _ (strand : MergeStrand) where
     pub runs_both : (ones twos : List Feature) → Away (intervals_of ones) (intervals_of twos) → merged_runs gap strand (ones ++ twos) ≡ merged_runs gap strand ones ++ merged_runs gap strand twos
@@ -90,8 +88,7 @@ module _ (gap : ℕ) where
           append-nil (interval_lines (merged_runs gap strand ones)) ∙ ap interval_lines front.1 ∙ flat_map-append interval_line _ front.0
               ∙ ap (λ rs. interval_lines (passed_by gap (merged_runs gap strand rs) (last_of (intervals_of rs))) ++ interval_lines front.0) (sym (append-nil ones)),
         )
-    begin_by ones (s ∷ twos) taken away =
-        ([], sym (append-nil _ ∙ ap interval_lines (passed_both ones s twos away) ∙ flat_map-append interval_line (merged_runs gap strand ones) _))
+    begin_by ones (s ∷ twos) taken away = grind (arith, append-nil, passed_both, flat_map-append)
 
     module _ (order : Order) (total : IsTotal order) (ones twos : List Feature) (one : ArePlaced order (intervals_of ones)) (two : ArePlaced order (intervals_of twos))
         (full : AreNonEmpty (intervals_of ones)) (early : Earlier order total ones twos) where

@@ -275,7 +275,7 @@ module _ (command : Command) (shape : Shape) (rule : HitRule)
       all_both _ (said_records shard.texts.first) (said_records shard.texts.second) (lies shard.entries whole First shard.texts.first none.0) (lies shard.entries whole Second shard.texts.second none.1)
 
   pairs_suffice : PairShardsSuffice command
-  pairs_suffice genome shards are all = grind (arith, (all_zip _ _ _ shards (λ shard has e. pair_lies (pair_entries shards) shard has e) are.parts (all_unmap _ _ shards all)), add_suffices)
+  pairs_suffice genome shards are all = grind (arith, (all_zip _ _ _ shards (λ shard has e. pair_lies (pair_entries shards) shard has e) are.parts (all_unmap _ _ shards all)))
 
 pub intersect_suffice : intersect_shards_suffice
 intersect_suffice shape rule = pairs_suffice (Intersect shape rule None) shape rule (λ genome entries has texts. intersect_is (Some genome) (Some entries) has shape rule texts) (intersect_genome_parts shape rule)

@@ -112,5 +112,4 @@ splits_as one two whole one_too two_too whole_too ones twos a b c d e f g splits
 
 -- a prefix of what one part writes
 pub prefixes_begin_whole : prefixes_begin
-prefixes_begin_whole before later part whole front rest add none is =
-    grind (arith, common_steps, (flat_map-append (λ (p : Report). p.output) before (part ∷ later)), (append_assoc front rest (flat_map (λ (p : Report). p.output) later)))
+prefixes_begin_whole = grind (arith, flat_map-append, append_assoc)

@@ -78,8 +78,7 @@ named_more [] more e = e
 named_more (n ∷ ns) more e = refl
 
 stands : (names : List (List ℕ)) (text : List ℕ) → is_unnamed names ≡ false → may_stand names text ≡ true
-stands [] text e = cc
-stands (n ∷ ns) text e = refl
+stands names text e = grind arith
 
 module _ (full : Bool) (input : Input) where
   abbrev Fasta : Format SequenceLine Reached
@@ -100,7 +99,7 @@ module _ (full : Bool) (input : Input) where
 
   header_moves : (names : List (List ℕ)) (s : Reached) (line : TextLine) → is_header line.text ≡ true → Moves names s line
   header_moves names s line e =
-      grind (arith, (says_header s line e), (says_header (reached_after names s) line e), (append_assoc names s.names (name_in full line.text ∷ [])), (named_behind s.names (name_in full line.text)))
+      grind (arith, (says_header s line e), (append_assoc names s.names (name_in full line.text ∷ [])))
 
   moves_by : (names : List (List ℕ)) (s : Reached) (line : TextLine) → is_unnamed s.names ≡ false → (h : Bool) → is_header line.text ≡ h → Moves names s line
   moves_by names s line named true e = header_moves names s line e
@@ -122,7 +121,7 @@ module _ (full : Bool) (input : Input) where
   moved_header : (r : Reached) (ls : List TextLine) → BeginsAtHeader ls → AreMoved r.names (good_from Fasta input r ls) (good_from Fasta input Fasta.begin ls)
   unfolding good_from
   moved_header r [] h = record { items = refl; none = refl; same = refl; named = tt }
-  moved_header r (l ∷ ls) h = grind (arith, moved_with, (says_header Fasta.begin l h), (says_header r l h), (moved_from r.names (Fasta.after Fasta.begin (header_behind full Fasta.begin l)) ls refl))
+  moved_header r (l ∷ ls) h = grind (arith, (moved_from r.names (Fasta.after Fasta.begin (header_behind full Fasta.begin l)) ls refl))
 
   -- if a line is at fault, no line before it has a sequence
   unnamed_with : (s : Reached) (l : TextLine) (rest : Reached → Good SequenceLine) (fault : FaultValue)

@@ -151,11 +151,7 @@ module _ {T : Type 0} (chrom : T → List ℕ) (ends : Interval → T → Bool) 
     begin_by : (ones twos : List Feature) → AllByRecursion (λ r. is_among One-names r.chrom ≡ true) (intervals_of ones) → AllByRecursion (λ r. is_among Two-names r.chrom ≡ true) (intervals_of twos)
         → ((rest : List T) × (whole_of e_one ones ≡ settled_of e_one ones ++ rest))
         → (rest : List ℕ) × (flat_map line (whole_of e_one ones) ++ flat_map line (settled_of e_two twos) ≡ flat_map line (settled_of (e_one ++ e_two) (ones ++ twos)) ++ rest)
-    begin_by ones [] in_one in_two begins = (
-      flat_map line begins.0,
-      append-nil (flat_map line (whole_of e_one ones)) ∙ ap (flat_map line) begins.1 ∙ lines_both (settled_of e_one ones) begins.0
-          ∙ ap (λ l. flat_map line l ++ flat_map line begins.0) (sym (settled_first ones in_one) ∙ ap (settled_of (e_one ++ e_two)) (sym (append-nil ones))),
-    )
+    begin_by ones [] in_one in_two begins = grind (arith, (append-nil (flat_map line (whole_of e_one ones))), (lines_both (settled_of e_one ones) begins.0), (settled_first ones in_one), (append-nil ones))
     begin_by ones (s ∷ twos) in_one in_two begins = grind (arith, append-nil, settled_both, lines_both)
 
     pub chromosomes_split : (ones twos : List Feature) → AllByRecursion (λ r. is_among One-names r.chrom ≡ true) (intervals_of ones) → AllByRecursion (λ r. is_among Two-names r.chrom ≡ true) (intervals_of twos)
@@ -230,7 +226,7 @@ module _ (limit : Bool) where
   gaps_second ones twos e none = grind (arith, map-append, has_append, spans_second)
 
   gaps_begin : (entries : List Entry) (ones : List Feature) → AreTaken entries ones → (rest : List Interval) × (whole_of gap_chrom gap_ends interval_line gaps_here entries ones ≡ settled_of gap_chrom gap_ends interval_line gaps_here entries ones ++ rest)
-  gaps_begin entries ones taken = grind (arith, begins, (settles_gaps limit entries), (append-nil ones), (complement_is entries ones), (gaps_settled entries ones))
+  gaps_begin entries ones taken = grind (arith, (settles_gaps limit entries), (complement_is entries ones), (gaps_settled entries ones))
 
   pub gaps_split : (e_one e_two : List Entry) (ones twos : List Feature) → OwnParts e_one e_two ones twos → Splits (complement_written e_one limit) (complement_written e_two limit) (complement_written (e_one ++ e_two) limit) ones twos
   gaps_split e_one e_two ones twos own =
@@ -282,7 +278,7 @@ module _ (zeros : Bool) (strand : Option Strand) where
   depths_second ones twos e none = grind (arith, counted_both, spans_second, fewer)
 
   depths_begin : (entries : List Entry) (ones : List Feature) → AreTaken entries ones → (rest : List DepthInterval) × (whole_of depth_chrom depth_ends depth_line depths_here entries ones ≡ settled_of depth_chrom depth_ends depth_line depths_here entries ones ++ rest)
-  depths_begin entries ones taken = grind (arith, begins, (settles_depths zeros strand entries), (append-nil ones), (coverage_is entries ones), (depths_settled entries ones))
+  depths_begin entries ones taken = grind (arith, (settles_depths zeros strand entries), (coverage_is entries ones), (depths_settled entries ones))
 
   pub depths_split : (e_one e_two : List Entry) (ones twos : List Feature) → OwnParts e_one e_two ones twos → Splits (coverage_written e_one zeros strand) (coverage_written e_two zeros strand) (coverage_written (e_one ++ e_two) zeros strand) ones twos
   depths_split e_one e_two ones twos own =
@@ -332,7 +328,7 @@ pub file_is : (result : Result (List Entry) FaultValue) (entries : List Entry) �
 file_is result entries e = grind arith
 
 pub distinct_in : (genome : Handed) (entries : List Entry) → chromosomes_of (Some genome) ≡ Ok (Some entries) → AreDistinct (genome_names entries)
-distinct_in genome entries e = grind (arith, distinct_genome, (cut_none (cut_fault Genome genome) (genome_of Genome (lines_handed genome)) entries (file_is (genome_handed Genome genome) entries e)))
+distinct_in genome entries e = grind (arith, distinct_genome)
 
 module _ (W : List Entry → Written Feature) (command : Command)
     (is : (entries : List Entry) (text : List ℕ) → report_on command (Ok (Some entries)) (whole_text text) None ≡ good_report (W entries) (good (bed_format (sorting_of (rank_order (genome_names entries)))) First (text_lines text)))

@@ -148,7 +148,7 @@ module _ (order : Order) (total : IsTotal order) (shape : Shape) (rule : HitRule
   lines_both = grind (arith, flat_map-append, flat_map_same, all_so, lines_first, lines_second)
 
   none_second : AllByRecursion (λ a. AllByRecursion (λ b. decides order a b ≡ false) bones) atwos
-  none_second = grind (arith, all_so, earlier_leaves, (all_swapped (λ b a. order.compare b.chrom a.chrom ≡ Less) bones atwos split.second_first))
+  none_second = grind (arith, all_so, (all_swapped (λ b a. order.compare b.chrom a.chrom ≡ Less) bones atwos split.second_first))
 
   -- the first of the others decides all before it
   first_decided : (b : Feature) (bs : List Feature) → btwos ≡ b ∷ bs → AllByRecursion (λ a. decided order a (bones ++ btwos) ≡ true) aones

@@ -97,7 +97,7 @@ module _ (order : Order) (total : IsTotal order) where
 
   module _ (d : ℕ) (strand : MergeStrand) (one two : List ℕ) (ends : StandsBefore one two) (before : ComeBefore order (said_records one) (said_records two)) where
     pub merge_joins : Joins (merge_report d strand one) (merge_report d strand two) (merge_report d strand (one ++ two))
-    merge_joins = grind (arith, common_steps, good_joins, (bed_joint order total one two before First ends), (merge_split d strand one two (good_earlier order total one two before First First)))
+    merge_joins = grind (arith, common_steps, (bed_joint order total one two before First ends), (merge_split d strand one two (good_earlier order total one two before First First)))
 
   -- ---- intersect
 
@@ -281,7 +281,7 @@ module _ (how : MaskHow) (full : Bool) where
     end_sound : (T t).fault ≡ None → Ends (u ∷ ts) → Ends (t ∷ u ∷ ts)
     end_sound none ends = elim ends [
       | inl stops ↦ inl (stop_more (T t) (map T (u ∷ ts)) (T Rest) (T (joined_texts (t ∷ u ∷ ts))) stops (sound_stops how full t (joined_texts (u ∷ ts)) two own.own.0 own.own.1 none))
-      | inr goes ↦ grind (arith, (sound_goes how full t (joined_texts (u ∷ ts)) two own.own.0 own.own.1 none goes.0), (append_assoc (T t).output Outputs goes.1.0), (unless_none (T t).fault Outputs none))
+      | inr goes ↦ grind (arith, (sound_goes how full t (joined_texts (u ∷ ts)) two own.own.0 own.own.1 none goes.0), (append_assoc (T t).output Outputs goes.1.0))
     ]
 
     end_by : (fault : Option FaultValue) → (T t).fault ≡ fault → Ends (u ∷ ts) → Ends (t ∷ u ∷ ts)

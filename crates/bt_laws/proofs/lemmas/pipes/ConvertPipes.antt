@@ -67,7 +67,7 @@ record IsPlain (text : List ℕ) : Type 0 where
   plain : ends_with_byte 13 text ≡ false
 
 plain_by : (text : List ℕ) (span : ℕ) (b : Bool) → ends_with_byte 13 text ≡ b → length_of text ≡ Some span → b ≡ false
-plain_by text span b ends e = grind (arith, common_steps, none_in, name_ne, no_star)
+plain_by text span b ends e = grind (arith, common_steps, none_in)
 
 plain_cigar : (text : List ℕ) (span : ℕ) → length_of text ≡ Some span → IsPlain text
 plain_cigar text span e = grind (arith, plain_by)
@@ -149,8 +149,7 @@ aligned_columns cigar a = record { at = aligned_at a; tail = tail_of cigar a }
 
 line_as : (cigar : Bool) (a : Alignment) → bed_lines false cigar a ≡ text_of_columns (aligned_columns cigar a) ++ 10 ∷ []
 unfolding cigar_tail
-line_as true a = simp (append_assoc, append-nil)
-line_as false a = simp (append_assoc, append-nil)
+line_as cigar a = grind (arith, append_assoc)
 
 clear_if : (b : Bool) (text : List ℕ) → NoLineFeed text → NoLineFeed (if b then text else [])
 clear_if b text h = grind arith
@@ -205,8 +204,7 @@ columns_after cigar a = decimal a.quality ∷ strand_sign a.reverse ∷ (if ciga
 
 tail_kept : (cigar : Bool) (a : Alignment) → tail_of cigar a ≡ kept_columns (read_name a ∷ columns_after cigar a)
 unfolding cigar_tail
-tail_kept false a = refl
-tail_kept true a = ap (λ l. 9 ∷ (read_name a ++ 9 ∷ (decimal a.quality ++ 9 ∷ (strand_sign a.reverse ++ l)))) (sym (append-nil (9 ∷ a.cigar)))
+tail_kept cigar a = search rules
 
 column_both : (xs ys : List ℕ) → IsColumn xs → IsColumn ys → IsColumn (xs ++ ys)
 column_both xs ys h k = All-append IsInside xs ys h k
@@ -287,8 +285,7 @@ module _ (full : Bool) where
   stand_by : (reached : Reached) (line : TextLine) (text : List ℕ) (number : ℕ) (stands : Bool)
       → (if stands then Ok (Some (line_behind reached (new_line number line text))) else Err TextBeforeHeader) ≡ said_with text (if stands then Ok (Some (line_behind reached line)) else Err TextBeforeHeader)
   unfolding said_with
-  stand_by reached line text number true = refl
-  stand_by reached line text number false = refl
+  stand_by reached line text number stands = grind arith
 
   -- a line says itself
   record SaysLine (line : TextLine) (said : SequenceLine) : Type 0 where
@@ -309,7 +306,7 @@ module _ (full : Bool) where
 
   says_new : (reached : Reached) (line : TextLine) (text : List ℕ) (number : ℕ) → Stands line.text text → line_says full reached (new_line number line text) ≡ said_with text (line_says full reached line)
   unfolding said_with
-  says_new reached line text number is = grind (arith, (cases_Bool (is_header line.text)), (may_same reached.names line.text text is.size), (stand_by reached line text number (may_stand reached.names line.text)))
+  says_new reached line text number is = grind arith
 
 -- ---- line ends
 
@@ -336,7 +333,7 @@ last_some : (m : ℕ) (bytes : List ℕ) → 0 < length bytes → last_line m by
 last_some m bytes some = grind arith
 
 last_by : (m : ℕ) (new : List ℕ) (b : Bool) → NoLineFeed new → (b ≡ false → ends_with_byte 13 new ≡ false) → (b ≡ false → 0 < length new) → lines_from m (new ++ end_bytes (cond b Cr Absent)) ≡ line_at m new (cond b Cr Absent) ∷ []
-last_by m new b clear last some = grind (arith, lines_from-last, clear_return, last_some, stripped, returned, append-nil, strip_last-other)
+last_by m new b clear last some = grind (arith, lines_from-last, clear_return, last_some, stripped, returned, append-nil)
 
 -- ---- all lines
 

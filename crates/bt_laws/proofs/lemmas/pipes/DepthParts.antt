@@ -62,7 +62,7 @@ module _ (spans : List Span) (size : ℕ) where
   unfolding depth_of
   deep_levels =
       let all = are_levels (depth_of true spans) size in
-      grind (arith, only_levels, (some_disjoint is_deep 0 (levels_of (depth_of true spans) size) all.disjoint), deep_value, lt-ltb, shown, value_deep)
+      grind (arith, only_levels, (some_disjoint is_deep 0 (levels_of (depth_of true spans) size) all.disjoint), deep_value, value_deep)
 
 map_filter : (name : List ℕ) (ls : List Level) → map (depth_on name) (filter is_deep ls) ≡ filter (λ (r : DepthInterval). nat_lt 0 r.depth) (map (depth_on name) ls)
 map_filter name [] = refl

@@ -77,7 +77,7 @@ glyph_is_digit d below = subst (λ b. IsDigit (cond b (48 + d) (87 + d))) (sym (
 
 onto_digits : (k n : ℕ) (acc : List ℕ) → AllByRecursion IsDigit acc → AllByRecursion IsDigit (digits_onto k 10 false n acc)
 onto_digits zero n acc h = h
-onto_digits (suc k) n acc h = grind (arith, (glyph_is_digit (n % 10) (omega arith)), (onto_digits k (n / 10) (digit_glyph false (n % 10) ∷ acc) ((glyph_is_digit (n % 10) (omega arith)), h)))
+onto_digits (suc k) n acc h = grind (arith, (onto_digits k (n / 10) (digit_glyph false (n % 10) ∷ acc) ((glyph_is_digit (n % 10) (omega arith)), h)))
 
 pub decimal_digits : (n : ℕ) → AllByRecursion IsDigit (decimal n)
 unfolding digits
@@ -183,7 +183,7 @@ module _ (chrom : List ℕ) (start stop : ℕ) (named : IsName chrom) (below : s
   kept_by tail b e kept some is = grind arith
 
   pub tail_clear : (tail : List ℕ) → NoLineFeed chrom → NoLineFeed tail → NoLineFeed (columns_text chrom start stop tail)
-  tail_clear tail clear behind = grind (arith, (name_first tail), clear_both, clear_tab, (clear_number start), (clear_tab (decimal stop ++ tail) (clear_both (decimal stop) tail (clear_number stop) behind)))
+  tail_clear tail clear behind = grind (arith, (name_first tail), clear_both, (clear_number start), (clear_tab (decimal stop ++ tail) (clear_both (decimal stop) tail (clear_number stop) behind)))
 
 -- Lines of known records are an input without a fault.
 

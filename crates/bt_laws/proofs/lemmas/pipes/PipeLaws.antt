@@ -103,13 +103,7 @@ merge_input d Each inputs chromosomes well =
     let order = order_of chromosomes in
     let total = order_total chromosomes in
     let e = merge_whole d Each inputs chromosomes well in
-    let runs = places_of (strand_runs d records) in (
-      e,
-      subst (λ text. IsInput order text (map three_columns runs)) (sym e)
-          (runs_back order total runs (strands_written order total d records (good_are_said First order inputs.first))
-          (in_order order d records total (placed_good First order inputs.first total) (non_empty_good First order inputs.first))),
-      λ other. absurd (other refl),
-    )
+    grind (arith, runs_back, strands_written, good_are_said, in_order, placed_good, non_empty_good)
 
 -- ---- complement and genomecov
 
@@ -118,7 +112,7 @@ module _ (limit : Bool) (inputs : Inputs) (chromosomes : Option (List Entry)) (w
   gaps_of_run = complement limit (entries_in chromosomes) (first_records chromosomes inputs)
 
   pub complement_whole : (report_of (Complement limit) inputs).output ≡ interval_lines gaps_of_run
-  complement_whole = grind (arith, (output_is (Complement limit) inputs chromosomes well), whole_by, (well_there (Complement limit) inputs chromosomes well))
+  complement_whole = grind (arith, (output_is (Complement limit) inputs chromosomes well), (well_there (Complement limit) inputs chromosomes well))
 
 gaps_input : (limit : Bool) (genome : Option Handed) (chromosomes : Option (List Entry)) (records : List Feature) → chromosomes_of genome ≡ Ok chromosomes
     → IsInput (order_of chromosomes) (interval_lines (complement limit (entries_in chromosomes) records)) (filter is_no_header (map three_columns (complement limit (entries_in chromosomes) records)))
@@ -184,8 +178,7 @@ either_fault b lines other one fault e = grind arith
 
 met_whole : (order : Order) (shape : Shape) (rule : HitRule) (first : Good Feature) (second : List Feature) (fault : Option FaultValue) → fault ≡ None
     → (join_report (sweep_rule order shape rule second fault) (items_in first) first.fault).lines ≡ intersect shape rule (items_in first) second
-met_whole order shape rule first second None e = faultless_all order shape rule (items_in first) second first.fault
-met_whole order shape rule first second (Some fault) e = cc
+met_whole order shape rule first second fault e = grind (arith, faultless_all)
 
 -- without a fault all pairs are written, with a limit or without one
 pub swept_whole : (order : Order) (shape : Shape) (rule : HitRule) (limit : Option ℕ) (first second : Good Feature) → (met_within order shape rule limit first second).fault ≡ None

@@ -77,7 +77,7 @@ less_first o e = grind arith
 
 pub names_pairs : (names : List (List ℕ)) → AreDistinct names → EachPair (Earlier (rank_order names)) names
 names_pairs [] distinct = tt
-names_pairs (n ∷ ns) distinct = grind (arith, (others n ns distinct.0), (rank_of-here n n ns refl), rank_of-later, less_first, less_shift, all_zip, (known_names ns), pairs_so, (names_pairs ns distinct.1))
+names_pairs (n ∷ ns) distinct = grind (arith, (others n ns distinct.0), (rank_of-here n n ns refl), all_zip, (known_names ns), pairs_so, (names_pairs ns distinct.1))
 
 -- ---- intervals chromosome by chromosome
 

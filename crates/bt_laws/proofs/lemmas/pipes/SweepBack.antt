@@ -188,19 +188,7 @@ module _ (rule : HitRule) (a : Feature) (is : IsSaid a) where
 
   part_is : (shape : Shape) (found : List Feature) → AllByRecursion (Hit rule a) found → AllByRecursion IsColumns (columns_for shape a found)
   unfolding columns_for piece_columns
-  part_is Cut found h = hits_are Cut found h
-  part_is OrigA found h = hits_are OrigA found h
-  part_is CutAndB found h = hits_are CutAndB found h
-  part_is OrigBoth found h = hits_are OrigBoth found h
-  part_is Overlap found h = hits_are Overlap found h
-  part_is Once [] h = tt
-  part_is Once (b ∷ more) h = (plain_columns, tt)
-  part_is Missing [] h = (plain_columns, tt)
-  part_is Missing (b ∷ more) h = tt
-  part_is Count found h = grind (arith, clear_both, clear_number)
-  part_is Pieces found h = grind (arith, all_map, all_so, piece_bounds)
-  part_is Whole [] h = (plain_columns, tt)
-  part_is Whole (b ∷ more) h = tt
+  part_is shape found h = grind (arith, hits_are, clear_both, clear_number, all_map, all_so, piece_bounds)
 
 -- ---- which are hits
 
@@ -337,7 +325,7 @@ module _ (order : Order) (total : IsTotal order) where
   rise_by name b c known one two p1 = grind arith
 
   hits_rise : (rule : HitRule) (a : Feature) (bs : List Feature) → IsTrue (order.knows a.chrom) → AllByRecursion IsSaid bs → ArePlaced order (intervals_of bs) → EachPair Rise (hits_among rule a bs)
-  hits_rise rule a bs known said placed = grind (arith, pairs_so, rise_by, same_name, (all_hits rule a bs said), pairs_filter, (pairs_of_places order total bs (placed_pairs order total (intervals_of bs) placed)))
+  hits_rise rule a bs known said placed = grind (arith, pairs_so, same_name, (all_hits rule a bs said), pairs_filter, (pairs_of_places order total bs (placed_pairs order total (intervals_of bs) placed)))
 
   abbrev LineUpTo : Columns → Columns → Type 0
   LineUpTo k l = UpTo order total k.at l.at

@@ -119,7 +119,7 @@ module _ (inputs : Inputs) (entries : List Entry) (genome : chromosomes_of input
   alone = record { genome = inputs.genome; first = or_empty inputs.second; second = None }
 
   second_is : of_second (Complement false) inputs ≡ interval_lines gaps
-  second_is = grind (arith, (other_input order (or_empty inputs.second) none), (report_there (Complement false) alone (Some entries) genome), output_by)
+  second_is = grind (arith, (other_input order (or_empty inputs.second) none), (report_there (Complement false) alone (Some entries) genome))
 
   known : AllByRecursion IsChrom entries × AreDistinct (genome_names entries)
   known = chroms_of inputs.genome entries genome

@@ -49,11 +49,10 @@ nearer first low [] up h = tt
 nearer first low (s ∷ ss) up h = (omega (arith, up, h.0), h.1, h.2)
 
 one_more : (size : ℕ) (s : Span) (ss : List Span) (p : ℕ) → IsCovered (record { start = s.start; stop = min s.stop size } ∷ cut_spans size ss) p → (IsCovered (cut_spans size ss) p → IsCovered ss p × (p < size)) → IsCovered (s ∷ ss) p × (p < size)
-one_more size s ss p (inl here) more = (inl (here.0, omega (arith, here.1)), omega (arith, here.1))
-one_more size s ss p (inr there) more = let rest = more there in (inr rest.0, rest.1)
+one_more size s ss p p1 more = grind arith
 
 covered_or : (spans : List Span) (p : ℕ) → ((IsCovered spans p → ⊥) → ⊥) → IsCovered spans p
-covered_or spans p h = grind (arith, (cases_Bool (is_covered spans p)), (is_covered-Decides spans p), false≢true)
+covered_or spans p h = grind (arith, (is_covered-Decides spans p))
 
 cut_apart : (size first : ℕ) (spans : List Span) → AreApartFrom first spans → AreApartFrom first (cut_spans size spans)
 cut_apart size first [] h = tt
@@ -63,9 +62,7 @@ cut_to : (size : ℕ) (spans : List Span) (p : ℕ) → IsCovered (cut_spans siz
 cut_to size [] p c = absurd c
 cut_to size (s ∷ ss) p c = elim (cases_lt s.start size) [
   | inl below ↦ one_more size s ss p (subst (λ b. IsCovered (cond b (record { start = s.start; stop = min s.stop size } ∷ []) [] ++ cut_spans size ss) p) (lt-ltb s.start size below) c) (cut_to size ss p)
-  | inr past ↦
-      let more = cut_to size ss p (subst (λ b. IsCovered (cond b (record { start = s.start; stop = min s.stop size } ∷ []) [] ++ cut_spans size ss) p) (le-ltb s.start size past) c) in
-      (inr more.0, more.1)
+  | inr past ↦ grind (arith, (cut_to size ss p (subst (λ b. IsCovered (cond b (record { start = s.start; stop = min s.stop size } ∷ []) [] ++ cut_spans size ss) p) (le-ltb s.start size past) c)))
 ]
 
 cut_back : (size : ℕ) (spans : List Span) (p : ℕ) → p < size → IsCovered spans p → IsCovered (cut_spans size spans) p

@@ -56,8 +56,8 @@ find_more : (c n x : List ℕ) (xs ys : Names) → bytes_eq x c ≡ false → Fi
 find_more c n x xs ys other p1 = grind arith
 
 find : (c n : List ℕ) (xs ys : Names) → is_among xs n ≡ false → Finds c n xs ys
-find c n [] ys off = grind (arith, (cases_name n c), name_eq, name_ne-sym)
-find c n (x ∷ xs) ys off = grind (arith, (or_parts (bytes_eq x n) (is_among xs n) off), (cases_name x c), name_eq, find_more, (find c n xs ys (or_parts (bytes_eq x n) (is_among xs n) off).1))
+find c n [] ys off = grind (arith, name_ne-sym)
+find c n (x ∷ xs) ys off = grind (arith, (cases_name x c), (find c n xs ys (or_parts (bytes_eq x n) (is_among xs n) off).1))
 
 -- ---- the records of blocks that belong to the sequence of a name that comes once
 
@@ -220,7 +220,7 @@ module _ (t : Feature → Bool) (rs ss both : List Feature) (permuted : IsPermut
 
     both_own : (own more : Names) → names ≡ own ++ more → list_any t (own_records own both) ≡ (list_any t (own_records own rs) || list_any t (own_records own ss))
     both_own [] more e = grind (arith, (past_own (blocks_by (λ r. r.chrom) both)), (past_own (blocks_by (λ r. r.chrom) rs)), (past_own (blocks_by (λ r. r.chrom) ss)))
-    both_own (x ∷ xs) more e = grind (arith, (ends x xs), (append_assoc (ends x xs).front (((ends x xs).last) ∷ []) more), some_own, both_by, none_on_it)
+    both_own (x ∷ xs) more e = grind (arith, (append_assoc (ends x xs).front (((ends x xs).last) ∷ []) more), some_own, both_by, none_on_it)
 
 -- ---- the runs
 

@@ -103,9 +103,7 @@ module _ (how : MaskHow) (keeps : KeepsLines how) where
     last_from : (position : ℕ) (bases : List ℕ) → ends_with_byte 13 bases ≡ false → ends_with_byte 13 (masked_from how records position bases) ≡ false
     last_from position [] e = e
     last_from position (base ∷ []) e = kept_not position base 13 apart.return (omega arith) e
-    last_from position (base ∷ next ∷ bases) e =
-        ends_both 13 (kept_base position base ∷ []) (masked_from how records (suc position) (next ∷ bases)) (omega (arith, size_from (suc position) (next ∷ bases)))
-        ∙ last_from (suc position) (next ∷ bases) (sym (ends_both 13 (base ∷ []) (next ∷ bases) (omega arith)) ∙ e)
+    last_from position (base ∷ next ∷ bases) e = grind (arith, common_steps, (last_from (suc position) (next ∷ bases) (sym (ends_both 13 (base ∷ []) (next ∷ bases) (omega arith)) ∙ e)), size_from)
 
     from_again : (position : ℕ) (bases : List ℕ) → masked_from how records position (masked_from how records position bases) ≡ masked_from how records position bases
     from_again position [] = refl
@@ -242,7 +240,7 @@ module _ (how : MaskHow) (full : Bool) (inputs : Inputs) (chromosomes : Option (
         ∙ ap₂ (λ l fault. record { lines = l; fault = fault }) (lines_again items) (ap (λ ns. (mask_rule how ns second).last) (names_same new_text items) ∙ nones.1)
 
     pub twice : RunWrites (MaskFasta how full) (piped (MaskFasta how full) inputs) (report_of (MaskFasta how full) inputs).output
-    twice = grind (arith, writes_is, (report_there (MaskFasta how full) (piped (MaskFasta how full) inputs) chromosomes well.genome), output_there, met_again)
+    twice = grind (arith, (report_there (MaskFasta how full) (piped (MaskFasta how full) inputs) chromosomes well.genome), output_there, met_again)
 
     pub layout : ((sequence_good full First (whole_text (report_of (MaskFasta how full) inputs).output)).fault ≡ None)
         × (map layout_of (items_in (sequence_good full First (whole_text (report_of (MaskFasta how full) inputs).output))) ≡ map layout_of items)

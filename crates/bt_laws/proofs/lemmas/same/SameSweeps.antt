@@ -172,7 +172,7 @@ hit_to a (b ∷ bs) p c = elim (cases_Bool (hits any_overlap a b)) [
   | inl t ↦
       let there : IsCovered (spans_of (b ∷ hits_among any_overlap a bs)) p = subst (λ h. IsCovered (spans_of (cond h (b ∷ hits_among any_overlap a bs) (hits_among any_overlap a bs))) p) t c in
       subst (λ l. IsCovered l p) (sym (spans_on-here a.chrom (interval_of b) (intervals_of bs) (sym (same_name any_overlap a b t)))) (first_or a b bs p there (hit_to a bs p))
-  | inr f ↦ grind (arith, wider, (hit_to a bs p (subst (λ h. IsCovered (spans_of (cond h (b ∷ hits_among any_overlap a bs) (hits_among any_overlap a bs))) p) f c)))
+  | inr f ↦ grind (arith, (hit_to a bs p (subst (λ h. IsCovered (spans_of (cond h (b ∷ hits_among any_overlap a bs) (hits_among any_overlap a bs))) p) f c)))
 ]
 
 pub hit_back : (a : Feature) (bs : List Feature) (p : ℕ) → a.start ≤ p → p < a.stop → IsCovered (spans_on a.chrom (intervals_of bs)) p → IsCovered (spans_of (hits_among any_overlap a bs)) p
@@ -196,14 +196,11 @@ covered_length (b ∷ found) p c = omega arith
 -- ---- what is written of a, by the positions that the second input has
 
 module _ (a : Feature) (bs cs : List Feature) (full : AllByRecursion IsSaid bs) (same : SameCover (spans_on a.chrom (intervals_of bs)) (spans_on a.chrom (intervals_of cs))) where
-  left_to : (p : ℕ) → IsLeft a (hits_among any_overlap a bs) p → IsLeft a (hits_among any_overlap a cs) p
-  left_to p left = grind (arith, hit_back, hit_to)
-
   left_back : (p : ℕ) → IsLeft a (hits_among any_overlap a cs) p → IsLeft a (hits_among any_overlap a bs) p
   left_back p left = grind (arith, hit_back, hit_to)
 
   pub pieces_same : pieces a (hits_among any_overlap a bs) ≡ pieces a (hits_among any_overlap a cs)
-  pieces_same = grind (arith, (are_pieces a (hits_among any_overlap a bs)), only_pieces, left_to, left_back)
+  pieces_same = grind (arith, (are_pieces a (hits_among any_overlap a bs)), only_pieces, left_back, hit_back, hit_to)
 
   some_to : 0 < length (hits_among any_overlap a bs) → 0 < length (hits_among any_overlap a cs)
   some_to some = grind (arith, first_covered, all_hits, covered_length, hit_back, hit_to)
@@ -378,7 +375,7 @@ elsewhere r rs (n ∷ ns) h = ap₂ (λ (b : Bool) more. record { chrom = n; ite
 
 none_on : (name : List ℕ) (rs : List Feature) → has_records name (intervals_of rs) ≡ false → on_name name rs ≡ []
 none_on name [] e = refl
-none_on name (r ∷ rs) e = grind (arith, (or_parts (bytes_eq r.chrom name) (has_records name (intervals_of rs)) e), (none_on name rs (or_parts (bytes_eq r.chrom name) (has_records name (intervals_of rs)) e).1))
+none_on name (r ∷ rs) e = grind (arith, (none_on name rs (or_parts (bytes_eq r.chrom name) (has_records name (intervals_of rs)) e).1))
 
 not_false : (b : Bool) → not b ≡ true → b ≡ false
 not_false b e = grind arith
@@ -407,7 +404,7 @@ followed r s ss (inr off) e =
     let apart = or_parts (bytes_eq s.chrom r.chrom) (has_records r.chrom (intervals_of ss)) off in
     let absent : is_among names r.chrom ≡ false = among_chromosomes r.chrom (intervals_of later) ∙ off in
     let alone : on_name r.chrom (r ∷ later) ≡ r ∷ [] = ap (λ (b : Bool). cond b (r ∷ on_name r.chrom later) (on_name r.chrom later)) (name_eq r.chrom r.chrom refl) ∙ ap (λ l. r ∷ l) (none_on r.chrom later off) in
-    grind (arith, (name_ne-sym s.chrom r.chrom apart.0), (elsewhere r later names (others r.chrom names absent)), (without_absent r.chrom names absent))
+    grind (arith, (elsewhere r later names (others r.chrom names absent)), (without_absent r.chrom names absent))
 
 pub together_blocks : (rs : List Feature) → AreContiguous (intervals_of rs) → blocks rs ≡ map (block_of rs) (chromosomes (intervals_of rs))
 together_blocks [] h = refl

@@ -100,7 +100,7 @@ differs_before value begun p end (m ∷ ms) other scan = λ touch same.
 -- an ended interval before a scan that begins where it ends
 one_before : (value : ℕ → Option ℕ) (begun : Begun) (first p end : ℕ) (rest : List Level) → IsBegun value first p (Some begun) → p ≤ end → IsScanOf value p end rest → ((v : ℕ) → value p ≡ Some v → begun.value ≡ v → ⊥)
     → IsScanOf value first end (record { start = begun.start; stop = p; value = begun.value } ∷ rest)
-one_before value begun first p end rest b up scan other = grind (arith, (ended_scans value first p (Some begun) b), (differs_before value begun p end rest other scan), cases_lt)
+one_before value begun first p end rest b up scan other = grind (arith, (differs_before value begun p end rest other scan))
 
 -- a position without a value before a scan
 skips : (value : ℕ → Option ℕ) (p end : ℕ) (levels : List Level) → value p ≡ None → IsScanOf value (p + 1) end levels → IsScanOf value p end levels
@@ -169,7 +169,7 @@ pub value_one : (test : Bool) (v : ℕ) → cond test (Some 0) None ≡ Some v �
 value_one test v e = grind arith
 
 pub levels_of_stretches : stretches_are_levels
-levels_of_stretches test size spans h = grind (arith, only_levels, (apart_disjoint 0 0 spans (omega arith) h.apart), level_covered, cond-true, value_one, covered_level)
+levels_of_stretches test size spans h = grind (arith, only_levels, (apart_disjoint 0 0 spans (omega arith) h.apart), level_covered, covered_level)
 
 -- The merged runs and the gaps of a chromosome are intervals of equal value.
 
@@ -200,14 +200,7 @@ gaps_levels size spans = grind (arith, (are_gaps size spans), levels_of_stretche
 -- the depth of what is covered
 pub covered_depth : covered_have_depth
 covered_depth [] p = refl
-covered_depth (s ∷ ss) p = elim (cases_Bool (covers p s)) [
-  | inl t ↦
-      let more : depth_at (s ∷ ss) p ≡ length (s ∷ filter (covers p) ss) =
-      ap length (cond-true (covers p s) (s ∷ filter (covers p) ss) (filter (covers p) ss) t) in
-      or_left (covers p s) (is_covered ss p) t
-      ∙ sym (lt-ltb 0 (depth_at (s ∷ ss) p) (omega (arith, more)))
-  | inr f ↦ grind (arith, (cond-false (covers p s) (s ∷ filter (covers p) ss) (filter (covers p) ss) f), (covered_depth ss p))
-]
+covered_depth (s ∷ ss) p = grind (arith, (covered_depth ss p))
 
 -- the intervals of one value, among those of all values
 abbrev has : ℕ → Level → Bool
@@ -241,7 +234,7 @@ kept_disjoint value first [] d = tt
 kept_disjoint value first (l ∷ ls) d =
     let rest = filter (has value) ls in
     let behind = kept_disjoint value l.stop ls d.3 in
-    grind (arith, (cases_Bool (has value l)), kept_has, differs_from, value_from, (looser l.stop first rest (omega (arith, d.0, d.1)) behind))
+    grind (arith, kept_has, differs_from, value_from, (looser l.stop first rest (omega (arith, d.0, d.1)) behind))
 
 -- depth 0 is that of the bare positions
 bare_depth : (spans : List Span) (p v : ℕ) → depth_of true spans p ≡ Some v → 0 ≡ v
@@ -251,13 +244,13 @@ bare_depth spans p v is zero_is = grind (arith, (covered_depth spans p))
 
 depth_bare : (spans : List Span) (p : ℕ) → is_bare spans p ≡ true → depth_of true spans p ≡ Some 0
 unfolding depth_of
-depth_bare spans p t = grind (arith, (covered_depth spans p), (not-true (is_covered spans p) t))
+depth_bare spans p t = grind (arith, (covered_depth spans p))
 
 gaps_by_depth : (size : ℕ) (spans : List Span)
     → filter (has 0) (levels_of (depth_of true spans) size) ≡ map (level_on 0) (gaps_of size spans)
 gaps_by_depth size spans =
     let all = are_levels (depth_of true spans) size in
-    grind (arith, only_levels, (kept_disjoint 0 0 (levels_of (depth_of true spans) size) all.disjoint), kept_has, bare_depth, value_one, has_kept, depth_bare, (gaps_levels size spans))
+    grind (arith, only_levels, (kept_disjoint 0 0 (levels_of (depth_of true spans) size) all.disjoint), kept_has, bare_depth, has_kept, depth_bare, (gaps_levels size spans))
 
 -- on the chromosome of a name
 level_place : List ℕ → Level → Interval
@@ -297,8 +290,7 @@ kept_one place o = grind arith
 
 pub one_kept : one_place_is_kept
 unfolding kept_place
-one_kept entries records =
-    kept_one (λ last. record { chrom = last.chrom; start = min (end_of (spans_on last.chrom (intervals_of records))) (length_in entries last.chrom) }) (last_of (intervals_of records))
+one_kept = grind arith
 
 pub one_is_kept : one_run_is_kept
 one_is_kept gap strand past t = let whole = whole_taken gap strand past t in (whole.all, whole.few)

@@ -94,9 +94,7 @@ unfolding is_other
 never_unknown fault h = grind arith
 
 pub each_known : blocks_know_each_chromosome
-each_known input handed =
-    never_unknown (block_good input handed).fault
-    (else_other (good_from block_format input None (lines_handed handed)).fault (cut_fault input handed) (from_other input None (lines_handed handed)) (cut_by handed.is_cut input _))
+each_known = grind (arith, never_unknown, from_other)
 
 -- Lemmas on the lines and the bases of good records.
 
@@ -246,7 +244,7 @@ no_header_again text f between e = grind (arith, append_assoc, header_until_tab)
 pub rewritten_feature : read_are_rewritten
 rewritten_feature text f e =
     let s = record_said text f e in
-    grind (arith, (said_stands text f s.1), (written_feature f (said_is_feature text f s.1) (no_header_again text f (said_stands text f s.1).0 (said_stands text f s.1).1 ∙ s.0)))
+    grind (arith, (written_feature f (said_is_feature text f s.1) (no_header_again text f (said_stands text f s.1).0 (said_stands text f s.1).1 ∙ s.0)))
 
 -- Lemmas on what is written early of two inputs.
 
@@ -290,7 +288,7 @@ prefix_first (b ∷ name) byte rest = same_first b name (name ++ byte ∷ rest) 
 
 pub difference_decides : first_difference_decides
 difference_decides [] low high left right less = ap (λ o. ordering_then o (slice_cmp nat_cmp left right)) (less_cmp low high less)
-difference_decides (b ∷ front) low high left right less = grind (arith, (same_first b (front ++ low ∷ left) (front ++ high ∷ right)), (difference_decides front low high left right less))
+difference_decides (b ∷ front) low high left right less = grind (arith, (difference_decides front low high left right less))
 
 pub know_each : bytes_know_each_chromosome
 know_each kind of_bed is = let unknown = of_bed.1 is in false≢true (sym unknown.1)
@@ -317,7 +315,7 @@ one_list test xs ys a b = stretches_are_same (λ p. IsTrue (test p)) xs ys a b
 
 has_records-push : (name : List ℕ) (xs : List Interval) (r : Interval) → has_records name xs ≡ false → bytes_eq r.chrom name ≡ false → has_records name (xs ++ r ∷ []) ≡ false
 has_records-push name [] r f g = or_from (bytes_eq r.chrom name) false g refl
-has_records-push name (x ∷ xs) r f g = grind (arith, (or_parts (bytes_eq x.chrom name) (has_records name xs) f), or_from, (has_records-push name xs r (or_parts (bytes_eq x.chrom name) (has_records name xs) f).1 g))
+has_records-push name (x ∷ xs) r f g = grind (arith, (has_records-push name xs r (or_parts (bytes_eq x.chrom name) (has_records name xs) f).1 g))
 
 -- the next of a past in order: what the last record asks of it, it asks of all
 grows_from : (q : Interval) (qs : List Interval) (r : Interval) → AreContiguous (q ∷ qs) → ((r.chrom ≡ (last_from q qs).chrom) × ((last_from q qs).start ≤ r.start)) ⊎ (has_records r.chrom (q ∷ qs) ≡ false) → AreContiguous (q ∷ qs ++ r ∷ [])
@@ -330,5 +328,4 @@ grows_from q (s ∷ ss) r t next =
     grind (arith, (grows_from s ss r t.1 later), has_records-push, name_ne, has_records-last, name_ne-sym, or_parts)
 
 pub grows_contiguous : contiguous_grows
-grows_contiguous [] r t next = (tt, tt)
-grows_contiguous (q ∷ qs) r t next = grows_from q qs r t next
+grows_contiguous = grind (arith, grows_from)

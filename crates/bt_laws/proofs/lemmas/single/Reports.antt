@@ -78,7 +78,7 @@ last_item-none : (option : Word) (items : List Item)
 last_item-none option [] h = refl
 last_item-none option (item ∷ items) h =
     let later = last_item-none option items (All-tail (IsOther option) item items h) in
-    grind (arith, (All-head (IsOther option) item items h), (other_text item.option option (bytes_eq item.option option) refl (All-head (IsOther option) item items h)))
+    grind (arith, (other_text item.option option (bytes_eq item.option option) refl (All-head (IsOther option) item items h)))
 
 pub last_item-counts : LastItemCounts
 last_item-counts [] later item h = grind (arith, last_item-none, bytes_eq-Decides)

@@ -126,13 +126,8 @@ open_between start stop (operation ∷ operations) h =
     let same : stop + covered_by operation + reference_length operations ≡ last = omega (arith, size) in
     rw (← same) (open_between start (stop + covered_by operation) operations (omega arith)))
 
-cut_between : (start stop : ℕ) (operations : Option (List Operation)) → option_map (λ length. start + length) (option_map reference_length operations) ≡ Some stop
-    → AreBetween start stop (blocks_in start operations)
-cut_between start stop operations e = grind (arith, blocks_open, open_between)
-
 pub within : blocks_are_within
-within true a h e = cut_between a.start a.stop (operations_of a.cigar) e
-within false a h e = (omega arith, h, omega arith)
+within = grind (arith, blocks_open, open_between)
 
 -- The blocks of an alignment, as they are found in one pass over its operations.
 
@@ -141,7 +136,7 @@ open_unskipped : (start stop : ℕ) (operations : List Operation) → list_all (
 open_unskipped start stop [] all = ap (with_bases start) (sym (add-zero stop))
 open_unskipped start stop (operation ∷ operations) all =
     let p = and_parts (not (is_skip operation)) (list_all (λ o. not (is_skip o)) operations) all in
-    grind (arith, (not-true (is_skip operation) p.0), (sum_by-cons covered_by operation operations), (open_unskipped start (stop + covered_by operation) operations p.1))
+    grind (arith, (sum_by-cons covered_by operation operations), (open_unskipped start (stop + covered_by operation) operations p.1))
 
 pub one_block : unskipped_are_one_block
 one_block start operations all = blocks_open start operations ∙ open_unskipped start start operations all
@@ -156,10 +151,7 @@ found_parts : (parts : List Part) → list_all is_operation parts ≡ true → p
 found_parts [] all = refl
 found_parts (part ∷ parts) all =
     let here = and_parts (is_operation part) (list_all is_operation parts) all in
-    let p = and_parts (is_number part.digits) (is_letter part.letter) here.0 in
-    let digits = number_digits (nat_lt 0 (length part.digits)) (list_all is_ascii_digit part.digits) (nat_le (digits_value 10 part.digits) 999999999999) p.0 in
-    ap parts_of (append_assoc part.digits (part.letter ∷ []) (flat_map spelled parts))
-    ∙ parts_cut part.digits part.letter (flat_map spelled parts) parts (digits_no_letters part.digits digits) p.1 (found_parts parts here.1)
+    grind (arith, (found_parts parts here.1), append_assoc, parts_cut, digits_no_letters)
 
 pub parts_found : (text : List ℕ) (parts : List Part) → Divides text parts → parts_of text ≡ Some parts
 parts_found text parts d = ap parts_of (sym d.whole) ∙ found_parts parts d.all
@@ -252,7 +244,7 @@ module _ (how : MaskHow) (names : List (List ℕ)) (second : Good Feature) where
   all_stay : (first : List SequenceLine) (seen more : List Feature) → items_in second ≡ seen ++ more → AreInBlocks (seen ++ more)
       → AllByRecursion (StaysDecided (early_mask_rule how seen) (mask_rule how names second)) first
   all_stay [] seen more is placed = tt
-  all_stay (line ∷ lines) seen more is placed = grind (arith, or_right, late_decided, masked_stay, (all_stay lines seen more is placed))
+  all_stay (line ∷ lines) seen more is placed = grind (arith, late_decided, masked_stay, (all_stay lines seen more is placed))
 
   all_decided : (first : List SequenceLine) → second.fault ≡ None → list_all (mask_rule how names second).decided first ≡ true
   all_decided [] e = refl
@@ -263,7 +255,7 @@ masked_front how names first more_first fault second seen more is placed =
     grind (arith, (written_begins (early_mask_rule how seen) (mask_rule how names second) first more_first fault (all_stay how names second first seen more is placed)))
 
 pub faultless_masked : faultless_are_masked
-faultless_masked how names first fault second e = grind (arith, (met_lines (mask_rule how names second) first fault), (all_written (mask_rule how names second) first (all_decided how names second first e)))
+faultless_masked how names first fault second e = grind (arith, (all_written (mask_rule how names second) first (all_decided how names second first e)))
 
 -- Lemmas on blocks of records, and on the sequences to which they belong.
 
@@ -341,10 +333,7 @@ no_more : (rs : List Feature) (r : Feature) → rs ≡ rs ++ r ∷ [] → ⊥
 no_more rs r e = grind (arith, common_steps)
 
 pub quiet_taken : quiet_records_are_taken
-quiet_taken how full stage line r out (Ok Yes) new grown takes undecided free = (refl, takes.same_output)
-quiet_taken how full stage line r out (Ok No) new grown takes undecided free = absurd (false≢true (sym undecided ∙ takes.decides))
-quiet_taken how full stage line r out (Err fault) new grown (nothing, inl writes) undecided free = absurd (false≢true (sym undecided ∙ writes.decides))
-quiet_taken how full stage line r out (Err fault) new grown (nothing, inr lacks) undecided free = absurd (no_more _ r (sym free ∙ lacks.to_hold))
+quiet_taken = grind (arith, no_more)
 
 -- Of the records that a masking engine took no prefix decides all lines given.
 
@@ -356,10 +345,7 @@ of_last P (first ∷ next ∷ lines) line e all = of_last P (next ∷ lines) lin
 
 no_front : (lines : List SequenceLine) (front rest : List Feature) (last : Option SequenceLine) → last_or None lines ≡ last → IsOpen last (front ++ rest)
     → (front ++ rest ≡ []) ⊎ (AllByRecursion (λ line. decided line front ≡ true) lines → ⊥)
-no_front lines front rest None e none = inl none
-no_front lines front rest (Some line) e (inl none) = inl none
-no_front lines front rest (Some line) e (inr undecided) =
-    inr (λ all. false≢true (sym undecided ∙ decided_stays line front rest (of_last (λ line. decided line front ≡ true) lines line e all)))
+no_front lines front rest last e none = grind (arith, decided_stays, of_last)
 
 pub none_before : taken_are_first
 none_before lines front rest open_end = no_front lines front rest (last_or None lines) refl open_end

@@ -202,7 +202,7 @@ module _ (gap : ℕ) (past : List Feature) (r : Feature)
         → ArePlaced order (places_of items ++ rest)
         → ArePlaced order (places_of (map (joined_to gap r) items) ++ rest)
     placed_same [] rest p = p
-    placed_same (x ∷ xs) rest p = grind (arith, (same_start gap r x), (before_same xs rest x.run (joined_to gap r x).run (sym (same_start gap r x)) p.1), (placed_same xs rest p.2))
+    placed_same (x ∷ xs) rest p = grind (arith, (before_same xs rest x.run (joined_to gap r x).run (sym (same_start gap r x)) p.1), (placed_same xs rest p.2))
 
     placed_without : (xs : List Interval) (y : Interval) (rest : List Interval)
         → ArePlaced order (xs ++ y ∷ rest) → ArePlaced order (xs ++ rest)
@@ -227,7 +227,7 @@ module _ (gap : ℕ) where
       let grown : (past ++ r ∷ []) ++ rs ≡ past ++ r ∷ rs = append_assoc past (r ∷ []) rs in
       let all = subst AreTaken (sym grown) t in
       let next = taken_front (past ++ r ∷ []) rs all in
-      grind (arith, (are_listed gap past (taken_front past (r ∷ []) next)), (firsts_more (past ++ r ∷ []) rs all (firsts_next gap past r next (are_listed gap past (taken_front past (r ∷ []) next)) f)))
+      grind (arith, (firsts_more (past ++ r ∷ []) rs all (firsts_next gap past r next (are_listed gap past (taken_front past (r ∷ []) next)) f)))
 
   firsts : (records : List Feature) → AreTaken records → Firsts gap records
   firsts records t = firsts_more [] records t (firsts_none gap)

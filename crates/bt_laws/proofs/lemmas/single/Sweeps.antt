@@ -30,7 +30,7 @@ stays_decided order a bs more e = list_any-append (decides order a) bs more ∙ 
 all_stay : (order : Order) (shape : Shape) (rule : HitRule) (first second more : List Feature) (fault : Option FaultValue) → IsTotal order → ArePlaced order (intervals_of first) → ArePlaced order (intervals_of (second ++ more))
     → AllByRecursion (StaysDecided (early_rule order shape rule second) (sweep_rule order shape rule (second ++ more) fault)) first
 all_stay order shape rule [] second more fault total known placed = tt
-all_stay order shape rule (a ∷ first) second more fault total known placed = grind (arith, or_right, stays_decided, stay_lines, (all_stay order shape rule first second more fault total known.2 placed))
+all_stay order shape rule (a ∷ first) second more fault total known placed = grind (arith, stays_decided, stay_lines, (all_stay order shape rule first second more fault total known.2 placed))
 
 pub written_front : written_are_a_prefix
 written_front order shape rule first more_first second more_second first_fault second_fault total known placed =
@@ -38,10 +38,7 @@ written_front order shape rule first more_first second more_second first_fault s
 
 pub of_nothing : both_of_nothing
 unfolding hits strands_agree
-of_nothing both same_strand a b =
-    ap (λ c. ltb 0 (shared_bases a b) && ((not same_strand || is_strand a.strand b.strand) && c))
-    (enough_of_nothing (record { billionths = 0; both = both; same_strand = same_strand }) (shared_bases a b) a b refl
-    ∙ sym (enough_of_nothing (record { billionths = 0; both = false; same_strand = same_strand }) (shared_bases a b) a b refl))
+of_nothing = grind (arith, enough_of_nothing)
 
 -- The records taken are those before the first that decides all that was given.
 
@@ -61,7 +58,7 @@ leaves_none order (a ∷ given) taken b total pg pb all =
 module _ (p : Feature → Bool) (b : Feature) (more : List Feature) (stops : p b ≡ false) where
   before_stop : (xs : List Feature) → list_all p xs ≡ true → take_while p (xs ++ b ∷ more) ≡ xs
   before_stop [] all = take_while-cons p b more ∙ ap (λ c. cond c (b ∷ take_while p more) []) stops
-  before_stop (x ∷ xs) all = grind (arith, (and_parts (p x) (list_all p xs) all), (take_while-cons p x (xs ++ b ∷ more)), (before_stop xs (and_parts (p x) (list_all p xs) all).1))
+  before_stop (x ∷ xs) all = grind (arith, (take_while-cons p x (xs ++ b ∷ more)), (before_stop xs (and_parts (p x) (list_all p xs) all).1))
 
 pub first_taken : taken_are_first
 first_taken order given taken more next total pg placed reached all =
@@ -139,10 +136,4 @@ limit_stopped order shape rule most first second before after a past more m is m
 -- Records that change nothing but what was taken.
 
 pub quiet_taken : quiet_are_taken
-quiet_taken order stage a b line old out (Ok Yes) new grown gives undecided free = (refl, gives.same_output)
-quiet_taken order stage a b line old out (Ok No) new grown gives undecided free = absurd (false≢true (sym undecided ∙ gives.decides))
-quiet_taken order stage a b line old out (Err f) new grown gives undecided free =
-    elim gives.1 [
-      | inl cut ↦ absurd (false≢true (sym undecided ∙ cut.decides))
-      | inr refused ↦ absurd (false≢true (sym free ∙ refused.to_hold))
-    ]
+quiet_taken = grind arith
