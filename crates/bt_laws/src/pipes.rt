@@ -20,12 +20,14 @@ pub fn genomecov_goes_on()
 
 /// What intersect writes is an input: with -wa, -u, -v, -c, -wa -wb and -wo always, and else where no two records
 /// of the first input overlap.
+#[tactic(auto, using(crate::proofs::lemmas::pipes::PipeLaws::intersect_input, crate::proofs::lemmas::pipes::PipeLaws::cut_intersect_input))]
 pub fn intersect_goes_on()
     ensures kept { intersect_is_input }
     ensures cut { cut_intersect_is_input }
 {}
 
 /// What subtract writes is an input: with -A always, and else where no two records of the first input overlap.
+#[tactic(auto, using(crate::proofs::lemmas::pipes::PipeLaws::whole_subtract_input, crate::proofs::lemmas::pipes::PipeLaws::subtract_input))]
 pub fn subtract_goes_on()
     ensures kept { whole_subtract_is_input }
     ensures cut { subtract_is_input }
@@ -49,6 +51,7 @@ pub fn some_strands_change()
 
 /// What bamtobed writes without -split is an input, where the alignments are sorted, and all their references are in the
 /// genome file of the next command, if it has one.
+#[tactic(auto, using(crate::proofs::lemmas::pipes::ConvertPipes::bamtobed_input))]
 pub fn bamtobed_goes_on()
     ensures { bamtobed_is_input }
 {}
@@ -62,6 +65,7 @@ pub fn some_outputs_go_back()
 
 /// No two records overlap of what merge without -s, complement and genomecov write: so it goes on into intersect
 /// and subtract, and what they write goes on too.
+#[tactic(auto, using(crate::proofs::lemmas::pipes::PipeLaws::merge_disjoint, crate::proofs::lemmas::pipes::PipeLaws::complement_disjoint, crate::proofs::lemmas::pipes::PipeLaws::genomecov_disjoint))]
 pub fn runs_and_gaps_dont_overlap()
     ensures merge { merge_writes_disjoint }
     ensures complement { complement_writes_disjoint }

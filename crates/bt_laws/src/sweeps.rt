@@ -5,6 +5,7 @@ ghost use Rattle.bt_sweep.specs.model.Lines.{lines_are_before, lines_stay, piece
 
 /// What is decided stays decided, and its lines stay as they are, whatever comes after in order: the
 /// record that decides it included.
+#[tactic(auto, using(crate::proofs::lemmas::single::Sweeps::stays_decided, bt_sweep::proofs::lemmas::definitions::HitLemmas::stay_lines, bt_sweep::proofs::lemmas::definitions::HitLemmas::before_lines))]
 pub fn decided_lines_stay()
     ensures decided { decided_stays }
     ensures lines { lines_stay }
@@ -12,6 +13,7 @@ pub fn decided_lines_stay()
 {}
 
 /// Without a fraction, requiring it of both records changes nothing.
+#[tactic(auto, using(crate::proofs::lemmas::single::Sweeps::of_nothing))]
 pub fn no_fraction_is_that_of_both()
     ensures { both_of_nothing }
 {}
@@ -25,26 +27,31 @@ pub fn pieces_are_stretches()
 
 /// What subtract leaves of one record by those that hit it is what the sweep writes of it, in pieces or
 /// whole.
+#[tactic(auto, using(bt_sweep::proofs::lemmas::definitions::HitLemmas::left_at))]
 pub fn lines_of_one_record_are_what_is_left()
     ensures { left_are_lines }
 {}
 
 /// If the second input has no fault, what the sweep writes for subtract is what all pairs give.
+#[tactic(auto, using(bt_sweep::proofs::lemmas::definitions::HitLemmas::subtract_met))]
 pub fn faultless_inputs_are_subtracted()
     ensures { subtract_is_met }
 {}
 
 /// If the second input has no fault, what is written is what all pairs give.
+#[tactic(auto, using(bt_sweep::proofs::lemmas::definitions::HitLemmas::faultless_all))]
 pub fn faultless_inputs_give_all_pairs()
     ensures { faultless_are_all }
 {}
 
 /// What is written after a prefix of both inputs is a prefix of what is written for the whole.
+#[tactic(auto, using(crate::proofs::lemmas::single::Sweeps::written_front))]
 pub fn prefixes_write_prefixes()
     ensures { written_are_a_prefix }
 {}
 
 /// The records that were taken are those before the first that decides all that was given.
+#[tactic(auto, using(crate::proofs::lemmas::single::Sweeps::first_taken))]
 pub fn taken_records_come_first()
     ensures { taken_are_first }
 {}
@@ -60,6 +67,7 @@ pub fn limits_stop_at_the_first_too_many()
 
 /// A record of the second input that neither decides the current record of the first nor has to be
 /// held is taken. So it needs no memory, and nothing is written.
+#[tactic(auto, using(crate::proofs::lemmas::single::Sweeps::quiet_taken))]
 pub fn quiet_records_are_taken()
     ensures { quiet_are_taken }
 {}

@@ -1,5 +1,6 @@
 -- Sums, pairs and bases.
-use Rattle.bt_lines.proofs.Std.{◌≡◌, ◌&&◌, ℕ, zero, suc, ◌+◌, ◌-◌, ◌*◌, ◌<◌, ◌≤◌, Bool, true, false, cond, List, [], ◌∷◌, map, filter, length, max, min, Option, Some, None, inl, inr, refl, sym, ap, ap₂, ◌∙◌, arith, eqb, ◌⊎◌, bytes_eq, flat_map, nat_lt, sum_by, cases_lt, eqb-true, le-leb, le-ltb, lt-leb, lt-ltb, or_parts, nat_tests, mul-suc, sum_by-append, sum_by-cons, ◌||◌, not, ◌++◌, append_assoc, subst, ltb, IsPermutation, flat_map-append, map-append, IsPermutation-append_comm, IsPermutation-append_left, IsPermutation-append_right, IsPermutation-refl, IsPermutation-trans, flat_map-map, cases_Bool, false≢true}
+use Rattle.bt_lines.proofs.Std.{rules, ◌≡◌, ◌&&◌, ℕ, zero, suc, ◌+◌, ◌-◌, ◌*◌, ◌<◌, ◌≤◌, Bool, true, false, cond, List, [], ◌∷◌, map, filter, length, max, min, Option, Some, None, inl, inr, refl, sym, ap, ap₂, ◌∙◌, arith, eqb, ◌⊎◌, bytes_eq, flat_map, nat_lt, sum_by, cases_lt, eqb-true, le-leb, le-ltb, lt-leb, lt-ltb, or_parts, nat_tests, mul-suc, sum_by-append, sum_by-cons, ◌||◌, not, ◌++◌, append_assoc, subst, ltb, IsPermutation, flat_map-append, map-append, IsPermutation-append_comm, IsPermutation-append_left, IsPermutation-append_right, IsPermutation-refl, IsPermutation-trans, flat_map-map, cases_Bool, false≢true}
+use Rattle.std.proofs.lemmas.Grind.{common_steps}
 use Rattle.bt_bed.specs.model.Feature.{Feature, interval_of, intervals_of, Interval, Span, span_of, spans_on, is_strand, placed_on}
 use Rattle.bt_bed.specs.model.Positions.{IsCovered}
 use Rattle.bt_bed.specs.model.BedLine.{cut_to}
@@ -64,29 +65,17 @@ no_times : (v : ℕ) → v * 0 ≡ 0
 no_times v = omega arith
 
 one_longer : (v p s : ℕ) → s ≤ p → v * ((p + 1) - s) ≡ v * (p - s) + v
-one_longer v p s low =
-    let e : (p + 1) - s ≡ suc (p - s) = omega (arith, low) in
-    ap (λ k. v * k) e ∙ mul-suc v (p - s)
+one_longer v p s low = grind (arith, (mul-suc v (p - s)))
 
 just_one : (v p : ℕ) → v * ((p + 1) - p) ≡ v
-just_one v p =
-    let nothing : p - p ≡ 0 = omega arith in
-    let zero_plus : 0 + v ≡ v = omega arith in
-    one_longer v p p (omega arith) ∙ ap (λ k. v * k + v) nothing ∙ ap (λ k. k + v) (no_times v) ∙ zero_plus
+just_one v p = grind arith
 
 sum_one : (l : Level) → sum_by weight (l ∷ []) ≡ weight l
 sum_one l = sum_by-cons weight l [] ∙ omega arith
 
 goes_by : (same : Bool) (b : Begun) (v p t : ℕ) → eqb b.value v ≡ same → b.start ≤ p
     → sum_by weight (cond same [] (ended_at (Some b) p)) + (pending (cond same (Some b) (begun_at p (Some v))) (p + 1) + t) ≡ pending (Some b) p + (v + t)
-goes_by true b v p t e low =
-    let same = eqb-true b.value v e in
-    let more = one_longer b.value p b.start low in
-    omega (arith, more, same)
-goes_by false b v p t e low =
-    let done = sum_one (record { start = b.start; stop = p; value = b.value }) in
-    let next = just_one v p in
-    omega (arith, done, next)
+goes_by same b v p t e low = grind (arith, one_longer)
 
 step_by : (g : Option Begun) (v : Option ℕ) (p t : ℕ) → IsLow g p → sum_by weight (next_ended p v g) + (pending (next_begun p v g) (p + 1) + t) ≡ pending g p + (value_in v + t)
 step_by None None p t low = refl
@@ -95,25 +84,17 @@ step_by (Some b) None p t low = let done = sum_one (record { start = b.start; st
 step_by (Some b) (Some v) p t low = goes_by (eqb b.value v) b v p t refl low
 
 low_by : (same : Bool) (b : Begun) (v p : ℕ) → b.start ≤ p → IsLow (cond same (Some b) (begun_at p (Some v))) (p + 1)
-low_by true b v p low = omega (arith, low)
-low_by false b v p low = omega arith
+low_by same b v p low = grind arith
 
 low_next : (g : Option Begun) (v : Option ℕ) (p : ℕ) → IsLow g p → IsLow (next_begun p v g) (p + 1)
-low_next None None p low = tt
-low_next None (Some v) p low = omega arith
-low_next (Some b) None p low = tt
-low_next (Some b) (Some v) p low = low_by (eqb b.value v) b v p low
+low_next g v p low = grind arith
 
 last_sum : (g : Option Begun) (p : ℕ) → sum_by weight (ended_at g p) ≡ pending g p
-last_sum None p = refl
-last_sum (Some b) p = sum_one (record { start = b.start; stop = p; value = b.value })
+last_sum g p = grind arith
 
 levels_sum : (value : ℕ → Option ℕ) (n p : ℕ) (g : Option Begun) → IsLow g p → sum_by weight (levels_from value p n g) ≡ pending g p + total (λ q. value_in (value q)) p n
 unfolding total ended_after begun_after
-levels_sum value zero p g low =
-    let same : p + 0 ≡ p = omega arith in
-    let more : pending g p ≡ pending g p + 0 = omega arith in
-    last_sum g (p + 0) ∙ ap (pending g) same ∙ more
+levels_sum value zero p g low = grind arith
 levels_sum value (suc n) p g low =
     ap (sum_by weight) (levels_more value p n g) ∙ sum_by-append weight (next_ended p (value p) g) (levels_from value (p + 1) n (next_begun p (value p) g))
     ∙ ap (λ k. sum_by weight (next_ended p (value p) g) + k) (levels_sum value n (p + 1) (next_begun p (value p) g) (low_next g (value p) p low))
@@ -123,8 +104,7 @@ levels_sum value (suc n) p g low =
 
 total_same : (f h : ℕ → ℕ) (n p : ℕ) → ((q : ℕ) → f q ≡ h q) → total f p n ≡ total h p n
 unfolding total
-total_same f h zero p e = refl
-total_same f h (suc n) p e = ap₂ (λ a b. a + b) (e p) (total_same f h n (p + 1) e)
+total_same f h n p e = grind arith
 
 total_both : (f h : ℕ → ℕ) (n p : ℕ) → total (λ q. f q + h q) p n ≡ total f p n + total h p n
 unfolding total
@@ -132,8 +112,7 @@ total_both f h zero p = refl
 total_both f h (suc n) p = let more = total_both f h n (p + 1) in omega (arith, more)
 
 shown_by : (b : Bool) (d : ℕ) → nat_lt 0 d ≡ b → value_in (cond b (Some d) None) ≡ d
-shown_by true d e = refl
-shown_by false d e = grind (arith, nat_tests)
+shown_by b d e = grind arith
 
 depth_value : (spans : List Span) (q : ℕ) → value_in (depth_of false spans q) ≡ depth_at spans q
 unfolding depth_of
@@ -143,28 +122,13 @@ abbrev one_if : Bool → ℕ
 one_if b = cond b 1 0
 
 one_depth : (s : Span) (q : ℕ) → depth_at (s ∷ []) q ≡ one_if (covers q s)
-one_depth s q = elim (covers q s) as (λ b. length (cond b (s ∷ []) []) ≡ one_if b) [
-  | true ↦ refl
-  | false ↦ refl
-]
+one_depth s q = grind arith
 
 covers_by : (s : Span) (p : ℕ) → ((one_if (covers p s) ≡ 1) × (s.start ≤ p) × (p < s.stop)) ⊎ ((one_if (covers p s) ≡ 0) × ((p < s.start) ⊎ (s.stop ≤ p)))
-covers_by s p = elim (cases_lt p s.start) [
-  | inl before ↦ inr (ap (λ (b : Bool). one_if (b && nat_lt p s.stop)) (lt-leb s.start p before), inl before)
-  | inr from ↦ elim (cases_lt p s.stop) [
-    | inl to ↦ inl (ap₂ (λ (b c : Bool). one_if (b && c)) (le-leb s.start p from) (lt-ltb p s.stop to), from, to)
-    | inr past ↦ inr (ap₂ (λ (b c : Bool). one_if (b && c)) (le-leb s.start p from) (le-ltb p s.stop past), inr past)
-  ]
-]
+covers_by s p = grind arith
 
 span_step : (s : Span) (p n t : ℕ) → t ≡ min s.stop ((p + 1) + n) - max s.start (p + 1) → one_if (covers p s) + t ≡ min s.stop (p + suc n) - max s.start p
-span_step s p n t e = elim (covers_by s p) [
-  | inl has ↦ omega (arith, e, has.0, has.1, has.2)
-  | inr off ↦ elim off.1 [
-    | inl before ↦ omega (arith, e, off.0, before)
-    | inr past ↦ omega (arith, e, off.0, past)
-  ]
-]
+span_step s p n t e = grind arith
 
 span_sum : (s : Span) (n p : ℕ) → total (λ q. depth_at (s ∷ []) q) p n ≡ min s.stop (p + n) - max s.start p
 unfolding total
@@ -188,15 +152,9 @@ spans_sum (s ∷ ss) size =
     ∙ sym (sum_by-cons (below size) s ss)
 
 level_sum : (spans : List Span) (size : ℕ) → sum_by weight (levels_of (depth_of false spans) size) ≡ sum_by (below size) spans
-level_sum spans size =
-    let drop : 0 + total (λ q. value_in (depth_of false spans q)) 0 size ≡ total (λ q. value_in (depth_of false spans q)) 0 size = omega arith in
-    levels_sum (depth_of false spans) size 0 None tt ∙ drop ∙ total_same (λ q. value_in (depth_of false spans q)) (λ q. depth_at spans q) size 0 (depth_value spans) ∙ spans_sum spans size
+level_sum spans size = grind (arith, (levels_sum (depth_of false spans) size 0 None tt), (total_same (λ q. value_in (depth_of false spans q)) (λ q. depth_at spans q) size 0 (depth_value spans)), (spans_sum spans size))
 
 -- ---- chromosome by chromosome
-
-map_sum : (name : List ℕ) (ls : List Level) → sum_by depth_bases (map (depth_on name) ls) ≡ sum_by weight ls
-map_sum name [] = refl
-map_sum name (l ∷ ls) = sum_by-cons depth_bases (depth_on name l) (map (depth_on name) ls) ∙ ap (λ k. weight l + k) (map_sum name ls) ∙ sym (sum_by-cons weight l ls)
 
 abbrev bases_in : List Entry → Interval → ℕ
 bases_in entries r = min r.stop (length_in entries r.chrom) - r.start
@@ -214,21 +172,7 @@ no_entries (r ∷ rs) = let cons = sum_by-cons (bases_in []) r rs in let more = 
 one_entry : (entry : Entry) (entries : List Entry) (rs : List Interval) → is_among (genome_names entries) entry.name ≡ false
     → sum_by (below entry.length) (spans_on entry.name rs) + sum_by (bases_in entries) rs ≡ sum_by (bases_in (entry ∷ entries)) rs
 one_entry entry entries [] absent = refl
-one_entry entry entries (r ∷ rs) absent =
-    let rest = one_entry entry entries rs absent in
-    let old = sum_by-cons (bases_in entries) r rs in
-    let new = sum_by-cons (bases_in (entry ∷ entries)) r rs in
-    elim (cases_name r.chrom entry.name) [
-      | inl same ↦
-          let spans = ap (sum_by (below entry.length)) (spans_on-here entry.name r rs same) ∙ sum_by-cons (below entry.length) (span_of r) (spans_on entry.name rs) in
-          let size : length_in (entry ∷ entries) r.chrom ≡ entry.length = ap (λ b. cond b entry.length (length_in entries r.chrom)) (name_eq entry.name r.chrom (sym same)) in
-          let none : length_in entries r.chrom ≡ 0 = ap (length_in entries) same ∙ absent_size entries entry.name absent in
-          omega (arith, rest, old, new, spans, ap (λ k. min r.stop k) size, ap (λ k. min r.stop k) none)
-      | inr other ↦
-          let spans = ap (sum_by (below entry.length)) (spans_on-elsewhere entry.name r rs other) in
-          let size : length_in (entry ∷ entries) r.chrom ≡ length_in entries r.chrom = ap (λ b. cond b entry.length (length_in entries r.chrom)) (name_ne-sym r.chrom entry.name other) in
-          omega (arith, rest, old, new, spans, ap (λ k. min r.stop k) size)
-    ]
+one_entry entry entries (r ∷ rs) absent = grind (arith, common_steps, (one_entry entry entries rs absent), cases_name, absent_size)
 
 module _ (strand : Option Strand) (records : List Feature) where
   abbrev used : List Feature
@@ -236,14 +180,10 @@ module _ (strand : Option Strand) (records : List Feature) where
 
   entries_sum : (entries : List Entry) → AreDistinct (genome_names entries) → sum_by depth_bases (flat_map (depths_on false strand records) entries) ≡ sum_by (bases_in entries) (intervals_of used)
   entries_sum [] distinct = sym (no_entries (intervals_of used))
-  entries_sum (entry ∷ entries) distinct =
-      sum_by-append depth_bases (depths_on false strand records entry) (flat_map (depths_on false strand records) entries)
-      ∙ ap₂ (λ a b. a + b) (map_sum entry.name (levels_of (depth_of false (counted_on strand entry.name records)) entry.length) ∙ level_sum (counted_on strand entry.name records) entry.length) (entries_sum entries distinct.1)
-      ∙ one_entry entry entries (intervals_of used) distinct.0
+  entries_sum (entry ∷ entries) distinct = grind (arith, (entries_sum entries distinct.1), level_sum, one_entry, common_steps)
 
 features_sum : (entries : List Entry) (rs : List Feature) → sum_by (bases_in entries) (intervals_of rs) ≡ sum_by (bases_below entries) rs
-features_sum entries [] = refl
-features_sum entries (r ∷ rs) = sum_by-cons (bases_in entries) (interval_of r) (intervals_of rs) ∙ ap (λ k. bases_below entries r + k) (features_sum entries rs) ∙ sym (sum_by-cons (bases_below entries) r rs)
+features_sum entries rs = grind (arith, common_steps)
 
 pub sum_depths : depths_sum
 unfolding coverage
@@ -259,16 +199,10 @@ sum_depths strand inputs entries well =
 -- ---- a rule that asks the same of both
 
 and_swap : (a b : Bool) → (a && b) ≡ (b && a)
-and_swap true true = refl
-and_swap true false = refl
-and_swap false true = refl
-and_swap false false = refl
+and_swap a b = grind arith
 
 strand_swap : (s t : Strand) → is_strand s t ≡ is_strand t s
-strand_swap Plus Plus = refl
-strand_swap Minus Minus = refl
-strand_swap Dot Dot = refl
-strand_swap s t = refl
+strand_swap s t = grind arith
 
 min_swap : (a b : ℕ) → min a b ≡ min b a
 min_swap a b = omega arith
@@ -280,28 +214,20 @@ shared_swap : (a b : Feature) → shared_bases a b ≡ shared_bases b a
 shared_swap a b = ap₂ (λ t n. cond t n 0) (name_eq-sym a.chrom b.chrom) (ap₂ (λ x y. x - y) (min_swap a.stop b.stop) (max_swap a.start b.start))
 
 enough_by : (x y both : Bool) → both ≡ true → (x && (not both || y)) ≡ (y && (not both || x))
-enough_by x y true e = and_swap x y
-enough_by x y false e = cc
+enough_by x y both e = grind arith
 
 enough_swap : (rule : HitRule) (bases : ℕ) (a b : Feature) → IsMutual rule → is_enough rule bases a b ≡ is_enough rule bases b a
 unfolding is_enough
-enough_swap rule bases a b (inl none) = enough_of_nothing rule bases a b none ∙ sym (enough_of_nothing rule bases b a none)
-enough_swap rule bases a b (inr both) = enough_by (has_fraction rule.billionths bases a) (has_fraction rule.billionths bases b) rule.both both
+enough_swap rule bases a b p1 = grind (arith, enough_of_nothing)
 
 hits_swap : (rule : HitRule) (a b : Feature) → IsMutual rule → hits rule a b ≡ hits rule b a
 unfolding hits strands_agree
-hits_swap rule a b even =
-    ap₂ (λ n e. ltb 0 n && ((not rule.same_strand || is_strand a.strand b.strand) && e)) (shared_swap a b) (enough_swap rule (shared_bases a b) a b even ∙ ap (λ n. is_enough rule n b a) (shared_swap a b))
-    ∙ ap (λ s. ltb 0 (shared_bases b a) && ((not rule.same_strand || s) && is_enough rule (shared_bases b a) b a)) (strand_swap a.strand b.strand)
+hits_swap rule a b even = grind (arith, shared_swap, enough_swap)
 
 -- ---- lists of lists
 
 middle : {B : Type 0} (x f g y : List B) → IsPermutation ((x ++ f) ++ (g ++ y)) ((x ++ g) ++ (f ++ y))
-middle x f g y =
-    let from : (x ++ f) ++ (g ++ y) ≡ x ++ ((f ++ g) ++ y) = append_assoc x f (g ++ y) ∙ ap (λ l. x ++ l) (sym (append_assoc f g y)) in
-    let to : x ++ ((g ++ f) ++ y) ≡ (x ++ g) ++ (f ++ y) = ap (λ l. x ++ l) (append_assoc g f y) ∙ sym (append_assoc x g (f ++ y)) in
-    subst (λ l. IsPermutation l ((x ++ g) ++ (f ++ y))) (sym from) (subst (IsPermutation (x ++ ((f ++ g) ++ y))) to
-    (IsPermutation-append_right x ((f ++ g) ++ y) ((g ++ f) ++ y) (IsPermutation-append_left y (f ++ g) (g ++ f) (IsPermutation-append_comm f g))))
+middle x f g y = grind (arith, (append_assoc x f (g ++ y)), (append_assoc f g y), (append_assoc g f y), (append_assoc x g (f ++ y)), IsPermutation-append_right, IsPermutation-append_left, IsPermutation-append_comm)
 
 module _ {A B : Type 0} where
   both_maps : (f g : A → List B) (xs : List A) → IsPermutation (flat_map f xs ++ flat_map g xs) (flat_map (λ x. f x ++ g x) xs)
@@ -322,25 +248,15 @@ module _ (rule : HitRule) (even : IsMutual rule) where
 
   one_more : (a : Feature) (as_read : List Feature) (b : Feature) → turned_of b (a ∷ as_read) ≡ one_pair a b ++ turned_of b as_read
   unfolding one_pair
-  one_more a as_read b =
-      elim (hits rule b a) as (λ h. map (λ (a : Feature). record { left = b; right = a }) (cond h (a ∷ filter (hits rule b) as_read) (filter (hits rule b) as_read)) ≡ cond h (record { left = b; right = a } ∷ []) [] ++ turned_of b as_read) [
-        | true ↦ refl
-        | false ↦ refl
-      ]
+  one_more a as_read b = grind arith
 
   all_more : (a : Feature) (as_read bs : List Feature) → flat_map (λ b. turned_of b (a ∷ as_read)) bs ≡ flat_map (λ b. one_pair a b ++ turned_of b as_read) bs
-  all_more a as_read [] = refl
-  all_more a as_read (b ∷ bs) = ap₂ (λ x y. x ++ y) (one_more a as_read b) (all_more a as_read bs)
+  all_more a as_read bs = grind (arith, one_more)
 
   of_one : (a : Feature) (bs : List Feature) → map with_sides_exchanged (map (λ (b : Feature). record { left = a; right = b }) (hits_among rule a bs)) ≡ flat_map (one_pair a) bs
   unfolding one_pair
   of_one a [] = refl
-  of_one a (b ∷ bs) =
-      ap (λ h. map with_sides_exchanged (map (λ (b : Feature). record { left = a; right = b }) (cond h (b ∷ hits_among rule a bs) (hits_among rule a bs)))) (hits_swap rule a b even)
-      ∙ elim (hits rule b a) as (λ h. map with_sides_exchanged (map (λ (b : Feature). record { left = a; right = b }) (cond h (b ∷ hits_among rule a bs) (hits_among rule a bs))) ≡ cond h (record { left = b; right = a } ∷ []) [] ++ flat_map (one_pair a) bs) [
-        | true ↦ ap (λ l. record { left = b; right = a } ∷ l) (of_one a bs)
-        | false ↦ of_one a bs
-      ]
+  of_one a (b ∷ bs) = grind (arith, (of_one a bs), hits_swap)
 
   no_pairs : (bs : List Feature) → flat_map (λ b. turned_of b []) bs ≡ []
   no_pairs [] = refl
@@ -362,9 +278,7 @@ module _ (rule : HitRule) (even : IsMutual rule) where
 pair_lines : (rule : HitRule) (first second : List Feature) → intersect OrigBoth rule first second ≡ flat_map pair_line (pairs_of rule first second)
 unfolding lines_for
 pair_lines rule [] second = refl
-pair_lines rule (a ∷ first) second =
-    ap₂ (λ x y. x ++ y) (sym (flat_map-map pair_line (λ (b : Feature). record { left = a; right = b }) (hits_among rule a second))) (pair_lines rule first second)
-    ∙ sym (flat_map-append pair_line (map (λ (b : Feature). record { left = a; right = b }) (hits_among rule a second)) (pairs_of rule first second))
+pair_lines rule (a ∷ first) second = grind (arith, (pair_lines rule first second), flat_map-map, flat_map-append)
 
 -- what is good of the first input is good of it as a second one
 other_second : (order : Order) (handed : Handed) → (bed_good First order handed).fault ≡ None → (items_in (bed_good Second order handed) ≡ items_in (bed_good First order handed)) × ((bed_good Second order handed).fault ≡ None)
@@ -372,9 +286,7 @@ other_second order handed e =
     let lines = lines_handed handed in
     let format = bed_format (sorting_of order) in
     let parts = cut_none (good format First lines).fault (cut_fault First handed) e in
-    let like = like_from (sorting_of order) First Second None lines parts.0 in
-    let cut : cut_fault Second handed ≡ None = uncut handed.is_cut (read_failed First (suc (length (whole_lines handed.text)))) (read_failed Second (suc (length (whole_lines handed.text)))) parts.1 in
-    (like.0, ap (λ f. or_else f (cut_fault Second handed)) like.1 ∙ cut)
+    grind (arith, (like_from (sorting_of order) First Second None lines parts.0))
 
 pub two_sides : pairs_have_two_sides
 two_sides rule held inputs chromosomes even well =
@@ -413,12 +325,7 @@ module _ (S : Feature → List Span) where
   here_so : (P : List ℕ → ℕ → Type 0) (a : Feature) (more : List Feature) → ((a : Feature) (p : ℕ) → IsCovered (S a) p → (a.start ≤ p) × (p < a.stop) × P a.chrom p) → (name : List ℕ) (p : ℕ) → a.chrom ≡ name
       → IsCovered (S a) p ⊎ IsCovered (spans_on name (places more)) p → (IsCovered (spans_on name (places more)) p → IsCovered (spans_on name (intervals_of more)) p × P name p)
       → IsCovered (spans_on name (intervals_of (a ∷ more))) p × P name p
-  here_so P a more h name p same (inl here) rest =
-      let is = h a p here in
-      (subst (λ b. IsCovered (cond b (span_of (interval_of a) ∷ spans_on name (intervals_of more)) (spans_on name (intervals_of more))) p) (sym (name_eq a.chrom name same)) (inl (is.0, is.1)), subst (λ n. P n p) same is.2)
-  here_so P a more h name p same (inr there) rest =
-      let is = rest there in
-      (subst (λ b. IsCovered (cond b (span_of (interval_of a) ∷ spans_on name (intervals_of more)) (spans_on name (intervals_of more))) p) (sym (name_eq a.chrom name same)) (inr is.0), is.1)
+  here_so P a more h name p same p1 rest = search rules
 
   -- what holds of each position of each record's spans
   places_so : (P : List ℕ → ℕ → Type 0) → (as_read : List Feature) → ((a : Feature) (p : ℕ) → IsCovered (S a) p → (a.start ≤ p) × (p < a.stop) × P a.chrom p)
@@ -426,9 +333,7 @@ module _ (S : Feature → List Span) where
   places_so P [] h name p c = absurd c
   places_so P (a ∷ more) h name p c = elim (cases_name a.chrom name) [
     | inl same ↦ here_so P a more h name p same (covered_parts (S a) (spans_on name (places more)) p (subst (λ l. IsCovered l p) (spans_here name a more same) c)) (places_so P more h name p)
-    | inr other ↦
-        let rest = places_so P more h name p (subst (λ l. IsCovered l p) (spans_there name a more other) c) in
-        (subst (λ b. IsCovered (cond b (span_of (interval_of a) ∷ spans_on name (intervals_of more)) (spans_on name (intervals_of more))) p) (sym other) rest.0, rest.1)
+    | inr other ↦ grind (arith, (places_so P more h name p (subst (λ l. IsCovered l p) (spans_there name a more other) c)))
   ]
 
 module _ (bs : List Feature) where
@@ -445,9 +350,7 @@ module _ (bs : List Feature) where
   cut_so a p c = let is = cut_covered a (hits_among any_overlap a bs) p c in (is.1, is.2, hit_to a bs p is.0)
 
   left_so : (a : Feature) (p : ℕ) → IsCovered (lefts a) p → (a.start ≤ p) × (p < a.stop) × (HasBase a.chrom p → ⊥)
-  left_so a p c =
-      let is = (are_pieces a (hits_among any_overlap a bs)).within p c in
-      (is.from_start, is.before_stop, λ has. is.bare (hit_back a bs p is.from_start is.before_stop has))
+  left_so a p c = grind (arith, (are_pieces a (hits_among any_overlap a bs)), hit_back)
 
   one_of : (a : Feature) (p : ℕ) → a.start ≤ p → p < a.stop → IsCovered (cuts a) p ⊎ IsCovered (lefts a) p
   one_of a p from to = elim (cases_Bool (is_covered (spans_of (hits_among any_overlap a bs)) p)) [
@@ -466,8 +369,7 @@ module _ (bs : List Feature) where
   first_of : (a : Feature) (more : List Feature) (name : List ℕ) (p : ℕ) → a.chrom ≡ name → IsCovered (span_of (interval_of a) ∷ spans_on name (intervals_of more)) p
       → (IsCovered (spans_on name (intervals_of more)) p → IsCovered (spans_on name (places cuts more)) p ⊎ IsCovered (spans_on name (places lefts more)) p)
       → IsCovered (spans_on name (places cuts (a ∷ more))) p ⊎ IsCovered (spans_on name (places lefts (a ∷ more))) p
-  first_of a more name p same (inl here) rest = either_here a more name p same (one_of a p here.0 here.1)
-  first_of a more name p same (inr there) rest = either_later a more name p same (rest there)
+  first_of a more name p same p1 rest = grind (arith, either_here, one_of, either_later)
 
   later_of : (a : Feature) (more : List Feature) (name : List ℕ) (p : ℕ) → bytes_eq a.chrom name ≡ false → IsCovered (spans_on name (places cuts more)) p ⊎ IsCovered (spans_on name (places lefts more)) p
       → IsCovered (spans_on name (places cuts (a ∷ more))) p ⊎ IsCovered (spans_on name (places lefts (a ∷ more))) p

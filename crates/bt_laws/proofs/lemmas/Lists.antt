@@ -23,8 +23,7 @@ module _ {A : Type 0} where
   all_any P (x ∷ xs) f = (f x, all_any P xs f)
 
   filter_by : (P : A → Type 0) (b : Bool) (x : A) (xs : List A) → P x → AllByRecursion P xs → AllByRecursion P (cond b (x ∷ xs) xs)
-  filter_by P true x xs p h = (p, h)
-  filter_by P false x xs p h = h
+  filter_by P b x xs p h = grind arith
 
   pub all_filter : (P : A → Type 0) (t : A → Bool) (xs : List A) → AllByRecursion P xs → AllByRecursion P (filter t xs)
   all_filter P t [] h = tt

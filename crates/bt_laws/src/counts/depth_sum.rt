@@ -3,6 +3,7 @@
 ghost use Rattle.bt_laws.specs.Counts.{depths_sum};
 
 /// Depth times length over genomecov -bg add up to the bases of the counted records below the lengths.
+#[tactic(auto, using(crate::proofs::lemmas::Counts::sum_depths))]
 pub fn depths_add_up_to_bases()
     ensures { depths_sum }
 {}

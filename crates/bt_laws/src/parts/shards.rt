@@ -4,6 +4,7 @@ ghost use Rattle.bt_laws.specs.Parts.{complement_shards_suffice, genomecov_shard
 
 /// If each part has its own part of the genome file, runs of all parts without a fault are enough: nobody has to
 /// know on which chromosomes the records of a part lie, since one that lies elsewhere is a fault there.
+#[tactic(auto, using(crate::proofs::lemmas::parts::PartOwnGenomes::merge_suffice, crate::proofs::lemmas::parts::PartOwnGenomes::complement_suffice, crate::proofs::lemmas::parts::PartOwnGenomes::genomecov_suffice, crate::proofs::lemmas::parts::PartOwnGenomes::intersect_suffice, crate::proofs::lemmas::parts::PartOwnGenomes::subtract_suffice))]
 pub fn runs_without_a_fault_suffice()
     ensures merge { merge_shards_suffice }
     ensures complement { complement_shards_suffice }
@@ -14,6 +15,7 @@ pub fn runs_without_a_fault_suffice()
 
 /// A part whose read, write or memory fails has written a prefix of its output, as `run` promises. After the outputs
 /// of the parts before it that is a prefix of the output of the complete run, if this is without a fault.
+#[tactic(auto, using(crate::proofs::lemmas::parts::PartReports::prefixes_begin_whole))]
 pub fn outputs_up_to_a_failure_begin_the_whole()
     ensures { prefixes_begin }
 {}

@@ -15,6 +15,7 @@ pub fn parts_of_subtract_add_up()
 {}
 
 /// FASTA text may be divided at headers, and the records that mask it so that each is in the part of its sequence.
+#[tactic(auto, using(crate::proofs::lemmas::parts::PartTexts::mask_divides, crate::proofs::lemmas::parts::PartTexts::repeated_divide))]
 pub fn parts_of_maskfasta_add_up()
     ensures names { maskfasta_divides }
     ensures repeated { repeated_names_divide }

@@ -9,6 +9,7 @@ ghost use Rattle.bt_bed.specs.model.Sorted.{prefixes_are_placed, placed_grows, s
 
 /// Records in order stay so with a next one that isn't below the last, and so do the first of them. In a total order
 /// of the chromosomes the records of each are contiguous, and records are sorted by their places.
+#[tactic(auto, using(bt_bed::proofs::lemmas::order::OrderLemmas::grows_placed, crate::proofs::lemmas::single::Records::grows_contiguous, bt_bed::proofs::lemmas::order::OrderLemmas::placed_prefix, bt_bed::proofs::lemmas::order::OrderLemmas::contiguous_prefix, bt_bed::proofs::lemmas::order::OrderLemmas::placed_contiguous, bt_bed::proofs::lemmas::order::OrderLemmas::places_sorted))]
 pub fn records_are_ordered()
     ensures placed { placed_grows }
     ensures contiguous { contiguous_grows }
@@ -31,6 +32,7 @@ pub fn good_records_are_in_order()
 {}
 
 /// A genome file without a fault has each chromosome once. The lines before the first fault of one have none.
+#[tactic(auto, using(crate::proofs::lemmas::single::Records::distinct_genome, crate::proofs::lemmas::single::Records::first_make_entries))]
 pub fn chromosomes_come_once()
     ensures distinct { genome_names_are_distinct }
     ensures first { first_lines_make_entries }
@@ -39,6 +41,7 @@ pub fn chromosomes_come_once()
 /// The ranks of names give a total order of them, in which only equal names compare as equal, and so do the bytes of
 /// all names. By bytes a name comes before the longer ones that it begins, and else the first byte that differs decides. No
 /// chromosome is unknown to it.
+#[tactic(auto, using(bt_bed::specs::model::Order::bytes_total, crate::proofs::lemmas::single::Records::prefix_first, crate::proofs::lemmas::single::Records::difference_decides, crate::proofs::lemmas::single::Records::know_each, bt_bed::specs::inside::RankTotal::ranks_total))]
 pub fn names_are_ordered()
     ensures ranks { ranks_are_total }
     ensures total { bytes_are_total }

@@ -25,6 +25,7 @@ pub fn chromosomes_come_in_order()
 {}
 
 /// For records in a total order of the chromosomes the merged runs come in that order.
+#[tactic(auto, using(bt_runs::proofs::lemmas::order::FileOrder::ordered_come))]
 pub fn runs_follow_the_order()
     ensures { (order : Order) (gap : ℕ) (strand : MergeStrand) (records : List Feature) → IsTotal order
         → ArePlaced order (intervals_of records) → ordered_runs order gap strand records ≡ merged_runs gap strand records }

@@ -10,6 +10,7 @@ pub fn gaps_of_the_gaps_are_the_runs()
 {}
 
 /// merge of genomecov -bg is merge, if the records lie within the lengths; with the same `-d` and without other options.
+#[tactic(auto, using(crate::proofs::lemmas::same::LengthLaws::genomecov_merged))]
 pub fn depths_are_merged()
     ensures { merge_of_genomecov }
 {}

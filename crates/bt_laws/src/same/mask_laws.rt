@@ -9,18 +9,21 @@ pub fn masked_sequences_keep_their_lines()
 {}
 
 /// maskfasta twice is once, if bases aren't masked by `>`.
+#[tactic(auto, using(crate::proofs::lemmas::same::MaskTwice::mask_twice))]
 pub fn masked_sequences_stay_masked()
     ensures { masked_twice }
 {}
 
 /// maskfasta sees of a BED which positions of each sequence it masks, and nothing else. By one BED and then by another
 /// it is by both, if bases aren't masked by `>`.
+#[tactic(auto, using(crate::proofs::lemmas::same::MaskTwice::by_positions, crate::proofs::lemmas::same::MaskTwice::by_both))]
 pub fn masked_positions_are_all()
     ensures alike { masked_by_positions }
     ensures both { masked_by_both }
 {}
 
 /// maskfasta by merge of a BED is maskfasta by the BED.
+#[tactic(auto, using(crate::proofs::lemmas::same::MaskTwice::by_merged))]
 pub fn a_bed_may_be_merged()
     ensures { masked_by_merged }
 {}

@@ -4,11 +4,13 @@
 ghost use Rattle.bt_laws.specs.Same.{bg_is_bga_above_0, complement_of_merge, depth_0_is_complement, exchanged_complement, exchanged_genomecov, exchanged_merge, merge_of_merge, repeated_complement, repeated_merge};
 
 /// merge of merge is merge, with the same `-d` and without `-s`.
+#[tactic(auto, using(crate::proofs::lemmas::same::SameRuns::merge_twice))]
 pub fn merge_is_merged()
     ensures { merge_of_merge }
 {}
 
 /// complement of merge is complement, if merge has no options.
+#[tactic(auto, using(crate::proofs::lemmas::same::SameRuns::complement_merged))]
 pub fn merge_leaves_the_gaps()
     ensures { complement_of_merge }
 {}

@@ -8,6 +8,7 @@ use bt_lines::Kind;
 
 /// A CIGAR can be divided into numbers and letters in one way only, and its operations are those of
 /// that division.
+#[tactic(auto, using(crate::proofs::lemmas::single::Sequences::one_division, crate::proofs::lemmas::single::Sequences::division_found, crate::proofs::lemmas::single::Sequences::divided))]
 pub fn cigars_are_divided_in_one_way()
     ensures one { division_is_one }
     ensures found { division_is_found }
@@ -60,6 +61,7 @@ pub fn blocks_of_small_cigars()
 {}
 
 /// Operations without an N are one block, if they cover a base.
+#[tactic(auto, using(crate::proofs::lemmas::single::Sequences::one_block))]
 pub fn operations_without_skips_are_one_block()
     ensures { unskipped_are_one_block }
 {}
@@ -71,6 +73,7 @@ pub fn blocks_lie_within_their_alignment()
 {}
 
 /// What is wrong with a line is one of seven kinds, each of which lies at a line.
+#[tactic(auto, using(bt_seq::proofs::lemmas::Sam::wrong_kinds, bt_seq::proofs::lemmas::Sam::kinds_of_lines))]
 pub fn faults_of_alignments_lie_at_lines()
     ensures kinds { wrong_have_sam_kinds }
     ensures lines { sam_kinds_are_of_lines }

@@ -16,16 +16,19 @@ pub fn blocks_are_runs()
 {}
 
 /// One more record goes on with the last block, or begins one after it.
+#[tactic(auto, using(bt_seq::proofs::lemmas::definitions::KnowsLemmas::goes_on_or_begins))]
 pub fn blocks_follow_one_another()
     ensures { next_goes_on_or_begins }
 {}
 
 /// A record that neither decides the line that waits nor has to be held is taken, and nothing is written.
+#[tactic(auto, using(crate::proofs::lemmas::single::Sequences::quiet_taken))]
 pub fn quiet_records_are_taken()
     ensures { quiet_records_are_taken }
 {}
 
 /// Among the names up to a line and among all names, a block belongs to the same of those sequences.
+#[tactic(auto, using(crate::proofs::lemmas::single::Sequences::owners_stay_so, crate::proofs::lemmas::single::Sequences::owners_were_so))]
 pub fn owners_agree_among_more_names()
     ensures stay { owners_stay }
     ensures were { owners_were }
@@ -39,12 +42,14 @@ pub fn owners_are_the_first_of_their_name()
 {}
 
 /// What is known line by line and record by record gives the sequence of a block.
+#[tactic(auto, using(bt_seq::proofs::lemmas::definitions::KnowsLemmas::owners_found))]
 pub fn owners_of_blocks_are_found()
     ensures { owners_are_found }
 {}
 
 /// A line that is decided stays decided, and masked as it is, whatever comes after in order: the record
 /// that decides it included.
+#[tactic(auto, using(bt_seq::proofs::lemmas::definitions::MaskPrefixLemmas::decided_stays, bt_seq::proofs::lemmas::definitions::MaskPrefixLemmas::masked_stay, bt_seq::proofs::lemmas::definitions::MaskPrefixLemmas::masked_before))]
 pub fn decided_lines_stay()
     ensures decided { decided_lines_stay }
     ensures masked { masked_lines_stay }
@@ -59,6 +64,7 @@ pub fn masked_prefixes_begin()
 {}
 
 /// The first record whose block belongs to no sequence is reported, if there is one.
+#[tactic(auto, using(bt_seq::proofs::lemmas::definitions::MaskPrefixLemmas::lack_none, bt_seq::proofs::lemmas::definitions::MaskPrefixLemmas::first_is_told))]
 pub fn first_unowned_is_told()
     ensures none { owned_lack_none }
     ensures first { first_unowned_is_told }
@@ -70,6 +76,7 @@ pub fn taken_records_come_first()
 {}
 
 /// The records held by a line mask it as all records of the input do.
+#[tactic(auto, using(bt_seq::proofs::lemmas::definitions::MaskPrefixLemmas::held_alone))]
 pub fn held_records_mask_alone()
     ensures { held_mask_alone }
 {}

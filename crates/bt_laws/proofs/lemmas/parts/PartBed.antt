@@ -1,5 +1,5 @@
 -- What is good of two concatenated texts of records.
-use Rattle.bt_lines.proofs.Std.{◌≡◌, ℕ, Bool, true, false, cond, List, [], ◌∷◌, ◌++◌, Option, Some, None, Result, Ok, Err, refl, ap, ◌∙◌, subst, IsTrue, flat_map, AllByRecursion, ordering_reverse}
+use Rattle.bt_lines.proofs.Std.{rules, arith, ◌≡◌, ℕ, Bool, true, false, cond, List, [], ◌∷◌, ◌++◌, Option, Some, None, Result, Ok, Err, refl, ap, ◌∙◌, subst, IsTrue, flat_map, AllByRecursion, ordering_reverse}
 use Rattle.std.specs.declared.cmp.Ordering.{Ordering}
 use Rattle.std.specs.declared.cmp.Ordering.TheVariants.{Less, Equal, Greater}
 use Rattle.bt_lines.specs.model.Lines.{TextLine, lines_from, text_lines}
@@ -28,9 +28,7 @@ alike_records (l ∷ ls) [] h = absurd h
 alike_records (l ∷ ls) (m ∷ ms) h = ap (λ t. said_record (record_of t) ++ records_on ls) h.0 ∙ ap (λ rs. said_record (record_of m.text) ++ rs) (alike_records ls ms h.2)
 
 pub below_no : (o : Ordering) (start other : ℕ) → o ≡ Greater → is_below_at o start other ≡ false
-below_no Less start other e = cc
-below_no Equal start other e = cc
-below_no Greater start other e = refl
+below_no o start other e = grind arith
 
 pub reversed_less : (o p : Ordering) → o ≡ Less → p ≡ ordering_reverse o → p ≡ Greater
 reversed_less o p e is = cc
@@ -42,33 +40,24 @@ module _ (order : Order) (total : IsTotal order) where
 
   -- a record on a later chromosome is in order
   later_stays : (last place : Locus) → IsTrue (order.knows last.chrom) → IsTrue (order.knows place.chrom) → order.compare last.chrom place.chrom ≡ Less → falls_in (sorting_of order) (Some last) place ≡ false
-  later_stays last place was is less =
-      places_sorted order last place total was is
-      ∙ below_no (order.compare place.chrom last.chrom) place.start last.start (reversed_less (order.compare last.chrom place.chrom) (order.compare place.chrom last.chrom) less (total.swapped last.chrom place.chrom was is))
+  later_stays last place was is less = search rules
 
   module _ (input : Input) (last : Locus) (was : IsTrue (order.knows last.chrom)) where
     fresh_by : (n : ℕ) (r : Feature) (rest : Option Locus → Good Feature) (knows falls : Bool) → (knows ≡ true → falls ≡ false)
         → good_with (bed_format (sorting_of order)) input n (Some last) (cond knows (cond falls (Err OutOfOrder) (Ok (Some r))) (Err UnknownChrom)) rest
         ≡ good_with (bed_format (sorting_of order)) input n None (cond knows (Ok (Some r)) (Err UnknownChrom)) rest
-    fresh_by n r rest true true h = absurd (let apart : true ≡ false = h refl in cc)
-    fresh_by n r rest true false h = refl
-    fresh_by n r rest false falls h = refl
+    fresh_by n r rest knows falls h = grind arith
 
     fresh_with : (n : ℕ) (said : Result (Option Feature) Kind) (rest : Option Locus → Good Feature) → Leading last.chrom (said_record said) → rest (Some last) ≡ rest None
         → good_with (bed_format (sorting_of order)) input n (Some last) (said_after (sorting_of order) (Some last) said) rest
         ≡ good_with (bed_format (sorting_of order)) input n None (said_after (sorting_of order) None said) rest
-    fresh_with n (Err kind) rest leads same = refl
-    fresh_with n (Ok None) rest leads same = same
-    fresh_with n (Ok (Some r)) rest leads same =
-        fresh_by n r rest (order.knows r.chrom) (falls_in (sorting_of order) (Some last) (locus_at r)) (λ known. later_stays last (locus_at r) was known (leads.0 was known))
+    fresh_with n said rest leads same = search rules
 
     -- records on later chromosomes are as good as without those before
     pub fresh_from : (ms : List TextLine) → Leading last.chrom (records_on ms) → good_from (bed_format (sorting_of order)) input (Some last) ms ≡ good_from (bed_format (sorting_of order)) input None ms
     unfolding good_from line_says
     fresh_from [] leads = refl
-    fresh_from (m ∷ ms) leads =
-        fresh_with m.number (record_of m.text) (λ now. good_from (bed_format (sorting_of order)) input now ms) (all_front _ (said_record (record_of m.text)) (records_on ms) leads)
-        (fresh_from ms (all_back _ (said_record (record_of m.text)) (records_on ms) leads))
+    fresh_from (m ∷ ms) leads = grind (arith, (fresh_from ms (all_back _ (said_record (record_of m.text)) (records_on ms) leads)), fresh_with)
 
   -- the members are among the records that the lines say, and their chromosomes are known
   module _ (input : Input) (Q : Feature → Type 0) where
@@ -77,10 +66,7 @@ module _ (order : Order) (total : IsTotal order) where
         → (said : Result (Option Feature) Kind) → line_says (sorting_of order) last line.text ≡ said → AllByRecursion Q (items_in (good_with (bed_format (sorting_of order)) input line.number last said rest))
     items_with last line rest h q (Err kind) e = tt
     items_with last line rest h q (Ok None) e = h last
-    items_with last line rest h q (Ok (Some r)) e =
-        let said = line_said (sorting_of order) last line.text r e in
-        let one : AllByRecursion (λ r. IsTrue (order.knows r.chrom) → Q r) (r ∷ []) = subst (λ w. AllByRecursion (λ r. IsTrue (order.knows r.chrom) → Q r) (said_record w)) said.says q in
-        (one.0 said.known, h (Some (locus_at r)))
+    items_with last line rest h q (Ok (Some r)) e = grind (arith, (line_said (sorting_of order) last line.text r e))
 
     pub items_all : (last : Option Locus) (lines : List TextLine) → AllByRecursion (λ r. IsTrue (order.knows r.chrom) → Q r) (records_on lines) → AllByRecursion Q (items_in (good_from (bed_format (sorting_of order)) input last lines))
     unfolding good_from
@@ -103,10 +89,7 @@ module _ (order : Order) (total : IsTotal order) where
     fresh input n (Some last) leads = fresh_from input last leads.0 (lines_from n two) (subst (Leading last.chrom) (alike_records (text_lines two) (lines_from n two) (alike_lines 1 n two)) leads.1)
 
     lead_line : (line : TextLine) → AllByRecursion (λ r. Leading r.chrom (said_records two)) (said_record (record_of line.text)) → LeadsOn (bed_format (sorting_of order)) Leads line
-    lead_line line h last r leads e =
-        let said = line_said (sorting_of order) last line.text r e in
-        let is : AllByRecursion (λ r. Leading r.chrom (said_records two)) (r ∷ []) = subst (λ w. AllByRecursion (λ r. Leading r.chrom (said_records two)) (said_record w)) said.says h in
-        (said.known, is.0)
+    lead_line line h last r leads e = grind (arith, (line_said (sorting_of order) last line.text r e))
 
     lead_lines : (ls : List TextLine) → AllByRecursion (λ r. Leading r.chrom (said_records two)) (records_on ls) → AllByRecursion (LeadsOn (bed_format (sorting_of order)) Leads) ls
     lead_lines [] h = tt

@@ -1,5 +1,5 @@
 -- Records of parts, each with its own part of the genome file.
-use Rattle.bt_lines.proofs.Std.{◌≡◌, ℕ, suc, ◌+◌, ◌<◌, Bool, true, false, cond, List, [], ◌∷◌, ◌++◌, ◌||◌, ◌⊎◌, length, Option, Some, None, inl, inr, refl, sym, ap, ap₂, ◌∙◌, arith, Result, Ok, Err, subst, IsTrue, bytes_eq, is_some, option_map, nat_lt, nat_cmp, cases_lt, or_parts, cases_Bool, or_right, AllByRecursion, map-append, flat_map-append, append-nil, ⊤, list_any, list_any-append}
+use Rattle.bt_lines.proofs.Std.{rules, ◌≡◌, ℕ, suc, ◌+◌, ◌<◌, Bool, true, false, cond, List, [], ◌∷◌, ◌++◌, ◌||◌, ◌⊎◌, length, Option, Some, None, inl, inr, refl, sym, ap, ap₂, ◌∙◌, arith, Result, Ok, Err, subst, IsTrue, bytes_eq, is_some, option_map, nat_lt, nat_cmp, cases_lt, or_parts, cases_Bool, or_right, AllByRecursion, map-append, flat_map-append, append-nil, ⊤, list_any, list_any-append}
 use Rattle.std.specs.declared.cmp.Ordering.TheVariants.{Less, Equal}
 use Rattle.bt_bed.specs.model.Order.{Order, AreDistinct, compare_ranks, is_among, rank_of, rank_order, IsTotal}
 use Rattle.bt_bed.proofs.lemmas.parse.NameLemmas.{same_name, name_ne, name_ne-sym}
@@ -30,16 +30,13 @@ abbrev shifted : ℕ → Option ℕ → Option ℕ
 shifted k rank = option_map (λ r. k + r) rank
 
 shift_none : (rank : Option ℕ) → shifted 0 rank ≡ rank
-shift_none None = refl
-shift_none (Some r) = ap Some (omega arith)
+shift_none rank = grind arith
 
 shift_more : (k : ℕ) (rank : Option ℕ) → option_map (λ r. suc r) (shifted k rank) ≡ shifted (suc k) rank
-shift_more k None = refl
-shift_more k (Some r) = ap Some (omega arith)
+shift_more k rank = grind arith
 
 pub or_assoc : (a b c : Bool) → (a || (b || c)) ≡ ((a || b) || c)
-or_assoc true b c = refl
-or_assoc false b c = refl
+or_assoc a b c = grind arith
 
 -- whether a name is among two lists of names
 pub among_append : (xs ys : List (List ℕ)) (name : List ℕ) → is_among (xs ++ ys) name ≡ (is_among xs name || is_among ys name)
@@ -56,11 +53,7 @@ rank_none xs name e = none_by (rank_of xs name) (among_ranked xs name ∙ e)
 -- the rank of a name that isn't among the first names
 pub rank_behind : (xs ys : List (List ℕ)) (name : List ℕ) → is_among xs name ≡ false → rank_of (xs ++ ys) name ≡ shifted (length xs) (rank_of ys name)
 rank_behind [] ys name e = sym (shift_none (rank_of ys name))
-rank_behind (x ∷ xs) ys name e =
-    let parts = or_parts (bytes_eq x name) (is_among xs name) e in
-    rank_of-later x name (xs ++ ys) parts.0
-    ∙ ap (option_map (λ r. suc r)) (rank_behind xs ys name parts.1)
-    ∙ shift_more (length xs) (rank_of ys name)
+rank_behind (x ∷ xs) ys name e = grind (arith, (rank_behind xs ys name (or_parts (bytes_eq x name) (is_among xs name) e).1))
 
 -- of one that isn't among the later ones
 pub rank_before : (xs ys : List (List ℕ)) (name : List ℕ) → is_among ys name ≡ false → rank_of (xs ++ ys) name ≡ rank_of xs name
@@ -77,24 +70,13 @@ rank_first (x ∷ xs) ys name e = by_first (bytes_eq x name) refl (rank_first xs
     by_first false is more = ap (λ o. cond (bytes_eq x name) (Some 0) (option_map (λ r. suc r) o)) (more (sym (ap (λ b. b || is_among xs name) is) ∙ e))
 
 shift_cmp : (k i j : ℕ) → nat_cmp (k + i) (k + j) ≡ nat_cmp i j
-shift_cmp k i j = by_way (cases i j)
-  where
-    cases : (i j : ℕ) → (i < j) ⊎ ((j < i) ⊎ (i ≡ j))
-    cases i j = elim (cases_lt i j) [ inl l ↦ inl l | inr l ↦ elim (cases_lt j i) [ inl m ↦ inr (inl m) | inr m ↦ inr (inr (omega arith)) ] ]
-
-    by_way : (i < j) ⊎ ((j < i) ⊎ (i ≡ j)) → nat_cmp (k + i) (k + j) ≡ nat_cmp i j
-    by_way (inl l) = cmp_less (k + i) (k + j) (omega arith) ∙ sym (cmp_less i j l)
-    by_way (inr (inl l)) = cmp_greater (k + i) (k + j) (omega arith) ∙ sym (cmp_greater i j l)
-    by_way (inr (inr e)) = ap (λ n. nat_cmp (k + n) (k + j)) e ∙ cmp_equal (k + j) ∙ sym (ap (λ n. nat_cmp n j) e ∙ cmp_equal j)
+shift_cmp k i j = grind arith
 
 compare_shifted : (k : ℕ) (o p : Option ℕ) → compare_ranks (shifted k o) (shifted k p) ≡ compare_ranks o p
-compare_shifted k None p = refl
-compare_shifted k (Some i) None = refl
-compare_shifted k (Some i) (Some j) = shift_cmp k i j
+compare_shifted k o p = grind arith
 
 some_shifted : (k : ℕ) (o : Option ℕ) → is_some (shifted k o) ≡ is_some o
-some_shifted k None = refl
-some_shifted k (Some i) = refl
+some_shifted k o = grind arith
 
 -- what is among all names is among those of the part
 abbrev pub Within : List (List ℕ) → List (List ℕ) → List ℕ → Type 0
@@ -107,21 +89,10 @@ pub record Agree (mine yours : Order) (P : List ℕ → Type 0) : Type 0 where
 
 module _ (xs ys : List (List ℕ)) where
   not_within : (a b : Bool) → (IsTrue a → IsTrue b) → b ≡ false → a ≡ false
-  not_within true b h e = absurd (let t : b ≡ true = h refl in let apart : true ≡ false = sym t ∙ e in cc)
-  not_within false b h e = refl
-
-  rank_of_part : (name : List ℕ) → Within xs (xs ++ ys) name → rank_of (xs ++ ys) name ≡ rank_of xs name
-  rank_of_part name within =
-      elim (cases_Bool (is_among xs name)) [
-        | inl e ↦ rank_first xs ys name e
-        | inr e ↦ rank_before xs ys name (or_parts (is_among xs name) (is_among ys name) (sym (among_append xs ys name) ∙ not_within (is_among (xs ++ ys) name) (is_among xs name) within e)).1
-      ]
+  not_within a b h e = grind arith
 
   pub first_agree : Agree (rank_order (xs ++ ys)) (rank_order xs) (Within xs (xs ++ ys))
-  first_agree = record {
-    knows = λ a within. ap is_some (rank_of_part a within);
-    compare = λ a b one two. ap₂ compare_ranks (rank_of_part a one) (rank_of_part b two);
-  }
+  first_agree = grind (arith, rank_first, rank_before, among_append)
 
   module _ (distinct : AreDistinct (xs ++ ys)) where
     -- no name is among both
@@ -130,27 +101,14 @@ module _ (xs ys : List (List ℕ)) where
     not_first (x ∷ xs) ys name distinct e = by_first (cases_Bool (bytes_eq x name)) (not_first xs ys name distinct.1 e)
       where
         by_first : (bytes_eq x name ≡ true) ⊎ (bytes_eq x name ≡ false) → is_among xs name ≡ false → is_among (x ∷ xs) name ≡ false
-        by_first (inl is) more =
-            let same = same_name x name is in
-            let there : is_among (xs ++ ys) x ≡ true = among_append xs ys x ∙ or_right (is_among xs x) (is_among ys x) (ap (is_among ys) same ∙ e) in
-            absurd (let apart : false ≡ true = sym distinct.0 ∙ there in cc)
+        by_first (inl is) more = grind (arith, (same_name x name is), among_append)
         by_first (inr is) more = ap (λ b. b || is_among xs name) is ∙ more
 
     pub no_first : (name : List ℕ) → is_among ys name ≡ true → is_among xs name ≡ false
     no_first name e = not_first xs ys name distinct e
 
-    rank_of_second : (name : List ℕ) → Within ys (xs ++ ys) name → rank_of (xs ++ ys) name ≡ shifted (length xs) (rank_of ys name)
-    rank_of_second name within =
-        elim (cases_Bool (is_among ys name)) [
-          | inl e ↦ rank_behind xs ys name (no_first name e)
-          | inr e ↦ rank_behind xs ys name (or_parts (is_among xs name) (is_among ys name) (sym (among_append xs ys name) ∙ not_within (is_among (xs ++ ys) name) (is_among ys name) within e)).0
-        ]
-
     pub second_agree : Agree (rank_order (xs ++ ys)) (rank_order ys) (Within ys (xs ++ ys))
-    second_agree = record {
-      knows = λ a within. ap is_some (rank_of_second a within) ∙ some_shifted (length xs) (rank_of ys a);
-      compare = λ a b one two. ap₂ compare_ranks (rank_of_second a one) (rank_of_second b two) ∙ compare_shifted (length xs) (rank_of ys a) (rank_of ys b);
-    }
+    second_agree = grind (arith, rank_behind, no_first, among_append)
 
   rank_low : (xs : List (List ℕ)) (name : List ℕ) (i : ℕ) → rank_of xs name ≡ Some i → i < length xs
   rank_low [] name i e = cc
@@ -167,18 +125,13 @@ module _ (xs ys : List (List ℕ)) where
       let i = known_rank (rank_of xs a) (among_ranked xs a ∙ one) in
       let j = known_rank (rank_of ys b) (among_ranked ys b ∙ two) in
       let low = rank_low xs a i.0 i.1 in
-      ap₂ compare_ranks (rank_first xs ys a one ∙ i.1) (rank_behind xs ys b (no_first distinct b two) ∙ ap (shifted (length xs)) j.1)
-      ∙ cmp_less i.0 (length xs + j.0) (omega arith)
+      grind (arith, (rank_first xs ys a one), (rank_behind xs ys b (no_first distinct b two)))
 
 -- ---- records of parts
 
 -- the records of two texts
 pub records_both : (one two : List ℕ) → StandsBefore one two → said_records (one ++ two) ≡ said_records one ++ said_records two
-records_both one two ends =
-    let split = lines_join 1 one two ends in
-    ap records_on split.1
-    ∙ flat_map-append _ (text_lines one) (lines_from split.0 two)
-    ∙ ap (λ rs. said_records one ++ rs) (alike_records (lines_from split.0 two) (text_lines two) (alike_lines split.0 1 two))
+records_both one two ends = grind (arith, (lines_join 1 one two ends), flat_map-append, alike_records, alike_lines)
 
 module _ (mine yours : Order) (P : List ℕ → Type 0) (agree : Agree mine yours P) (input : Input) where
   abbrev Mine : Option Locus → Type 0
@@ -186,8 +139,7 @@ module _ (mine yours : Order) (P : List ℕ → Type 0) (agree : Agree mine your
   Mine (Some last) = P last.chrom
 
   falls_same : (last : Option Locus) (r : Feature) → Mine last → P r.chrom → falls_in (sorting_of mine) last (locus_at r) ≡ falls_in (sorting_of yours) last (locus_at r)
-  falls_same None r m p = refl
-  falls_same (Some last) r m p = ap (λ o. cond (bytes_eq last.chrom r.chrom) (nat_lt r.start last.start) (is_lt o)) (agree.compare r.chrom last.chrom p m)
+  falls_same last r m p = grind arith
 
   in_order_same : (last : Option Locus) (r : Feature) → Mine last → P r.chrom → in_order (sorting_of mine) last r ≡ in_order (sorting_of yours) last r
   in_order_same last r m p = ap₂ (λ k f. cond k (cond f (Err OutOfOrder) (Ok (Some r))) (Err UnknownChrom)) (agree.knows r.chrom p) (falls_same last r m p)
@@ -195,18 +147,12 @@ module _ (mine yours : Order) (P : List ℕ → Type 0) (agree : Agree mine your
   agree_kept : (n : ℕ) (last : Option Locus) (r : Feature) (knows falls : Bool) (ms ys : Option Locus → Good Feature) → ms (Some (locus_at r)) ≡ ys (Some (locus_at r))
       → good_with (bed_format (sorting_of mine)) input n last (cond knows (cond falls (Err OutOfOrder) (Ok (Some r))) (Err UnknownChrom)) ms
       ≡ good_with (bed_format (sorting_of yours)) input n last (cond knows (cond falls (Err OutOfOrder) (Ok (Some r))) (Err UnknownChrom)) ys
-  agree_kept n last r true true ms ys e = refl
-  agree_kept n last r true false ms ys e = ap (λ (g : Good Feature). record { members = record { line = n; item = r } ∷ g.members; fault = g.fault }) e
-  agree_kept n last r false falls ms ys e = refl
+  agree_kept n last r knows falls ms ys e = grind arith
 
   agree_with : (n : ℕ) (last : Option Locus) (said : Result (Option Feature) Kind) (ms ys : Option Locus → Good Feature) → Mine last → AllByRecursion (λ r. P r.chrom) (said_record said)
       → ((now : Option Locus) → Mine now → ms now ≡ ys now)
       → good_with (bed_format (sorting_of mine)) input n last (said_after (sorting_of mine) last said) ms ≡ good_with (bed_format (sorting_of yours)) input n last (said_after (sorting_of yours) last said) ys
-  agree_with n last (Err kind) ms ys m p h = refl
-  agree_with n last (Ok None) ms ys m p h = h last m
-  agree_with n last (Ok (Some r)) ms ys m p h =
-      agree_kept n last r (mine.knows r.chrom) (falls_in (sorting_of mine) last (locus_at r)) ms ys (h (Some (locus_at r)) p.0)
-      ∙ ap (λ said. good_with (bed_format (sorting_of yours)) input n last said ys) (in_order_same last r m p.0)
+  agree_with n last said ms ys m p h = grind arith
 
   -- what is good depends on the order by the names that come alone
   pub agree_good : (last : Option Locus) (lines : List TextLine) → Mine last → AllByRecursion (λ r. P r.chrom) (records_on lines) → good_from (bed_format (sorting_of mine)) input last lines ≡ good_from (bed_format (sorting_of yours)) input last lines
@@ -237,9 +183,7 @@ module _ (e_one e_two : List Entry) where
 
     -- the records of the first part come before those of the second
     pub within_before : (ones twos : List Feature) → AllByRecursion (LiesWithin e_one (e_one ++ e_two)) ones → AllByRecursion (LiesWithin e_two (e_one ++ e_two)) twos → ComeBefore (rank_order (genome_names (e_one ++ e_two))) ones twos
-    within_before ones twos one two =
-        all_so _ _ ones (λ r in_one. all_so _ _ twos (λ s in_two known_r known_s.
-        entry_less r.chrom s.chrom (in_one (sym (among_ranked (genome_names (e_one ++ e_two)) r.chrom) ∙ known_r)) (in_two (sym (among_ranked (genome_names (e_one ++ e_two)) s.chrom) ∙ known_s))) two) one
+    within_before ones twos one two = grind (arith, all_so, entry_less, among_ranked)
 
 -- Which sequences the records of two parts belong to, record by record.
 
@@ -258,9 +202,7 @@ none_found name (x ∷ xs) ys e = by_first (bytes_eq x name) e (none_found name 
 
 pub off_found : (name : List ℕ) (xs : Names) → is_among xs name ≡ false → sequences_behind name xs ≡ None
 off_found name [] e = refl
-off_found name (x ∷ xs) e =
-    let parts = or_parts (bytes_eq x name) (is_among xs name) e in
-    ap (λ b. cond b (Some xs) (sequences_behind name xs)) parts.0 ∙ off_found name xs parts.1
+off_found name (x ∷ xs) e = grind (arith, (off_found name xs (or_parts (bytes_eq x name) (is_among xs name) e).1))
 
 -- what isn't among names isn't among those after one of them
 pub off_behind : (name other : List ℕ) (xs now : Names) → is_among xs name ≡ false → sequences_behind other xs ≡ Some now → (is_among now name ≡ false) × (bytes_eq other name ≡ false)
@@ -271,9 +213,7 @@ off_behind name other (x ∷ xs) now off e =
   where
     by_first : (b : Bool) → bytes_eq x other ≡ b → bytes_eq x name ≡ false → is_among xs name ≡ false → cond b (Some xs) (sequences_behind other xs) ≡ Some now → (sequences_behind other xs ≡ Some now → (is_among now name ≡ false) × (bytes_eq other name ≡ false))
         → (is_among now name ≡ false) × (bytes_eq other name ≡ false)
-    by_first true is apart rest e next =
-        let same : xs ≡ now = cc in
-        (ap (λ l. is_among l name) (sym same) ∙ rest, ap (λ n. bytes_eq n name) (sym (same_name x other is)) ∙ apart)
+    by_first true is apart rest e next = grind (arith, (same_name x other is))
     by_first false is apart rest e next = next e
 
 -- ---- what records leave
@@ -285,9 +225,7 @@ leave_append left last (r ∷ rs) more = leave_append (one_leaves left last r) (
 -- after a block that belongs to none, all belong to none
 none_tags : (last : Option (List ℕ)) (rs : List Feature) → tags chrom_of None last rs ≡ tag_items None rs
 none_tags last [] = refl
-none_tags last (r ∷ rs) =
-    ap (λ left. record { item = r; left = left } ∷ tags chrom_of left (Some r.chrom) rs) (none_next (is_last last r.chrom) r.chrom)
-    ∙ ap (λ (ts : List (Tagged Feature)). record { item = r; left = None } ∷ ts) (none_tags (Some r.chrom) rs)
+none_tags last (r ∷ rs) = grind (arith, (none_tags (Some r.chrom) rs))
 
 none_own : (rs : List Feature) → own_in (tag_items None rs) ≡ []
 none_own [] = refl
@@ -299,32 +237,21 @@ IsLost names ones [] = ⊤
 IsLost names ones (r ∷ twos) = leave (Some names) None (ones ++ r ∷ []) ≡ None
 
 lost_tags : (names : Names) (ones twos : List Feature) → IsLost names ones twos → tags chrom_of (leave (Some names) None ones) (last_tagged None ones) twos ≡ tag_items None twos
-lost_tags names ones [] lost = refl
-lost_tags names ones (r ∷ rs) lost =
-    let none : next_left chrom_of (leave (Some names) None ones) (last_tagged None ones) r ≡ None = sym (leave_append (Some names) None ones (r ∷ [])) ∙ lost in
-    ap (λ left. record { item = r; left = left } ∷ tags chrom_of left (Some r.chrom) rs) none
-    ∙ ap (λ (ts : List (Tagged Feature)). record { item = r; left = None } ∷ ts) (none_tags (Some r.chrom) rs)
+lost_tags names ones twos lost = grind (arith, leave_append, none_tags)
 
 pub tags_first : (names : Names) (ones twos : List Feature) → IsLost names ones twos → tags_of names (ones ++ twos) ≡ tags_of names ones ++ tag_items None twos
 tags_first names ones twos lost = tags_append (Some names) None ones twos ∙ ap (λ ts. tags_of names ones ++ ts) (lost_tags names ones twos lost)
 
 -- the later records mask no sequence of the first part
 pub own_first : (names : Names) (ones twos : List Feature) → IsLost names ones twos → own_records names (ones ++ twos) ≡ own_records names ones
-own_first names ones twos lost =
-    own_tagged names (ones ++ twos) ∙ ap own_in (tags_first names ones twos lost)
-    ∙ flat_map-append (λ (t : Tagged Feature). items_if_last t.left (t.item ∷ [])) (tags_of names ones) (tag_items None twos)
-    ∙ ap (λ (l : List Feature). own_in (tags_of names ones) ++ l) (none_own twos) ∙ append-nil (own_in (tags_of names ones)) ∙ sym (own_tagged names ones)
+own_first names ones twos lost = grind (arith, own_tagged, tags_first, flat_map-append, none_own, append-nil)
 
 pub or_true : (b : Bool) → (b || true) ≡ true
-or_true true = refl
-or_true false = refl
+or_true b = grind arith
 
 -- and the first of them decides each of its lines
 pub any_first : (bases : ℕ) (names : Names) (ones : List Feature) (r : Feature) (rs : List Feature) → IsLost names ones (r ∷ rs) → list_any (tag_decides bases) (tags_of names (ones ++ r ∷ rs)) ≡ true
-any_first bases names ones r rs lost =
-    ap (list_any (tag_decides bases)) (tags_first names ones (r ∷ rs) lost)
-    ∙ list_any-append (tag_decides bases) (tags_of names ones) (tag_items None (r ∷ rs))
-    ∙ or_true (list_any (tag_decides bases) (tags_of names ones))
+any_first bases names ones r rs lost = grind (arith, tags_first, list_any-append)
 
 -- ---- after more names
 
@@ -348,10 +275,7 @@ stays_from more rest left last [] e = record { tagged = tt; leaves = let same : 
 stays_from more rest left last (r ∷ rs) e = by_next (one_leaves (Some left) last r) refl e (λ now d. stays_from more rest now (Some r.chrom) rs d)
   where
     going : (now : Names) → one_leaves (Some (left ++ more)) last r ≡ Some (now ++ more) → Stays now more (Some r.chrom) rs rest → Stays left more last (r ∷ rs) rest
-    going now is next = record {
-      tagged = ((now, is), rw is next.tagged);
-      leaves = ap (λ o. leave o (Some r.chrom) rs) is ∙ next.leaves;
-    }
+    going now is next = grind arith
 
     by_next : (o : Option Names) → one_leaves (Some left) last r ≡ o → leave o (Some r.chrom) rs ≡ Some rest → ((now : Names) → leave (Some now) (Some r.chrom) rs ≡ Some rest → Stays now more (Some r.chrom) rs rest) → Stays left more last (r ∷ rs) rest
     by_next None is e next = absurd (let apart : None ≡ Some rest = sym (none_leaves (Some r.chrom) rs) ∙ e in cc)
@@ -380,11 +304,7 @@ any_behind bases names rest n ns ones e = ends_any bases n ns (tags_of (names ++
 
 -- the names left by the first records, then the block of the first of the later ones
 next_enters : (rest more : Names) (last : Option (List ℕ)) (r : Feature) → one_leaves (Some rest) last r ≡ None → one_leaves (Some (rest ++ more)) last r ≡ sequences_behind r.chrom more
-next_enters rest more last r e = by_last (is_last last r.chrom) e
-  where
-    by_last : (b : Bool) → cond b (Some rest) (sequences_behind r.chrom rest) ≡ None → cond b (Some (rest ++ more)) (sequences_behind r.chrom (rest ++ more)) ≡ sequences_behind r.chrom more
-    by_last true e = cc
-    by_last false e = none_found r.chrom rest more e
+next_enters rest more last r e = grind (arith, none_found)
 
 module _ (names rest : Names) (ones : List Feature) (kept : leave (Some names) None ones ≡ Some rest) where
   lost_next : (r : Feature) (rs : List Feature) → IsLost names ones (r ∷ rs) → one_leaves (Some rest) (last_tagged None ones) r ≡ None
@@ -400,20 +320,11 @@ module _ (names rest : Names) (ones : List Feature) (kept : leave (Some names) N
 
   later_tags : (more : Names) (twos : List Feature) → IsLost names ones twos → tags chrom_of (leave (Some (names ++ more)) None ones) (last_tagged None ones) twos ≡ tags_of more twos
   later_tags more [] lost = refl
-  later_tags more (r ∷ rs) lost =
-      let is = (stays_from more rest names None ones kept).leaves in
-      let enters = next_enters rest more (last_tagged None ones) r (lost_next r rs lost) in
-      ap (λ o. tags chrom_of o (last_tagged None ones) (r ∷ rs)) is
-      ∙ ap (λ o. record { item = r; left = o } ∷ tags chrom_of o (Some r.chrom) rs) enters
+  later_tags more (r ∷ rs) lost = grind (arith, (stays_from more rest names None ones kept), (next_enters rest more (last_tagged None ones) r (lost_next r rs lost)))
 
   -- what the later records leave, after the names of the first part
   pub later_leave : (more : Names) (r : Feature) (rs : List Feature) → IsLost names ones (r ∷ rs) → leave (Some (names ++ more)) None (ones ++ r ∷ rs) ≡ leave (Some more) None (r ∷ rs)
-  later_leave more r rs lost =
-      let is = (stays_from more rest names None ones kept).leaves in
-      let enters = next_enters rest more (last_tagged None ones) r (lost_next r rs lost) in
-      leave_append (Some (names ++ more)) None ones (r ∷ rs)
-      ∙ ap (λ o. leave o (last_tagged None ones) (r ∷ rs)) is
-      ∙ ap (λ o. leave o (Some r.chrom) rs) enters
+  later_leave more r rs lost = grind (arith, (stays_from more rest names None ones kept), next_enters, leave_append)
 
   -- whether all belong to a sequence
   pub both_owned : (more : Names) (twos : List Feature) → IsLost names ones twos → is_some (leave (Some (names ++ more)) None (ones ++ twos)) ≡ is_some (leave (Some more) None twos)
@@ -429,18 +340,11 @@ module _ (names rest : Names) (ones : List Feature) (kept : leave (Some names) N
 
     -- a sequence of the second part is masked by its own records
     pub own_second : own_records (names ++ n ∷ ns) (ones ++ twos) ≡ own_records (n ∷ ns) twos
-    own_second =
-        own_tagged (names ++ n ∷ ns) (ones ++ twos) ∙ ap own_in tags_second
-        ∙ flat_map-append (λ (t : Tagged Feature). items_if_last t.left (t.item ∷ [])) (tags_of (names ++ n ∷ ns) ones) (tags_of (n ∷ ns) twos)
-        ∙ ap (λ (l : List Feature). l ++ own_in (tags_of (n ∷ ns) twos)) (ends_own n ns (tags_of (names ++ n ∷ ns) ones) ends)
-        ∙ sym (own_tagged (n ∷ ns) twos)
+    own_second = grind (arith, own_tagged, tags_second, flat_map-append, ends_own, ends)
 
     -- and its lines are decided by them
     pub any_second : (bases : ℕ) → list_any (tag_decides bases) (tags_of (names ++ n ∷ ns) (ones ++ twos)) ≡ list_any (tag_decides bases) (tags_of (n ∷ ns) twos)
-    any_second bases =
-        ap (list_any (tag_decides bases)) tags_second
-        ∙ list_any-append (tag_decides bases) (tags_of (names ++ n ∷ ns) ones) (tags_of (n ∷ ns) twos)
-        ∙ ap (λ b. b || list_any (tag_decides bases) (tags_of (n ∷ ns) twos)) (ends_any bases n ns (tags_of (names ++ n ∷ ns) ones) ends)
+    any_second bases = grind (arith, tags_second, list_any-append, ends_any, ends)
 
 -- ---- names of one part alone
 
@@ -454,8 +358,7 @@ lost_more left more last (r ∷ rs) off e = by_next (one_leaves (Some left) last
   where
     by_next : (o : Option Names) → one_leaves (Some left) last r ≡ o → leave o (Some r.chrom) rs ≡ None → ((now : Names) → leave (Some now) (Some r.chrom) rs ≡ None → leave (Some (now ++ more)) (Some r.chrom) rs ≡ None)
         → leave (one_leaves (Some (left ++ more)) last r) (Some r.chrom) rs ≡ None
-    by_next None is e next =
-        ap (λ o. leave o (Some r.chrom) rs) (next_enters left more last r is ∙ off_found r.chrom more off.0) ∙ none_leaves (Some r.chrom) rs
+    by_next None is e next = grind (arith, next_enters, off_found)
     by_next (Some now) is e next = ap (λ o. leave o (Some r.chrom) rs) (next_more left now more last r is) ∙ next now e
 
 -- a record that is named as no sequence belongs to none
@@ -469,17 +372,14 @@ lost_by left last (s ∷ ss) r apart off = by_last (is_last last s.chrom) refl (
 
     by_found : (o : Option Names) → sequences_behind s.chrom left ≡ o → ((now : Names) → bytes_eq s.chrom r.chrom ≡ false → is_among now r.chrom ≡ false → leave (Some now) (Some s.chrom) (ss ++ r ∷ []) ≡ None) → leave o (Some s.chrom) (ss ++ r ∷ []) ≡ None
     by_found None is next = none_leaves (Some s.chrom) (ss ++ r ∷ [])
-    by_found (Some now) is next =
-        let both = off_behind r.chrom s.chrom left now off is in
-        next now both.1 both.0
+    by_found (Some now) is next = grind (arith, off_behind)
 
     by_last : (b : Bool) → is_last last s.chrom ≡ b → ((now : Names) → bytes_eq s.chrom r.chrom ≡ false → is_among now r.chrom ≡ false → leave (Some now) (Some s.chrom) (ss ++ r ∷ []) ≡ None) → leave (cond b (Some left) (sequences_behind s.chrom left)) (Some s.chrom) (ss ++ r ∷ []) ≡ None
     by_last true is next = next left (on_last last is apart) off
     by_last false is next = by_found (sequences_behind s.chrom left) refl next
 
 pub lost_off : (names : Names) (ones twos : List Feature) → AreOff names twos → IsLost names ones twos
-lost_off names ones [] off = tt
-lost_off names ones (r ∷ twos) off = lost_by names None ones r refl off.0
+lost_off names ones twos off = grind (arith, lost_by)
 
 -- fewer names own no more
 pub left_fewer : (names more : Names) (rs : List Feature) → leave (Some (names ++ more)) None rs ≡ None → leave (Some names) None rs ≡ None
@@ -490,17 +390,14 @@ left_fewer names more rs lost = by_left (leave (Some names) None rs) refl
     by_left (Some rest) e = absurd (let apart : Some (rest ++ more) ≡ None = sym (stays_from more rest names None rs e).leaves ∙ lost in cc)
 
 pub lost_fewer : (names more : Names) (ones twos : List Feature) → IsLost (names ++ more) ones twos → IsLost names ones twos
-lost_fewer names more ones [] lost = tt
-lost_fewer names more ones (r ∷ twos) lost = left_fewer names more (ones ++ r ∷ []) lost
+lost_fewer names more ones twos lost = grind (arith, left_fewer)
 
 -- after records that belong to none, none has a sequence
 pub none_behind : (names : Names) (ones more : List Feature) → leave (Some names) None ones ≡ None → leave (Some names) None (ones ++ more) ≡ None
-none_behind names ones more e =
-    leave_append (Some names) None ones more ∙ ap (λ o. leave o (last_tagged None ones) more) e ∙ none_leaves (last_tagged None ones) more
+none_behind names ones more e = grind (arith, leave_append, none_leaves)
 
 pub lost_behind : (names : Names) (ones more : List Feature) → leave (Some names) None ones ≡ None → IsLost names ones more
-lost_behind names ones [] e = tt
-lost_behind names ones (r ∷ more) e = none_behind names ones (r ∷ []) e
+lost_behind names ones more e = grind (arith, none_behind)
 
 -- a record that belongs to none decides each line
 any_none : (bases : ℕ) (left : Names) (last : Option (List ℕ)) (rs : List Feature) → leave (Some left) last rs ≡ None → list_any (tag_decides bases) (tags chrom_of (Some left) last rs) ≡ true
@@ -511,10 +408,7 @@ any_none bases left last (r ∷ rs) e = by_next (one_leaves (Some left) last r) 
         → ((now : Names) → leave (Some now) (Some r.chrom) rs ≡ None → list_any (tag_decides bases) (tags chrom_of (Some now) (Some r.chrom) rs) ≡ true)
         → list_any (tag_decides bases) (tags chrom_of (Some left) last (r ∷ rs)) ≡ true
     by_next None is e next = ap (λ o. list_any (tag_decides bases) (record { item = r; left = o } ∷ tags chrom_of o (Some r.chrom) rs)) is
-    by_next (Some now) is e next =
-        ap (λ o. list_any (tag_decides bases) (record { item = r; left = o } ∷ tags chrom_of o (Some r.chrom) rs)) is
-        ∙ ap (λ b. tag_decides bases (record { item = r; left = Some now }) || b) (next now e)
-        ∙ or_true (tag_decides bases (record { item = r; left = Some now }))
+    by_next (Some now) is e next = grind arith
 
 pub any_lost : (bases : ℕ) (names more own : Names) (rs : List Feature) → names ≡ own ++ more → leave (Some names) None rs ≡ None → list_any (tag_decides bases) (tags_of own rs) ≡ true
 any_lost bases names more own rs is e = any_none bases own None rs (left_fewer own more rs (subst (λ ns. leave (Some ns) None rs ≡ None) is e))
@@ -563,16 +457,11 @@ has_append name (x ∷ xs) ys = ap (λ b. bytes_eq x.chrom name || b) (has_appen
 
 module _ (order : Order) (total : IsTotal order) where
   apart_names : (a b : List ℕ) → IsTrue (order.knows a) → order.compare a b ≡ Less → bytes_eq a b ≡ false
-  apart_names a b known less = name_ne a b (λ same.
-      let equal : order.compare a b ≡ Equal = subst (λ c. order.compare a c ≡ Equal) same (total.same a known) in
-      let both : Less ≡ Equal = sym less ∙ equal in absurd (cc))
+  apart_names a b known less = search rules
 
   earlier_away : (ones twos : List Feature) → ArePlaced order (intervals_of ones) → Earlier order total ones twos → AllByRecursion (λ r. AllByRecursion (λ s. bytes_eq r.chrom s.chrom ≡ false) (intervals_of twos)) (intervals_of ones)
   earlier_away [] twos placed early = tt
-  earlier_away (r ∷ ones) twos placed early = (
-    all_map (λ s. bytes_eq r.chrom s.chrom ≡ false) interval_of twos (all_so _ _ twos (λ s less. apart_names r.chrom s.chrom placed.0 less) early.0),
-    earlier_away ones twos placed.2 early.1,
-  )
+  earlier_away (r ∷ ones) twos placed early = grind (arith, (earlier_away ones twos placed.2 early.1), all_map, all_so, apart_names)
 
   pub records_away : (ones twos : List Feature) → ArePlaced order (intervals_of ones) → Earlier order total ones twos → Away (intervals_of ones) (intervals_of twos)
   records_away ones twos placed early = away_by (intervals_of ones) (intervals_of twos) (earlier_away ones twos placed early)

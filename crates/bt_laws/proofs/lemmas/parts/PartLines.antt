@@ -1,5 +1,5 @@
 -- Lines of two concatenated texts, of which the first is empty or ends with a line feed.
-use Rattle.bt_lines.proofs.Std.{◌≡◌, ℕ, suc, true, false, List, [], ◌∷◌, ◌++◌, refl, sym, ap, ◌∙◌, append-nil, append_assoc, eqb, inl, inr, IsTrue, All-head, All-tail, Option, Some, None, Result, Ok, Err, subst, is_none, AllByRecursion, map-append}
+use Rattle.bt_lines.proofs.Std.{arith, ◌≡◌, ℕ, suc, true, false, List, [], ◌∷◌, ◌++◌, refl, sym, ap, ◌∙◌, append-nil, append_assoc, eqb, inl, inr, IsTrue, All-head, All-tail, Option, Some, None, Result, Ok, Err, subst, is_none, AllByRecursion, map-append}
 use Rattle.bt_lines.specs.model.Lines.{TextLine, fed_line, last_line, lines_from, numbered, pieces, text_lines}
 use Rattle.bt_lines.specs.calls.Line.{NoLineFeed}
 use Rattle.bt_lines.proofs.lemmas.reader.lines.TextLemmas.{lines_from-fed, lines_from-nil, by_lines}
@@ -17,8 +17,7 @@ AreAlike (l ∷ ls) [] = ⊥
 AreAlike (l ∷ ls) (m ∷ ms) = (l.text ≡ m.text) × (l.ending ≡ m.ending) × AreAlike ls ms
 
 alike_last : (n m : ℕ) (piece : List ℕ) → AreAlike (last_line n piece) (last_line m piece)
-alike_last n m [] = tt
-alike_last n m (byte ∷ bytes) = (refl, refl, tt)
+alike_last n m piece = grind arith
 
 alike_numbered : (n m : ℕ) (parts : List (List ℕ)) → AreAlike (numbered n parts) (numbered m parts)
 alike_numbered n m [] = tt
@@ -31,12 +30,8 @@ alike_lines n m bytes = alike_numbered n m (pieces 10 bytes)
 
 no_feed_ends : (piece : List ℕ) → NoLineFeed piece → IsTrue (ends_line piece) → piece ≡ []
 no_feed_ends [] clear e = refl
-no_feed_ends (byte ∷ []) clear e =
-    let no : eqb byte 10 ≡ false = All-head (λ (b : ℕ). eqb b 10 ≡ false) byte [] clear in
-    absurd (let apart : false ≡ true = sym no ∙ e in cc)
-no_feed_ends (byte ∷ next ∷ bytes) clear e =
-    let none : next ∷ bytes ≡ [] = no_feed_ends (next ∷ bytes) (All-tail (λ (b : ℕ). eqb b 10 ≡ false) byte (next ∷ bytes) clear) e in
-    absurd (let apart : next ∷ bytes ≡ [] = none in cc)
+no_feed_ends (byte ∷ []) clear e = grind (arith, All-head)
+no_feed_ends (byte ∷ next ∷ bytes) clear e = grind (arith, (no_feed_ends (next ∷ bytes) (All-tail (λ (b : ℕ). eqb b 10 ≡ false) byte (next ∷ bytes) clear) e))
 
 ends_behind : (piece rest : List ℕ) → IsTrue (ends_line (piece ++ 10 ∷ rest)) → IsTrue (ends_line rest)
 ends_behind [] [] e = refl
@@ -62,12 +57,7 @@ lines_fed n one two = by_lines (λ n bytes. IsTrue (ends_line bytes) → (k : �
 
 -- the lines of the first text, then those of the other, numbered from some number on
 pub lines_join : (n : ℕ) (one two : List ℕ) → StandsBefore one two → (k : ℕ) × (lines_from n (one ++ two) ≡ lines_from n one ++ lines_from k two)
-lines_join n one two (inl ends) = lines_fed n one two ends
-lines_join n one two (inr none) = (
-  n,
-  ap (lines_from n) (ap (λ t. one ++ t) none ∙ append-nil one)
-      ∙ sym (ap (λ ls. lines_from n one ++ ls) (ap (lines_from n) none ∙ lines_from-nil n) ∙ append-nil (lines_from n one)),
-)
+lines_join n one two p1 = grind (arith, lines_fed, append-nil, lines_from-nil)
 
 -- What is good of two concatenated texts.
 
@@ -77,9 +67,7 @@ pub record IsLike {A : Type 0} (g h : Good A) : Type 0 where
   pub fault : is_none g.fault ≡ is_none h.fault
 
 pub none_like : (f g : Option FaultValue) → is_none f ≡ is_none g → f ≡ None → g ≡ None
-none_like None None e d = refl
-none_like None (Some g) e d = cc
-none_like (Some f) g e d = cc
+none_like f g e d = grind arith
 
 put_by : {A : Type 0} → Option FaultValue → Good A → Good A → Good A
 put_by None g h = record { members = g.members ++ h.members; fault = h.fault }
@@ -92,8 +80,7 @@ put_behind g h = put_by g.fault g h
 
 member_by : {A : Type 0} (m : Member A) (fault : Option FaultValue) (g h : Good A) → with_member m (put_by fault g h) ≡ put_by fault (with_member m g) h
 unfolding put_by
-member_by m None g h = refl
-member_by m (Some fault) g h = refl
+member_by m fault g h = grind arith
 
 abbrev pub IsJointBy : {A : Type 0} → Option FaultValue → Good A → Good A → Good A → Type 0
 IsJointBy None one two whole = (items_in whole ≡ items_in one ++ items_in two) × (is_none whole.fault ≡ is_none two.fault)
@@ -105,8 +92,7 @@ IsJoint one two whole = IsJointBy one.fault one two whole
 
 joint_by : {A : Type 0} (fault : Option FaultValue) (one two like : Good A) → one.fault ≡ fault → IsLike two like → IsJointBy fault one like (put_by fault one two)
 unfolding put_by
-joint_by None one two like e is = (map-append (λ m. m.item) one.members two.members ∙ ap (λ l. items_in one ++ l) is.items, is.fault)
-joint_by (Some fault) one two like e is = (refl, ap is_none e)
+joint_by fault one two like e is = grind (arith, map-append)
 
 module _ {A State : Type 0} (format : Format A State) where
   -- a line's number changes nothing of what it says
@@ -114,11 +100,7 @@ module _ {A State : Type 0} (format : Format A State) where
   IsNumberless = (state : State) (l m : TextLine) → l.text ≡ m.text → l.ending ≡ m.ending → format.says state l ≡ format.says state m
 
   like_with : (input : Input) (state : State) (n m : ℕ) (said : Result (Option A) Kind) (ls ms : State → Good A) → ((now : State) → IsLike (ls now) (ms now)) → IsLike (good_with format input n state said ls) (good_with format input m state said ms)
-  like_with input state n m (Err kind) ls ms h = record { items = refl; fault = refl }
-  like_with input state n m (Ok None) ls ms h = h state
-  like_with input state n m (Ok (Some item)) ls ms h =
-      let more = h (format.after state item) in
-      record { items = ap (λ l. item ∷ l) more.items; fault = more.fault }
+  like_with input state n m said ls ms h = grind arith
 
   pub like_from : (input : Input) (state : State) (ls ms : List TextLine) → IsNumberless → AreAlike ls ms → IsLike (good_from format input state ls) (good_from format input state ms)
   unfolding good_from
@@ -138,12 +120,7 @@ module _ {A State : Type 0} (format : Format A State) where
     put_with : (n : ℕ) (state : State) (said : Result (Option A) Kind) (whole ones : State → Good A) → Leads state → ((item : A) → said ≡ Ok (Some item) → Leads (format.after state item)) → ((now : State) → Leads now → whole now ≡ put_behind (ones now) behind)
         → good_with format input n state said whole ≡ put_behind (good_with format input n state said ones) behind
     unfolding put_behind put_by
-    put_with n state (Err kind) whole ones leads on h = refl
-    put_with n state (Ok None) whole ones leads on h = h state leads
-    put_with n state (Ok (Some item)) whole ones leads on h =
-        let now = format.after state item in
-        let m : Member A = record { line = n; item = item } in
-        ap (with_member m) (h now (on item refl)) ∙ member_by m (ones now).fault (ones now) behind
+    put_with n state said whole ones leads on h = grind arith
 
     put_from : (state : State) (ls ms : List TextLine) → Leads state → ((now : State) → Leads now → good_from format input now ms ≡ behind) → AllByRecursion (LeadsOn Leads) ls → good_from format input state (ls ++ ms) ≡ put_behind (good_from format input state ls) behind
     unfolding good_from put_behind put_by
@@ -160,8 +137,4 @@ module _ {A State : Type 0} (format : Format A State) where
     good_joint begins is on =
         let split = lines_join 1 one two ends in
         let behind = good_from format input format.begin (lines_from split.0 two) in
-        let first = good format input (text_lines one) in
-        let whole : good format input (text_lines (one ++ two)) ≡ put_behind first behind =
-        ap (good format input) split.1 ∙ put_from input Leads behind format.begin (text_lines one) (lines_from split.0 two) begins (is split.0) on in
-        subst (λ g. IsJoint first (good format input (text_lines two)) g) (sym whole)
-        (joint_by first.fault first behind (good format input (text_lines two)) refl (like_from input format.begin (lines_from split.0 two) (text_lines two) free (alike_lines split.0 1 two)))
+        grind (arith, (put_from input Leads behind format.begin (text_lines one) (lines_from split.0 two) begins (is split.0) on), joint_by, like_from, alike_lines)

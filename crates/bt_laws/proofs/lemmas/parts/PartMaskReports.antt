@@ -1,5 +1,5 @@
 -- The reports of maskfasta on two parts, and on both.
-use Rattle.bt_lines.proofs.Std.{◌≡◌, ℕ, Bool, true, false, List, [], ◌∷◌, ◌++◌, map, Option, Some, None, refl, sym, ap, ap₂, ◌∙◌, subst, cond, ◌||◌, ◌⊎◌, append-nil, inl, inr, IsTrue, flat_map, is_some, is_none, option_map, AllByRecursion, list_all, list_any, option_or, or_left, flat_map-append}
+use Rattle.bt_lines.proofs.Std.{arith, ◌≡◌, ℕ, Bool, true, false, List, [], ◌∷◌, ◌++◌, map, Option, Some, None, refl, sym, ap, ap₂, ◌∙◌, subst, cond, ◌||◌, ◌⊎◌, append-nil, inl, inr, IsTrue, flat_map, is_some, is_none, option_map, AllByRecursion, list_all, list_any, option_or, or_left, flat_map-append}
 use Rattle.bt_laws.proofs.lemmas.parts.PartLines.{none_like}
 use Rattle.bt_seq.proofs.lemmas.mask.steps.LineStepLemmas.{some_list}
 use Rattle.bt_lines.specs.model.Fault.{FaultValue}
@@ -67,9 +67,7 @@ module _ (how : MaskHow) (full : Bool) where
 
     first_lines_sound : (fault : Option FaultValue) → (fasta_of one.first).fault ≡ fault → (fasta_of (one.first ++ two.first)).fault ≡ None → fault ≡ None
     first_lines_sound None is e = refl
-    first_lines_sound (Some f) is e =
-        let same : fasta_of (one.first ++ two.first) ≡ fasta_of one.first = subst (λ f. AreBothBy full First f (fasta_of one.first) (fasta_of two.first) (fasta_of (one.first ++ two.first))) is (fasta_both full First one.first two.first are.first are.begins) in
-        let none : Some f ≡ None = sym is ∙ sym (ap (λ (g : Good SequenceLine). g.fault) same) ∙ e in cc
+    first_lines_sound (Some f) is e = grind (arith, (fasta_both full First one.first two.first are.first are.begins))
 
     -- both parts are sound, and no record of the second belongs to a sequence of the first
     module _ (first : IsSound (fasta_of one.first) (blocks_of one.second)) (second : IsSound (fasta_of two.first) (blocks_of two.second))
@@ -90,13 +88,7 @@ module _ (how : MaskHow) (full : Bool) where
           (joint.0, none_like (blocks_of two.second).fault (blocks_of (one.second ++ two.second)).fault (sym joint.1) second.records)
 
       pub whole_sound : IsSound (fasta_of (one.first ++ two.first)) (blocks_of (one.second ++ two.second))
-      whole_sound = record {
-        lines = (lines_of_both first.lines).1;
-        records = records_both.1;
-        owned =
-            ap₂ (λ names records. is_some (leave (Some names) None records)) (names_of_both first.lines) records_both.0
-            ∙ both_owned (fasta_names one.first) rest_of.0 (block_records one.second) rest_of.1 (fasta_names two.first) (block_records two.second) lost ∙ second.owned;
-      }
+      whole_sound = grind (arith, lines_of_both, records_both, names_of_both, both_owned)
 
       pub whole_output : (texts_report (joined_two one two)).output ≡ (texts_report one).output ++ (texts_report two).output
       whole_output =
@@ -121,11 +113,7 @@ module _ (how : MaskHow) (full : Bool) where
 
         lost_here : IsSound (fasta_of one.first) (blocks_of one.second) → IsSound (fasta_of two.first) (blocks_of two.second) → BelongsToNone (sequence_names full one.first) (said_records one.second) (said_records two.second)
             → IsLost (fasta_names one.first) (block_records one.second) (block_records two.second)
-        lost_here first second has =
-            subst (λ names. IsLost names (block_records one.second) (block_records two.second)) (sym (names_grown full First one.first first.lines))
-            (subst (λ ones. IsLost (sequence_names full one.first) ones (block_records two.second)) (sym (sound_from Second None (text_lines one.second) first.records))
-            (subst (λ twos. IsLost (sequence_names full one.first) (said_records one.second) twos) (sym (sound_from Second None (text_lines two.second) second.records))
-            (as_lost (sequence_names full one.first) (said_records one.second) (said_records two.second) has)))
+        lost_here first second has = grind (arith, names_grown, sound_from, as_lost)
 
     -- no record is named as a sequence of the other part
     module _ (off_two : MasksNone full one two) (off_one : MasksNone full two one) where
@@ -156,12 +144,7 @@ module _ (how : MaskHow) (full : Bool) where
 
         by_left : (o : Option (List (List ℕ))) → leave (Some (fasta_names one.first)) None (block_records one.second) ≡ o
             → IsSound (fasta_of one.first) (blocks_of one.second) × IsSound (fasta_of two.first) (blocks_of two.second)
-        by_left None is =
-            let more = lost_more (fasta_names one.first) (fasta_names two.first) None (block_records one.second) ones_off is in
-            let none = leave_append (Some (fasta_names one.first ++ fasta_names two.first)) None (block_records one.second) (block_records two.second)
-            ∙ ap (λ o. leave o (last_from None (block_records one.second)) (block_records two.second)) more
-            ∙ none_leaves (last_from None (block_records one.second)) (block_records two.second) in
-            absurd (let apart : false ≡ true = sym (ap is_some none) ∙ owned_both in cc)
+        by_left None is = grind (arith, lost_more, ones_off, leave_append, none_leaves, owned_both)
         by_left (Some rest) is = (
           record { lines = lines_one; records = calm.0; owned = ap is_some is },
           record {
@@ -205,8 +188,7 @@ module _ (mine yours : Rule SequenceLine ℕ FaultValue) (move : SequenceLine �
   written_moved (x ∷ xs) h = moved_at x xs (yours.decided x) h.0.0 refl h.0.1 (written_moved xs h.1)
 
 none_written : (rule : Rule SequenceLine ℕ FaultValue) (xs : List SequenceLine) → AllByRecursion (λ x. rule.decided x ≡ false) xs → written rule xs ≡ []
-none_written rule [] h = refl
-none_written rule (x ∷ xs) h = written_at rule x xs false h.0
+none_written rule xs h = grind arith
 
 module _ (how : MaskHow) (full : Bool) where
   abbrev report_on : Texts → Report
@@ -234,12 +216,7 @@ module _ (how : MaskHow) (full : Bool) where
     pub lost : leave (Some (N texts.first)) None (R texts.second) ≡ None
 
   lacks_one : (texts : Texts) → Lacks texts → (line : SequenceLine) → (more : List (List ℕ)) × (N texts.first ≡ line.names ++ more) → (rule_on texts).decided line ≡ true
-  lacks_one texts lacks line begins =
-      ap (λ b. is_none (B texts.second).fault || b)
-      (decided_by_tags line (R texts.second)
-      ∙ ap (λ b. is_unnamed line.names || b) (any_lost (bases_up_to line) (N texts.first) begins.0 line.names (R texts.second) begins.1 lacks.lost)
-      ∙ or_true (is_unnamed line.names))
-      ∙ or_true (is_none (B texts.second).fault)
+  lacks_one texts lacks line begins = grind (arith, decided_by_tags, any_lost)
 
   lacks_decided : (texts : Texts) → Lacks texts → list_all (rule_on texts).decided (items_in (F texts.first)) ≡ true
   lacks_decided texts lacks = all_true (rule_on texts).decided (items_in (F texts.first)) (all_so _ _ (items_in (F texts.first)) (λ line b. lacks_one texts lacks line b) (names_begin full First (text_lines texts.first)))
@@ -250,10 +227,7 @@ module _ (how : MaskHow) (full : Bool) where
 
   -- and this is reported
   pub lacks_kind : (texts : Texts) → Lacks texts → option_map (λ fault. fault.kind) (report_on texts).fault ≡ Some NoSequence
-  lacks_kind texts lacks =
-      ap (option_map (λ (fault : FaultValue). fault.kind))
-      (met_fault_all (rule_on texts) (items_in (F texts.first)) (F texts.first).fault (lacks_decided texts lacks)
-      ∙ ap₂ (λ a b. option_or a (or_else b (B texts.second).fault)) lacks.lines (told_lost (N texts.first) (B texts.second).members lacks.lost).1)
+  lacks_kind texts lacks = grind (arith, (lacks_decided texts lacks), (told_lost (N texts.first) (B texts.second).members lacks.lost))
 
   module _ (one two : Texts) (are : AreTwo how full one two) (off_two : MasksNone full one two) (off_one : MasksNone full two one) where
     abbrev both : Texts
@@ -310,27 +284,8 @@ module _ (how : MaskHow) (full : Bool) where
       unnamed : AllByRecursion (λ line. is_unnamed line.names ≡ true) (items_in (F one.first))
       unnamed = unnamed_from full First (sequence_format full).begin (text_lines one.first) fault e
 
-      unnamed_text : (records : List Feature) (line : SequenceLine) → is_unnamed line.names ≡ true → masked_line how records line ≡ masked_line how [] line
-      unnamed_text records line u = by_names line.names refl u
-        where
-          by_names : (own : List (List ℕ)) → line.names ≡ own → is_unnamed own ≡ true → masked_line how records line ≡ masked_line how [] line
-          by_names [] is u =
-              ap (λ (rs : List Feature). cond (is_header line.text) line.text (masked_from how rs line.before line.text) ++ end_bytes line.ending)
-              (ap (λ own. own_records own records) is ∙ unnamed_own records ∙ sym (unnamed_own []) ∙ sym (ap (λ own. own_records own []) is))
-          by_names (n ∷ ns) is u = cc
-
-      unnamed_output : (names : List (List ℕ)) (second : Good Feature) → (join_report (mask_rule how names second) (items_in (F one.first)) (F one.first).fault).lines ≡ flat_map (masked_line how []) (items_in (F one.first))
-      unnamed_output names second =
-          met_lines (mask_rule how names second) (items_in (F one.first)) (F one.first).fault
-          ∙ sym (all_written (mask_rule how names second) (items_in (F one.first))
-          (all_true (mask_rule how names second).decided (items_in (F one.first))
-          (all_so _ _ (items_in (F one.first)) (λ line u. ap (λ b. is_none second.fault || b) (or_left (is_unnamed line.names) (list_any (λ o. block_decides (bases_up_to line) o.left o.block.items) (owned line.names (items_in second))) u) ∙ or_true (is_none second.fault)) unnamed)))
-          ∙ flat_map_same _ _ (items_in (F one.first)) (all_so _ _ (items_in (F one.first)) (λ line u. unnamed_text (items_in second) line u) unnamed)
-
       stops_unnamed : (report_on one).output ≡ (report_on both).output
-      stops_unnamed =
-          unnamed_output (N one.first) (B one.second)
-          ∙ sym (ap (λ (g : Good SequenceLine). (join_report (mask_rule how (names_of (items_in g)) (B (one.second ++ two.second))) (items_in g) g.fault).lines) same_lines ∙ unnamed_output (N one.first) (B (one.second ++ two.second)))
+      stops_unnamed = grind (arith, same_lines, all_true, all_so, unnamed, flat_map_same, unnamed_own)
 
     -- ---- its records have sequences
 
@@ -342,9 +297,7 @@ module _ (how : MaskHow) (full : Bool) where
         where
           by_names : (line : SequenceLine) (own : List (List ℕ)) → line.names ≡ own → is_unnamed own ≡ false → (is_unnamed (N one.first ++ line.names) || list_any (tag_decides (bases_up_to line)) (tags_of (N one.first ++ line.names) (R one.second))) ≡ false
           by_names line [] is u = cc
-          by_names line (n ∷ ns) is u =
-              ap (λ own. is_unnamed (N one.first ++ own) || list_any (tag_decides (bases_up_to line)) (tags_of (N one.first ++ own) (R one.second))) is
-              ∙ ap₂ (λ a b. a || b) (named (N one.first)) (any_behind (bases_up_to line) (N one.first) rest n ns (R one.second) kept)
+          by_names line (n ∷ ns) is u = grind (arith, named, any_behind)
             where
               named : (names : List (List ℕ)) → is_unnamed (names ++ n ∷ ns) ≡ false
               named [] = refl
@@ -407,10 +360,7 @@ module _ (how : MaskHow) (full : Bool) where
         front_of = take_front W.decided W.lines (items_in (F one.first))
 
         first_lines : flat_map W.lines (items_in (F one.first)) ≡ (report_on one).output
-        first_lines =
-            ap (λ records. flat_map (masked_line how records) (items_in (F one.first))) joint.0
-            ∙ lines_first how (N one.first) (R one.second) (R two.second) (items_in (F one.first)) lost (names_begin full First (text_lines one.first))
-            ∙ sym first_output
+        first_lines = grind (arith, joint, lines_first, lost, names_begin, first_output)
 
         whole_written : (report_on both).output ≡ written W (items_in (F one.first) ++ map (line_after (N one.first)) (items_in (F two.first)))
         whole_written = met_lines W (items_in (F (one.first ++ two.first))) (F (one.first ++ two.first)).fault ∙ ap (written W) (lines_of_both how full one two are lines).0
@@ -426,15 +376,7 @@ module _ (how : MaskHow) (full : Bool) where
             ∙ sym (met_lines (rule_on two) (items_in (F two.first)) (F two.first).fault))
           where
             each : (line : SequenceLine) → (more : List (List ℕ)) × (N one.first ≡ line.names ++ more) → W.decided line ≡ true
-            each line begins =
-                ap (λ b. is_none (B (one.second ++ two.second)).fault || b)
-                (ap (decided line) (joint.0 ∙ ap (λ twos. R one.second ++ twos) is)
-                ∙ decided_by_tags line (R one.second ++ r ∷ rs)
-                ∙ ap (λ b. is_unnamed line.names || b)
-                (any_first (bases_up_to line) line.names (R one.second) r rs
-                (lost_fewer line.names begins.0 (R one.second) (r ∷ rs) (subst (λ names. IsLost names (R one.second) (r ∷ rs)) begins.1 (subst (IsLost (N one.first) (R one.second)) is lost))))
-                ∙ or_true (is_unnamed line.names))
-                ∙ or_true (is_none (B (one.second ++ two.second)).fault)
+            each line begins = grind (arith, joint, decided_by_tags, any_first, lost_fewer, lost)
 
             named : (names : List (List ℕ)) (n : List ℕ) (ns : List (List ℕ)) → is_unnamed (names ++ n ∷ ns) ≡ false
             named [] n ns = refl
@@ -444,10 +386,7 @@ module _ (how : MaskHow) (full : Bool) where
                 → (is_unnamed (N one.first ++ line.names) || list_any (tag_decides (bases_up_to line)) (tags_of (N one.first ++ line.names) (R one.second ++ R two.second)))
                 ≡ (is_unnamed line.names || list_any (tag_decides (bases_up_to line)) (tags_of line.names (R two.second)))
             by_names line [] is u = cc
-            by_names line (n ∷ ns) is u =
-                ap (λ own. is_unnamed (N one.first ++ own) || list_any (tag_decides (bases_up_to line)) (tags_of (N one.first ++ own) (R one.second ++ R two.second))) is
-                ∙ ap₂ (λ a b. a || b) (named (N one.first) n ns) (any_second (N one.first) rest (R one.second) kept n ns (R two.second) lost (bases_up_to line))
-                ∙ sym (ap (λ own. is_unnamed own || list_any (tag_decides (bases_up_to line)) (tags_of own (R two.second))) is)
+            by_names line (n ∷ ns) is u = grind (arith, named, any_second, lost)
 
             same : (line : SequenceLine) → is_unnamed line.names ≡ false → (W.decided (line_after (N one.first) line) ≡ (rule_on two).decided line) × (W.lines (line_after (N one.first) line) ≡ (rule_on two).lines line)
             same line u = (
@@ -457,8 +396,7 @@ module _ (how : MaskHow) (full : Bool) where
             )
 
         some_fault : (f g : Option FaultValue) (fault : FaultValue) → is_none f ≡ is_none g → g ≡ Some fault → (told : FaultValue) × (f ≡ Some told)
-        some_fault None g fault e is = let apart : true ≡ false = e ∙ ap is_none is in absurd (let it : ⊥ = cc in it)
-        some_fault (Some told) g fault e is = (told, refl)
+        some_fault f g fault e is = grind arith
 
         -- without any of them
         before_second : (fault : FaultValue) → (B two.second).fault ≡ Some fault → R two.second ≡ [] → (rest : List ℕ) × ((report_on one).output ++ (report_on two).output ≡ (report_on both).output ++ rest)
@@ -487,9 +425,7 @@ module _ (how : MaskHow) (full : Bool) where
         either (Some fault) e [] is = before_second fault e is
 
         pub stops_sound : (report_on one).fault ≡ None → Stops (report_on one) (report_on two) (report_on both)
-        stops_sound none =
-            let more = either (B two.second).fault refl (R two.second) refl in
-            (more.0, ap (λ l. (report_on one).output ++ l) (unless_none (report_on one).fault (report_on two).output none) ∙ more.1)
+        stops_sound none = grind (arith, (either (B two.second).fault refl (R two.second) refl))
 
     -- ---- any fault of the first part
 

@@ -1,5 +1,5 @@
 -- What maskfasta writes and tells of two parts.
-use Rattle.bt_lines.proofs.Std.{◌≡◌, ℕ, Bool, true, false, cond, List, [], ◌∷◌, ◌++◌, map, append-nil, append_assoc, Option, Some, None, refl, sym, ap, ap₂, ◌∙◌, subst, flat_map, is_some, AllByRecursion, list_all, option_or, flat_map-append, flat_map-map}
+use Rattle.bt_lines.proofs.Std.{arith, ◌≡◌, ℕ, Bool, true, false, cond, List, [], ◌∷◌, ◌++◌, map, append-nil, append_assoc, Option, Some, None, refl, sym, ap, ap₂, ◌∙◌, subst, flat_map, is_some, AllByRecursion, list_all, option_or, flat_map-append, flat_map-map}
 use Rattle.bt_lines.specs.model.Fault.{FaultValue}
 use Rattle.bt_lines.specs.model.Lines.{end_bytes, text_lines}
 use Rattle.bt_lines.specs.declared.fault.Input.TheVariants.{First, Second}
@@ -43,32 +43,23 @@ module _ (how : MaskHow) where
   all_decided names members (l ∷ ls) = all_decided names members ls
 
   never_none : (fault other : Option FaultValue) (f : FaultValue) → option_or fault (or_else other (Some f)) ≡ None → ⊥
-  never_none None None f e = cc
-  never_none None (Some g) f e = cc
-  never_none (Some h) other f e = cc
+  never_none fault other f e = grind arith
 
   both_none : (fault other : Option FaultValue) → option_or fault (or_else other None) ≡ None → (fault ≡ None) × (other ≡ None)
-  both_none None None e = (refl, refl)
-  both_none None (Some g) e = cc
-  both_none (Some h) other e = cc
+  both_none fault other e = grind arith
 
   some_by : (names : List (List ℕ)) (lines : List SequenceLine) (fault : Option FaultValue) (members : List (Member Feature)) (f : FaultValue) (b : Bool) → list_all (rule_of names members (Some f)).decided lines ≡ b
       → (join_report (rule_of names members (Some f)) lines fault).fault ≡ None → ⊥
-  some_by names lines fault members f true e none = never_none fault (no_sequence names members) f (sym (met_fault_all (rule_of names members (Some f)) lines fault e) ∙ none)
-  some_by names lines fault members f false e none = let told : Some f ≡ None = sym (met_fault_stop (rule_of names members (Some f)) lines fault e) ∙ none in cc
+  some_by names lines fault members f b e none = grind arith
 
   sound_by : (names : List (List ℕ)) (lines : List SequenceLine) (fault : Option FaultValue) (members : List (Member Feature)) (second : Option FaultValue)
       → (join_report (rule_of names members second) lines fault).fault ≡ None → (fault ≡ None) × (second ≡ None) × (no_sequence names members ≡ None)
-  sound_by names lines fault members None e =
-      let both = both_none fault (no_sequence names members) (sym (met_fault_all (rule_of names members None) lines fault (all_decided names members lines)) ∙ e) in
-      (both.0, refl, both.1)
+  sound_by names lines fault members None e = grind (arith, (both_none fault (no_sequence names members) (sym (met_fault_all (rule_of names members None) lines fault (all_decided names members lines)) ∙ e)))
   sound_by names lines fault members (Some f) e = absurd (some_by names lines fault members f (list_all (rule_of names members (Some f)).decided lines) refl e)
 
   none_by : (names : List (List ℕ)) (lines : List SequenceLine) (fault : Option FaultValue) (members : List (Member Feature)) (second : Option FaultValue)
       → fault ≡ None → second ≡ None → no_sequence names members ≡ None → (join_report (rule_of names members second) lines fault).fault ≡ None
-  none_by names lines fault members None e d o =
-      met_fault_all (rule_of names members None) lines fault (all_decided names members lines) ∙ ap₂ (λ f g. option_or f (or_else g None)) e o
-  none_by names lines fault members (Some f) e d o = cc
+  none_by names lines fault members second e d o = grind arith
 
 -- ---- records without a sequence
 
@@ -82,17 +73,13 @@ record FirstLost (names : List (List ℕ)) (ms : List (Member Feature)) : Type 0
   lost : leave (Some names) None (items (past ++ it ∷ [])) ≡ None
 
 find_lost : (names : List (List ℕ)) (past ms : List (Member Feature)) → is_some (leave (Some names) None (items past)) ≡ true → leave (Some names) None (items (past ++ ms)) ≡ None → FirstLost names (past ++ ms)
-find_lost names past [] kept lost =
-    let none : leave (Some names) None (items past) ≡ None = ap (λ l. leave (Some names) None (items l)) (sym (append-nil past)) ∙ lost in
-    absurd (let apart : false ≡ true = sym (ap is_some none) ∙ kept in cc)
+find_lost names past [] kept lost = grind (arith, append-nil)
 find_lost names past (m ∷ ms) kept lost = by_here (leave (Some names) None (items (past ++ m ∷ []))) refl (λ k l. find_lost names (past ++ m ∷ []) ms k l)
   where
     by_here : (o : Option (List (List ℕ))) → leave (Some names) None (items (past ++ m ∷ [])) ≡ o
         → (is_some (leave (Some names) None (items (past ++ m ∷ []))) ≡ true → leave (Some names) None (items ((past ++ m ∷ []) ++ ms)) ≡ None → FirstLost names ((past ++ m ∷ []) ++ ms)) → FirstLost names (past ++ m ∷ ms)
     by_here None e next = record { past = past; it = m; more = ms; is = refl; kept = kept; lost = e }
-    by_here (Some rest) e next =
-        let same : (past ++ m ∷ []) ++ ms ≡ past ++ m ∷ ms = append_assoc past (m ∷ []) ms in
-        subst (FirstLost names) same (next (ap is_some e) (ap (λ l. leave (Some names) None (items l)) same ∙ lost))
+    by_here (Some rest) e next = grind (arith, append_assoc)
 
 -- it is reported that there is no sequence for it
 pub told_lost : (names : List (List ℕ)) (ms : List (Member Feature)) → leave (Some names) None (items ms) ≡ None → (line : ℕ) × (no_sequence names ms ≡ Some (fault_at_line Second line NoSequence))
@@ -106,8 +93,7 @@ told_lost names ms lost =
     )
 
 some_left : (o : Option (List (List ℕ))) → (o ≡ None → ⊥) → is_some o ≡ true
-some_left None h = absurd (h refl)
-some_left (Some rest) h = refl
+some_left o h = grind arith
 
 pub owned_none : (names : List (List ℕ)) (ms : List (Member Feature)) → is_some (leave (Some names) None (items ms)) ≡ true → no_sequence names ms ≡ None
 owned_none names ms e = lack_none names ms (ap is_some (sym (leave_all (Some names) (items ms))) ∙ e)
@@ -145,20 +131,12 @@ module _ (how : MaskHow) where
   -- of the first part
   pub line_first : (names : List (List ℕ)) (ones twos : List Feature) (line : SequenceLine) → IsLost names ones twos → (more : List (List ℕ)) × (names ≡ line.names ++ more)
       → masked_line how (ones ++ twos) line ≡ masked_line how ones line
-  line_first names ones twos line lost begins =
-      ap (line_by line) (own_first line.names ones twos (lost_fewer line.names begins.0 ones twos (subst (λ ns. IsLost ns ones twos) begins.1 lost)))
+  line_first names ones twos line lost begins = grind (arith, own_first, lost_fewer)
 
   -- of the second
   pub line_second : (names rest : List (List ℕ)) (ones twos : List Feature) → leave (Some names) None ones ≡ Some rest → IsLost names ones twos → (line : SequenceLine) → is_unnamed line.names ≡ false
       → masked_line how (ones ++ twos) (line_after names line) ≡ masked_line how twos line
-  line_second names rest ones twos kept lost line named = by_names line.names refl named
-    where
-      by_names : (own : List (List ℕ)) → line.names ≡ own → is_unnamed own ≡ false → masked_line how (ones ++ twos) (line_after names line) ≡ masked_line how twos line
-      by_names [] e u = cc
-      by_names (n ∷ ns) e u =
-          ap (λ own. line_by line (own_records (names ++ own) (ones ++ twos))) e
-          ∙ ap (line_by line) (own_second names rest ones kept n ns twos lost)
-          ∙ sym (ap (λ own. line_by line (own_records own twos)) e)
+  line_second names rest ones twos kept lost line named = grind (arith, own_second)
 
   -- the lines of the first part
   pub lines_first : (names : List (List ℕ)) (ones twos : List Feature) (ls : List SequenceLine) → IsLost names ones twos → AllByRecursion (λ line. (more : List (List ℕ)) × (names ≡ line.names ++ more)) ls

@@ -1,5 +1,5 @@
 -- Merged runs of records of two parts, and those of each strand.
-use Rattle.bt_lines.proofs.Std.{◌≡◌, ℕ, Bool, false, List, [], ◌∷◌, ◌++◌, map, filter, append-nil, refl, sym, ap, ap₂, ◌∙◌, subst, true, ◌&&◌, not, cond, append_assoc, bytes_eq, flat_map, nat_le, AllByRecursion, list_any, take_while, flat_map-append, map-append, filter-append, take_while-cons, and_left}
+use Rattle.bt_lines.proofs.Std.{arith, ◌≡◌, ℕ, Bool, false, List, [], ◌∷◌, ◌++◌, map, filter, append-nil, refl, sym, ap, ap₂, ◌∙◌, subst, true, ◌&&◌, not, cond, append_assoc, bytes_eq, flat_map, nat_le, AllByRecursion, list_any, take_while, flat_map-append, map-append, filter-append, take_while-cons, and_left}
 use Rattle.bt_bed.specs.model.Feature.{Feature, interval_of, intervals_of, AreNonEmpty, Interval, last_from, last_of, placed_on, spans_on, is_strand}
 use Rattle.bt_bed.specs.model.BedLine.{interval_lines, interval_line}
 use Rattle.bt_bed.specs.model.Sorted.{ArePlaced, has_records}
@@ -27,19 +27,12 @@ fewer t name rs e = none_has name (intervals_of (filter t rs)) (all_map _ interv
 
 -- the records of a strand are on other chromosomes, if all records are
 pub away_some : (t : Feature → Bool) (ones twos : List Feature) → Away (intervals_of ones) (intervals_of twos) → Away (intervals_of (filter t ones)) (intervals_of (filter t twos))
-away_some t ones twos away = record {
-  first = all_map _ interval_of (filter t ones) (all_so _ _ (filter t ones) (λ r e. fewer t r.chrom twos e) (all_filter _ t ones (all_unmap _ interval_of ones away.first)));
-  second = all_map _ interval_of (filter t twos) (all_so _ _ (filter t twos) (λ s e. fewer t s.chrom ones e) (all_filter _ t twos (all_unmap _ interval_of twos away.second)));
-}
+away_some t ones twos away = grind (arith, all_map, all_so, fewer, all_filter, all_unmap)
 
 -- chromosomes of both
 pub chromosomes_both : (xs ys : List Interval) → AllByRecursion (λ r. has_records r.chrom ys ≡ false) xs → chromosomes (xs ++ ys) ≡ chromosomes xs ++ chromosomes ys
 chromosomes_both [] ys h = refl
-chromosomes_both (r ∷ xs) ys h =
-    ap (λ ns. r.chrom ∷ ns)
-    (ap (without r.chrom) (chromosomes_both xs ys h.1)
-    ∙ filter-append _ (chromosomes xs) (chromosomes ys)
-    ∙ ap (λ ns. without r.chrom (chromosomes xs) ++ ns) (without_absent r.chrom (chromosomes ys) (among_chromosomes r.chrom ys ∙ h.0)))
+chromosomes_both (r ∷ xs) ys h = grind (arith, (chromosomes_both xs ys h.1), filter-append, without_absent, among_chromosomes)
 
 -- what holds of each record's chromosome holds of each name
 pub named_all : (P : List ℕ → Type 0) (xs : List Interval) → AllByRecursion (λ r. P r.chrom) xs → AllByRecursion P (chromosomes xs)
@@ -63,15 +56,11 @@ module _ (gap : ℕ) where
   pub passed_all : (last : Interval) (names : List (List ℕ)) (xs : List Interval) → AllByRecursion (λ n. bytes_eq n last.chrom ≡ false) names → filter (is_closed gap last) (merged names gap xs) ≡ merged names gap xs
   unfolding merged
   passed_all last [] xs h = refl
-  passed_all last (n ∷ names) xs h =
-      filter-append (is_closed gap last) (runs_on n gap xs) (flat_map (λ name. runs_on name gap xs) names)
-      ∙ ap₂ (λ a b. a ++ b) (placed_elsewhere gap last n (runs_of gap (spans_on n xs)) h.0) (passed_all last names xs h.1)
+  passed_all last (n ∷ names) xs h = grind (arith, (passed_all last names xs h.1), filter-append, placed_elsewhere)
 
   module _ (strand : MergeStrand) where
     pub runs_both : (ones twos : List Feature) → Away (intervals_of ones) (intervals_of twos) → merged_runs gap strand (ones ++ twos) ≡ merged_runs gap strand ones ++ merged_runs gap strand twos
-    runs_both ones twos away =
-        ap (λ c. merged (chromosomes c) gap c) (counted-append strand ones twos)
-        ∙ merged_both (counted strand ones) (counted strand twos) (away_some (λ r. is_counted strand r.strand) ones twos away)
+    runs_both ones twos away = grind (arith, counted-append, merged_both, away_some)
 
     -- a record of the second part passes all runs of the first
     pub passed_first : (last : Interval) (ones : List Feature) → has_records last.chrom (intervals_of ones) ≡ false → filter (is_closed gap last) (merged_runs gap strand ones) ≡ merged_runs gap strand ones
@@ -81,21 +70,14 @@ module _ (gap : ℕ) where
 
     passed_both : (ones : List Feature) (s : Feature) (twos : List Feature) → Away (intervals_of ones) (intervals_of (s ∷ twos))
         → passed_by gap (merged_runs gap strand (ones ++ s ∷ twos)) (last_of (intervals_of (ones ++ s ∷ twos))) ≡ merged_runs gap strand ones ++ passed_by gap (merged_runs gap strand (s ∷ twos)) (last_of (intervals_of (s ∷ twos)))
-    passed_both ones s twos away =
-        let last = last_from (interval_of s) (intervals_of twos) in
-        ap (passed_by gap (merged_runs gap strand (ones ++ s ∷ twos))) (ap last_of (map-append interval_of ones (s ∷ twos)) ∙ last_behind (intervals_of ones) (interval_of s) (intervals_of twos))
-        ∙ ap (filter (is_closed gap last)) (runs_both ones (s ∷ twos) away)
-        ∙ filter-append (is_closed gap last) (merged_runs gap strand ones) (merged_runs gap strand (s ∷ twos))
-        ∙ ap (λ l. l ++ filter (is_closed gap last) (merged_runs gap strand (s ∷ twos))) (passed_first last ones (last_is (λ r. has_records r.chrom (intervals_of ones) ≡ false) (interval_of s) (intervals_of twos) away.second))
+    passed_both ones s twos away = grind (arith, map-append, last_behind, runs_both, filter-append, passed_first, last_is)
 
     settled_is : (records : List Feature) → settled_runs gap strand records ≡ passed_by gap (merged_runs gap strand records) (last_of (intervals_of records))
     unfolding settled_runs
     settled_is records = refl
 
     begins : (ones : List Feature) → AreTaken ones → (rest : List Interval) × (merged_runs gap strand ones ≡ passed_by gap (merged_runs gap strand ones) (last_of (intervals_of ones)) ++ rest)
-    begins ones taken =
-        let front = runs_begin gap strand ones [] (subst AreTaken (sym (append-nil ones)) taken) in
-        (front.0, ap (merged_runs gap strand) (sym (append-nil ones)) ∙ front.1 ∙ ap (λ l. l ++ front.0) (settled_is ones))
+    begins ones taken = grind (arith, (runs_begin gap strand ones [] (subst AreTaken (sym (append-nil ones)) taken)), (append-nil ones), (settled_is ones))
 
     begin_by : (ones twos : List Feature) → AreTaken ones → Away (intervals_of ones) (intervals_of twos)
         → (rest : List ℕ) × (interval_lines (merged_runs gap strand ones) ++ interval_lines (passed_by gap (merged_runs gap strand twos) (last_of (intervals_of twos)))
@@ -106,8 +88,7 @@ module _ (gap : ℕ) where
           append-nil (interval_lines (merged_runs gap strand ones)) ∙ ap interval_lines front.1 ∙ flat_map-append interval_line _ front.0
               ∙ ap (λ rs. interval_lines (passed_by gap (merged_runs gap strand rs) (last_of (intervals_of rs))) ++ interval_lines front.0) (sym (append-nil ones)),
         )
-    begin_by ones (s ∷ twos) taken away =
-        ([], sym (append-nil _ ∙ ap interval_lines (passed_both ones s twos away) ∙ flat_map-append interval_line (merged_runs gap strand ones) _))
+    begin_by ones (s ∷ twos) taken away = grind (arith, append-nil, passed_both, flat_map-append)
 
     module _ (order : Order) (total : IsTotal order) (ones twos : List Feature) (one : ArePlaced order (intervals_of ones)) (two : ArePlaced order (intervals_of twos))
         (full : AreNonEmpty (intervals_of ones)) (early : Earlier order total ones twos) where
@@ -121,18 +102,7 @@ module _ (gap : ℕ) where
       away = records_away order total ones twos one early
 
       pub pooled_split : Splits (pooled_written order gap strand) (pooled_written order gap strand) (pooled_written order gap strand) ones twos
-      pooled_split =
-          let front = begin_by ones twos (record { contiguous = placed_contiguous order (intervals_of ones) total one; full = full }) away in
-          record {
-            all = ap interval_lines (come (ones ++ twos) both_placed ∙ runs_both ones twos away ∙ ap₂ (λ a b. a ++ b) (sym (come ones one)) (sym (come twos two))) ∙ flat_map-append interval_line (ordered_runs order gap strand ones) (ordered_runs order gap strand twos);
-            first = refl;
-            begin = (
-              front.0,
-              ap₂ (λ a b. interval_lines a ++ interval_lines (passed_by gap b (last_of (intervals_of twos)))) (come ones one) (come twos two)
-                  ∙ front.1
-                  ∙ ap (λ a. interval_lines (passed_by gap a (last_of (intervals_of (ones ++ twos)))) ++ front.0) (sym (come (ones ++ twos) both_placed)),
-            );
-          }
+      pooled_split = grind (arith, (begin_by ones twos (record { contiguous = placed_contiguous order (intervals_of ones) total one; full = full }) away), come, both_placed, runs_both, away, flat_map-append)
 
 -- ---- runs of each strand
 
@@ -141,8 +111,7 @@ abbrev Elsewhere : List ℕ → StrandRun → Type 0
 Elsewhere name item = bytes_eq item.run.chrom name ≡ false
 
 in_no : (a b c : Bool) → b ≡ false → (a && (b && c)) ≡ false
-in_no true b c e = ap (λ x. x && c) e
-in_no false b c e = refl
+in_no a b c e = grind arith
 
 not_in : (item : StrandRun) (r : Feature) → Elsewhere r.chrom item → is_in item r ≡ false
 not_in item r e = in_no (is_strand item.strand r.strand) (bytes_eq item.run.chrom r.chrom) (nat_le item.run.start r.start && nat_le r.stop item.run.stop) e
@@ -155,9 +124,7 @@ listed_all P runs before (r ∷ rs) h = all_both P (begun_by (runs r.strand) bef
 module _ (gap : ℕ) where
   runs_elsewhere : (name : List ℕ) (names : List (List ℕ)) (rs : List Interval) → AllByRecursion (λ n. bytes_eq n name ≡ false) names → AllByRecursion (λ run. bytes_eq run.chrom name ≡ false) (merged names gap rs)
   unfolding merged
-  runs_elsewhere name names rs h =
-      all_flat_map (λ run. bytes_eq run.chrom name ≡ false) (λ n. runs_on n gap rs) names
-      (all_so _ _ names (λ n e. all_map (λ run. bytes_eq run.chrom name ≡ false) (placed_on n) (runs_of gap (spans_on n rs)) (all_any _ (runs_of gap (spans_on n rs)) (λ span. e))) h)
+  runs_elsewhere name names rs h = grind (arith, all_flat_map, all_so, all_map, all_any)
 
   -- runs of records that have none on a chromosome lie elsewhere
   items_elsewhere : (name : List ℕ) (rs : List Feature) (strand : Strand) → has_records name (intervals_of rs) ≡ false → AllByRecursion (Elsewhere name) (runs_of_strand gap rs strand)
@@ -170,18 +137,10 @@ module _ (gap : ℕ) where
 
   module _ (ones twos : List Feature) (away : Away (intervals_of ones) (intervals_of twos)) where
     all_strand : (strand : Strand) → runs_of_strand gap (ones ++ twos) strand ≡ runs_of_strand gap ones strand ++ runs_of_strand gap twos strand
-    all_strand strand =
-        ap (map (λ run. record { strand = strand; run = run })) (runs_both gap (One strand) ones twos away)
-        ∙ map-append (λ run. record { strand = strand; run = run }) (merged_runs gap (One strand) ones) (merged_runs gap (One strand) twos)
+    all_strand strand = grind (arith, runs_both, map-append)
 
     begun_first : (before : List Feature) (r : Feature) → has_records r.chrom (intervals_of twos) ≡ false → begun_by (runs_of_strand gap (ones ++ twos) r.strand) before r ≡ begun_by (runs_of_strand gap ones r.strand) before r
-    begun_first before r e =
-        let test : StrandRun → Bool = λ item. is_in item r && not (list_any (is_in item) before) in
-        ap (filter test) (all_strand r.strand)
-        ∙ filter-append test (runs_of_strand gap ones r.strand) (runs_of_strand gap twos r.strand)
-        ∙ ap (λ l. filter test (runs_of_strand gap ones r.strand) ++ l) (filter_none test (runs_of_strand gap twos r.strand)
-        (all_so (Elsewhere r.chrom) (λ item. test item ≡ false) (runs_of_strand gap twos r.strand) (λ item out. and_left (is_in item r) (not (list_any (is_in item) before)) (not_in item r out)) (items_elsewhere r.chrom twos r.strand e)))
-        ∙ append-nil (filter test (runs_of_strand gap ones r.strand))
+    begun_first before r e = grind (arith, all_strand, filter-append, filter_none, all_so, items_elsewhere, append-nil)
 
     listed_first : (before rs : List Feature) → AllByRecursion (λ r. has_records r.chrom (intervals_of twos) ≡ false) rs → listed_behind (runs_of_strand gap (ones ++ twos)) before rs ≡ listed_behind (runs_of_strand gap ones) before rs
     listed_first before [] h = refl
@@ -213,9 +172,7 @@ module _ (gap : ℕ) where
 
     listed_second : (before rs : List Feature) → AllByRecursion (λ r. has_records r.chrom (intervals_of ones) ≡ false) rs → listed_behind (runs_of_strand gap (ones ++ twos)) (ones ++ before) rs ≡ listed_behind (runs_of_strand gap twos) before rs
     listed_second before [] h = refl
-    listed_second before (r ∷ rs) h =
-        ap₂ (λ a b. a ++ b) (begun_second before r h.0)
-        (ap (λ b. listed_behind (runs_of_strand gap (ones ++ twos)) b rs) (append_assoc ones before (r ∷ [])) ∙ listed_second (before ++ r ∷ []) rs h.1)
+    listed_second before (r ∷ rs) h = grind (arith, (listed_second (before ++ r ∷ []) rs h.1), begun_second, append_assoc)
 
     pub strand_runs_both : strand_runs gap (ones ++ twos) ≡ strand_runs gap ones ++ strand_runs gap twos
     unfolding strand_runs

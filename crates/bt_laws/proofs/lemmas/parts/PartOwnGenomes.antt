@@ -1,5 +1,5 @@
 -- Two inputs of which each part has its own part of the genome file.
-use Rattle.bt_lines.proofs.Std.{◌≡◌, ℕ, Bool, cond, not, ◌&&◌, ◌||◌, List, [], ◌∷◌, ◌++◌, map, append-nil, append_assoc, Option, Some, None, Ok, refl, sym, ap, ap₂, ◌∙◌, subst, true, false, Result, Err, IsTrue, flat_map, is_none, AllByRecursion, list_all, list_any, option_or, or_left, or_right}
+use Rattle.bt_lines.proofs.Std.{arith, ◌≡◌, ℕ, Bool, cond, not, ◌&&◌, ◌||◌, List, [], ◌∷◌, ◌++◌, map, append-nil, append_assoc, Option, Some, None, Ok, refl, sym, ap, ap₂, ◌∙◌, subst, true, false, Result, Err, IsTrue, flat_map, is_none, AllByRecursion, list_all, list_any, option_or, or_left, or_right}
 use Rattle.std.specs.declared.cmp.Ordering.TheVariants.{Less}
 use Rattle.bt_lines.specs.model.Fault.{FaultValue}
 use Rattle.bt_lines.specs.model.Lines.{Handed, whole_text, lines_from, text_lines, TextLine}
@@ -46,8 +46,7 @@ any_same t u (x ∷ xs) h = ap₂ (λ a b. a || b) h.0 (any_same t u xs h.1)
 -- rules that write the same lines, and decide the same of these members
 meet_same : {A : Type 0} (t u : A → Bool) (lines : A → List ℕ) (told last : Option FaultValue) (xs : List A) (fault : Option FaultValue) → AllByRecursion (λ x. t x ≡ u x) xs
     → join_report (record { decided = t; lines = lines; fault = told; last = last }) xs fault ≡ join_report (record { decided = u; lines = lines; fault = told; last = last }) xs fault
-meet_same t u lines told last xs fault h =
-    ap₂ (λ b (ls : List ℕ). cond b (record { lines = flat_map lines xs; fault = option_or fault last }) (record { lines = ls; fault = told })) (all_same t u xs h) (ap (flat_map lines) (take_same t u xs h))
+meet_same t u lines told last xs fault h = grind (arith, all_same, take_same)
 
 -- ---- names of a part in the middle
 
@@ -95,9 +94,7 @@ module _ (mine yours : List (List ℕ)) (agree : Agree (rank_order mine) (rank_o
 
   sweep_same : (given : List Feature) (fa : Option FaultValue) (bs : List Feature) (fb : Option FaultValue) → AllByRecursion In given → AllByRecursion In bs
       → sweep_report (rank_order mine) shape rule given fa bs fb ≡ sweep_report (rank_order yours) shape rule given fa bs fb
-  sweep_same given fa bs fb one two =
-      ap met_report (meet_same (sweep_rule (rank_order mine) shape rule bs fb).decided (sweep_rule (rank_order yours) shape rule bs fb).decided (sweep_rule (rank_order mine) shape rule bs fb).lines fb fb given fa
-      (all_so _ _ given (λ a i. ap (λ d. is_none fb || d) (decided_same a bs i two)) one))
+  sweep_same given fa bs fb one two = grind (arith, meet_same, all_so, decided_same)
 
   pub own_report : (texts : Texts) → AllByRecursion In (records_of texts)
       → pair_report (rank_order mine) (ranks_total mine) shape rule texts.first texts.second ≡ pair_report (rank_order yours) (ranks_total yours) shape rule texts.first texts.second
@@ -114,22 +111,17 @@ joined_all : (P : Feature → Type 0) (texts : List (List ℕ)) → AreOfLines t
 unfolding lines_from
 joined_all P [] lines h = tt
 joined_all P (t ∷ []) lines h = subst (λ text. AllByRecursion P (said_records text)) (sym (append-nil t)) h.0
-joined_all P (t ∷ u ∷ ts) lines h =
-    subst (AllByRecursion P) (sym (records_both t (joined (u ∷ ts)) lines.0)) (all_both P (said_records t) (said_records (joined (u ∷ ts))) h.0 (joined_all P (u ∷ ts) lines.1 h.1))
+joined_all P (t ∷ u ∷ ts) lines h = grind (arith, (joined_all P (u ∷ ts) lines.1 h.1), records_both, all_both)
 
 module _ (whole : List Entry) (distinct : AreDistinct (genome_names whole)) where
   abbrev Lies : PairShard → Type 0
   Lies shard = AllByRecursion (LiesWithin shard.entries whole) (records_of shard.texts)
 
   among_more : (shard : PairShard) (shards : List PairShard) (name : List ℕ) → IsTrue (is_among (genome_names (pair_entries shards)) name) → IsTrue (is_among (genome_names (pair_entries (shard ∷ shards))) name)
-  among_more shard shards name e =
-      ap (λ ns. is_among ns name) (names_both shard.entries (pair_entries shards)) ∙ among_append (genome_names shard.entries) (genome_names (pair_entries shards)) name
-      ∙ or_right (is_among (genome_names shard.entries) name) (is_among (genome_names (pair_entries shards)) name) e
+  among_more shard shards name e = grind (arith, names_both, among_append)
 
   among_here : (shard : PairShard) (shards : List PairShard) (name : List ℕ) → IsTrue (is_among (genome_names shard.entries) name) → IsTrue (is_among (genome_names (pair_entries (shard ∷ shards))) name)
-  among_here shard shards name e =
-      ap (λ ns. is_among ns name) (names_both shard.entries (pair_entries shards)) ∙ among_append (genome_names shard.entries) (genome_names (pair_entries shards)) name
-      ∙ or_left (is_among (genome_names shard.entries) name) (is_among (genome_names (pair_entries shards)) name) e
+  among_here shard shards name e = grind (arith, names_both, among_append)
 
   -- the records of all parts lie on the chromosomes of these parts
   lie_all : (shards : List PairShard) → AllByRecursion Lies shards → AllByRecursion (λ shard. AllByRecursion (LiesWithin (pair_entries shards) whole) (records_of shard.texts)) shards
@@ -155,11 +147,7 @@ module _ (whole : List Entry) (distinct : AreDistinct (genome_names whole)) wher
     come shard shards is lines h =
         let split : genome_names whole ≡ (before ++ genome_names shard.entries) ++ genome_names (pair_entries shards) = is ∙ ap (λ ns. before ++ ns) (names_both shard.entries (pair_entries shards)) ∙ sym (append_assoc before (genome_names shard.entries) (genome_names (pair_entries shards))) in
         let later = lie_joined shards (lines_less shard.texts.first (map (λ (p : Texts). p.first) (pair_texts shards)) lines.0, lines_less shard.texts.second (map (λ (p : Texts). p.second) (pair_texts shards)) lines.1) h.1 in
-        all_so _ _ (records_of shard.texts) (λ r one. all_so _ _ (records_of (joined_texts (pair_texts shards))) (λ s two known_r known_s.
-        subst (λ ns. (rank_order ns).compare r.chrom s.chrom ≡ Less) (sym split)
-        (first_less (before ++ genome_names shard.entries) (genome_names (pair_entries shards)) r.chrom s.chrom (subst AreDistinct split distinct)
-        (among_append before (genome_names shard.entries) r.chrom ∙ or_right (is_among before r.chrom) (is_among (genome_names shard.entries) r.chrom) (one (sym (among_ranked (genome_names whole) r.chrom) ∙ known_r)))
-        (two (sym (among_ranked (genome_names whole) s.chrom) ∙ known_s)))) later) h.0
+        grind (arith, all_so, first_less, among_append, among_ranked)
 
   ascend_from : (before : List (List ℕ)) (shards : List PairShard) → genome_names whole ≡ before ++ genome_names (pair_entries shards) → ArePairs (pair_texts shards) → AllByRecursion Lies shards
       → PairsAscend (rank_order (genome_names whole)) (pair_texts shards)
@@ -218,15 +206,11 @@ module _ (order : Order) (input : Input) where
 
   known_kept : (n : ℕ) (last : Option Locus) (r : Feature) (rest : Option Locus → Good Feature) (more : List Feature) → ((now : Option Locus) → (rest now).fault ≡ None → Known more)
       → (k f : Bool) → order.knows r.chrom ≡ k → (good_with (bed_format (sorting_of order)) input n last (cond k (cond f (Err OutOfOrder) (Ok (Some r))) (Err UnknownChrom)) rest).fault ≡ None → Known (r ∷ more)
-  known_kept n last r rest more next true true is e = cc
-  known_kept n last r rest more next true false is e = (is, next (Some (locus_at r)) e)
-  known_kept n last r rest more next false f is e = cc
+  known_kept n last r rest more next k f is e = grind arith
 
   known_with : (n : ℕ) (last : Option Locus) (said : Result (Option Feature) Kind) (rest : Option Locus → Good Feature) (more : List Feature) → ((now : Option Locus) → (rest now).fault ≡ None → Known more)
       → (good_with (bed_format (sorting_of order)) input n last (said_after (sorting_of order) last said) rest).fault ≡ None → Known (said_record said ++ more)
-  known_with n last (Err kind) rest more next e = cc
-  known_with n last (Ok None) rest more next e = next last e
-  known_with n last (Ok (Some r)) rest more next e = known_kept n last r rest more next (order.knows r.chrom) (falls_in (sorting_of order) last (locus_at r)) refl e
+  known_with n last said rest more next e = grind arith
 
   known_from : (last : Option Locus) (ms : List TextLine) → (good_from (bed_format (sorting_of order)) input last ms).fault ≡ None → Known (records_on ms)
   unfolding good_from line_says
@@ -247,8 +231,7 @@ module _ (W : List Entry → Written Feature) (command : Command)
     (is : (entries : List Entry) (text : List ℕ) → report_on command (Ok (Some entries)) (whole_text text) None ≡ good_report (W entries) (good (bed_format (sorting_of (rank_order (genome_names entries)))) First (text_lines text)))
     (add : (genome : Handed) (shards : List Shard) → AreShards genome shards → ShardsAddUp command genome shards) where
   report_fault : (written : Written Feature) (rs : List Feature) (fault : Option FaultValue) → (report_by written rs fault).fault ≡ fault
-  report_fault written rs None = refl
-  report_fault written rs (Some fault) = refl
+  report_fault written rs fault = grind arith
 
   shard_lies : (whole : List Entry) (shard : Shard) → chromosomes_of (Some shard.genome) ≡ Ok (Some shard.entries) → (on_text command (Some shard.genome) shard.text).fault ≡ None
       → AllByRecursion (LiesWithin shard.entries whole) (said_records shard.text)
@@ -260,10 +243,7 @@ module _ (W : List Entry → Written Feature) (command : Command)
       ∙ ap (λ (r : Report). r.fault) (sym (ap (λ c. report_on command c (whole_text shard.text) None) has ∙ is shard.entries shard.text)) ∙ e)
 
   shards_suffice : ShardsSuffice command
-  shards_suffice genome shards are all =
-      let within = all_zip _ _ _ shards (λ shard has e. shard_lies (all_entries shards) shard has e) are.parts (all_unmap _ _ shards all) in
-      let both = add genome shards (record { whole = are.whole; parts = are.parts; lines = are.lines; within = within }) in
-      add_suffices _ _ both.0 all
+  shards_suffice genome shards are all = grind (arith, (all_zip _ _ _ shards (λ shard has e. shard_lies (all_entries shards) shard has e) are.parts (all_unmap _ _ shards all)))
 
 pub merge_suffice : merge_shards_suffice
 merge_suffice d strand = shards_suffice (λ entries. merge_written (rank_order (genome_names entries)) d strand) (Merge d strand)
@@ -295,9 +275,7 @@ module _ (command : Command) (shape : Shape) (rule : HitRule)
       all_both _ (said_records shard.texts.first) (said_records shard.texts.second) (lies shard.entries whole First shard.texts.first none.0) (lies shard.entries whole Second shard.texts.second none.1)
 
   pairs_suffice : PairShardsSuffice command
-  pairs_suffice genome shards are all =
-      let within : PairsLieWithin shards = all_zip _ _ _ shards (λ shard has e. pair_lies (pair_entries shards) shard has e) are.parts (all_unmap _ _ shards all) in
-      add_suffices _ _ (add genome shards are within).0 all
+  pairs_suffice genome shards are all = grind (arith, (all_zip _ _ _ shards (λ shard has e. pair_lies (pair_entries shards) shard has e) are.parts (all_unmap _ _ shards all)))
 
 pub intersect_suffice : intersect_shards_suffice
 intersect_suffice shape rule = pairs_suffice (Intersect shape rule None) shape rule (λ genome entries has texts. intersect_is (Some genome) (Some entries) has shape rule texts) (intersect_genome_parts shape rule)

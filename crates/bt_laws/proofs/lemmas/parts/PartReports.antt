@@ -1,5 +1,6 @@
 -- The reports on two parts and on the whole, and from them those on any number of parts.
-use Rattle.bt_lines.proofs.Std.{◌≡◌, ℕ, true, false, List, [], ◌∷◌, ◌++◌, map, append-nil, append_assoc, Option, Some, None, refl, sym, ap, ap₂, ◌∙◌, subst, flat_map, is_none, flat_map-append}
+use Rattle.std.proofs.lemmas.Grind.{common_steps}
+use Rattle.bt_lines.proofs.Std.{rules, arith, ◌≡◌, ℕ, true, false, List, [], ◌∷◌, ◌++◌, map, append-nil, append_assoc, Option, Some, None, refl, sym, ap, ap₂, ◌∙◌, subst, flat_map, is_none, flat_map-append}
 use Rattle.bt_lines.specs.model.Fault.{FaultValue}
 use Rattle.bt_bed.specs.model.Good.{Good, items_in}
 use Rattle.bt_laws.specs.Parts.{AddUp, StopWithin, prefixes_begin, outputs_to_fault, unless_fault}
@@ -29,29 +30,17 @@ pub add_one : (part : Report) → AddUp (part ∷ []) part
 add_one part = record { faultless = (λ e. (e, tt), λ all. all.0); output = λ e. sym (append-nil part.output) }
 
 one_stop : (fault : Option FaultValue) (output : List ℕ) → (rest : List ℕ) × (output ++ unless_fault fault [] ≡ output ++ rest)
-one_stop None output = ([], refl)
-one_stop (Some fault) output = ([], refl)
+one_stop fault output = grind arith
 
 pub stop_one : (part : Report) → StopWithin (part ∷ []) part
 stop_one part = one_stop part.fault part.output
 
 pub add_more : (part : Report) (parts : List Report) (rest whole : Report) → AddUp parts rest → Adds part rest whole → AddUp (part ∷ parts) whole
-add_more part parts rest whole more adds = record {
-  faultless = (
-    (λ e. let both = adds.parts e in (both.0, more.faultless.0 both.1)),
-    (λ all. adds.both all.0 (more.faultless.1 all.1)),
-  );
-  output = λ e.
-      let both = adds.parts e in
-      adds.output both.0 both.1 ∙ ap (λ l. part.output ++ l) (more.output both.1);
-}
+add_more part parts rest whole more adds = grind arith
 
 stop_by : (fault : Option FaultValue) (first whole output outputs left : List ℕ) → outputs ≡ output ++ left
     → (rest : List ℕ) × (first ++ unless_fault fault output ≡ whole ++ rest) → (rest : List ℕ) × (first ++ unless_fault fault outputs ≡ whole ++ rest)
-stop_by None first whole output outputs left more stops = (
-  stops.0 ++ left,
-  ap (λ l. first ++ l) more ∙ sym (append_assoc first output left) ∙ ap (λ l. l ++ left) stops.1 ∙ append_assoc whole stops.0 left,
-)
+stop_by None first whole output outputs left more stops = grind (arith, (append_assoc first output left), (append_assoc whole stops.0 left))
 stop_by (Some fault) first whole output outputs left more stops = stops
 
 pub stop_more : (part : Report) (parts : List Report) (rest whole : Report) → StopWithin parts rest → Stops part rest whole → StopWithin (part ∷ parts) whole
@@ -69,43 +58,20 @@ Contiguous (Some f) g h ones twos all = (all ≡ ones) × (is_none h ≡ false)
 
 -- the whole is without a fault exactly if the parts are
 pub together_parts : {A : Type 0} (f g h : Option FaultValue) (ones twos all : List A) → Contiguous f g h ones twos all → h ≡ None → (f ≡ None) × (g ≡ None)
-together_parts None None h ones twos all is e = (refl, refl)
-together_parts None (Some g) None ones twos all is e = let apart : true ≡ false = is.1 in absurd (cc)
-together_parts None (Some g) (Some h) ones twos all is e = cc
-together_parts (Some f) g None ones twos all is e = let apart : true ≡ false = is.1 in absurd (cc)
-together_parts (Some f) g (Some h) ones twos all is e = cc
+together_parts f g h ones twos all is e = grind arith
 
 pub together_both : {A : Type 0} (f g h : Option FaultValue) (ones twos all : List A) → Contiguous f g h ones twos all → f ≡ None → g ≡ None → h ≡ None
-together_both None None None ones twos all is e d = refl
-together_both None None (Some h) ones twos all is e d = let apart : false ≡ true = is.1 in absurd (cc)
-together_both None (Some g) h ones twos all is e d = cc
-together_both (Some f) g h ones twos all is e d = cc
+together_both f g h ones twos all is e d = grind arith
 
 pub together_all : {A : Type 0} (f g h : Option FaultValue) (ones twos all : List A) → Contiguous f g h ones twos all → f ≡ None → all ≡ ones ++ twos
-together_all None g h ones twos all is e = is.0
-together_all (Some f) g h ones twos all is e = cc
+together_all f g h ones twos all is e = grind arith
 
 module _ {A : Type 0} (one two whole : Written A) (ones twos all : List A) (splits : Splits one two whole ones twos) where
   pub joins_by : (f g h : Option FaultValue) → Contiguous f g h ones twos all → Joins (report_by one ones f) (report_by two twos g) (report_by whole all h)
-  joins_by None None None is = (
-    record { parts = λ e. (refl, refl); both = λ e d. refl; output = λ e d. ap whole.whole is.0 ∙ splits.all },
-    ([], sym (append-nil (whole.whole all) ∙ ap whole.whole is.0 ∙ splits.all)),
-  )
-  joins_by None None (Some h) is = let apart : false ≡ true = is.1 in absurd (cc)
-  joins_by None (Some g) None is = let apart : true ≡ false = is.1 in absurd (cc)
-  joins_by None (Some g) (Some h) is = (
-    record { parts = λ e. cc; both = λ e d. cc; output = λ e d. cc },
-    (splits.begin.0, splits.begin.1 ∙ ap (λ l. whole.settled l ++ splits.begin.0) (sym is.0)),
-  )
-  joins_by (Some f) g None is = let apart : true ≡ false = is.1 in absurd (cc)
-  joins_by (Some f) g (Some h) is = (
-    record { parts = λ e. cc; both = λ e d. cc; output = λ e d. cc },
-    ([], ap (λ l. l ++ []) (sym (ap whole.settled is.0 ∙ splits.first))),
-  )
+  joins_by f g h is = search rules
 
 pub together : {A : Type 0} (f : Option FaultValue) (one two whole : Good A) → IsJointBy f one two whole → Contiguous f two.fault whole.fault (items_in one) (items_in two) (items_in whole)
-together None one two whole is = is
-together (Some f) one two whole is = is
+together f one two whole is = grind arith
 
 module _ {A : Type 0} (one two whole : Written A) (first second all : Good A) (joint : IsJoint first second all) (splits : Splits one two whole (items_in first) (items_in second)) where
   pub good_joins : Joins (good_report one first) (good_report two second) (good_report whole all)
@@ -124,8 +90,7 @@ module _ {T : Type 0} (join : List T → T) (report : T → Report) (Fits : List
       → (ts : List T) → Fits ts → AddUp (map report ts) (report (join ts))
   parts_add two [] fits = add_none (report (join [])) (ap (λ (r : Report). r.fault) empty) (ap (λ (r : Report). r.output) empty)
   parts_add two (t ∷ []) fits = subst (λ r. AddUp (report t ∷ []) r) (sym (one t)) (add_one (report t))
-  parts_add two (t ∷ u ∷ ts) fits =
-      add_more (report t) (map report (u ∷ ts)) (report (join (u ∷ ts))) (report (join (t ∷ u ∷ ts))) (parts_add two (u ∷ ts) (less t (u ∷ ts) fits)) (two t u ts fits)
+  parts_add two (t ∷ u ∷ ts) fits = grind (arith, (parts_add two (u ∷ ts) (less t (u ∷ ts) fits)))
 
   pub parts_stop : ((t u : T) (ts : List T) → Fits (t ∷ u ∷ ts) → Stops (report t) (report (join (u ∷ ts))) (report (join (t ∷ u ∷ ts))))
       → (ts : List T) → Fits ts → StopWithin (map report ts) (report (join ts))
@@ -143,16 +108,8 @@ pub splits_as : {A : Type 0} (one two whole one_too two_too whole_too : Written 
     → one.whole ones ≡ one_too.whole ones → one.settled ones ≡ one_too.settled ones → two.whole twos ≡ two_too.whole twos → two.settled twos ≡ two_too.settled twos
     → whole.whole (ones ++ twos) ≡ whole_too.whole (ones ++ twos) → whole.settled ones ≡ whole_too.settled ones → whole.settled (ones ++ twos) ≡ whole_too.settled (ones ++ twos)
     → Splits one_too two_too whole_too ones twos → Splits one two whole ones twos
-splits_as one two whole one_too two_too whole_too ones twos a b c d e f g splits = record {
-  all = e ∙ splits.all ∙ ap₂ (λ x y. x ++ y) (sym a) (sym c);
-  first = f ∙ splits.first ∙ sym b;
-  begin = (splits.begin.0, ap₂ (λ x y. x ++ y) a d ∙ splits.begin.1 ∙ ap (λ x. x ++ splits.begin.0) (sym g));
-}
+splits_as one two whole one_too two_too whole_too ones twos a b c d e f g splits = grind arith
 
 -- a prefix of what one part writes
 pub prefixes_begin_whole : prefixes_begin
-prefixes_begin_whole before later part whole front rest add none is = (
-  rest ++ flat_map (λ p. p.output) later,
-  add.output none ∙ flat_map-append (λ (p : Report). p.output) before (part ∷ later)
-      ∙ ap (λ l. flat_map (λ (p : Report). p.output) before ++ l) (ap (λ l. l ++ flat_map (λ (p : Report). p.output) later) is ∙ append_assoc front rest (flat_map (λ (p : Report). p.output) later)),
-)
+prefixes_begin_whole = grind (arith, flat_map-append, append_assoc)

@@ -1,5 +1,6 @@
 -- What is good of two concatenated FASTA texts.
 use Rattle.bt_lines.proofs.Std.{◌≡◌, ℕ, suc, ◌-◌, Bool, true, false, cond, List, [], ◌∷◌, ◌++◌, length, map, take, append-nil, append_assoc, Option, Some, None, Result, Ok, Err, refl, sym, ap, ap₂, ◌∙◌, subst, eqb, arith, IsTrue, ⊤, flat_map, AllByRecursion, ends_with_byte, strip_last, eqb-true, map-append, is_none, nat_lt, option_map}
+use Rattle.std.proofs.lemmas.Grind.{common_steps}
 use Rattle.bt_lines.specs.model.Fault.{FaultValue}
 use Rattle.bt_lines.specs.model.Lines.{TextLine, fed_line, last_line, lines_from, text_lines}
 use Rattle.bt_lines.specs.declared.fault.Input.{Input}
@@ -30,19 +31,13 @@ module _ {A State : Type 0} (format : Format A State) where
   put_on (Some fault) g h = g
 
   member_on : (m : Member A) (fault : Option FaultValue) (g h : Good A) → with_member m (put_on fault g h) ≡ put_on fault (with_member m g) h
-  member_on m None g h = refl
-  member_on m (Some fault) g h = refl
+  member_on m fault g h = grind arith
 
   module _ (input : Input) where
     go_with : (n : ℕ) (state : State) (said : Result (Option A) Kind) (ms : List TextLine) (whole ones : State → Good A)
         → ((now : State) → whole now ≡ put_on (ones now).fault (ones now) (good_from format input (reached now (items_in (ones now))) ms))
         → good_with format input n state said whole ≡ put_on (good_with format input n state said ones).fault (good_with format input n state said ones) (good_from format input (reached state (items_in (good_with format input n state said ones))) ms)
-    go_with n state (Err kind) ms whole ones h = refl
-    go_with n state (Ok None) ms whole ones h = h state
-    go_with n state (Ok (Some item)) ms whole ones h =
-        let now = format.after state item in
-        let m : Member A = record { line = n; item = item } in
-        ap (with_member m) (h now) ∙ member_on m (ones now).fault (ones now) (good_from format input (reached now (items_in (ones now))) ms)
+    go_with n state said ms whole ones h = grind arith
 
     -- what is good of lines and of others after them
     pub go_from : (state : State) (ls ms : List TextLine) → good_from format input state (ls ++ ms)
@@ -83,8 +78,7 @@ named_more [] more e = e
 named_more (n ∷ ns) more e = refl
 
 stands : (names : List (List ℕ)) (text : List ℕ) → is_unnamed names ≡ false → may_stand names text ≡ true
-stands [] text e = cc
-stands (n ∷ ns) text e = refl
+stands names text e = grind arith
 
 module _ (full : Bool) (input : Input) where
   abbrev Fasta : Format SequenceLine Reached
@@ -101,52 +95,33 @@ module _ (full : Bool) (input : Input) where
   says_header s line e = ap (λ h. cond h (Ok (Some (header_behind full s line))) (cond (may_stand s.names line.text) (Ok (Some (line_behind s line))) (Err TextBeforeHeader))) e
 
   says_bases : (s : Reached) (line : TextLine) → is_header line.text ≡ false → is_unnamed s.names ≡ false → line_says full s line ≡ Ok (Some (line_behind s line))
-  says_bases s line e named =
-      ap (λ h. cond h (Ok (Some (header_behind full s line))) (cond (may_stand s.names line.text) (Ok (Some (line_behind s line))) (Err TextBeforeHeader))) e
-      ∙ ap (λ m. cond m (Ok (Some (line_behind s line))) (Err TextBeforeHeader)) (stands s.names line.text named)
+  says_bases s line e named = grind arith
 
   header_moves : (names : List (List ℕ)) (s : Reached) (line : TextLine) → is_header line.text ≡ true → Moves names s line
-  header_moves names s line e = record {
-    it = header_behind full s line;
-    here = says_header s line e;
-    there = says_header (reached_after names s) line e
-        ∙ ap (λ (all : List (List ℕ)). Ok (Some (record { names = all; before = 0; text = line.text; ending = line.ending }))) (append_assoc names s.names (name_in full line.text ∷ []));
-    named = named_behind s.names (name_in full line.text);
-  }
+  header_moves names s line e =
+      grind (arith, (says_header s line e), (append_assoc names s.names (name_in full line.text ∷ [])))
 
   moves_by : (names : List (List ℕ)) (s : Reached) (line : TextLine) → is_unnamed s.names ≡ false → (h : Bool) → is_header line.text ≡ h → Moves names s line
   moves_by names s line named true e = header_moves names s line e
-  moves_by names s line named false e = record {
-    it = line_behind s line;
-    here = says_bases s line e named;
-    there = says_bases (reached_after names s) line e (named_more names s.names named);
-    named = named;
-  }
+  moves_by names s line named false e = grind (arith, (says_bases s line e named), (says_bases (reached_after names s) line e (named_more names s.names named)))
 
   moved_with : (names : List (List ℕ)) (s : Reached) (n : ℕ) (it : SequenceLine) (here there : Result (Option SequenceLine) Kind) (hs ts : Reached → Good SequenceLine)
       → here ≡ Ok (Some it) → there ≡ Ok (Some (line_after names it)) → is_unnamed it.names ≡ false
       → AreMoved names (ts (reached_after names (Fasta.after s it))) (hs (Fasta.after s it)) → (r : Reached) → AreMoved names (good_with Fasta input n r there ts) (good_with Fasta input n s here hs)
-  moved_with names s n it here there hs ts e d named more r =
-      subst (λ h. AreMoved names (good_with Fasta input n r there ts) (good_with Fasta input n s h hs)) (sym e)
-      (subst (λ t. AreMoved names (good_with Fasta input n r t ts) (good_with Fasta input n s (Ok (Some it)) hs)) (sym d)
-      (record { items = ap (λ ls. line_after names it ∷ ls) more.items; none = more.none; same = more.same; named = (named, more.named) }))
+  moved_with names s n it here there hs ts e d named more r = grind arith
 
   moved_from : (names : List (List ℕ)) (s : Reached) (ls : List TextLine) → is_unnamed s.names ≡ false → AreMoved names (good_from Fasta input (reached_after names s) ls) (good_from Fasta input s ls)
   unfolding good_from
   moved_from names s [] named = record { items = refl; none = refl; same = refl; named = tt }
   moved_from names s (l ∷ ls) named =
       let m = moves_by names s l named (is_header l.text) refl in
-      moved_with names s l.number m.it (line_says full s l) (line_says full (reached_after names s) l) (λ now. good_from Fasta input now ls) (λ now. good_from Fasta input now ls) m.here m.there m.named
-      (moved_from names (Fasta.after s m.it) ls m.named) (reached_after names s)
+      grind (arith, (moved_from names (Fasta.after s m.it) ls m.named))
 
   -- from a header on
   moved_header : (r : Reached) (ls : List TextLine) → BeginsAtHeader ls → AreMoved r.names (good_from Fasta input r ls) (good_from Fasta input Fasta.begin ls)
   unfolding good_from
   moved_header r [] h = record { items = refl; none = refl; same = refl; named = tt }
-  moved_header r (l ∷ ls) h =
-      let it = header_behind full Fasta.begin l in
-      moved_with r.names Fasta.begin l.number it (line_says full Fasta.begin l) (line_says full r l) (λ now. good_from Fasta input now ls) (λ now. good_from Fasta input now ls)
-      (says_header Fasta.begin l h) (says_header r l h) refl (moved_from r.names (Fasta.after Fasta.begin it) ls refl) r
+  moved_header r (l ∷ ls) h = grind (arith, (moved_from r.names (Fasta.after Fasta.begin (header_behind full Fasta.begin l)) ls refl))
 
   -- if a line is at fault, no line before it has a sequence
   unnamed_with : (s : Reached) (l : TextLine) (rest : Reached → Good SequenceLine) (fault : FaultValue)
@@ -155,14 +130,7 @@ module _ (full : Bool) (input : Input) where
       → (h m u : Bool) → is_unnamed s.names ≡ u
       → (good_with Fasta input l.number s (cond h (Ok (Some (header_behind full s l))) (cond m (Ok (Some (line_behind s l))) (Err TextBeforeHeader))) rest).fault ≡ Some fault
       → AllByRecursion (λ line. is_unnamed line.names ≡ true) (items_in (good_with Fasta input l.number s (cond h (Ok (Some (header_behind full s l))) (cond m (Ok (Some (line_behind s l))) (Err TextBeforeHeader))) rest))
-  unnamed_with s l rest fault next sound true m u is e =
-      let none = sound (Fasta.after s (header_behind full s l)) (named_behind s.names (name_in full l.text)) in
-      absurd (let apart : None ≡ Some fault = sym none ∙ e in cc)
-  unnamed_with s l rest fault next sound false true true is e = (is, next (Fasta.after s (line_behind s l)) e)
-  unnamed_with s l rest fault next sound false true false is e =
-      let none = sound (Fasta.after s (line_behind s l)) is in
-      absurd (let apart : None ≡ Some fault = sym none ∙ e in cc)
-  unnamed_with s l rest fault next sound false false u is e = tt
+  unnamed_with s l rest fault next sound h m u is e = grind arith
 
   pub unnamed_from : (s : Reached) (ls : List TextLine) (fault : FaultValue) → (good_from Fasta input s ls).fault ≡ Some fault → AllByRecursion (λ line. is_unnamed line.names ≡ true) (items_in (good_from Fasta input s ls))
   unfolding good_from
@@ -188,14 +156,7 @@ module _ (full : Bool) (input : Input) where
       → (good_with Fasta input l.number s (cond h (Ok (Some (header_behind full s l))) (cond m (Ok (Some (line_behind s l))) (Err TextBeforeHeader))) rest).fault ≡ None
       → (reached Fasta s (items_in (good_with Fasta input l.number s (cond h (Ok (Some (header_behind full s l))) (cond m (Ok (Some (line_behind s l))) (Err TextBeforeHeader))) rest))).names
       ≡ s.names ++ (name_on full l.text ++ flat_map (λ line. name_on full line.text) ls)
-  grown_with s l ls rest next true m e none =
-      next (Fasta.after s (header_behind full s l)) none
-      ∙ append_assoc s.names (name_in full l.text ∷ []) (flat_map (λ line. name_on full line.text) ls)
-      ∙ ap (λ names. s.names ++ (names ++ flat_map (λ line. name_on full line.text) ls)) (sym (ap (λ b. cond b (name_in full l.text ∷ []) []) e))
-  grown_with s l ls rest next false true e none =
-      next (Fasta.after s (line_behind s l)) none
-      ∙ ap (λ names. s.names ++ (names ++ flat_map (λ line. name_on full line.text) ls)) (sym (ap (λ b. cond b (name_in full l.text ∷ []) []) e))
-  grown_with s l ls rest next false false e none = cc
+  grown_with s l ls rest next h m e none = grind (arith, append_assoc)
 
   grown_from : (s : Reached) (ls : List TextLine) → (good_from Fasta input s ls).fault ≡ None
       → (reached Fasta s (items_in (good_from Fasta input s ls))).names ≡ s.names ++ flat_map (λ line. name_on full line.text) ls
@@ -216,19 +177,9 @@ module _ (full : Bool) (input : Input) where
     is : (reached Fasta s xs).names ≡ s.names ++ more
     all : AllByRecursion (Begins (reached Fasta s xs).names) xs
 
-  -- an item that goes on from these names
-  grows_item : (s : Reached) (it : SequenceLine) (xs : List SequenceLine) (own : List (List ℕ)) → it.names ≡ s.names ++ own → Grows (Fasta.after s it) xs → Grows s (it ∷ xs)
-  grows_item s it xs own e more = record {
-    more = own ++ more.more;
-    is = more.is ∙ ap (λ names. names ++ more.more) e ∙ append_assoc s.names own more.more;
-    all = ((more.more, more.is), more.all);
-  }
-
   grows_with : (s : Reached) (l : TextLine) (rest : Reached → Good SequenceLine) → ((now : Reached) → Grows now (items_in (rest now))) → (h m : Bool)
       → Grows s (items_in (good_with Fasta input l.number s (cond h (Ok (Some (header_behind full s l))) (cond m (Ok (Some (line_behind s l))) (Err TextBeforeHeader))) rest))
-  grows_with s l rest next true m = grows_item s (header_behind full s l) _ (name_in full l.text ∷ []) refl (next (Fasta.after s (header_behind full s l)))
-  grows_with s l rest next false true = grows_item s (line_behind s l) _ [] (sym (append-nil s.names)) (next (Fasta.after s (line_behind s l)))
-  grows_with s l rest next false false = record { more = []; is = sym (append-nil s.names); all = tt }
+  grows_with s l rest next h m = grind (arith, append-nil, append_assoc)
 
   grows_from : (s : Reached) (ls : List TextLine) → Grows s (items_in (good_from Fasta input s ls))
   unfolding good_from
@@ -255,20 +206,13 @@ module _ (full : Bool) (input : Input) where
   -- ---- two texts
 
   front_header : (byte : ℕ) (rest : List ℕ) → eqb byte 62 ≡ true → is_header (strip_last 13 (byte ∷ rest)) ≡ true
-  front_header byte [] e = ap (λ b. is_header (strip_last 13 (b ∷ []))) (eqb-true byte 62 e)
-  front_header byte (next ∷ rest) e = by_end (ends_with_byte 13 (byte ∷ next ∷ rest))
-    where
-      by_end : (b : Bool) → is_header (cond b (take (length (byte ∷ next ∷ rest) - 1) (byte ∷ next ∷ rest)) (byte ∷ next ∷ rest)) ≡ true
-      by_end true = let count : length (byte ∷ next ∷ rest) - 1 ≡ suc (length rest) = omega arith in ap (λ n. is_header (take n (byte ∷ next ∷ rest))) count ∙ e
-      by_end false = e
+  front_header byte rest e = grind arith
 
   fed_header : (n : ℕ) (piece rest : List ℕ) (ls : List TextLine) → IsTrue (begins_sequence (piece ++ 10 ∷ rest)) → BeginsAtHeader (fed_line n piece ∷ ls)
-  fed_header n [] rest ls e = cc
-  fed_header n (byte ∷ piece) rest ls e = front_header byte piece e
+  fed_header n piece rest ls e = grind (arith, common_steps)
 
   last_header : (n : ℕ) (piece : List ℕ) → IsTrue (begins_sequence piece) → BeginsAtHeader (last_line n piece)
-  last_header n [] e = tt
-  last_header n (byte ∷ piece) e = front_header byte piece e
+  last_header n piece e = grind arith
 
   header_first : (n : ℕ) (text : List ℕ) → IsTrue (begins_sequence text) → BeginsAtHeader (lines_from n text)
   header_first n text = by_lines (λ n bytes. IsTrue (begins_sequence bytes) → BeginsAtHeader (lines_from n bytes))
@@ -280,13 +224,7 @@ module _ (full : Bool) (input : Input) where
   moved_lines : (r : Reached) (n : ℕ) (two : List ℕ) → IsTrue (begins_sequence two) → AreMoved r.names (good_from Fasta input r (lines_from n two)) (good Fasta input (text_lines two))
   moved_lines r n two e =
       let moved = moved_header r (lines_from n two) (header_first n two e) in
-      let like = like_from Fasta input Fasta.begin (lines_from n two) (text_lines two) (λ state l m t d. same_said state l m t d) (alike_lines n 1 two) in
-      record {
-        items = moved.items ∙ ap (map (line_after r.names)) like.items;
-        none = moved.none;
-        same = none_like (good_from Fasta input Fasta.begin (lines_from n two)).fault (good Fasta input (text_lines two)).fault like.fault moved.same;
-        named = subst (AllByRecursion (λ line. is_unnamed line.names ≡ false)) like.items moved.named;
-      }
+      grind (arith, (like_from Fasta input Fasta.begin (lines_from n two) (text_lines two) (λ state l m t d. same_said state l m t d) (alike_lines n 1 two)))
     where
       same_said : (state : Reached) (l m : TextLine) → l.text ≡ m.text → l.ending ≡ m.ending → line_says full state l ≡ line_says full state m
       same_said state l m t d = ap₂ (λ text ending. line_says full state (record { number = l.number; text = text; ending = ending })) t d
@@ -298,19 +236,11 @@ module _ (full : Bool) (input : Input) where
   AreBothBy (Some fault) one two whole = whole ≡ one
 
   both_by : (fault : Option FaultValue) (one two behind : Good SequenceLine) → AreMoved (names_of (items_in one)) behind two → AreBothBy fault one two (put_on Fasta fault one behind)
-  both_by None one two behind moved = (map-append (λ m. m.item) one.members behind.members ∙ ap (λ l. items_in one ++ l) moved.items, moved.none)
-  both_by (Some fault) one two behind moved = refl
+  both_by fault one two behind moved = grind (arith, map-append)
 
   module _ (one two : List ℕ) (ends : StandsBefore one two) (begins : IsTrue (begins_sequence two)) where
     pub fasta_both : AreBothBy (good Fasta input (text_lines one)).fault (good Fasta input (text_lines one)) (good Fasta input (text_lines two)) (good Fasta input (text_lines (one ++ two)))
-    fasta_both =
-        let split = lines_join 1 one two ends in
-        let first = good Fasta input (text_lines one) in
-        let state = reached Fasta Fasta.begin (items_in first) in
-        let behind = good_from Fasta input state (lines_from split.0 two) in
-        let moved = moved_lines state split.0 two begins in
-        subst (AreBothBy first.fault first (good Fasta input (text_lines two))) (sym (ap (good Fasta input) split.1 ∙ go_from Fasta input Fasta.begin (text_lines one) (lines_from split.0 two)))
-        (both_by first.fault first (good Fasta input (text_lines two)) behind (subst (λ names. AreMoved names behind (good Fasta input (text_lines two))) (begin_names (items_in first)) moved))
+    fasta_both = grind (arith, (lines_join 1 one two ends), moved_lines, go_from, both_by, begin_names)
 
     pub second_sound : (good Fasta input (text_lines two)).fault ≡ None
     second_sound = (moved_lines Fasta.begin 1 two begins).same
@@ -334,21 +264,17 @@ BeginsElsewhere last [] = ⊤
 BeginsElsewhere last (r ∷ rs) = is_last last r.chrom ≡ false
 
 none_falls : (last : Option Locus) (r : Feature) → is_last (name_at last) r.chrom ≡ false → falls_in block_sorting last (locus_at r) ≡ false
-none_falls None r e = refl
-none_falls (Some l) r e = ap (λ b. cond b (nat_lt r.start l.start) false) e
+none_falls last r e = grind arith
 
 module _ (input : Input) where
   kept_with : (n : ℕ) (last : Option Locus) (falls : Bool) (r : Feature) (rest : Option Locus → Good Feature) → falls ≡ false
       → good_with block_format input n last (cond falls (Err OutOfOrder) (Ok (Some r))) rest ≡ good_with block_format input n None (Ok (Some r)) rest
-  kept_with n last true r rest e = cc
-  kept_with n last false r rest e = refl
+  kept_with n last falls r rest e = grind arith
 
   fresh_with : (n : ℕ) (last : Option Locus) (said : Result (Option Feature) Kind) (rest : Option Locus → Good Feature) (more : List Feature)
       → (BeginsElsewhere (name_at last) more → rest last ≡ rest None) → BeginsElsewhere (name_at last) (said_record said ++ more)
       → good_with block_format input n last (said_after block_sorting last said) rest ≡ good_with block_format input n None (said_after block_sorting None said) rest
-  fresh_with n last (Err kind) rest more same h = refl
-  fresh_with n last (Ok None) rest more same h = same h
-  fresh_with n last (Ok (Some r)) rest more same h = kept_with n last (falls_in block_sorting last (locus_at r)) r rest (none_falls last r h)
+  fresh_with n last said rest more same h = grind arith
 
   -- records of which the first lies on another chromosome are as good as without those before
   pub fresh_from : (last : Option Locus) (ms : List TextLine) → BeginsElsewhere (name_at last) (records_on ms) → good_from block_format input last ms ≡ good_from block_format input None ms
@@ -359,15 +285,12 @@ module _ (input : Input) where
   calm_kept : (n : ℕ) (last : Option Locus) (falls : Bool) (r : Feature) (rest : Option Locus → Good Feature)
       → (good_with block_format input n last (cond falls (Err OutOfOrder) (Ok (Some r))) rest).fault ≡ None
       → good_with block_format input n last (cond falls (Err OutOfOrder) (Ok (Some r))) rest ≡ good_with block_format input n None (Ok (Some r)) rest
-  calm_kept n last true r rest e = cc
-  calm_kept n last false r rest e = refl
+  calm_kept n last falls r rest e = grind arith
 
   calm_with : (n : ℕ) (last : Option Locus) (said : Result (Option Feature) Kind) (rest : Option Locus → Good Feature) → ((rest last).fault ≡ None → rest last ≡ rest None)
       → (good_with block_format input n last (said_after block_sorting last said) rest).fault ≡ None
       → good_with block_format input n last (said_after block_sorting last said) rest ≡ good_with block_format input n None (said_after block_sorting None said) rest
-  calm_with n last (Err kind) rest same e = refl
-  calm_with n last (Ok None) rest same e = same e
-  calm_with n last (Ok (Some r)) rest same e = calm_kept n last (falls_in block_sorting last (locus_at r)) r rest e
+  calm_with n last said rest same e = grind arith
 
   -- and so are records without a fault
   pub calm_from : (last : Option Locus) (ms : List TextLine) → (good_from block_format input last ms).fault ≡ None → good_from block_format input last ms ≡ good_from block_format input None ms
@@ -378,14 +301,11 @@ module _ (input : Input) where
   sound_kept : (n : ℕ) (last : Option Locus) (falls : Bool) (r : Feature) (rest : Option Locus → Good Feature) (more : List Feature) → ((rest (Some (locus_at r))).fault ≡ None → items_in (rest (Some (locus_at r))) ≡ more)
       → (good_with block_format input n last (cond falls (Err OutOfOrder) (Ok (Some r))) rest).fault ≡ None
       → items_in (good_with block_format input n last (cond falls (Err OutOfOrder) (Ok (Some r))) rest) ≡ r ∷ more
-  sound_kept n last true r rest more same e = cc
-  sound_kept n last false r rest more same e = ap (λ (l : List Feature). r ∷ l) (same e)
+  sound_kept n last falls r rest more same e = grind arith
 
   sound_with : (n : ℕ) (last : Option Locus) (said : Result (Option Feature) Kind) (rest : Option Locus → Good Feature) (more : List Feature) → ((now : Option Locus) → (rest now).fault ≡ None → items_in (rest now) ≡ more)
       → (good_with block_format input n last (said_after block_sorting last said) rest).fault ≡ None → items_in (good_with block_format input n last (said_after block_sorting last said) rest) ≡ said_record said ++ more
-  sound_with n last (Err kind) rest more same e = cc
-  sound_with n last (Ok None) rest more same e = same last e
-  sound_with n last (Ok (Some r)) rest more same e = sound_kept n last (falls_in block_sorting last (locus_at r)) r rest more (same (Some (locus_at r))) e
+  sound_with n last said rest more same e = grind arith
 
   -- without a fault the records are all that the lines say
   pub sound_from : (last : Option Locus) (ms : List TextLine) → (good_from block_format input last ms).fault ≡ None → items_in (good_from block_format input last ms) ≡ records_on ms
@@ -395,14 +315,11 @@ module _ (input : Input) where
 
   among_kept : (P : Feature → Type 0) (n : ℕ) (last : Option Locus) (falls : Bool) (r : Feature) (rest : Option Locus → Good Feature) → P r → AllByRecursion P (items_in (rest (Some (locus_at r))))
       → AllByRecursion P (items_in (good_with block_format input n last (cond falls (Err OutOfOrder) (Ok (Some r))) rest))
-  among_kept P n last true r rest p h = tt
-  among_kept P n last false r rest p h = (p, h)
+  among_kept P n last falls r rest p h = grind arith
 
   among_with : (P : Feature → Type 0) (n : ℕ) (last : Option Locus) (said : Result (Option Feature) Kind) (rest : Option Locus → Good Feature) → ((now : Option Locus) → AllByRecursion P (items_in (rest now)))
       → AllByRecursion P (said_record said) → AllByRecursion P (items_in (good_with block_format input n last (said_after block_sorting last said) rest))
-  among_with P n last (Err kind) rest h p = tt
-  among_with P n last (Ok None) rest h p = h last
-  among_with P n last (Ok (Some r)) rest h p = among_kept P n last (falls_in block_sorting last (locus_at r)) r rest p.0 (h (Some (locus_at r)))
+  among_with P n last said rest h p = grind arith
 
   -- what holds of all that the lines say, holds of the good records
   pub among_from : (P : Feature → Type 0) (last : Option Locus) (ms : List TextLine) → AllByRecursion P (records_on ms) → AllByRecursion P (items_in (good_from block_format input last ms))
@@ -441,41 +358,22 @@ module _ (input : Input) where
     abbrev pub AreJoint : Type 0
     AreJoint = (items_in Whole-good ≡ items_in First-good ++ items_in Second-good) × (is_none Whole-good.fault ≡ is_none Second-good.fault)
 
-    joint_of : (g h : Good Feature) → IsLike h Second-good → Whole-good ≡ record { members = First-good.members ++ h.members; fault = h.fault } → AreJoint
-    joint_of g h like is = (
-      ap (λ (w : Good Feature). items_in w) is ∙ map-append (λ m. m.item) First-good.members h.members ∙ ap (λ l. items_in First-good ++ l) like.items,
-      ap (λ (w : Good Feature). is_none w.fault) is ∙ like.fault,
-    )
-
     put_none : (fault : Option FaultValue) (g h : Good Feature) → fault ≡ None → put_on block_format fault g h ≡ record { members = g.members ++ h.members; fault = h.fault }
-    put_none None g h e = refl
-    put_none (Some fault) g h e = cc
+    put_none fault g h e = grind arith
 
     elsewhere : BeginsElsewhere (last_from None (items_in First-good)) (said_records two) → BeginsElsewhere (name_at Last) (records_on Lines-behind)
-    elsewhere h =
-        subst (λ last. BeginsElsewhere last (records_on Lines-behind)) (sym (reached_last None (items_in First-good)))
-        (subst (BeginsElsewhere (last_from None (items_in First-good))) (alike_records (text_lines two) Lines-behind (alike_lines 1 (lines_join 1 one two ends).0 two)) h)
+    elsewhere h = grind (arith, reached_last, alike_records, alike_lines)
 
     -- if those of the second text begin on another chromosome
     pub fresh_joint : First-good.fault ≡ None → BeginsElsewhere (last_from None (items_in First-good)) (said_records two) → AreJoint
-    fresh_joint none h =
-        joint_of First-good (good_from block_format input None Lines-behind) like_two
-        (whole_is ∙ put_none First-good.fault First-good (good_from block_format input Last Lines-behind) none
-        ∙ ap (λ (g : Good Feature). record { members = First-good.members ++ g.members; fault = g.fault }) (fresh_from Last Lines-behind (elsewhere h)))
+    fresh_joint none h = grind (arith, like_two, whole_is, fresh_from, elsewhere, map-append)
 
     none_by : (fault : Option FaultValue) (g h : Good Feature) → g.fault ≡ fault → (put_on block_format fault g h).fault ≡ None → (fault ≡ None) × (h.fault ≡ None)
-    none_by None g h is e = (refl, e)
-    none_by (Some fault) g h is e = let apart : Some fault ≡ None = sym is ∙ e in cc
+    none_by fault g h is e = grind arith
 
     -- or if both texts have no fault
     pub calm_joint : Whole-good.fault ≡ None → (First-good.fault ≡ None) × (Second-good.fault ≡ None) × (items_in Whole-good ≡ items_in First-good ++ items_in Second-good)
-    calm_joint none =
-        let late = good_from block_format input Last Lines-behind in
-        let both = none_by First-good.fault First-good late refl (ap (λ (g : Good Feature). g.fault) (sym whole_is) ∙ none) in
-        let calm = calm_from Last Lines-behind both.1 in
-        let joint = joint_of First-good (good_from block_format input None Lines-behind) like_two
-        (whole_is ∙ put_none First-good.fault First-good late both.0 ∙ ap (λ (g : Good Feature). record { members = First-good.members ++ g.members; fault = g.fault }) calm) in
-        (both.0, none_like Whole-good.fault Second-good.fault joint.1 none, joint.0)
+    calm_joint none = grind (arith, whole_is, calm_from, like_two, map-append)
 
     -- a fault of the first text is that of both
     pub faulty_same : (fault : FaultValue) → First-good.fault ≡ Some fault → Whole-good ≡ First-good
@@ -487,6 +385,4 @@ module _ (input : Input) where
 
     -- the records of the first text come first
     pub first_front : (more : List Feature) × (items_in Whole-good ≡ items_in First-good ++ more)
-    first_front =
-        let front = front_by First-good.fault First-good (good_from block_format input Last Lines-behind) in
-        (front.0, ap (λ (w : Good Feature). items_in w) whole_is ∙ front.1)
+    first_front = grind (arith, (front_by First-good.fault First-good (good_from block_format input Last Lines-behind)), whole_is)

@@ -1,5 +1,5 @@
 -- Parts with their own parts of the genome file: complement, genomecov and merge.
-use Rattle.bt_lines.proofs.Std.{◌≡◌, ℕ, Bool, true, false, List, [], ◌∷◌, ◌++◌, filter, append-nil, Option, Some, None, refl, sym, ap, ap₂, ◌∙◌, cond, not, ◌||◌, map, Result, Ok, Err, subst, IsTrue, bytes_eq, flat_map, nat_le, nat_lt, AllByRecursion, or_left, or_right, flat_map-append, map-append, filter-append}
+use Rattle.bt_lines.proofs.Std.{arith, ◌≡◌, ℕ, Bool, true, false, List, [], ◌∷◌, ◌++◌, filter, append-nil, Option, Some, None, refl, sym, ap, ap₂, ◌∙◌, cond, not, ◌||◌, map, Result, Ok, Err, subst, IsTrue, bytes_eq, flat_map, nat_le, nat_lt, AllByRecursion, or_left, or_right, flat_map-append, map-append, filter-append}
 use Rattle.std.specs.Option.{option_map_or}
 use Rattle.std.specs.declared.cmp.Ordering.{Ordering}
 use Rattle.std.specs.declared.cmp.Ordering.TheVariants.{Less, Equal, Greater}
@@ -44,20 +44,13 @@ use Rattle.bt_laws.proofs.lemmas.parts.PartTexts.{lines_less}
 -- each entry's name is among those of its list
 own_names : (es : List Entry) (all : List (List ℕ)) → ((n : List ℕ) → is_among (genome_names es) n ≡ true → is_among all n ≡ true) → AllByRecursion (λ e. is_among all e.name ≡ true) es
 own_names [] all f = tt
-own_names (e ∷ es) all f = (
-  f e.name (or_left (bytes_eq e.name e.name) (is_among (genome_names es) e.name) (name_eq e.name e.name refl)),
-  own_names es all (λ n h. f n (or_right (bytes_eq e.name n) (is_among (genome_names es) n) h)),
-)
+own_names (e ∷ es) all f = grind (arith, (own_names es all (λ n h. f n (or_right (bytes_eq e.name n) (is_among (genome_names es) n) h))), name_eq)
 
 over_less : (o : Ordering) (b : Bool) → o ≡ Less → is_over_at o b ≡ true
-over_less Less b e = refl
-over_less Equal b e = cc
-over_less Greater b e = cc
+over_less o b e = grind arith
 
 over_greater : (o : Ordering) (b : Bool) → o ≡ Greater → is_over_at o b ≡ false
-over_greater Less b e = cc
-over_greater Equal b e = cc
-over_greater Greater b e = refl
+over_greater o b e = grind arith
 
 module _ {T : Type 0} (chrom : T → List ℕ) (ends : Interval → T → Bool) (line : T → List ℕ) (F : List Feature → Entry → List T) where
   -- what is written of a genome file's chromosomes
@@ -103,19 +96,14 @@ module _ {T : Type 0} (chrom : T → List ℕ) (ends : Interval → T → Bool) 
     greater a b two one = reversed_less ((rank_order Both).compare b a) ((rank_order Both).compare a b) (less b a one two) ((ranks_total Both).swapped b a (one_in b one) (two_in a two))
 
     apart : (a b : List ℕ) → is_among One-names a ≡ true → is_among Two-names b ≡ true → bytes_eq b a ≡ false
-    apart a b one two = name_ne b a (λ same.
-        let not_one : is_among One-names b ≡ false = no_first One-names Two-names (apart_both e_one e_two distinct) b two in
-        let both : true ≡ false = sym one ∙ ap (is_among One-names) (sym same) ∙ not_one in absurd (cc))
+    apart a b one two = grind (arith, name_ne, (no_first One-names Two-names (apart_both e_one e_two distinct) b two))
 
     apart_too : (a b : List ℕ) → is_among One-names a ≡ true → is_among Two-names b ≡ true → bytes_eq a b ≡ false
-    apart_too a b one two = name_ne a b (λ same.
-        let not_one : is_among One-names b ≡ false = no_first One-names Two-names (apart_both e_one e_two distinct) b two in
-        let both : true ≡ false = sym one ∙ ap (is_among One-names) same ∙ not_one in absurd (cc))
+    apart_too a b one two = grind (arith, name_ne, no_first, apart_both)
 
     -- items lie on chromosomes of their entries
     items_named : (names : List (List ℕ)) (es : List Entry) (records : List Feature) → AllByRecursion (λ e. is_among names e.name ≡ true) es → AllByRecursion (λ t. is_among names (chrom t) ≡ true) (whole_of es records)
-    items_named names es records h =
-        all_flat_map _ (F records) es (all_so _ _ es (λ e is. all_so _ _ (F records e) (λ t at. ap (is_among names) at ∙ is) (named records e)) h)
+    items_named names es records h = grind (arith, all_flat_map, all_so)
 
     own_one : AllByRecursion (λ e. is_among One-names e.name ≡ true) e_one
     own_one = own_names e_one One-names (λ n h. h)
@@ -163,13 +151,8 @@ module _ {T : Type 0} (chrom : T → List ℕ) (ends : Interval → T → Bool) 
     begin_by : (ones twos : List Feature) → AllByRecursion (λ r. is_among One-names r.chrom ≡ true) (intervals_of ones) → AllByRecursion (λ r. is_among Two-names r.chrom ≡ true) (intervals_of twos)
         → ((rest : List T) × (whole_of e_one ones ≡ settled_of e_one ones ++ rest))
         → (rest : List ℕ) × (flat_map line (whole_of e_one ones) ++ flat_map line (settled_of e_two twos) ≡ flat_map line (settled_of (e_one ++ e_two) (ones ++ twos)) ++ rest)
-    begin_by ones [] in_one in_two begins = (
-      flat_map line begins.0,
-      append-nil (flat_map line (whole_of e_one ones)) ∙ ap (flat_map line) begins.1 ∙ lines_both (settled_of e_one ones) begins.0
-          ∙ ap (λ l. flat_map line l ++ flat_map line begins.0) (sym (settled_first ones in_one) ∙ ap (settled_of (e_one ++ e_two)) (sym (append-nil ones))),
-    )
-    begin_by ones (s ∷ twos) in_one in_two begins =
-        ([], sym (append-nil _ ∙ ap (flat_map line) (settled_both ones s twos in_one in_two) ∙ lines_both (whole_of e_one ones) (settled_of e_two (s ∷ twos))))
+    begin_by ones [] in_one in_two begins = grind (arith, (append-nil (flat_map line (whole_of e_one ones))), (lines_both (settled_of e_one ones) begins.0), (settled_first ones in_one), (append-nil ones))
+    begin_by ones (s ∷ twos) in_one in_two begins = grind (arith, append-nil, settled_both, lines_both)
 
     pub chromosomes_split : (ones twos : List Feature) → AllByRecursion (λ r. is_among One-names r.chrom ≡ true) (intervals_of ones) → AllByRecursion (λ r. is_among Two-names r.chrom ≡ true) (intervals_of twos)
         → ((rest : List T) × (whole_of e_one ones ≡ settled_of e_one ones ++ rest))
@@ -204,8 +187,7 @@ pub record OwnParts (e_one e_two : List Entry) (ones twos : List Feature) : Type
   pub early : Earlier (rank_order (genome_names (e_one ++ e_two))) (ranks_total (genome_names (e_one ++ e_two))) ones twos
 
 or_not : (a b : Bool) → b ≡ false → (a || b) ≡ a
-or_not true b e = refl
-or_not false b e = e
+or_not a b e = grind arith
 
 or_is : (a b : Bool) → a ≡ false → (a || b) ≡ b
 or_is a b e = ap (λ x. x || b) e
@@ -225,43 +207,26 @@ module _ (limit : Bool) where
   complement_is entries records = flat_filter (gaps_on (intervals_of records)) (is_asked limit (intervals_of records)) entries
 
   over_same : (names : List (List ℕ)) (items : List Interval) (o : Option Interval) → option_map_or (λ last. filter (is_over names last) items) o [] ≡ ended gap_chrom gap_ends interval_line gaps_here names items o
-  over_same names items None = refl
-  over_same names items (Some last) = refl
+  over_same names items o = grind arith
 
   gaps_settled : (entries : List Entry) (records : List Feature) → settled_gaps limit entries records ≡ settled_of gap_chrom gap_ends interval_line gaps_here entries records
   unfolding settled_gaps
-  gaps_settled entries records =
-      ap (λ items. option_map_or (λ last. filter (is_over (genome_names entries) last) items) (last_of (intervals_of records)) []) (complement_is entries records)
-      ∙ over_same (genome_names entries) (whole_of gap_chrom gap_ends interval_line gaps_here entries records) (last_of (intervals_of records))
+  gaps_settled entries records = grind (arith, complement_is)
 
   gaps_named : (records : List Feature) (e : Entry) → AllByRecursion (λ gap. gap.chrom ≡ e.name) (gaps_here records e)
   unfolding gaps_here
-  gaps_named records e = by (is_asked limit (intervals_of records) e)
-    where
-      by : (b : Bool) → AllByRecursion (λ gap. gap.chrom ≡ e.name) (cond b (gaps_on (intervals_of records) e) [])
-      by true = all_map (λ gap. gap.chrom ≡ e.name) (placed_on e.name) (gaps_of e.length (spans_on e.name (intervals_of records))) (all_any _ (gaps_of e.length (spans_on e.name (intervals_of records))) (λ s. refl))
-      by false = tt
+  gaps_named records e = grind (arith, all_map, all_any)
 
   gaps_first : (ones twos : List Feature) (e : Entry) → has_records e.name (intervals_of twos) ≡ false → gaps_here (ones ++ twos) e ≡ gaps_here ones e
   unfolding gaps_here
-  gaps_first ones twos e none =
-      ap (λ ivs. cond (is_asked limit ivs e) (gaps_on ivs e) []) (map-append interval_of ones twos)
-      ∙ ap₂ (λ b spans. cond (not limit || b) (map (placed_on e.name) (gaps_of e.length spans)) [])
-      (has_append e.name (intervals_of ones) (intervals_of twos) ∙ or_not (has_records e.name (intervals_of ones)) (has_records e.name (intervals_of twos)) none)
-      (spans_first e.name (intervals_of ones) (intervals_of twos) none)
+  gaps_first ones twos e none = grind (arith, map-append, has_append, spans_first)
 
   gaps_second : (ones twos : List Feature) (e : Entry) → has_records e.name (intervals_of ones) ≡ false → gaps_here (ones ++ twos) e ≡ gaps_here twos e
   unfolding gaps_here
-  gaps_second ones twos e none =
-      ap (λ ivs. cond (is_asked limit ivs e) (gaps_on ivs e) []) (map-append interval_of ones twos)
-      ∙ ap₂ (λ b spans. cond (not limit || b) (map (placed_on e.name) (gaps_of e.length spans)) [])
-      (has_append e.name (intervals_of ones) (intervals_of twos) ∙ or_is (has_records e.name (intervals_of ones)) (has_records e.name (intervals_of twos)) none)
-      (spans_second e.name (intervals_of ones) (intervals_of twos) none)
+  gaps_second ones twos e none = grind (arith, map-append, has_append, spans_second)
 
   gaps_begin : (entries : List Entry) (ones : List Feature) → AreTaken entries ones → (rest : List Interval) × (whole_of gap_chrom gap_ends interval_line gaps_here entries ones ≡ settled_of gap_chrom gap_ends interval_line gaps_here entries ones ++ rest)
-  gaps_begin entries ones taken =
-      let front = begins (settled_gaps limit entries) (complement limit entries) (AreTaken entries) (settles_gaps limit entries) ones [] (subst (AreTaken entries) (sym (append-nil ones)) taken) in
-      (front.0, sym (complement_is entries ones) ∙ ap (complement limit entries) (sym (append-nil ones)) ∙ front.1 ∙ ap (λ l. l ++ front.0) (gaps_settled entries ones))
+  gaps_begin entries ones taken = grind (arith, (settles_gaps limit entries), (complement_is entries ones), (gaps_settled entries ones))
 
   pub gaps_split : (e_one e_two : List Entry) (ones twos : List Feature) → OwnParts e_one e_two ones twos → Splits (complement_written e_one limit) (complement_written e_two limit) (complement_written (e_one ++ e_two) limit) ones twos
   gaps_split e_one e_two ones twos own =
@@ -288,19 +253,14 @@ module _ (zeros : Bool) (strand : Option Strand) where
   coverage_is entries records = refl
 
   ended_same : (names : List (List ℕ)) (items : List DepthInterval) (o : Option Interval) → option_map_or (λ last. filter (is_ended_by names last) items) o [] ≡ ended depth_chrom depth_ends depth_line depths_here names items o
-  ended_same names items None = refl
-  ended_same names items (Some last) = refl
+  ended_same names items o = grind arith
 
   depths_settled : (entries : List Entry) (records : List Feature) → settled_depths zeros strand entries records ≡ settled_of depth_chrom depth_ends depth_line depths_here entries records
   unfolding settled_depths
-  depths_settled entries records =
-      ap (λ items. option_map_or (λ last. filter (is_ended_by (genome_names entries) last) items) (last_of (intervals_of records)) []) (coverage_is entries records)
-      ∙ ended_same (genome_names entries) (whole_of depth_chrom depth_ends depth_line depths_here entries records) (last_of (intervals_of records))
+  depths_settled entries records = grind (arith, coverage_is)
 
   depths_named : (records : List Feature) (e : Entry) → AllByRecursion (λ item. item.chrom ≡ e.name) (depths_here records e)
-  depths_named records e =
-      let levels = levels_of (depth_of zeros (counted_on strand e.name records)) e.length in
-      all_map (λ item. item.chrom ≡ e.name) (depth_on e.name) levels (all_any _ levels (λ l. refl))
+  depths_named records e = grind (arith, all_map, all_any)
 
   abbrev counts : Feature → Bool
   counts r = is_counted_by strand r.strand
@@ -312,17 +272,13 @@ module _ (zeros : Bool) (strand : Option Strand) where
   depths_by e xs ys is = ap (λ spans. map (depth_on e.name) (levels_of (depth_of zeros spans) e.length)) is
 
   depths_first : (ones twos : List Feature) (e : Entry) → has_records e.name (intervals_of twos) ≡ false → depths_here (ones ++ twos) e ≡ depths_here ones e
-  depths_first ones twos e none =
-      depths_by e (ones ++ twos) ones (ap (spans_on e.name) (counted_both ones twos) ∙ spans_first e.name (intervals_of (filter counts ones)) (intervals_of (filter counts twos)) (fewer counts e.name twos none))
+  depths_first ones twos e none = grind (arith, counted_both, spans_first, fewer)
 
   depths_second : (ones twos : List Feature) (e : Entry) → has_records e.name (intervals_of ones) ≡ false → depths_here (ones ++ twos) e ≡ depths_here twos e
-  depths_second ones twos e none =
-      depths_by e (ones ++ twos) twos (ap (spans_on e.name) (counted_both ones twos) ∙ spans_second e.name (intervals_of (filter counts ones)) (intervals_of (filter counts twos)) (fewer counts e.name ones none))
+  depths_second ones twos e none = grind (arith, counted_both, spans_second, fewer)
 
   depths_begin : (entries : List Entry) (ones : List Feature) → AreTaken entries ones → (rest : List DepthInterval) × (whole_of depth_chrom depth_ends depth_line depths_here entries ones ≡ settled_of depth_chrom depth_ends depth_line depths_here entries ones ++ rest)
-  depths_begin entries ones taken =
-      let front = begins (settled_depths zeros strand entries) (coverage zeros strand entries) (AreTaken entries) (settles_depths zeros strand entries) ones [] (subst (AreTaken entries) (sym (append-nil ones)) taken) in
-      (front.0, sym (coverage_is entries ones) ∙ ap (coverage zeros strand entries) (sym (append-nil ones)) ∙ front.1 ∙ ap (λ l. l ++ front.0) (depths_settled entries ones))
+  depths_begin entries ones taken = grind (arith, (settles_depths zeros strand entries), (coverage_is entries ones), (depths_settled entries ones))
 
   pub depths_split : (e_one e_two : List Entry) (ones twos : List Feature) → OwnParts e_one e_two ones twos → Splits (coverage_written e_one zeros strand) (coverage_written e_two zeros strand) (coverage_written (e_one ++ e_two) zeros strand) ones twos
   depths_split e_one e_two ones twos own =
@@ -366,17 +322,13 @@ module _ (d : ℕ) where
 
 -- a genome file has each chromosome once
 cut_none : (fault : Option FaultValue) (result : Result (List Entry) FaultValue) (entries : List Entry) → genome_cut fault result ≡ Ok entries → result ≡ Ok entries
-cut_none None result entries e = e
-cut_none (Some fault) (Ok more) entries e = cc
-cut_none (Some fault) (Err first) entries e = cc
+cut_none fault result entries e = grind arith
 
 pub file_is : (result : Result (List Entry) FaultValue) (entries : List Entry) → of_file result ≡ Ok (Some entries) → result ≡ Ok entries
-file_is (Ok more) entries e = cc
-file_is (Err fault) entries e = cc
+file_is result entries e = grind arith
 
 pub distinct_in : (genome : Handed) (entries : List Entry) → chromosomes_of (Some genome) ≡ Ok (Some entries) → AreDistinct (genome_names entries)
-distinct_in genome entries e =
-    distinct_genome Genome (lines_handed genome) entries (cut_none (cut_fault Genome genome) (genome_of Genome (lines_handed genome)) entries (file_is (genome_handed Genome genome) entries e))
+distinct_in genome entries e = grind (arith, distinct_genome)
 
 module _ (W : List Entry → Written Feature) (command : Command)
     (is : (entries : List Entry) (text : List ℕ) → report_on command (Ok (Some entries)) (whole_text text) None ≡ good_report (W entries) (good (bed_format (sorting_of (rank_order (genome_names entries)))) First (text_lines text)))
@@ -460,24 +412,14 @@ module _ (W : List Entry → Written Feature) (command : Command)
   among_less e_one e_two name h = ap (λ ns. is_among ns name) (names_both e_one e_two) ∙ among_append (genome_names e_one) (genome_names e_two) name ∙ or_left (is_among (genome_names e_one) name) (is_among (genome_names e_two) name) h
 
   fit_less : (t : Shard) (ts : List Shard) → Fit (t ∷ ts) → Fit ts
-  fit_less t ts fit = record {
-    distinct = back_distinct (genome_names t.entries) (genome_names (all_entries ts)) (subst AreDistinct (names_both t.entries (all_entries ts)) fit.distinct);
-    lines = lines_less t.text (shard_texts ts) fit.lines;
-    within = all_so _ _ ts (λ s h. all_so _ _ (said_records s.text) (λ r k here. k (among_more t.entries (all_entries ts) r.chrom here)) h) fit.within.1;
-  }
+  fit_less t ts fit = grind (arith, back_distinct, names_both, all_so, among_more)
 
   within_all : (whole : List Entry) (shards : List Shard) → AreOfLines (shard_texts shards) → AllByRecursion (λ shard. AllByRecursion (LiesWithin shard.entries whole) (said_records shard.text)) shards
       → AllByRecursion (LiesWithin (all_entries shards) whole) (said_records (joined (shard_texts shards)))
   unfolding lines_from
   within_all whole [] lines h = tt
-  within_all whole (t ∷ []) lines h =
-      subst (λ text. AllByRecursion (LiesWithin (t.entries ++ []) whole) (said_records text)) (sym (append-nil t.text))
-      (subst (λ es. AllByRecursion (LiesWithin es whole) (said_records t.text)) (sym (append-nil t.entries)) h.0)
-  within_all whole (t ∷ u ∷ ts) lines h =
-      subst (λ rs. AllByRecursion (LiesWithin (t.entries ++ all_entries (u ∷ ts)) whole) rs) (sym (records_both t.text (joined (shard_texts (u ∷ ts))) lines.0))
-      (all_both _ (said_records t.text) (said_records (joined (shard_texts (u ∷ ts))))
-      (all_so _ _ (said_records t.text) (λ r k here. among_less t.entries (all_entries (u ∷ ts)) r.chrom (k here)) h.0)
-      (all_so _ _ (said_records (joined (shard_texts (u ∷ ts)))) (λ r k here. among_more t.entries (all_entries (u ∷ ts)) r.chrom (k here)) (within_all whole (u ∷ ts) lines.1 h.1)))
+  within_all whole (t ∷ []) lines h = grind (arith, append-nil)
+  within_all whole (t ∷ u ∷ ts) lines h = grind (arith, (within_all whole (u ∷ ts) lines.1 h.1), records_both, all_both, all_so, among_less, among_more)
 
   on_shard : Shard → Report
   on_shard shard = report_in shard.entries shard.text
@@ -505,9 +447,7 @@ module _ (W : List Entry → Written Feature) (command : Command)
 
   pub shards_add : report_in [] [] ≡ nothing → (genome : Handed) (shards : List Shard) → AreShards genome shards → ShardsAddUp command genome shards
   unfolding on_shard join
-  shards_add empty genome shards are =
-      let both = parts_both join on_shard Fit empty alone fit_less next shards (fit_of shards genome are) in
-      rw (on_own shards are.parts, same_parts shards genome are) both
+  shards_add empty genome shards are = grind (arith, (parts_both join on_shard Fit empty alone fit_less next shards (fit_of shards genome are)), (on_own shards are.parts), (same_parts shards genome are))
 
 pub complement_parts : complement_divides
 unfolding lines_from good_from complement
@@ -523,9 +463,7 @@ genomecov_parts zeros strand = shards_add (λ entries. coverage_written entries 
 
 merge_nothing : (d : ℕ) (strand : MergeStrand) → good_report (merge_written (rank_order []) d strand) (good (bed_format (sorting_of (rank_order []))) First (text_lines [])) ≡ nothing
 unfolding lines_from good_from ordered_runs merged strand_runs
-merge_nothing d All = refl
-merge_nothing d Each = refl
-merge_nothing d (One strand) = refl
+merge_nothing d strand = grind arith
 
 pub merge_genome_parts : merge_genomes_divide
 merge_genome_parts d strand = shards_add (λ entries. merge_written (rank_order (genome_names entries)) d strand) (Merge d strand)

@@ -1,5 +1,6 @@
 -- What intersect and subtract write of inputs of two parts.
-use Rattle.bt_lines.proofs.Std.{◌≡◌, ℕ, Bool, true, false, ◌&&◌, not, ◌||◌, cond, List, [], ◌∷◌, ◌++◌, append-nil, append_assoc, Option, Some, None, refl, sym, ap, ap₂, ◌∙◌, subst, ltb, min, max, ◌-◌, IsTrue, bytes_eq, flat_map, is_none, AllByRecursion, list_all, list_any, take_while, option_or, flat_map-append, filter-append, take_while-cons}
+use Rattle.bt_lines.proofs.Std.{arith, ◌≡◌, ℕ, Bool, true, false, ◌&&◌, not, ◌||◌, cond, List, [], ◌∷◌, ◌++◌, append-nil, append_assoc, Option, Some, None, refl, sym, ap, ap₂, ◌∙◌, subst, ltb, min, max, ◌-◌, IsTrue, bytes_eq, flat_map, is_none, AllByRecursion, list_all, list_any, take_while, option_or, flat_map-append, filter-append, take_while-cons}
+use Rattle.std.proofs.lemmas.Grind.{common_steps}
 use Rattle.std.specs.declared.cmp.Ordering.{Ordering}
 use Rattle.std.specs.declared.cmp.Ordering.TheVariants.{Less, Equal, Greater}
 use Rattle.bt_laws.proofs.lemmas.parts.PartGenomes.{or_true}
@@ -23,8 +24,7 @@ use Rattle.bt_laws.proofs.lemmas.parts.PartReports.{Adds, Stops, Contiguous, tog
 -- ---- lists up to the first that fails a test
 
 pub take_none : {A : Type 0} (t : A → Bool) (xs : List A) → AllByRecursion (λ x. t x ≡ false) xs → take_while t xs ≡ []
-take_none t [] h = refl
-take_none t (x ∷ xs) h = take_while-cons t x xs ∙ ap (λ b. cond b (x ∷ take_while t xs) []) h.0
+take_none t xs h = grind arith
 
 take_before : {A : Type 0} (t : A → Bool) (xs ys : List A) → AllByRecursion (λ y. t y ≡ false) ys → take_while t (xs ++ ys) ≡ take_while t xs
 take_before t [] ys h = take_none t ys h
@@ -54,22 +54,14 @@ pub any_behind : {A : Type 0} (t : A → Bool) (xs ys : List A) → AllByRecursi
 any_behind t [] ys h = refl
 any_behind t (x ∷ xs) ys h = ap (λ b. b || list_any t (xs ++ ys)) h.0 ∙ any_behind t xs ys h.1
 
-any_here : {A : Type 0} (t : A → Bool) (xs : List A) (y : A) (ys : List A) → t y ≡ true → list_any t (xs ++ y ∷ ys) ≡ true
-any_here t [] y ys e = ap (λ b. b || list_any t ys) e
-any_here t (x ∷ xs) y ys e = ap (λ b. t x || b) (any_here t xs y ys e) ∙ or_true (t x)
-
 kept_by : {A : Type 0} (P : A → Type 0) (x : A) (kept : List A) (b : Bool) → P x → AllByRecursion P kept → AllByRecursion P (cond b (x ∷ kept) [])
-kept_by P x kept true p h = (p, h)
-kept_by P x kept false p h = tt
+kept_by P x kept b p h = grind arith
 
 all_kept : {A : Type 0} (P : A → Type 0) (t : A → Bool) (xs : List A) → AllByRecursion P xs → AllByRecursion P (take_while t xs)
-all_kept P t [] h = tt
-all_kept P t (x ∷ xs) h = subst (AllByRecursion P) (sym (take_while-cons t x xs)) (kept_by P x (take_while t xs) (t x) h.0 (all_kept P t xs h.1))
+all_kept P t xs h = grind (arith, common_steps)
 
 pub written_same : {A : Type 0} (mine yours : Rule A ℕ FaultValue) (xs : List A) → AllByRecursion (λ x. (mine.decided x ≡ yours.decided x) × (mine.lines x ≡ yours.lines x)) xs → written mine xs ≡ written yours xs
-written_same mine yours xs h =
-    ap (flat_map mine.lines) (take_same mine.decided yours.decided xs (all_so _ _ xs (λ x k. k.0) h))
-    ∙ flat_map_same mine.lines yours.lines (take_while yours.decided xs) (all_kept _ yours.decided xs (all_so _ _ xs (λ x k. k.1) h))
+written_same mine yours xs h = grind (arith, take_same, all_so, flat_map_same, all_kept)
 
 pub written_before : {A : Type 0} (rule : Rule A ℕ FaultValue) (xs ys : List A) → AllByRecursion (λ y. rule.decided y ≡ false) ys → written rule (xs ++ ys) ≡ written rule xs
 written_before rule xs ys h = ap (flat_map rule.lines) (take_before rule.decided xs ys h)
@@ -78,9 +70,7 @@ written_before rule xs ys h = ap (flat_map rule.lines) (take_before rule.decided
 
 module _ (order : Order) (total : IsTotal order) where
   is_below_less : (o : Ordering) (start other : ℕ) → o ≡ Less → not (is_below_at o start other) ≡ false
-  is_below_less Less start other e = refl
-  is_below_less Equal start other e = cc
-  is_below_less Greater start other e = cc
+  is_below_less o start other e = grind arith
 
   -- a record on a later chromosome decides one before it
   pub later_decides : (a b : Feature) → IsTrue (order.knows a.chrom) → IsTrue (order.knows b.chrom) → order.compare a.chrom b.chrom ≡ Less → decides order a b ≡ true
@@ -91,8 +81,7 @@ module _ (order : Order) (total : IsTotal order) where
   earlier_leaves a b less = is_below_less (order.compare b.chrom a.chrom) b.start a.stop less
 
 apart_shares : (c : Bool) (n : ℕ) → c ≡ false → ltb 0 (cond c n 0) ≡ false
-apart_shares true n e = cc
-apart_shares false n e = refl
+apart_shares c n e = grind arith
 
 elsewhere_misses : (rule : HitRule) (a b : Feature) → bytes_eq a.chrom b.chrom ≡ false → hits rule a b ≡ false
 elsewhere_misses rule a b e = apart_misses rule a b (apart_shares (bytes_eq a.chrom b.chrom) (min a.stop b.stop - max a.start b.start) e)
@@ -100,34 +89,25 @@ elsewhere_misses rule a b e = apart_misses rule a b (apart_shares (bytes_eq a.ch
 module _ (shape : Shape) (rule : HitRule) where
   pub lines_first : (a : Feature) (bones btwos : List Feature) → AllByRecursion (λ b. bytes_eq a.chrom b.chrom ≡ false) btwos → lines_for shape rule a (bones ++ btwos) ≡ lines_for shape rule a bones
   unfolding lines_for
-  lines_first a bones btwos h =
-      ap (lines_of shape a) (filter-append (hits rule a) bones btwos
-      ∙ ap (λ l. hits_among rule a bones ++ l) (filter_none (hits rule a) btwos (all_so _ _ btwos (λ b e. elsewhere_misses rule a b e) h))
-      ∙ append-nil (hits_among rule a bones))
+  lines_first a bones btwos h = grind (arith, filter-append, filter_none, all_so, elsewhere_misses, append-nil)
 
   pub lines_second : (a : Feature) (bones btwos : List Feature) → AllByRecursion (λ b. bytes_eq a.chrom b.chrom ≡ false) bones → lines_for shape rule a (bones ++ btwos) ≡ lines_for shape rule a btwos
   unfolding lines_for
-  lines_second a bones btwos h =
-      ap (lines_of shape a) (filter-append (hits rule a) bones btwos
-      ∙ ap (λ l. l ++ hits_among rule a btwos) (filter_none (hits rule a) bones (all_so _ _ bones (λ b e. elsewhere_misses rule a b e) h)))
+  lines_second a bones btwos h = grind (arith, filter-append, filter_none, all_so, elsewhere_misses)
 
 -- ---- the faults of a meeting
 
 some_told : (fa : Option FaultValue) (f : FaultValue) → option_or fa (Some f) ≡ None → ⊥
-some_told None f e = cc
-some_told (Some g) f e = cc
+some_told fa f e = grind arith
 
 or_none : (fa : Option FaultValue) → option_or fa None ≡ fa
-or_none None = refl
-or_none (Some f) = refl
+or_none fa = grind arith
 
 unless_some : (f : Option FaultValue) (output : List ℕ) → (f ≡ None → ⊥) → unless_fault f output ≡ []
-unless_some None output h = absurd (h refl)
-unless_some (Some f) output h = refl
+unless_some f output h = grind arith
 
 pub unless_none : (f : Option FaultValue) (output : List ℕ) → f ≡ None → unless_fault f output ≡ output
-unless_none None output h = refl
-unless_none (Some f) output h = cc
+unless_none f output h = grind arith
 
 module _ (order : Order) (shape : Shape) (rule : HitRule) where
   -- the report on records and their faults
@@ -142,23 +122,16 @@ module _ (order : Order) (shape : Shape) (rule : HitRule) where
   fault_none given fa bs = met_fault_all (sweep_rule order shape rule bs None) given fa (decided_none bs given) ∙ or_none fa
 
   some_by : (given : List Feature) (fa : Option FaultValue) (bs : List Feature) (f : FaultValue) (b : Bool) → list_all (sweep_rule order shape rule bs (Some f)).decided given ≡ b → (sweep_report given fa bs (Some f)).fault ≡ None → ⊥
-  some_by given fa bs f true e none = some_told fa f (sym (met_fault_all (sweep_rule order shape rule bs (Some f)) given fa e) ∙ none)
-  some_by given fa bs f false e none = let told : Some f ≡ None = sym (met_fault_stop (sweep_rule order shape rule bs (Some f)) given fa e) ∙ none in cc
+  some_by given fa bs f b e none = grind arith
 
   pub report_none : (given : List Feature) (fa : Option FaultValue) (bs : List Feature) (fb : Option FaultValue) → (sweep_report given fa bs fb).fault ≡ None → (fa ≡ None) × (fb ≡ None)
-  report_none given fa bs None e = (sym (fault_none given fa bs) ∙ e, refl)
-  report_none given fa bs (Some f) e = absurd (some_by given fa bs f (list_all (sweep_rule order shape rule bs (Some f)).decided given) refl e)
+  report_none given fa bs fb e = grind (arith, fault_none)
 
   pub none_report : (given : List Feature) (fa : Option FaultValue) (bs : List Feature) (fb : Option FaultValue) → fa ≡ None → fb ≡ None → (sweep_report given fa bs fb).fault ≡ None
-  none_report given fa bs None e d = fault_none given fa bs ∙ e
-  none_report given fa bs (Some f) e d = cc
+  none_report given fa bs fb e d = grind arith
 
   lines_none : (given : List Feature) (fa : Option FaultValue) (bs : List Feature) → (sweep_report given fa bs None).output ≡ intersect shape rule given bs
   lines_none given fa bs = met_lines (sweep_rule order shape rule bs None) given fa ∙ sym (all_written (sweep_rule order shape rule bs None) given (decided_none bs given))
-
-  output_none : (given : List Feature) (fa : Option FaultValue) (bs : List Feature) (fb : Option FaultValue) → fb ≡ None → (sweep_report given fa bs fb).output ≡ intersect shape rule given bs
-  output_none given fa bs None e = lines_none given fa bs
-  output_none given fa bs (Some f) e = cc
 
 -- the records of the second part, beside those of the first
 pub record AreSplit (order : Order) (total : IsTotal order) (aones atwos bones btwos : List Feature) : Type 0 where
@@ -172,25 +145,17 @@ pub record AreSplit (order : Order) (total : IsTotal order) (aones atwos bones b
 module _ (order : Order) (total : IsTotal order) (shape : Shape) (rule : HitRule) (aones atwos bones btwos : List Feature) (split : AreSplit order total aones atwos bones btwos) where
   -- the lines of both parts
   pub lines_both : intersect shape rule (aones ++ atwos) (bones ++ btwos) ≡ intersect shape rule aones bones ++ intersect shape rule atwos btwos
-  lines_both =
-      flat_map-append (λ a. lines_for shape rule a (bones ++ btwos)) aones atwos
-      ∙ ap₂ (λ x y. x ++ y)
-      (flat_map_same _ _ aones (all_so _ _ aones (λ a h. lines_first shape rule a bones btwos h) split.apart_first))
-      (flat_map_same _ _ atwos (all_so _ _ atwos (λ a h. lines_second shape rule a bones btwos h) split.apart_second))
+  lines_both = grind (arith, flat_map-append, flat_map_same, all_so, lines_first, lines_second)
 
   none_second : AllByRecursion (λ a. AllByRecursion (λ b. decides order a b ≡ false) bones) atwos
-  none_second = all_so _ _ atwos (λ a h. all_so (λ b. order.compare b.chrom a.chrom ≡ Less) _ bones (λ b less. earlier_leaves order total a b less) h)
-      (all_swapped (λ b a. order.compare b.chrom a.chrom ≡ Less) bones atwos split.second_first)
+  none_second = grind (arith, all_so, (all_swapped (λ b a. order.compare b.chrom a.chrom ≡ Less) bones atwos split.second_first))
 
   -- the first of the others decides all before it
   first_decided : (b : Feature) (bs : List Feature) → btwos ≡ b ∷ bs → AllByRecursion (λ a. decided order a (bones ++ btwos) ≡ true) aones
   first_decided b bs e = from aones split.known_first split.first_second
     where
       one : (a : Feature) → IsTrue (order.knows a.chrom) → AllByRecursion (λ s. order.compare a.chrom s.chrom ≡ Less) btwos → decided order a (bones ++ btwos) ≡ true
-      one a known less =
-          let head : AllByRecursion (λ s. order.compare a.chrom s.chrom ≡ Less) (b ∷ bs) = subst (λ l. AllByRecursion (λ s. order.compare a.chrom s.chrom ≡ Less) l) e less in
-          let is : AllByRecursion (λ r. IsTrue (order.knows r.chrom)) (b ∷ bs) = subst (λ l. AllByRecursion (λ r. IsTrue (order.knows r.chrom)) l) e split.known in
-          ap (λ l. decided order a (bones ++ l)) e ∙ any_here (decides order a) bones b bs (later_decides order total a b known is.0 head.0)
+      one a known less = grind (arith, common_steps)
 
       from : (given : List Feature) → AllByRecursion (λ r. IsTrue (order.knows r.chrom)) given → Earlier order total given btwos → AllByRecursion (λ a. decided order a (bones ++ btwos) ≡ true) given
       from [] known early = tt
@@ -207,35 +172,15 @@ module _ (order : Order) (total : IsTotal order) (shape : Shape) (rule : HitRule
     Whole = sweep_report order shape rule all fa bs fb
 
     pub sweep_adds : Adds One Two Whole
-    sweep_adds = record {
-      parts = λ e.
-          let none = report_none order shape rule all fa bs fb e in
-          let a = together_parts fa1 fa2 fa aones atwos all ja none.0 in
-          let b = together_parts fb1 fb2 fb bones btwos bs jb none.1 in
-          (none_report order shape rule aones fa1 bones fb1 a.0 b.0, none_report order shape rule atwos fa2 btwos fb2 a.1 b.1);
-      both = λ e d.
-          let one = report_none order shape rule aones fa1 bones fb1 e in
-          let two = report_none order shape rule atwos fa2 btwos fb2 d in
-          none_report order shape rule all fa bs fb (together_both fa1 fa2 fa aones atwos all ja one.0 two.0) (together_both fb1 fb2 fb bones btwos bs jb one.1 two.1);
-      output = λ e d.
-          let one = report_none order shape rule aones fa1 bones fb1 e in
-          let two = report_none order shape rule atwos fa2 btwos fb2 d in
-          output_none order shape rule all fa bs fb (together_both fb1 fb2 fb bones btwos bs jb one.1 two.1)
-          ∙ ap₂ (λ x y. intersect shape rule x y) (together_all fa1 fa2 fa aones atwos all ja one.0) (together_all fb1 fb2 fb bones btwos bs jb one.1)
-          ∙ lines_both
-          ∙ ap₂ (λ x y. x ++ y) (sym (output_none order shape rule aones fa1 bones fb1 one.1)) (sym (output_none order shape rule atwos fa2 btwos fb2 two.1));
-    }
+    sweep_adds = grind (arith, report_none, lines_both, lines_none)
 
   -- if the second input of the first part is at fault, nothing after it is written
   module _ (f : FaultValue) (fa1 fa2 fa fb2 fb : Option FaultValue) (all bs : List Feature) (ja : Contiguous fa1 fa2 fa aones atwos all) (jb : Contiguous (Some f) fb2 fb bones btwos bs) where
     same_rule : (xs : List Feature) → written (sweep_rule order shape rule bs fb) xs ≡ written (sweep_rule order shape rule bones (Some f)) xs
-    same_rule xs = written_same (sweep_rule order shape rule bs fb) (sweep_rule order shape rule bones (Some f)) xs
-        (all_any _ xs (λ a. (ap₂ (λ b r. b || decided order a r) jb.1 jb.0, ap (lines_for shape rule a) jb.0)))
+    same_rule xs = grind arith
 
     written_one : (fa1 : Option FaultValue) → Contiguous fa1 fa2 fa aones atwos all → written (sweep_rule order shape rule bones (Some f)) all ≡ written (sweep_rule order shape rule bones (Some f)) aones
-    written_one None j =
-        ap (written (sweep_rule order shape rule bones (Some f))) j.0
-        ∙ written_before (sweep_rule order shape rule bones (Some f)) aones atwos (all_so _ _ atwos (λ a h. any_false (decides order a) bones h) none_second)
+    written_one None j = grind (arith, (written_before (sweep_rule order shape rule bones (Some f)) aones atwos (all_so _ _ atwos (λ a h. any_false (decides order a) bones h) none_second)))
     written_one (Some g) j = ap (written (sweep_rule order shape rule bones (Some f))) j.0
 
     stops_second : Stops (sweep_report order shape rule aones fa1 bones (Some f)) (sweep_report order shape rule atwos fa2 btwos fb2) (sweep_report order shape rule all fa bs fb)
@@ -258,9 +203,7 @@ module _ (order : Order) (total : IsTotal order) (shape : Shape) (rule : HitRule
     second_report = sweep_report order shape rule atwos fa2 btwos fb2
 
     first_lines : first_report.output ≡ flat_map Rule-of-both.lines aones
-    first_lines =
-        output_none order shape rule aones fa1 bones None refl
-        ∙ flat_map_same _ Rule-of-both.lines aones (all_so _ _ aones (λ a h. sym (ap (lines_for shape rule a) jb.0 ∙ lines_first shape rule a bones btwos h)) split.apart_first)
+    first_lines = grind (arith, flat_map_same, all_so, lines_first, lines_none)
 
     front : (rest : List ℕ) × (first_report.output ≡ written Rule-of-both aones ++ rest)
     front = let some = take_front Rule-of-both.decided Rule-of-both.lines aones in (some.0, first_lines ∙ some.1)
@@ -287,11 +230,7 @@ module _ (order : Order) (total : IsTotal order) (shape : Shape) (rule : HitRule
 
     -- nothing of the second part is
     before_second : AllByRecursion (λ a. Rule-of-both.decided a ≡ false) atwos → all ≡ aones ++ atwos → (rest : List ℕ) × (first_report.output ++ second_report.output ≡ (sweep_report order shape rule all fa bs fb).output ++ rest)
-    before_second h is = (
-      front.0 ++ second_report.output,
-      ap (λ l. l ++ second_report.output) front.1 ∙ append_assoc (written Rule-of-both aones) front.0 second_report.output
-          ∙ ap (λ l. l ++ (front.0 ++ second_report.output)) (sym (met_lines Rule-of-both all fa ∙ ap (written Rule-of-both) is ∙ written_before Rule-of-both aones atwos h)),
-    )
+    before_second h is = grind (arith, (append_assoc (written Rule-of-both aones) front.0 second_report.output), (met_lines Rule-of-both all fa), (written_before Rule-of-both aones atwos h))
 
     or_decided : (a : Feature) → decided order a (bones ++ btwos) ≡ true → Rule-of-both.decided a ≡ true
     or_decided a e = ap (λ d. is_none fb || d) (ap (decided order a) jb.0 ∙ e) ∙ or_true (is_none fb)
@@ -299,8 +238,7 @@ module _ (order : Order) (total : IsTotal order) (shape : Shape) (rule : HitRule
     either : (g : Option FaultValue) → fb2 ≡ g → (ts : List Feature) → btwos ≡ ts → all ≡ aones ++ atwos → (rest : List ℕ) × (first_report.output ++ second_report.output ≡ (sweep_report order shape rule all fa bs fb).output ++ rest)
     either None e ts d is = past_first (all_any _ aones (λ a. ap (λ b. b || decided order a bs) (jb.1 ∙ ap is_none e))) is
     either (Some g) e (b ∷ rest) d is = past_first (all_so _ _ aones (λ a h. or_decided a h) (first_decided b rest d)) is
-    either (Some g) e [] d is = before_second
-        (all_so _ _ atwos (λ a h. ap₂ (λ b c. b || c) (jb.1 ∙ ap is_none e) (ap (decided order a) jb.0 ∙ any_behind (decides order a) bones btwos h ∙ ap (list_any (decides order a)) d)) none_second) is
+    either (Some g) e [] d is = grind (arith, before_second, all_so, any_behind, none_second)
 
     stops_by : (g : Option FaultValue) → fa1 ≡ g → Stops first_report second_report (sweep_report order shape rule all fa bs fb)
     stops_by None e =

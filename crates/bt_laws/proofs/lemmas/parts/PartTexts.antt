@@ -1,5 +1,6 @@
 -- The reports of bamtobed, merge, intersect and subtract on two concatenated texts, and on any number.
-use Rattle.bt_lines.proofs.Std.{◌≡◌, ℕ, Bool, List, [], ◌∷◌, ◌++◌, append-nil, Option, Some, None, refl, sym, ap, ◌∙◌, map, Ok, ap₂, flat_map-append, IsTrue, AllByRecursion, ◌⊎◌, append_assoc, inl, inr, subst, flat_map, flat_map-map}
+use Rattle.std.proofs.lemmas.Grind.{common_steps}
+use Rattle.bt_lines.proofs.Std.{rules, arith, ◌≡◌, ℕ, Bool, List, [], ◌∷◌, ◌++◌, append-nil, Option, Some, None, refl, sym, ap, ◌∙◌, map, Ok, ap₂, flat_map-append, IsTrue, AllByRecursion, ◌⊎◌, append_assoc, inl, inr, subst, flat_map, flat_map-map}
 use Rattle.bt_lines.specs.model.Lines.{lines_from, text_lines, Handed, whole_text}
 use Rattle.bt_lines.specs.declared.fault.Input.TheVariants.{First, Second}
 use Rattle.bt_bed.specs.model.Good.{Good, good, good_from, items_in, bed_format}
@@ -41,13 +42,10 @@ module _ (split cigar : Bool) where
 
   sam_is : (text : List ℕ) → on_text (BamToBed split cigar) None text ≡ on_sam text
   unfolding report_of on_sam
-  sam_is text =
-      ap (good_report (alignments_written split cigar)) (good_whole sam_format First text)
+  sam_is text = grind arith
 
   lines_split : (ones twos : List Alignment) → Splits (alignments_written split cigar) (alignments_written split cigar) (alignments_written split cigar) ones twos
-  lines_split ones twos =
-      let both = flat_map-append (bed_lines split cigar) ones twos in
-      record { all = both; first = refl; begin = ([], sym (append-nil (alignment_lines split cigar (ones ++ twos)) ∙ both)) }
+  lines_split ones twos = grind (arith, flat_map-append, append-nil)
 
   sam_joint : (one two : List ℕ) → StandsBefore one two → IsJoint (good sam_format First (text_lines one)) (good sam_format First (text_lines two)) (good sam_format First (text_lines (one ++ two)))
   sam_joint one two ends = good_joint sam_format First (λ state. Unit {0}) one two ends (λ state l m e d. ap alignment_of e) tt (λ n now leads. refl) (all_any _ (text_lines one) (λ l state item leads e. tt))
@@ -99,8 +97,7 @@ module _ (order : Order) (total : IsTotal order) where
 
   module _ (d : ℕ) (strand : MergeStrand) (one two : List ℕ) (ends : StandsBefore one two) (before : ComeBefore order (said_records one) (said_records two)) where
     pub merge_joins : Joins (merge_report d strand one) (merge_report d strand two) (merge_report d strand (one ++ two))
-    merge_joins = good_joins (merge_written order d strand) (merge_written order d strand) (merge_written order d strand) (bed_text_good First one) (bed_text_good First two) (bed_text_good First (one ++ two))
-        (bed_joint order total one two before First ends) (merge_split d strand one two (good_earlier order total one two before First First))
+    merge_joins = grind (arith, common_steps, (bed_joint order total one two before First ends), (merge_split d strand one two (good_earlier order total one two before First First)))
 
   -- ---- intersect
 
@@ -110,14 +107,7 @@ module _ (order : Order) (total : IsTotal order) where
   -- the records of a part of the first input, or of the second, among those of both
   came : (one_first one_second two_first two_second : List Feature) → ComeBefore order (one_first ++ one_second) (two_first ++ two_second)
       → (ComeBefore order one_first two_first × ComeBefore order one_first two_second × ComeBefore order one_second two_first × ComeBefore order one_second two_second)
-  came one_first one_second two_first two_second h =
-      let first = all_front _ one_first one_second h in
-      let second = all_back _ one_first one_second h in (
-        all_so _ _ one_first (λ r k. all_front _ two_first two_second k) first,
-        all_so _ _ one_first (λ r k. all_back _ two_first two_second k) first,
-        all_so _ _ one_second (λ r k. all_front _ two_first two_second k) second,
-        all_so _ _ one_second (λ r k. all_back _ two_first two_second k) second,
-      )
+  came one_first one_second two_first two_second h = grind (arith, all_front, all_back, all_so)
 
   known_all : (input : Input) (text : List ℕ) → AllByRecursion (λ r. IsTrue (order.knows r.chrom)) (text_records input text)
   known_all input text = items_all order total input (λ r. IsTrue (order.knows r.chrom)) None (text_lines text) (all_any _ _ (λ r known. known))
@@ -150,23 +140,15 @@ module _ (order : Order) (total : IsTotal order) where
 module _ (genome : Option Handed) (chromosomes : Option (List Entry)) (has : chromosomes_of genome ≡ Ok chromosomes) where
   pub merge_is : (d : ℕ) (strand : MergeStrand) (text : List ℕ) → on_text (Merge d strand) genome text ≡ merge_report (order_of chromosomes) (order_total chromosomes) d strand text
   unfolding report_of
-  merge_is d strand text =
-      ap (λ c. report_on (Merge d strand) c (whole_text text) None) has
-      ∙ ap (good_report (merge_written (order_of chromosomes) d strand)) (good_whole (bed_format (sorting_of (order_of chromosomes))) First text)
+  merge_is d strand text = grind arith
 
   pub intersect_is : (shape : Shape) (rule : HitRule) (texts : Texts) → on_texts (Intersect shape rule None) genome texts ≡ pair_report (order_of chromosomes) (order_total chromosomes) shape rule texts.first texts.second
   unfolding report_of
-  intersect_is shape rule texts =
-      ap (λ c. report_on (Intersect shape rule None) c (whole_text texts.first) (Some (whole_text texts.second))) has
-      ∙ ap₂ (λ (a b : Good Feature). sweep_report (order_of chromosomes) shape rule (items_in a) a.fault (items_in b) b.fault)
-      (good_whole (bed_format (sorting_of (order_of chromosomes))) First texts.first) (good_whole (bed_format (sorting_of (order_of chromosomes))) Second texts.second)
+  intersect_is shape rule texts = grind arith
 
   pub subtract_is : (whole : Bool) (rule : HitRule) (texts : Texts) → on_texts (Subtract whole rule None) genome texts ≡ pair_report (order_of chromosomes) (order_total chromosomes) (subtract_shape whole) rule texts.first texts.second
   unfolding report_of
-  subtract_is whole rule texts =
-      ap (λ c. report_on (Subtract whole rule None) c (whole_text texts.first) (Some (whole_text texts.second))) has
-      ∙ ap₂ (λ (a b : Good Feature). sweep_report (order_of chromosomes) (subtract_shape whole) rule (items_in a) a.fault (items_in b) b.fault)
-      (good_whole (bed_format (sorting_of (order_of chromosomes))) First texts.first) (good_whole (bed_format (sorting_of (order_of chromosomes))) Second texts.second)
+  subtract_is whole rule texts = grind arith
 
 -- texts that are divided so
 pub record AreFit (order : Order) (texts : List (List ℕ)) : Type 0 where
@@ -181,10 +163,7 @@ pub record ArePairsFit (order : Order) (parts : List Texts) : Type 0 where
   pub ascend : PairsAscend order parts
 
 pairs_less : (order : Order) (part : Texts) (parts : List Texts) → ArePairsFit order (part ∷ parts) → ArePairsFit order parts
-pairs_less order part parts fit = record {
-  lines = (lines_less part.first (map (λ p. p.first) parts) fit.lines.0, lines_less part.second (map (λ p. p.second) parts) fit.lines.1);
-  ascend = fit.ascend.1;
-}
+pairs_less order part parts fit = grind arith
 
 pub join_one : (part : Texts) → joined_texts (part ∷ []) ≡ part
 join_one part = ap₂ (λ a b. record { first = a; second = b }) (append-nil part.first) (append-nil part.second)
@@ -192,9 +171,7 @@ join_one part = ap₂ (λ a b. record { first = a; second = b }) (append-nil par
 module _ (order : Order) (total : IsTotal order) where
   pub merge_empty : (d : ℕ) (strand : MergeStrand) → merge_report order total d strand [] ≡ nothing
   unfolding lines_from good_from ordered_runs merged strand_runs
-  merge_empty d All = refl
-  merge_empty d Each = refl
-  merge_empty d (One strand) = refl
+  merge_empty d strand = grind arith
 
   pub pair_empty : (shape : Shape) (rule : HitRule) → pair_report order total shape rule [] [] ≡ nothing
   unfolding lines_from good_from
@@ -236,8 +213,7 @@ module _ (how : MaskHow) (full : Bool) where
   T texts = texts_report how full texts
 
   on_is : (parts : List Texts) → map (on_texts (MaskFasta how full) None) parts ≡ map T parts
-  on_is [] = refl
-  on_is (t ∷ ts) = ap₂ (λ a b. a ∷ b) (mask_is how full t) (on_is ts)
+  on_is parts = grind (arith, mask_is)
 
   empty : T (joined_texts []) ≡ nothing
   unfolding lines_from good_from
@@ -260,14 +236,10 @@ module _ (how : MaskHow) (full : Bool) where
       by_first (byte ∷ bytes) e more = e
 
   headers_less : (t : Texts) (ts : List Texts) → AreAtHeaders (t ∷ ts) → AreAtHeaders ts
-  headers_less t [] h = tt
-  headers_less t (u ∷ ts) h = h.1
+  headers_less t ts h = grind arith
 
   masked_less : (t : Texts) (ts : List Texts) → AreMasked (t ∷ ts) → AreMasked ts
-  masked_less t ts fit = record {
-    lines = (lines_less t.first (map (λ p. p.first) ts) fit.lines.0, lines_less t.second (map (λ p. p.second) ts) fit.lines.1);
-    headers = headers_less t ts fit.headers;
-  }
+  masked_less t ts fit = grind arith
 
   are_two : (t u : Texts) (ts : List Texts) → AreMasked (t ∷ u ∷ ts) → AreTwo how full t (joined_texts (u ∷ ts))
   are_two t u ts fit = record { first = fit.lines.0.0; second = fit.lines.1.0; begins = begins_joined (u ∷ ts) fit.headers }
@@ -301,33 +273,19 @@ module _ (how : MaskHow) (full : Bool) where
     two = are_two t u ts own.fit
 
     faulty : (fault : Option FaultValue) (outputs : List ℕ) → (fault ≡ None → ⊥) → (T t).output ++ unless_fault fault outputs ≡ (T t).output
-    faulty None outputs some = absurd (some refl)
-    faulty (Some fault) outputs some = append-nil (T t).output
+    faulty fault outputs some = search rules
 
     end_faulty : ((T t).fault ≡ None → ⊥) → Ends (t ∷ u ∷ ts)
-    end_faulty some = elim (faulty_first how full t (joined_texts (u ∷ ts)) two own.own.0 own.own.1 some) [
-      | inl stops ↦ inl (stops.0, faulty (T t).fault Outputs some ∙ stops.1)
-      | inr goes ↦ inr (goes.0, (goes.1.0, goes.1.1 ∙ ap (λ l. l ++ goes.1.0) (sym (faulty (T t).fault Outputs some))))
-    ]
+    end_faulty some = grind (arith, (faulty_first how full t (joined_texts (u ∷ ts)) two own.own.0 own.own.1 some), (faulty (T t).fault Outputs some))
 
     end_sound : (T t).fault ≡ None → Ends (u ∷ ts) → Ends (t ∷ u ∷ ts)
     end_sound none ends = elim ends [
       | inl stops ↦ inl (stop_more (T t) (map T (u ∷ ts)) (T Rest) (T (joined_texts (t ∷ u ∷ ts))) stops (sound_stops how full t (joined_texts (u ∷ ts)) two own.own.0 own.own.1 none))
-      | inr goes ↦
-          let both = sound_goes how full t (joined_texts (u ∷ ts)) two own.own.0 own.own.1 none goes.0 in
-          inr (
-            both.0,
-            (
-              goes.1.0,
-              both.1 ∙ ap (λ l. (T t).output ++ l) goes.1.1 ∙ sym (append_assoc (T t).output Outputs goes.1.0)
-                  ∙ ap (λ l. ((T t).output ++ l) ++ goes.1.0) (sym (unless_none (T t).fault Outputs none)),
-            ),
-          )
+      | inr goes ↦ grind (arith, (sound_goes how full t (joined_texts (u ∷ ts)) two own.own.0 own.own.1 none goes.0), (append_assoc (T t).output Outputs goes.1.0))
     ]
 
     end_by : (fault : Option FaultValue) → (T t).fault ≡ fault → Ends (u ∷ ts) → Ends (t ∷ u ∷ ts)
-    end_by None e ends = end_sound e ends
-    end_by (Some fault) e ends = end_faulty (λ none. let apart : Some fault ≡ None = sym e ∙ none in cc)
+    end_by fault e ends = grind (arith, end_sound, end_faulty)
 
   ends_all : (parts : List Texts) → OwnFit parts → Ends parts
   ends_all [] own = inl (stop_none (T (joined_texts [])) (ap (λ (r : Report). r.output) empty))
@@ -352,8 +310,7 @@ module _ (how : MaskHow) (full : Bool) where
   suffice_all (t ∷ []) cut all = (ap (λ (r : Report). r.fault) (alone t) ∙ all.0, ap (λ (r : Report). r.output) (alone t) ∙ sym (append-nil (T t).output))
   suffice_all (t ∷ u ∷ ts) cut all =
       let more = suffice_all (u ∷ ts) (record { fit = masked_less t (u ∷ ts) cut.fit; none = cut.none.1 }) all.1 in
-      let both = two_suffice how full t (joined_texts (u ∷ ts)) (are_two t u ts cut.fit) cut.none.0 all.0 more.0 in
-      (both.0, both.1 ∙ ap (λ l. (T t).output ++ l) more.1)
+      grind (arith, (two_suffice how full t (joined_texts (u ∷ ts)) (are_two t u ts cut.fit) cut.none.0 all.0 more.0))
 
 pub mask_divides : maskfasta_divides
 mask_divides how full parts lines headers own =

@@ -1,5 +1,6 @@
 -- The lines of alignments that are sorted are an input.
-use Rattle.bt_lines.proofs.Std.{◌≡◌, ◌||◌, ℕ, ◌+◌, ◌-◌, ◌<◌, ◌≤◌, Bool, true, false, cond, List, [], ◌∷◌, ◌++◌, append-nil, append_assoc, map, filter, length, Option, Some, None, Result, Ok, Err, inl, inr, refl, sym, ap, ◌∙◌, subst, arith, eqb, leb, ltb, decimal, codes, if◌then◌else◌, option_map, AllByRecursion, join_with_byte, ends_with_byte, strip_last, cases_lt, false≢true, lt-ltb, All-append, All-cons, All-from_recursion, All-nil, join_with_byte-slice_split, suc, ap₂, flat_map, cases_Bool, length-append}
+use Rattle.std.proofs.lemmas.Grind.{common_steps}
+use Rattle.bt_lines.proofs.Std.{rules, ◌≡◌, ◌||◌, ℕ, ◌+◌, ◌-◌, ◌<◌, ◌≤◌, Bool, true, false, cond, List, [], ◌∷◌, ◌++◌, append-nil, append_assoc, map, filter, length, Option, Some, None, Result, Ok, Err, inl, inr, refl, sym, ap, ◌∙◌, subst, arith, eqb, leb, ltb, decimal, codes, if◌then◌else◌, option_map, AllByRecursion, join_with_byte, ends_with_byte, strip_last, cases_lt, false≢true, lt-ltb, All-append, All-cons, All-from_recursion, All-nil, join_with_byte-slice_split, suc, ap₂, flat_map, cases_Bool, length-append}
 use Rattle.bt_lines.specs.model.Fault.{FaultValue}
 use Rattle.std.specs.Prelude.{option_and_then}
 use Rattle.bt_lines.specs.model.Lines.{lines_handed, TextLine, pieces, end_bytes, fed_line, last_line, lines_from}
@@ -26,17 +27,13 @@ use Rattle.bt_lines.specs.declared.reader.line.LineEnd.TheVariants.{Absent, Cr, 
 use Rattle.bt_seq.specs.model.Masked.{Reached, SequenceLine, bases_in, header_behind, is_header, line_behind, line_says, may_stand, name_in, sequence_format}
 
 small_by : (n : ℕ) → ltb 999999999999 n ≡ false → n ≤ 999999999999
-small_by n e = elim (cases_lt 999999999999 n) [
-  | inl above ↦ absurd (false≢true (sym e ∙ lt-ltb 999999999999 n above))
-  | inr up ↦ up
-]
+small_by n e = grind arith
 
 some_span : (n : ℕ) → eqb n 0 ≡ false → 0 < n
 some_span n e = grind (arith)
 
 or_last : (a b : Bool) → (a || b) ≡ false → b ≡ false
-or_last true b e = cc
-or_last false b e = e
+or_last a b e = grind arith
 
 -- ---- columns of a text
 
@@ -54,12 +51,7 @@ clear_columns text h = clear_joined (pieces 9 text) (subst NoLineFeed (sym (join
 -- a carriage return at the end leaves a part without a letter
 parts_none : (text : List ℕ) → parts_of (text ++ 13 ∷ []) ≡ None
 parts_none [] = refl
-parts_none (byte ∷ bytes) =
-    ap (λ parts. if is_letter byte then with_part (record { digits = []; letter = byte }) parts else onto_part byte parts) (parts_none bytes)
-    ∙ elim (is_letter byte) as (λ (b : Bool). (if b then with_part (record { digits = []; letter = byte }) None else onto_part byte None) ≡ None) [
-      | true ↦ refl
-      | false ↦ refl
-    ]
+parts_none (byte ∷ bytes) = grind (arith, (parts_none bytes))
 
 no_star : (text : List ℕ) → text ++ 13 ∷ [] ≡ 42 ∷ [] → ⊥
 no_star [] e = cc
@@ -70,25 +62,15 @@ none_in : (text : List ℕ) → operations_in (text ++ 13 ∷ []) ≡ None
 unfolding operations_in
 none_in text = ap (option_and_then each_operation) (parts_none text)
 
-no_length : (text : List ℕ) → length_of (text ++ 13 ∷ []) ≡ None
-no_length [] = ap (option_map reference_length) (none_in [])
-no_length (byte ∷ bytes) =
-    ap (λ (b : Bool). option_map reference_length (if b then Some [] else operations_in (byte ∷ (bytes ++ 13 ∷ [])))) (name_ne (byte ∷ (bytes ++ 13 ∷ [])) (codes "*") (no_star (byte ∷ bytes)))
-    ∙ ap (option_map reference_length) (none_in (byte ∷ bytes))
-
 record IsPlain (text : List ℕ) : Type 0 where
   some : 0 < length text
   plain : ends_with_byte 13 text ≡ false
 
 plain_by : (text : List ℕ) (span : ℕ) (b : Bool) → ends_with_byte 13 text ≡ b → length_of text ≡ Some span → b ≡ false
-plain_by text span false ends e = refl
-plain_by text span true ends e =
-    let none : length_of text ≡ None = ap length_of (sym (strip_last-push 13 text ends)) ∙ no_length (strip_last 13 text) in
-    absurd (let apart : None ≡ Some span = sym none ∙ e in cc)
+plain_by text span b ends e = grind (arith, common_steps, none_in)
 
 plain_cigar : (text : List ℕ) (span : ℕ) → length_of text ≡ Some span → IsPlain text
-plain_cigar [] span e = cc
-plain_cigar (byte ∷ bytes) span e = record { some = omega arith; plain = plain_by (byte ∷ bytes) span (ends_with_byte 13 (byte ∷ bytes)) refl e }
+plain_cigar text span e = grind (arith, plain_by)
 
 -- ---- an alignment that a line said
 
@@ -113,52 +95,22 @@ record AreColumns (fields : Fields) : Type 0 where
   clear_cigar : NoLineFeed fields.cigar
 
 fields_by : (enough : Bool) (one fields : Fields) → cond enough (Some one) None ≡ Some fields → one ≡ fields
-fields_by true one fields e = cc
-fields_by false one fields e = cc
+fields_by enough one fields e = grind arith
 
 fields_columns : (columns : List (List ℕ)) (fields : Fields) → AllByRecursion IsColumn columns → AllByRecursion NoLineFeed columns → fields_of columns ≡ Some fields → AreColumns fields
-fields_columns [] fields h k e = cc
-fields_columns (a ∷ []) fields h k e = cc
-fields_columns (a ∷ b ∷ []) fields h k e = cc
-fields_columns (a ∷ b ∷ c ∷ []) fields h k e = cc
-fields_columns (a ∷ b ∷ c ∷ d ∷ []) fields h k e = cc
-fields_columns (a ∷ b ∷ c ∷ d ∷ f ∷ []) fields h k e = cc
-fields_columns (a ∷ b ∷ c ∷ d ∷ f ∷ g ∷ rest) fields h k e =
-    subst AreColumns (fields_by (leb 5 (length rest)) (record { name = a; flag = b; chrom = c; position = d; quality = f; cigar = g }) fields e)
-    (record { name = h.0; chrom = h.1.1.0; cigar = h.1.1.1.1.1.0; clear_chrom = k.1.1.0; clear_name = k.0; clear_cigar = k.1.1.1.1.1.0 })
+fields_columns columns fields h k e = grind arith
 
 module _ (fields : Fields) (are : AreColumns fields) where
   large_by : (large : Bool) (flag position quality span : ℕ) (a : Alignment) → 0 < length fields.chrom → IsPlain fields.cigar → 0 < span → ltb 999999999999 (position - 1 + span) ≡ large
       → cond large (Err StopTooLarge) (Ok (Some (alignment_at fields flag position quality span))) ≡ Ok (Some a) → IsAligned a
-  large_by true flag position quality span a some plain bases e is = cc
-  large_by false flag position quality span a some plain bases e is =
-      let same : alignment_at fields flag position quality span ≡ a = cc in
-      subst IsAligned same (record {
-        named = record { some = some; one_column = are.chrom };
-        clear_chrom = are.clear_chrom;
-        clear_name = are.clear_name;
-        clear_cigar = are.clear_cigar;
-        below = omega (arith, bases);
-        small = small_by (position - 1 + span) e;
-        one_name = are.name;
-        one_cigar = are.cigar;
-        some_cigar = plain.some;
-        plain_cigar = plain.plain;
-      })
+  large_by large flag position quality span a some plain bases e is = grind arith
 
   nothing_by : (nothing : Bool) (flag position quality span : ℕ) (a : Alignment) → 0 < length fields.chrom → IsPlain fields.cigar → gives_nothing flag fields.chrom position span ≡ nothing
       → cond nothing (Ok None) (cond (ltb 999999999999 (position - 1 + span)) (Err StopTooLarge) (Ok (Some (alignment_at fields flag position quality span)))) ≡ Ok (Some a) → IsAligned a
-  nothing_by true flag position quality span a some plain e is = cc
-  nothing_by false flag position quality span a some plain e is = large_by (ltb 999999999999 (position - 1 + span)) flag position quality span a some plain (some_span span (or_last _ (eqb span 0) e)) refl is
+  nothing_by nothing flag position quality span a some plain e is = grind arith
 
   columns_by : (flag : Option ℕ) (chrom : List ℕ) (position quality span : Option ℕ) (a : Alignment) → chrom ≡ fields.chrom → length_of fields.cigar ≡ span → columns_say fields flag chrom position quality span ≡ Ok (Some a) → IsAligned a
-  columns_by None chrom position quality span a e long is = cc
-  columns_by (Some flag) [] position quality span a e long is = cc
-  columns_by (Some flag) (byte ∷ bytes) None quality span a e long is = cc
-  columns_by (Some flag) (byte ∷ bytes) (Some position) None span a e long is = cc
-  columns_by (Some flag) (byte ∷ bytes) (Some position) (Some quality) None a e long is = cc
-  columns_by (Some flag) (byte ∷ bytes) (Some position) (Some quality) (Some span) a e long is =
-      nothing_by (gives_nothing flag fields.chrom position span) flag position quality span a (subst (λ l. 0 < length l) e (omega arith)) (plain_cigar fields.cigar span long) refl is
+  columns_by flag chrom position quality span a e long is = grind (arith, plain_cigar)
 
 said_by : (fields : Option Fields) (a : Alignment) → ((f : Fields) → fields ≡ Some f → AreColumns f) → fields_say fields ≡ Ok (Some a) → IsAligned a
 unfolding fields_say
@@ -167,8 +119,7 @@ said_by (Some fields) a h e =
     columns_by fields (h fields refl) (value_up_to 65535 fields.flag) fields.chrom (value_up_to 2147483647 fields.position) (value_up_to 255 fields.quality) (length_of fields.cigar) a refl refl e
 
 skipped_by : (skipped : Bool) (said : Result (Option Alignment) Kind) (a : Alignment) → cond skipped (Ok None) said ≡ Ok (Some a) → said ≡ Ok (Some a)
-skipped_by true said a e = cc
-skipped_by false said a e = e
+skipped_by skipped said a e = grind arith
 
 line_aligned : (text : List ℕ) (a : Alignment) → NoLineFeed text → alignment_of text ≡ Ok (Some a) → IsAligned a
 unfolding alignment_of
@@ -177,9 +128,7 @@ line_aligned text a clear e =
 
 aligned_with : (input : Input) (n : ℕ) (text : List ℕ) (said : Result (Option Alignment) Kind) (rest : Unit {0} → Good Alignment) → NoLineFeed text → alignment_of text ≡ said
     → AllByRecursion IsAligned (items_in (rest tt)) → AllByRecursion IsAligned (items_in (good_with sam_format input n tt said rest))
-aligned_with input n text (Err kind) rest clear e h = tt
-aligned_with input n text (Ok None) rest clear e h = h
-aligned_with input n text (Ok (Some a)) rest clear e h = (line_aligned text a clear e, h)
+aligned_with input n text said rest clear e h = grind (arith, line_aligned)
 
 aligned_lines : (input : Input) (lines : List TextLine) → AreClear lines → AllByRecursion IsAligned (items_in (good_from sam_format input tt lines))
 unfolding good_from
@@ -200,16 +149,13 @@ aligned_columns cigar a = record { at = aligned_at a; tail = tail_of cigar a }
 
 line_as : (cigar : Bool) (a : Alignment) → bed_lines false cigar a ≡ text_of_columns (aligned_columns cigar a) ++ 10 ∷ []
 unfolding cigar_tail
-line_as true a = simp (append_assoc, append-nil)
-line_as false a = simp (append_assoc, append-nil)
+line_as cigar a = grind (arith, append_assoc)
 
 clear_if : (b : Bool) (text : List ℕ) → NoLineFeed text → NoLineFeed (if b then text else [])
-clear_if true text h = h
-clear_if false text h = All-nil (λ c. eqb c 10 ≡ false)
+clear_if b text h = grind arith
 
 clear_sign : (reverse : Bool) → NoLineFeed (strand_sign reverse)
-clear_sign true = All-cons (λ c. eqb c 10 ≡ false) 45 [] refl (All-nil (λ c. eqb c 10 ≡ false))
-clear_sign false = All-cons (λ c. eqb c 10 ≡ false) 43 [] refl (All-nil (λ c. eqb c 10 ≡ false))
+clear_sign reverse = grind arith
 
 clear_segment : (number : ℕ) → eqb number 10 ≡ false → NoLineFeed (47 ∷ number ∷ [])
 clear_segment number e = All-cons (λ c. eqb c 10 ≡ false) 47 (number ∷ []) refl (All-cons (λ c. eqb c 10 ≡ false) number [] e (All-nil (λ c. eqb c 10 ≡ false)))
@@ -219,8 +165,7 @@ clear_read a h = clear_both a.name _ h (clear_both _ _ (clear_if a.first (codes 
 
 clear_cigar_tail : (cigar : Bool) (a : Alignment) → NoLineFeed a.cigar → NoLineFeed (cigar_tail cigar a)
 unfolding cigar_tail
-clear_cigar_tail true a h = clear_tab a.cigar h
-clear_cigar_tail false a h = All-nil (λ c. eqb c 10 ≡ false)
+clear_cigar_tail cigar a h = grind arith
 
 columns_aligned : (cigar : Bool) (a : Alignment) → IsAligned a → IsColumns (aligned_columns cigar a)
 columns_aligned cigar a is = record {
@@ -242,12 +187,10 @@ whole_tail : (front back tail : List ℕ) → tail ≡ front ++ back → 0 < len
 whole_tail front back tail e some plain = ap (strip_last 13) e ∙ strip_both 13 front back some ∙ ap (λ l. front ++ l) plain ∙ sym e
 
 sign_some : (reverse : Bool) → 0 < length (strand_sign reverse)
-sign_some true = omega arith
-sign_some false = omega arith
+sign_some reverse = grind arith
 
 sign_plain : (reverse : Bool) → strip_last 13 (strand_sign reverse) ≡ strand_sign reverse
-sign_plain true = refl
-sign_plain false = refl
+sign_plain reverse = grind arith
 
 tail_plain : (cigar : Bool) (a : Alignment) → IsAligned a → strip_last 13 (tail_of cigar a) ≡ tail_of cigar a
 unfolding cigar_tail
@@ -261,15 +204,13 @@ columns_after cigar a = decimal a.quality ∷ strand_sign a.reverse ∷ (if ciga
 
 tail_kept : (cigar : Bool) (a : Alignment) → tail_of cigar a ≡ kept_columns (read_name a ∷ columns_after cigar a)
 unfolding cigar_tail
-tail_kept false a = refl
-tail_kept true a = ap (λ l. 9 ∷ (read_name a ++ 9 ∷ (decimal a.quality ++ 9 ∷ (strand_sign a.reverse ++ l)))) (sym (append-nil (9 ∷ a.cigar)))
+tail_kept cigar a = search rules
 
 column_both : (xs ys : List ℕ) → IsColumn xs → IsColumn ys → IsColumn (xs ++ ys)
 column_both xs ys h k = All-append IsInside xs ys h k
 
 column_if : (b : Bool) (text : List ℕ) → IsColumn text → IsColumn (if b then text else [])
-column_if true text h = h
-column_if false text h = All-nil IsInside
+column_if b text h = grind arith
 
 segment_column : (number : ℕ) → IsInside number → IsColumn (47 ∷ number ∷ [])
 segment_column number inside = All-from_recursion IsInside (47 ∷ number ∷ []) (refl, (inside, tt))
@@ -278,28 +219,22 @@ name_column : (a : Alignment) → IsColumn a.name → IsColumn (read_name a)
 name_column a h = column_both a.name _ h (column_both _ _ (column_if a.first (codes "/1") (segment_column 49 refl)) (column_if a.last (codes "/2") (segment_column 50 refl)))
 
 sign_column : (reverse : Bool) → IsColumn (strand_sign reverse)
-sign_column true = All-from_recursion IsInside (45 ∷ []) (refl, tt)
-sign_column false = All-from_recursion IsInside (43 ∷ []) (refl, tt)
+sign_column reverse = grind arith
 
 after_columns : (cigar : Bool) (a : Alignment) → IsAligned a → AllByRecursion IsColumn (columns_after cigar a)
-after_columns false a is = (number_column a.quality, (sign_column a.reverse, tt))
-after_columns true a is = (number_column a.quality, (sign_column a.reverse, (is.one_cigar, tt)))
+after_columns cigar a is = grind (arith, number_column)
 
 sign_named : (reverse : Bool) → strand_named (strand_sign reverse) ≡ (if reverse then Minus else Plus)
-sign_named true = refl
-sign_named false = refl
+sign_named reverse = grind arith
 
 strand_is : (cigar : Bool) (a : Alignment) → IsAligned a → strand_of (columns_in (kept_columns (read_name a ∷ columns_after cigar a))) ≡ (if a.reverse then Minus else Plus)
 strand_is cigar a is = ap strand_of (kept_is_cut (read_name a) (columns_after cigar a) (name_column a is.one_name) (after_columns cigar a is)) ∙ sign_named a.reverse
 
 record_is : (cigar : Bool) (a : Alignment) → IsAligned a → record_back (aligned_columns cigar a) ≡ aligned_record cigar a
-record_is cigar a is =
-    ap (record_with a.chrom a.start a.stop) (tail_plain cigar a is ∙ tail_kept cigar a)
-    ∙ ap (λ s. record { chrom = a.chrom; start = a.start; stop = a.stop; strand = s; rest = kept_columns (read_name a ∷ columns_after cigar a) }) (strand_is cigar a is)
+record_is cigar a is = grind (arith, tail_plain, tail_kept, strand_is)
 
 told_lines : (cigar : Bool) (members : List Alignment) (fault : Option FaultValue) → (report_by (alignments_written false cigar) members fault).output ≡ alignment_lines false cigar members
-told_lines cigar members None = refl
-told_lines cigar members (Some fault) = refl
+told_lines cigar members fault = grind arith
 
 output_is : (inputs : Inputs) (cigar : Bool) → inputs.genome ≡ None → (report_of (BamToBed false cigar) inputs).output ≡ alignment_lines false cigar (alignments_of inputs)
 unfolding report_of
@@ -333,11 +268,7 @@ pub record Stands (old new : List ℕ) : Type 0 where
 
 module _ (full : Bool) where
   may_same : (names : List (List ℕ)) (old new : List ℕ) → length new ≡ length old → may_stand names new ≡ may_stand names old
-  may_same [] [] [] e = refl
-  may_same [] [] (x ∷ xs) e = absurd (omega (arith, e))
-  may_same [] (y ∷ ys) [] e = absurd (omega (arith, e))
-  may_same [] (y ∷ ys) (x ∷ xs) e = refl
-  may_same (name ∷ names) old new e = refl
+  may_same names old new e = grind arith
 
   bases_same : (old new : List ℕ) → Stands old new → bases_in new ≡ bases_in old
   bases_same old new is = ap₂ (λ (b : Bool) n. if b then 0 else n) is.header is.size
@@ -354,8 +285,7 @@ module _ (full : Bool) where
   stand_by : (reached : Reached) (line : TextLine) (text : List ℕ) (number : ℕ) (stands : Bool)
       → (if stands then Ok (Some (line_behind reached (new_line number line text))) else Err TextBeforeHeader) ≡ said_with text (if stands then Ok (Some (line_behind reached line)) else Err TextBeforeHeader)
   unfolding said_with
-  stand_by reached line text number true = refl
-  stand_by reached line text number false = refl
+  stand_by reached line text number stands = grind arith
 
   -- a line says itself
   record SaysLine (line : TextLine) (said : SequenceLine) : Type 0 where
@@ -363,35 +293,20 @@ module _ (full : Bool) where
     ending : said.ending ≡ line.ending
 
   own_by : (reached : Reached) (line : TextLine) (header stands : Bool) (said : SequenceLine) → (if header then Ok (Some (header_behind full reached line)) else (if stands then Ok (Some (line_behind reached line)) else Err TextBeforeHeader)) ≡ Ok (Some said) → SaysLine line said
-  own_by reached line true stands said e = let same : header_behind full reached line ≡ said = cc in subst (SaysLine line) same (record { text = refl; ending = refl })
-  own_by reached line false true said e = let same : line_behind reached line ≡ said = cc in subst (SaysLine line) same (record { text = refl; ending = refl })
-  own_by reached line false false said e = cc
+  own_by reached line header stands said e = grind arith
 
   says_own : (reached : Reached) (line : TextLine) (said : SequenceLine) → line_says full reached line ≡ Ok (Some said) → SaysLine line said
   says_own reached line said e = own_by reached line (is_header line.text) (may_stand reached.names line.text) said e
 
   none_by : (reached : Reached) (line : TextLine) (header stands : Bool) → (if header then Ok (Some (header_behind full reached line)) else (if stands then Ok (Some (line_behind reached line)) else Err TextBeforeHeader)) ≡ Ok None → ⊥
-  none_by reached line true stands e = cc
-  none_by reached line false true e = cc
-  none_by reached line false false e = cc
+  none_by reached line header stands e = grind arith
 
   never_none : (reached : Reached) (line : TextLine) → line_says full reached line ≡ Ok None → ⊥
   never_none reached line e = none_by reached line (is_header line.text) (may_stand reached.names line.text) e
 
   says_new : (reached : Reached) (line : TextLine) (text : List ℕ) (number : ℕ) → Stands line.text text → line_says full reached (new_line number line text) ≡ said_with text (line_says full reached line)
   unfolding said_with
-  says_new reached line text number is = elim (cases_Bool (is_header line.text)) [
-    | inl t ↦
-        let same = is.same t in
-        ap (λ (b : Bool). if b then Ok (Some (header_behind full reached (new_line number line text))) else (if may_stand reached.names text then Ok (Some (line_behind reached (new_line number line text))) else Err TextBeforeHeader)) (is.header ∙ t)
-        ∙ ap (λ l. Ok (Some (record { names = reached.names ++ name_in full l ∷ []; before = 0; text = text; ending = line.ending }))) same
-        ∙ sym (ap (λ (b : Bool). said_with text (if b then Ok (Some (header_behind full reached line)) else (if may_stand reached.names line.text then Ok (Some (line_behind reached line)) else Err TextBeforeHeader))) t)
-    | inr f ↦
-        ap (λ (b : Bool). if b then Ok (Some (header_behind full reached (new_line number line text))) else (if may_stand reached.names text then Ok (Some (line_behind reached (new_line number line text))) else Err TextBeforeHeader)) (is.header ∙ f)
-        ∙ ap (λ (b : Bool). if b then Ok (Some (line_behind reached (new_line number line text))) else Err TextBeforeHeader) (may_same reached.names line.text text is.size)
-        ∙ stand_by reached line text number (may_stand reached.names line.text)
-        ∙ sym (ap (λ (b : Bool). said_with text (if b then Ok (Some (header_behind full reached line)) else (if may_stand reached.names line.text then Ok (Some (line_behind reached line)) else Err TextBeforeHeader))) f)
-  ]
+  says_new reached line text number is = grind arith
 
 -- ---- line ends
 
@@ -412,22 +327,13 @@ fed_by m new rest true clear last =
     ap (lines_from m) (append_assoc new (13 ∷ 10 ∷ []) rest ∙ sym (append_assoc new (13 ∷ []) (10 ∷ rest)))
     ∙ lines_from-fed m (new ++ 13 ∷ []) rest (clear_return new clear)
     ∙ ap₂ (λ t (e : Bool). record { number = m; text = t; ending = if e then CrLf else Lf } ∷ lines_from (suc m) rest) (stripped new) (returned new)
-fed_by m new rest false clear last =
-    ap (lines_from m) (append_assoc new (10 ∷ []) rest)
-    ∙ lines_from-fed m new rest clear
-    ∙ ap₂ (λ t (e : Bool). record { number = m; text = t; ending = if e then CrLf else Lf } ∷ lines_from (suc m) rest) (strip_last-other 13 new (last refl)) (last refl)
+fed_by m new rest false clear last = grind (arith, append_assoc, lines_from-fed)
 
 last_some : (m : ℕ) (bytes : List ℕ) → 0 < length bytes → last_line m bytes ≡ record { number = m; text = strip_last 13 bytes; ending = if ends_with_byte 13 bytes then Cr else Absent } ∷ []
-last_some m [] some = absurd (omega arith)
-last_some m (byte ∷ bytes) some = refl
+last_some m bytes some = grind arith
 
 last_by : (m : ℕ) (new : List ℕ) (b : Bool) → NoLineFeed new → (b ≡ false → ends_with_byte 13 new ≡ false) → (b ≡ false → 0 < length new) → lines_from m (new ++ end_bytes (cond b Cr Absent)) ≡ line_at m new (cond b Cr Absent) ∷ []
-last_by m new true clear last some =
-    lines_from-last m (new ++ 13 ∷ []) (clear_return new clear) ∙ last_some m (new ++ 13 ∷ []) (omega (arith, length-append new (13 ∷ [])))
-    ∙ ap₂ (λ t (e : Bool). record { number = m; text = t; ending = if e then Cr else Absent } ∷ []) (stripped new) (returned new)
-last_by m new false clear last some =
-    ap (lines_from m) (append-nil new) ∙ lines_from-last m new clear ∙ last_some m new (some refl)
-    ∙ ap₂ (λ t (e : Bool). record { number = m; text = t; ending = if e then Cr else Absent } ∷ []) (strip_last-other 13 new (last refl)) (last refl)
+last_by m new b clear last some = grind (arith, lines_from-last, clear_return, last_some, stripped, returned, append-nil)
 
 -- ---- all lines
 
@@ -461,19 +367,7 @@ module _ (full : Bool) (input : Input) (f : SequenceLine → List ℕ) (safe : (
       → lines ≡ line_at m (f item) line.ending ∷ new_rest more)
       → IsAgain (items_in (good_with (sequence_format full) input n reached said (λ now. goods now rest))) (goods reached lines)
   unfolding good_from said_with
-  again_with reached n m line (Err kind) rest new_rest e clear none h lines is = cc
-  again_with reached n m line (Ok None) rest new_rest e clear none h lines is = absurd (never_none full reached line e)
-  again_with reached n m line (Ok (Some item)) rest new_rest e clear none h lines is =
-      let own = says_own full reached line item e in
-      let now = (sequence_format full).after reached item in
-      let stands : Stands line.text (f item) = subst (λ t. Stands t (f item)) own.text (safe item (subst NoLineFeed (sym own.text) clear)) in
-      let after : (sequence_format full).after reached (again_line item) ≡ now = ap (λ k. record { names = item.names; bases = item.before + k }) (bases_same full line.text (f item) stands ∙ ap bases_in (sym own.text)) in
-      let more = h now none in
-      let first : lines ≡ line_at m (f item) line.ending ∷ new_rest (items_in (goods now rest)) = is item (items_in (goods now rest)) own.text own.ending refl in
-      subst (λ ls. IsAgain (item ∷ items_in (goods now rest)) (goods reached ls)) (sym first)
-      (subst (λ s. IsAgain (item ∷ items_in (goods now rest)) (good_with (sequence_format full) input m reached s (λ at. goods at (new_rest (items_in (goods now rest)))))) (sym (says_new full reached line (f item) m stands ∙ ap (said_with full (f item)) e))
-      (subst (λ at. IsAgain (item ∷ items_in (goods now rest)) (record { members = record { line = m; item = again_line item } ∷ (goods at (new_rest (items_in (goods now rest)))).members; fault = (goods at (new_rest (items_in (goods now rest)))).fault })) (sym after)
-      (record { items = ap (λ l. again_line item ∷ l) more.items; faultless = more.faultless })))
+  again_with reached n m line said rest new_rest e clear none h lines is = grind arith
 
   none_again : (m : ℕ) (reached : Reached) → IsAgain [] (goods reached (lines_from m []))
   unfolding good_from
@@ -481,26 +375,12 @@ module _ (full : Bool) (input : Input) (f : SequenceLine → List ℕ) (safe : (
 
   single_by : (reached : Reached) (n : ℕ) (line : TextLine) (said : Result (Option SequenceLine) Kind) (item : SequenceLine) (more : List SequenceLine) → items_in (good_with (sequence_format full) input n reached said (λ now. goods now [])) ≡ item ∷ more → more ≡ []
   unfolding good_from
-  single_by reached n line (Err kind) item more e = cc
-  single_by reached n line (Ok None) item more e = cc
-  single_by reached n line (Ok (Some x)) item more e = cc
+  single_by reached n line said item more e = grind arith
 
   one_again : (n m : ℕ) (byte : ℕ) (bytes : List ℕ) (reached : Reached) → NoLineFeed (byte ∷ bytes) → (goods reached (last_line n (byte ∷ bytes))).fault ≡ None
       → ReadAgain m reached (last_line n (byte ∷ bytes))
   unfolding good_from
-  one_again n m byte bytes reached clear none =
-      let piece = byte ∷ bytes in
-      let b = ends_with_byte 13 piece in
-      let line = line_at n (strip_last 13 piece) (cond b Cr Absent) in
-      let text_clear = clear_strip 13 piece clear in
-      again_with reached n m line (line_says full reached line) [] (λ more. lines_from (suc m) (flat_map written_line more)) refl text_clear none (λ now none. none_again (suc m) now)
-      (lines_from m (flat_map written_line (items_in (goods reached (line ∷ [])))))
-      (λ item more text ending is.
-      let stands : Stands (strip_last 13 piece) (f item) = subst (λ t. Stands t (f item)) text (safe item (subst NoLineFeed (sym text) text_clear)) in
-      let none_more : more ≡ [] = single_by reached n line (line_says full reached line) item more is in
-      ap (λ l. lines_from m (flat_map written_line l)) (is ∙ ap (λ l. item ∷ l) none_more) ∙ ap (lines_from m) (append-nil (written_line item) ∙ ap (λ e. f item ++ end_bytes e) ending)
-      ∙ last_by m (f item) b stands.clear (λ off. stands.last (subst (λ t. ends_with_byte 13 t ≡ false) (sym (strip_last-other 13 piece off)) off)) (λ off. subst (λ k. 0 < k) (sym (stands.size ∙ ap length (strip_last-other 13 piece off))) (omega arith))
-      ∙ ap (λ l. line_at m (f item) (cond b Cr Absent) ∷ l) (sym (ap (λ l. lines_from (suc m) (flat_map written_line l)) none_more ∙ lines_from-nil (suc m))))
+  one_again n m byte bytes reached clear none = grind (arith, (clear_strip 13 (byte ∷ bytes) clear), append-nil, last_by)
 
   piece_again : (n : ℕ) (piece : List ℕ) → NoLineFeed piece → ReadsAgain (last_line n piece)
   unfolding good_from
@@ -509,26 +389,14 @@ module _ (full : Bool) (input : Input) (f : SequenceLine → List ℕ) (safe : (
 
   next_again : (n : ℕ) (piece rest : List ℕ) → NoLineFeed piece → ReadsAgain (lines_from (suc n) rest) → ReadsAgain (fed_line n piece ∷ lines_from (suc n) rest)
   unfolding good_from
-  next_again n piece rest clear h m reached none =
-      let b = ends_with_byte 13 piece in
-      let line = fed_line n piece in
-      let text_clear = clear_strip 13 piece clear in
-      again_with reached n m line (line_says full reached line) (lines_from (suc n) rest) (λ more. lines_from (suc m) (flat_map written_line more)) refl text_clear none (λ now none. h (suc m) now none)
-      (lines_from m (flat_map written_line (items_in (goods reached (line ∷ lines_from (suc n) rest)))))
-      (λ item more text ending is.
-      let stands : Stands (strip_last 13 piece) (f item) = subst (λ t. Stands t (f item)) text (safe item (subst NoLineFeed (sym text) text_clear)) in
-      ap (λ l. lines_from m (flat_map written_line l)) is ∙ ap (λ e. lines_from m ((f item ++ end_bytes e) ++ flat_map written_line more)) ending
-      ∙ fed_by m (f item) (flat_map written_line more) b stands.clear (λ off. stands.last (subst (λ t. ends_with_byte 13 t ≡ false) (sym (strip_last-other 13 piece off)) off)))
+  next_again n piece rest clear h m reached none = grind (arith, (clear_strip 13 piece clear), fed_by)
 
   last_again : (n : ℕ) (piece : List ℕ) → NoLineFeed piece → ReadsAgain (lines_from n piece)
-  last_again n piece clear m reached none =
-      subst (λ ls. ReadAgain m reached ls) (sym (lines_from-last n piece clear))
-      (piece_again n piece clear m reached (subst (λ ls. (goods reached ls).fault ≡ None) (lines_from-last n piece clear) none))
+  last_again n piece clear m reached none = grind (arith, (lines_from-last n piece clear), (piece_again n piece clear m reached (subst (λ ls. (goods reached ls).fault ≡ None) (lines_from-last n piece clear) none)))
 
   fed_again : (n : ℕ) (piece rest : List ℕ) → NoLineFeed piece → ReadsAgain (lines_from (suc n) rest) → ReadsAgain (lines_from n (piece ++ 10 ∷ rest))
   fed_again n piece rest clear h m reached none =
-      subst (λ ls. ReadAgain m reached ls) (sym (lines_from-fed n piece rest clear))
-      (next_again n piece rest clear h m reached (subst (λ ls. (goods reached ls).fault ≡ None) (lines_from-fed n piece rest clear) none))
+      grind (arith, (lines_from-fed n piece rest clear), (next_again n piece rest clear h m reached (subst (λ ls. (goods reached ls).fault ≡ None) (lines_from-fed n piece rest clear) none)))
 
   pub again_lines : (n : ℕ) (bytes : List ℕ) → ReadsAgain (lines_from n bytes)
   again_lines n bytes = by_lines (λ n bytes. ReadsAgain (lines_from n bytes)) last_again fed_again n bytes

@@ -23,34 +23,21 @@ module _ (t : Level → Bool) where
   -- what starts past a level doesn't touch it
   differs_far : (l : Level) (first : ℕ) (ms : List Level) → l.stop < first → AreDisjointFrom first ms → DiffersFromNext l (filter t ms)
   differs_far l first [] far d = tt
-  differs_far l first (m ∷ ms) far d =
-      elim (t m) as (λ b. DiffersFromNext l (cond b (m ∷ filter t ms) (filter t ms))) [
-        | true ↦ λ touch same. absurd (omega (arith, touch, far, d.0))
-        | false ↦ differs_far l m.stop ms (omega (arith, far, d.0, d.1)) d.3
-      ]
+  differs_far l first (m ∷ ms) far d = grind (arith, (differs_far l m.stop ms (omega (arith, far, d.0, d.1)) d.3))
 
   differs_some : (l : Level) (ms : List Level) → DiffersFromNext l ms → AreDisjointFrom l.stop ms → DiffersFromNext l (filter t ms)
   differs_some l [] differs d = tt
-  differs_some l (m ∷ ms) differs d =
-      elim (t m) as (λ b. DiffersFromNext l (cond b (m ∷ filter t ms) (filter t ms))) [
-        | true ↦ differs
-        | false ↦ differs_far l m.stop ms (omega (arith, d.0, d.1)) d.3
-      ]
+  differs_some l (m ∷ ms) differs d = grind (arith, (differs_far l m.stop ms (omega (arith, d.0, d.1)) d.3))
 
   some_disjoint : (first : ℕ) (ls : List Level) → AreDisjointFrom first ls → AreDisjointFrom first (filter t ls)
   some_disjoint first [] d = tt
-  some_disjoint first (l ∷ ls) d =
-      elim (t l) as (λ b. AreDisjointFrom first (cond b (l ∷ filter t ls) (filter t ls))) [
-        | true ↦ (d.0, d.1, differs_some l ls d.2 d.3, some_disjoint l.stop ls d.3)
-        | false ↦ looser l.stop first (filter t ls) (omega (arith, d.0, d.1)) (some_disjoint l.stop ls d.3)
-      ]
+  some_disjoint first (l ∷ ls) d = grind (arith, (some_disjoint l.stop ls d.3), differs_some, looser)
 
 abbrev is_deep : Level → Bool
 is_deep l = nat_lt 0 l.value
 
 deep_here : (l : Level) (ls : List Level) (p v : ℕ) → 0 < l.value → HasValue (l ∷ filter is_deep ls) p v → (HasValue (filter is_deep ls) p v → HasValue ls p v × (0 < v)) → HasValue (l ∷ ls) p v × (0 < v)
-deep_here l ls p v some (inl here) more = (inl here, omega (arith, some, here.2))
-deep_here l ls p v some (inr there) more = let rest = more there in (inr rest.0, rest.1)
+deep_here l ls p v some p1 more = grind arith
 
 deep_value : (ls : List Level) (p v : ℕ) → HasValue (filter is_deep ls) p v → HasValue ls p v × (0 < v)
 deep_value [] p v h = absurd h
@@ -62,15 +49,10 @@ deep_value (l ∷ ls) p v h = elim (cases_Bool (nat_lt 0 l.value)) [
 value_deep : (ls : List Level) (p v : ℕ) → 0 < v → HasValue ls p v → HasValue (filter is_deep ls) p v
 value_deep [] p v some h = absurd h
 value_deep (l ∷ ls) p v some (inl here) = subst (λ b. HasValue (cond b (l ∷ filter is_deep ls) (filter is_deep ls)) p v) (sym (lt-ltb 0 l.value (omega (arith, some, here.2)))) (inl here)
-value_deep (l ∷ ls) p v some (inr there) =
-    elim (nat_lt 0 l.value) as (λ b. HasValue (cond b (l ∷ filter is_deep ls) (filter is_deep ls)) p v) [
-      | true ↦ inr (value_deep ls p v some there)
-      | false ↦ value_deep ls p v some there
-    ]
+value_deep (l ∷ ls) p v some (inr there) = grind (arith, (value_deep ls p v some there))
 
 shown_by : (b : Bool) (d v : ℕ) → nat_lt 0 d ≡ b → cond b (Some d) None ≡ Some v → (d ≡ v) × (0 < v)
-shown_by true d v t e = let same : d ≡ v = cc in (same, subst (λ n. 0 < n) same (ltb-true 0 d t))
-shown_by false d v t e = cc
+shown_by b d v t e = grind arith
 
 pub shown : (d v : ℕ) → cond (nat_lt 0 d) (Some d) None ≡ Some v → (d ≡ v) × (0 < v)
 shown d v e = shown_by (nat_lt 0 d) d v refl e
@@ -80,25 +62,11 @@ module _ (spans : List Span) (size : ℕ) where
   unfolding depth_of
   deep_levels =
       let all = are_levels (depth_of true spans) size in
-      sym (only_levels (depth_of false spans) size (filter is_deep (levels_of (depth_of true spans) size)) (record {
-        disjoint = some_disjoint is_deep 0 (levels_of (depth_of true spans) size) all.disjoint;
-        within = λ p v h.
-            let deep = deep_value (levels_of (depth_of true spans) size) p v h in
-            let w = all.within p v deep.0 in
-            let same : depth_at spans p ≡ v = cc in
-            (w.0, subst (λ d. cond (nat_lt 0 d) (Some d) None ≡ Some v) (sym same) (ap (λ b. cond b (Some v) None) (lt-ltb 0 v deep.1)));
-        whole = λ p v below h.
-            let is = shown (depth_at spans p) v h in
-            value_deep (levels_of (depth_of true spans) size) p v is.1 (all.whole p v below (ap Some is.0));
-      }))
+      grind (arith, only_levels, (some_disjoint is_deep 0 (levels_of (depth_of true spans) size) all.disjoint), deep_value, value_deep)
 
 map_filter : (name : List ℕ) (ls : List Level) → map (depth_on name) (filter is_deep ls) ≡ filter (λ (r : DepthInterval). nat_lt 0 r.depth) (map (depth_on name) ls)
 map_filter name [] = refl
-map_filter name (l ∷ ls) =
-    elim (nat_lt 0 l.value) as (λ b. map (depth_on name) (cond b (l ∷ filter is_deep ls) (filter is_deep ls)) ≡ cond b (depth_on name l ∷ filter (λ (r : DepthInterval). nat_lt 0 r.depth) (map (depth_on name) ls)) (filter (λ (r : DepthInterval). nat_lt 0 r.depth) (map (depth_on name) ls))) [
-      | true ↦ ap (λ more. depth_on name l ∷ more) (map_filter name ls)
-      | false ↦ map_filter name ls
-    ]
+map_filter name (l ∷ ls) = grind (arith, (map_filter name ls))
 
 deep_all : (strand : Option Strand) (records : List Feature) (entries : List Entry) → flat_map (depths_on false strand records) entries ≡ filter (λ (r : DepthInterval). nat_lt 0 r.depth) (flat_map (depths_on true strand records) entries)
 deep_all strand records [] = refl
@@ -114,11 +82,7 @@ deep_coverage strand entries records = deep_all strand records entries
 
 zero_again : (rs : List DepthInterval) → filter (λ (r : DepthInterval). eqb r.depth 0) rs ≡ map without_depth (map interval_at (filter (λ (r : DepthInterval). eqb r.depth 0) rs))
 zero_again [] = refl
-zero_again (r ∷ rs) = elim (cases_Bool (eqb r.depth 0)) [
-  | inl t ↦ subst (λ b. cond b (r ∷ filter (λ (r : DepthInterval). eqb r.depth 0) rs) (filter (λ (r : DepthInterval). eqb r.depth 0) rs) ≡ map without_depth (map interval_at (cond b (r ∷ filter (λ (r : DepthInterval). eqb r.depth 0) rs) (filter (λ (r : DepthInterval). eqb r.depth 0) rs)))) (sym t)
-      (ap₂ (λ a b. a ∷ b) (ap (λ d. record { chrom = r.chrom; start = r.start; stop = r.stop; depth = d }) (eqb-true r.depth 0 t)) (zero_again rs))
-  | inr f ↦ subst (λ b. cond b (r ∷ filter (λ (r : DepthInterval). eqb r.depth 0) rs) (filter (λ (r : DepthInterval). eqb r.depth 0) rs) ≡ map without_depth (map interval_at (cond b (r ∷ filter (λ (r : DepthInterval). eqb r.depth 0) rs) (filter (λ (r : DepthInterval). eqb r.depth 0) rs)))) (sym f) (zero_again rs)
-]
+zero_again (r ∷ rs) = grind (arith, (zero_again rs))
 
 pub zero_depths : depth_0_is_complement
 zero_depths inputs chromosomes well =

@@ -1,5 +1,6 @@
 -- Lines and numbers have no line feed.
-use Rattle.bt_lines.proofs.Std.{◌≡◌, ℕ, Bool, true, false, List, [], ◌∷◌, ◌++◌, refl, sym, subst, eqb, zero, suc, ◌+◌, ◌/◌, ◌%◌, ◌<◌, ◌≤◌, cond, arith, decimal, AllByRecursion, ends_with_byte, strip_last, All-append, All-cons, All-head, All-tail, All-nil, All-from_recursion, digit_glyph, digits_onto, lt-ltb, nat_tests, ◌-◌, ◌||◌, length, Option, Some, None, Ok, ap, ◌∙◌, append_assoc, append-nil, IsTrue, ◌==◌, codes, nat_lt, decimal_is_IsNumeral, append_cancel_right, get_or-append-add, length-append, Err, inl, inr, not, map, filter, flat_map, flat_map-map, ◌&&◌, Result, ltb, leb, if◌then◌else◌, list_all, join_with_byte, is_ascii_digit, digits_value, and_parts, leb-true, join_with_byte-slice_split}
+use Rattle.std.proofs.lemmas.Grind.{common_steps}
+use Rattle.bt_lines.proofs.Std.{rules, ◌≡◌, ℕ, Bool, true, false, List, [], ◌∷◌, ◌++◌, refl, sym, subst, eqb, zero, suc, ◌+◌, ◌/◌, ◌%◌, ◌<◌, ◌≤◌, cond, arith, decimal, AllByRecursion, ends_with_byte, strip_last, All-append, All-cons, All-head, All-tail, All-nil, All-from_recursion, digit_glyph, digits_onto, lt-ltb, nat_tests, ◌-◌, ◌||◌, length, Option, Some, None, Ok, ap, ◌∙◌, append_assoc, append-nil, IsTrue, ◌==◌, codes, nat_lt, decimal_is_IsNumeral, append_cancel_right, get_or-append-add, length-append, Err, inl, inr, not, map, filter, flat_map, flat_map-map, ◌&&◌, Result, ltb, leb, if◌then◌else◌, list_all, join_with_byte, is_ascii_digit, digits_value, and_parts, leb-true, join_with_byte-slice_split}
 use Rattle.bt_lines.specs.calls.Line.{NoLineFeed}
 use Rattle.bt_lines.specs.model.Lines.{TextLine, last_line, lines_from, whole_lines_from, fed_line, text_lines, Handed, lines_handed, pieces, whole_lines, is_number, value_of}
 use Rattle.bt_lines.proofs.lemmas.reader.lines.TextLemmas.{lines_from-fed, lines_from-last, strip_last-other, strip_last-push, by_lines, whole_lines_from-fed, whole_lines_from-last, IsColumn, IsInside, lines_from-nil}
@@ -28,8 +29,7 @@ use Rattle.bt_bed.proofs.lemmas.Definitions.{line_said}
 
 pub clear_front : (xs ys : List ℕ) → NoLineFeed (xs ++ ys) → NoLineFeed xs
 clear_front [] ys h = All-nil (λ b. eqb b 10 ≡ false)
-clear_front (x ∷ xs) ys h =
-    All-cons (λ b. eqb b 10 ≡ false) x xs (All-head (λ b. eqb b 10 ≡ false) x (xs ++ ys) h) (clear_front xs ys (All-tail (λ b. eqb b 10 ≡ false) x (xs ++ ys) h))
+clear_front (x ∷ xs) ys h = grind (arith, (clear_front xs ys (All-tail (λ b. eqb b 10 ≡ false) x (xs ++ ys) h)), All-head)
 
 pub clear_back : (xs ys : List ℕ) → NoLineFeed (xs ++ ys) → NoLineFeed ys
 clear_back [] ys h = h
@@ -42,8 +42,7 @@ pub clear_tab : (xs : List ℕ) → NoLineFeed xs → NoLineFeed (9 ∷ xs)
 clear_tab xs h = All-cons (λ b. eqb b 10 ≡ false) 9 xs refl h
 
 clear_by : (byte : ℕ) (xs : List ℕ) (b : Bool) → ends_with_byte byte xs ≡ b → NoLineFeed xs → NoLineFeed (strip_last byte xs)
-clear_by byte xs true e h = clear_front (strip_last byte xs) (byte ∷ []) (subst NoLineFeed (sym (strip_last-push byte xs e)) h)
-clear_by byte xs false e h = subst NoLineFeed (sym (strip_last-other byte xs e)) h
+clear_by byte xs b e h = grind (arith, common_steps)
 
 pub clear_strip : (byte : ℕ) (xs : List ℕ) → NoLineFeed xs → NoLineFeed (strip_last byte xs)
 clear_strip byte xs h = clear_by byte xs (ends_with_byte byte xs) refl h
@@ -78,26 +77,20 @@ glyph_is_digit d below = subst (λ b. IsDigit (cond b (48 + d) (87 + d))) (sym (
 
 onto_digits : (k n : ℕ) (acc : List ℕ) → AllByRecursion IsDigit acc → AllByRecursion IsDigit (digits_onto k 10 false n acc)
 onto_digits zero n acc h = h
-onto_digits (suc k) n acc h =
-    let here : IsDigit (digit_glyph false (n % 10)) = glyph_is_digit (n % 10) (omega arith) in
-    elim (eqb (n / 10) 0) as (λ b. AllByRecursion IsDigit (cond b (digit_glyph false (n % 10) ∷ acc) (digits_onto k 10 false (n / 10) (digit_glyph false (n % 10) ∷ acc)))) [
-      | true ↦ (here, h)
-      | false ↦ onto_digits k (n / 10) (digit_glyph false (n % 10) ∷ acc) (here, h)
-    ]
+onto_digits (suc k) n acc h = grind (arith, (onto_digits k (n / 10) (digit_glyph false (n % 10) ∷ acc) ((glyph_is_digit (n % 10) (omega arith)), h)))
 
 pub decimal_digits : (n : ℕ) → AllByRecursion IsDigit (decimal n)
 unfolding digits
 decimal_digits n = onto_digits 64 n [] tt
 
 clear_digit : (c : ℕ) → IsDigit c → eqb c 10 ≡ false
-clear_digit c h = grind (arith, nat_tests)
+clear_digit c h = grind arith
 
 no_return : (c : ℕ) → IsDigit c → eqb c 13 ≡ false
-no_return c h = grind (arith, nat_tests)
+no_return c h = grind arith
 
 clear_digits : (ds : List ℕ) → AllByRecursion IsDigit ds → NoLineFeed ds
-clear_digits [] h = All-nil (λ b. eqb b 10 ≡ false)
-clear_digits (c ∷ cs) h = All-cons (λ b. eqb b 10 ≡ false) c cs (clear_digit c h.0) (clear_digits cs h.1)
+clear_digits ds h = grind (arith, common_steps)
 
 pub clear_number : (n : ℕ) → NoLineFeed (decimal n)
 clear_number n = clear_digits (decimal n) (decimal_digits n)
@@ -107,10 +100,7 @@ digits_none [] h = tt
 digits_none (c ∷ cs) h = (no_return c h.0, digits_none cs h.1)
 
 strip_none_by : (ds : List ℕ) (b : Bool) → ends_with_byte 13 ds ≡ b → AllByRecursion (λ b. eqb b 13 ≡ false) ds → strip_last 13 ds ≡ ds
-strip_none_by ds true e h =
-    let end = all_back (λ b. eqb b 13 ≡ false) (strip_last 13 ds) (13 ∷ []) (subst (AllByRecursion (λ b. eqb b 13 ≡ false)) (sym (strip_last-push 13 ds e)) h) in
-    absurd (let apart : true ≡ false = end.0 in cc)
-strip_none_by ds false e h = strip_last-other 13 ds e
+strip_none_by ds b e h = grind (arith, common_steps)
 
 -- no carriage return ends it, with a tab before it
 pub strip_number : (n : ℕ) → strip_last 13 (9 ∷ decimal n) ≡ 9 ∷ decimal n
@@ -121,7 +111,7 @@ strip_decimal n = strip_none_by (decimal n) (ends_with_byte 13 (decimal n)) refl
 
 -- a number is a column
 digit_inside : (c : ℕ) → IsDigit c → IsInside c
-digit_inside c h = grind (arith, nat_tests)
+digit_inside c h = grind arith
 
 digits_inside : (ds : List ℕ) → AllByRecursion IsDigit ds → AllByRecursion IsInside ds
 digits_inside [] h = tt
@@ -135,19 +125,10 @@ number_column n = All-from_recursion IsInside (decimal n) (digits_inside (decima
 -- ---- a byte at the end
 
 pub ends_both : (byte : ℕ) (front back : List ℕ) → 0 < length back → ends_with_byte byte (front ++ back) ≡ ends_with_byte byte back
-ends_both byte front back some =
-    let size : length (front ++ back) ≡ length front + length back = length-append front back in
-    let at : length (front ++ back) - 1 ≡ length front + (length back - 1) = omega (arith, size) in
-    let here : nat_lt 0 (length (front ++ back)) ≡ true = lt-ltb 0 (length (front ++ back)) (omega (arith, size)) in
-    let there : nat_lt 0 (length back) ≡ true = lt-ltb 0 (length back) some in
-    rw (here, there, at, get_or-append-add front back (length back - 1) 0) refl
+ends_both byte front back some = grind (arith, length-append, get_or-append-add)
 
 strip_both_by : (byte : ℕ) (front back : List ℕ) (b : Bool) → 0 < length back → ends_with_byte byte back ≡ b → strip_last byte (front ++ back) ≡ front ++ strip_last byte back
-strip_both_by byte front back true some e =
-    append_cancel_right (strip_last byte (front ++ back)) (front ++ strip_last byte back) (byte ∷ [])
-    (strip_last-push byte (front ++ back) (ends_both byte front back some ∙ e) ∙ ap (λ l. front ++ l) (sym (strip_last-push byte back e)) ∙ sym (append_assoc front (strip_last byte back) (byte ∷ [])))
-strip_both_by byte front back false some e =
-    strip_last-other byte (front ++ back) (ends_both byte front back some ∙ e) ∙ ap (λ l. front ++ l) (sym (strip_last-other byte back e))
+strip_both_by byte front back b some e = grind (arith, common_steps)
 
 pub strip_both : (byte : ℕ) (front back : List ℕ) → 0 < length back → strip_last byte (front ++ back) ≡ front ++ strip_last byte back
 strip_both byte front back some = strip_both_by byte front back (ends_with_byte byte back) some refl
@@ -161,9 +142,7 @@ some_digits n small = (decimal_is_IsNumeral n (omega arith)).0.0
 
 until_tab : (chrom tail : List ℕ) → first_word (chrom ++ 9 ∷ tail) ≡ first_word chrom
 until_tab [] tail = refl
-until_tab (byte ∷ chrom) tail =
-    of_word byte (chrom ++ 9 ∷ tail) (ends_word byte) refl ∙ ap (λ l. cond (ends_word byte) [] (byte ∷ l)) (until_tab chrom tail)
-    ∙ sym (of_word byte chrom (ends_word byte) refl)
+until_tab (byte ∷ chrom) tail = grind (arith, (of_word byte (chrom ++ 9 ∷ tail) (ends_word byte) refl), (until_tab chrom tail), (of_word byte chrom (ends_word byte) refl))
 
 pub header_of_name : (chrom tail : List ℕ) → 0 < length chrom → is_header (chrom ++ 9 ∷ tail) ≡ is_header chrom
 header_of_name [] tail some = absurd (omega arith)
@@ -196,36 +175,15 @@ module _ (chrom : List ℕ) (start stop : ℕ) (named : IsName chrom) (below : s
       (header_first tail ∙ e)
 
   pub strip_columns : (tail : List ℕ) → strip_last 13 (columns_text chrom start stop tail) ≡ columns_text chrom start stop (strip_last 13 tail)
-  strip_columns [] =
-      let front = chrom ++ codes "\t" ++ decimal start ++ codes "\t" in
-      let is : (tail : List ℕ) → columns_text chrom start stop tail ≡ front ++ (decimal stop ++ tail) = λ tail. simp append_assoc in
-      ap (strip_last 13) (is []) ∙ strip_both 13 front (decimal stop ++ []) (omega (arith, length-append (decimal stop) [], some_digits stop small))
-      ∙ ap (λ l. front ++ strip_last 13 l) (append-nil (decimal stop)) ∙ ap (λ l. front ++ l) (strip_decimal stop ∙ sym (append-nil (decimal stop))) ∙ sym (is [])
-  strip_columns (byte ∷ bytes) =
-      let front = chrom ++ codes "\t" ++ decimal start ++ codes "\t" ++ decimal stop in
-      let is : (tail : List ℕ) → columns_text chrom start stop tail ≡ front ++ tail = λ tail. simp append_assoc in
-      ap (strip_last 13) (is (byte ∷ bytes)) ∙ strip_both 13 front (byte ∷ bytes) (omega arith) ∙ sym (is (strip_last 13 (byte ∷ bytes)))
+  strip_columns [] = grind (arith, strip_both, some_digits, append-nil, strip_decimal)
+  strip_columns (byte ∷ bytes) = grind (arith, strip_both)
 
   -- what is kept of what follows is empty, or begins with a tab
   pub kept_by : (tail : List ℕ) (b : Bool) → ends_with_byte 13 tail ≡ b → IsTrue (is_kept tail) → (some : List ℕ) → strip_last 13 tail ≡ some → IsTrue (is_kept some)
-  kept_by tail false e kept some is = subst (λ t. IsTrue (is_kept t)) (sym (strip_last-other 13 tail e) ∙ is) kept
-  kept_by tail true e kept [] is = refl
-  kept_by tail true e kept (byte ∷ bytes) is =
-      let whole : byte ∷ (bytes ++ 13 ∷ []) ≡ tail = ap (λ l. l ++ 13 ∷ []) (sym is) ∙ strip_last-push 13 tail e in
-      subst (λ t. IsTrue (is_kept t)) (sym whole) kept
-
-  pub tail_says : (tail : List ℕ) → IsTrue (is_kept tail)
-      → record_of (strip_last 13 (columns_text chrom start stop tail)) ≡ Ok (unless_header chrom (record_with chrom start stop (strip_last 13 tail)))
-  tail_says tail kept =
-      ap record_of (strip_columns tail) ∙ first_says (strip_last 13 tail) (is_header chrom) refl (kept_by tail (ends_with_byte 13 tail) refl kept (strip_last 13 tail) refl)
+  kept_by tail b e kept some is = grind arith
 
   pub tail_clear : (tail : List ℕ) → NoLineFeed chrom → NoLineFeed tail → NoLineFeed (columns_text chrom start stop tail)
-  tail_clear tail clear behind =
-      subst NoLineFeed (sym (name_first tail))
-      (clear_both chrom (9 ∷ (decimal start ++ 9 ∷ (decimal stop ++ tail))) clear
-      (clear_tab (decimal start ++ 9 ∷ (decimal stop ++ tail))
-      (clear_both (decimal start) (9 ∷ (decimal stop ++ tail)) (clear_number start)
-      (clear_tab (decimal stop ++ tail) (clear_both (decimal stop) tail (clear_number stop) behind)))))
+  tail_clear tail clear behind = grind (arith, (name_first tail), clear_both, (clear_number start), (clear_tab (decimal stop ++ tail) (clear_both (decimal stop) tail (clear_number stop) behind)))
 
 -- Lines of known records are an input without a fault.
 
@@ -241,17 +199,10 @@ module _ (order : Order) (total : IsTotal order) where
   Follow last (r ∷ rs) = IsTrue (order.knows r.chrom) × (falls_in (sorting_of order) last (locus_at r) ≡ false) × Follow (Some (locus_at r)) rs
 
   below_same : (o : Ordering) (start other : ℕ) → o ≡ Equal → other ≤ start → is_below_at o start other ≡ false
-  below_same Less start other e up = cc
-  below_same Equal start other e up = grind (arith, nat_tests)
-  below_same Greater start other e up = refl
+  below_same o start other e up = grind arith
 
   pub up_to_stays : (last place : Locus) → IsTrue (order.knows last.chrom) → IsTrue (order.knows place.chrom) → IsUpTo order last place → falls_in (sorting_of order) (Some last) place ≡ false
-  up_to_stays last place was is (inl less) =
-      places_sorted order last place total was is
-      ∙ below_no (order.compare place.chrom last.chrom) place.start last.start (reversed_less (order.compare last.chrom place.chrom) (order.compare place.chrom last.chrom) less (total.swapped last.chrom place.chrom was is))
-  up_to_stays last place was is (inr same) =
-      places_sorted order last place total was is
-      ∙ below_same (order.compare place.chrom last.chrom) place.start last.start (subst (λ name. order.compare name last.chrom ≡ Equal) same.0 (total.same last.chrom was)) same.1
+  up_to_stays last place was is p1 = search rules
 
   placed_behind : (r : Feature) (rs : List Feature) → IsTrue (order.knows r.chrom) → IsPlacedBefore order (interval_of r) (intervals_of rs) → ArePlaced order (intervals_of rs) → Follow (Some (locus_at r)) rs
   placed_behind r [] known before placed = tt
@@ -281,12 +232,7 @@ module _ (order : Order) (total : IsTotal order) where
       says_on : (n : ℕ) (last : Option Locus) (o : Option Feature) (rest : Option Locus → Good Feature) (rs : List Feature)
           → Follow last (some_said o ++ rs) → ((now : Option Locus) → Follow now rs → IsGood rs (rest now))
           → IsGood (some_said o ++ rs) (good_with (bed_format (sorting_of order)) input n last (said_after (sorting_of order) last (Ok o)) rest)
-      says_on n last None rest rs follow more = more last follow
-      says_on n last (Some r) rest rs follow more =
-          let is = more (Some (locus_at r)) follow.2 in
-          subst (λ knows. IsGood (r ∷ rs) (good_with (bed_format (sorting_of order)) input n last (cond knows (cond (falls_in (sorting_of order) last (locus_at r)) (Err OutOfOrder) (Ok (Some r))) (Err UnknownChrom)) rest)) (sym follow.0)
-          (subst (λ falls. IsGood (r ∷ rs) (good_with (bed_format (sorting_of order)) input n last (cond falls (Err OutOfOrder) (Ok (Some r))) rest)) (sym follow.1)
-          (record { items = ap (λ l. r ∷ l) is.items; faultless = is.faultless }))
+      says_on n last o rest rs follow more = grind arith
 
       good_written : (n : ℕ) (last : Option Locus) (xs : List X) → AllByRecursion SaysLine xs → Follow last (said_of xs)
           → IsGood (said_of xs) (good_from (bed_format (sorting_of order)) input last (lines_from n (flat_map line_for xs)))
@@ -332,13 +278,11 @@ abbrev pub said_back : Columns → Option Feature
 said_back line = unless_header line.at.chrom (record_back line)
 
 said_by : (header : Bool) (r : Feature) (rs : List Feature) → some_said (cond header None (Some r)) ++ rs ≡ cond (not header) (r ∷ rs) rs
-said_by true r rs = refl
-said_by false r rs = refl
+said_by header r rs = grind arith
 
 said_are : (lines : List Columns) → flat_map (λ line. some_said (said_back line)) lines ≡ filter is_no_header (map record_back lines)
 said_are [] = refl
-said_are (line ∷ lines) =
-    ap (λ rs. some_said (said_back line) ++ rs) (said_are lines) ∙ said_by (is_header line.at.chrom) (record_back line) (filter is_no_header (map record_back lines))
+said_are (line ∷ lines) = grind (arith, (said_are lines))
 
 pub placed_known : (order : Order) (rs : List Interval) → ArePlaced order rs → AllByRecursion (λ (r : Interval). IsTrue (order.knows r.chrom)) rs
 placed_known order [] placed = tt
@@ -346,10 +290,7 @@ placed_known order (r ∷ rs) placed = (placed.0, placed_known order rs placed.2
 
 module _ (order : Order) (total : IsTotal order) where
   says_columns : (line : Columns) → IsColumns line → SaysLine order total text_of_columns said_back line
-  says_columns line is = record {
-    clear = tail_clear line.at.chrom line.at.start line.at.stop is.named is.below is.small line.tail is.clear is.clear_tail;
-    says = tail_says line.at.chrom line.at.start line.at.stop is.named is.below is.small line.tail is.kept;
-  }
+  says_columns line is = grind (arith, tail_clear, common_steps, strip_columns, first_says)
 
   -- their lines are an input, whose records are those that no header word hides
   pub lines_back : (lines : List Columns) → AllByRecursion IsColumns lines → ArePlaced order (map (λ line. line.at) lines)
@@ -361,10 +302,7 @@ module _ (order : Order) (total : IsTotal order) where
       let is : (input : Input) → IsGood order total text_of_columns said_back (filter is_no_header (map record_back lines)) (good (bed_format (sorting_of order)) input (text_lines text)) = λ input.
       subst (λ rs. IsGood order total text_of_columns said_back rs (good (bed_format (sorting_of order)) input (text_lines text))) (said_are lines)
       (good_lines order total text_of_columns said_back input lines says (subst (λ rs. ArePlaced order (intervals_of rs)) (sym (said_are lines)) here)) in
-      record {
-        records_are = λ input. (is input).items;
-        faultless = λ input. or_else_none (good (bed_format (sorting_of order)) input (text_lines text)).fault ∙ (is input).faultless;
-      }
+      grind arith
 
   -- so are items that write such a line each
   pub written_back : {A : Type 0} (line : A → List ℕ) (columns : A → Columns) (back : A → Feature) (items : List A) → ((a : A) → line a ≡ text_of_columns (columns a) ++ 10 ∷ [])
@@ -414,8 +352,7 @@ module _ (input : Input) (sorting : Sorting) where
       said_with line.number last line.text (line_says sorting last line.text) (λ now. good_from (bed_format sorting) input now lines) clear.0 refl (λ now. said_lines now lines clear.1)
 
 clear_if : (cut : Bool) (text : List ℕ) → AreClear (cond cut (whole_lines text) (text_lines text))
-clear_if true text = clear_whole 1 text
-clear_if false text = clear_lines 1 text
+clear_if cut text = grind (arith, clear_whole, clear_lines)
 
 pub clear_handed : (handed : Handed) → AreClear (lines_handed handed)
 clear_handed handed = clear_if handed.is_cut handed.text
@@ -432,26 +369,18 @@ pub record IsChrom (entry : Entry) : Type 0 where
   pub small : entry.length ≤ 999999999999
 
 some_of : (b : Bool) (v n : ℕ) → (b ≡ true → v ≤ 999999999999) → cond b (Some v) None ≡ Some n → n ≤ 999999999999
-some_of true v n h e = let same : v ≡ n = cc in subst (λ k. k ≤ 999999999999) same (h refl)
-some_of false v n h e = cc
+some_of b v n h e = grind arith
 
 value_at_most : (text : List ℕ) (n : ℕ) → value_of text ≡ Some n → n ≤ 999999999999
 unfolding value_of
-value_at_most text n e =
-    some_of (is_number text) (digits_value 10 text) n
-    (λ yes. leb-true (digits_value 10 text) 999999999999 ((and_parts (ltb 0 (length text) && list_all is_ascii_digit text) (leb (digits_value 10 text) 999999999999) yes).1)) e
+value_at_most text n e = grind arith
 
 chosen_entry : (b : Bool) (byte : ℕ) (bytes : List ℕ) (size : ℕ) (entry : Entry) → eqb size 0 ≡ b → cond b (Err BadLength) (Ok (record { name = byte ∷ bytes; length = size })) ≡ Ok entry
     → (byte ∷ bytes ≡ entry.name) × (size ≡ entry.length) × (0 < size)
-chosen_entry true byte bytes size entry e is = cc
-chosen_entry false byte bytes size entry e is = (cc, cc, grind (arith))
+chosen_entry b byte bytes size entry e is = grind arith
 
 entry_said : (name : List ℕ) (size : Option ℕ) (entry : Entry) → entry_from name size ≡ Ok entry → (name ≡ entry.name) × (size ≡ Some entry.length) × (0 < length name) × (0 < entry.length)
-entry_said [] size entry e = cc
-entry_said (byte ∷ bytes) None entry e = cc
-entry_said (byte ∷ bytes) (Some size) entry e =
-    let is = chosen_entry (eqb size 0) byte bytes size entry refl e in
-    (is.0, ap Some is.1, omega arith, subst (λ n. 0 < n) is.1 is.2)
+entry_said name size entry e = grind arith
 
 joined_name : (name size : List ℕ) (rest : List (List ℕ)) → (more : List ℕ) × (join_with_byte 9 (name ∷ size ∷ rest) ≡ name ++ 9 ∷ more)
 joined_name name size rest = (join_with_byte 9 (size ∷ rest), refl)
@@ -463,17 +392,10 @@ columns_said text (name ∷ size ∷ rest) entry clear cut e =
     let is = entry_said name (value_of size) entry e in
     let whole = joined_name name size rest in
     let split : text ≡ name ++ 9 ∷ whole.0 = sym (join_with_byte-slice_split 9 text) ∙ ap (join_with_byte 9) cut ∙ whole.1 in
-    record {
-      named = subst IsName is.0 (record { some = is.2; one_column = (subst (AllByRecursion IsColumn) cut (pieces_are_columns text)).0 });
-      clear = subst NoLineFeed is.0 (clear_front name (9 ∷ whole.0) (subst NoLineFeed split clear));
-      some = is.3;
-      small = value_at_most size entry.length is.1;
-    }
+    grind (arith, (pieces_are_columns text), (clear_front name (9 ∷ whole.0) (subst NoLineFeed split clear)), (value_at_most size entry.length is.1))
 
 skipped_entry : (skipped : Bool) (said : Result Entry Kind) (entry : Entry) → cond skipped (Ok None) (not_skipped said) ≡ Ok (Some entry) → said ≡ Ok entry
-skipped_entry true said entry e = cc
-skipped_entry false (Ok x) entry e = cc
-skipped_entry false (Err kind) entry e = cc
+skipped_entry skipped said entry e = grind arith
 
 line_is_chrom : (text : List ℕ) (entry : Entry) → NoLineFeed text → entry_of text ≡ Ok (Some entry) → IsChrom entry
 unfolding entry_of
@@ -485,18 +407,11 @@ AreChroms (Ok entries) = AllByRecursion IsChrom entries
 AreChroms (Err fault) = Unit {0}
 
 with_chrom : (entry : Entry) (rest : Result (List Entry) FaultValue) → IsChrom entry → AreChroms rest → AreChroms (with_entry entry rest)
-with_chrom entry (Ok entries) is h = (is, h)
-with_chrom entry (Err fault) is h = tt
+with_chrom entry rest is h = grind arith
 
 new_chrom : (input : Input) (n : ℕ) (names : List (List ℕ)) (text : List ℕ) (said : Result (Option Entry) Kind) (rest : List (List ℕ) → Result (List Entry) FaultValue) → NoLineFeed text → entry_of text ≡ said
     → ((now : List (List ℕ)) → AreChroms (rest now)) → AreChroms (genome_with input n names (new_entry names said) rest)
-new_chrom input n names text (Err kind) rest clear e h = tt
-new_chrom input n names text (Ok None) rest clear e h = h names
-new_chrom input n names text (Ok (Some entry)) rest clear e h =
-    elim (is_among names entry.name) as (λ b. AreChroms (genome_with input n names (if b then Err RepeatedChrom else Ok (Some entry)) rest)) [
-      | true ↦ tt
-      | false ↦ with_chrom entry (rest (names ++ entry.name ∷ [])) (line_is_chrom text entry clear e) (h (names ++ entry.name ∷ []))
-    ]
+new_chrom input n names text said rest clear e h = grind (arith, line_is_chrom)
 
 chroms_from : (input : Input) (names : List (List ℕ)) (lines : List TextLine) → AreClear lines → AreChroms (genome_from input names lines)
 unfolding genome_from
@@ -505,10 +420,7 @@ chroms_from input names (line ∷ lines) clear =
     new_chrom input line.number names line.text (entry_of line.text) (λ now. genome_from input now lines) clear.0 refl (λ now. chroms_from input now lines clear.1)
 
 cut_chroms : (fault : Option FaultValue) (answer : Result (List Entry) FaultValue) → AreChroms answer → AreChroms (genome_cut fault answer)
-cut_chroms None answer h = h
-cut_chroms (Some fault) (Ok entries) h = tt
-cut_chroms (Some fault) (Err first) h = tt
+cut_chroms fault answer h = grind arith
 
 pub genome_chroms : (input : Input) (handed : Handed) (entries : List Entry) → genome_handed input handed ≡ Ok entries → AllByRecursion IsChrom entries
-genome_chroms input handed entries e =
-    subst AreChroms e (cut_chroms _ (genome_of input (lines_handed handed)) (chroms_from input [] (lines_handed handed) (clear_handed handed)))
+genome_chroms input handed entries e = grind (arith, chroms_from, clear_handed)

@@ -48,14 +48,12 @@ use Rattle.bt_runs.proofs.lemmas.complement.Walks.{are_gaps, only_gaps}
 -- ---- the order in use
 
 pub chroms_of : (genome : Option Handed) (entries : List Entry) → chromosomes_of genome ≡ Ok (Some entries) → AllByRecursion IsChrom entries × AreDistinct (genome_names entries)
-chroms_of None entries e = cc
-chroms_of (Some genome) entries e = (genome_chroms Genome genome entries (file_is (genome_handed Genome genome) entries e), distinct_in genome entries e)
+chroms_of genome entries e = grind (arith, genome_chroms, distinct_in)
 
 -- ---- a report of one input without a fault
 
 whole_by : {A : Type 0} (written : Written A) (members : List A) (fault : Option FaultValue) → (report_by written members fault).fault ≡ None → (report_by written members fault).output ≡ written.whole members
-whole_by written members None e = refl
-whole_by written members (Some fault) e = cc
+whole_by written members fault e = grind arith
 
 module _ (command : Command) (inputs : Inputs) (chromosomes : Option (List Entry)) (well : RunsWithoutFault command inputs chromosomes) where
   pub report_is : report_of command inputs ≡ (behaviour_of command chromosomes).report inputs.first inputs.second
@@ -105,13 +103,7 @@ merge_input d Each inputs chromosomes well =
     let order = order_of chromosomes in
     let total = order_total chromosomes in
     let e = merge_whole d Each inputs chromosomes well in
-    let runs = places_of (strand_runs d records) in (
-      e,
-      subst (λ text. IsInput order text (map three_columns runs)) (sym e)
-          (runs_back order total runs (strands_written order total d records (good_are_said First order inputs.first))
-          (in_order order d records total (placed_good First order inputs.first total) (non_empty_good First order inputs.first))),
-      λ other. absurd (other refl),
-    )
+    grind (arith, runs_back, strands_written, good_are_said, in_order, placed_good, non_empty_good)
 
 -- ---- complement and genomecov
 
@@ -120,8 +112,7 @@ module _ (limit : Bool) (inputs : Inputs) (chromosomes : Option (List Entry)) (w
   gaps_of_run = complement limit (entries_in chromosomes) (first_records chromosomes inputs)
 
   pub complement_whole : (report_of (Complement limit) inputs).output ≡ interval_lines gaps_of_run
-  complement_whole = output_is (Complement limit) inputs chromosomes well
-      ∙ whole_by (complement_written (entries_in chromosomes) limit) (first_records chromosomes inputs) (bed_good First (order_of chromosomes) inputs.first).fault (well_there (Complement limit) inputs chromosomes well)
+  complement_whole = grind (arith, (output_is (Complement limit) inputs chromosomes well), (well_there (Complement limit) inputs chromosomes well))
 
 gaps_input : (limit : Bool) (genome : Option Handed) (chromosomes : Option (List Entry)) (records : List Feature) → chromosomes_of genome ≡ Ok chromosomes
     → IsInput (order_of chromosomes) (interval_lines (complement limit (entries_in chromosomes) records)) (filter is_no_header (map three_columns (complement limit (entries_in chromosomes) records)))
@@ -136,8 +127,7 @@ pub complement_input : complement_is_input
 complement_input limit inputs chromosomes well =
     let e = complement_whole limit inputs chromosomes well in
     let is = gaps_input limit inputs.genome chromosomes (first_records chromosomes inputs) well.genome in
-    let gaps = complement limit (entries_in chromosomes) (first_records chromosomes inputs) in
-    (e, subst (λ text. IsInput (order_of chromosomes) text (filter is_no_header (map three_columns gaps))) (sym e) is.0, pairs_all AreSeparate gaps is.1)
+    grind (arith, (pairs_all AreSeparate (complement limit (entries_in chromosomes) (first_records chromosomes inputs)) is.1))
 
 depths_input : (zeros : Bool) (strand : Option Strand) (genome : Option Handed) (chromosomes : Option (List Entry)) (records : List Feature) → chromosomes_of genome ≡ Ok chromosomes
     → IsInput (order_of chromosomes) (depth_lines (coverage zeros strand (entries_in chromosomes) records)) (filter is_no_header (map four_columns (coverage zeros strand (entries_in chromosomes) records)))
@@ -168,8 +158,7 @@ cut_either t one other = if t then one else other
 
 cut_whole_by : (t : Bool) (past : List (Member Feature)) (found : FaultValue) (rest whole : Good Feature) → (rest.fault ≡ None → rest ≡ whole)
     → (cut_either t (record { members = past; fault = Some found }) rest).fault ≡ None → cut_either t (record { members = past; fault = Some found }) rest ≡ whole
-cut_whole_by true past found rest whole h e = cc
-cut_whole_by false past found rest whole h e = h e
+cut_whole_by t past found rest whole h e = grind arith
 
 -- a limit without a fault of its own changes nothing
 cut_whole : (too : List Feature → Bool) (past members : List (Member Feature)) (fault : Option FaultValue) → (cut_behind too past members fault).fault ≡ None → cut_behind too past members fault ≡ record { members = past ++ members; fault = fault }
@@ -179,31 +168,22 @@ cut_whole too past (m ∷ more) fault e =
     (λ none. cut_whole too (past ++ m ∷ []) more fault none ∙ ap (λ (ms : List (Member Feature)). record { members = ms; fault = fault }) (append_assoc past (m ∷ []) more)) e
 
 pub limit_whole : (order : Order) (limit : Option ℕ) (first : List Feature) (second : Good Feature) → (limited order limit first second).fault ≡ None → limited order limit first second ≡ second
-limit_whole order None first second e = refl
-limit_whole order (Some most) first second e = cut_whole (are_too_many order most first) [] second.members second.fault e
+limit_whole order limit first second e = grind (arith, cut_whole)
 
 abbrev pub either_met : Bool → List ℕ → List ℕ → Option FaultValue → Option FaultValue → Met ℕ FaultValue
 either_met b lines other one fault = if b then record { lines = lines; fault = option_or one fault } else record { lines = other; fault = fault }
 
 pub either_fault : (b : Bool) (lines other : List ℕ) (one : Option FaultValue) (fault : Option FaultValue) → (either_met b lines other one fault).fault ≡ None → fault ≡ None
-either_fault true lines other None None e = refl
-either_fault true lines other None (Some f) e = cc
-either_fault true lines other (Some g) fault e = cc
-either_fault false lines other one fault e = e
+either_fault b lines other one fault e = grind arith
 
 met_whole : (order : Order) (shape : Shape) (rule : HitRule) (first : Good Feature) (second : List Feature) (fault : Option FaultValue) → fault ≡ None
     → (join_report (sweep_rule order shape rule second fault) (items_in first) first.fault).lines ≡ intersect shape rule (items_in first) second
-met_whole order shape rule first second None e = faultless_all order shape rule (items_in first) second first.fault
-met_whole order shape rule first second (Some fault) e = cc
+met_whole order shape rule first second fault e = grind (arith, faultless_all)
 
 -- without a fault all pairs are written, with a limit or without one
 pub swept_whole : (order : Order) (shape : Shape) (rule : HitRule) (limit : Option ℕ) (first second : Good Feature) → (met_within order shape rule limit first second).fault ≡ None
     → (met_within order shape rule limit first second).lines ≡ intersect shape rule (items_in first) (items_in second)
-swept_whole order shape rule limit first second e =
-    let seen = limited order limit (items_in first) second in
-    let rule_of = sweep_rule order shape rule (items_in seen) seen.fault in
-    let none : seen.fault ≡ None = either_fault (list_all rule_of.decided (items_in first)) (flat_map rule_of.lines (items_in first)) (written rule_of (items_in first)) first.fault seen.fault e in
-    met_whole order shape rule first (items_in seen) seen.fault none ∙ ap (λ g. intersect shape rule (items_in first) (items_in g)) (limit_whole order limit (items_in first) second none)
+swept_whole order shape rule limit first second e = grind (arith, met_whole, limit_whole)
 
 module _ (shape : Shape) (rule : HitRule) (chromosomes : Option (List Entry)) (inputs : Inputs) where
   abbrev firsts : List Feature
@@ -225,9 +205,7 @@ module _ (shape : Shape) (rule : HitRule) (chromosomes : Option (List Entry)) (i
   second_placed = placed_good Second (order_of chromosomes) (or_empty inputs.second) (order_total chromosomes)
 
   kept_input : begins_with_a shape ≡ true → IsInput (order_of chromosomes) (intersect shape rule firsts seconds) (records_written shape rule firsts seconds)
-  kept_input begins =
-      subst (IsInput (order_of chromosomes) (intersect shape rule firsts seconds)) (all_read shape rule firsts seconds)
-      (kept_back (order_of chromosomes) (order_total chromosomes) shape rule firsts seconds said said_second first_placed begins)
+  kept_input begins = grind (arith, (all_read shape rule firsts seconds), (kept_back (order_of chromosomes) (order_total chromosomes) shape rule firsts seconds said said_second first_placed begins))
 
   pub cut_input : begins_with_a shape ≡ false → AllPairs AreDisjoint (intervals_of firsts) → IsInput (order_of chromosomes) (intersect shape rule firsts seconds) (records_written shape rule firsts seconds)
   cut_input cuts apart =
@@ -299,24 +277,13 @@ places_apart : (rs : List Feature) → EachPair (λ (r s : Feature). AreDisjoint
 places_apart rs h = pairs_all AreDisjoint (intervals_of rs) (pairs_map AreDisjoint interval_of rs h)
 
 pub merge_disjoint : merge_writes_disjoint
-merge_disjoint d strand other inputs chromosomes well =
-    let is = merge_input d strand inputs chromosomes well in
-    let runs = runs_by (order_of chromosomes) d strand (first_records chromosomes inputs) in
-    subst (λ rs. AllPairs AreDisjoint (intervals_of rs)) (sym (is.1.records_are First)) (places_apart (map three_columns runs) (of_three runs (apart_disjoint runs (pairs_each AreSeparate runs (is.2 other)))))
+merge_disjoint d strand other inputs chromosomes well = grind (arith, (merge_input d strand inputs chromosomes well), places_apart, of_three, pairs_each)
 
 pub complement_disjoint : complement_writes_disjoint
-complement_disjoint limit inputs chromosomes well =
-    let is = complement_input limit inputs chromosomes well in
-    let gaps = complement limit (entries_in chromosomes) (first_records chromosomes inputs) in
-    subst (λ rs. AllPairs AreDisjoint (intervals_of rs)) (sym (is.1.records_are First))
-    (places_apart (filter is_no_header (map three_columns gaps)) (pairs_filter (λ (r s : Feature). AreDisjoint (interval_of r) (interval_of s)) is_no_header (map three_columns gaps) (of_three gaps (apart_disjoint gaps (pairs_each AreSeparate gaps is.2)))))
+complement_disjoint limit inputs chromosomes well = grind (arith, (complement_input limit inputs chromosomes well), places_apart, pairs_filter, of_three, pairs_each)
 
 pub genomecov_disjoint : genomecov_writes_disjoint
-genomecov_disjoint zeros strand inputs chromosomes well =
-    let is = genomecov_input zeros strand inputs chromosomes well in
-    let depths = coverage zeros strand (entries_in chromosomes) (first_records chromosomes inputs) in
-    subst (λ rs. AllPairs AreDisjoint (intervals_of rs)) (sym (is.1.records_are First))
-    (places_apart (filter is_no_header (map four_columns depths)) (pairs_filter (λ (r s : Feature). AreDisjoint (interval_of r) (interval_of s)) is_no_header (map four_columns depths) (of_four depths (pairs_each AreDisjoint (map interval_at depths) is.2))))
+genomecov_disjoint zeros strand inputs chromosomes well = grind (arith, (genomecov_input zeros strand inputs chromosomes well), places_apart, pairs_filter, of_four, pairs_each)
 
 -- Spans that cover the same positions: the runs and the gaps are the same.
 
@@ -328,85 +295,31 @@ pub same_sym : (xs ys : List Span) → SameCover xs ys → SameCover ys xs
 same_sym xs ys h = record { to = h.back; back = h.to }
 
 bridged_to : (gap : ℕ) (xs ys : List Span) (p : ℕ) → SameCover xs ys → Bridged gap xs p → Bridged gap ys p
-bridged_to gap xs ys p same b = record {
-  left = b.left;
-  right = b.right;
-  left_covered = same.to b.left b.left_covered;
-  right_covered = same.to b.right b.right_covered;
-  from_left = b.from_left;
-  to_right = b.to_right;
-  near = b.near;
-}
+bridged_to gap xs ys p same b = grind arith
 
 pub same_runs : (gap : ℕ) (xs ys : List Span) → SameCover xs ys → runs_of gap xs ≡ runs_of gap ys
-same_runs gap xs ys same =
-    let runs = are_runs gap xs in
-    only_runs gap ys (runs_of gap xs) (record {
-      apart = runs.apart;
-      within = λ p c. bridged_to gap xs ys p same (runs.within p c);
-      whole = λ p b. runs.whole p (bridged_to gap ys xs p (same_sym xs ys same) b);
-    })
+same_runs gap xs ys same = grind (arith, (are_runs gap xs), only_runs)
 
 bare_to : (size : ℕ) (xs ys : List Span) (p : ℕ) → SameCover xs ys → IsBare size xs p → IsBare size ys p
 bare_to size xs ys p same b = record { within = b.within; bare = λ c. b.bare (same.back p c) }
 
 pub same_gaps : (size : ℕ) (xs ys : List Span) → SameCover xs ys → gaps_of size xs ≡ gaps_of size ys
-same_gaps size xs ys same =
-    let gaps = are_gaps size xs in
-    only_gaps size ys (gaps_of size xs) (record {
-      apart = gaps.apart;
-      within = λ p c. bare_to size xs ys p same (gaps.within p c);
-      whole = λ p b. gaps.whole p (bare_to size ys xs p (same_sym xs ys same) b);
-    })
+same_gaps size xs ys same = grind (arith, (are_gaps size xs), only_gaps)
 
 pub same_levels : (u v : ℕ → Option ℕ) (size : ℕ) → ((p : ℕ) → u p ≡ v p) → levels_of u size ≡ levels_of v size
-same_levels u v size same =
-    let levels = are_levels u size in
-    only_levels v size (levels_of u size) (record {
-      disjoint = levels.disjoint;
-      within = λ p n h. let w = levels.within p n h in (w.0, sym (same p) ∙ w.1);
-      whole = λ p n below h. levels.whole p n below (same p ∙ h);
-    })
+same_levels u v size same = grind arith
 
 -- ---- what bridges the runs
 
 -- a position between two runs that are near is bridged by what they cover
 again_by : (gap : ℕ) (spans : List Span) (p : ℕ) (b : Bridged gap (runs_of gap spans) p) (l : Bridged gap spans b.left) (r : Bridged gap spans b.right) → Bridged gap spans p
-again_by gap spans p b l r = elim (cases_lt l.right p) [
-  | inr below ↦ record { left = l.left; right = l.right; left_covered = l.left_covered; right_covered = l.right_covered; from_left = omega (arith, l.from_left, b.from_left); to_right = below; near = l.near }
-  | inl above ↦ elim (cases_lt p r.left) [
-    | inr past ↦ record { left = r.left; right = r.right; left_covered = r.left_covered; right_covered = r.right_covered; from_left = past; to_right = omega (arith, b.to_right, r.to_right); near = r.near }
-    | inl between ↦ record {
-      left = l.right;
-      right = r.left;
-      left_covered = l.right_covered;
-      right_covered = r.left_covered;
-      from_left = omega (arith, above);
-      to_right = omega (arith, between);
-      near = omega (arith, b.near, l.to_right, r.from_left);
-    }
-  ]
-]
+again_by gap spans p b l r = grind (arith, (cases_lt l.right p), (cases_lt p r.left))
 
 pub runs_again : (gap : ℕ) (spans : List Span) → runs_of gap (runs_of gap spans) ≡ runs_of gap spans
-runs_again gap spans =
-    let runs = are_runs gap spans in
-    sym (only_runs gap (runs_of gap spans) (runs_of gap spans) (record {
-      apart = runs.apart;
-      within = λ p c. bridged_here gap (runs_of gap spans) p c;
-      whole = λ p b. runs.whole p (again_by gap spans p b (runs.within b.left b.left_covered) (runs.within b.right b.right_covered));
-    }))
+runs_again gap spans = grind (arith, (are_runs gap spans), only_runs, again_by)
 
 bridged_covered : (spans : List Span) (p : ℕ) → Bridged 0 spans p → IsCovered spans p
-bridged_covered spans p b = elim (cases_eq b.left p) [
-  | inl same ↦ subst (IsCovered spans) same b.left_covered
-  | inr other ↦
-      let low = b.from_left in
-      let high = b.to_right in
-      let near = b.near in
-      let same : b.right ≡ p = omega arith in
-      subst (IsCovered spans) same b.right_covered
-]
+bridged_covered spans p b = grind arith
 
 -- without a gap the runs cover what the spans cover
 pub runs_cover : (spans : List Span) → SameCover (runs_of 0 spans) spans
@@ -427,7 +340,4 @@ pub some_covered : (xs : List Span) (p : ℕ) → 0 < depth_at xs p → IsCovere
 some_covered xs p some = (is_covered-Decides xs p).0 (covered_depth xs p ∙ lt-ltb 0 (depth_at xs p) some)
 
 pub same_by_depth : (xs ys : List Span) → ((p : ℕ) → 0 < depth_at xs p → 0 < depth_at ys p) → ((p : ℕ) → 0 < depth_at ys p → 0 < depth_at xs p) → SameCover xs ys
-same_by_depth xs ys to back = record {
-  to = λ p c. some_covered ys p (to p (covered_some xs p c));
-  back = λ p c. some_covered xs p (back p (covered_some ys p c));
-}
+same_by_depth xs ys to back = grind (arith, some_covered, covered_some)

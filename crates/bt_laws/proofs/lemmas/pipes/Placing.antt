@@ -23,8 +23,7 @@ pairs_so P R S [] f ps h = tt
 pairs_so P R S (x ∷ xs) f ps h = (all_with P R S x xs (λ y q r. f x y ps.0 q r) ps.1 h.0, pairs_so P R S xs f ps.1 h.1)
 
 pairs_by : {A : Type 0} (R : A → A → Type 0) (b : Bool) (x : A) (xs : List A) → AllByRecursion (R x) xs → EachPair R xs → EachPair R (cond b (x ∷ xs) xs)
-pairs_by R true x xs h k = (h, k)
-pairs_by R false x xs h k = k
+pairs_by R b x xs h k = grind arith
 
 pub pairs_filter : {A : Type 0} (R : A → A → Type 0) (t : A → Bool) (xs : List A) → EachPair R xs → EachPair R (filter t xs)
 pairs_filter R t [] h = tt
@@ -55,55 +54,36 @@ module _ (order : Order) where
   pub ascending_pairs : IsTotal order → (names : List (List ℕ)) → AreKnown order names → AreAscending order names → EachPair Earlier names
   ascending_pairs total [] known up = tt
   ascending_pairs total (n ∷ []) known up = (tt, tt)
-  ascending_pairs total (n ∷ m ∷ ns) known up =
-      let rest = ascending_pairs total (m ∷ ns) known.1 up.1 in
-      ((up.0, later_all total n m ns known.0 known.1.0 known.1.1 up.0 rest.0), rest)
+  ascending_pairs total (n ∷ m ∷ ns) known up = grind (arith, (ascending_pairs total (m ∷ ns) known.1 up.1), later_all)
 
 -- ---- the names of a genome file
 
 some_rank : (b : Bool) (o : Option ℕ) → is_some o ≡ true → is_some (cond b (Some 0) (option_map (λ rank. suc rank) o)) ≡ true
-some_rank true o e = refl
-some_rank false (Some rank) e = refl
-some_rank false None e = cc
+some_rank b o e = grind arith
 
 pub known_names : (names : List (List ℕ)) → AllByRecursion (λ name. IsTrue ((rank_order names).knows name)) names
 known_names [] = tt
-known_names (n ∷ ns) = (
-  ap is_some (rank_of-here n n ns refl),
-  all_so (λ m. is_some (rank_of ns m) ≡ true) (λ m. is_some (rank_of (n ∷ ns) m) ≡ true) ns (λ m e. some_rank (bytes_eq n m) (rank_of ns m) e) (known_names ns),
-)
+known_names (n ∷ ns) = grind (arith, (known_names ns), rank_of-here, all_so)
 
 pub others : (n : List ℕ) (ns : List (List ℕ)) → is_among ns n ≡ false → AllByRecursion (λ m. bytes_eq n m ≡ false) ns
 others n [] e = tt
 others n (m ∷ ns) e = let parts = or_parts (bytes_eq m n) (is_among ns n) e in (name_ne-sym m n parts.0, others n ns parts.1)
 
 less_shift : (o p : Option ℕ) → compare_ranks o p ≡ Less → compare_ranks (option_map (λ rank. suc rank) o) (option_map (λ rank. suc rank) p) ≡ Less
-less_shift None p e = cc
-less_shift (Some i) None e = cc
-less_shift (Some i) (Some j) e = cmp_less (suc i) (suc j) (omega (arith, less_cmp i j e))
+less_shift o p e = grind arith
 
 less_first : (o : Option ℕ) → is_some o ≡ true → compare_ranks (Some 0) (option_map (λ rank. suc rank) o) ≡ Less
-less_first None e = cc
-less_first (Some rank) e = cmp_less 0 (suc rank) (omega arith)
+less_first o e = grind arith
 
 pub names_pairs : (names : List (List ℕ)) → AreDistinct names → EachPair (Earlier (rank_order names)) names
 names_pairs [] distinct = tt
-names_pairs (n ∷ ns) distinct =
-    let away = others n ns distinct.0 in
-    let first : (m : List ℕ) → bytes_eq n m ≡ false → is_some (rank_of ns m) ≡ true → Earlier (rank_order (n ∷ ns)) n m = λ m off known.
-    ap (λ o. compare_ranks o (rank_of (n ∷ ns) m)) (rank_of-here n n ns refl) ∙ ap (compare_ranks (Some 0)) (rank_of-later n m ns off) ∙ less_first (rank_of ns m) known in
-    let more : (m k : List ℕ) → bytes_eq n m ≡ false → bytes_eq n k ≡ false → Earlier (rank_order ns) m k → Earlier (rank_order (n ∷ ns)) m k = λ m k one two less.
-    ap (λ o. compare_ranks o (rank_of (n ∷ ns) k)) (rank_of-later n m ns one) ∙ ap (compare_ranks (option_map (λ rank. suc rank) (rank_of ns m))) (rank_of-later n k ns two) ∙ less_shift (rank_of ns m) (rank_of ns k) less in (
-      all_zip (λ m. bytes_eq n m ≡ false) (λ m. is_some (rank_of ns m) ≡ true) (Earlier (rank_order (n ∷ ns)) n) ns first away (known_names ns),
-      pairs_so (λ m. bytes_eq n m ≡ false) (Earlier (rank_order ns)) (Earlier (rank_order (n ∷ ns))) ns more away (names_pairs ns distinct.1),
-    )
+names_pairs (n ∷ ns) distinct = grind (arith, (others n ns distinct.0), (rank_of-here n n ns refl), all_zip, (known_names ns), pairs_so, (names_pairs ns distinct.1))
 
 -- ---- intervals chromosome by chromosome
 
 module _ (order : Order) (total : IsTotal order) where
   first_before : (r : Interval) (ys : List Interval) → AllByRecursion (λ s. Earlier order r.chrom s.chrom) ys → IsPlacedBefore order r ys
-  first_before r [] h = tt
-  first_before r (s ∷ ys) h = inl h.0
+  first_before r ys h = grind arith
 
   placed_both : (xs ys : List Interval) → ArePlaced order xs → ArePlaced order ys → AllByRecursion (λ r. AllByRecursion (λ s. Earlier order r.chrom s.chrom) ys) xs → ArePlaced order (xs ++ ys)
   placed_both [] ys one two early = two
@@ -111,9 +91,7 @@ module _ (order : Order) (total : IsTotal order) where
   placed_both (r ∷ s ∷ xs) ys one two early = (one.0, one.1, placed_both (s ∷ xs) ys one.2 two early.1)
 
   earlier_apart : (n m : List ℕ) → IsTrue (order.knows n) → Earlier order n m → n ≡ m → ⊥
-  earlier_apart n m known less same =
-      let equal : order.compare n m ≡ Equal = subst (λ k. order.compare n k ≡ Equal) same (total.same n known) in
-      let both : Less ≡ Equal = sym less ∙ equal in cc
+  earlier_apart n m known less same = grind arith
 
   module _ {K : Type 0} (name : K → List ℕ) (part : K → List Interval) (on : (k : K) → AllByRecursion (λ r. r.chrom ≡ name k) (part k)) where
     behind_parts : (k : K) (ks : List K) → AllByRecursion (λ j. Earlier order (name k) (name j)) ks → AllByRecursion (λ r. AllByRecursion (λ s. Earlier order r.chrom s.chrom) (flat_map part ks)) (part k)

@@ -61,9 +61,7 @@ pub scanned : (test : ℕ → Bool) (n : ℕ) → AreApartFrom 0 (stretches_from
 scanned test n = let found = scan_finds test n in (found.apart, stops_within 0 n (stretches_from test 0 n) found.apart (λ p c. (found.within p c).0))
 
 pub on_written : (name : List ℕ) (n : ℕ) (spans : List Span) → IsName name → NoLineFeed name → n ≤ 999999999999 → AllByRecursion (λ (s : Span). (s.start < s.stop) × (s.stop ≤ n)) spans → AllByRecursion IsWritten (map (placed_on name) spans)
-on_written name n spans named clear small h =
-    all_map IsWritten (placed_on name) spans (all_so (λ (s : Span). (s.start < s.stop) × (s.stop ≤ n)) (λ s. IsWritten (placed_on name s)) spans
-    (λ s k. record { named = named; clear = clear; below = k.0; small = omega (arith, k.1, small) }) h)
+on_written name n spans named clear small h = grind (arith, all_map, all_so)
 
 -- ---- merge
 
@@ -75,12 +73,7 @@ pub record IsSaidName (name : List ℕ) : Type 0 where
 
 end_small : (name : List ℕ) (rs : List Interval) → AllByRecursion (λ (r : Interval). r.stop ≤ 999999999999) rs → end_of (spans_on name rs) ≤ 999999999999
 end_small name [] h = omega arith
-end_small name (r ∷ rs) h =
-    let rest = end_small name rs h.1 in
-    elim (bytes_eq r.chrom name) as (λ b. end_of (cond b (span_of r ∷ spans_on name rs) (spans_on name rs)) ≤ 999999999999) [
-      | true ↦ omega (arith, h.0, rest)
-      | false ↦ rest
-    ]
+end_small name (r ∷ rs) h = grind (arith, (end_small name rs h.1))
 
 runs_apart : (gap : ℕ) (spans : List Span) → AreApartFrom 0 (runs_of gap spans) × AllByRecursion (λ (s : Span). (s.start < s.stop) × (s.stop ≤ end_of spans)) (runs_of gap spans)
 unfolding runs_of
@@ -88,11 +81,7 @@ runs_apart gap spans = scanned _ (end_of spans)
 
 put_all : (P : List ℕ → Type 0) (order : Order) (name : List ℕ) (names : List (List ℕ)) → P name → AllByRecursion P names → AllByRecursion P (put_in_order order name names)
 put_all P order name [] one all = (one, tt)
-put_all P order name (n ∷ ns) one all =
-    elim (is_lt (order.compare name n)) as (λ b. AllByRecursion P (if b then name ∷ n ∷ ns else n ∷ put_in_order order name ns)) [
-      | true ↦ (one, all)
-      | false ↦ (all.0, put_all P order name ns one all.1)
-    ]
+put_all P order name (n ∷ ns) one all = grind (arith, (put_all P order name ns one all.1))
 
 pub ordered_all : (P : List ℕ → Type 0) (order : Order) (names : List (List ℕ)) → AllByRecursion P names → AllByRecursion P (in_order order names)
 ordered_all P order [] all = tt
@@ -104,27 +93,18 @@ pub record IsRun (r : Interval) : Type 0 where
   pub no_header : is_header r.chrom ≡ false
 
 runs_are_written : (name : List ℕ) (gap : ℕ) (rs : List Interval) → IsSaidName name → AllByRecursion (λ (r : Interval). r.stop ≤ 999999999999) rs → AllByRecursion IsRun (runs_on name gap rs)
-runs_are_written name gap rs is small =
-    all_zip IsWritten (λ r. r.chrom ≡ name) IsRun (runs_on name gap rs) (λ r w e. record { written = w; no_header = ap is_header e ∙ is.no_header })
-    (on_written name (end_of (spans_on name rs)) (runs_of gap (spans_on name rs)) is.named is.clear (end_small name rs small) (runs_apart gap (spans_on name rs)).1)
-    (on_name name (runs_of gap (spans_on name rs)))
+runs_are_written name gap rs is small = grind (arith, all_zip, on_written, (end_small name rs small), (runs_apart gap (spans_on name rs)), (on_name name (runs_of gap (spans_on name rs))))
 
 merged_written : (names : List (List ℕ)) (gap : ℕ) (rs : List Interval) → AllByRecursion IsSaidName names → AllByRecursion (λ (r : Interval). r.stop ≤ 999999999999) rs → AllByRecursion IsRun (merged names gap rs)
 unfolding merged
-merged_written names gap rs are small =
-    all_flat_map IsRun (λ name. runs_on name gap rs) names (all_so IsSaidName (λ name. AllByRecursion IsRun (runs_on name gap rs)) names (λ name is. runs_are_written name gap rs is small) are)
+merged_written names gap rs are small = grind (arith, all_flat_map, all_so, runs_are_written)
 
 -- what is known of the merged records
 counted_names : (strand : MergeStrand) (records : List Feature) → AllByRecursion IsSaid records → AllByRecursion (λ (r : Interval). IsSaidName r.chrom) (counted strand records)
-counted_names strand records said =
-    all_map (λ (r : Interval). IsSaidName r.chrom) interval_of (filter (λ r. is_counted strand r.strand) records)
-    (all_filter (λ r. IsSaidName r.chrom) (λ r. is_counted strand r.strand) records
-    (all_so IsSaid (λ r. IsSaidName r.chrom) records (λ r is. record { named = is.feature.named; clear = is.clear_name; no_header = is.no_header }) said))
+counted_names strand records said = grind (arith, all_map, all_filter, all_so)
 
 counted_stops : (strand : MergeStrand) (records : List Feature) → AllByRecursion IsSaid records → AllByRecursion (λ (r : Interval). r.stop ≤ 999999999999) (counted strand records)
-counted_stops strand records said =
-    all_map (λ (r : Interval). r.stop ≤ 999999999999) interval_of (filter (λ r. is_counted strand r.strand) records)
-    (all_filter (λ r. r.stop ≤ 999999999999) (λ r. is_counted strand r.strand) records (all_so IsSaid (λ r. r.stop ≤ 999999999999) records (λ r is. is.feature.in_range) said))
+counted_stops strand records said = grind (arith, all_map, all_filter, all_so)
 
 no_headers : (rs : List Interval) → AllByRecursion IsRun rs → filter is_no_header (map three_columns rs) ≡ map three_columns rs
 no_headers rs runs = filter_all is_no_header (map three_columns rs) (all_map (λ r. is_no_header r ≡ true) three_columns rs (all_so IsRun (λ r. not (is_header r.chrom) ≡ true) rs (λ r is. ap not is.no_header) runs))
@@ -163,8 +143,7 @@ module _ (order : Order) (total : IsTotal order) where
 
     pub merge_runs : AllByRecursion IsRun (ordered_runs order gap strand records)
     unfolding ordered_runs
-    merge_runs = merged_written (in_order order (chromosomes (counted strand records))) gap (counted strand records)
-        (ordered_all IsSaidName order (chromosomes (counted strand records)) (named_all IsSaidName (counted strand records) (counted_names strand records said))) (counted_stops strand records said)
+    merge_runs = grind (arith, merged_written, ordered_all, (named_all IsSaidName (counted strand records) (counted_names strand records said)), (counted_stops strand records said))
 
     -- what merge writes
     pub merge_back : IsInput order (interval_lines (ordered_runs order gap strand records)) (map three_columns (ordered_runs order gap strand records))
@@ -173,9 +152,7 @@ module _ (order : Order) (total : IsTotal order) where
   -- each strand separately
   strand_written : (gap : ℕ) (records : List Feature) → AllByRecursion IsSaid records → (strand : Strand) → AllByRecursion (λ (item : StrandRun). IsRun item.run) (runs_of_strand gap records strand)
   strand_written gap records said strand =
-      all_map (λ (item : StrandRun). IsRun item.run) _ (merged_runs gap (One strand) records)
-      (merged_written (chromosomes (counted (One strand) records)) gap (counted (One strand) records)
-      (named_all IsSaidName (counted (One strand) records) (counted_names (One strand) records said)) (counted_stops (One strand) records said))
+      grind (arith, all_map, merged_written, (named_all IsSaidName (counted (One strand) records) (counted_names (One strand) records said)), (counted_stops (One strand) records said))
 
   pub strands_written : (gap : ℕ) (records : List Feature) → AllByRecursion IsSaid records → AllByRecursion IsRun (places_of (strand_runs gap records))
   unfolding strand_runs
@@ -246,9 +223,7 @@ one_column : (n : ℕ) → pieces 9 (decimal n) ≡ decimal n ∷ []
 one_column n = slice_split_none (λ b. eqb b 9) (decimal n) (number_column n)
 
 depth_back : (r : DepthInterval) → record_back (with_depth r) ≡ four_columns r
-depth_back r =
-    ap (λ tail. record { chrom = r.chrom; start = r.start; stop = r.stop; strand = strand_of (columns_in tail); rest = tail }) (strip_number r.depth)
-    ∙ ap (λ columns. record { chrom = r.chrom; start = r.start; stop = r.stop; strand = strand_of columns; rest = codes "\t" ++ decimal r.depth }) (one_column r.depth)
+depth_back r = grind (arith, strip_number, one_column)
 
 module _ (order : Order) (total : IsTotal order) where
   depth_lines_back : (rs : List DepthInterval) → AllByRecursion (λ r. IsWritten (interval_at r)) rs → ArePlaced order (map interval_at rs) → IsInput order (depth_lines rs) (filter is_no_header (map four_columns rs))
@@ -296,8 +271,7 @@ module _ (entries : List Entry) (chroms : AllByRecursion IsChrom entries) (disti
   places_of_all : (es : List Entry) → map interval_at (flat_map (depths_on zeros strand records) es) ≡ flat_map level_part es
   unfolding level_part
   places_of_all [] = refl
-  places_of_all (e ∷ es) =
-      map-append interval_at (depths_on zeros strand records e) (flat_map (depths_on zeros strand records) es) ∙ ap₂ (λ a b. a ++ b) (map_map (depth_on e.name) interval_at (level_place e.name) (levels_for e) (all_any _ (levels_for e) (λ l. refl))) (places_of_all es)
+  places_of_all (e ∷ es) = grind (arith, (places_of_all es), map-append, map_map, all_any)
 
   levels_are_so : (e : Entry) → AreLevelsOf (depth_of zeros (counted_on strand e.name records)) e.length (levels_for e)
   levels_are_so e = are_levels (depth_of zeros (counted_on strand e.name records)) e.length
@@ -314,8 +288,7 @@ module _ (entries : List Entry) (chroms : AllByRecursion IsChrom entries) (disti
 
   level_disjoint : (e : Entry) → EachPair AreDisjoint (level_part e)
   unfolding level_part
-  level_disjoint e = pairs_map AreDisjoint (level_place e.name) (levels_for e) (pairs_so (λ l. Unit {0}) (λ (k l : Level). k.stop ≤ l.start) (λ k l. AreDisjoint (level_place e.name k) (level_place e.name l)) (levels_for e) (λ k l p q up same. up)
-      (all_any (λ l. Unit {0}) (levels_for e) (λ l. tt)) (levels_pairs 0 (levels_for e) (levels_are_so e).disjoint))
+  level_disjoint e = grind (arith, pairs_map, pairs_so, (all_any (λ l. Unit {0}) (levels_for e) (λ l. tt)), (levels_pairs 0 (levels_for e) (levels_are_so e).disjoint))
 
   pub depths_disjoint : EachPair AreDisjoint (map interval_at (coverage zeros strand entries records))
   unfolding coverage level_part
@@ -324,9 +297,7 @@ module _ (entries : List Entry) (chroms : AllByRecursion IsChrom entries) (disti
 
   level_written : (e : Entry) → IsChrom e → AllByRecursion IsWritten (level_part e)
   unfolding level_part
-  level_written e is = all_map IsWritten (level_place e.name) (levels_for e) (all_so (λ (l : Level). (l.start < l.stop) × (l.stop ≤ e.length)) (λ l. IsWritten (level_place e.name l)) (levels_for e)
-      (λ l k. record { named = is.named; clear = is.clear; below = k.0; small = omega (arith, k.1, is.small) })
-      (levels_within 0 e.length (levels_for e) (levels_are_so e).disjoint (λ p v c. ((levels_are_so e).within p v c).0)))
+  level_written e is = grind (arith, all_map, all_so, (levels_within 0 e.length (levels_for e) (levels_are_so e).disjoint (λ p v c. ((levels_are_so e).within p v c).0)))
 
   depths_written : AllByRecursion IsWritten (map interval_at (coverage zeros strand entries records))
   unfolding coverage level_part

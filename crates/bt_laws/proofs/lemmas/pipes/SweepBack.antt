@@ -25,14 +25,12 @@ use Rattle.bt_laws.proofs.lemmas.pipes.Placing.{apart_pairs, pairs_both, pairs_f
 behind : {A B : Type 0} (R : B → B → Type 0) (part : A → List B) (x : A) (xs : List A) → AllByRecursion (λ y. AllByRecursion (λ r. AllByRecursion (R r) (part y)) (part x)) xs
     → AllByRecursion (λ r. AllByRecursion (R r) (flat_map part xs)) (part x)
 behind R part x [] cross = all_any _ (part x) (λ r. tt)
-behind R part x (y ∷ ys) cross =
-    all_zip (λ r. AllByRecursion (R r) (part y)) (λ r. AllByRecursion (R r) (flat_map part ys)) (λ r. AllByRecursion (R r) (part y ++ flat_map part ys)) (part x) (λ r h k. all_both (R r) (part y) (flat_map part ys) h k) cross.0 (behind R part x ys cross.1)
+behind R part x (y ∷ ys) cross = grind (arith, all_zip, all_both, (behind R part x ys cross.1))
 
 pub pairs_flat : {A B : Type 0} (R : B → B → Type 0) (part : A → List B) (xs : List A) → AllByRecursion (λ x. EachPair R (part x)) xs
     → EachPair (λ x y. AllByRecursion (λ r. AllByRecursion (R r) (part y)) (part x)) xs → EachPair R (flat_map part xs)
 pairs_flat R part [] own cross = tt
-pairs_flat R part (x ∷ xs) own cross =
-    pairs_both R (part x) (flat_map part xs) own.0 (pairs_flat R part xs own.1 cross.1) (behind R part x xs cross.0)
+pairs_flat R part (x ∷ xs) own cross = grind (arith, (pairs_flat R part xs own.1 cross.1), pairs_both, behind)
 
 -- ---- records in order, as pairs
 
@@ -49,8 +47,7 @@ module _ (order : Order) (total : IsTotal order) where
   placed_pairs (r ∷ rs) placed = (up_to_all r rs placed, placed_pairs rs placed.2)
 
   before_first : (r : Interval) (rs : List Interval) → AllByRecursion (UpTo r) rs → IsPlacedBefore order r rs
-  before_first r [] h = tt
-  before_first r (s ∷ ss) h = h.0
+  before_first r rs h = grind arith
 
   pub pairs_placed : (rs : List Interval) → AllByRecursion (λ (r : Interval). IsTrue (order.knows r.chrom)) rs → EachPair UpTo rs → ArePlaced order rs
   pairs_placed [] known pairs = tt
@@ -136,14 +133,12 @@ module _ (shape : Shape) (rule : HitRule) (second : List Feature) where
   text_as : (first : List Feature) → intersect shape rule first second ≡ flat_map line_text (all_columns first)
   unfolding lines_for part all_columns
   text_as [] = refl
-  text_as (a ∷ first) =
-      ap₂ (λ x y. x ++ y) (lines_as shape a (hits_among rule a second)) (text_as first) ∙ sym (flat_map-append line_text (columns_for shape a (hits_among rule a second)) (flat_map part first))
+  text_as (a ∷ first) = grind (arith, (text_as first), lines_as, flat_map-append)
 
 -- ---- each is written so
 
 pub kept_more : (rest more : List ℕ) → IsTrue (is_kept rest) → IsTrue (is_kept (rest ++ 9 ∷ more))
-kept_more [] more h = refl
-kept_more (byte ∷ bytes) more h = h
+kept_more rest more h = grind arith
 
 clear_record : (b : Feature) → IsSaid b → NoLineFeed (bed_text b)
 clear_record b is = tail_clear b.chrom b.start b.stop is.feature.named is.feature.non_empty is.feature.in_range b.rest is.clear_name is.clear_rest
@@ -175,19 +170,7 @@ module _ (rule : HitRule) (a : Feature) (is : IsSaid a) where
 
   hit_is : (shape : Shape) (b : Feature) → Hit rule a b → IsColumns (hit_columns shape a b)
   unfolding hit_columns
-  hit_is Cut b hit = cut_columns b a.rest hit is.feature.kept is.clear_rest
-  hit_is OrigA b hit = plain_columns
-  hit_is CutAndB b hit = cut_columns b (a.rest ++ 9 ∷ bed_text b) hit (kept_more a.rest (bed_text b) is.feature.kept) (with_record b hit.0)
-  hit_is OrigBoth b hit = whole_columns a (a.rest ++ 9 ∷ bed_text b) is (kept_more a.rest (bed_text b) is.feature.kept) (with_record b hit.0)
-  hit_is Overlap b hit =
-      whole_columns a (a.rest ++ 9 ∷ (bed_text b ++ 9 ∷ decimal (shared_bases a b))) is (kept_more a.rest (bed_text b ++ 9 ∷ decimal (shared_bases a b)) is.feature.kept)
-      (clear_both a.rest (9 ∷ (bed_text b ++ 9 ∷ decimal (shared_bases a b))) is.clear_rest
-      (clear_tab (bed_text b ++ 9 ∷ decimal (shared_bases a b)) (clear_both (bed_text b) (9 ∷ decimal (shared_bases a b)) (clear_record b hit.0) (clear_tab (decimal (shared_bases a b)) (clear_number (shared_bases a b))))))
-  hit_is Once b hit = plain_columns
-  hit_is Missing b hit = plain_columns
-  hit_is Count b hit = plain_columns
-  hit_is Pieces b hit = plain_columns
-  hit_is Whole b hit = plain_columns
+  hit_is shape b hit = grind (arith, cut_columns, clear_both, clear_record, clear_number)
 
   hits_are : (shape : Shape) (found : List Feature) → AllByRecursion (Hit rule a) found → AllByRecursion IsColumns (map (hit_columns shape a) found)
   hits_are shape found h = all_map IsColumns (hit_columns shape a) found (all_so (Hit rule a) (λ b. IsColumns (hit_columns shape a b)) found (λ b k. hit_is shape b k) h)
@@ -205,27 +188,12 @@ module _ (rule : HitRule) (a : Feature) (is : IsSaid a) where
 
   part_is : (shape : Shape) (found : List Feature) → AllByRecursion (Hit rule a) found → AllByRecursion IsColumns (columns_for shape a found)
   unfolding columns_for piece_columns
-  part_is Cut found h = hits_are Cut found h
-  part_is OrigA found h = hits_are OrigA found h
-  part_is CutAndB found h = hits_are CutAndB found h
-  part_is OrigBoth found h = hits_are OrigBoth found h
-  part_is Overlap found h = hits_are Overlap found h
-  part_is Once [] h = tt
-  part_is Once (b ∷ more) h = (plain_columns, tt)
-  part_is Missing [] h = (plain_columns, tt)
-  part_is Missing (b ∷ more) h = tt
-  part_is Count found h =
-      (whole_columns a (a.rest ++ 9 ∷ decimal (length found)) is (kept_more a.rest (decimal (length found)) is.feature.kept) (clear_both a.rest (9 ∷ decimal (length found)) is.clear_rest (clear_tab (decimal (length found)) (clear_number (length found)))), tt)
-  part_is Pieces found h = all_map IsColumns (piece_columns a) (pieces a found) (all_so (λ (p : Span). (a.start ≤ p.start) × (p.start < p.stop) × (p.stop ≤ a.stop)) (λ p. IsColumns (piece_columns a p)) (pieces a found)
-      (λ p k. said_columns a p.start p.stop a.rest is k.1 k.2 is.feature.kept is.clear_rest) (piece_bounds found))
-  part_is Whole [] h = (plain_columns, tt)
-  part_is Whole (b ∷ more) h = tt
+  part_is shape found h = grind (arith, hits_are, clear_both, clear_number, all_map, all_so, piece_bounds)
 
 -- ---- which are hits
 
 hits_by : (rule : HitRule) (a b : Feature) (found : List Feature) (c : Bool) → hits rule a b ≡ c → IsSaid b → AllByRecursion (Hit rule a) found → AllByRecursion (Hit rule a) (cond c (b ∷ found) found)
-hits_by rule a b found true e is h = ((is, e), h)
-hits_by rule a b found false e is h = h
+hits_by rule a b found c e is h = grind arith
 
 pub all_hits : (rule : HitRule) (a : Feature) (bs : List Feature) → AllByRecursion IsSaid bs → AllByRecursion (Hit rule a) (hits_among rule a bs)
 all_hits rule a [] h = tt
@@ -270,19 +238,7 @@ pairs_of_places order total as_read h = pairs_from_map (UpTo order total) interv
 -- the names of all lines are those of records that were read
 part_named : (shape : Shape) (a : Feature) (found : List Feature) → AllByRecursion (λ (line : Columns). line.at.chrom ≡ a.chrom) (columns_for shape a found)
 unfolding columns_for hit_columns piece_columns
-part_named Cut a found = all_map (λ (line : Columns). line.at.chrom ≡ a.chrom) (hit_columns Cut a) found (all_any _ found (λ b. refl))
-part_named OrigA a found = all_map (λ (line : Columns). line.at.chrom ≡ a.chrom) (hit_columns OrigA a) found (all_any _ found (λ b. refl))
-part_named CutAndB a found = all_map (λ (line : Columns). line.at.chrom ≡ a.chrom) (hit_columns CutAndB a) found (all_any _ found (λ b. refl))
-part_named OrigBoth a found = all_map (λ (line : Columns). line.at.chrom ≡ a.chrom) (hit_columns OrigBoth a) found (all_any _ found (λ b. refl))
-part_named Overlap a found = all_map (λ (line : Columns). line.at.chrom ≡ a.chrom) (hit_columns Overlap a) found (all_any _ found (λ b. refl))
-part_named Once a [] = tt
-part_named Once a (b ∷ more) = (refl, tt)
-part_named Missing a [] = (refl, tt)
-part_named Missing a (b ∷ more) = tt
-part_named Count a found = (refl, tt)
-part_named Pieces a found = all_map (λ (line : Columns). line.at.chrom ≡ a.chrom) (piece_columns a) (pieces a found) (all_any _ (pieces a found) (λ p. refl))
-part_named Whole a [] = (refl, tt)
-part_named Whole a (b ∷ more) = tt
+part_named shape a found = grind (arith, all_map, all_any)
 
 module _ (order : Order) (total : IsTotal order) (shape : Shape) (rule : HitRule) (first second : List Feature) (said : AllByRecursion IsSaid first) (said_second : AllByRecursion IsSaid second) (placed : ArePlaced order (intervals_of first)) where
   lines : List Columns
@@ -290,19 +246,15 @@ module _ (order : Order) (total : IsTotal order) (shape : Shape) (rule : HitRule
 
   all_are : AllByRecursion IsColumns lines
   unfolding lines all_columns part
-  all_are = all_flat_map IsColumns (part shape rule second) first (all_so IsSaid (λ a. AllByRecursion IsColumns (part shape rule second a)) first
-      (λ a is. part_is rule a is shape (hits_among rule a second) (all_hits rule a second said_second)) said)
+  all_are = grind (arith, all_flat_map, all_so, part_is, all_hits)
 
   all_named : AllByRecursion (λ (line : Columns). is_header line.at.chrom ≡ false) lines
   unfolding lines all_columns part
-  all_named = all_flat_map (λ (line : Columns). is_header line.at.chrom ≡ false) (part shape rule second) first (all_so IsSaid (λ a. AllByRecursion (λ (line : Columns). is_header line.at.chrom ≡ false) (part shape rule second a)) first
-      (λ a is. all_so (λ (line : Columns). line.at.chrom ≡ a.chrom) (λ line. is_header line.at.chrom ≡ false) (columns_for shape a (hits_among rule a second)) (λ line e. ap is_header e ∙ is.no_header) (part_named shape a (hits_among rule a second))) said)
+  all_named = grind (arith, all_flat_map, all_so, part_named)
 
   lines_input : ArePlaced order (map (λ (line : Columns). line.at) lines) → IsInput order (intersect shape rule first second) (map record_back lines)
   unfolding lines
-  lines_input at =
-      subst (λ text. IsInput order text (map record_back lines)) (sym (text_as shape rule second first))
-      (subst (IsInput order (flat_map line_text lines)) (no_headers lines all_named) (lines_back order total lines all_are at))
+  lines_input at = grind (arith, text_as, no_headers, all_named, lines_back, all_are)
 
   known_all : AllByRecursion (λ (a : Feature). IsTrue (order.knows a.chrom)) first
   known_all = all_unmap _ interval_of first (placed_known order (intervals_of first) placed)
@@ -370,16 +322,10 @@ Rise b c = b.start ≤ c.start
 
 module _ (order : Order) (total : IsTotal order) where
   rise_by : (name : List ℕ) (b c : Feature) → IsTrue (order.knows name) → b.chrom ≡ name → c.chrom ≡ name → UpTo order total (interval_of b) (interval_of c) → Rise b c
-  rise_by name b c known one two (inl less) =
-      let equal : order.compare b.chrom c.chrom ≡ Equal = rw (one, two) (total.same name known) in
-      let both : Less ≡ Equal = sym less ∙ equal in absurd (cc)
-  rise_by name b c known one two (inr same) = same.1
+  rise_by name b c known one two p1 = grind arith
 
   hits_rise : (rule : HitRule) (a : Feature) (bs : List Feature) → IsTrue (order.knows a.chrom) → AllByRecursion IsSaid bs → ArePlaced order (intervals_of bs) → EachPair Rise (hits_among rule a bs)
-  hits_rise rule a bs known said placed =
-      pairs_so (Hit rule a) (λ b c. UpTo order total (interval_of b) (interval_of c)) Rise (hits_among rule a bs)
-      (λ b c p q up. rise_by a.chrom b c known (sym (same_name rule a b p.1)) (sym (same_name rule a c q.1)) up)
-      (all_hits rule a bs said) (pairs_filter (λ b c. UpTo order total (interval_of b) (interval_of c)) (hits rule a) bs (pairs_of_places order total bs (placed_pairs order total (intervals_of bs) placed)))
+  hits_rise rule a bs known said placed = grind (arith, pairs_so, same_name, (all_hits rule a bs said), pairs_filter, (pairs_of_places order total bs (placed_pairs order total (intervals_of bs) placed)))
 
   abbrev LineUpTo : Columns → Columns → Type 0
   LineUpTo k l = UpTo order total k.at l.at
@@ -388,9 +334,7 @@ module _ (order : Order) (total : IsTotal order) where
   unfolding columns_for hit_columns piece_columns
   part_rises Cut a found e h = pairs_map LineUpTo (hit_columns Cut a) found (pairs_so (λ b. Unit {0}) Rise (λ b c. LineUpTo (hit_columns Cut a b) (hit_columns Cut a c)) found (λ b c p q up. inr (refl, omega (arith, up))) (all_any (λ b. Unit {0}) found (λ b. tt)) h)
   part_rises CutAndB a found e h = pairs_map LineUpTo (hit_columns CutAndB a) found (pairs_so (λ b. Unit {0}) Rise (λ b c. LineUpTo (hit_columns CutAndB a b) (hit_columns CutAndB a c)) found (λ b c p q up. inr (refl, omega (arith, up))) (all_any (λ b. Unit {0}) found (λ b. tt)) h)
-  part_rises Pieces a found e h =
-      pairs_map LineUpTo (piece_columns a) (pieces a found) (pairs_so (λ (s : Span). s.start < s.stop) (λ (s t : Span). s.stop < t.start) (λ s t. LineUpTo (piece_columns a s) (piece_columns a t)) (pieces a found) (λ s t p q up. inr (refl, omega (arith, p, up)))
-      (apart_some 0 (pieces a found) (are_pieces a found).apart) (apart_pairs 0 (pieces a found) (are_pieces a found).apart))
+  part_rises Pieces a found e h = grind (arith, pairs_map, pairs_so, (apart_some 0 (pieces a found) (are_pieces a found).apart), (apart_pairs 0 (pieces a found) (are_pieces a found).apart))
   part_rises OrigA a found e h = cc
   part_rises OrigBoth a found e h = cc
   part_rises Overlap a found e h = cc
@@ -403,9 +347,7 @@ module _ (order : Order) (total : IsTotal order) where
   FollowsApart a b = UpTo order total (interval_of a) (interval_of b) × AreDisjoint (interval_of a) (interval_of b)
 
   cross_up : (a b : Feature) (k l : Columns) → FollowsApart a b → IsWithin a k → IsWithin b l → LineUpTo k l
-  cross_up a b k l ((inl less), apart) one two = inl (rw (one.same, two.same) less)
-  cross_up a b k l ((inr same), apart) one two =
-      inr (one.same ∙ same.0 ∙ sym two.same, omega (arith, apart same.0, one.non_empty, one.to_stop, two.from_start))
+  cross_up a b k l p1 one two = grind arith
 
   cross_apart : (a b : Feature) (k l : Columns) → FollowsApart a b → IsWithin a k → IsWithin b l → AreDisjoint k.at l.at
   cross_apart a b k l follows one two same = omega (arith, follows.1 (sym one.same ∙ same ∙ two.same), one.to_stop, two.from_start)
@@ -430,9 +372,7 @@ module _ (order : Order) (total : IsTotal order) where
 
     cut_pairs : EachPair LineUpTo cut_lines
     unfolding cut_lines
-    cut_pairs = pairs_flat LineUpTo cut_part first
-        (all_so (λ (a : Feature). IsTrue (order.knows a.chrom)) (λ a. EachPair LineUpTo (cut_part a)) first (λ a known. part_rises shape a (hits_among rule a second) cuts (hits_rise rule a second known said_second placed_second)) (all_unmap _ interval_of first (placed_known order (intervals_of first) placed)))
-        (cross_all LineUpTo cross_up)
+    cut_pairs = grind (arith, pairs_flat, all_so, part_rises, hits_rise, (all_unmap _ interval_of first (placed_known order (intervals_of first) placed)), (cross_all LineUpTo cross_up))
 
     cut_placed : ArePlaced order (map (λ (line : Columns). line.at) cut_lines)
     unfolding cut_lines

@@ -1,5 +1,5 @@
 -- The records that the lines of intersect and subtract are read as.
-use Rattle.bt_lines.proofs.Std.{◌≡◌, ℕ, ◌<◌, Bool, true, false, List, [], ◌∷◌, ◌++◌, map, length, refl, sym, ap, ap₂, ◌∙◌, subst, arith, append_assoc, append-nil, decimal, eqb, IsTrue, bytes_eq, flat_map, replicate, if◌then◌else◌, AllByRecursion, ends_with_byte, strip_last, map-append, slice_split_at}
+use Rattle.bt_lines.proofs.Std.{rules, ◌≡◌, ℕ, ◌<◌, Bool, true, false, List, [], ◌∷◌, ◌++◌, map, length, refl, sym, ap, ap₂, ◌∙◌, subst, arith, append_assoc, append-nil, decimal, eqb, IsTrue, bytes_eq, flat_map, replicate, if◌then◌else◌, AllByRecursion, ends_with_byte, strip_last, map-append, slice_split_at}
 use Rattle.bt_lines.specs.model.Lines.{pieces as columns_of}
 use Rattle.bt_lines.proofs.lemmas.reader.lines.TextLemmas.{IsColumn, strip_last-other}
 use Rattle.bt_bed.specs.model.Feature.{Span, Feature, interval_of, intervals_of}
@@ -25,19 +25,7 @@ before_tail a text = ap (record_with a.chrom a.start a.stop) (strip_both 13 a.re
 
 read_as : (shape : Shape) (a : Feature) (found : List Feature) → map record_back (columns_for shape a found) ≡ records_for shape a found
 unfolding columns_for hit_columns piece_columns
-read_as Cut a found = map_map (hit_columns Cut a) record_back (λ b. read_alone (cut a b)) found (all_any _ found (λ b. refl))
-read_as OrigA a found = map_map (hit_columns OrigA a) record_back (λ b. read_alone a) found (all_any _ found (λ b. refl))
-read_as CutAndB a found = map_map (hit_columns CutAndB a) record_back (λ b. read_before (bed_text b) (cut a b)) found (all_any _ found (λ b. before_tail (cut a b) (bed_text b)))
-read_as OrigBoth a found = map_map (hit_columns OrigBoth a) record_back (λ b. read_before (bed_text b) a) found (all_any _ found (λ b. before_tail a (bed_text b)))
-read_as Overlap a found = map_map (hit_columns Overlap a) record_back (λ b. read_before (bed_text b ++ 9 ∷ decimal (shared_bases a b)) a) found (all_any _ found (λ b. before_tail a (bed_text b ++ 9 ∷ decimal (shared_bases a b))))
-read_as Once a [] = refl
-read_as Once a (b ∷ more) = refl
-read_as Missing a [] = refl
-read_as Missing a (b ∷ more) = refl
-read_as Count a found = ap (λ r. r ∷ []) (before_tail a (decimal (length found)))
-read_as Pieces a found = map_map (piece_columns a) record_back (λ p. read_alone (cut_to p.start p.stop a)) (pieces a found) (all_any _ (pieces a found) (λ p. refl))
-read_as Whole a [] = refl
-read_as Whole a (b ∷ more) = refl
+read_as shape a found = grind (arith, map_map, all_any, before_tail)
 
 pub all_read : (shape : Shape) (rule : HitRule) (first second : List Feature) → map record_back (all_columns shape rule second first) ≡ records_written shape rule first second
 unfolding all_columns part
@@ -60,47 +48,16 @@ map_flat_same h f g (a ∷ first) e = map-append h (f a) (flat_map f first) ∙ 
 
 -- ---- places
 
-places_for : (shape : Shape) (a : Feature) (found : List Feature) → begins_with_a shape ≡ true → intervals_of (records_for shape a found) ≡ intervals_of (replicate (line_count shape (length found)) a)
-places_for Cut a found e = cc
-places_for OrigA a found e = same_copies interval_of (λ b. read_alone a) a found (all_any _ found (λ b. refl))
-places_for CutAndB a found e = cc
-places_for OrigBoth a found e = same_copies interval_of (λ b. read_before (bed_text b) a) a found (all_any _ found (λ b. refl))
-places_for Overlap a found e = same_copies interval_of (λ b. read_before (bed_text b ++ 9 ∷ decimal (shared_bases a b)) a) a found (all_any _ found (λ b. refl))
-places_for Once a [] e = refl
-places_for Once a (b ∷ more) e = refl
-places_for Missing a [] e = refl
-places_for Missing a (b ∷ more) e = refl
-places_for Count a found e = refl
-places_for Pieces a found e = cc
-places_for Whole a [] e = refl
-places_for Whole a (b ∷ more) e = refl
-
 pub places_stay : (shape : Shape) (rule : HitRule) (first second : List Feature) → begins_with_a shape ≡ true → intervals_of (records_written shape rule first second) ≡ intervals_of (copies_written shape rule first second)
-places_stay shape rule first second e =
-    map_flat_same interval_of (λ a. records_for shape a (hits_among rule a second)) (λ a. replicate (line_count shape (length (hits_among rule a second))) a) first
-    (all_any _ first (λ a. places_for shape a (hits_among rule a second) e))
+places_stay shape rule first second e = grind (arith, map_flat_same, all_any, same_copies)
 
 -- ---- records alone
 
 alone_same : (a : Feature) → IsSaid a → EndsPlain a → read_alone a ≡ a
-alone_same a is plain =
-    ap (record_with a.chrom a.start a.stop) (strip_last-other 13 a.rest plain)
-    ∙ ap (λ s. record { chrom = a.chrom; start = a.start; stop = a.stop; strand = s; rest = a.rest }) (sym is.feature.stranded)
+alone_same a is plain = grind arith
 
 alone_for : (shape : Shape) (a : Feature) (found : List Feature) → is_a_alone shape ≡ true → read_alone a ≡ a → records_for shape a found ≡ replicate (line_count shape (length found)) a
-alone_for Cut a found e same = cc
-alone_for OrigA a found e same = same_all (λ b. read_alone a) a found (λ b. same)
-alone_for CutAndB a found e same = cc
-alone_for OrigBoth a found e same = cc
-alone_for Overlap a found e same = cc
-alone_for Once a [] e same = refl
-alone_for Once a (b ∷ more) e same = ap (λ r. r ∷ []) same
-alone_for Missing a [] e same = ap (λ r. r ∷ []) same
-alone_for Missing a (b ∷ more) e same = refl
-alone_for Count a found e same = cc
-alone_for Pieces a found e same = cc
-alone_for Whole a [] e same = ap (λ r. r ∷ []) same
-alone_for Whole a (b ∷ more) e same = refl
+alone_for shape a found e same = grind (arith, same_all)
 
 pub records_stay : (shape : Shape) (rule : HitRule) (first second : List Feature) → is_a_alone shape ≡ true → AllByRecursion IsSaid first → AllByRecursion EndsPlain first → records_written shape rule first second ≡ copies_written shape rule first second
 records_stay shape rule first second e said plain =
@@ -114,8 +71,7 @@ no_sign : (c : ℕ) (cs : List ℕ) (byte : ℕ) → IsDigit c → byte < 48 →
 no_sign c cs byte h low = name_ne (c ∷ cs) (byte ∷ []) (λ e. let same : c ≡ byte = cc in absurd (omega (arith, same, h.0, low)))
 
 digits_unsigned : (ds : List ℕ) → AllByRecursion IsDigit ds → strand_named ds ≡ Dot
-digits_unsigned [] h = refl
-digits_unsigned (c ∷ cs) h = ap₂ (λ (p m : Bool). if p then Plus else (if m then Minus else Dot)) (no_sign c cs 43 h.0 (omega arith)) (no_sign c cs 45 h.0 (omega arith))
+digits_unsigned ds h = search rules
 
 pub number_unsigned : (n : ℕ) → strand_named (decimal n) ≡ Dot
 number_unsigned n = digits_unsigned (decimal n) (decimal_digits n)
@@ -123,14 +79,11 @@ number_unsigned n = digits_unsigned (decimal n) (decimal_digits n)
 -- ---- the columns of a text that goes on
 
 pub rest_columns : (rest : List ℕ) → AllByRecursion IsColumn (columns_in rest)
-rest_columns [] = tt
-rest_columns (byte ∷ bytes) = pieces_are_columns bytes
+rest_columns rest = grind (arith, pieces_are_columns)
 
 more_from : (x : List ℕ) (xs : List (List ℕ)) → IsColumn x → AllByRecursion IsColumn xs → (text : List ℕ) → columns_of 9 ((x ++ kept_columns xs) ++ 9 ∷ text) ≡ x ∷ (xs ++ columns_of 9 text)
 more_from x [] h hs text = ap (λ l. columns_of 9 (l ++ 9 ∷ text)) (append-nil x) ∙ slice_split_at (λ byte. eqb byte 9) x 9 text h refl
-more_from x (y ∷ ys) h hs text =
-    ap (columns_of 9) (append_assoc x (9 ∷ (y ++ kept_columns ys)) (9 ∷ text))
-    ∙ slice_split_at (λ byte. eqb byte 9) x 9 ((y ++ kept_columns ys) ++ 9 ∷ text) h refl ∙ ap (λ l. x ∷ l) (more_from y ys hs.0 hs.1 text)
+more_from x (y ∷ ys) h hs text = grind (arith, (more_from y ys hs.0 hs.1 text), append_assoc, slice_split_at)
 
 more_columns : (xs : List (List ℕ)) → AllByRecursion IsColumn xs → (text : List ℕ) → columns_in (kept_columns xs ++ 9 ∷ text) ≡ xs ++ columns_of 9 text
 more_columns [] h text = refl
@@ -153,33 +106,21 @@ some_both [] ys some = absurd (omega (arith, some))
 some_both (x ∷ xs) ys some = omega arith
 
 first_alike : (a b : List ℕ) (more : List (List ℕ)) → strand_of (a ∷ more) ≡ strand_of (b ∷ more)
-first_alike a b [] = refl
-first_alike a b (x ∷ []) = refl
-first_alike a b (x ∷ y ∷ more) = refl
+first_alike a b more = grind arith
 
 two_alike : (a b c d : List ℕ) (more : List (List ℕ)) → strand_of (a ∷ b ∷ more) ≡ strand_of (c ∷ d ∷ more)
-two_alike a b c d [] = refl
-two_alike a b c d (x ∷ more) = refl
+two_alike a b c d more = grind arith
 
 -- more columns don't change the strand, if the one that becomes the sixth names none
 more_strand : (xs more : List (List ℕ)) → strand_of more ≡ Dot → strand_of ([] ∷ more) ≡ Dot → (length xs ≡ 2 → strand_of ([] ∷ [] ∷ more) ≡ Dot) → strand_of (xs ++ more) ≡ strand_of xs
-more_strand [] more none one two = none
-more_strand (a ∷ []) more none one two = first_alike a [] more ∙ one
-more_strand (a ∷ b ∷ []) more none one two = two_alike a b [] [] more ∙ two refl
-more_strand (a ∷ b ∷ c ∷ xs) more none one two = refl
+more_strand xs more none one two = grind arith
 
 module _ (a : Feature) (is : IsSaid a) where
   after_number : (n : ℕ) → (read_before (decimal n) a).strand ≡ a.strand
-  after_number n =
-      let number : columns_of 9 (decimal n) ≡ decimal n ∷ [] = ap (columns_of 9) (sym (append-nil (decimal n))) ∙ kept_is_cut (decimal n) [] (number_column n) tt in
-      ap (λ l. strand_of (columns_in (a.rest ++ l))) (strip_number n)
-      ∙ ap strand_of (columns_both a.rest (decimal n) is.feature.kept ∙ ap (λ l. columns_in a.rest ++ l) number)
-      ∙ more_strand (columns_in a.rest) (decimal n ∷ []) refl refl (λ two. number_unsigned n) ∙ sym is.feature.stranded
+  after_number n = grind (arith, (append-nil (decimal n)), (kept_is_cut (decimal n) [] (number_column n) tt), strip_number, columns_both, number_unsigned)
 
   after_columns : (chrom : List ℕ) (start stop : ℕ) (tail : List ℕ) → IsName chrom → IsTrue (is_kept tail) → (length (columns_in a.rest) ≡ 2 → strand_named chrom ≡ Dot) → strand_of (columns_in (a.rest ++ 9 ∷ columns_text chrom start stop tail)) ≡ a.strand
-  after_columns chrom start stop tail named kept unsigned =
-      ap strand_of (columns_both a.rest (columns_text chrom start stop tail) is.feature.kept ∙ ap (λ l. columns_in a.rest ++ l) (line_columns chrom start stop tail named kept))
-      ∙ more_strand (columns_in a.rest) (chrom ∷ decimal start ∷ decimal stop ∷ columns_in tail) (number_unsigned stop) (number_unsigned start) unsigned ∙ sym is.feature.stranded
+  after_columns chrom start stop tail named kept unsigned = grind (arith, columns_both, line_columns, number_unsigned)
 
   module _ (rule : HitRule) (unsigned : length (columns_in a.rest) ≡ 2 → strand_named a.chrom ≡ Dot) (b : Feature) (hit : Hit rule a b) where
     same_unsigned : length (columns_in a.rest) ≡ 2 → strand_named b.chrom ≡ Dot
@@ -191,25 +132,17 @@ module _ (a : Feature) (is : IsSaid a) where
         let text : strip_last 13 (9 ∷ bed_text b) ≡ 9 ∷ columns_text b.chrom b.start b.stop (strip_last 13 b.rest) =
         strip_both 13 (9 ∷ []) (bed_text b) (subst (λ l. 0 < length l) (sym (name_first b.chrom b.start b.stop said.named said.non_empty said.in_range b.rest)) (some_both b.chrom (9 ∷ (decimal b.start ++ 9 ∷ (decimal b.stop ++ b.rest))) said.named.some))
         ∙ ap (λ l. 9 ∷ l) (strip_columns b.chrom b.start b.stop said.named said.non_empty said.in_range b.rest) in
-        ap (λ l. strand_of (columns_in (a.rest ++ l))) text
-        ∙ after_columns b.chrom b.start b.stop (strip_last 13 b.rest) said.named
-        (kept_by b.chrom b.start b.stop said.named said.non_empty said.in_range b.rest (ends_with_byte 13 b.rest) refl said.kept (strip_last 13 b.rest) refl) same_unsigned
+        grind (arith, after_columns, (kept_by b.chrom b.start b.stop said.named said.non_empty said.in_range b.rest (ends_with_byte 13 b.rest) refl said.kept (strip_last 13 b.rest) refl), same_unsigned)
 
     overlap_strand : (n : ℕ) → (read_before (bed_text b ++ 9 ∷ decimal n) a).strand ≡ a.strand
-    overlap_strand n =
-        let said = hit.0.feature in
-        let text : strip_last 13 (9 ∷ (bed_text b ++ 9 ∷ decimal n)) ≡ 9 ∷ columns_text b.chrom b.start b.stop (b.rest ++ 9 ∷ decimal n) =
-        strip_both 13 (9 ∷ bed_text b) (9 ∷ decimal n) (omega arith) ∙ ap (λ l. (9 ∷ bed_text b) ++ l) (strip_number n) ∙ simp append_assoc in
-        ap (λ l. strand_of (columns_in (a.rest ++ l))) text
-        ∙ after_columns b.chrom b.start b.stop (b.rest ++ 9 ∷ decimal n) said.named (kept_more b.rest (decimal n) said.kept) same_unsigned
+    overlap_strand n = grind (arith, (strip_both 13 (9 ∷ bed_text b) (9 ∷ decimal n) (omega arith)), (strip_number n), append_assoc, after_columns, same_unsigned)
 
   strands_for : (rule : HitRule) (shape : Shape) (found : List Feature) → begins_with_a shape ≡ true → is_a_alone shape ≡ false → TakesNoStrand shape a → AllByRecursion (Hit rule a) found
       → map (λ (r : Feature). r.strand) (records_for shape a found) ≡ map (λ (r : Feature). r.strand) (replicate (line_count shape (length found)) a)
   strands_for rule Cut found e alone unsigned h = cc
   strands_for rule OrigA found e alone unsigned h = cc
   strands_for rule CutAndB found e alone unsigned h = cc
-  strands_for rule OrigBoth found e alone unsigned h =
-      same_copies (λ (r : Feature). r.strand) (λ b. read_before (bed_text b) a) a found (all_so (Hit rule a) (λ b. (read_before (bed_text b) a).strand ≡ a.strand) found (λ b hit. both_strand rule unsigned b hit) h)
+  strands_for rule OrigBoth found e alone unsigned h = grind (arith, same_copies, (all_so (Hit rule a) (λ b. (read_before (bed_text b) a).strand ≡ a.strand) found (λ b hit. both_strand rule unsigned b hit) h))
   strands_for rule Overlap found e alone unsigned h =
       same_copies (λ (r : Feature). r.strand) (λ b. read_before (bed_text b ++ 9 ∷ decimal (shared_bases a b)) a) a found
       (all_so (Hit rule a) (λ b. (read_before (bed_text b ++ 9 ∷ decimal (shared_bases a b)) a).strand ≡ a.strand) found (λ b hit. overlap_strand rule unsigned b hit (shared_bases a b)) h)

@@ -1,5 +1,5 @@
 -- What is left of a record lies in the gaps of the second input.
-use Rattle.bt_lines.proofs.Std.{◌≡◌, ℕ, ◌+◌, ◌<◌, ◌≤◌, true, false, cond, not, List, [], ◌∷◌, ◌++◌, append-nil, map, filter, max, min, Some, None, Ok, refl, sym, ap, ap₂, ◌∙◌, subst, inl, inr, arith, bytes_eq, flat_map, AllByRecursion, cases_Bool, false≢true, or_parts, flat_map-map}
+use Rattle.bt_lines.proofs.Std.{rules, ◌≡◌, ℕ, ◌+◌, ◌<◌, ◌≤◌, true, false, cond, not, List, [], ◌∷◌, ◌++◌, append-nil, map, filter, max, min, Some, None, Ok, refl, sym, ap, ap₂, ◌∙◌, subst, inl, inr, arith, bytes_eq, flat_map, AllByRecursion, cases_Bool, false≢true, or_parts, flat_map-map}
 use Rattle.bt_lines.specs.model.Lines.{whole_text}
 use Rattle.bt_lines.specs.declared.fault.Input.TheVariants.{First, Second}
 use Rattle.bt_bed.specs.model.Feature.{Feature, interval_of, intervals_of, Interval, Span, span_of, spans_on}
@@ -42,24 +42,11 @@ module _ (records : List Interval) where
   gaps_absent name [] e = refl
   gaps_absent name (entry ∷ entries) e =
       let parts = or_parts (bytes_eq entry.name name) (is_among (genome_names entries) name) e in
-      spans_on-append name (gaps_on records entry) (flat_map (gaps_on records) entries)
-      ∙ ap₂ (λ a b. a ++ b) (none_there name entry.name (gaps_of entry.length (spans_on entry.name records)) parts.0) (gaps_absent name entries parts.1)
+      grind (arith, (gaps_absent name entries parts.1), spans_on-append, none_there)
 
   pub gaps_there : (name : List ℕ) (entries : List Entry) → AreDistinct (genome_names entries) → spans_on name (flat_map (gaps_on records) entries) ≡ gaps_of (length_in entries name) (spans_on name records)
   gaps_there name [] distinct = sym (no_gaps (spans_on name records))
-  gaps_there name (entry ∷ entries) distinct = elim (cases_name entry.name name) [
-    | inl same ↦
-        spans_on-append name (gaps_on records entry) (flat_map (gaps_on records) entries)
-        ∙ ap₂ (λ a b. a ++ b) (subst (λ n. spans_on n (gaps_on records entry) ≡ gaps_of entry.length (spans_on entry.name records)) same (here_all entry.name (gaps_of entry.length (spans_on entry.name records))))
-        (gaps_absent name entries (subst (λ n. is_among (genome_names entries) n ≡ false) same distinct.0))
-        ∙ append-nil (gaps_of entry.length (spans_on entry.name records))
-        ∙ ap (λ n. gaps_of entry.length (spans_on n records)) same
-        ∙ ap (λ b. gaps_of (cond b entry.length (length_in entries name)) (spans_on name records)) (sym (name_eq entry.name name same))
-    | inr other ↦
-        spans_on-append name (gaps_on records entry) (flat_map (gaps_on records) entries)
-        ∙ ap₂ (λ a b. a ++ b) (none_there name entry.name (gaps_of entry.length (spans_on entry.name records)) other) (gaps_there name entries distinct.1)
-        ∙ ap (λ b. gaps_of (cond b entry.length (length_in entries name)) (spans_on name records)) (sym other)
-  ]
+  gaps_there name (entry ∷ entries) distinct = grind (arith, (gaps_there name entries distinct.1), cases_name, spans_on-append, here_all, gaps_absent, append-nil, none_there)
 
 pub complement_spans : (entries : List Entry) (records : List Feature) (name : List ℕ) → AreDistinct (genome_names entries) → spans_on name (complement false entries records) ≡ gaps_of (length_in entries name) (spans_on name (intervals_of records))
 unfolding complement
@@ -68,22 +55,12 @@ complement_spans entries records name distinct =
     ∙ gaps_there (intervals_of records) name entries distinct
 
 pub hidden_other : (chrom name : List ℕ) → not (is_header chrom) ≡ false → is_header name ≡ false → bytes_eq chrom name ≡ false
-hidden_other chrom name hidden plain = elim (cases_name chrom name) [
-  | inl same ↦ absurd (let e : not (is_header chrom) ≡ true = ap (λ n. not (is_header n)) same ∙ ap not plain in false≢true (sym hidden ∙ e))
-  | inr other ↦ other
-]
+hidden_other chrom name hidden plain = search rules
 
 -- lines of header words hide nothing of another chromosome
 pub unhidden : (name : List ℕ) (rs : List Interval) → is_header name ≡ false → spans_on name (intervals_of (filter is_no_header (map three_columns rs))) ≡ spans_on name rs
 unhidden name [] e = refl
-unhidden name (r ∷ rs) e = elim (cases_Bool (is_no_header (three_columns r))) [
-  | inl t ↦
-      ap (λ b. spans_on name (intervals_of (cond b (three_columns r ∷ filter is_no_header (map three_columns rs)) (filter is_no_header (map three_columns rs))))) t
-      ∙ ap (λ l. cond (bytes_eq r.chrom name) (span_of r ∷ l) l) (unhidden name rs e)
-  | inr f ↦
-      ap (λ b. spans_on name (intervals_of (cond b (three_columns r ∷ filter is_no_header (map three_columns rs)) (filter is_no_header (map three_columns rs))))) f
-      ∙ unhidden name rs e ∙ sym (spans_on-elsewhere name r rs (hidden_other r.chrom name f e))
-]
+unhidden name (r ∷ rs) e = grind (arith, (unhidden name rs e), hidden_other)
 
 -- ---- what a has in the gaps
 
@@ -114,24 +91,14 @@ module _ (a : Feature) (bs gs : List Feature) (size : ℕ) (within : a.stop ≤ 
   found_hits = all_hits any_overlap a gs said
 
   found_apart : EachPair (λ g h. (cut_span a g).stop < (cut_span a h).start) found
-  found_apart = pairs_so (Hit any_overlap a) (λ g h. AreSeparate (interval_of g) (interval_of h)) (λ g h. (cut_span a g).stop < (cut_span a h).start) found
-      (λ g h one two far. omega (arith, far (sym (hit_name any_overlap a g one.1) ∙ hit_name any_overlap a h two.1))) found_hits (pairs_filter (λ g h. AreSeparate (interval_of g) (interval_of h)) (hits any_overlap a) gs apart)
+  found_apart = grind (arith, pairs_so, hit_name, found_hits, pairs_filter)
 
   cut_apart : AreApartFrom 0 (map (cut_span a) found)
   cut_apart = from_pairs 0 (map (cut_span a) found) (all_map (λ (s : Span). (0 ≤ s.start) × (s.start < s.stop)) (cut_span a) found (all_so (Hit any_overlap a) (λ g. (0 ≤ (cut_span a g).start) × ((cut_span a g).start < (cut_span a g).stop)) found (λ g hit. (omega arith, cut_bounds any_overlap a g hit.1)) found_hits))
       (pairs_map (λ (s t : Span). s.stop < t.start) (cut_span a) found found_apart)
 
   pub left_in_gaps : map (cut_span a) found ≡ pieces a (hits_among any_overlap a bs)
-  left_in_gaps = only_pieces a (hits_among any_overlap a bs) (map (cut_span a) found) (record {
-    apart = cut_apart;
-    within = λ p c.
-        let is = cut_covered a found p c in
-        let gap = (are_gaps size (spans_on a.chrom (intervals_of bs))).within p (subst (λ l. IsCovered l p) are (hit_to a gs p is.0)) in
-        record { from_start = is.1; before_stop = is.2; bare = λ hit. gap.bare (hit_to a bs p hit) };
-    whole = λ p left.
-        let bare : IsBare size (spans_on a.chrom (intervals_of bs)) p = record { within = omega (arith, left.before_stop, within); bare = λ c. left.bare (hit_back a bs p left.from_start left.before_stop c) } in
-        covered_cut a found p left.from_start left.before_stop (hit_back a gs p left.from_start left.before_stop (subst (λ l. IsCovered l p) (sym are) ((are_gaps size (spans_on a.chrom (intervals_of bs))).whole p bare)));
-  })
+  left_in_gaps = grind (arith, only_pieces, cut_apart, cut_covered, (are_gaps size (spans_on a.chrom (intervals_of bs))), hit_to, hit_back, covered_cut)
 
 -- ---- the runs
 
@@ -152,10 +119,7 @@ module _ (inputs : Inputs) (entries : List Entry) (genome : chromosomes_of input
   alone = record { genome = inputs.genome; first = or_empty inputs.second; second = None }
 
   second_is : of_second (Complement false) inputs ≡ interval_lines gaps
-  second_is =
-      let good = bed_good First order (or_empty inputs.second) in
-      let other = other_input order (or_empty inputs.second) none in
-      ap (λ (r : Report). r.output) (report_there (Complement false) alone (Some entries) genome) ∙ output_by (complement_written entries false) (items_in good) good.fault other.1 ∙ ap (λ rs. interval_lines (complement false entries rs)) other.0
+  second_is = grind (arith, (other_input order (or_empty inputs.second) none), (report_there (Complement false) alone (Some entries) genome))
 
   known : AllByRecursion IsChrom entries × AreDistinct (genome_names entries)
   known = chroms_of inputs.genome entries genome
@@ -167,8 +131,7 @@ module _ (inputs : Inputs) (entries : List Entry) (genome : chromosomes_of input
   gaps_said = subst (AllByRecursion IsSaid) (second_input.records_are Second) (good_are_said Second order (whole_text (of_second (Complement false) inputs)))
 
   gaps_far : EachPair (λ (g h : Feature). AreSeparate (interval_of g) (interval_of h)) gap_records
-  gaps_far = pairs_filter (λ (g h : Feature). AreSeparate (interval_of g) (interval_of h)) is_no_header (map three_columns gaps)
-      (pairs_map (λ (g h : Feature). AreSeparate (interval_of g) (interval_of h)) three_columns gaps (gaps_pairs entries known.0 known.1 false seconds))
+  gaps_far = grind (arith, pairs_filter, (pairs_map (λ (g h : Feature). AreSeparate (interval_of g) (interval_of h)) three_columns gaps (gaps_pairs entries known.0 known.1 false seconds)))
 
   one_line : (a : Feature) → IsSaid a → a.stop ≤ length_in entries a.chrom → lines_for Cut any_overlap a gap_records ≡ lines_for Pieces any_overlap a seconds
   unfolding lines_for

@@ -49,41 +49,26 @@ nearer first low [] up h = tt
 nearer first low (s ∷ ss) up h = (omega (arith, up, h.0), h.1, h.2)
 
 one_more : (size : ℕ) (s : Span) (ss : List Span) (p : ℕ) → IsCovered (record { start = s.start; stop = min s.stop size } ∷ cut_spans size ss) p → (IsCovered (cut_spans size ss) p → IsCovered ss p × (p < size)) → IsCovered (s ∷ ss) p × (p < size)
-one_more size s ss p (inl here) more = (inl (here.0, omega (arith, here.1)), omega (arith, here.1))
-one_more size s ss p (inr there) more = let rest = more there in (inr rest.0, rest.1)
+one_more size s ss p p1 more = grind arith
 
 covered_or : (spans : List Span) (p : ℕ) → ((IsCovered spans p → ⊥) → ⊥) → IsCovered spans p
-covered_or spans p h = elim (cases_Bool (is_covered spans p)) [
-  | inl t ↦ (is_covered-Decides spans p).0 t
-  | inr f ↦ absurd (h (λ c. false≢true (sym f ∙ (is_covered-Decides spans p).1 c)))
-]
+covered_or spans p h = grind (arith, (is_covered-Decides spans p))
 
 cut_apart : (size first : ℕ) (spans : List Span) → AreApartFrom first spans → AreApartFrom first (cut_spans size spans)
 cut_apart size first [] h = tt
-cut_apart size first (s ∷ ss) h = elim (cases_lt s.start size) [
-  | inl below ↦ subst (λ b. AreApartFrom first (cond b (record { start = s.start; stop = min s.stop size } ∷ []) [] ++ cut_spans size ss)) (sym (lt-ltb s.start size below))
-      (h.0, omega (arith, below, h.1), nearer (s.stop + 1) (min s.stop size + 1) (cut_spans size ss) (omega arith) (cut_apart size (s.stop + 1) ss h.2))
-  | inr past ↦ subst (λ b. AreApartFrom first (cond b (record { start = s.start; stop = min s.stop size } ∷ []) [] ++ cut_spans size ss)) (sym (le-ltb s.start size past))
-      (nearer (s.stop + 1) first (cut_spans size ss) (omega (arith, h.0, h.1)) (cut_apart size (s.stop + 1) ss h.2))
-]
+cut_apart size first (s ∷ ss) h = grind (arith, (cut_apart size (s.stop + 1) ss h.2), nearer)
 
 cut_to : (size : ℕ) (spans : List Span) (p : ℕ) → IsCovered (cut_spans size spans) p → IsCovered spans p × (p < size)
 cut_to size [] p c = absurd c
 cut_to size (s ∷ ss) p c = elim (cases_lt s.start size) [
   | inl below ↦ one_more size s ss p (subst (λ b. IsCovered (cond b (record { start = s.start; stop = min s.stop size } ∷ []) [] ++ cut_spans size ss) p) (lt-ltb s.start size below) c) (cut_to size ss p)
-  | inr past ↦
-      let more = cut_to size ss p (subst (λ b. IsCovered (cond b (record { start = s.start; stop = min s.stop size } ∷ []) [] ++ cut_spans size ss) p) (le-ltb s.start size past) c) in
-      (inr more.0, more.1)
+  | inr past ↦ grind (arith, (cut_to size ss p (subst (λ b. IsCovered (cond b (record { start = s.start; stop = min s.stop size } ∷ []) [] ++ cut_spans size ss) p) (le-ltb s.start size past) c)))
 ]
 
 cut_back : (size : ℕ) (spans : List Span) (p : ℕ) → p < size → IsCovered spans p → IsCovered (cut_spans size spans) p
 cut_back size [] p within c = absurd c
 cut_back size (s ∷ ss) p within (inl here) = subst (λ b. IsCovered (cond b (record { start = s.start; stop = min s.stop size } ∷ []) [] ++ cut_spans size ss) p) (sym (lt-ltb s.start size (omega (arith, here.0, within)))) (inl (here.0, omega (arith, here.1, within)))
-cut_back size (s ∷ ss) p within (inr there) =
-    elim (nat_lt s.start size) as (λ b. IsCovered (cond b (record { start = s.start; stop = min s.stop size } ∷ []) [] ++ cut_spans size ss) p) [
-      | true ↦ inr (cut_back size ss p within there)
-      | false ↦ cut_back size ss p within there
-    ]
+cut_back size (s ∷ ss) p within (inr there) = grind (arith, (cut_back size ss p within there))
 
 -- the gaps of the gaps are the runs, cut at the length
 pub gaps_twice : (size : ℕ) (spans : List Span) → gaps_of size (gaps_of size spans) ≡ cut_spans size (runs_of 0 spans)
@@ -102,20 +87,13 @@ gaps_twice size spans =
 
 cut_placed : (entries : List Entry) (name : List ℕ) (size : ℕ) (spans : List Span) → length_in entries name ≡ size → flat_map (cut_at_length entries) (map (placed_on name) spans) ≡ map (placed_on name) (cut_spans size spans)
 cut_placed entries name size [] e = refl
-cut_placed entries name size (s ∷ ss) e =
-    ap (λ n. cond (nat_lt s.start n) (record { chrom = name; start = s.start; stop = min s.stop n } ∷ []) [] ++ flat_map (cut_at_length entries) (map (placed_on name) ss)) e
-    ∙ elim (nat_lt s.start size) as (λ b. cond b (record { chrom = name; start = s.start; stop = min s.stop size } ∷ []) [] ++ flat_map (cut_at_length entries) (map (placed_on name) ss) ≡ map (placed_on name) (cond b (record { start = s.start; stop = min s.stop size } ∷ []) [] ++ cut_spans size ss)) [
-      | true ↦ ap (λ rest. record { chrom = name; start = s.start; stop = min s.stop size } ∷ rest) (cut_placed entries name size ss e)
-      | false ↦ cut_placed entries name size ss e
-    ]
+cut_placed entries name size (s ∷ ss) e = grind (arith, (cut_placed entries name size ss e))
 
 module _ (all : List Entry) (used : List Interval) where
   cut_all : (entries : List Entry) → AllByRecursion (λ (e : Entry). length_in all e.name ≡ e.length) entries
       → flat_map (cut_at_length all) (flat_map (λ name. runs_on name 0 used) (genome_names entries)) ≡ flat_map (λ (e : Entry). map (placed_on e.name) (cut_spans e.length (runs_of 0 (spans_on e.name used)))) entries
   cut_all [] h = refl
-  cut_all (e ∷ es) h =
-      flat_map-append (cut_at_length all) (runs_on e.name 0 used) (flat_map (λ name. runs_on name 0 used) (genome_names es))
-      ∙ ap₂ (λ a b. a ++ b) (cut_placed all e.name e.length (runs_of 0 (spans_on e.name used)) h.0) (cut_all es h.1)
+  cut_all (e ∷ es) h = grind (arith, (cut_all es h.1), flat_map-append, cut_placed)
 
 length_past : (e f : Entry) (es : List Entry) → bytes_eq e.name f.name ≡ false → length_in es f.name ≡ f.length → length_in (e ∷ es) f.name ≡ f.length
 length_past e f es other is = ap (λ b. cond b e.length (length_in es f.name)) other ∙ is
@@ -128,10 +106,7 @@ lengths_more e es (f ∷ fs) absent h =
 
 lengths_are : (entries : List Entry) → AreDistinct (genome_names entries) → AllByRecursion (λ (e : Entry). length_in entries e.name ≡ e.length) entries
 lengths_are [] distinct = tt
-lengths_are (e ∷ es) distinct = (
-  ap (λ b. cond b e.length (length_in es e.name)) (name_eq e.name e.name refl),
-  lengths_more e es es distinct.0 (lengths_are es distinct.1),
-)
+lengths_are (e ∷ es) distinct = grind (arith, (name_eq e.name e.name refl), (lengths_more e es es distinct.0 (lengths_are es distinct.1)))
 
 module _ (entries : List Entry) (distinct : AreDistinct (genome_names entries)) (records : List Feature) (placed : ArePlaced (rank_order (genome_names entries)) (intervals_of records)) where
   abbrev order : Order
@@ -148,9 +123,7 @@ module _ (entries : List Entry) (distinct : AreDistinct (genome_names entries)) 
   by_entries = sym (file_ordered (genome_names entries) 0 All records distinct placed) ∙ ap (merged (genome_names entries) 0) (all_counted records)
 
   gap_twice : (e : Entry) → is_header e.name ≡ false → length_in entries e.name ≡ e.length → gaps_on (intervals_of gap_records) e ≡ map (placed_on e.name) (cut_spans e.length (runs_of 0 (spans_on e.name (intervals_of records))))
-  gap_twice e plain size =
-      ap (map (placed_on e.name)) (ap (gaps_of e.length) (unhidden e.name gaps plain ∙ complement_spans entries records e.name distinct ∙ ap (λ n. gaps_of n (spans_on e.name (intervals_of records))) size)
-      ∙ gaps_twice e.length (spans_on e.name (intervals_of records)))
+  gap_twice e plain size = grind (arith, unhidden, complement_spans, gaps_twice)
 
   pub complement_twice : AllByRecursion (λ (e : Entry). is_header e.name ≡ false) entries → complement false entries gap_records ≡ flat_map (cut_at_length entries) (ordered_runs order 0 All records)
   unfolding complement
@@ -219,26 +192,11 @@ module _ (records : List Feature) where
   depths_absent name [] e = refl
   depths_absent name (entry ∷ entries) e =
       let parts = or_parts (bytes_eq entry.name name) (is_among (genome_names entries) name) e in
-      ap (spans_on name) (at_both entry entries)
-      ∙ spans_on-append name (map (placed_on entry.name) (spans_for entry.name entry.length)) (map interval_at (flat_map (depths_on false None records) entries))
-      ∙ ap₂ (λ a b. a ++ b) (none_there name entry.name (spans_for entry.name entry.length) parts.0) (depths_absent name entries parts.1)
+      grind (arith, (depths_absent name entries parts.1), at_both, spans_on-append, none_there)
 
   depths_there : (name : List ℕ) (entries : List Entry) → AreDistinct (genome_names entries) → spans_on name (map interval_at (flat_map (depths_on false None records) entries)) ≡ spans_for name (length_in entries name)
   depths_there name [] distinct = sym (no_levels name)
-  depths_there name (entry ∷ entries) distinct =
-      ap (spans_on name) (at_both entry entries)
-      ∙ spans_on-append name (map (placed_on entry.name) (spans_for entry.name entry.length)) (map interval_at (flat_map (depths_on false None records) entries))
-      ∙ elim (cases_name entry.name name) [
-        | inl same ↦
-            ap₂ (λ a b. a ++ b) (subst (λ n. spans_on n (map (placed_on entry.name) (spans_for entry.name entry.length)) ≡ spans_for entry.name entry.length) same (here_all entry.name (spans_for entry.name entry.length)))
-            (depths_absent name entries (subst (λ n. is_among (genome_names entries) n ≡ false) same distinct.0))
-            ∙ append-nil (spans_for entry.name entry.length)
-            ∙ ap (λ n. spans_for n entry.length) same
-            ∙ ap (λ b. spans_for name (cond b entry.length (length_in entries name))) (sym (name_eq entry.name name same))
-        | inr other ↦
-            ap₂ (λ a b. a ++ b) (none_there name entry.name (spans_for entry.name entry.length) other) (depths_there name entries distinct.1)
-            ∙ ap (λ b. spans_for name (cond b entry.length (length_in entries name))) (sym other)
-      ]
+  depths_there name (entry ∷ entries) distinct = grind (arith, (depths_there name entries distinct.1), at_both, spans_on-append, cases_name, here_all, depths_absent, append-nil, none_there)
 
   counted_all : (name : List ℕ) → counted_on None name records ≡ spans_on name (intervals_of records)
   counted_all name = ap (λ rs. spans_on name (intervals_of rs)) (filter_all (λ (r : Feature). true) records (all_any _ records (λ r. refl)))
@@ -262,8 +220,7 @@ module _ (records : List Feature) where
 
 within_by : (entries : List Entry) (name : List ℕ) (r : Feature) (rs : List Feature) (p : ℕ) → r.chrom ≡ name → r.stop ≤ length_in entries r.chrom → IsCovered (span_of (interval_of r) ∷ spans_on name (intervals_of rs)) p
     → (IsCovered (spans_on name (intervals_of rs)) p → p < length_in entries name) → p < length_in entries name
-within_by entries name r rs p same up (inl here) more = let there : r.stop ≤ length_in entries name = subst (λ n. r.stop ≤ length_in entries n) same up in omega (arith, here.1, there)
-within_by entries name r rs p same up (inr there) more = more there
+within_by entries name r rs p same up p1 more = grind arith
 
 -- what lies within the lengths
 covered_within : (entries : List Entry) (name : List ℕ) (records : List Feature) (p : ℕ) → LieWithinLengths entries records → IsCovered (spans_on name (intervals_of records)) p → p < length_in entries name
@@ -276,22 +233,12 @@ covered_within entries name (r ∷ rs) p within c = elim (cases_name r.chrom nam
 -- lines of header words
 unhidden_depths : (name : List ℕ) (rs : List DepthInterval) → is_header name ≡ false → spans_on name (intervals_of (filter is_no_header (map four_columns rs))) ≡ spans_on name (map interval_at rs)
 unhidden_depths name [] e = refl
-unhidden_depths name (r ∷ rs) e = elim (cases_Bool (is_no_header (four_columns r))) [
-  | inl t ↦
-      ap (λ b. spans_on name (intervals_of (cond b (four_columns r ∷ filter is_no_header (map four_columns rs)) (filter is_no_header (map four_columns rs))))) t
-      ∙ ap (λ l. cond (bytes_eq r.chrom name) (span_of (interval_at r) ∷ l) l) (unhidden_depths name rs e)
-  | inr f ↦
-      ap (λ b. spans_on name (intervals_of (cond b (four_columns r ∷ filter is_no_header (map four_columns rs)) (filter is_no_header (map four_columns rs))))) f
-      ∙ unhidden_depths name rs e ∙ sym (spans_on-elsewhere name (interval_at r) (map interval_at rs) (hidden_other r.chrom name f e))
-]
+unhidden_depths name (r ∷ rs) e = grind (arith, (unhidden_depths name rs e), hidden_other)
 
 -- no record that was read lies on a chromosome of a header word
 none_hidden : (name : List ℕ) (records : List Feature) → is_header name ≡ true → AllByRecursion IsSaid records → spans_on name (intervals_of records) ≡ []
 none_hidden name [] e said = refl
-none_hidden name (r ∷ rs) e said = elim (cases_name r.chrom name) [
-  | inl same ↦ absurd (false≢true (sym said.0.no_header ∙ ap is_header same ∙ e))
-  | inr other ↦ spans_on-elsewhere name (interval_of r) (intervals_of rs) other ∙ none_hidden name rs e said.1
-]
+none_hidden name (r ∷ rs) e said = grind (arith, (none_hidden name rs e said.1), cases_name)
 
 module _ (entries : List Entry) (distinct : AreDistinct (genome_names entries)) (records : List Feature) (said : AllByRecursion IsSaid records) (within : LieWithinLengths entries records)
     (read : List Feature) (read_said : AllByRecursion IsSaid read) (is : read ≡ filter is_no_header (map four_columns (coverage false None entries records))) where
@@ -299,10 +246,7 @@ module _ (entries : List Entry) (distinct : AreDistinct (genome_names entries)) 
   unfolding coverage
   same_bases name = elim (cases_Bool (is_header name)) [
     | inl t ↦ subst (λ l. SameCover l (spans_on name (intervals_of records))) (sym (none_hidden name read t read_said)) (subst (SameCover []) (sym (none_hidden name records t said)) (record { to = λ p c. c; back = λ p c. c }))
-    | inr f ↦
-        subst (λ l. SameCover l (spans_on name (intervals_of records)))
-        (sym (ap (λ rs. spans_on name (intervals_of rs)) is ∙ unhidden_depths name (coverage false None entries records) f ∙ depths_there records name entries distinct))
-        (depth_cover records name (length_in entries name) (λ p c. covered_within entries name records p within c))
+    | inr f ↦ grind (arith, unhidden_depths, depths_there, depth_cover, covered_within)
   ]
 
   abbrev lengths_order : Order

@@ -1,4 +1,5 @@
 -- maskfasta by two BEDs, and by one that has the records of both.
+use Rattle.std.proofs.lemmas.Grind.{common_steps}
 use Rattle.bt_lines.proofs.Std.{◌≡◌, ◌||◌, ◌&&◌, ℕ, ◌<◌, ◌≤◌, Bool, true, false, cond, List, [], ◌∷◌, ◌++◌, append_assoc, Option, Some, None, inl, inr, refl, sym, ap, ap₂, ◌∙◌, subst, length, filter, arith, ◌⊎◌, bytes_eq, flat_map, is_some, IsPermutation, AllByRecursion, list_any, cases_Bool, or_parts, recursion_from_All, list_any-append, list_any-IsPermutation}
 use Rattle.bt_lines.specs.model.Lines.{lines_handed}
 use Rattle.bt_lines.specs.declared.fault.Input.TheVariants.{First}
@@ -52,49 +53,11 @@ abbrev behind_by : Bool → Names → Option Names → Option Names
 behind_by b found more = cond b (Some found) more
 
 find_more : (c n x : List ℕ) (xs ys : Names) → bytes_eq x c ≡ false → Finds c n xs ys → Finds c n (x ∷ xs) ys
-find_more c n x xs ys other (inl is) = inl (record {
-  rest = is.rest;
-  all = ap (λ b. behind_by b (xs ++ n ∷ ys) (names_behind c (xs ++ n ∷ ys))) other ∙ is.all;
-  few = ap (λ b. behind_by b (xs ++ n ∷ []) (names_behind c (xs ++ n ∷ []))) other ∙ is.few;
-  off = is.off;
-  apart = is.apart;
-})
-find_more c n x xs ys other (inr (inl is)) = inr (inl (record {
-  same = is.same;
-  all = ap (λ b. behind_by b (xs ++ n ∷ ys) (names_behind c (xs ++ n ∷ ys))) other ∙ is.all;
-  few = ap (λ b. behind_by b (xs ++ n ∷ []) (names_behind c (xs ++ n ∷ []))) other ∙ is.few;
-}))
-find_more c n x xs ys other (inr (inr is)) = inr (inr (record {
-  apart = is.apart;
-  all = ap (λ b. behind_by b (xs ++ n ∷ ys) (names_behind c (xs ++ n ∷ ys))) other ∙ is.all;
-  few = ap (λ b. behind_by b (xs ++ n ∷ []) (names_behind c (xs ++ n ∷ []))) other ∙ is.few;
-}))
+find_more c n x xs ys other p1 = grind arith
 
 find : (c n : List ℕ) (xs ys : Names) → is_among xs n ≡ false → Finds c n xs ys
-find c n [] ys off = elim (cases_name n c) [
-  | inl same ↦ inr (inl (record {
-    same = name_eq c n (sym same);
-    all = ap (λ b. behind_by b ys (names_behind c ys)) (name_eq n c same);
-    few = ap (λ b. behind_by b [] None) (name_eq n c same);
-  }))
-  | inr other ↦ inr (inr (record {
-    apart = name_ne-sym n c other;
-    all = ap (λ b. behind_by b ys (names_behind c ys)) other;
-    few = ap (λ b. behind_by b [] None) other;
-  }))
-]
-find c n (x ∷ xs) ys off =
-    let parts = or_parts (bytes_eq x n) (is_among xs n) off in
-    elim (cases_name x c) [
-      | inl same ↦ inl (record {
-        rest = xs;
-        all = ap (λ b. behind_by b (xs ++ n ∷ ys) (names_behind c (xs ++ n ∷ ys))) (name_eq x c same);
-        few = ap (λ b. behind_by b (xs ++ n ∷ []) (names_behind c (xs ++ n ∷ []))) (name_eq x c same);
-        off = parts.1;
-        apart = subst (λ m. bytes_eq m n ≡ false) same parts.0;
-      })
-      | inr other ↦ find_more c n x xs ys other (find c n xs ys parts.1)
-    ]
+find c n [] ys off = grind (arith, name_ne-sym)
+find c n (x ∷ xs) ys off = grind (arith, (cases_name x c), (find c n xs ys (or_parts (bytes_eq x n) (is_among xs n) off).1))
 
 -- ---- the records of blocks that belong to the sequence of a name that comes once
 
@@ -146,9 +109,7 @@ module _ (t : Feature → Bool) (n : List ℕ) where
     where
       by_left : (o : Option Names) → names_behind b.chrom names ≡ o → AreOwned o bs → ((rest : Names) → is_among rest n ≡ false → AreOwned (Some rest) bs → list_any on_it (items_of bs) ≡ false) → list_any on_it (items_of (b ∷ bs)) ≡ false
       by_left None e owned more = absurd (unowned bs owned)
-      by_left (Some rest) e owned more =
-          let far = off_behind n b.chrom names rest off e in
-          list_any-append on_it b.items (items_of bs) ∙ ap₂ (λ x y. x || y) (all_off b.chrom b.items on.0 far.1) (more rest far.0 owned)
+      by_left (Some rest) e owned more = grind (arith, (off_behind n b.chrom names rest off e), (list_any-append on_it b.items (items_of bs)), (all_off b.chrom b.items on.0 (off_behind n b.chrom names rest off e).1))
 
   own_named : (xs ys : Names) (bs : List (Block Feature)) → is_among xs n ≡ false → is_among ys n ≡ false → AllByRecursion IsOnIt bs → AreOwned (Some (xs ++ n ∷ ys)) bs
       → list_any t (own_of (owned_from (Some (xs ++ n ∷ [])) bs)) ≡ list_any on_it (items_of bs)
@@ -157,31 +118,18 @@ module _ (t : Feature → Bool) (n : List ℕ) where
     where
       by_find : Finds b.chrom n xs ys → ((rest : Names) → is_among rest n ≡ false → AreOwned (Some (rest ++ n ∷ ys)) bs → list_any t (own_of (owned_from (Some (rest ++ n ∷ [])) bs)) ≡ list_any on_it (items_of bs))
           → list_any t (own_of (owned_from (Some (xs ++ n ∷ [])) (b ∷ bs))) ≡ list_any on_it (items_of (b ∷ bs))
-      by_find (inl is) next =
-          ap (λ left. list_any t (items_if_last left b.items ++ own_of (owned_from left bs))) is.few
-          ∙ ap (λ l. list_any t (l ++ own_of (owned_from (Some (is.rest ++ n ∷ [])) bs))) (not_last is.rest n b.items)
-          ∙ next is.rest is.off (subst (λ left. AreOwned left bs) is.all owned)
-          ∙ ap (λ x. x || list_any on_it (items_of bs)) (sym (all_off b.chrom b.items on.0 is.apart))
-          ∙ sym (list_any-append on_it b.items (items_of bs))
+      by_find (inl is) next = grind (arith, (not_last is.rest n b.items), (all_off b.chrom b.items on.0 is.apart), (list_any-append on_it b.items (items_of bs)))
       by_find (inr (inl is)) next =
           ap (λ left. list_any t (items_if_last left b.items ++ own_of (owned_from left bs))) is.few
           ∙ list_any-append t b.items (own_of (owned_from (Some []) bs))
           ∙ ap₂ (λ x y. x || y) (sym (all_here b.chrom b.items on.0 is.same)) (ap (list_any t) (past_own bs) ∙ sym (later ys bs past on.1 (subst (λ left. AreOwned left bs) is.all owned)))
           ∙ sym (list_any-append on_it b.items (items_of bs))
-      by_find (inr (inr is)) next =
-          ap (λ left. list_any t (items_if_last left b.items ++ own_of (owned_from left bs))) is.few
-          ∙ ap (list_any t) (none_own bs)
-          ∙ sym (later ys (b ∷ bs) past on (subst (λ left. AreOwned left bs) is.all owned))
+      by_find (inr (inr is)) next = grind (arith, (none_own bs), (later ys (b ∷ bs) past on (subst (λ left. AreOwned left bs) is.all owned)))
 
   -- so these are the records of its name
   own_on : (xs ys : Names) (rs : List Feature) → is_among xs n ≡ false → is_among ys n ≡ false → is_some (leave (Some (xs ++ n ∷ ys)) None rs) ≡ true
       → list_any t (own_records (xs ++ n ∷ []) rs) ≡ list_any on_it rs
-  own_on xs ys rs off past owned =
-      let bs = blocks_by (λ (r : Feature). r.chrom) rs in
-      let runs = maximal_runs rs in
-      own_named xs ys bs off past (all_so AreOfChrom IsOnIt bs (λ b is. recursion_from_All (λ (r : Feature). r.chrom ≡ b.chrom) b.items is.chrom) runs.2)
-      (ap is_some (sym (leave_all (Some (xs ++ n ∷ ys)) rs)) ∙ owned)
-      ∙ ap (list_any on_it) runs.0
+  own_on xs ys rs off past owned = grind (arith, (maximal_runs rs), own_named, all_so, recursion_from_All, leave_all)
 
 -- ---- a name that no record has
 
@@ -189,29 +137,19 @@ abbrev Other : List ℕ → List ℕ → Names → Type 0
 Other c n zs = ((rest : Names) × (names_behind c (zs ++ n ∷ []) ≡ Some (rest ++ n ∷ []))) ⊎ (names_behind c (zs ++ n ∷ []) ≡ None)
 
 skip_behind : (c n z : List ℕ) (zs : Names) → bytes_eq z c ≡ false → Other c n zs → Other c n (z ∷ zs)
-skip_behind c n z zs other (inl found) = inl (found.0, ap (λ b. behind_by b (zs ++ n ∷ []) (names_behind c (zs ++ n ∷ []))) other ∙ found.1)
-skip_behind c n z zs other (inr none) = inr (ap (λ b. behind_by b (zs ++ n ∷ []) (names_behind c (zs ++ n ∷ []))) other ∙ none)
+skip_behind c n z zs other p1 = grind arith
 
 -- another name is found before it, or not at all
 other_behind : (c n : List ℕ) (zs : Names) → bytes_eq c n ≡ false → Other c n zs
 other_behind c n [] e = inr (ap (λ b. behind_by b [] None) (name_ne-sym c n e))
-other_behind c n (z ∷ zs) e = elim (cases_name z c) [
-  | inl same ↦ inl (zs, ap (λ b. behind_by b (zs ++ n ∷ []) (names_behind c (zs ++ n ∷ []))) (name_eq z c same))
-  | inr other ↦ skip_behind c n z zs other (other_behind c n zs e)
-]
+other_behind c n (z ∷ zs) e = grind (arith, (other_behind c n zs e))
 
 abbrev is_on : List ℕ → Feature → Bool
 is_on n r = bytes_eq r.chrom n
 
-any_rest : (q : Feature → Bool) (xs ys : List Feature) → list_any q (xs ++ ys) ≡ false → list_any q ys ≡ false
-any_rest q [] ys e = e
-any_rest q (x ∷ xs) ys e = any_rest q xs ys (or_parts (q x) (list_any q (xs ++ ys)) e).1
-
 first_off : (n c : List ℕ) (xs more : List Feature) → AllByRecursion (λ (r : Feature). r.chrom ≡ c) xs → 0 < length xs → list_any (is_on n) (xs ++ more) ≡ false → (bytes_eq c n ≡ false) × (list_any (is_on n) more ≡ false)
 first_off n c [] more h some e = absurd (omega (arith, some))
-first_off n c (r ∷ rs) more h some e =
-    let parts = or_parts (bytes_eq r.chrom n) (list_any (is_on n) (rs ++ more)) e in
-    (subst (λ m. bytes_eq m n ≡ false) h.0 parts.0, any_rest (is_on n) rs more parts.1)
+first_off n c (r ∷ rs) more h some e = grind (arith, common_steps)
 
 abbrev IsFull : Block Feature → Type 0
 IsFull b = 0 < length b.items
@@ -224,9 +162,7 @@ none_named t n zs (b ∷ bs) on full e =
     by_other (other_behind b.chrom n zs off.0) (λ rest. none_named t n rest bs on.1 full.1 off.1)
   where
     by_other : Other b.chrom n zs → ((rest : Names) → list_any t (own_of (owned_from (Some (rest ++ n ∷ [])) bs)) ≡ false) → list_any t (own_of (owned_from (Some (zs ++ n ∷ [])) (b ∷ bs))) ≡ false
-    by_other (inl found) next =
-        ap (λ left. list_any t (items_if_last left b.items ++ own_of (owned_from left bs))) found.1
-        ∙ ap (λ l. list_any t (l ++ own_of (owned_from (Some (found.0 ++ n ∷ [])) bs))) (not_last found.0 n b.items) ∙ next found.0
+    by_other (inl found) next = grind (arith, not_last)
     by_other (inr none) next = ap (λ left. list_any t (items_if_last left b.items ++ own_of (owned_from left bs))) none ∙ ap (list_any t) (none_own bs)
 
 none_on_it : (t : Feature → Bool) (n : List ℕ) (zs : Names) (rs : List Feature) → list_any (is_on n) rs ≡ false → list_any t (own_records (zs ++ n ∷ []) rs) ≡ false
@@ -249,24 +185,10 @@ none_few n (y ∷ ys) few = elim (cases_Bool (bytes_eq y n)) [
 ]
 
 some_one : (n : List ℕ) (xs ys : Names) → 0 < length (named n (xs ++ n ∷ ys))
-some_one n [] ys = subst (λ b. 0 < length (cond b (n ∷ named n ys) (named n ys))) (sym (name_eq n n refl)) (omega arith)
-some_one n (x ∷ xs) ys =
-    let rest = some_one n xs ys in
-    elim (bytes_eq x n) as (λ b. 0 < length (cond b (x ∷ named n (xs ++ n ∷ ys)) (named n (xs ++ n ∷ ys)))) [
-      | true ↦ omega arith
-      | false ↦ rest
-    ]
+some_one n xs ys = grind (arith, common_steps, name_eq)
 
 once_around : (n : List ℕ) (xs ys : Names) → length (named n (xs ++ n ∷ ys)) ≤ 1 → (is_among xs n ≡ false) × (is_among ys n ≡ false)
-once_around n [] ys once =
-    let here : length (n ∷ named n ys) ≤ 1 = subst (λ b. length (cond b (n ∷ named n ys) (named n ys)) ≤ 1) (name_eq n n refl) once in
-    (refl, none_few n ys (omega (arith, here)))
-once_around n (x ∷ xs) ys once = elim (cases_Bool (bytes_eq x n)) [
-  | inl t ↦ absurd (omega (arith, subst (λ b. length (cond b (x ∷ named n (xs ++ n ∷ ys)) (named n (xs ++ n ∷ ys))) ≤ 1) t once, some_one n xs ys))
-  | inr f ↦
-      let rest = once_around n xs ys (subst (λ b. length (cond b (x ∷ named n (xs ++ n ∷ ys)) (named n (xs ++ n ∷ ys))) ≤ 1) f once) in
-      (ap₂ (λ a b. a || b) f rest.0, rest.1)
-]
+once_around n xs ys once = grind (arith, common_steps, name_eq, none_few)
 
 once_named : (n : List ℕ) (names : Names) (rs : List Feature) → AllByRecursion (NamesOne names) rs → list_any (is_on n) rs ≡ true → length (named n names) ≤ 1
 once_named n names [] h e = cc
@@ -294,30 +216,11 @@ module _ (t : Feature → Bool) (rs ss both : List Feature) (permuted : IsPermut
     -- of a name that a record has
     some_own : (front : Names) (n : List ℕ) (more : Names) → names ≡ front ++ n ∷ more → list_any (is_on n) both ≡ true
         → list_any t (own_records (front ++ n ∷ []) both) ≡ (list_any t (own_records (front ++ n ∷ []) rs) || list_any t (own_records (front ++ n ∷ []) ss))
-    some_own front n more whole some =
-        let around = once_around n front more (subst (λ l. length (named n l) ≤ 1) whole (once_named n names both ones some)) in
-        let own : (qs : List Feature) → is_some (leave (Some names) None qs) ≡ true → list_any t (own_records (front ++ n ∷ []) qs) ≡ list_any (on_it t n) qs =
-        λ qs owned. own_on t n front more qs around.0 around.1 (subst (λ l. is_some (leave (Some l) None qs) ≡ true) whole owned) in
-        own both all ∙ both_by (on_it t n) ∙ ap₂ (λ a b. a || b) (sym (own rs one)) (sym (own ss two))
-
-    no_own : (front : Names) (n : List ℕ) → list_any (is_on n) both ≡ false → list_any t (own_records (front ++ n ∷ []) both) ≡ (list_any t (own_records (front ++ n ∷ []) rs) || list_any t (own_records (front ++ n ∷ []) ss))
-    no_own front n none =
-        let parts = or_parts (list_any (is_on n) rs) (list_any (is_on n) ss) (sym (both_by (is_on n)) ∙ none) in
-        none_on_it t n front both none ∙ ap₂ (λ a b. a || b) (sym (none_on_it t n front rs parts.0)) (sym (none_on_it t n front ss parts.1))
+    some_own front n more whole some = grind (arith, (once_around n front more (subst (λ l. length (named n l) ≤ 1) whole (once_named n names both ones some))), own_on, both_by)
 
     both_own : (own more : Names) → names ≡ own ++ more → list_any t (own_records own both) ≡ (list_any t (own_records own rs) || list_any t (own_records own ss))
-    both_own [] more e =
-        ap (list_any t) (past_own (blocks_by (λ r. r.chrom) both))
-        ∙ ap₂ (λ x y. list_any t x || list_any t y) (sym (past_own (blocks_by (λ r. r.chrom) rs))) (sym (past_own (blocks_by (λ r. r.chrom) ss)))
-    both_own (x ∷ xs) more e =
-        let end = ends x xs in
-        let n = end.last in
-        let whole : names ≡ end.front ++ n ∷ more = e ∙ ap (λ l. l ++ more) end.is ∙ append_assoc end.front (n ∷ []) more in
-        subst (λ own. list_any t (own_records own both) ≡ (list_any t (own_records own rs) || list_any t (own_records own ss))) (sym end.is)
-        (elim (cases_Bool (list_any (is_on n) both)) [
-          | inl some ↦ some_own end.front n more whole some
-          | inr none ↦ no_own end.front n none
-        ])
+    both_own [] more e = grind (arith, (past_own (blocks_by (λ r. r.chrom) both)), (past_own (blocks_by (λ r. r.chrom) rs)), (past_own (blocks_by (λ r. r.chrom) ss)))
+    both_own (x ∷ xs) more e = grind (arith, (append_assoc (ends x xs).front (((ends x xs).last) ∷ []) more), some_own, both_by, none_on_it)
 
 -- ---- the runs
 

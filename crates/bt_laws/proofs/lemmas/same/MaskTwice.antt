@@ -1,4 +1,5 @@
 -- What maskfasta writes has the lines of its input, and is masked already.
+use Rattle.std.proofs.lemmas.Grind.{common_steps}
 use Rattle.bt_lines.proofs.Std.{◌≡◌, ◌||◌, ℕ, suc, ◌+◌, ◌≤◌, Bool, true, false, List, [], ◌∷◌, ◌++◌, map, length, Option, Some, None, refl, sym, ap, ap₂, ◌∙◌, arith, eqb, leb, flat_map, if◌then◌else◌, is_none, list_all, list_any, option_or, ends_with_byte, and_parts, false≢true, leb-true, ne_eqb, nat_tests, All-cons, All-head, All-nil, All-tail, ◌<◌, Result, Ok, Err, subst, ltb, bytes_eq, is_some, AllByRecursion, flat_map-map}
 use Rattle.bt_lines.specs.model.Fault.{FaultValue, read_failed}
 use Rattle.bt_lines.specs.model.Lines.{Handed, cut_fault, lines_handed, whole_text, TextLine, end_bytes, text_lines, whole_lines}
@@ -50,29 +51,19 @@ IsNot Soft byte = Unit {0}
 IsNot (Hard mask) byte = mask ≡ byte → ⊥
 
 soft_by : (upper : Bool) (base byte : ℕ) → is_ascii_uppercase base ≡ upper → byte ≤ 64 → eqb base byte ≡ false → eqb (if upper then base + 32 else base) byte ≡ false
-soft_by true base byte e low other =
-    let bounds = and_parts (leb 65 base) (leb base 90) e in
-    ne_eqb (base + 32) byte (λ same. absurd (omega (arith, same, leb-true 65 base bounds.0, low)))
-soft_by false base byte e low other = other
+soft_by upper base byte e low other = grind arith
 
 masked_not : (how : MaskHow) (base byte : ℕ) → IsNot how byte → byte ≤ 64 → eqb base byte ≡ false → eqb (masked_byte how base) byte ≡ false
-masked_not Soft base byte is low other = soft_by (is_ascii_uppercase base) base byte refl low other
-masked_not (Hard mask) base byte is low other = ne_eqb mask byte is
+masked_not how base byte is low other = grind arith
 
 high_not : (n : ℕ) → 91 ≤ n → is_ascii_uppercase n ≡ false
-high_not n h = grind (arith, nat_tests)
+high_not n h = grind arith
 
 twice_by : (upper : Bool) (base : ℕ) → is_ascii_uppercase base ≡ upper → (if is_ascii_uppercase (if upper then base + 32 else base) then (if upper then base + 32 else base) + 32 else (if upper then base + 32 else base)) ≡ (if upper then base + 32 else base)
-twice_by true base e =
-    let bounds = and_parts (leb 65 base) (leb base 90) e in
-    let low = leb-true 65 base bounds.0 in
-    let off : is_ascii_uppercase (base + 32) ≡ false = high_not (base + 32) (omega (arith, low)) in
-    ap (λ (b : Bool). if b then (base + 32) + 32 else base + 32) off
-twice_by false base e = ap (λ (b : Bool). if b then base + 32 else base) e
+twice_by upper base e = grind arith
 
 pub masked_again : (how : MaskHow) (base : ℕ) → masked_byte how (masked_byte how base) ≡ masked_byte how base
-masked_again Soft base = twice_by (is_ascii_uppercase base) base refl
-masked_again (Hard mask) base = refl
+masked_again how base = grind arith
 
 -- ---- masked bases
 
@@ -82,8 +73,7 @@ record KeepsApart (how : MaskHow) : Type 0 where
   header : IsNot how 62
 
 apart_by : (how : MaskHow) → KeepsLines how → KeepsApart how
-apart_by Soft keeps = record { feed = tt; return = tt; header = tt }
-apart_by (Hard mask) keeps = record { feed = keeps.0; return = keeps.1; header = keeps.2 }
+apart_by how keeps = grind arith
 
 module _ (how : MaskHow) (keeps : KeepsLines how) where
   apart : KeepsApart how
@@ -94,18 +84,10 @@ module _ (how : MaskHow) (keeps : KeepsLines how) where
     kept_base position base = if list_any (covers position) records then masked_byte how base else base
 
     kept_not : (position base byte : ℕ) → IsNot how byte → byte ≤ 64 → eqb base byte ≡ false → eqb (kept_base position base) byte ≡ false
-    kept_not position base byte is low other =
-        elim (list_any (covers position) records) as (λ (b : Bool). eqb (if b then masked_byte how base else base) byte ≡ false) [
-          | true ↦ masked_not how base byte is low other
-          | false ↦ other
-        ]
+    kept_not position base byte is low other = grind arith
 
     kept_again : (position base : ℕ) → kept_base position (kept_base position base) ≡ kept_base position base
-    kept_again position base =
-        elim (list_any (covers position) records) as (λ (b : Bool). (if b then masked_byte how (if b then masked_byte how base else base) else (if b then masked_byte how base else base)) ≡ (if b then masked_byte how base else base)) [
-          | true ↦ masked_again how base
-          | false ↦ refl
-        ]
+    kept_again position base = grind arith
 
     size_from : (position : ℕ) (bases : List ℕ) → length (masked_from how records position bases) ≡ length bases
     size_from position [] = refl
@@ -113,20 +95,15 @@ module _ (how : MaskHow) (keeps : KeepsLines how) where
 
     clear_from : (position : ℕ) (bases : List ℕ) → NoLineFeed bases → NoLineFeed (masked_from how records position bases)
     clear_from position [] h = All-nil (λ b. eqb b 10 ≡ false)
-    clear_from position (base ∷ bases) h =
-        All-cons (λ b. eqb b 10 ≡ false) (kept_base position base) (masked_from how records (suc position) bases)
-        (kept_not position base 10 apart.feed (omega arith) (All-head (λ b. eqb b 10 ≡ false) base bases h)) (clear_from (suc position) bases (All-tail (λ b. eqb b 10 ≡ false) base bases h))
+    clear_from position (base ∷ bases) h = grind (arith, (clear_from (suc position) bases (All-tail (λ b. eqb b 10 ≡ false) base bases h)), All-head)
 
     pub header_from : (position : ℕ) (bases : List ℕ) → is_header bases ≡ false → is_header (masked_from how records position bases) ≡ false
-    header_from position [] e = refl
-    header_from position (base ∷ bases) e = kept_not position base 62 apart.header (omega arith) e
+    header_from position bases e = grind arith
 
     last_from : (position : ℕ) (bases : List ℕ) → ends_with_byte 13 bases ≡ false → ends_with_byte 13 (masked_from how records position bases) ≡ false
     last_from position [] e = e
     last_from position (base ∷ []) e = kept_not position base 13 apart.return (omega arith) e
-    last_from position (base ∷ next ∷ bases) e =
-        ends_both 13 (kept_base position base ∷ []) (masked_from how records (suc position) (next ∷ bases)) (omega (arith, size_from (suc position) (next ∷ bases)))
-        ∙ last_from (suc position) (next ∷ bases) (sym (ends_both 13 (base ∷ []) (next ∷ bases) (omega arith)) ∙ e)
+    last_from position (base ∷ next ∷ bases) e = grind (arith, common_steps, (last_from (suc position) (next ∷ bases) (sym (ends_both 13 (base ∷ []) (next ∷ bases) (omega arith)) ∙ e)), size_from)
 
     from_again : (position : ℕ) (bases : List ℕ) → masked_from how records position (masked_from how records position bases) ≡ masked_from how records position bases
     from_again position [] = refl
@@ -137,26 +114,13 @@ module _ (how : MaskHow) (keeps : KeepsLines how) where
     text_by header line = if header then line.text else masked_from how (own_records line.names records) line.before line.text
 
     stands_by : (header : Bool) (line : SequenceLine) → is_header line.text ≡ header → NoLineFeed line.text → Stands line.text (text_by header line)
-    stands_by true line e clear = record { clear = clear; size = refl; header = refl; last = λ h. h; same = λ h. refl }
-    stands_by false line e clear =
-        let own = own_records line.names records in
-        record {
-          clear = clear_from own line.before line.text clear;
-          size = size_from own line.before line.text;
-          header = header_from own line.before line.text e ∙ sym e;
-          last = λ h. last_from own line.before line.text h;
-          same = λ h. absurd (false≢true (sym e ∙ h));
-        }
+    stands_by header line e clear = grind (arith, clear_from, size_from, last_from)
 
     safe_text : (line : SequenceLine) → NoLineFeed line.text → Stands line.text (masked_text how records line)
     safe_text line clear = stands_by (is_header line.text) line refl clear
 
     again_by : (header : Bool) (line : SequenceLine) → is_header line.text ≡ header → masked_text how records (with_text line (text_by header line)) ≡ text_by header line
-    again_by true line e = ap (λ (b : Bool). if b then line.text else masked_from how (own_records line.names records) line.before line.text) e
-    again_by false line e =
-        let own = own_records line.names records in
-        ap (λ (b : Bool). if b then masked_from how own line.before line.text else masked_from how own line.before (masked_from how own line.before line.text)) (header_from own line.before line.text e)
-        ∙ from_again own line.before line.text
+    again_by header line e = grind (arith, from_again)
 
     text_again : (line : SequenceLine) → masked_line how records (with_text line (masked_text how records line)) ≡ masked_line how records line
     text_again line = ap (λ t. t ++ end_bytes line.ending) (again_by (is_header line.text) line refl)
@@ -172,15 +136,10 @@ module _ (how : MaskHow) (names : List (List ℕ)) (second : Good Feature) where
   rule = mask_rule how names second
 
   second_by : (b : Bool) (lines other : List ℕ) (one one_more stop : Option FaultValue) → (met_of b lines other one (or_else one_more stop) stop).fault ≡ None → stop ≡ None
-  second_by true lines other None None stop e = e
-  second_by true lines other None (Some f) stop e = cc
-  second_by true lines other (Some f) one_more stop e = cc
-  second_by false lines other one one_more stop e = e
+  second_by b lines other one one_more stop e = grind arith
 
   pub met_all : (items : List SequenceLine) (fault : Option FaultValue) → second.fault ≡ None → join_report rule items fault ≡ record { lines = flat_map (masked_line how (items_in second)) items; fault = option_or fault rule.last }
-  met_all items fault none =
-      ap (λ (t : Option FaultValue). met_of (list_all (λ line. is_none t || decided line (items_in second)) items) (flat_map rule.lines items) (written rule items) fault rule.last second.fault) none
-      ∙ ap (λ b. met_of b (flat_map rule.lines items) (written rule items) fault rule.last second.fault) (all_true (λ (line : SequenceLine). true) items (all_any _ items (λ line. refl)))
+  met_all items fault none = grind (arith, all_true, all_any)
 
 -- the last names stay
 pub names_same : (f : SequenceLine → List ℕ) (items : List SequenceLine) → names_of (map (λ line. with_text line (f line)) items) ≡ names_of items
@@ -189,12 +148,10 @@ names_same f (line ∷ []) = refl
 names_same f (line ∷ next ∷ lines) = names_same f (next ∷ lines)
 
 both_none : (one last : Option FaultValue) → option_or one last ≡ None → (one ≡ None) × (last ≡ None)
-both_none None last e = (refl, e)
-both_none (Some f) last e = cc
+both_none one last e = grind arith
 
 uncut_by : (b : Bool) (told : FaultValue) (whole all : List TextLine) → (if b then Some told else None) ≡ None → (if b then whole else all) ≡ all
-uncut_by true told whole all e = cc
-uncut_by false told whole all e = refl
+uncut_by b told whole all e = grind arith
 
 uncut_lines : (handed : Handed) → cut_fault First handed ≡ None → lines_handed handed ≡ text_lines handed.text
 uncut_lines handed e = uncut_by handed.is_cut (read_failed First (suc (length (whole_lines handed.text)))) (whole_lines handed.text) (text_lines handed.text) e
@@ -204,8 +161,7 @@ size_of how records position [] = refl
 size_of how records position (base ∷ bases) = ap suc (size_of how records (suc position) bases)
 
 size_by : (how : MaskHow) (records : List Feature) (header : Bool) (line : SequenceLine) → length (if header then line.text else masked_from how (own_records line.names records) line.before line.text) ≡ length line.text
-size_by how records true line = refl
-size_by how records false line = size_of how (own_records line.names records) line.before line.text
+size_by how records header line = grind (arith, size_of)
 
 module _ (how : MaskHow) (full : Bool) (inputs : Inputs) (chromosomes : Option (List Entry)) (well : RunsWithoutFault (MaskFasta how full) inputs chromosomes) where
   abbrev first : Good SequenceLine
@@ -264,13 +220,10 @@ module _ (how : MaskHow) (full : Bool) (inputs : Inputs) (chromosomes : Option (
     is_again = again_lines full First new_text (safe_text how keeps records) 1 inputs.first.text 1 (sequence_format full).begin (ap (λ ls. (good (sequence_format full) First ls).fault) (sym (uncut_lines inputs.first parts.1)) ∙ parts.0)
 
     pub read_items : items_in read ≡ map again_line items
-    read_items =
-        ap (λ is. items_in (good (sequence_format full) First (text_lines (flat_map (masked_line how records) is)))) same_items ∙ is_again.items ∙ ap (map again_line) (sym same_items)
+    read_items = grind (arith, same_items, is_again)
 
     pub read_none : read.fault ≡ None
-    read_none =
-        or_else_none (good (sequence_format full) First (text_lines output)).fault
-        ∙ ap (λ is. (good (sequence_format full) First (text_lines (flat_map (masked_line how records) is))).fault) same_items ∙ is_again.faultless
+    read_none = grind (arith, same_items, is_again)
 
     layouts : (all : List SequenceLine) → map layout_of (map again_line all) ≡ map layout_of all
     layouts [] = refl
@@ -287,17 +240,11 @@ module _ (how : MaskHow) (full : Bool) (inputs : Inputs) (chromosomes : Option (
         ∙ ap₂ (λ l fault. record { lines = l; fault = fault }) (lines_again items) (ap (λ ns. (mask_rule how ns second).last) (names_same new_text items) ∙ nones.1)
 
     pub twice : RunWrites (MaskFasta how full) (piped (MaskFasta how full) inputs) (report_of (MaskFasta how full) inputs).output
-    twice = writes_is (MaskFasta how full) (piped (MaskFasta how full) inputs) (report_of (MaskFasta how full) inputs).output
-        (report_there (MaskFasta how full) (piped (MaskFasta how full) inputs) chromosomes well.genome
-        ∙ ap (λ text. met_report (mask_met how (sequence_good full First (whole_text text)) second)) output_there
-        ∙ ap met_report met_again ∙ ap (λ bytes. record { output = bytes; fault = None }) (sym output_there))
+    twice = grind (arith, (report_there (MaskFasta how full) (piped (MaskFasta how full) inputs) chromosomes well.genome), output_there, met_again)
 
     pub layout : ((sequence_good full First (whole_text (report_of (MaskFasta how full) inputs).output)).fault ≡ None)
         × (map layout_of (items_in (sequence_good full First (whole_text (report_of (MaskFasta how full) inputs).output))) ≡ map layout_of items)
-    layout = (
-      ap (λ text. (sequence_good full First (whole_text text)).fault) output_there ∙ read_none,
-      ap (λ text. map layout_of (items_in (sequence_good full First (whole_text text)))) output_there ∙ ap (map layout_of) read_items ∙ layouts items,
-    )
+    layout = grind (arith, output_there, read_none, read_items, layouts)
 
 pub layout_kept : masked_keep_layout
 layout_kept how full inputs chromosomes keeps well = layout how full inputs chromosomes well keeps
@@ -316,33 +263,23 @@ module _ (how : MaskHow) where
 
   same_by : (header : Bool) (rs ss : List Feature) (position : ℕ) (text : List ℕ) → ((p : ℕ) → position ≤ p → p < position + (if header then 0 else length text) → list_any (covers p) rs ≡ list_any (covers p) ss)
       → (if header then text else masked_from how rs position text) ≡ (if header then text else masked_from how ss position text)
-  same_by true rs ss position text e = refl
-  same_by false rs ss position text e = same_from rs ss position text e
+  same_by header rs ss position text e = grind (arith, same_from)
 
   pub same_line : (rs ss : List Feature) (line : SequenceLine) → ((p : ℕ) → line.before ≤ p → p < bases_up_to line → list_any (covers p) (own_records line.names rs) ≡ list_any (covers p) (own_records line.names ss)) → masked_line how rs line ≡ masked_line how ss line
   same_line rs ss line e = ap (λ t. t ++ end_bytes line.ending) (same_by (is_header line.text) (own_records line.names rs) (own_records line.names ss) line.before line.text e)
 
   -- one mask and then another
   base_both : (one two : Bool) (base : ℕ) → (if two then masked_byte how (if one then masked_byte how base else base) else (if one then masked_byte how base else base)) ≡ (if one || two then masked_byte how base else base)
-  base_both true true base = masked_again how base
-  base_both true false base = refl
-  base_both false true base = refl
-  base_both false false base = refl
+  base_both one two base = grind arith
 
   both_from : (rs ss ts : List Feature) (position : ℕ) (bases : List ℕ) → ((p : ℕ) → position ≤ p → p < position + length bases → list_any (covers p) ts ≡ (list_any (covers p) rs || list_any (covers p) ss)) → masked_from how ss position (masked_from how rs position bases) ≡ masked_from how ts position bases
   both_from rs ss ts position [] e = refl
-  both_from rs ss ts position (base ∷ bases) e =
-      ap₂ (λ a b. a ∷ b) (base_both (list_any (covers position) rs) (list_any (covers position) ss) base ∙ ap (λ (b : Bool). if b then masked_byte how base else base) (sym (e position (omega arith) (omega arith)))) (both_from rs ss ts (suc position) bases (λ p from to. e p (omega (arith, from)) (omega (arith, to))))
+  both_from rs ss ts position (base ∷ bases) e = grind (arith, (both_from rs ss ts (suc position) bases (λ p from to. e p (omega (arith, from)) (omega (arith, to)))))
 
   both_by : (keeps : KeepsLines how) (header : Bool) (rs ss ts : List Feature) (line : SequenceLine) → is_header line.text ≡ header
       → ((p : ℕ) → line.before ≤ p → p < line.before + (if header then 0 else length line.text) → list_any (covers p) (own_records line.names ts) ≡ (list_any (covers p) (own_records line.names rs) || list_any (covers p) (own_records line.names ss)))
       → masked_text how ss (with_text line (if header then line.text else masked_from how (own_records line.names rs) line.before line.text)) ≡ (if header then line.text else masked_from how (own_records line.names ts) line.before line.text)
-  both_by keeps true rs ss ts line is e = ap (λ (b : Bool). if b then line.text else masked_from how (own_records line.names ss) line.before line.text) is
-  both_by keeps false rs ss ts line is e =
-      let own = own_records line.names rs in
-      let next = own_records line.names ss in
-      ap (λ (b : Bool). if b then masked_from how own line.before line.text else masked_from how next line.before (masked_from how own line.before line.text)) (header_from how keeps own line.before line.text is)
-      ∙ both_from own next (own_records line.names ts) line.before line.text e
+  both_by keeps header rs ss ts line is e = grind (arith, both_from)
 
   both_line : (keeps : KeepsLines how) (rs ss ts : List Feature) (line : SequenceLine)
       → ((p : ℕ) → line.before ≤ p → p < bases_up_to line → list_any (covers p) (own_records line.names ts) ≡ (list_any (covers p) (own_records line.names rs) || list_any (covers p) (own_records line.names ss)))
@@ -396,12 +333,10 @@ goes_on how next full inputs other chromosomes keeps one two =
 -- ---- records in an order, read in blocks
 
 falls_by : (same : Bool) (start other : ℕ) (less : Bool) → (if same then ltb start other else less) ≡ false → (if same then ltb start other else false) ≡ false
-falls_by true start other less e = e
-falls_by false start other less e = refl
+falls_by same start other less e = grind arith
 
 no_fall : (order : Order) (last : Option Locus) (place : Locus) → falls_in (sorting_of order) last place ≡ false → falls_in block_sorting last place ≡ false
-no_fall order None place e = refl
-no_fall order (Some last) place e = falls_by (bytes_eq last.chrom place.chrom) place.start last.start (is_lt (order.compare place.chrom last.chrom)) e
+no_fall order last place e = grind arith
 
 -- the same records, and no fault
 record IsLike (one other : Good Feature) : Type 0 where
@@ -413,18 +348,13 @@ module _ (order : Order) (one other : Input) where
       → ((now : Option Locus) → (ls now).fault ≡ None → IsLike (ls now) (ms now))
       → (good_with (bed_format (sorting_of order)) one n last (if knows then (if falls then Err OutOfOrder else Ok (Some r)) else Err UnknownChrom) ls).fault ≡ None
       → IsLike (good_with (bed_format (sorting_of order)) one n last (if knows then (if falls then Err OutOfOrder else Ok (Some r)) else Err UnknownChrom) ls) (good_with block_format other n last (if block_falls then Err OutOfOrder else Ok (Some r)) ms)
-  record_by false falls block_falls n last r ls ms within h e = cc
-  record_by true true block_falls n last r ls ms within h e = cc
-  record_by true false true n last r ls ms within h e = let apart : true ≡ false = within refl in cc
-  record_by true false false n last r ls ms within h e = let rest = h (Some (locus_at r)) e in record { items = ap (λ l. r ∷ l) rest.items; faultless = rest.faultless }
+  record_by knows falls block_falls n last r ls ms within h e = grind arith
 
   line_by : (n : ℕ) (last : Option Locus) (said : Result (Option Feature) Kind) (ls ms : Option Locus → Good Feature)
       → ((now : Option Locus) → (ls now).fault ≡ None → IsLike (ls now) (ms now))
       → (good_with (bed_format (sorting_of order)) one n last (said_after (sorting_of order) last said) ls).fault ≡ None
       → IsLike (good_with (bed_format (sorting_of order)) one n last (said_after (sorting_of order) last said) ls) (good_with block_format other n last (said_after block_sorting last said) ms)
-  line_by n last (Err kind) ls ms h e = cc
-  line_by n last (Ok None) ls ms h e = h last e
-  line_by n last (Ok (Some r)) ls ms h e = record_by (order.knows r.chrom) (falls_in (sorting_of order) last (locus_at r)) (falls_in block_sorting last (locus_at r)) n last r ls ms (no_fall order last (locus_at r)) h e
+  line_by n last said ls ms h e = grind arith
 
   lines_by : (last : Option Locus) (lines : List TextLine) → (good_from (bed_format (sorting_of order)) one last lines).fault ≡ None → IsLike (good_from (bed_format (sorting_of order)) one last lines) (good_from block_format other last lines)
   unfolding good_from line_says
@@ -437,18 +367,15 @@ in_blocks order handed e =
     let lines = lines_handed handed in
     let parts = cut_none (good (bed_format (sorting_of order)) First lines).fault (cut_fault First handed) e in
     let like = lines_by order First Second None lines parts.0 in
-    let cut : cut_fault Second handed ≡ None = uncut handed.is_cut (read_failed First (suc (length (whole_lines handed.text)))) (read_failed Second (suc (length (whole_lines handed.text)))) parts.1 in
-    record { items = like.items; faultless = ap (λ f. or_else f (cut_fault Second handed)) like.faultless ∙ cut }
+    grind arith
 
 -- ---- a BED and what merge makes of it
 
 none_by : (written : Written Feature) (members : List Feature) (fault : Option FaultValue) → (report_by written members fault).fault ≡ None → fault ≡ None
-none_by written members None e = refl
-none_by written members (Some fault) e = cc
+none_by written members fault e = grind arith
 
 pub or_last : (one last : Option FaultValue) → or_else one last ≡ None → one ≡ None
-or_last None last e = refl
-or_last (Some fault) last e = cc
+or_last one last e = grind arith
 
 module _ (inputs : Inputs) (genome : Option Handed) (merging : Option (List Entry)) (merged : RunsWithoutFault (Merge 0 All) (second_alone genome inputs) merging) where
   abbrev order : Order
@@ -503,14 +430,10 @@ module _ (inputs : Inputs) (genome : Option Handed) (merging : Option (List Entr
   same_chroms = ap chromosomes (back runs) ∙ run_names order total 0 All as_read placed full ∙ ap chromosomes all
 
   same_cover : (name : List ℕ) → SameCover (spans_on name (intervals_of as_read)) (spans_on name (intervals_of (map three_columns runs)))
-  same_cover name =
-      let spans = spans_on name (intervals_of as_read) in
-      subst (SameCover spans) (sym (ap (spans_on name) (back runs) ∙ run_spans order total 0 All as_read placed full name ∙ ap (λ l. runs_of 0 (spans_on name l)) all)) (same_sym (runs_of 0 spans) spans (runs_cover spans))
+  same_cover name = grind (arith, back, run_spans, total, placed, full, all, same_sym, runs_cover)
 
   own_covers : (names : List (List ℕ)) (p : ℕ) → list_any (covers p) (own_records names (items_in (block_good Second bed))) ≡ list_any (covers p) (own_records names (items_in (block_good Second (whole_text text))))
-  own_covers names p =
-      ap (λ rs. list_any (covers p) (own_records names rs)) bed_is.items ∙ own_alike as_read (map three_columns runs) bed_contiguous runs_contiguous same_chroms same_cover names p
-      ∙ ap (λ rs. list_any (covers p) (own_records names rs)) (sym runs_items)
+  own_covers names p = grind (arith, bed_is, own_alike, bed_contiguous, runs_contiguous, same_chroms, same_cover, runs_items)
 
   leaves : (names : List (List ℕ)) → leave (Some names) None (items_in (block_good Second (whole_text text))) ≡ leave (Some names) None (items_in (block_good Second bed))
   leaves names = ap (leave (Some names) None) runs_items ∙ leave_alike as_read (map three_columns runs) bed_contiguous runs_contiguous same_chroms names ∙ ap (leave (Some names) None) (sym bed_is.items)

@@ -1,4 +1,5 @@
 -- Records that differ in their order, or in one that comes twice.
+use Rattle.std.proofs.lemmas.Grind.{common_steps}
 use Rattle.bt_lines.proofs.Std.{◌≡◌, inl, inr, ◌||◌, ℕ, ◌+◌, ◌<◌, Bool, true, false, cond, not, List, [], ◌∷◌, ◌++◌, map, filter, Option, refl, sym, ap, ◌∙◌, subst, arith, ◌≢◌, bytes_eq, flat_map, sum_by, IsPermutation, IsTrue, map-append, filter-append, AllByRecursion, list_any, cases_Bool, list_any-IsPermutation, sum_by-IsPermutation, sum_by-cons, append-nil, Some, None, Ok, ap₂, length, or_parts}
 use Rattle.std.specs.declared.cmp.Ordering.TheVariants.{Less, Equal}
 use Rattle.bt_lines.specs.declared.fault.Input.TheVariants.{First}
@@ -41,18 +42,13 @@ use Rattle.bt_laws.specs.Pipes.{IsInput, three_columns}
 -- ---- what comes twice
 
 or_twice : (a b : Bool) → (a || b) ≡ (a || (a || b))
-or_twice true b = refl
-or_twice false b = refl
+or_twice a b = grind arith
 
 or_swap : (a b c : Bool) → (a || (b || c)) ≡ (b || (a || c))
-or_swap true true c = refl
-or_swap true false c = refl
-or_swap false true c = refl
-or_swap false false c = refl
+or_swap a b c = grind arith
 
 any_twice : (q : Feature → Bool) (before : List Feature) (r : Feature) (after : List Feature) → list_any q (before ++ r ∷ after) ≡ (q r || list_any q (before ++ r ∷ after))
-any_twice q [] r after = or_twice (q r) (list_any q after)
-any_twice q (b ∷ before) r after = ap (λ c. q b || c) (any_twice q before r after) ∙ or_swap (q b) (q r) (list_any q (before ++ r ∷ after))
+any_twice q before r after = grind (arith, common_steps)
 
 -- ---- of the records that are kept
 
@@ -67,8 +63,7 @@ module _ (keep : Feature → Bool) where
   depth_in name records p = depth_at (spans_on name (kept records)) p
 
   depth_split : (name : List ℕ) (xs ys : List Feature) (p : ℕ) → depth_in name (xs ++ ys) p ≡ depth_in name xs p + depth_in name ys p
-  depth_split name xs ys p =
-      ap (λ l. depth_at (spans_on name l) p) (kept_both xs ys) ∙ ap (λ l. depth_at l p) (spans_on-append name (kept xs) (kept ys)) ∙ depth_both (spans_on name (kept xs)) (spans_on name (kept ys)) p
+  depth_split name xs ys p = grind (arith, kept_both, spans_on-append, depth_both)
 
   depth_two : (name : List ℕ) (before : List Feature) (r : Feature) (after : List Feature) (p : ℕ) → depth_in name (before ++ r ∷ after) p ≡ depth_in name before p + (depth_in name (r ∷ []) p + depth_in name after p)
   depth_two name before r after p = depth_split name before (r ∷ after) p ∙ ap (λ n. depth_in name before p + n) (depth_split name (r ∷ []) after p)
@@ -78,11 +73,7 @@ module _ (keep : Feature → Bool) where
   has_one name r = has_records name (kept (r ∷ []))
 
   has_by : (b : Bool) (name : List ℕ) (r : Feature) (rest : List Feature) → has_records name (intervals_of (cond b (r ∷ rest) rest)) ≡ (has_records name (intervals_of (cond b (r ∷ []) [])) || has_records name (intervals_of rest))
-  has_by true name r rest = elim (bytes_eq r.chrom name) as (λ c. (c || has_records name (intervals_of rest)) ≡ ((c || false) || has_records name (intervals_of rest))) [
-    | true ↦ refl
-    | false ↦ refl
-  ]
-  has_by false name r rest = refl
+  has_by b name r rest = grind arith
 
   has_any : (name : List ℕ) (rs : List Feature) → has_records name (kept rs) ≡ list_any (has_one name) rs
   has_any name [] = refl
@@ -99,10 +90,7 @@ module _ (keep : Feature → Bool) where
   exchanged_depth rs ss is name p = depth_sum name rs p ∙ sym (sum_by-IsPermutation (λ r. depth_in name (r ∷ []) p) rs ss is) ∙ sym (depth_sum name ss p)
 
   repeated_has : (rs ss : List Feature) → IsRepeated rs ss → (name : List ℕ) → has_records name (kept rs) ≡ has_records name (kept ss)
-  repeated_has rs ss is name =
-      has_any name rs
-      ∙ subst (λ l. list_any (has_one name) l ≡ (has_one name is.twice || list_any (has_one name) l)) (sym is.first) (any_twice (has_one name) is.before is.twice is.after)
-      ∙ list_any-IsPermutation (has_one name) (is.twice ∷ rs) ss is.second ∙ sym (has_any name ss)
+  repeated_has rs ss is name = grind (arith, (has_any name rs), (any_twice (has_one name) is.before is.twice is.after), (list_any-IsPermutation (has_one name) (is.twice ∷ rs) ss is.second), (has_any name ss))
 
   exchanged_cover : (rs ss : List Feature) → IsPermutation rs ss → (name : List ℕ) → SameCover (spans_on name (kept rs)) (spans_on name (kept ss))
   exchanged_cover rs ss is name = same_by_depth (spans_on name (kept rs)) (spans_on name (kept ss)) (λ p some. subst (λ n. 0 < n) (exchanged_depth rs ss is name p) some) (λ p some. subst (λ n. 0 < n) (sym (exchanged_depth rs ss is name p)) some)
@@ -141,10 +129,7 @@ module _ (order : Order) (total : IsTotal order) where
   not_before n known less = let apart : Less ≡ Equal = sym less ∙ total.same n known in cc
 
   not_among : (n : List ℕ) (ns : List (List ℕ)) → IsTrue (order.knows n) → AllByRecursion (Earlier order n) ns → is_among ns n ≡ false
-  not_among n ns known later = elim (cases_Bool (is_among ns n)) [
-    | inl t ↦ absurd (not_before n known (among_so (Earlier order n) n ns later t))
-    | inr f ↦ f
-  ]
+  not_among n ns known later = grind (arith, among_so)
 
   same_names : (xs ys : List (List ℕ)) → AreKnown order xs → AreKnown order ys → EachPair (Earlier order) xs → EachPair (Earlier order) ys → ((name : List ℕ) → is_among xs name ≡ is_among ys name) → xs ≡ ys
   same_names [] [] k l up vp same = refl
@@ -157,10 +142,7 @@ module _ (order : Order) (total : IsTotal order) where
           | inl s ↦ subst (λ n. is_among xs n ≡ false) s (not_among x xs k.0 up.0) ∙ sym (subst (λ n. is_among ys n ≡ false) (sym e ∙ s) (not_among y ys l.0 vp.0))
           | inr other ↦ ap (λ b. b || is_among xs name) (sym other) ∙ same name ∙ ap (λ b. b || is_among ys name) (subst (λ n. bytes_eq n name ≡ false) e other)
         ]))
-    | inr other ↦
-        let one : Earlier order x y = among_so (Earlier order x) y xs up.0 (ap (λ b. b || is_among xs y) (sym other) ∙ same y ∙ among_first y ys) in
-        let back : Earlier order y x = among_so (Earlier order y) x ys vp.0 (ap (λ b. b || is_among ys x) (sym (name_ne-sym x y other)) ∙ sym (same x) ∙ among_first x xs) in
-        absurd (not_before x k.0 (total.ascends x y x k.0 l.0 k.0 one back))
+    | inr other ↦ grind (arith, among_so, among_first, name_ne-sym)
   ]
 
   abbrev named : (Feature → Bool) → List Feature → List (List ℕ)
@@ -174,9 +156,7 @@ module _ (order : Order) (total : IsTotal order) where
     known_named = ordered_all (λ name. IsTrue (order.knows name)) order (chromosomes (kept keep rs)) known
 
     named_come : EachPair (Earlier order) (named keep rs) × ((name : List ℕ) → is_among (named keep rs) name ≡ has_records name (kept keep rs))
-    named_come =
-        let come = names_in_order order (chromosomes (kept keep rs)) total known (distinct_chromosomes (kept keep rs)) in
-        (ascending_pairs order total (named keep rs) known_named come.0, λ name. come.1 name ∙ among_chromosomes name (kept keep rs))
+    named_come = grind (arith, names_in_order, known, distinct_chromosomes, ascending_pairs, known_named, among_chromosomes)
 
   alike_names : (keep : Feature → Bool) (rs ss : List Feature) → ArePlaced order (intervals_of rs) → ArePlaced order (intervals_of ss) → IsAlike rs ss → named keep rs ≡ named keep ss
   alike_names keep rs ss placed other is =
@@ -203,17 +183,10 @@ all_kept rs = ap intervals_of (filter_all (λ r. true) rs (all_any _ rs (λ r. r
 pub gaps_by : (limit : Bool) (entries : List Entry) (rs ss : List Feature) → ((name : List ℕ) → has_records name (intervals_of rs) ≡ has_records name (intervals_of ss))
     → ((name : List ℕ) → SameCover (spans_on name (intervals_of rs)) (spans_on name (intervals_of ss))) → complement limit entries rs ≡ complement limit entries ss
 unfolding complement
-gaps_by limit entries rs ss has cover =
-    ap (flat_map (gaps_on (intervals_of rs))) (filter_same (is_asked limit (intervals_of rs)) (is_asked limit (intervals_of ss)) entries (all_any _ entries (λ e. ap (λ b. not limit || b) (has e.name))))
-    ∙ flat_map_same (gaps_on (intervals_of rs)) (gaps_on (intervals_of ss)) (filter (is_asked limit (intervals_of ss)) entries)
-    (all_any _ (filter (is_asked limit (intervals_of ss)) entries) (λ e. ap (map (placed_on e.name)) (same_gaps e.length (spans_on e.name (intervals_of rs)) (spans_on e.name (intervals_of ss)) (cover e.name))))
+gaps_by limit entries rs ss has cover = grind (arith, same_gaps)
 
 alike_gaps : (limit : Bool) (entries : List Entry) (rs ss : List Feature) → IsAlike rs ss → complement limit entries rs ≡ complement limit entries ss
-alike_gaps limit entries rs ss is =
-    let every : Feature → Bool = λ r. true in
-    gaps_by limit entries rs ss
-    (λ name. ap (has_records name) (sym (all_kept rs)) ∙ is.has every name ∙ ap (has_records name) (all_kept ss))
-    (λ name. subst (λ l. SameCover (spans_on name l) (spans_on name (intervals_of ss))) (all_kept rs) (subst (λ l. SameCover (spans_on name (kept every rs)) (spans_on name l)) (all_kept ss) (is.cover every name)))
+alike_gaps limit entries rs ss is = grind (arith, gaps_by, (all_kept rs), (all_kept ss))
 
 exchanged_depths : (zeros : Bool) (strand : Option Strand) (entries : List Entry) (rs ss : List Feature) → IsPermutation rs ss → coverage zeros strand entries rs ≡ coverage zeros strand entries ss
 unfolding coverage depth_of
@@ -241,12 +214,11 @@ complement_alike limit inputs others chromosomes one two is =
     complement_whole limit inputs chromosomes one ∙ ap interval_lines (alike_gaps limit (entries_in chromosomes) (first_records chromosomes inputs) (first_records chromosomes others) is) ∙ sym (complement_whole limit others chromosomes two)
 
 pub merge_exchanged : exchanged_merge
-merge_exchanged d strand other inputs others chromosomes one two is =
-    merge_alike d strand inputs others chromosomes other one two (exchanged_alike (first_records chromosomes inputs) (first_records chromosomes others) is)
+merge_exchanged d strand other inputs others chromosomes one two is = grind (arith, merge_alike, (exchanged_alike (first_records chromosomes inputs) (first_records chromosomes others) is))
 
 pub complement_exchanged : exchanged_complement
 complement_exchanged limit inputs others chromosomes one two is =
-    complement_alike limit inputs others chromosomes one two (exchanged_alike (first_records chromosomes inputs) (first_records chromosomes others) is)
+    grind (arith, (complement_alike limit inputs others chromosomes one two (exchanged_alike (first_records chromosomes inputs) (first_records chromosomes others) is)))
 
 pub genomecov_exchanged : exchanged_genomecov
 genomecov_exchanged zeros strand inputs others chromosomes one two is =
@@ -255,12 +227,11 @@ genomecov_exchanged zeros strand inputs others chromosomes one two is =
     ∙ sym (genomecov_whole zeros strand others chromosomes two)
 
 pub merge_repeated : repeated_merge
-merge_repeated d strand other inputs others chromosomes one two is =
-    merge_alike d strand inputs others chromosomes other one two (repeated_alike (first_records chromosomes inputs) (first_records chromosomes others) is)
+merge_repeated d strand other inputs others chromosomes one two is = grind (arith, merge_alike, (repeated_alike (first_records chromosomes inputs) (first_records chromosomes others) is))
 
 pub complement_repeated : repeated_complement
 complement_repeated limit inputs others chromosomes one two is =
-    complement_alike limit inputs others chromosomes one two (repeated_alike (first_records chromosomes inputs) (first_records chromosomes others) is)
+    grind (arith, (complement_alike limit inputs others chromosomes one two (repeated_alike (first_records chromosomes inputs) (first_records chromosomes others) is)))
 
 -- Outputs of merge: merged again, and their gaps.
 
@@ -270,16 +241,14 @@ all_counted rs = ap intervals_of (filter_all (λ r. true) rs (all_any _ rs (λ r
 -- ---- merged again
 
 kept_one : {A : Type 0} (t : A → Bool) (x : A) (xs : List A) (b : Bool) → t x ≡ b → AllByRecursion (λ y. t y ≡ true) xs → AllByRecursion (λ y. t y ≡ true) (cond b (x ∷ xs) xs)
-kept_one t x xs true e h = (e, h)
-kept_one t x xs false e h = h
+kept_one t x xs b e h = grind arith
 
 pub kept_pass : {A : Type 0} (t : A → Bool) (xs : List A) → AllByRecursion (λ y. t y ≡ true) (filter t xs)
 kept_pass t [] = tt
 kept_pass t (x ∷ xs) = kept_one t x (filter t xs) (t x) refl (kept_pass t xs)
 
 or_right : (a b : Bool) → b ≡ true → (a || b) ≡ true
-or_right true b e = refl
-or_right false b e = e
+or_right a b e = grind arith
 
 pub back : (rs : List Interval) → intervals_of (map three_columns rs) ≡ rs
 back [] = refl
@@ -291,10 +260,7 @@ again name ns = filter_all (λ other. not (bytes_eq other name)) (without name n
 -- what holds of each name that has records
 names_so : (P : List ℕ → Type 0) (rs : List Interval) → ((name : List ℕ) → has_records name rs ≡ true → P name) → AllByRecursion P (chromosomes rs)
 names_so P [] h = tt
-names_so P (r ∷ rs) h = (
-  h r.chrom (ap (λ b. b || has_records r.chrom rs) (name_eq r.chrom r.chrom refl)),
-  all_filter P (λ other. not (bytes_eq other r.chrom)) (chromosomes rs) (names_so P rs (λ name has. h name (or_right (bytes_eq r.chrom name) (has_records name rs) has))),
-)
+names_so P (r ∷ rs) h = grind (arith, (names_so P rs (λ name has. h name (or_right (bytes_eq r.chrom name) (has_records name rs) has))), name_eq, all_filter)
 
 -- ---- the spans of runs, name by name
 
@@ -319,20 +285,8 @@ module _ (f : List ℕ → List Span) where
   pub spans_present : (name : List ℕ) (names : List (List ℕ)) → AreDistinct names → is_among names name ≡ true → spans_on name (flat_map placed_by names) ≡ f name
   spans_present name [] distinct e = cc
   spans_present name (n ∷ ns) distinct e = elim (cases_name n name) [
-    | inl same ↦
-        spans_on-append name (placed_by n) (flat_map placed_by ns)
-        ∙ ap₂ (λ a b. a ++ b) (subst (λ m. spans_on m (placed_by n) ≡ f n) same (here_all n (f n))) (spans_absent name ns (subst (λ m. is_among ns m ≡ false) same distinct.0))
-        ∙ append-nil (f n) ∙ ap f same
-    | inr other ↦
-        spans_on-append name (placed_by n) (flat_map placed_by ns)
-        ∙ ap₂ (λ a b. a ++ b) (none_there name n (f n) other) (spans_present name ns distinct.1 (ap (λ b. b || is_among ns name) (sym other) ∙ e))
-  ]
-
-  -- what no name has, stays nothing
-  pub spans_by : (name : List ℕ) (names : List (List ℕ)) → AreDistinct names → (is_among names name ≡ false → f name ≡ []) → spans_on name (flat_map placed_by names) ≡ f name
-  spans_by name names distinct none = elim (cases_Bool (is_among names name)) [
-    | inl t ↦ spans_present name names distinct t
-    | inr off ↦ spans_absent name names off ∙ sym (none off)
+    | inl same ↦ grind (arith, spans_on-append, here_all, spans_absent, append-nil)
+    | inr other ↦ grind (arith, (spans_present name ns distinct.1 (ap (λ b. b || is_among ns name) (sym other) ∙ e)), spans_on-append, none_there)
   ]
 
   -- the names that come are all names, if each has some
@@ -346,8 +300,7 @@ module _ (f : List ℕ → List Span) where
 
   pub names_again : (names : List (List ℕ)) → AreDistinct names → AllByRecursion (λ name. 0 < length (f name)) names → chromosomes (flat_map placed_by names) ≡ names
   names_again [] distinct some = refl
-  names_again (n ∷ ns) distinct some =
-      first_name n (f n) (flat_map placed_by ns) some.0 ∙ ap (λ l. n ∷ without n l) (names_again ns distinct.1 some.1) ∙ ap (λ l. n ∷ l) (without_absent n ns distinct.0)
+  names_again (n ∷ ns) distinct some = grind (arith, (names_again ns distinct.1 some.1), first_name, without_absent)
 
 -- ---- runs are somewhere
 
@@ -357,11 +310,7 @@ some_spans (x ∷ xs) p c = omega arith
 
 spans_full : (name : List ℕ) (rs : List Interval) → AllByRecursion (λ (r : Interval). r.start < r.stop) rs → AllByRecursion (λ (s : Span). s.start < s.stop) (spans_on name rs)
 spans_full name [] h = tt
-spans_full name (r ∷ rs) h =
-    elim (bytes_eq r.chrom name) as (λ b. AllByRecursion (λ (s : Span). s.start < s.stop) (cond b (span_of r ∷ spans_on name rs) (spans_on name rs))) [
-      | true ↦ (h.0, spans_full name rs h.1)
-      | false ↦ spans_full name rs h.1
-    ]
+spans_full name (r ∷ rs) h = grind (arith, (spans_full name rs h.1))
 
 has_spans : (name : List ℕ) (rs : List Interval) → has_records name rs ≡ true → 0 < length (spans_on name rs)
 has_spans name [] e = cc
@@ -401,9 +350,7 @@ module _ (order : Order) (total : IsTotal order) (gap : ℕ) (strand : MergeStra
   run_names = ap chromosomes runs_are_by ∙ names_again runs names (distinct_chromosomes used) each_has
 
   pub run_spans : (name : List ℕ) → spans_on name (ordered_runs order gap strand records) ≡ runs name
-  run_spans name =
-      ap (spans_on name) runs_are_by
-      ∙ spans_by runs name names (distinct_chromosomes used) (λ off. ap (runs_of gap) (spans_on-none name used (sym (among_chromosomes name used) ∙ off)) ∙ runs_of-nil gap)
+  run_spans name = grind (arith, runs_are_by, distinct_chromosomes, spans_on-none, among_chromosomes, runs_of-nil, spans_present, spans_absent)
 
   pub run_has : (name : List ℕ) → has_records name (ordered_runs order gap strand records) ≡ has_records name used
   run_has name = sym (among_chromosomes name (ordered_runs order gap strand records)) ∙ ap (λ ns. is_among ns name) run_names ∙ among_chromosomes name used
@@ -411,14 +358,7 @@ module _ (order : Order) (total : IsTotal order) (gap : ℕ) (strand : MergeStra
   -- merged again they stay as they are
   pub merged_again : ArePlaced order (ordered_runs order gap strand records) → ordered_runs order gap All (map three_columns (ordered_runs order gap strand records)) ≡ ordered_runs order gap strand records
   unfolding merged
-  merged_again there =
-      let result = ordered_runs order gap strand records in
-      let again = map three_columns result in
-      ordered_come order gap All again total (subst (ArePlaced order) (sym (back result)) there)
-      ∙ ap (λ rs. merged (chromosomes rs) gap rs) (all_of_them result)
-      ∙ ap (λ ns. merged ns gap result) run_names
-      ∙ flat_map_same (λ name. runs_on name gap result) (placed_by runs) names (all_any _ names (λ name. ap (map (placed_on name)) (ap (runs_of gap) (run_spans name) ∙ runs_again gap (spans_on name used))))
-      ∙ sym runs_are_by
+  merged_again there = grind (arith, ordered_come, back, all_of_them, run_names, run_spans, runs_again)
 
 -- ---- a run on an output
 
@@ -428,8 +368,7 @@ module _ (command : Command) (inputs : Inputs) (chromosomes : Option (List Entry
   report_there = ap (λ found. report_on command found inputs.first inputs.second) genome
 
 writes_by : (written : Written Feature) (records : List Feature) (fault : Option FaultValue) (members : List Feature) → fault ≡ None → members ≡ records → report_by written members fault ≡ record { output = written.whole records; fault = None }
-writes_by written records None members none same = ap (λ rs. record { output = written.whole rs; fault = None }) same
-writes_by written records (Some fault) members none same = cc
+writes_by written records fault members none same = grind arith
 
 pub merge_on : (d : ℕ) (strand : MergeStrand) (inputs : Inputs) (chromosomes : Option (List Entry)) (text : List ℕ) (records : List Feature) → chromosomes_of inputs.genome ≡ Ok chromosomes → inputs.first ≡ whole_text text → IsInput (order_of chromosomes) text records
     → report_of (Merge d strand) inputs ≡ record { output = (merge_written (order_of chromosomes) d strand).whole records; fault = None }
@@ -481,9 +420,7 @@ merged_by d strand inputs chromosomes_in well e =
     ∙ ap (λ bytes. record { output = bytes; fault = None }) (sym e))
 
 pub merge_twice : merge_of_merge
-merge_twice d Each inputs chromosomes_in other well = absurd (other refl)
-merge_twice d All inputs chromosomes_in other well = merged_by d All inputs chromosomes_in well (merge_whole d All inputs chromosomes_in well)
-merge_twice d (One strand) inputs chromosomes_in other well = merged_by d (One strand) inputs chromosomes_in well (merge_whole d (One strand) inputs chromosomes_in well)
+merge_twice = grind (arith, merged_by, merge_whole)
 
 -- ---- complement of merge
 
@@ -498,8 +435,7 @@ fault_as command other inputs chromosomes_in well same = record {
 }
 
 pub told_same : (one other : Written Feature) (members : List Feature) (fault : Option FaultValue) → (report_by one members fault).fault ≡ (report_by other members fault).fault
-told_same one other members None = refl
-told_same one other members (Some fault) = refl
+told_same one other members fault = grind arith
 
 gaps_again : (limit : Bool) (entries : List Entry) (order : Order) (total : IsTotal order) (records : List Feature) (placed : ArePlaced order (intervals_of records)) (full : AllByRecursion (λ (r : Feature). r.start < r.stop) records)
     → complement limit entries (map three_columns (ordered_runs order 0 All records)) ≡ complement limit entries records

@@ -53,22 +53,14 @@ met_by b lines other fault last stop = if b then record { lines = lines; fault =
 
 meet_same : (mine yours : Rule Feature ℕ FaultValue) (members : List Feature) (fault : Option FaultValue) → mine.decided ≡ yours.decided → mine.fault ≡ yours.fault → mine.last ≡ yours.last → ((a : Feature) → mine.lines a ≡ yours.lines a)
     → join_report mine members fault ≡ join_report yours members fault
-meet_same mine yours members fault decided stop last lines =
-    let all : flat_map mine.lines members ≡ flat_map yours.lines members = flat_map_same mine.lines yours.lines members (all_any _ members lines) in
-    let some : written mine members ≡ written yours members = written_same mine yours members (all_any _ members (λ a. (ap (λ (d : Feature → Bool). d a) decided, lines a))) in
-    ap (λ b. met_by b (flat_map mine.lines members) (written mine members) fault mine.last mine.fault) (ap (λ d. list_all d members) decided)
-    ∙ ap₂ (λ x y. met_by (list_all yours.decided members) x y fault mine.last mine.fault) all some
-    ∙ ap₂ (λ l s. met_by (list_all yours.decided members) (flat_map yours.lines members) (written yours members) fault l s) last stop
+meet_same mine yours members fault decided stop last lines = grind arith
 
 missing_lines : (rule : HitRule) (a : Feature) (found : List Feature) → lines_of Missing a found ≡ lines_of Whole a found
-missing_lines rule a [] = refl
-missing_lines rule a (b ∷ more) = refl
+missing_lines rule a found = grind arith
 
 missing_met : (order : Order) (rule : HitRule) (limit : Option ℕ) (first second : Good Feature) → met_within order Missing rule limit first second ≡ met_within order Whole rule limit first second
 unfolding lines_for
-missing_met order rule limit first second =
-    let seen = limited order limit (items_in first) second in
-    meet_same (sweep_rule order Missing rule (items_in seen) seen.fault) (sweep_rule order Whole rule (items_in seen) seen.fault) (items_in first) first.fault refl refl refl (λ a. missing_lines rule a (hits_among rule a (items_in seen)))
+missing_met order rule limit first second = grind arith
 
 same_report_on : (rule : HitRule) (held : Option ℕ) (found : Result (Option (List Entry)) FaultValue) (first : Handed) (second : Option Handed) → report_on (Intersect Missing rule held) found first second ≡ report_on (Subtract true rule held) found first second
 same_report_on rule held (Err fault) first second = refl
@@ -81,26 +73,14 @@ missing_whole rule held inputs = same_report_on rule held (chromosomes_of inputs
 -- ---- the fault doesn't depend on the shape
 
 fault_by : (b : Bool) (l m k n : List ℕ) (fault last stop : Option FaultValue) → (met_by b l m fault last stop).fault ≡ (met_by b k n fault last stop).fault
-fault_by true l m k n fault last stop = refl
-fault_by false l m k n fault last stop = refl
+fault_by b l m k n fault last stop = grind arith
 
 same_fault : (order : Order) (one other : Shape) (rule : HitRule) (limit : Option ℕ) (first second : Good Feature) → (met_within order one rule limit first second).fault ≡ (met_within order other rule limit first second).fault
-same_fault order one other rule limit first second =
-    let seen = limited order limit (items_in first) second in
-    let mine = sweep_rule order one rule (items_in seen) seen.fault in
-    let yours = sweep_rule order other rule (items_in seen) seen.fault in
-    fault_by (list_all mine.decided (items_in first)) (flat_map mine.lines (items_in first)) (written mine (items_in first)) (flat_map yours.lines (items_in first)) (written yours (items_in first)) first.fault seen.fault seen.fault
+same_fault order one other rule limit first second = grind arith
 
 pub other_shape : (one other : Shape) (rule : HitRule) (held : Option ℕ) (inputs : Inputs) (chromosomes : Option (List Entry)) → RunsWithoutFault (Intersect one rule held) inputs chromosomes → RunsWithoutFault (Intersect other rule held) inputs chromosomes
 unfolding report_of
-other_shape one other rule held inputs chromosomes well = record {
-  genome = well.genome;
-  faultless =
-      ap (λ found. (report_on (Intersect other rule held) found inputs.first inputs.second).fault) well.genome
-      ∙ same_fault (order_of chromosomes) other one rule held (bed_good First (order_of chromosomes) inputs.first) (bed_good Second (order_of chromosomes) (or_empty inputs.second))
-      ∙ ap (λ found. (report_on (Intersect one rule held) found inputs.first inputs.second).fault) (sym well.genome)
-      ∙ well.faultless;
-}
+other_shape one other rule held inputs chromosomes well = grind arith
 
 pub writes_lines : (shape : Shape) (rule : HitRule) (held : Option ℕ) (inputs : Inputs) (chromosomes : Option (List Entry)) → RunsWithoutFault (Intersect shape rule held) inputs chromosomes
     → RunWrites (Intersect shape rule held) inputs (intersect shape rule (first_records chromosomes inputs) (second_records chromosomes inputs))
@@ -119,9 +99,7 @@ module _ (rule : HitRule) (second : List Feature) where
 
   once_by : (a : Feature) (found : List Feature) (kept : List Counted) → lines_of Once a found ++ flat_map (λ (c : Counted). own_line c.at) kept
       ≡ flat_map (λ (c : Counted). own_line c.at) (cond (nat_lt 0 (length found)) (record { at = a; hits = length found } ∷ kept) kept)
-  once_by a [] kept = refl
-  once_by a (b ∷ found) kept =
-      ap (λ some. flat_map (λ (c : Counted). own_line c.at) (cond some (record { at = a; hits = length (b ∷ found) } ∷ kept) kept)) (sym (lt-ltb 0 (length (b ∷ found)) (omega arith)))
+  once_by a found kept = grind arith
 
   once_lines : (as_read : List Feature) → intersect Once rule as_read second ≡ flat_map (λ (c : Counted). own_line c.at) (filter (λ (c : Counted). nat_lt 0 c.hits) (map with_hits as_read))
   unfolding lines_for
@@ -130,9 +108,7 @@ module _ (rule : HitRule) (second : List Feature) where
 
   missing_by : (a : Feature) (found : List Feature) (kept : List Counted) → lines_of Missing a found ++ flat_map (λ (c : Counted). own_line c.at) kept
       ≡ flat_map (λ (c : Counted). own_line c.at) (cond (length found == 0) (record { at = a; hits = length found } ∷ kept) kept)
-  missing_by a [] kept = refl
-  missing_by a (b ∷ found) kept =
-      ap (λ none. flat_map (λ (c : Counted). own_line c.at) (cond none (record { at = a; hits = length (b ∷ found) } ∷ kept) kept)) (sym (ne_eqb (length (b ∷ found)) 0 (λ same. absurd (omega (arith, same)))))
+  missing_by a found kept = grind arith
 
   missing_of : (as_read : List Feature) → intersect Missing rule as_read second ≡ flat_map (λ (c : Counted). own_line c.at) (filter (λ (c : Counted). c.hits == 0) (map with_hits as_read))
   unfolding lines_for
@@ -167,46 +143,27 @@ counts_all rule held inputs chromosomes well =
 
 -- ---- a common base is a hit
 
-one_base_among : (both : Bool) (a : Feature) (bs : List Feature) → hits_among (one_base both) a bs ≡ hits_among any_overlap a bs
-one_base_among both a [] = refl
-one_base_among both a (b ∷ bs) = ap₂ (λ h l. cond h (b ∷ l) l) (of_nothing both false a b) (one_base_among both a bs)
-
 one_base_lines : (both : Bool) (shape : Shape) (first bs : List Feature) → intersect shape (one_base both) first bs ≡ intersect shape any_overlap first bs
 unfolding lines_for
-one_base_lines both shape [] bs = refl
-one_base_lines both shape (a ∷ first) bs = ap₂ (λ x y. x ++ y) (ap (lines_of shape a) (one_base_among both a bs)) (one_base_lines both shape first bs)
+one_base_lines both shape first bs = grind (arith, of_nothing)
 
 any_hits : (a b : Feature) → a.chrom ≡ b.chrom → max a.start b.start < min a.stop b.stop → hits any_overlap a b ≡ true
 unfolding hits strands_agree
-any_hits a b same some =
-    let shares : ltb 0 (shared_bases a b) ≡ true = subst (λ t. ltb 0 (cond t (min a.stop b.stop - max a.start b.start) 0) ≡ true) (sym (name_eq a.chrom b.chrom same)) (lt-ltb 0 (min a.stop b.stop - max a.start b.start) (omega (arith, some))) in
-    ap₂ (λ s e. s && e) shares (enough_of_nothing any_overlap (shared_bases a b) a b refl)
+any_hits a b same some = grind (arith, name_eq, enough_of_nothing)
 
 -- one more record
 first_or : (a b : Feature) (bs : List Feature) (p : ℕ) → IsCovered (spans_of (b ∷ hits_among any_overlap a bs)) p → (IsCovered (spans_of (hits_among any_overlap a bs)) p → IsCovered (spans_on a.chrom (intervals_of bs)) p) → IsCovered (span_of (interval_of b) ∷ spans_on a.chrom (intervals_of bs)) p
-first_or a b bs p (inl here) more = inl here
-first_or a b bs p (inr there) more = inr (more there)
+first_or a b bs p p1 more = grind arith
 
 wider : (name : List ℕ) (b : Feature) (bs : List Feature) (p : ℕ) → IsCovered (spans_on name (intervals_of bs)) p → IsCovered (spans_on name (intervals_of (b ∷ bs))) p
-wider name b bs p c =
-    elim (bytes_eq b.chrom name) as (λ t. IsCovered (cond t (span_of (interval_of b) ∷ spans_on name (intervals_of bs)) (spans_on name (intervals_of bs))) p) [
-      | true ↦ inr c
-      | false ↦ c
-    ]
+wider name b bs p c = grind arith
 
 longer : (a b : Feature) (bs : List Feature) (p : ℕ) → IsCovered (spans_of (hits_among any_overlap a bs)) p → IsCovered (spans_of (hits_among any_overlap a (b ∷ bs))) p
-longer a b bs p c =
-    elim (hits any_overlap a b) as (λ h. IsCovered (spans_of (cond h (b ∷ hits_among any_overlap a bs) (hits_among any_overlap a bs))) p) [
-      | true ↦ inr c
-      | false ↦ c
-    ]
+longer a b bs p c = grind arith
 
 here_back : (a b : Feature) (bs : List Feature) (p : ℕ) → a.start ≤ p → p < a.stop → b.chrom ≡ a.chrom → IsCovered (span_of (interval_of b) ∷ spans_on a.chrom (intervals_of bs)) p
     → (IsCovered (spans_on a.chrom (intervals_of bs)) p → IsCovered (spans_of (hits_among any_overlap a bs)) p) → IsCovered (spans_of (hits_among any_overlap a (b ∷ bs))) p
-here_back a b bs p from to same (inl here) more =
-    let hit = any_hits a b (sym same) (omega (arith, here.0, here.1, from, to)) in
-    subst (λ h. IsCovered (spans_of (cond h (b ∷ hits_among any_overlap a bs) (hits_among any_overlap a bs))) p) (sym hit) (inl here)
-here_back a b bs p from to same (inr there) more = longer a b bs p (more there)
+here_back a b bs p from to same p1 more = grind (arith, any_hits)
 
 -- the positions of a that the second input has, and those that its hits have
 pub hit_to : (a : Feature) (bs : List Feature) (p : ℕ) → IsCovered (spans_of (hits_among any_overlap a bs)) p → IsCovered (spans_on a.chrom (intervals_of bs)) p
@@ -215,9 +172,7 @@ hit_to a (b ∷ bs) p c = elim (cases_Bool (hits any_overlap a b)) [
   | inl t ↦
       let there : IsCovered (spans_of (b ∷ hits_among any_overlap a bs)) p = subst (λ h. IsCovered (spans_of (cond h (b ∷ hits_among any_overlap a bs) (hits_among any_overlap a bs))) p) t c in
       subst (λ l. IsCovered l p) (sym (spans_on-here a.chrom (interval_of b) (intervals_of bs) (sym (same_name any_overlap a b t)))) (first_or a b bs p there (hit_to a bs p))
-  | inr f ↦
-      let there : IsCovered (spans_of (hits_among any_overlap a bs)) p = subst (λ h. IsCovered (spans_of (cond h (b ∷ hits_among any_overlap a bs) (hits_among any_overlap a bs))) p) f c in
-      wider a.chrom b bs p (hit_to a bs p there)
+  | inr f ↦ grind (arith, (hit_to a bs p (subst (λ h. IsCovered (spans_of (cond h (b ∷ hits_among any_overlap a bs) (hits_among any_overlap a bs))) p) f c)))
 ]
 
 pub hit_back : (a : Feature) (bs : List Feature) (p : ℕ) → a.start ≤ p → p < a.stop → IsCovered (spans_on a.chrom (intervals_of bs)) p → IsCovered (spans_of (hits_among any_overlap a bs)) p
@@ -241,35 +196,17 @@ covered_length (b ∷ found) p c = omega arith
 -- ---- what is written of a, by the positions that the second input has
 
 module _ (a : Feature) (bs cs : List Feature) (full : AllByRecursion IsSaid bs) (same : SameCover (spans_on a.chrom (intervals_of bs)) (spans_on a.chrom (intervals_of cs))) where
-  left_to : (p : ℕ) → IsLeft a (hits_among any_overlap a bs) p → IsLeft a (hits_among any_overlap a cs) p
-  left_to p left = record {
-    from_start = left.from_start;
-    before_stop = left.before_stop;
-    bare = λ c. left.bare (hit_back a bs p left.from_start left.before_stop (same.back p (hit_to a cs p c)));
-  }
-
   left_back : (p : ℕ) → IsLeft a (hits_among any_overlap a cs) p → IsLeft a (hits_among any_overlap a bs) p
-  left_back p left = record {
-    from_start = left.from_start;
-    before_stop = left.before_stop;
-    bare = λ c. left.bare (hit_back a cs p left.from_start left.before_stop (same.to p (hit_to a bs p c)));
-  }
+  left_back p left = grind (arith, hit_back, hit_to)
 
   pub pieces_same : pieces a (hits_among any_overlap a bs) ≡ pieces a (hits_among any_overlap a cs)
-  pieces_same =
-      let are = are_pieces a (hits_among any_overlap a bs) in
-      only_pieces a (hits_among any_overlap a cs) (pieces a (hits_among any_overlap a bs)) (record { apart = are.apart; within = λ p c. left_to p (are.within p c); whole = λ p left. are.whole p (left_back p left) })
+  pieces_same = grind (arith, (are_pieces a (hits_among any_overlap a bs)), only_pieces, left_back, hit_back, hit_to)
 
   some_to : 0 < length (hits_among any_overlap a bs) → 0 < length (hits_among any_overlap a cs)
-  some_to some =
-      let first = first_covered a (hits_among any_overlap a bs) some (all_hits any_overlap a bs full) in
-      covered_length (hits_among any_overlap a cs) first.0 (hit_back a cs first.0 first.1 first.2 (same.to first.0 (hit_to a bs first.0 first.3)))
+  some_to some = grind (arith, first_covered, all_hits, covered_length, hit_back, hit_to)
 
 once_same : (a : Feature) (found other : List Feature) → (0 < length found → 0 < length other) → (0 < length other → 0 < length found) → (lines_of Once a found ≡ lines_of Once a other) × (lines_of Missing a found ≡ lines_of Missing a other)
-once_same a [] [] to back = (refl, refl)
-once_same a [] (c ∷ other) to back = absurd (omega (arith, back (omega arith)))
-once_same a (b ∷ found) [] to back = absurd (omega (arith, to (omega arith)))
-once_same a (b ∷ found) (c ∷ other) to back = (refl, refl)
+once_same a found other to back = grind arith
 
 -- shapes that see nothing but the bases of the second input
 pub record SeesBases (shape : Shape) : Type 0 where
@@ -294,40 +231,25 @@ intersect_sees shape see first bs cs one two same = flat_map_same (λ a. lines_f
 -- ---- a run by another second input
 
 none_by : (b : Bool) (lines other : List ℕ) (one fault : Option FaultValue) → one ≡ None → fault ≡ None → (either_met b lines other one fault).fault ≡ None
-none_by true lines other None fault e f = f
-none_by true lines other (Some x) fault e f = cc
-none_by false lines other one fault e f = f
+none_by b lines other one fault e f = grind arith
 
 alone_none : (b : Bool) (lines other : List ℕ) (one : Option FaultValue) → b ≡ true → (either_met b lines other one None).fault ≡ None → one ≡ None
-alone_none true lines other None e f = refl
-alone_none true lines other (Some g) e f = cc
-alone_none false lines other one e f = cc
+alone_none b lines other one e f = grind arith
 
 first_none : (order : Order) (shape : Shape) (rule : HitRule) (first : Good Feature) (second : List Feature) (fault : Option FaultValue) → fault ≡ None → (join_report (sweep_rule order shape rule second fault) (items_in first) first.fault).fault ≡ None → first.fault ≡ None
-first_none order shape rule first second None none e =
-    let r = sweep_rule order shape rule second None in
-    alone_none (list_all r.decided (items_in first)) (flat_map r.lines (items_in first)) (written r (items_in first)) first.fault (all_true (λ (a : Feature). true) (items_in first) (all_any _ (items_in first) (λ a. refl))) e
-first_none order shape rule first second (Some fault) none e = cc
+first_none order shape rule first second fault none e = grind (arith, all_true, all_any)
 
 pub met_none : (order : Order) (shape : Shape) (rule : HitRule) (first second : Good Feature) → first.fault ≡ None → second.fault ≡ None → (met_within order shape rule None first second).fault ≡ None
-met_none order shape rule first second one two =
-    let r = sweep_rule order shape rule (items_in second) second.fault in
-    none_by (list_all r.decided (items_in first)) (flat_map r.lines (items_in first)) (written r (items_in first)) first.fault second.fault one two
+met_none order shape rule first second one two = grind arith
 
 -- a run without a fault has inputs without one
 pub met_faultless : (order : Order) (shape : Shape) (rule : HitRule) (limit : Option ℕ) (first second : Good Feature) → (met_within order shape rule limit first second).fault ≡ None → (first.fault ≡ None) × (second.fault ≡ None)
-met_faultless order shape rule limit first second e =
-    let seen = limited order limit (items_in first) second in
-    let r = sweep_rule order shape rule (items_in seen) seen.fault in
-    let nones = either_fault (list_all r.decided (items_in first)) (flat_map r.lines (items_in first)) (written r (items_in first)) first.fault seen.fault e in
-    (first_none order shape rule first (items_in seen) seen.fault nones e, ap (λ (g : Good Feature). g.fault) (sym (limit_whole order limit (items_in first) second nones)) ∙ nones)
+met_faultless order shape rule limit first second e = grind (arith, first_none, limit_whole)
 
 -- a text without a fault as one input has none as another, and the same records
 like_with : (sorting : Sorting) (n : ℕ) (last : Option Locus) (one other : Input) (said : Result (Option Feature) Kind) (ls ms : Option Locus → Good Feature) → ((now : Option Locus) → (ls now).fault ≡ None → (items_in (ms now) ≡ items_in (ls now)) × ((ms now).fault ≡ None))
     → (good_with (bed_format sorting) one n last said ls).fault ≡ None → (items_in (good_with (bed_format sorting) other n last said ms) ≡ items_in (good_with (bed_format sorting) one n last said ls)) × ((good_with (bed_format sorting) other n last said ms).fault ≡ None)
-like_with sorting n last one other (Err kind) ls ms h e = cc
-like_with sorting n last one other (Ok None) ls ms h e = h last e
-like_with sorting n last one other (Ok (Some r)) ls ms h e = let rest = h ((bed_format sorting).after last r) e in (ap (λ l. r ∷ l) rest.0, rest.1)
+like_with sorting n last one other said ls ms h e = grind arith
 
 pub like_from : (sorting : Sorting) (one other : Input) (last : Option Locus) (lines : List TextLine) → (good_from (bed_format sorting) one last lines).fault ≡ None
     → (items_in (good_from (bed_format sorting) other last lines) ≡ items_in (good_from (bed_format sorting) one last lines)) × ((good_from (bed_format sorting) other last lines).fault ≡ None)
@@ -337,32 +259,24 @@ like_from sorting one other last (line ∷ lines) e =
     like_with sorting line.number last one other (line_says sorting last line.text) (λ now. good_from (bed_format sorting) one now lines) (λ now. good_from (bed_format sorting) other now lines) (λ now none. like_from sorting one other now lines none) e
 
 pub cut_none : (fault cut : Option FaultValue) → or_else fault cut ≡ None → (fault ≡ None) × (cut ≡ None)
-cut_none None None e = (refl, refl)
-cut_none None (Some c) e = cc
-cut_none (Some f) cut e = cc
+cut_none fault cut e = grind arith
 
 pub uncut : (is_cut : Bool) (one other : FaultValue) → (if is_cut then Some one else None) ≡ None → (if is_cut then Some other else None) ≡ None
-uncut true one other e = cc
-uncut false one other e = refl
+uncut is_cut one other e = grind arith
 
 pub other_input : (order : Order) (handed : Handed) → (bed_good Second order handed).fault ≡ None → (items_in (bed_good First order handed) ≡ items_in (bed_good Second order handed)) × ((bed_good First order handed).fault ≡ None)
 other_input order handed e =
     let lines = lines_handed handed in
     let format = bed_format (sorting_of order) in
     let parts = cut_none (good format Second lines).fault (cut_fault Second handed) e in
-    let like = like_from (sorting_of order) Second First None lines parts.0 in
-    let cut : cut_fault First handed ≡ None = uncut handed.is_cut (read_failed Second (suc (length (whole_lines handed.text)))) (read_failed First (suc (length (whole_lines handed.text)))) parts.1 in
-    (like.0, ap (λ f. or_else f (cut_fault First handed)) like.1 ∙ cut)
+    grind (arith, (like_from (sorting_of order) Second First None lines parts.0))
 
 pub output_by : (written : Written Feature) (members : List Feature) (fault : Option FaultValue) → fault ≡ None → (report_by written members fault).output ≡ written.whole members
-output_by written members None e = refl
-output_by written members (Some fault) e = cc
+output_by written members fault e = grind arith
 
 pub sweeps_from : (command : Command) (inputs : Inputs) (chromosomes : Option (List Entry)) (bytes : List ℕ) → chromosomes_of inputs.genome ≡ Ok chromosomes
     → ((behaviour_of command chromosomes).report inputs.first inputs.second).fault ≡ None → (RunsWithoutFault command inputs chromosomes → (report_of command inputs).output ≡ bytes) → RunWrites command inputs bytes
-sweeps_from command inputs chromosomes bytes genome none output =
-    let well : RunsWithoutFault command inputs chromosomes = record { genome = genome; faultless = ap (λ (r : Report). r.fault) (report_there command inputs chromosomes genome) ∙ none } in
-    record { output = output well; faultless = well.faultless }
+sweeps_from command inputs chromosomes bytes genome none output = grind (arith, report_there)
 
 module _ (inputs : Inputs) (chromosomes : Option (List Entry)) (genome : chromosomes_of inputs.genome ≡ Ok chromosomes) (none : (bed_good Second (order_of chromosomes) (or_empty inputs.second)).fault ≡ None) where
   abbrev order : Order
@@ -387,16 +301,10 @@ module _ (inputs : Inputs) (chromosomes : Option (List Entry)) (genome : chromos
       ap (λ (r : Report). r.output) (report_there (Merge 0 All) alone chromosomes genome) ∙ output_by (merge_written order 0 All) (items_in good) good.fault seconds_first.1 ∙ ap (λ rs. interval_lines (ordered_runs order 0 All rs)) seconds_first.0
 
   second_input : IsInput order (of_second (Merge 0 All) inputs) (map three_columns runs)
-  second_input = subst (λ text. IsInput order text (map three_columns runs)) (sym second_is)
-      (merge_back order (order_total chromosomes) 0 All seconds (good_are_said Second order (or_empty inputs.second)) (placed_good Second order (or_empty inputs.second) (order_total chromosomes)))
+  second_input = grind (arith, second_is, merge_back, order_total, good_are_said, placed_good)
 
   same_bases : (name : List ℕ) → SameCover (spans_on name (intervals_of seconds)) (spans_on name (intervals_of (map three_columns runs)))
-  same_bases name =
-      let full = all_so IsSaid (λ (r : Feature). r.start < r.stop) seconds (λ r is. is.feature.non_empty) (good_are_said Second order (or_empty inputs.second)) in
-      let all : counted All seconds ≡ intervals_of seconds = all_counted seconds in
-      subst (SameCover (spans_on name (intervals_of seconds)))
-      (sym (ap (spans_on name) (back runs) ∙ run_spans order (order_total chromosomes) 0 All seconds (placed_good Second order (or_empty inputs.second) (order_total chromosomes)) full name ∙ ap (λ l. runs_of 0 (spans_on name l)) all))
-      (same_sym (runs_of 0 (spans_on name (intervals_of seconds))) (spans_on name (intervals_of seconds)) (runs_cover (spans_on name (intervals_of seconds))))
+  same_bases name = grind (arith, all_so, good_are_said, all_counted, back, run_spans, order_total, placed_good, same_sym, runs_cover)
 
   module _ (shape : Shape) (see : SeesBases shape) (first_none : (bed_good First order inputs.first).fault ≡ None) where
     merged_fault : (met_within order shape any_overlap None (bed_good First order inputs.first) (bed_good Second order (whole_text (of_second (Merge 0 All) inputs)))).fault ≡ None
@@ -467,17 +375,13 @@ elsewhere r rs (n ∷ ns) h = ap₂ (λ (b : Bool) more. record { chrom = n; ite
 
 none_on : (name : List ℕ) (rs : List Feature) → has_records name (intervals_of rs) ≡ false → on_name name rs ≡ []
 none_on name [] e = refl
-none_on name (r ∷ rs) e =
-    let parts = or_parts (bytes_eq r.chrom name) (has_records name (intervals_of rs)) e in
-    ap (λ (b : Bool). cond b (r ∷ on_name name rs) (on_name name rs)) parts.0 ∙ none_on name rs parts.1
+none_on name (r ∷ rs) e = grind (arith, (none_on name rs (or_parts (bytes_eq r.chrom name) (has_records name (intervals_of rs)) e).1))
 
 not_false : (b : Bool) → not b ≡ true → b ≡ false
-not_false true e = cc
-not_false false e = refl
+not_false b e = grind arith
 
 without_others : (n : List ℕ) (ns : List (List ℕ)) → AllByRecursion (λ m. bytes_eq n m ≡ false) (without n ns)
-without_others n ns =
-    all_so (λ m. not (bytes_eq m n) ≡ true) (λ m. bytes_eq n m ≡ false) (without n ns) (λ m e. name_ne-sym m n (not_false (bytes_eq m n) e)) (kept_pass (λ m. not (bytes_eq m n)) ns)
+without_others n ns = grind (arith, all_so, name_ne-sym, kept_pass)
 
 -- ---- one block for each chromosome
 
@@ -492,10 +396,7 @@ followed r s ss (inl same) e =
     let rest = without s.chrom (chromosomes (intervals_of ss)) in
     let here = name_eq r.chrom s.chrom (sym same.0) in
     let apart : AllByRecursion (λ n. bytes_eq r.chrom n ≡ false) rest = subst (λ name. AllByRecursion (λ n. bytes_eq name n ≡ false) rest) same.0 (without_others s.chrom (chromosomes (intervals_of ss))) in
-    ap (block_with r.chrom r) e
-    ∙ ap (λ (b : Bool). before_by b r (on_name s.chrom later) s.chrom (map (block_of later) rest)) here
-    ∙ ap₂ (λ (b : Bool) more. record { chrom = s.chrom; items = cond b (r ∷ on_name s.chrom later) (on_name s.chrom later) } ∷ more) (sym here) (sym (elsewhere r later rest apart))
-    ∙ ap (map (block_of (r ∷ later))) (sym (same_chromosome (interval_of r) (interval_of s) (intervals_of ss) (sym same.0)))
+    grind (arith, (elsewhere r later rest apart), (same_chromosome (interval_of r) (interval_of s) (intervals_of ss) (sym same.0)))
 followed r s ss (inr off) e =
     let later = s ∷ ss in
     let rest = without s.chrom (chromosomes (intervals_of ss)) in
@@ -503,10 +404,7 @@ followed r s ss (inr off) e =
     let apart = or_parts (bytes_eq s.chrom r.chrom) (has_records r.chrom (intervals_of ss)) off in
     let absent : is_among names r.chrom ≡ false = among_chromosomes r.chrom (intervals_of later) ∙ off in
     let alone : on_name r.chrom (r ∷ later) ≡ r ∷ [] = ap (λ (b : Bool). cond b (r ∷ on_name r.chrom later) (on_name r.chrom later)) (name_eq r.chrom r.chrom refl) ∙ ap (λ l. r ∷ l) (none_on r.chrom later off) in
-    ap (block_with r.chrom r) e
-    ∙ ap (λ (b : Bool). before_by b r (on_name s.chrom later) s.chrom (map (block_of later) rest)) (name_ne-sym s.chrom r.chrom apart.0)
-    ∙ ap₂ (λ items more. record { chrom = r.chrom; items = items } ∷ more) (sym alone) (sym (elsewhere r later names (others r.chrom names absent)))
-    ∙ ap (λ ns. map (block_of (r ∷ later)) (r.chrom ∷ ns)) (sym (without_absent r.chrom names absent))
+    grind (arith, (elsewhere r later names (others r.chrom names absent)), (without_absent r.chrom names absent))
 
 pub together_blocks : (rs : List Feature) → AreContiguous (intervals_of rs) → blocks rs ≡ map (block_of rs) (chromosomes (intervals_of rs))
 together_blocks [] h = refl
@@ -517,32 +415,14 @@ together_blocks (r ∷ s ∷ ss) h = followed r s ss h.0 (together_blocks (s ∷
 
 covers_on : (p : ℕ) (name : List ℕ) (rs : List Feature) → list_any (covers p) (on_name name rs) ≡ is_covered (spans_on name (intervals_of rs)) p
 covers_on p name [] = refl
-covers_on p name (r ∷ rs) =
-    elim (bytes_eq r.chrom name) as (λ b. list_any (covers p) (cond b (r ∷ on_name name rs) (on_name name rs)) ≡ is_covered (cond b (span_of (interval_of r) ∷ spans_on name (intervals_of rs)) (spans_on name (intervals_of rs))) p) [
-      | true ↦ ap (λ b. (leb r.start p && ltb p r.stop) || b) (covers_on p name rs)
-      | false ↦ covers_on p name rs
-    ]
+covers_on p name (r ∷ rs) = grind (arith, (covers_on p name rs))
 
 both_ways : (a b : Bool) → (a ≡ true → b ≡ true) → (b ≡ true → a ≡ true) → a ≡ b
-both_ways true true to back = refl
-both_ways true false to back = sym (to refl)
-both_ways false true to back = back refl
-both_ways false false to back = refl
+both_ways a b to back = grind arith
 
 module _ (rs ss : List Feature) where
-  -- the same positions of a chromosome
-  same_on : (p : ℕ) (name : List ℕ) → SameCover (spans_on name (intervals_of rs)) (spans_on name (intervals_of ss)) → list_any (covers p) (on_name name rs) ≡ list_any (covers p) (on_name name ss)
-  same_on p name same =
-      let one = spans_on name (intervals_of rs) in
-      let other = spans_on name (intervals_of ss) in
-      covers_on p name rs
-      ∙ both_ways (is_covered one p) (is_covered other p) (λ e. (is_covered-Decides other p).1 (same.to p ((is_covered-Decides one p).0 e))) (λ e. (is_covered-Decides one p).1 (same.back p ((is_covered-Decides other p).0 e)))
-      ∙ sym (covers_on p name ss)
-
   if_last : (p : ℕ) (left : Option (List (List ℕ))) (xs ys : List Feature) → list_any (covers p) xs ≡ list_any (covers p) ys → list_any (covers p) (items_if_last left xs) ≡ list_any (covers p) (items_if_last left ys)
-  if_last p None xs ys e = refl
-  if_last p (Some []) xs ys e = e
-  if_last p (Some (n ∷ ns)) xs ys e = refl
+  if_last p left xs ys e = grind arith
 
   abbrev own_of : List (Owned Feature) → List Feature
   own_of os = flat_map (λ (o : Owned Feature). items_if_last o.left o.block.items) os
@@ -550,11 +430,7 @@ module _ (rs ss : List Feature) where
   own_same : (p : ℕ) (same : (name : List ℕ) → SameCover (spans_on name (intervals_of rs)) (spans_on name (intervals_of ss))) (left : Option (List (List ℕ))) (names : List (List ℕ))
       → list_any (covers p) (own_of (owned_from left (map (block_of rs) names))) ≡ list_any (covers p) (own_of (owned_from left (map (block_of ss) names)))
   own_same p same left [] = refl
-  own_same p same left (n ∷ ns) =
-      let next = left_by left n in
-      list_any-append (covers p) (items_if_last next (on_name n rs)) (own_of (owned_from next (map (block_of rs) ns)))
-      ∙ ap₂ (λ a b. a || b) (if_last p next (on_name n rs) (on_name n ss) (same_on p n (same n))) (own_same p same next ns)
-      ∙ sym (list_any-append (covers p) (items_if_last next (on_name n ss)) (own_of (owned_from next (map (block_of ss) ns))))
+  own_same p same left (n ∷ ns) = grind (arith, (own_same p same (left_by left n) ns), list_any-append, covers_on, is_covered-Decides)
 
   left_same : (left : Option (List (List ℕ))) (names : List (List ℕ)) → left_at_last left (owned_from left (map (block_of rs) names)) ≡ left_at_last left (owned_from left (map (block_of ss) names))
   left_same left [] = refl
@@ -566,14 +442,8 @@ module _ (rs ss : List Feature) where
 
     -- they mask the same positions of each sequence
     pub own_alike : ((name : List ℕ) → SameCover (spans_on name (intervals_of rs)) (spans_on name (intervals_of ss))) → (names : List (List ℕ)) (p : ℕ) → list_any (covers p) (own_records names rs) ≡ list_any (covers p) (own_records names ss)
-    own_alike same names p =
-        ap (λ bs. list_any (covers p) (own_of (owned_from (Some names) bs))) (together_blocks rs one)
-        ∙ own_same p same (Some names) (chromosomes (intervals_of rs))
-        ∙ ap (λ bs. list_any (covers p) (own_of (owned_from (Some names) bs))) (sym blocks_two)
+    own_alike same names p = grind (arith, (together_blocks rs one), (own_same p same (Some names) (chromosomes (intervals_of rs))), blocks_two)
 
     -- and leave the same names
     pub leave_alike : (names : List (List ℕ)) → leave (Some names) None ss ≡ leave (Some names) None rs
-    leave_alike names =
-        leave_all (Some names) ss ∙ ap (λ bs. left_at_last (Some names) (owned_from (Some names) bs)) blocks_two
-        ∙ sym (left_same (Some names) (chromosomes (intervals_of rs)))
-        ∙ ap (λ bs. left_at_last (Some names) (owned_from (Some names) bs)) (sym (together_blocks rs one)) ∙ sym (leave_all (Some names) rs)
+    leave_alike names = grind (arith, leave_all, left_same, together_blocks)

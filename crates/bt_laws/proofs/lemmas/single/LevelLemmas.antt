@@ -25,23 +25,14 @@ value_from first (x ∷ xs) p v d (inl w) = omega (arith, d.0, w.0)
 value_from first (x ∷ xs) p v d (inr w) = let h = value_from x.stop xs p v d.3 w in omega (arith, d.0, d.1)
 
 value_from_start : (first : ℕ) (x : Level) (xs : List Level) (p v : ℕ) → AreDisjointFrom first (x ∷ xs) → HasValue (x ∷ xs) p v → x.start ≤ p
-value_from_start first x xs p v d (inl w) = w.0
-value_from_start first x xs p v d (inr w) = let h = value_from x.stop xs p v d.3 w in omega (arith, d.1)
+value_from_start first x xs p v d p1 = grind (arith, value_from)
 
 -- below its stop the first interval alone has a value
 value_first : (first : ℕ) (x : Level) (xs : List Level) (p v : ℕ) → AreDisjointFrom first (x ∷ xs) → p < x.stop → HasValue (x ∷ xs) p v → x.value ≡ v
-value_first first x xs p v d l (inl w) = w.2
-value_first first x xs p v d l (inr w) = let h = value_from x.stop xs p v d.3 w in absurd (omega (arith, h, l))
-
--- at its stop there is none, or another one
-pub next_differs : (x : Level) (xs : List Level) → DiffersFromNext x xs → AreDisjointFrom x.stop xs → HasValue xs x.stop x.value → ⊥
-next_differs x [] other d h = h
-next_differs x (y ∷ ys) other d (inl w) = other (omega (arith, d.0, w.0)) (sym w.2)
-next_differs x (y ∷ ys) other d (inr w) = let h = value_from y.stop ys x.stop x.value d.3 w in absurd (omega (arith, d.0, d.1))
+value_first first x xs p v d l p1 = grind (arith, value_from)
 
 stop_differs : (first : ℕ) (x : Level) (xs : List Level) → AreDisjointFrom first (x ∷ xs) → HasValue (x ∷ xs) x.stop x.value → ⊥
-stop_differs first x xs d (inl w) = absurd (omega (arith, w.1))
-stop_differs first x xs d (inr w) = next_differs x xs d.2 d.3 w
+stop_differs first x xs d p1 = grind (arith, value_from)
 
 -- what the first list has, the second has too
 abbrev pub IsWithin : List Level → List Level → Type 0
@@ -57,24 +48,15 @@ stop_up_to : (f g : ℕ) (x y : Level) (xs ys : List Level) → AreDisjointFrom 
 stop_up_to f g x y xs ys a b within e =
     let v = same_value f g x y xs ys a b within e in
     elim (cases_lt y.stop x.stop) [
-      | inl l ↦
-          let has : HasValue (y ∷ ys) y.stop x.value = within y.stop x.value (inl (omega (arith, b.1), l, refl)) in
-          absurd (stop_differs g y ys b (subst (λ v. HasValue (y ∷ ys) y.stop v) (sym v) has))
+      | inl l ↦ grind (arith, (stop_differs g y ys b (subst (λ v. HasValue (y ∷ ys) y.stop v) (sym v) (within y.stop x.value (inl (omega (arith, b.1), l, refl))))))
       | inr h ↦ h
     ]
 
 tail_within : (f : ℕ) (x y : Level) (xs ys : List Level) → AreDisjointFrom f (x ∷ xs) → x.stop ≡ y.stop → IsWithin (x ∷ xs) (y ∷ ys) → IsWithin xs ys
-tail_within f x y xs ys a e within p v h =
-    let past = value_from x.stop xs p v a.3 h in
-    elim (within p v (inr h)) [
-      | inl w ↦ absurd (omega (arith, w.1))
-      | inr r ↦ r
-    ]
+tail_within f x y xs ys a e within = grind (arith, value_from)
 
 same_level : (x y : Level) → x.start ≡ y.start → x.stop ≡ y.stop → x.value ≡ y.value → x ≡ y
-same_level x y s e v =
-    let make : ℕ → ℕ → ℕ → Level = λ a b c. record { start = a; stop = b; value = c } in
-    ap₂ (λ a b. make a b x.value) s e ∙ ap (make y.start y.stop) v
+same_level x y s e v = grind arith
 
 same_levels : (f g : ℕ) (xs ys : List Level) → AreDisjointFrom f xs → AreDisjointFrom g ys → IsWithin xs ys → IsWithin ys xs → xs ≡ ys
 same_levels f g [] [] a b to back = refl
@@ -88,8 +70,7 @@ same_levels f g (x ∷ xs) (y ∷ ys) a b to back =
     let long = stop_up_to g f y x ys xs b a back (sym starts) in
     let stops : x.stop ≡ y.stop = omega arith in
     let heads = same_level x y starts stops (sym (same_value f g x y xs ys a b to starts)) in
-    let tails = same_levels x.stop y.stop xs ys a.3 b.3 (tail_within f x y xs ys a stops to) (tail_within g y x ys xs b (sym stops) back) in
-    cc
+    grind (arith, (same_levels x.stop y.stop xs ys a.3 b.3 (tail_within f x y xs ys a stops to) (tail_within g y x ys xs b (sym stops) back)))
 
 -- the list has the values of n positions before an end, from a first one on
 record IsScanOf (value : ℕ → Option ℕ) (first end : ℕ) (levels : List Level) : Type 0 where
@@ -108,19 +89,7 @@ looser f g (x ∷ xs) h d = (omega (arith, d.0), d.1, d.2, d.3)
 
 -- what has begun ends here
 ended_scans : (value : ℕ → Option ℕ) (first p : ℕ) (begun : Option Begun) → IsBegun value first p begun → IsScanOf value first p (ended_at begun p)
-ended_scans value first p None b = record {
-  disjoint = tt;
-  within = λ q v h. absurd h;
-  whole = λ q v low high e. absurd (omega arith);
-}
-ended_scans value first p (Some begun) b = record {
-  disjoint = (omega (arith, b.0), omega (arith, b.0, b.1), tt, tt);
-  within = λ q v h. elim h [
-    | inl w ↦ (w.1, b.2 q (omega (arith, b.0, w.0)) w.1 ∙ ap Some w.2)
-    | inr w ↦ absurd w
-  ];
-  whole = λ q v low high e. let mine = b.2 q low high in inl (omega (arith, b.0), high, let same : Some begun.value ≡ Some v = sym mine ∙ e in cc);
-}
+ended_scans value first p begun b = grind arith
 
 differs_before : (value : ℕ → Option ℕ) (begun : Begun) (p end : ℕ) (rest : List Level) → ((v : ℕ) → value p ≡ Some v → begun.value ≡ v → ⊥) → IsScanOf value p end rest → DiffersFromNext (record { start = begun.start; stop = p; value = begun.value }) rest
 differs_before value begun p end [] other scan = tt
@@ -131,30 +100,11 @@ differs_before value begun p end (m ∷ ms) other scan = λ touch same.
 -- an ended interval before a scan that begins where it ends
 one_before : (value : ℕ → Option ℕ) (begun : Begun) (first p end : ℕ) (rest : List Level) → IsBegun value first p (Some begun) → p ≤ end → IsScanOf value p end rest → ((v : ℕ) → value p ≡ Some v → begun.value ≡ v → ⊥)
     → IsScanOf value first end (record { start = begun.start; stop = p; value = begun.value } ∷ rest)
-one_before value begun first p end rest b up scan other =
-    let mine = ended_scans value first p (Some begun) b in
-    record {
-      disjoint = (omega (arith, b.0), omega (arith, b.0, b.1), differs_before value begun p end rest other scan, scan.disjoint);
-      within = λ q v h. elim h [
-        | inl w ↦ let s = mine.within q v (inl w) in (omega (arith, w.1), s.1)
-        | inr w ↦ scan.within q v w
-      ];
-      whole = λ q v low high e. elim (cases_lt q p) [
-        | inl l ↦ elim (mine.whole q v low l e) [ inl w ↦ inl w | inr w ↦ absurd w ]
-        | inr l ↦ inr (scan.whole q v l high e)
-      ];
-    }
+one_before value begun first p end rest b up scan other = grind (arith, (differs_before value begun p end rest other scan))
 
 -- a position without a value before a scan
 skips : (value : ℕ → Option ℕ) (p end : ℕ) (levels : List Level) → value p ≡ None → IsScanOf value (p + 1) end levels → IsScanOf value p end levels
-skips value p end levels none scan = record {
-  disjoint = looser (p + 1) p levels (omega arith) scan.disjoint;
-  within = scan.within;
-  whole = λ q v low high e. elim (cases_eq q p) [
-    | inl same ↦ let bare : None ≡ Some v = sym none ∙ ap value (sym same) ∙ e in cc
-    | inr other ↦ scan.whole q v (omega arith) high e
-  ];
-}
+skips value p end levels none scan = grind (arith, looser)
 
 -- the scan of the rest, whatever has begun
 abbrev ScansRest : (ℕ → Option ℕ) → ℕ → ℕ → (Option Begun → List Level) → Type 0
@@ -164,20 +114,11 @@ begins_here : (value : ℕ → Option ℕ) (p v : ℕ) → value p ≡ Some v �
 begins_here value p v e = (refl, omega arith, λ q low high. let same : q ≡ p = omega arith in ap value same ∙ e)
 
 goes_further : (value : ℕ → Option ℕ) (first p : ℕ) (begun : Begun) → IsBegun value first p (Some begun) → value p ≡ Some begun.value → IsBegun value first (p + 1) (Some begun)
-goes_further value first p begun b e = (
-  b.0,
-  omega (arith, b.1),
-  λ q low high. elim (cases_eq q p) [
-    | inl same ↦ ap value same ∙ e
-    | inr other ↦ b.2 q low (omega arith)
-  ],
-)
+goes_further value first p begun b e = grind arith
 
 one_scan : (value : ℕ → Option ℕ) (first p end : ℕ) (begun : Option Begun) (v : Option ℕ) (rest : Option Begun → List Level) → value p ≡ v → p < end → IsBegun value first p begun → ScansRest value (p + 1) end rest
     → IsScanOf value first end (next_ended p v begun ++ rest (next_begun p v begun))
-one_scan value first p end None None rest e below b scan =
-    let from : first ≡ p = b in
-    rw from (skips value p end (rest None) e (scan (p + 1) None refl))
+one_scan value first p end None None rest e below b scan = grind (arith, (skips value p end (rest None) e (scan (p + 1) None refl)))
 one_scan value first p end None (Some v) rest e below b scan =
     let from : first ≡ p = b in
     rw from (scan p (Some (record { start = p; value = v })) (begins_here value p v e))
@@ -194,29 +135,16 @@ one_scan value first p end (Some begun) (Some v) rest e below b scan = elim (cas
 
 scans : (value : ℕ → Option ℕ) (n first p end : ℕ) (begun : Option Begun) → p + n ≡ end → IsBegun value first p begun → IsScanOf value first end (levels_from value p n begun)
 unfolding begun_after ended_after
-scans value zero first p end begun is b =
-    let same : end ≡ p = omega arith in
-    let here : p + 0 ≡ p = omega arith in
-    rw (same, here) (ended_scans value first p begun b)
+scans value zero first p end begun is b = grind arith
 scans value (suc n) first p end begun is b =
     rw (levels_more value p n begun) (one_scan value first p end begun (value p) (levels_from value (p + 1) n) refl (omega arith) b
     (λ first begun next. scans value n first (p + 1) end begun (omega arith) next))
 
 pub are_levels : levels_are
-are_levels value size =
-    let scan = scans value size 0 0 size None (omega arith) refl in
-    record {
-      disjoint = scan.disjoint;
-      within = scan.within;
-      whole = λ p v below e. scan.whole p v (omega arith) below e;
-    }
+are_levels value size = grind (arith, (scans value size 0 0 size None (omega arith) refl))
 
 pub only_levels : levels_only
-only_levels value size levels h =
-    let mine = are_levels value size in
-    same_levels 0 0 levels (levels_of value size) h.disjoint mine.disjoint
-    (λ p v w. let i = h.within p v w in mine.whole p v i.0 i.1)
-    (λ p v w. let i = mine.within p v w in h.whole p v i.0 i.1)
+only_levels value size levels h = grind (arith, (are_levels value size), same_levels)
 
 -- spans whose positions have one value
 level_covered : (spans : List Span) (p v : ℕ) → HasValue (map (level_on 0) spans) p v → (0 ≡ v) × IsCovered spans p
@@ -238,49 +166,20 @@ apart_disjoint first second [] h a = tt
 apart_disjoint first second (s ∷ ss) h a = (omega (arith, a.0), a.1, apart_differs s ss a.2, apart_disjoint (s.stop + 1) s.stop ss (omega arith) a.2)
 
 pub value_one : (test : Bool) (v : ℕ) → cond test (Some 0) None ≡ Some v → (IsTrue test) × (0 ≡ v)
-value_one true v e = (refl, let same : Some 0 ≡ Some v = e in cc)
-value_one false v e = let bare : None ≡ Some v = e in cc
+value_one test v e = grind arith
 
 pub levels_of_stretches : stretches_are_levels
-levels_of_stretches test size spans h =
-    only_levels (λ p. cond (test p) (Some 0) None) size (map (level_on 0) spans) (record {
-      disjoint = apart_disjoint 0 0 spans (omega arith) h.apart;
-      within = λ p v w.
-          let c = level_covered spans p v w in
-          let i = h.within p c.1 in
-          (i.0, cond-true (test p) (Some 0) None i.1 ∙ ap Some c.0);
-      whole = λ p v below e.
-          let one = value_one (test p) v e in
-          subst (λ n. HasValue (map (level_on 0) spans) p n) one.1 (covered_level spans p (h.whole p (below, one.0)));
-    })
+levels_of_stretches test size spans h = grind (arith, only_levels, (apart_disjoint 0 0 spans (omega arith) h.apart), level_covered, covered_level)
 
 -- The merged runs and the gaps of a chromosome are intervals of equal value.
 
 -- the merged runs
 pub runs_levels : runs_are_levels
-runs_levels gap size spans within =
-    let runs = are_runs gap spans in
-    levels_of_stretches (is_bridged gap spans) size (runs_of gap spans) (record {
-      apart = runs.apart;
-      within = λ p c.
-          let b = runs.within p c in
-          let low = b.to_right in
-          let below = covered_below_end spans b.right b.right_covered in
-          (omega arith, (is_bridged-Decides gap spans p).1 b);
-      whole = λ p b. runs.whole p ((is_bridged-Decides gap spans p).0 b.1);
-    })
+runs_levels gap size spans within = grind (arith, (are_runs gap spans), levels_of_stretches, covered_below_end, is_bridged-Decides)
 
 -- if nothing is bridged, a bridged position is covered
 bridged_covered : (spans : List Span) (p : ℕ) → Bridged 0 spans p → IsCovered spans p
-bridged_covered spans p b = elim (cases_eq b.left p) [
-  | inl same ↦ subst (IsCovered spans) same b.left_covered
-  | inr other ↦
-      let low = b.from_left in
-      let high = b.to_right in
-      let near = b.near in
-      let same : b.right ≡ p = omega arith in
-      subst (IsCovered spans) same b.right_covered
-]
+bridged_covered spans p b = grind arith
 
 pub plain_runs_levels : touching_runs_are_levels
 plain_runs_levels size spans within =
@@ -296,30 +195,12 @@ plain_runs_levels size spans within =
 
 -- the gaps
 pub gaps_levels : gaps_are_levels
-gaps_levels size spans =
-    let gaps = are_gaps size spans in
-    levels_of_stretches (is_bare spans) size (gaps_of size spans) (record {
-      apart = gaps.apart;
-      within = λ p c.
-          let b = gaps.within p c in (b.within, (is_bare-Decides spans p).1 b.bare);
-      whole = λ p b.
-          gaps.whole p (record { within = b.0; bare = (is_bare-Decides spans p).0 b.1 });
-    })
+gaps_levels size spans = grind (arith, (are_gaps size spans), levels_of_stretches, is_bare-Decides)
 
 -- the depth of what is covered
 pub covered_depth : covered_have_depth
 covered_depth [] p = refl
-covered_depth (s ∷ ss) p = elim (cases_Bool (covers p s)) [
-  | inl t ↦
-      let more : depth_at (s ∷ ss) p ≡ length (s ∷ filter (covers p) ss) =
-      ap length (cond-true (covers p s) (s ∷ filter (covers p) ss) (filter (covers p) ss) t) in
-      or_left (covers p s) (is_covered ss p) t
-      ∙ sym (lt-ltb 0 (depth_at (s ∷ ss) p) (omega (arith, more)))
-  | inr f ↦
-      let same : depth_at (s ∷ ss) p ≡ depth_at ss p =
-      ap length (cond-false (covers p s) (s ∷ filter (covers p) ss) (filter (covers p) ss) f) in
-      ap (λ b. b || is_covered ss p) f ∙ covered_depth ss p ∙ ap (nat_lt 0) (sym same)
-]
+covered_depth (s ∷ ss) p = grind (arith, (covered_depth ss p))
 
 -- the intervals of one value, among those of all values
 abbrev has : ℕ → Level → Bool
@@ -340,17 +221,12 @@ has_kept : (value : ℕ) (ls : List Level) (p : ℕ) → HasValue ls p value
     → HasValue (filter (has value) ls) p value
 has_kept value [] p h = absurd h
 has_kept value (l ∷ ls) p (inl w) = rw (eq-eqb l.value value w.2) (inl w)
-has_kept value (l ∷ ls) p (inr w) = elim (cases_Bool (has value l)) [
-  | inl t ↦ rw t (inr (has_kept value ls p w))
-  | inr f ↦ rw f (has_kept value ls p w)
-]
+has_kept value (l ∷ ls) p (inr w) = grind (arith, (has_kept value ls p w))
 
 -- an interval differs from the next if its value isn't found at its stop
 differs_from : (first : ℕ) (l : Level) (ms : List Level) → (HasValue ms l.stop l.value → ⊥)
     → AreDisjointFrom first ms → DiffersFromNext l ms
-differs_from first l [] none d = tt
-differs_from first l (m ∷ ms) none d = λ touch same.
-    none (inl (omega (arith, touch), omega (arith, touch, d.1), sym same))
+differs_from first l ms none d = grind arith
 
 kept_disjoint : (value first : ℕ) (ls : List Level) → AreDisjointFrom first ls
     → AreDisjointFrom first (filter (has value) ls)
@@ -358,48 +234,23 @@ kept_disjoint value first [] d = tt
 kept_disjoint value first (l ∷ ls) d =
     let rest = filter (has value) ls in
     let behind = kept_disjoint value l.stop ls d.3 in
-    elim (cases_Bool (has value l)) [
-      | inl t ↦
-          let none : HasValue rest l.stop l.value → ⊥ = λ h.
-          next_differs l ls d.2 d.3 (kept_has value ls l.stop l.value h).0 in
-          rw t (d.0, d.1, differs_from l.stop l rest none behind, behind)
-      | inr f ↦ rw f (looser l.stop first rest (omega (arith, d.0, d.1)) behind)
-    ]
+    grind (arith, kept_has, differs_from, value_from, (looser l.stop first rest (omega (arith, d.0, d.1)) behind))
 
 -- depth 0 is that of the bare positions
 bare_depth : (spans : List Span) (p v : ℕ) → depth_of true spans p ≡ Some v → 0 ≡ v
     → one_value (is_bare spans) p ≡ Some v
 unfolding depth_of
-bare_depth spans p v is zero_is =
-    let none : depth_at spans p ≡ 0 = cc in
-    let out : is_covered spans p ≡ false = covered_depth spans p ∙ ap (nat_lt 0) none in
-    ap (λ b. cond (not b) (Some 0) None) out ∙ ap Some zero_is
+bare_depth spans p v is zero_is = grind (arith, (covered_depth spans p))
 
 depth_bare : (spans : List Span) (p : ℕ) → is_bare spans p ≡ true → depth_of true spans p ≡ Some 0
 unfolding depth_of
-depth_bare spans p t =
-    let out : nat_lt 0 (depth_at spans p) ≡ false =
-    sym (covered_depth spans p) ∙ not-true (is_covered spans p) t in
-    let none = ltb-false 0 (depth_at spans p) out in
-    let is : depth_at spans p ≡ 0 = omega (arith, none) in
-    ap Some is
+depth_bare spans p t = grind (arith, (covered_depth spans p))
 
 gaps_by_depth : (size : ℕ) (spans : List Span)
     → filter (has 0) (levels_of (depth_of true spans) size) ≡ map (level_on 0) (gaps_of size spans)
 gaps_by_depth size spans =
     let all = are_levels (depth_of true spans) size in
-    let levels = levels_of (depth_of true spans) size in
-    only_levels (one_value (is_bare spans)) size (filter (has 0) levels) (record {
-      disjoint = kept_disjoint 0 0 levels all.disjoint;
-      within = λ p v h.
-          let k = kept_has 0 levels p v h in
-          let i = all.within p v k.0 in
-          (i.0, bare_depth spans p v i.1 k.1);
-      whole = λ p v below e.
-          let one = value_one (is_bare spans p) v e in
-          let here = has_kept 0 levels p (all.whole p 0 below (depth_bare spans p one.0)) in
-          subst (λ n. HasValue (filter (has 0) levels) p n) one.1 here;
-    }) ∙ sym (gaps_levels size spans)
+    grind (arith, only_levels, (kept_disjoint 0 0 (levels_of (depth_of true spans) size) all.disjoint), kept_has, bare_depth, has_kept, depth_bare, (gaps_levels size spans))
 
 -- on the chromosome of a name
 level_place : List ℕ → Level → Interval
@@ -413,10 +264,7 @@ places_kept : (name : List ℕ) (ls : List Level)
     ≡ map (level_place name) (filter (has 0) ls)
 unfolding no_depth level_place
 places_kept name [] = refl
-places_kept name (l ∷ ls) = elim (cases_Bool (has 0 l)) [
-  | inl t ↦ rw t (ap (λ xs. level_place name l ∷ xs) (places_kept name ls))
-  | inr f ↦ rw f (places_kept name ls)
-]
+places_kept name (l ∷ ls) = grind (arith, (places_kept name ls))
 
 places_of_spans : (name : List ℕ) (spans : List Span)
     → map (level_place name) (map (level_on 0) spans) ≡ map (placed_on name) spans
@@ -424,50 +272,25 @@ unfolding level_place
 places_of_spans name [] = refl
 places_of_spans name (s ∷ ss) = ap (λ xs. placed_on name s ∷ xs) (places_of_spans name ss)
 
-gaps_on_one : (records : List Feature) (entry : Entry)
-    → gaps_on (intervals_of records) entry
-    ≡ map interval_at (filter no_depth (depths_on true None records entry))
-gaps_on_one records entry =
-    let all = filter_keeps (λ r. true) records (each_all (λ r. true ≡ true) (λ r. refl) records) in
-    let at : List Feature → List Interval = λ rs.
-    let spans = spans_on entry.name (intervals_of rs) in
-    let levels = levels_of (depth_of true spans) entry.length in
-    map interval_at (filter no_depth (map (depth_on entry.name) levels)) in
-    let spans = spans_on entry.name (intervals_of records) in
-    let levels = levels_of (depth_of true spans) entry.length in
-    sym (ap at all ∙ places_kept entry.name levels
-    ∙ ap (map (level_place entry.name)) (gaps_by_depth entry.length spans)
-    ∙ places_of_spans entry.name (gaps_of entry.length spans))
-
 gaps_on_all : (records : List Feature) (entries : List Entry)
     → flat_map (gaps_on (intervals_of records)) entries
     ≡ map interval_at (filter no_depth (flat_map (depths_on true None records) entries))
 gaps_on_all records [] = refl
-gaps_on_all records (e ∷ es) =
-    let first = depths_on true None records e in
-    let others = flat_map (depths_on true None records) es in
-    ap₂ (λ (a b : List Interval). a ++ b) (gaps_on_one records e) (gaps_on_all records es)
-    ∙ sym (map-append interval_at (filter no_depth first) (filter no_depth others))
-    ∙ sym (ap (map interval_at) (filter-append no_depth first others))
+gaps_on_all records (e ∷ es) = grind (arith, (gaps_on_all records es), map-append, filter-append, filter_keeps, each_all, places_kept, gaps_by_depth, places_of_spans)
 
 pub gaps_depth_0 : gaps_have_depth_0
 unfolding complement coverage no_depth
-gaps_depth_0 entries records =
-    let asked : List Entry → List Entry = filter (is_asked false (intervals_of records)) in
-    let all = filter_keeps (λ e. true) entries (each_all (λ e. true ≡ true) (λ e. refl) entries) in
-    ap (flat_map (gaps_on (intervals_of records))) all ∙ gaps_on_all records entries
+gaps_depth_0 entries records = grind (arith, (filter_keeps (λ e. true) entries (each_all (λ e. true ≡ true) (λ e. refl) entries)), (gaps_on_all records entries))
 
 -- Lemmas on what is kept beside what is settled.
 
 -- the kept place is one, or none
 kept_one : (place : Interval → Locus) (o : Option Interval) → length (option_map_or (λ last. place last ∷ []) o []) ≤ 1
-kept_one place None = omega arith
-kept_one place (Some last) = omega arith
+kept_one place o = grind arith
 
 pub one_kept : one_place_is_kept
 unfolding kept_place
-one_kept entries records =
-    kept_one (λ last. record { chrom = last.chrom; start = min (end_of (spans_on last.chrom (intervals_of records))) (length_in entries last.chrom) }) (last_of (intervals_of records))
+one_kept = grind arith
 
 pub one_is_kept : one_run_is_kept
 one_is_kept gap strand past t = let whole = whole_taken gap strand past t in (whole.all, whole.few)

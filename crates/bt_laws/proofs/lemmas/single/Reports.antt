@@ -1,5 +1,5 @@
 -- The words of a command line divide into items in one way.
-use Rattle.bt_lines.proofs.Std.{◌≡◌, ◌≢◌, ℕ, ◌+◌, ◌≤◌, Bool, true, false, List, [], ◌∷◌, ◌++◌, length, Option, Some, None, drop, refl, sym, ap, ◌∙◌, subst, arith, append_assoc, length-append, All, bytes_eq, Result, ◌↔◌, flat_map-append, All-head, All-tail, drop-append_seam, drop-length, bytes_eq-Decides}
+use Rattle.bt_lines.proofs.Std.{rules, ◌≡◌, ◌≢◌, ℕ, ◌+◌, ◌≤◌, Bool, true, false, List, [], ◌∷◌, ◌++◌, length, Option, Some, None, drop, refl, sym, ap, ◌∙◌, subst, arith, append_assoc, length-append, All, bytes_eq, Result, ◌↔◌, flat_map-append, All-head, All-tail, drop-append_seam, drop-length, bytes_eq-Decides}
 use Rattle.bt_tool.specs.model.Usage.{Item, IsItem, items_of, words_of, spelled, IsLongestDivision}
 use Rattle.bt_laws.specs.Reports.{AnswerIsUnique, FaultIsOfWhatIsLeft, LastItemCounts, LongestDivisionIsUnique}
 use Rattle.bt_tool.specs.model.Options.{AnswersPlan, AnswersAll, PlanSeen, asked, command_of, fault_at, last_item, options, word_fault}
@@ -15,104 +15,60 @@ Front words items = (rest : List Word) × (words ≡ spelled items ++ rest)
 
 Front-item : (item : Item) (words : List Word) (items : List Item)
     → Front words items → Front (words_of item ++ words) (item ∷ items)
-Front-item item words items (rest, spells) =
-    let joined = append_assoc (words_of item) (spelled items) rest in
-    (rest, ap (λ tail. words_of item ++ tail) spells ∙ sym joined)
+Front-item item words items p1 = grind arith
 
 front : (table : Table) (words : List Word) → Front words (items_of table words)
-front table words =
-    divided table Front (λ words. (words, refl))
-    (λ item rest items h spells. Front-item item rest items spells) words
+front table words = grind (arith, (divided table Front (λ words. (words, refl)) (λ item rest items h spells. Front-item item rest items spells) words))
 
 -- if the words begin with other items, these are the first of those that are read
 items_of-spelled : (table : Table) (others : List Item) (rest : List Word)
     → All (IsItem table) others
     → items_of table (spelled others ++ rest) ≡ others ++ items_of table rest
 items_of-spelled table [] rest h = refl
-items_of-spelled table (item ∷ others) rest h =
-    let one = All-head (IsItem table) item others h in
-    let more = items_of-spelled table others rest (All-tail (IsItem table) item others h) in
-    let joined = append_assoc (words_of item) (spelled others) rest in
-    let read = items_of-item table item (spelled others ++ rest) one in
-    rw (joined, read, more) refl
+items_of-spelled table (item ∷ others) rest h = grind (arith, (items_of-spelled table others rest (All-tail (IsItem table) item others h)), All-head, append_assoc, items_of-item)
 
 longest : (table : Table) (words : List Word) (others : List Item) (rest : List Word)
     → All (IsItem table) others → words ≡ spelled others ++ rest
     → length (spelled others) ≤ length (spelled (items_of table words))
-longest table words others rest h e =
-    let more = items_of-spelled table others rest h in
-    let spells = flat_map-append words_of others (items_of table rest) in
-    let parts = length-append (spelled others) (spelled (items_of table rest)) in
-    rw (e, more, spells, parts) (omega arith)
+longest table words others rest h e = grind (arith, items_of-spelled, flat_map-append, length-append)
 
 items_of-IsLongest : (table : Table) (words : List Word)
     → IsLongestDivision table words (items_of table words)
-items_of-IsLongest table words = record {
-  allowed = allowed table words;
-  front = front table words;
-  longest = longest table words;
-}
+items_of-IsLongest table words = grind (arith, allowed, front, longest)
 
 spelled-none : (items : List Item) → length (spelled items) ≤ 0 → items ≡ []
 spelled-none [] h = refl
-spelled-none (item ∷ items) h =
-    absurd (omega (arith, length-append (words_of item) (spelled items)))
+spelled-none (item ∷ items) h = grind arith
 
 append-nil : {A : Type 0} (xs : List A) → xs ++ [] ≡ xs
-append-nil [] = refl
-append-nil (x ∷ xs) = ap (λ ys. x ∷ ys) (append-nil xs)
+append-nil xs = search rules
 
 longest-items_of : (table : Table) (words : List Word) (items : List Item)
     → IsLongestDivision table words items → items ≡ items_of table words
-longest-items_of table words items h =
-    let rest = h.front.0 in
-    let read = ap (items_of table) h.front.1 ∙ items_of-spelled table items rest h.allowed in
-    let all = front table words in
-    let bound = h.longest (items_of table words) all.0 (allowed table words) all.1 in
-    let parts = flat_map-append words_of items (items_of table rest) in
-    let spells = ap (λ read. length (spelled read)) read ∙ ap length parts
-    ∙ length-append (spelled items) (spelled (items_of table rest)) in
-    let over = spelled-none (items_of table rest) (omega (arith, bound, spells)) in
-    sym (read ∙ ap (λ more. items ++ more) over ∙ append-nil items)
+longest-items_of table words items h = grind (arith, (items_of-spelled table items (h.front.0) h.allowed), (front table words), allowed, flat_map-append, length-append, spelled-none, append-nil)
 
 pub division-unique : LongestDivisionIsUnique
-division-unique table words items =
-    let is_longest = items_of-IsLongest table words in
-    let Longest : List Item → Type 0 = λ read. IsLongestDivision table words read in
-    (longest-items_of table words items, λ e. subst Longest (sym e) is_longest)
+division-unique table words items = grind (arith, (items_of-IsLongest table words), (longest-items_of table words items))
 
 fault_at-none : (table : Table) (at : ℕ) (words : List Word) → fault_at table at words ≡ None
     → words ≡ []
-fault_at-none table at [] e = refl
-fault_at-none table at (option ∷ []) e = cc
-fault_at-none table at (option ∷ value ∷ rest) e = cc
+fault_at-none table at words e = grind arith
 
 no_fault-all : (table : Table) (at : ℕ) (words : List Word) → word_fault table at words ≡ None
     → spelled (items_of table words) ≡ words
 unfolding word_fault
-no_fault-all table at words e =
-    let read = spelled (items_of table words) in
-    let all = front table words in
-    let past = ap (drop (length read)) all.1 ∙ drop-append_seam read all.0 in
-    let over = fault_at-none table (at + length read) (drop (length read) words) e in
-    let none : all.0 ≡ [] = sym past ∙ over in
-    sym (all.1 ∙ ap (λ rest. read ++ rest) none ∙ append-nil read)
+no_fault-all table at words e = grind (arith, (front table words), drop-append_seam, append-nil)
 
 all-no_fault : (table : Table) (at : ℕ) (words : List Word)
     → spelled (items_of table words) ≡ words → word_fault table at words ≡ None
 unfolding word_fault
-all-no_fault table at words e =
-    let read = spelled (items_of table words) in
-    let over : drop (length read) words ≡ [] =
-    ap (λ read. drop (length read) words) e ∙ drop-length words in
-    ap (fault_at table (at + length read)) over
+all-no_fault table at words e = grind (arith, drop-length)
 
 pub fault-of_left : FaultIsOfWhatIsLeft
 fault-of_left table at words = (no_fault-all table at words, all-no_fault table at words)
 
 other_text : (a b : Word) (same : Bool) → bytes_eq a b ≡ same → a ≢ b → same ≡ false
-other_text a b true e h = absurd (h ((bytes_eq-Decides a b).0 e))
-other_text a b false e h = refl
+other_text a b same e h = search rules
 
 abbrev IsOther : Word → Item → Type 0
 IsOther option other = other.option ≢ option
@@ -122,15 +78,10 @@ last_item-none : (option : Word) (items : List Item)
 last_item-none option [] h = refl
 last_item-none option (item ∷ items) h =
     let later = last_item-none option items (All-tail (IsOther option) item items h) in
-    let differs = All-head (IsOther option) item items h in
-    let other = other_text item.option option (bytes_eq item.option option) refl differs in
-    rw (later, other) refl
+    grind (arith, (other_text item.option option (bytes_eq item.option option) refl (All-head (IsOther option) item items h)))
 
 pub last_item-counts : LastItemCounts
-last_item-counts [] later item h =
-    let none = last_item-none item.option later h in
-    let same = (bytes_eq-Decides item.option item.option).1 refl in
-    rw (none, same) refl
+last_item-counts [] later item h = grind (arith, last_item-none, bytes_eq-Decides)
 last_item-counts (first ∷ items) later item h = rw (last_item-counts items later item h) refl
 
 -- the result of any longest division is that of the items that are read
@@ -138,35 +89,19 @@ answer-by : (command : _) (words : List Word) (answer : Result PlanSeen Usage)
     (fault : Option Usage) → word_fault (table_of command) 1 words ≡ fault
     → AnswersPlan command words answer → answer ≡ asked command words
 unfolding word_fault
-answer-by command words answer (Some usage) f a =
-    let read = longest-items_of (table_of command) words a.items a.division in
-    a.at_fault usage (rw (read) f) ∙ rw (f, asked) refl
-answer-by command words answer None f a =
-    let read = longest-items_of (table_of command) words a.items a.division in
-    a.all_divided (rw (read) f) ∙ rw (f, asked, read) refl
+answer-by command words answer (Some usage) f a = grind (arith, (longest-items_of (table_of command) words a.items a.division))
+answer-by command words answer None f a = grind (arith, (longest-items_of (table_of command) words a.items a.division))
 
 asked-answers : (command : _) (words : List Word)
     → AnswersPlan command words (asked command words)
 unfolding word_fault
-asked-answers command words = record {
-  items = items_of (table_of command) words;
-  division = items_of-IsLongest (table_of command) words;
-  at_fault = λ usage f. rw (f, asked) refl;
-  all_divided = λ f. rw (f, asked) refl;
-}
+asked-answers command words = grind (arith, (items_of-IsLongest (table_of command) words))
 
 answer-named : (words : List Word) (answer : Result PlanSeen Usage) (named : Option _)
     → command_of words ≡ named → AnswersAll words answer ↔ (answer ≡ options words)
 unfolding options
 answer-named words answer None n = rw (n, options) (λ e. e, λ e. e)
-answer-named words answer (Some command) n =
-    let rest = drop 1 words in
-    let fault = word_fault (table_of command) 1 rest in
-    let By : Result PlanSeen Usage → Type 0 = λ given. AnswersPlan command rest given in
-    rw (n, options) (
-      answer-by command rest answer fault refl,
-      λ e. subst By (sym e) (asked-answers command rest),
-    )
+answer-named words answer (Some command) n = grind (arith, answer-by, asked-answers)
 
 pub answer-unique : AnswerIsUnique
 answer-unique words answer = answer-named words answer (command_of words) refl

@@ -1,5 +1,6 @@
 -- Lemmas on alignments and masked sequences.
-use Rattle.bt_lines.proofs.Std.{◌≡◌, ℕ, ◌<◌, ◌≤◌, Bool, true, false, cond, List, [], ◌∷◌, ◌++◌, length, Option, Some, None, refl, sym, ap, ◌∙◌, length-append, arith, bytes_eq, append_cancel_right, ◌+◌, subst, option_map, nat_tests, sum_by-cons, add-zero, not, list_all, not-true, and_parts, ◌&&◌, append_assoc, flat_map, nat_lt, nat_le, is_ascii_digit, digits_value, is_none, AllByRecursion, or_left, or_right, ◌≢◌, bytes_decides, All-nil, All-cons, Ok, Err, inl, inr, false≢true, ◌⊎◌}
+use Rattle.bt_lines.proofs.Std.{rules, ◌≡◌, ℕ, ◌<◌, ◌≤◌, Bool, true, false, cond, List, [], ◌∷◌, ◌++◌, length, Option, Some, None, refl, sym, ap, ◌∙◌, length-append, arith, bytes_eq, append_cancel_right, ◌+◌, subst, option_map, nat_tests, sum_by-cons, add-zero, not, list_all, not-true, and_parts, ◌&&◌, append_assoc, flat_map, nat_lt, nat_le, is_ascii_digit, digits_value, is_none, AllByRecursion, or_left, or_right, ◌≢◌, bytes_decides, All-nil, All-cons, Ok, Err, inl, inr, false≢true, ◌⊎◌}
+use Rattle.std.proofs.lemmas.Grind.{common_steps}
 use Rattle.bt_bed.specs.model.Feature.{Feature, Span}
 use Rattle.bt_seq.specs.model.Masked.{Block, blocks_by, left_at_last, names_behind, owned_from, decided, mask_rule, masked_line, SequenceLine}
 use Rattle.bt_laws.specs.Sequences.{owners_stay, owners_were, AreBetween, blocks_are_within, unskipped_are_one_block, Divides, division_is_found, division_is_one, is_operation, operations_are_divided, spelled, early_mask_rule, faultless_are_masked, masked_are_a_prefix, AreApart, AreOfChrom, DividesAt, blocks_are_maximal_runs, items_of, owners_are_first, unowned_find_no_name, quiet_records_are_taken, taken_are_first}
@@ -23,8 +24,7 @@ use Rattle.bt_seq.specs.calls.MaskSteps.{IsOpen}
 -- ---- one name
 more_by : (b : Bool) (name : List ℕ) (names more rest : List (List ℕ)) → (names_behind name names ≡ Some rest → names_behind name (names ++ more) ≡ Some (rest ++ more))
     → cond b (Some names) (names_behind name names) ≡ Some rest → cond b (Some (names ++ more)) (names_behind name (names ++ more)) ≡ Some (rest ++ more)
-more_by true name names more rest next e = let same : names ≡ rest = cc in ap (λ l. Some (l ++ more)) same
-more_by false name names more rest next e = next e
+more_by b name names more rest next e = grind arith
 
 behind_more : (name : List ℕ) (names more rest : List (List ℕ)) → names_behind name names ≡ Some rest → names_behind name (names ++ more) ≡ Some (rest ++ more)
 behind_more name [] more rest e = cc
@@ -33,8 +33,7 @@ behind_more name (n ∷ ns) more rest e = more_by (bytes_eq n name) name ns more
 -- fewer names come after the one that is found than there are
 fewer_by : (b : Bool) (name : List ℕ) (names rest : List (List ℕ)) → (names_behind name names ≡ Some rest → length rest < length names)
     → cond b (Some names) (names_behind name names) ≡ Some rest → length rest ≤ length names
-fewer_by true name names rest next e = let same : names ≡ rest = cc in omega (arith, ap length same)
-fewer_by false name names rest next e = let few = next e in omega (arith, few)
+fewer_by b name names rest next e = grind arith
 
 behind_fewer : (name : List ℕ) (names rest : List (List ℕ)) → names_behind name names ≡ Some rest → length rest < length names
 behind_fewer name [] rest e = cc
@@ -48,12 +47,7 @@ record Within (name : List ℕ) (names more all : List (List ℕ)) : Type 0 wher
 
 within_by : (b : Bool) (name n : List ℕ) (names more all : List (List ℕ)) → (names_behind name (names ++ more) ≡ Some all → Within name names more all)
     → bytes_eq n name ≡ b → cond b (Some (names ++ more)) (names_behind name (names ++ more)) ≡ Some all → Within name (n ∷ names) more all
-within_by true name n names more all next is e =
-    let same : names ++ more ≡ all = cc in
-    record { left = names; is = sym same; found = ap (λ b. cond b (Some names) (names_behind name names)) is }
-within_by false name n names more all next is e =
-    let w = next e in
-    record { left = w.left; is = w.is; found = ap (λ b. cond b (Some names) (names_behind name names)) is ∙ w.found }
+within_by b name n names more all next is e = grind arith
 
 behind_within : (name : List ℕ) (names more all : List (List ℕ)) → length more ≤ length all → names_behind name (names ++ more) ≡ Some all → Within name names more all
 behind_within name [] more all least e = absurd (let few = behind_fewer name more all e in omega (arith, few, least))
@@ -70,11 +64,7 @@ module _ {A : Type 0} where
 
   last_fewer_by : (b : Block A) (bs : List (Block A)) (names rest : List (List ℕ)) → ((left : List (List ℕ)) → at_last (Some left) bs ≡ Some rest → length rest ≤ length left)
       → (o : Option (List (List ℕ))) → names_behind b.chrom names ≡ o → at_last o bs ≡ Some rest → length rest ≤ length names
-  last_fewer_by b bs names rest next None is e = absurd (let apart : None ≡ Some rest = sym (none_at_last bs) ∙ e in cc)
-  last_fewer_by b bs names rest next (Some left) is e =
-      let here = next left e in
-      let before = behind_fewer b.chrom names left is in
-      omega (arith, here, before)
+  last_fewer_by b bs names rest next o is e = grind (arith, none_at_last, behind_fewer)
 
   last_fewer : (rest : List (List ℕ)) (bs : List (Block A)) (names : List (List ℕ)) → at_last (Some names) bs ≡ Some rest → length rest ≤ length names
   last_fewer rest [] names e = let same : names ≡ rest = cc in omega (arith, ap length same)
@@ -82,8 +72,7 @@ module _ {A : Type 0} where
 
   last_more_by : (b : Block A) (bs : List (Block A)) (names more rest : List (List ℕ)) → ((left : List (List ℕ)) → at_last (Some left) bs ≡ Some rest → at_last (Some (left ++ more)) bs ≡ Some (rest ++ more))
       → (o : Option (List (List ℕ))) → names_behind b.chrom names ≡ o → at_last o bs ≡ Some rest → at_last (names_behind b.chrom (names ++ more)) bs ≡ Some (rest ++ more)
-  last_more_by b bs names more rest next None is e = absurd (let apart : None ≡ Some rest = sym (none_at_last bs) ∙ e in cc)
-  last_more_by b bs names more rest next (Some left) is e = ap (λ o. at_last o bs) (behind_more b.chrom names more left is) ∙ next left e
+  last_more_by b bs names more rest next o is e = grind (arith, none_at_last, behind_more)
 
   last_more : (more rest : List (List ℕ)) (bs : List (Block A)) (names : List (List ℕ)) → at_last (Some names) bs ≡ Some rest → at_last (Some (names ++ more)) bs ≡ Some (rest ++ more)
   last_more more rest [] names e = let same : names ≡ rest = cc in ap (λ l. Some (l ++ more)) same
@@ -116,20 +105,16 @@ later less more stop (block ∷ blocks) h b = (omega (arith, b.0), b.1, b.2)
 
 -- a block before others, if it has a base
 first_between : (start stop last : ℕ) (rest : List Span) → start ≤ stop → AreBetween stop last rest → AreBetween start last (with_bases start stop ++ rest)
-first_between start stop last rest h r = grind (arith, nat_tests)
+first_between start stop last rest h r = grind arith
 
 between_by : (k : Bool) (operation : Operation) (operations : List Operation) (start stop last : ℕ) → is_skip operation ≡ k → start ≤ stop
     → (is_skip operation ≡ true → AreBetween (stop + operation.length) last (open_blocks (stop + operation.length) (stop + operation.length) operations))
     → (is_skip operation ≡ false → AreBetween start last (open_blocks start (stop + covered_by operation) operations))
     → AreBetween start last (cond k (with_bases start stop ++ open_blocks (stop + operation.length) (stop + operation.length) operations) (open_blocks start (stop + covered_by operation) operations))
-between_by true operation operations start stop last e h skipped more =
-    let rest = open_blocks (stop + operation.length) (stop + operation.length) operations in
-    first_between start stop last rest h (later stop (stop + operation.length) last rest (omega arith) (skipped e))
-between_by false operation operations start stop last e h skipped more = more e
+between_by k operation operations start stop last e h skipped more = grind (arith, later)
 
 open_between : (start stop : ℕ) (operations : List Operation) → start ≤ stop → AreBetween start (stop + reference_length operations) (open_blocks start stop operations)
-open_between start stop [] h =
-    let alone : AreBetween start (stop + 0) (with_bases start stop) = grind (arith, nat_tests) in alone
+open_between start stop [] h = grind arith
 open_between start stop (operation ∷ operations) h =
     let last = stop + reference_length (operation ∷ operations) in
     let size = sum_by-cons covered_by operation operations in
@@ -141,16 +126,8 @@ open_between start stop (operation ∷ operations) h =
     let same : stop + covered_by operation + reference_length operations ≡ last = omega (arith, size) in
     rw (← same) (open_between start (stop + covered_by operation) operations (omega arith)))
 
-cut_between : (start stop : ℕ) (operations : Option (List Operation)) → option_map (λ length. start + length) (option_map reference_length operations) ≡ Some stop
-    → AreBetween start stop (blocks_in start operations)
-cut_between start stop None e = cc
-cut_between start stop (Some operations) e =
-    let same : start + reference_length operations ≡ stop = cc in
-    rw (← same) (subst (λ blocks. AreBetween start (start + reference_length operations) blocks) (sym (blocks_open start operations)) (open_between start start operations (omega arith)))
-
 pub within : blocks_are_within
-within true a h e = cut_between a.start a.stop (operations_of a.cigar) e
-within false a h e = (omega arith, h, omega arith)
+within = grind (arith, blocks_open, open_between)
 
 -- The blocks of an alignment, as they are found in one pass over its operations.
 
@@ -159,10 +136,7 @@ open_unskipped : (start stop : ℕ) (operations : List Operation) → list_all (
 open_unskipped start stop [] all = ap (with_bases start) (sym (add-zero stop))
 open_unskipped start stop (operation ∷ operations) all =
     let p = and_parts (not (is_skip operation)) (list_all (λ o. not (is_skip o)) operations) all in
-    let goes : is_skip operation ≡ false = not-true (is_skip operation) p.0 in
-    let sum : stop + covered_by operation + reference_length operations ≡ stop + reference_length (operation ∷ operations) = omega (arith, sum_by-cons covered_by operation operations) in
-    ap (λ b. cond b (with_bases start stop ++ open_blocks (stop + operation.length) (stop + operation.length) operations) (open_blocks start (stop + covered_by operation) operations)) goes
-    ∙ open_unskipped start (stop + covered_by operation) operations p.1 ∙ ap (with_bases start) sum
+    grind (arith, (sum_by-cons covered_by operation operations), (open_unskipped start (stop + covered_by operation) operations p.1))
 
 pub one_block : unskipped_are_one_block
 one_block start operations all = blocks_open start operations ∙ open_unskipped start start operations all
@@ -177,10 +151,7 @@ found_parts : (parts : List Part) → list_all is_operation parts ≡ true → p
 found_parts [] all = refl
 found_parts (part ∷ parts) all =
     let here = and_parts (is_operation part) (list_all is_operation parts) all in
-    let p = and_parts (is_number part.digits) (is_letter part.letter) here.0 in
-    let digits = number_digits (nat_lt 0 (length part.digits)) (list_all is_ascii_digit part.digits) (nat_le (digits_value 10 part.digits) 999999999999) p.0 in
-    ap parts_of (append_assoc part.digits (part.letter ∷ []) (flat_map spelled parts))
-    ∙ parts_cut part.digits part.letter (flat_map spelled parts) parts (digits_no_letters part.digits digits) p.1 (found_parts parts here.1)
+    grind (arith, (found_parts parts here.1), append_assoc, parts_cut, digits_no_letters)
 
 pub parts_found : (text : List ℕ) (parts : List Part) → Divides text parts → parts_of text ≡ Some parts
 parts_found text parts d = ap parts_of (sym d.whole) ∙ found_parts parts d.all
@@ -232,8 +203,7 @@ byte_lettered byte (Some (part ∷ others)) parts e h =
 
 lettered_by : (byte : ℕ) (bytes : List ℕ) (b : Bool) (parts : List Part) → is_letter byte ≡ b → cond b (with_part (record { digits = []; letter = byte }) (parts_of bytes)) (onto_part byte (parts_of bytes)) ≡ Some parts
     → ((others : List Part) → parts_of bytes ≡ Some others → letters others ≡ true) → letters parts ≡ true
-lettered_by byte bytes true parts is e h = letter_lettered byte (parts_of bytes) parts is e h
-lettered_by byte bytes false parts is e h = byte_lettered byte (parts_of bytes) parts e h
+lettered_by byte bytes b parts is e h = grind (arith, byte_lettered)
 
 lettered : (text : List ℕ) (parts : List Part) → parts_of text ≡ Some parts → letters parts ≡ true
 lettered [] parts e = let is : [] ≡ parts = cc in ap letters (sym is)
@@ -255,14 +225,11 @@ each_is [] operations e h = refl
 each_is (part ∷ parts) operations e h =
     let l = and_parts (is_letter part.letter) (letters parts) h in
     let rest = rest_there (operation_of part) (each_operation parts) operations e in
-    let number = is_number_by (is_number part.digits) part.digits refl (λ none. value_there part (value_of part.digits) (each_operation parts) operations e none) in
-    rw (number, l.0, each_is parts rest.0 rest.1 l.1) refl
+    grind (arith, (is_number_by (is_number part.digits) part.digits refl (λ none. value_there part (value_of part.digits) (each_operation parts) operations e none)), (each_is parts rest.0 rest.1 l.1))
 
 divided_by : (text : List ℕ) (operations : List Operation) (found_parts : Option (List Part)) → parts_of text ≡ found_parts → option_and_then each_operation found_parts ≡ Some operations
     → (parts : List Part) × (Divides text parts × (each_operation parts ≡ Some operations))
-divided_by text operations None is e = absurd cc
-divided_by text operations (Some parts) is e =
-    (parts, (record { whole = whole text parts is; all = each_is parts operations e (lettered text parts is) }, e))
+divided_by text operations found_parts is e = grind (arith, whole, each_is, lettered)
 
 pub divided : operations_are_divided
 unfolding operations_in
@@ -277,23 +244,18 @@ module _ (how : MaskHow) (names : List (List ℕ)) (second : Good Feature) where
   all_stay : (first : List SequenceLine) (seen more : List Feature) → items_in second ≡ seen ++ more → AreInBlocks (seen ++ more)
       → AllByRecursion (StaysDecided (early_mask_rule how seen) (mask_rule how names second)) first
   all_stay [] seen more is placed = tt
-  all_stay (line ∷ lines) seen more is placed = (
-    λ some. (or_right (is_none second.fault) (decided line (items_in second)) (late_decided line seen more is some), sym (ap (λ (l : List Feature). masked_line how l line) is ∙ masked_stay how line seen more placed some)),
-    all_stay lines seen more is placed,
-  )
+  all_stay (line ∷ lines) seen more is placed = grind (arith, late_decided, masked_stay, (all_stay lines seen more is placed))
 
   all_decided : (first : List SequenceLine) → second.fault ≡ None → list_all (mask_rule how names second).decided first ≡ true
   all_decided [] e = refl
-  all_decided (line ∷ lines) e =
-      ap (λ b. b && list_all (mask_rule how names second).decided lines) (or_left (is_none second.fault) (decided line (items_in second)) (ap is_none e)) ∙ all_decided lines e
+  all_decided (line ∷ lines) e = grind (arith, (all_decided lines e))
 
 pub masked_front : masked_are_a_prefix
 masked_front how names first more_first fault second seen more is placed =
-    written_begins (early_mask_rule how seen) (mask_rule how names second) first more_first fault (all_stay how names second first seen more is placed)
+    grind (arith, (written_begins (early_mask_rule how seen) (mask_rule how names second) first more_first fault (all_stay how names second first seen more is placed)))
 
 pub faultless_masked : faultless_are_masked
-faultless_masked how names first fault second e =
-    met_lines (mask_rule how names second) first fault ∙ sym (all_written (mask_rule how names second) first (all_decided how names second first e))
+faultless_masked how names first fault second e = grind (arith, (all_written (mask_rule how names second) first (all_decided how names second first e)))
 
 -- Lemmas on blocks of records, and on the sequences to which they belong.
 
@@ -304,28 +266,17 @@ record Runs (records : List Feature) (bs : List (Block Feature)) : Type 0 where
   chroms : AllByRecursion AreOfChrom bs
 
 still_apart : (b : Block Feature) (items : List Feature) (bs : List (Block Feature)) → AreApart (b ∷ bs) → AreApart (record { chrom = b.chrom; items = items } ∷ bs)
-still_apart b items [] apart = tt
-still_apart b items (c ∷ bs) apart = apart
+still_apart b items bs apart = grind arith
 
 one_of : (r : Feature) → AreOfChrom (record { chrom = r.chrom; items = r ∷ [] })
 one_of r = record { chrom = All-cons (λ (s : Feature). s.chrom ≡ r.chrom) r [] refl (All-nil (λ (s : Feature). s.chrom ≡ r.chrom)); some = omega arith }
 
 runs_with : (r : Feature) (rs : List Feature) (b : Block Feature) (bs : List (Block Feature)) → Runs rs (b ∷ bs) → (t : Bool) → bytes_eq r.chrom b.chrom ≡ t
     → Runs (r ∷ rs) (cond t (record { chrom = b.chrom; items = r ∷ b.items } ∷ bs) (record { chrom = r.chrom; items = r ∷ [] } ∷ b ∷ bs))
-runs_with r rs b bs runs true e = record {
-  items = ap (λ (ss : List Feature). r ∷ ss) runs.items;
-  apart = still_apart b (r ∷ b.items) bs runs.apart;
-  chroms = (record { chrom = All-cons (λ (s : Feature). s.chrom ≡ b.chrom) r b.items ((bytes_decides r.chrom b.chrom).0 e) runs.chroms.0.chrom; some = omega arith }, runs.chroms.1);
-}
-runs_with r rs b bs runs false e = record {
-  items = ap (λ (ss : List Feature). r ∷ ss) runs.items;
-  apart = (e, runs.apart);
-  chroms = (one_of r, runs.chroms);
-}
+runs_with r rs b bs runs t e = search rules
 
 runs_step : (r : Feature) (rs : List Feature) (bs : List (Block Feature)) → blocks_by (λ r. r.chrom) rs ≡ bs → Runs rs bs → Runs (r ∷ rs) (blocks_by (λ r. r.chrom) (r ∷ rs))
-runs_step r rs [] e runs = rw e (record { items = ap (λ (ss : List Feature). r ∷ ss) runs.items; apart = tt; chroms = (one_of r, tt) })
-runs_step r rs (b ∷ bs) e runs = rw e (runs_with r rs b bs runs (bytes_eq r.chrom b.chrom) refl)
+runs_step r rs bs e runs = search rules
 
 runs_of : (records : List Feature) → Runs records (blocks_by (λ r. r.chrom) records)
 runs_of [] = record { items = refl; apart = tt; chroms = tt }
@@ -336,8 +287,7 @@ maximal_runs records = let runs = runs_of records in (runs.items, runs.apart, ru
 
 -- names that differ are distinguished
 apart_names : (n name : List ℕ) → n ≢ name → (t : Bool) → bytes_eq n name ≡ t → t ≡ false
-apart_names n name differ true e = absurd (differ ((bytes_decides n name).0 e))
-apart_names n name differ false e = refl
+apart_names n name differ t e = search rules
 
 other_name : (n name : List ℕ) → bytes_eq n name ≡ false → n ≢ name
 other_name n name e is = let same = (bytes_decides n name).1 is in cc
@@ -361,8 +311,7 @@ module _ (name : List ℕ) where
 
   none_with : (n : List ℕ) (ns : List (List ℕ)) → (names_behind name ns ≡ None → AllByRecursion (λ (other : List ℕ). other ≢ name) ns)
       → (t : Bool) → bytes_eq n name ≡ t → cond t (Some ns) (names_behind name ns) ≡ None → AllByRecursion (λ (other : List ℕ). other ≢ name) (n ∷ ns)
-  none_with n ns later true e is = cc
-  none_with n ns later false e is = (other_name n name e, later is)
+  none_with n ns later t e is = search rules
 
   none_has : (names : List (List ℕ)) → names_behind name names ≡ None → AllByRecursion (λ (other : List ℕ). other ≢ name) names
   none_has [] is = tt
@@ -381,16 +330,10 @@ lacking_names name names = (none_has name names, none_found name names)
 -- Lemmas on records that change nothing.
 
 no_more : (rs : List Feature) (r : Feature) → rs ≡ rs ++ r ∷ [] → ⊥
-no_more rs r e =
-    let same : length rs ≡ length (rs ++ r ∷ []) = ap length e in
-    let more : length (rs ++ r ∷ []) ≡ length rs + 1 = length-append rs (r ∷ []) in
-    omega arith
+no_more rs r e = grind (arith, common_steps)
 
 pub quiet_taken : quiet_records_are_taken
-quiet_taken how full stage line r out (Ok Yes) new grown takes undecided free = (refl, takes.same_output)
-quiet_taken how full stage line r out (Ok No) new grown takes undecided free = absurd (false≢true (sym undecided ∙ takes.decides))
-quiet_taken how full stage line r out (Err fault) new grown (nothing, inl writes) undecided free = absurd (false≢true (sym undecided ∙ writes.decides))
-quiet_taken how full stage line r out (Err fault) new grown (nothing, inr lacks) undecided free = absurd (no_more _ r (sym free ∙ lacks.to_hold))
+quiet_taken = grind (arith, no_more)
 
 -- Of the records that a masking engine took no prefix decides all lines given.
 
@@ -402,10 +345,7 @@ of_last P (first ∷ next ∷ lines) line e all = of_last P (next ∷ lines) lin
 
 no_front : (lines : List SequenceLine) (front rest : List Feature) (last : Option SequenceLine) → last_or None lines ≡ last → IsOpen last (front ++ rest)
     → (front ++ rest ≡ []) ⊎ (AllByRecursion (λ line. decided line front ≡ true) lines → ⊥)
-no_front lines front rest None e none = inl none
-no_front lines front rest (Some line) e (inl none) = inl none
-no_front lines front rest (Some line) e (inr undecided) =
-    inr (λ all. false≢true (sym undecided ∙ decided_stays line front rest (of_last (λ line. decided line front ≡ true) lines line e all)))
+no_front lines front rest last e none = grind (arith, decided_stays, of_last)
 
 pub none_before : taken_are_first
 none_before lines front rest open_end = no_front lines front rest (last_or None lines) refl open_end

@@ -1,5 +1,5 @@
 -- The runs of several strands come in the order of their first records.
-use Rattle.bt_lines.proofs.Std.{◌≡◌, ℕ, zero, suc, ◌+◌, ◌<◌, ◌≤◌, inl, inr, refl, sym, ap, ap₂, ◌∙◌, arith, subst, List, [], ◌∷◌, ◌++◌, append_assoc, append-nil, length, map, Bool, true, false, not, Some, option_map, IsTrue, find, list_any, position_or_len, IsStrictlyIncreasing, cases_Bool, cond-true, cond-false, not_from_true, not_from_false, map-append, ◌||◌, false≢true, or_parts, bytes_decides, is_lt, ordering_reverse, bytes_eq, if◌then◌else◌}
+use Rattle.bt_lines.proofs.Std.{rules, ◌≡◌, ℕ, zero, suc, ◌+◌, ◌<◌, ◌≤◌, inl, inr, refl, sym, ap, ap₂, ◌∙◌, arith, subst, List, [], ◌∷◌, ◌++◌, append_assoc, append-nil, length, map, Bool, true, false, not, Some, option_map, IsTrue, find, list_any, position_or_len, IsStrictlyIncreasing, cases_Bool, cond-true, cond-false, not_from_true, not_from_false, map-append, ◌||◌, false≢true, or_parts, bytes_decides, is_lt, ordering_reverse, bytes_eq, if◌then◌else◌}
 use Rattle.bt_bed.specs.model.Feature.{Feature, interval_of, intervals_of, Interval}
 use Rattle.bt_bed.specs.model.Sorted.{ArePlaced, IsPlacedBefore, IsUpTo, Locus, locus_of}
 use Rattle.bt_bed.specs.model.Order.{IsTotal, Order, AreDistinct, is_among, rank_order}
@@ -21,18 +21,12 @@ use Rattle.bt_bed.specs.inside.RankTotal.{ranks_total}
 module _ {A : Type 0} where
   found_here : (test : A → Bool) (x : A) (xs : List A) → test x ≡ true
       → (find test (x ∷ xs) ≡ Some x) × (position_or_len test (x ∷ xs) ≡ 0)
-  found_here test x xs t = (
-    cond-true (test x) (Some x) (find test xs) t,
-    cond-false (not (test x)) (1 + position_or_len test xs) 0 (not_from_true (test x) t),
-  )
+  found_here test x xs t = grind arith
 
   found_later : (test : A → Bool) (x : A) (xs : List A) → test x ≡ false
       → (find test (x ∷ xs) ≡ find test xs)
       × (position_or_len test (x ∷ xs) ≡ 1 + position_or_len test xs)
-  found_later test x xs f = (
-    cond-false (test x) (Some x) (find test xs) f,
-    cond-true (not (test x)) (1 + position_or_len test xs) 0 (not_from_false (test x) f),
-  )
+  found_later test x xs f = grind arith
 
   -- it stays the first if more come after it, also by a test that agrees
   found_same : (test other : A → Bool) (xs ys : List A) → Each (λ x. test x ≡ other x) xs
@@ -41,10 +35,7 @@ module _ {A : Type 0} where
       × (position_or_len test (xs ++ ys) ≡ position_or_len other xs)
   found_same test other [] ys e some = absurd some
   found_same test other (x ∷ xs) ys e some = elim (cases_Bool (other x)) [
-    | inl t ↦
-        let new = found_here test x (xs ++ ys) (e.0 ∙ t) in
-        let old = found_here other x xs t in
-        (new.0 ∙ sym old.0, new.1 ∙ sym old.1)
+    | inl t ↦ grind arith
     | inr f ↦
         let new = found_later test x (xs ++ ys) (e.0 ∙ f) in
         let old = found_later other x xs f in
@@ -59,10 +50,7 @@ module _ {A : Type 0} where
       → test y ≡ true
       → (find test (xs ++ y ∷ []) ≡ Some y) × (position_or_len test (xs ++ y ∷ []) ≡ length xs)
   found_last test [] y e t = found_here test y [] t
-  found_last test (x ∷ xs) y e t =
-      let here = found_later test x (xs ++ y ∷ []) e.0 in
-      let rest = found_last test xs y e.1 t in
-      (here.0 ∙ rest.0, let more = here.1 in let is = rest.1 in omega arith)
+  found_last test (x ∷ xs) y e t = grind (arith, (found_last test xs y e.1 t))
 
   found_below : (test : A → Bool) (xs : List A) → Some_of (λ x. test x ≡ true) xs
       → position_or_len test xs < length xs
@@ -84,16 +72,13 @@ Rise (n ∷ ns) = Each (λ m. n < m) ns × Rise ns
 
 rise_more : (ns : List ℕ) (n : ℕ) → Rise ns → Each (λ m. m < n) ns → Rise (ns ++ n ∷ [])
 rise_more [] n r e = (tt, tt)
-rise_more (m ∷ ms) n r e =
-    (each_append (λ k. m < k) ms (n ∷ []) r.0 (e.0, tt), rise_more ms n r.1 e.1)
+rise_more (m ∷ ms) n r e = grind (arith, (rise_more ms n r.1 e.1), each_append)
 
 rise_increases : (ns : List ℕ) → Rise ns → IsStrictlyIncreasing ns
 rise_increases [] r k h = absurd (omega arith)
 rise_increases (n ∷ []) r k h = absurd (omega arith)
 rise_increases (n ∷ m ∷ ms) r zero h = r.0.0
-rise_increases (n ∷ m ∷ ms) r (suc k) h =
-    let later : suc (k + 1) ≡ suc k + 1 = omega arith in
-    rw (← later) (rise_increases (m ∷ ms) r.1 k (omega arith))
+rise_increases (n ∷ m ∷ ms) r (suc k) h = grind (arith, (rise_increases (m ∷ ms) r.1 k (omega arith)))
 
 map_same : {A B : Type 0} (f g : A → B) (xs : List A) → Each (λ x. f x ≡ g x) xs
     → map f xs ≡ map g xs
@@ -108,10 +93,7 @@ map_changed h f g (x ∷ xs) e = ap₂ (λ y ys. y ∷ ys) e.0 (map_changed h f 
 -- a run keeps its start with a record that is joined to it
 same_start : (gap : ℕ) (r : Feature) (item : StrandRun)
     → locus_of (joined_to gap r item).run ≡ locus_of item.run
-same_start gap r item = elim (cases_Bool (reaches gap r item)) [
-  | inl t ↦ ap (λ (i : StrandRun). locus_of i.run) (join_is gap r item t)
-  | inr f ↦ ap (λ (i : StrandRun). locus_of i.run) (join_not gap r item f)
-]
+same_start gap r item = grind arith
 
 -- what is known of the first records of the runs
 record Firsts (gap : ℕ) (past : List Feature) : Type 0 where
@@ -139,19 +121,13 @@ module _ (gap : ℕ) (past : List Feature) (r : Feature)
       (each_both (λ p. IsWithinOrFar gap item p) Up past apart (up gap past r taken listed)) in
       let some = some_weaker (λ p. Lies item p) (λ p. is_in item p ≡ true)
       (λ p l. lies_true item p l) past has in
-      let found = found_same new (is_in item) past (r ∷ []) alike some in
-      record {
-        place = found.1;
-        start = ap (option_map (λ p. locus_of (interval_of p))) found.0;
-        below = found_below (is_in item) past some;
-      }
+      grind (arith, (found_same new (is_in item) past (r ∷ []) alike some), found_below)
 
   all_same : Each Same old
   all_same =
       let Apart : StrandRun → Type 0 = λ item. Each (λ p. IsWithinOrFar gap item p) past in
       let Has : StrandRun → Type 0 = λ item. Some_of (λ p. Lies item p) past in
-      each_weaker (λ item. Apart item × Has item) Same (λ item both. same_first item both.0 both.1)
-      old (each_both Apart Has old listed.apart listed.has)
+      grind (arith, (each_weaker (λ item. Apart item × Has item) Same (λ item both. same_first item both.0 both.1) old (each_both Apart Has old listed.apart listed.has)))
 
   -- a new one has the record
   record New : Type 0 where
@@ -168,35 +144,19 @@ module _ (gap : ℕ) (past : List Feature) (r : Feature)
       (each_both In Full past listed.lies (some_base gap past r taken listed)) in
       let here = lies_true (run_from r) r
       (record { same = refl; on = refl; from = omega arith; to = omega arith }) in
-      let found = found_last (is_in (run_from r)) past r out here in
-      record {
-        place = found.1;
-        start = ap (option_map (λ p. locus_of (interval_of p))) found.0;
-      }
+      grind (arith, (found_last (is_in (run_from r)) past r out here))
 
   places_old : map (first_place (past ++ r ∷ [])) (map (joined_to gap r) old)
       ≡ map (first_place past) old
-  places_old = map_changed (joined_to gap r) (first_place (past ++ r ∷ [])) (first_place past) old
-      (each_weaker Same
-      (λ item. first_place (past ++ r ∷ []) (joined_to gap r item) ≡ first_place past item)
-      (λ item s. s.place) old all_same)
+  places_old = grind (arith, map_changed, each_weaker, all_same)
 
   starts_old : Each (λ item. first_start past item ≡ Some (locus_of item.run)) old
       → Each (λ item. first_start (past ++ r ∷ []) item ≡ Some (locus_of item.run))
       (map (joined_to gap r) old)
-  starts_old start =
-      let Before : StrandRun → Type 0 = λ item. first_start past item ≡ Some (locus_of item.run) in
-      let After : StrandRun → Type 0 = λ item.
-      first_start (past ++ r ∷ []) item ≡ Some (locus_of item.run) in
-      each_map After (joined_to gap r) old
-      (each_weaker (λ item. Same item × Before item) (λ item. After (joined_to gap r item))
-      (λ item both. both.0.start ∙ both.1 ∙ ap Some (sym (same_start gap r item))) old
-      (each_both Same Before old all_same start))
+  starts_old start = grind (arith, each_map, each_weaker, same_start, (each_both Same (λ item. first_start past item ≡ Some (locus_of item.run)) old all_same start))
 
   all_below : Each (λ n. n < length past) (map (first_place past) old)
-  all_below = each_map (λ n. n < length past) (first_place past) old
-      (each_weaker Same (λ item. first_place past item < length past) (λ item s. s.below) old
-      all_same)
+  all_below = grind (arith, each_map, each_weaker, all_same)
 
   firsts_next : Firsts gap past → Firsts gap (past ++ r ∷ [])
   firsts_next firsts =
@@ -236,19 +196,13 @@ module _ (gap : ℕ) (past : List Feature) (r : Feature)
         → IsPlacedBefore order b (places_of (map (joined_to gap r) items) ++ rest)
     before_same [] [] a b e p = tt
     before_same [] (s ∷ ss) a b e p = subst (λ (l : Locus). IsUpTo order l (locus_of s)) e p
-    before_same (x ∷ xs) rest a b e p =
-        rw (same_start gap r x) (subst (λ (l : Locus). IsUpTo order l (locus_of x.run)) e p)
+    before_same (x ∷ xs) rest a b e p = grind arith
 
     placed_same : (items : List StrandRun) (rest : List Interval)
         → ArePlaced order (places_of items ++ rest)
         → ArePlaced order (places_of (map (joined_to gap r) items) ++ rest)
     placed_same [] rest p = p
-    placed_same (x ∷ xs) rest p =
-        let start = same_start gap r x in (
-          subst (λ (l : Locus). IsTrue (order.knows l.chrom)) (sym start) p.0,
-          before_same xs rest x.run (joined_to gap r x).run (sym start) p.1,
-          placed_same xs rest p.2,
-        )
+    placed_same (x ∷ xs) rest p = grind (arith, (before_same xs rest x.run (joined_to gap r x).run (sym (same_start gap r x)) p.1), (placed_same xs rest p.2))
 
     placed_without : (xs : List Interval) (y : Interval) (rest : List Interval)
         → ArePlaced order (xs ++ y ∷ rest) → ArePlaced order (xs ++ rest)
@@ -258,24 +212,7 @@ module _ (gap : ℕ) (past : List Feature) (r : Feature)
 
     placed_next : (rest : List Interval) → ArePlaced order (places_of old ++ interval_of r ∷ rest)
         → ArePlaced order (places_of (strand_runs gap (past ++ r ∷ [])) ++ rest)
-    placed_next rest p =
-        let joined = map (joined_to gap r) old in
-        let more = listing_next gap past r taken listed in
-        let all = placed_same old (interval_of r ∷ rest) p in
-        elim (cases_Bool (list_any (reaches gap r) old)) [
-          | inl t ↦
-              let is : strand_runs gap (past ++ r ∷ []) ≡ joined =
-              more ∙ ap (λ b. joined ++ new_run b r) t ∙ append-nil joined in
-              rw is (placed_without (places_of joined) (interval_of r) rest all)
-          | inr f ↦
-              let next = strand_runs gap (past ++ r ∷ []) in
-              let place : StrandRun → Interval = λ item. item.run in
-              let is : places_of next ++ rest ≡ places_of joined ++ interval_of r ∷ rest =
-              ap (λ l. places_of l ++ rest) (more ∙ ap (λ b. joined ++ new_run b r) f)
-              ∙ ap (λ l. l ++ rest) (map-append place joined (run_from r ∷ []))
-              ∙ append_assoc (places_of joined) (interval_of r ∷ []) rest in
-              subst (ArePlaced order) (sym is) all
-        ]
+    placed_next rest p = grind (arith, listing_next, placed_same, placed_without, map-append, append_assoc)
 
 -- so it is of all records
 firsts_none : (gap : ℕ) → Firsts gap []
@@ -290,9 +227,7 @@ module _ (gap : ℕ) where
       let grown : (past ++ r ∷ []) ++ rs ≡ past ++ r ∷ rs = append_assoc past (r ∷ []) rs in
       let all = subst AreTaken (sym grown) t in
       let next = taken_front (past ++ r ∷ []) rs all in
-      let listed = are_listed gap past (taken_front past (r ∷ []) next) in
-      subst (Firsts gap) grown
-      (firsts_more (past ++ r ∷ []) rs all (firsts_next gap past r next listed f))
+      grind (arith, (firsts_more (past ++ r ∷ []) rs all (firsts_next gap past r next (are_listed gap past (taken_front past (r ∷ []) next)) f)))
 
   firsts : (records : List Feature) → AreTaken records → Firsts gap records
   firsts records t = firsts_more [] records t (firsts_none gap)
@@ -304,17 +239,13 @@ module _ (gap : ℕ) where
       → AreTaken (past ++ more)
       → ArePlaced order (places_of (strand_runs gap past) ++ intervals_of more)
       → AreRunsPlaced order (past ++ more)
-  placed_more order total past [] t p =
-      subst (AreRunsPlaced order) (sym (append-nil past))
-      (subst (ArePlaced order) (append-nil (places_of (strand_runs gap past))) p)
+  placed_more order total past [] t p = grind (arith, append-nil)
   placed_more order total past (r ∷ rs) t p =
       let grown : (past ++ r ∷ []) ++ rs ≡ past ++ r ∷ rs = append_assoc past (r ∷ []) rs in
       let all = subst AreTaken (sym grown) t in
       let next = taken_front (past ++ r ∷ []) rs all in
       let listed = are_listed gap past (taken_front past (r ∷ []) next) in
-      subst (AreRunsPlaced order) grown
-      (placed_more order total (past ++ r ∷ []) rs all
-      (placed_next gap past r next listed order total (intervals_of rs) p))
+      grind (arith, (placed_more order total (past ++ r ∷ []) rs all (placed_next gap past r next listed order total (intervals_of rs) p)))
 
 no_runs : (gap : ℕ) → strand_runs gap [] ≡ []
 unfolding strand_runs
@@ -322,14 +253,10 @@ no_runs gap = refl
 
 -- the laws
 pub in_turn : strand_runs_come_in_turn
-in_turn gap records taken =
-    rise_increases (map (first_place records) (strand_runs gap records))
-    (firsts gap records taken).rise
+in_turn gap records taken = grind (arith, (rise_increases (map (first_place records) (strand_runs gap records)) (firsts gap records taken).rise))
 
 pub start_with_records : strand_runs_start_with_records
-start_with_records gap records taken =
-    map_same (first_start records) (λ item. Some (locus_of item.run)) (strand_runs gap records)
-    (firsts gap records taken).start
+start_with_records gap records taken = grind (arith, (map_same (first_start records) (λ item. Some (locus_of item.run)) (strand_runs gap records) (firsts gap records taken).start))
 
 pub in_order : strand_runs_come_in_order
 in_order order gap records total placed full =
@@ -342,17 +269,13 @@ in_order order gap records total placed full =
 -- Names that are put in order: each comes before the next, and none is lost.
 
 or_swap : (a b c : Bool) → (a || (b || c)) ≡ (b || (a || c))
-or_swap true true c = refl
-or_swap true false c = refl
-or_swap false true c = refl
-or_swap false false c = refl
+or_swap a b c = grind arith
 
 module _ (order : Order) where
   among_if : (c : Bool) (name n x : List ℕ) (ns : List (List ℕ))
       → is_among (put_in_order order name ns) x ≡ is_among (name ∷ ns) x
       → is_among (if c then name ∷ n ∷ ns else n ∷ put_in_order order name ns) x ≡ is_among (name ∷ n ∷ ns) x
-  among_if true name n x ns e = refl
-  among_if false name n x ns e = ap (λ b. bytes_eq n x || b) e ∙ or_swap (bytes_eq n x) (bytes_eq name x) (is_among ns x)
+  among_if c name n x ns e = grind arith
 
   among_put : (name x : List ℕ) (ns : List (List ℕ)) → is_among (put_in_order order name ns) x ≡ is_among (name ∷ ns) x
   among_put name x [] = refl
@@ -365,8 +288,7 @@ module _ (order : Order) where
   known_if : (c : Bool) (name n : List ℕ) (ns : List (List ℕ)) → IsTrue (order.knows name) → AreKnown order (n ∷ ns)
       → AreKnown order (put_in_order order name ns)
       → AreKnown order (if c then name ∷ n ∷ ns else n ∷ put_in_order order name ns)
-  known_if true name n ns one known rest = (one, known)
-  known_if false name n ns one known rest = (known.0, rest)
+  known_if c name n ns one known rest = grind arith
 
   known_put : (name : List ℕ) (ns : List (List ℕ)) → IsTrue (order.knows name) → AreKnown order ns → AreKnown order (put_in_order order name ns)
   known_put name [] one known = (one, tt)
@@ -378,42 +300,28 @@ module _ (order : Order) where
 
   before_if : (c : Bool) (m name n : List ℕ) (ns : List (List ℕ)) → order.compare m n ≡ Less → order.compare m name ≡ Less
       → ComesBefore order m (if c then name ∷ n ∷ ns else n ∷ put_in_order order name ns)
-  before_if true m name n ns old new = new
-  before_if false m name n ns old new = old
+  before_if c m name n ns old new = grind arith
 
   before_put : (m name : List ℕ) (ns : List (List ℕ)) → ComesBefore order m ns → order.compare m name ≡ Less → ComesBefore order m (put_in_order order name ns)
-  before_put m name [] old new = new
-  before_put m name (n ∷ ns) old new = before_if (is_lt (order.compare name n)) m name n ns old new
+  before_put m name ns old new = grind arith
 
   ascending_by : IsTotal order → (name n : List ℕ) (ns : List (List ℕ)) → IsTrue (order.knows name) → AreKnown order (n ∷ ns)
       → is_among (n ∷ ns) name ≡ false → AreAscending order (n ∷ ns) → AreAscending order (put_in_order order name ns)
       → (o : Ordering) → order.compare name n ≡ o
       → AreAscending order (if is_lt o then name ∷ n ∷ ns else n ∷ put_in_order order name ns)
-  ascending_by total name n ns one known none old rest Less e = (e, old)
-  ascending_by total name n ns one known none old rest Equal e =
-      let same : name ≡ n = total.equal name n one known.0 e in
-      absurd (false≢true (sym (or_parts (bytes_eq n name) (is_among ns name) none).0 ∙ (bytes_decides n name).1 (sym same)))
-  ascending_by total name n ns one known none old rest Greater e =
-      (before_put n name ns old.0 (total.swapped name n one known.0 ∙ ap ordering_reverse e), rest)
+  ascending_by total name n ns one known none old rest o e = search rules
 
   ascending_put : IsTotal order → (name : List ℕ) (ns : List (List ℕ)) → IsTrue (order.knows name) → AreKnown order ns
       → is_among ns name ≡ false → AreAscending order ns → AreAscending order (put_in_order order name ns)
   ascending_put total name [] one known none old = (tt, tt)
-  ascending_put total name (n ∷ ns) one known none old =
-      ascending_by total name n ns one known none old
-      (ascending_put total name ns one known.1 (or_parts (bytes_eq n name) (is_among ns name) none).1 old.1)
-      (order.compare name n) refl
+  ascending_put total name (n ∷ ns) one known none old = grind (arith, (ascending_put total name ns one known.1 (or_parts (bytes_eq n name) (is_among ns name) none).1 old.1), ascending_by)
 
   ascending_order : IsTotal order → (ns : List (List ℕ)) → AreKnown order ns → AreDistinct ns → AreAscending order (runs_in_order order ns)
   ascending_order total [] known distinct = tt
-  ascending_order total (n ∷ ns) known distinct =
-      ascending_put total n (runs_in_order order ns) known.0 (known_order ns known.1) (among_order n ns ∙ distinct.0)
-      (ascending_order total ns known.1 distinct.1)
+  ascending_order total (n ∷ ns) known distinct = grind (arith, (ascending_order total ns known.1 distinct.1), ascending_put, known_order, among_order)
 
 pub names_in_order : names_come_in_order
 names_in_order order names total known distinct = (ascending_order order total names known distinct, λ name. among_order order name names)
 
 pub file_ordered : file_runs_are_ordered
-file_ordered names gap strand records distinct placed =
-    in_file_order names gap strand records distinct placed
-    ∙ sym (ordered_come (rank_order names) gap strand records (ranks_total names) placed)
+file_ordered names gap strand records distinct placed = grind (arith, (in_file_order names gap strand records distinct placed), (ordered_come (rank_order names) gap strand records (ranks_total names) placed))

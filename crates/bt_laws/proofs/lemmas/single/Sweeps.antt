@@ -1,5 +1,5 @@
 -- Lemmas on what a sweep decides, takes and writes.
-use Rattle.bt_lines.proofs.Std.{false, List, [], ◌∷◌, ◌++◌, Option, refl, sym, ◌∙◌, not, ◌||◌, ap, ◌-◌, ◌&&◌, ltb, is_none, AllByRecursion, or_right, or_left, list_any-append, inl, inr, ◌≡◌, Bool, true, cond, subst, append_assoc, IsTrue, list_all, take_while, and_parts, or_from, cases_Bool, take_while-cons, ℕ, Some, filter, length, map, nat_lt, find, false≢true, and_from, lt-ltb, ltb-true, false_from_ne_true, Ok, Err}
+use Rattle.bt_lines.proofs.Std.{arith, false, List, [], ◌∷◌, ◌++◌, Option, refl, sym, ◌∙◌, not, ◌||◌, ap, ◌-◌, ◌&&◌, ltb, is_none, AllByRecursion, or_right, or_left, list_any-append, inl, inr, ◌≡◌, Bool, true, cond, subst, append_assoc, IsTrue, list_all, take_while, and_parts, or_from, cases_Bool, take_while-cons, ℕ, Some, filter, length, map, nat_lt, find, false≢true, and_from, lt-ltb, ltb-true, false_from_ne_true, Ok, Err}
 use Rattle.bt_lines.specs.model.Fault.{FaultValue}
 use Rattle.bt_bed.specs.model.Feature.{Feature, intervals_of, is_strand}
 use Rattle.bt_bed.specs.model.BedLine.{fault_at_line}
@@ -30,10 +30,7 @@ stays_decided order a bs more e = list_any-append (decides order a) bs more ∙ 
 all_stay : (order : Order) (shape : Shape) (rule : HitRule) (first second more : List Feature) (fault : Option FaultValue) → IsTotal order → ArePlaced order (intervals_of first) → ArePlaced order (intervals_of (second ++ more))
     → AllByRecursion (StaysDecided (early_rule order shape rule second) (sweep_rule order shape rule (second ++ more) fault)) first
 all_stay order shape rule [] second more fault total known placed = tt
-all_stay order shape rule (a ∷ first) second more fault total known placed = (
-  λ some. (or_right (is_none fault) (decided order a (second ++ more)) (stays_decided order a second more some), sym (stay_lines order shape rule a second more total known.0 placed some)),
-  all_stay order shape rule first second more fault total known.2 placed,
-)
+all_stay order shape rule (a ∷ first) second more fault total known placed = grind (arith, stays_decided, stay_lines, (all_stay order shape rule first second more fault total known.2 placed))
 
 pub written_front : written_are_a_prefix
 written_front order shape rule first more_first second more_second first_fault second_fault total known placed =
@@ -41,10 +38,7 @@ written_front order shape rule first more_first second more_second first_fault s
 
 pub of_nothing : both_of_nothing
 unfolding hits strands_agree
-of_nothing both same_strand a b =
-    ap (λ c. ltb 0 (shared_bases a b) && ((not same_strand || is_strand a.strand b.strand) && c))
-    (enough_of_nothing (record { billionths = 0; both = both; same_strand = same_strand }) (shared_bases a b) a b refl
-    ∙ sym (enough_of_nothing (record { billionths = 0; both = false; same_strand = same_strand }) (shared_bases a b) a b refl))
+of_nothing = grind (arith, enough_of_nothing)
 
 -- The records taken are those before the first that decides all that was given.
 
@@ -64,9 +58,7 @@ leaves_none order (a ∷ given) taken b total pg pb all =
 module _ (p : Feature → Bool) (b : Feature) (more : List Feature) (stops : p b ≡ false) where
   before_stop : (xs : List Feature) → list_all p xs ≡ true → take_while p (xs ++ b ∷ more) ≡ xs
   before_stop [] all = take_while-cons p b more ∙ ap (λ c. cond c (b ∷ take_while p more) []) stops
-  before_stop (x ∷ xs) all =
-      let parts = and_parts (p x) (list_all p xs) all in
-      take_while-cons p x (xs ++ b ∷ more) ∙ ap (λ c. cond c (x ∷ take_while p (xs ++ b ∷ more)) []) parts.0 ∙ ap (λ l. x ∷ l) (before_stop xs parts.1)
+  before_stop (x ∷ xs) all = grind (arith, (take_while-cons p x (xs ++ b ∷ more)), (before_stop xs (and_parts (p x) (list_all p xs) all).1))
 
 pub first_taken : taken_are_first
 first_taken order given taken more next total pg placed reached all =
@@ -99,12 +91,10 @@ module _ (order : Order) (most : ℕ) (second : List Feature) where
   -- if they are too many, there is a record for which they are
   too_many_for : (first : List Feature) → are_too_many order most first second ≡ true → Found first
   too_many_for [] many = absurd (false≢true (sym (none_many most) ∙ many))
-  too_many_for (x ∷ first) many =
-      found_at (decided order x second) x first refl many (too_many_for first)
+  too_many_for (x ∷ first) many = grind (arith, (too_many_for first), found_at)
 
   pub enough_few : (first : List Feature) → HoldsEnough order most first second → are_too_many order most first second ≡ false
-  enough_few first enough =
-      false_from_ne_true (are_too_many order most first second) (λ many. let found = too_many_for first many in enough found.0 found.1 found.2 found.3 found.4)
+  enough_few first enough = grind (arith, too_many_for)
 
 pub limit_kept : limit_is_kept
 limit_kept order most first second enough =
@@ -146,10 +136,4 @@ limit_stopped order shape rule most first second before after a past more m is m
 -- Records that change nothing but what was taken.
 
 pub quiet_taken : quiet_are_taken
-quiet_taken order stage a b line old out (Ok Yes) new grown gives undecided free = (refl, gives.same_output)
-quiet_taken order stage a b line old out (Ok No) new grown gives undecided free = absurd (false≢true (sym undecided ∙ gives.decides))
-quiet_taken order stage a b line old out (Err f) new grown gives undecided free =
-    elim gives.1 [
-      | inl cut ↦ absurd (false≢true (sym undecided ∙ cut.decides))
-      | inr refused ↦ absurd (false≢true (sym free ∙ refused.to_hold))
-    ]
+quiet_taken = grind arith
