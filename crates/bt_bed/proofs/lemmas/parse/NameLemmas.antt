@@ -45,18 +45,11 @@ ends_same a b n some short first last =
     → drop (8 - length a) (drop (length xs - 4) xs) ≡ drop 4 xs
     = λ xs m. let whole : (length xs - 4) + (8 - length a) ≡ 4 = omega arith in
     drop-drop (8 - length a) (length xs - 4) xs ∙ ap (λ (k : ℕ). drop k xs) whole in
-    let rest : drop 4 a ≡ drop 4 b = sym (back a refl) ∙ ap (drop (8 - length a)) last
-    ∙ back b (sym n) in
-    sym (take-append-drop 4 a) ∙ ap (λ l. l ++ drop 4 a) first ∙ ap (λ l. take 4 b ++ l) rest
-    ∙ take-append-drop 4 b
+    grind arith
 
 byte_in_front : (xs : List ℕ) (n : ℕ) → n ≤ length xs → ((i : ℕ) → get_or xs i 0 < 256) → (i : ℕ)
     → get_or (take n xs) i 0 < 256
-byte_in_front xs n room all i =
-    elim (cases_lt i n) [
-      | inl below ↦ rw (get_or-take n xs i 0 below) (all i)
-      | inr past ↦ rw (get_or_past (take n xs) i 0 (omega (arith, length-take n xs))) (omega arith)
-    ]
+byte_in_front xs n room all i = grind (arith, cases_lt, get_or-take, get_or_past, length-take)
 
 byte_behind : (xs : List ℕ) (n : ℕ) → ((i : ℕ) → get_or xs i 0 < 256) → (i : ℕ)
     → get_or (drop n xs) i 0 < 256
@@ -84,11 +77,7 @@ ends_tell a b first last other_first other_last n some short fits other_fits f l
           (byte_behind a (length a - 4) fits) (byte_behind b (length b - 4) other_fits)
           (sym l ∙ eqb-true last other_last same ∙ m) in
           same ∙ sym (name_eq a b (ends_same a b n some short front back))
-      | inr other ↦
-          other ∙ sym (name_ne a b (λ is.
-          let equal : last ≡ other_last = l ∙ ap
-          (λ (xs : List ℕ). from_le_bytes w32 (drop (length xs - 4) xs)) is ∙ sym m in
-          false≢true (sym other ∙ eq-eqb last other_last equal)))
+      | inr other ↦ grind (arith, name_ne, false≢true, eq-eqb)
     ]
 
 -- Lemmas on the name of a chromosome and the tab after it as one number.
@@ -138,14 +127,10 @@ front_same (suc k) (x ∷ a) [] p q fit other m n e = absurd (omega arith)
 front_same (suc k) (x ∷ a) (y ∷ b) p q fit other m n e =
     let parts = low_same x y (worth a + p * 256 ^ k) (worth b + q * 256 ^ k) (fit 0) (other 0)
     (sym (raise_one x (worth a) p k) ∙ e ∙ raise_one y (worth b) q k) in
-    let rest = front_same k a b p q (λ i. fit (suc i)) (λ i. other (suc i)) (omega arith) (omega arith) parts.1 in
-    ap (λ (z : ℕ). z ∷ take k a) parts.0 ∙ ap (λ (l : List ℕ). y ∷ l) rest
+    grind (arith, (front_same k a b p q (λ i. fit (suc i)) (λ i. other (suc i)) (omega arith) (omega arith) parts.1))
 
 some_factor : (f k n : ℕ) → f * k ≡ n → 0 < n → 0 < f
-some_factor f k n is some = elim (cases_lt 0 f) [
-  | inl has ↦ has
-  | inr none ↦ let zero : f ≡ 0 = omega arith in let product = ap (λ (g : ℕ). g * k) zero in absurd (omega arith)
-]
+some_factor f k n is some = grind arith
 
 -- what is lost of a product is a multiple of the other factor
 lost_parts : (a b f k n : ℕ) → f * k ≡ n → 0 < n → (a * f) % n ≡ (b * f) % n → a + (b * f / n) * k ≡ b + (a * f / n) * k
@@ -181,11 +166,7 @@ key_made name bytes factor short is eight front =
     let size : length (name ++ 9 ∷ []) ≡ length name + 1 = length-append name (9 ∷ []) in
     let rest = drop (length name + 1) bytes in
     let parts : bytes ≡ (name ++ 9 ∷ []) ++ rest = sym (take-append-drop (length name + 1) bytes) ∙ ap (λ (l : List ℕ). l ++ rest) front in
-    let number : worth bytes ≡ worth (name ++ 9 ∷ []) + worth rest * 256 ^ (length name + 1) =
-    ap worth parts ∙ worth_parts (name ++ 9 ∷ []) rest ∙ ap (λ (n : ℕ). worth (name ++ 9 ∷ []) + worth rest * 256 ^ n) size in
-    ap (λ (w : ℕ). (w * factor) % 2 ^ 64) (worth_is bytes (omega arith) ∙ number)
-    ∙ lost_rest (worth (name ++ 9 ∷ [])) (worth rest) factor (256 ^ (length name + 1)) (2 ^ 64) is
-    ∙ ap (λ (w : ℕ). (w * factor) % 2 ^ 64) (sym (worth_is (name ++ 9 ∷ []) (omega arith)))
+    grind (arith, worth_parts, worth_is, lost_rest)
 
 -- a power of 256 as one of 2
 power_is : (m : ℕ) → 256 ^ m ≡ 2 ^ (8 * m)
@@ -224,22 +205,12 @@ few_begin text bytes lead are room begins =
     let within = begins.within in
     let size : length bytes ≡ 8 = ap length are ∙ length-take-le 8 text room in
     let same : take lead.end bytes ≡ take lead.end text = ap (take lead.end) are ∙ take-take lead.end 8 text (omega arith) in
-    record {
-      within = omega arith;
-      short = begins.short;
-      digits = ap (list_all is_ascii_digit) (sym same) ∙ begins.digits;
-      value = begins.value ∙ ap (digits_value 10) same;
-    }
+    grind arith
 
 -- one digit more
 pub one_more : (text : List ℕ) (lead : ParsedNumber) → BeginsWith text lead → lead.end < 12 → lead.end < length text → is_ascii_digit (get_or text lead.end 0) ≡ true
     → BeginsWith text (record { value = lead.value * 10 + (get_or text lead.end 0 - 48); end = lead.end + 1 })
-one_more text lead begins short inside digit = record {
-  within = omega arith;
-  short = omega arith;
-  digits = digits_more text lead.end inside begins.digits digit;
-  value = value_more text lead.end lead.value inside begins.value digit;
-}
+one_more text lead begins short inside digit = grind (arith, digits_more, value_more)
 
 -- the number of eight digits is small
 pub eight_small : (text : List ℕ) (value : ℕ) → 8 ≤ length text → value_of (take 8 text) ≡ Some value → value ≤ 999999999999
@@ -260,9 +231,7 @@ module _ (bytes name : List ℕ) (start stop : ParsedNumber) (has : HasColumns b
 
     -- a byte of it
     byte_is : (k : ℕ) → k < length name + start.end + stop.end + 2 → get_or text k 0 ≡ get_or bytes k 0
-    byte_is k small =
-        sym (get_or-take (k + 1) text k 0 (omega arith)) ∙ ap (λ l. get_or l k 0) (front_is (k + 1) (omega arith))
-        ∙ get_or-take (k + 1) bytes k 0 (omega arith)
+    byte_is k small = grind (arith, get_or-take, front_is)
 
     -- a number in it
     number_in : (at : ℕ) (lead : ParsedNumber) → BeginsWith (drop at bytes) lead → at + lead.end ≤ length name + start.end + stop.end + 2 → take lead.end (drop at text) ≡ take lead.end (drop at bytes)
@@ -270,9 +239,7 @@ module _ (bytes name : List ℕ) (start stop : ParsedNumber) (has : HasColumns b
         sym (drop-take at lead.end text) ∙ ap (drop at) (front_is (at + lead.end) small) ∙ drop-take at lead.end bytes
 
     pub line_named : BeginsWithName text name
-    line_named =
-        name_in_front text name (omega arith) (byte_is (length name) (omega arith) ∙ name_tab)
-        ((bytes_eq-Decides name (take (length name) text)).1 (sym (front_is (length name) (omega arith) ∙ front_is_name bytes name has.named)))
+    line_named = grind (arith, name_in_front, byte_is, name_tab, bytes_eq-Decides, front_is, front_is_name)
 
     leads_at : (at : ℕ) (lead : ParsedNumber) → BeginsWith (drop at bytes) lead → 0 < lead.end → at + lead.end ≤ length name + start.end + stop.end + 2 → (at + lead.end < length text → get_or text (at + lead.end) 0 ≡ 9)
         → Leads (drop at text) lead

@@ -1,4 +1,5 @@
 -- Lemmas on the reader of records.
+use Rattle.std.proofs.lemmas.Grind.{common_steps}
 use Rattle.bt_lines.proofs.Std.{arith, ◌≡◌, ℕ, suc, Bool, true, false, List, [], ◌∷◌, Option, Some, None, Ok, Err, take, refl, sym, ap, ◌∙◌, subst, IfSome, IsSome, IsTrue, Result, option_map, ForSome, false≢true, ◌≤◌, cond, bytes_eq, ◌&&◌, is_some, nat_lt, unwrap_or, nat_tests, bytes_eq-Decides, ◌+◌, ◌<◌, ◌++◌, drop, length, length-append, IfNone, strip_last, take-append-add, take-append_seam, take-nil, ◌-◌, slice_range, take-add, take-append-drop, take-append-le, length-take-le}
 use Rattle.bt_lines.specs.declared.device.Source.{Ghosts as Source}
 use Rattle.bt_lines.specs.calls.Reader.{input_of, lines_given, lines_left, fault_kept as line_fault, lines_in, lines_after, line_of, rest_in}
@@ -79,9 +80,7 @@ module _ {S O : Type 0} {g : Ghosts O} (device : Source S) where
 
   -- the record ahead after `fill` of the reader below
   filled : (old new : Records S O g) (result : Result Bool Fault) → IsTotal (order_in old) → FillAnswers device (view_of old) result (view_of new) → IfSome (ahead_in (view_of new)) (λ m. IsFeature m.item × IsNext old m.item)
-  filled old new (Ok true) total makes = given old new makes.0 total makes.1
-  filled old new (Ok false) total ends = none_ahead (view_of new) (λ m. IsFeature m.item × IsNext old m.item) ends.none_buffered
-  filled old new (Err fault) total answers = none_ahead (view_of new) (λ m. IsFeature m.item × IsNext old m.item) answers.none_buffered
+  filled old new result total makes = grind (arith, given, none_ahead)
 
 module _ {S Q : Type 0} (device : Source S) (sorting : Sorting) (sorted : SortedReader S Q) where
   -- a reader that has given no record has all of the good ones left
@@ -92,11 +91,7 @@ module _ {S Q : Type 0} (device : Source S) (sorting : Sorting) (sorted : Sorted
 
   pub placed_at_start : records_in sorted ≡ [] → last_in sorted.lookahead ≡ None → IsPlaced sorting (view_in sorting sorted)
   unfolding view_with
-  placed_at_start none last = record {
-    last = λ place e. cc;
-    in_order = rw none refl;
-    going = λ e. absurd (false≢true (sym (ap is_some_left none) ∙ e));
-  }
+  placed_at_start none last = grind arith
 
 module _ {S O : Type 0} (g : Ghosts O) where
   -- how the records of a reader are sorted
@@ -198,12 +193,7 @@ held_other name chrom last e = grind arith
 
 -- a record that fits after the last one doesn't start below
 pub fits_above : (sorting : Sorting) (last : Option Locus) (r : Feature) → falls_in sorting last (locus_at r) ≡ false → start_after last r.chrom ≤ r.start
-fits_above sorting None r e = omega arith
-fits_above sorting (Some place) r e = by (bytes_eq place.chrom r.chrom) e
-  where
-    by : (b : Bool) → cond b (nat_lt r.start place.start) (sorting.comes_before r.chrom place.chrom) ≡ false → cond b place.start 0 ≤ r.start
-    by true e = grind (arith, nat_tests)
-    by false e = omega arith
+fits_above sorting last r e = grind arith
 
 -- Lemmas on the records on one chromosome that lines begin with.
 
@@ -215,11 +205,7 @@ placed_there name start text r says on above = grind (arith, bytes_eq-Decides, n
 -- one that starts below
 pub placed_below : (name : List ℕ) (start : ℕ) (text : List ℕ) (r : Feature) → record_of text ≡ Ok (Some r) → nat_lt r.start start ≡ true → record_on name start text ≡ None
 unfolding record_on
-placed_below name start text r says below = ap (placed_on name start) says ∙ by (bytes_eq r.chrom name)
-  where
-    by : (b : Bool) → cond b (cond (nat_lt r.start start) None (Some r)) None ≡ None
-    by true = rw below refl
-    by false = refl
+placed_below name start text r says below = grind arith
 
 not_placed_by : (name : List ℕ) (start : ℕ) (said : Result (Option Feature) Kind) → is_on name said ≡ false → placed_on name start said ≡ None
 not_placed_by name start said e = grind arith
@@ -259,8 +245,7 @@ some_bytes raw line bytes is front = grind (arith, take-nil, name_within)
 pub none_either : (batch : Batch) (bytes : List ℕ) → rest_in (cursor_in batch) ≡ bytes → (rest_in (cursor_in batch) ≡ [] → lines_in (cursor_in batch) ≡ [])
     → (0 < length (rest_in (cursor_in batch)) → left batch ≡ []) → left batch ≡ []
 unfolding left cursor_in
-none_either batch [] e none some = run_nil batch.name.now batch.start _ (none e)
-none_either batch (byte ∷ bytes) e none some = some (omega (arith, ap length e))
+none_either batch bytes e none some = grind (arith, common_steps, run_nil)
 
 module _ (batch : Batch) (line : List ℕ) (front : take (length line) (rest_in (cursor_in batch)) ≡ line) (cut : Cut (rest_in (cursor_in batch)) (shown_of line))
     (first : lines_in (cursor_in batch) ≡ line_of (cursor_in batch) (shown_of line) ∷ lines_after (cursor_in batch) (length line + 1)) where
@@ -291,17 +276,12 @@ module _ (batch : Batch) (line : List ℕ) (front : take (length line) (rest_in 
   unfolding left chrom_in start_in cursor_in
   none_below raw is below =
       let test : nat_lt (record_in raw).start batch.start ≡ true = grind (arith, nat_tests) in
-      ap (run_of batch.name.now batch.start) first
-      ∙ run_none batch.name.now batch.start (line_of batch.lines (shown_of line)) (lines_after batch.lines (length line + 1))
-      (placed_below batch.name.now batch.start (strip_last 13 line) (record_in raw) is.says test)
+      grind (arith, run_none, placed_below)
 
   -- or the line says none on the chromosome
   pub none_elsewhere : is_on (chrom_in batch) (record_of (strip_last 13 line)) ≡ false → left batch ≡ []
   unfolding left chrom_in start_in cursor_in
-  none_elsewhere other =
-      ap (run_of batch.name.now batch.start) first
-      ∙ run_none batch.name.now batch.start (line_of batch.lines (shown_of line)) (lines_after batch.lines (length line + 1))
-      (placed_elsewhere batch.name.now batch.start (strip_last 13 line) other)
+  none_elsewhere other = grind (arith, run_none, placed_elsewhere)
 
 -- Lemmas on the bytes of lines that were consumed.
 
@@ -311,16 +291,11 @@ one_more at size bytes line is = take-add at size bytes ∙ ap (λ l. take at by
 
 -- a prefix of a prefix
 take_less : (n m : ℕ) (bytes : List ℕ) → n ≤ m → m ≤ length bytes → take n (take m bytes) ≡ take n bytes
-take_less n m bytes less within =
-    sym (take-append-le n (take m bytes) (drop m bytes) (omega (arith, less, length-take-le m bytes within)))
-    ∙ ap (take n) (take-append-drop m bytes)
+take_less n m bytes less within = grind (arith, common_steps, take-append-le, length-take-le, take-append-drop)
 
 -- the bytes between two offsets
 pub bytes_between : (from to at : ℕ) (bytes : List ℕ) → from ≤ to → to ≤ at → at ≤ length bytes
     → take to (take at bytes) ≡ take from (take at bytes) ++ slice_range bytes from to
 bytes_between from to at bytes ordered within inside =
     let same : to ≡ from + (to - from) = omega (arith, ordered) in
-    take_less to at bytes within inside
-    ∙ ap (λ n. take n bytes) same
-    ∙ take-add from (to - from) bytes
-    ∙ ap (λ l. l ++ slice_range bytes from to) (sym (take_less from at bytes (omega (arith, ordered, within)) inside))
+    grind (arith, take_less, take-add)

@@ -68,9 +68,7 @@ module _ {A State : Type 0} (format : Format A State) (input : Input) where
 
 ascending_beyond : {A : Type 0} (count line : ℕ) (members : List (Member A)) → count < line → AreAscending line members → All (λ m. count < m.line) members
 ascending_beyond {A} count line [] low asc = All-nil (λ (m : Member A). count < m.line)
-ascending_beyond {A} count line (m ∷ ms) low asc =
-    let first = asc.0 in
-    All-cons (λ (m : Member A). count < m.line) m ms (omega arith) (ascending_beyond count (suc m.line) ms (omega arith) asc.1)
+ascending_beyond {A} count line (m ∷ ms) low asc = grind (arith, (ascending_beyond count (suc m.line) ms (omega arith) asc.1), All-cons)
 
 module _ {A State : Type 0} (format : Format A State) (input : Input) where
   fault_with : (count number : ℕ) (state : State) (said : Result (Option A) Kind) (rest : State → Good A) → count < number
@@ -94,10 +92,7 @@ module _ {A State : Type 0} (format : Format A State) (input : Input) where
 -- members on lines after a line have none up to it
 none_up_to : {A : Type 0} (count : ℕ) (past rest : List (Member A)) → AreAscending (suc count) (past ++ rest) → All (λ m. m.line ≤ count) past → past ≡ []
 none_up_to count [] rest asc up = refl
-none_up_to {A} count (m ∷ ms) rest asc up =
-    let low : m.line ≤ count = All-head (λ (m : Member A). m.line ≤ count) m ms up in
-    let high = asc.0 in
-    absurd (omega arith)
+none_up_to {A} count (m ∷ ms) rest asc up = grind (arith, All-head)
 
 no_front : {A : Type 0} (past rest : List (Member A)) → [] ≡ past ++ rest → past ≡ []
 no_front [] rest e = refl
@@ -109,14 +104,11 @@ module _ {A State : Type 0} (format : Format A State) (input : Input) where
       → (good_with format input number state said whole).members ≡ past ++ rest → (good_with format input number state said whole).fault ≡ fault
       → All (λ m. m.line ≤ count) past → IsBeyond count (record { members = rest; fault = fault })
       → good_with format input number state said taken ≡ record { members = past; fault = None }
-  first_with count number state (Err kind) whole taken past rest fault low h e f up beyond =
-      let high = subst (λ fault. IfSome fault (IsFaultBeyond count)) (sym f) beyond.fault in
-      absurd (omega arith)
+  first_with count number state (Err kind) whole taken past rest fault low h e f up beyond = grind arith
   first_with count number state (Ok None) whole taken past rest fault low h e f up beyond = h state past e f up
   first_with count number state (Ok (Some item)) whole taken [] rest fault low h e f up beyond =
       let high : All (λ (m : Member A). count < m.line) (record { line = number; item = item } ∷ (whole (format.after state item)).members) = subst (λ ms. All (λ (m : Member A). count < m.line) ms) (sym e) beyond.members in
-      let first = All-head (λ (m : Member A). count < m.line) _ _ high in
-      absurd (omega arith)
+      grind (arith, All-head)
   first_with count number state (Ok (Some item)) whole taken (m ∷ ms) rest fault low h e f up beyond =
       let now = format.after state item in
       let same : record { line = number; item = item } ≡ m = cc in
