@@ -216,7 +216,7 @@ passing : (test : ℕ → Bool) (first n : ℕ) (xs ys : List Span) → test fir
 passing test first n xs ys t scan adds = grind arith
 
 failing : (test : ℕ → Bool) (first n : ℕ) (xs : List Span) → test first ≡ false → IsScanOf test (first + 1) n xs → IsScanOf test first (suc n) xs
-failing test first n xs t scan = grind (arith, looser, cases_eq)
+failing test first n xs t scan = grind (arith, looser)
 
 stretches_from-scans : (test : ℕ → Bool) (first n : ℕ) → IsScanOf test first n (stretches_from test first n)
 unfolding stretches_from
@@ -230,9 +230,7 @@ stretches_from-scans test first (suc n) =
     ]
 
 pub scan_finds : scan_finds_stretches
-scan_finds test n =
-    let scan = stretches_from-scans test 0 n in
-    grind arith
+scan_finds test n = grind (arith, (stretches_from-scans test 0 n))
 
 -- Lists of spans with gaps between them: two that cover the same positions are equal.
 
@@ -282,9 +280,7 @@ same_apart f g (x ∷ xs) (y ∷ ys) a b to back =
     let back_starts : y.start ≡ x.start = omega arith in
     let short = stop_up_to f x y g xs ys a b to starts in
     let long = stop_up_to g y x f ys xs b a back back_starts in
-    let stops : x.stop ≡ y.stop = omega arith in
-    let back_stops : y.stop ≡ x.stop = omega arith in
-    grind (arith, (same_apart (x.stop + 1) (y.stop + 1) xs ys a.2 b.2 (tail_within f x y xs ys a stops to) (tail_within g y x ys xs b back_stops back)), same_span, tail_within)
+    grind (arith, (same_apart (x.stop + 1) (y.stop + 1) xs ys a.2 b.2 (tail_within f x y xs ys a (omega arith) to) (tail_within g y x ys xs b (omega arith) back)))
 
 -- two lists that make up one set are one list
 pub stretches_are_same : (S : ℕ → Type 0) (xs ys : List Span) → AreStretchesOf S xs → AreStretchesOf S ys → xs ≡ ys

@@ -12,11 +12,11 @@ use Rattle.bt_bed.specs.model.BedLine.{interval_line, interval_lines, bounds_tex
 
 -- the name, and what follows it
 pub line_parts : (r : Interval) → r.chrom ++ span_text r.start r.stop 10 ≡ interval_line r
-line_parts r = grind (arith, codes, append_assoc)
+line_parts r = grind (arith, append_assoc)
 
 -- no line is empty
 pub line_has_bytes : (r : Interval) → interval_line r ≡ [] → ⊥
-line_has_bytes r e = grind (arith, common_steps, length-append)
+line_has_bytes r e = grind (arith, common_steps)
 
 -- the line of an interval alone
 pub adds_line : {A : Type 0} (r : Interval) (old new : Output) (result : Result A Fault) → Puts old (interval_line r) result new → Adds old (interval_lines (r ∷ [])) result new
@@ -42,7 +42,7 @@ span_is_bounds start stop end = simp append_assoc
 
 -- the line feed is the last byte of what follows a name
 pub bounds_before_feed : (text : List ℕ) (first start stop : ℕ) → length text ≡ 43 → drop first text ≡ span_text start stop 10 → take (42 - first) (drop first text) ≡ bounds_text start stop
-bounds_before_feed text first start stop l e = grind (arith, common_steps, span_is_bounds, length-drop, length-append, take_at)
+bounds_before_feed text first start stop l e = grind (arith, common_steps, span_is_bounds)
 
 -- the parts of a record and its end
 record_parts : (r : Feature) (end : List ℕ) → r.chrom ++ (bounds_text r.start r.stop ++ (r.rest ++ end)) ≡ bed_text r ++ end

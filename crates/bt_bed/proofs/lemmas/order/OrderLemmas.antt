@@ -14,7 +14,7 @@ pub has_records-append : (name : List ℕ) (xs ys : List Interval) → has_recor
 has_records-append name [] ys f = (refl, f)
 has_records-append name (x ∷ xs) ys f =
     let parts = or_parts (bytes_eq x.chrom name) (has_records name (xs ++ ys)) f in
-    grind (arith, (has_records-append name xs ys parts.1), or_from)
+    grind (arith, (has_records-append name xs ys parts.1))
 
 -- records in order: the last of them, and one more
 pub contiguous_prefix : prefixes_are_contiguous
@@ -29,8 +29,8 @@ contiguous_prefix (x ∷ y ∷ zs) ys t =
     (next, rest)
 
 pub next_place : (q : Interval) (qs : List Interval) (r : Interval) → AreContiguous (q ∷ qs ++ r ∷ []) → ((r.chrom ≡ (last_from q qs).chrom) × ((last_from q qs).start ≤ r.start)) ⊎ (has_records r.chrom (q ∷ qs) ≡ false)
-next_place q [] r t = grind (arith, or_from, name_ne-sym, or_parts)
-next_place q (s ∷ ss) r t = grind (arith, (next_place s ss r t.1), or_parts, name_ne, other_name, has_records-append, name_ne-sym, or_from)
+next_place q [] r t = grind (arith, name_ne-sym)
+next_place q (s ∷ ss) r t = grind (arith, (next_place s ss r t.1), has_records-append, name_ne-sym, or_from)
 
 pub last_of-push : (past : List Interval) (r : Interval) → last_of (past ++ r ∷ []) ≡ Some r
 last_of-push [] r = refl
@@ -48,7 +48,7 @@ lower_is_other order a b total known lower e = grind arith
 
 -- a chromosome that comes before the first record's has no records
 lower_is_absent : (order : Order) (name : List ℕ) (s : Interval) (ss : List Interval) → IsTotal order → IsTrue (order.knows name) → ArePlaced order (s ∷ ss) → order.compare name s.chrom ≡ Less → has_records name (s ∷ ss) ≡ false
-lower_is_absent order name s [] total known placed lower = grind (arith, or_from, name_ne, lower_is_other)
+lower_is_absent order name s [] total known placed lower = grind (arith, name_ne)
 lower_is_absent order name s (t ∷ ts) total known placed lower =
     let further : order.compare name t.chrom ≡ Less = elim placed.1 [
       | inl less ↦ total.ascends name s.chrom t.chrom known placed.0 placed.2.0 lower less
@@ -101,7 +101,7 @@ places_sorted order last place total was is = sorted_by order last place total w
 -- a place that doesn't fall below the last one isn't before it
 pub sorted_up_to : (order : Order) (last : Option Locus) (place : Locus) → IsTotal order → IfSome last (λ l. IsTrue (order.knows l.chrom)) → IsTrue (order.knows place.chrom) → falls_in (sorting_of order) last place ≡ false
     → IfSome last (λ l. IsUpTo order l place)
-sorted_up_to order last place total was is stays = grind (arith, stays_up_to, places_sorted)
+sorted_up_to order last place total was is stays = grind (arith, places_sorted)
 
 -- Lemmas on the ranks of names.
 
@@ -117,6 +117,4 @@ among_ranked (n ∷ ns) name = is_some-cond (bytes_eq n name) (rank_of ns name) 
 
 -- equal names
 pub same_name_same : (left right : List ℕ) → bytes_eq left right ≡ true → byte_order.compare left right ≡ Equal
-same_name_same left right e =
-    subst (λ (name : List ℕ). byte_order.compare left name ≡ Equal) (same_name left right e)
-    (tied_itself nat_list_cmp_total left)
+same_name_same left right e = grind (arith, (same_name left right e), (tied_itself nat_list_cmp_total left))

@@ -42,8 +42,7 @@ pub three_are_within : (text a b c : List ℕ) (rest : List (List ℕ)) → piec
 three_are_within text a b c rest e = omega (arith, ap length (three_columns text a b c rest e), length_of_three a b c, length-append (a ++ 9 ∷ (b ++ 9 ∷ c)) (kept_columns rest))
 
 pub rest_of_three : (text a b c : List ℕ) (rest : List (List ℕ)) → pieces 9 text ≡ a ∷ b ∷ c ∷ rest → drop (length a + length b + length c + 2) text ≡ kept_columns rest
-rest_of_three text a b c rest e =
-    ap (drop (length a + length b + length c + 2)) (three_columns text a b c rest e) ∙ drop_at (a ++ 9 ∷ (b ++ 9 ∷ c)) (kept_columns rest) (length a + length b + length c + 2) (length_of_three a b c)
+rest_of_three text a b c rest e = grind (arith, (three_columns text a b c rest e), (drop_at (a ++ 9 ∷ (b ++ 9 ∷ c)) (kept_columns rest) (length a + length b + length c + 2) (length_of_three a b c)))
 
 -- three columns that were taken one after another
 pub taken_in_turn : (columns left left2 left3 : List (List ℕ)) (text a b c : List ℕ) → left ≡ pieces 9 text → left ≡ a ∷ left2 → left2 ≡ b ∷ left3 → left3 ≡ c ∷ columns
@@ -52,8 +51,7 @@ taken_in_turn columns left left2 left3 text a b c e first second third = cc
 
 pub taken_are_within : (columns left left2 left3 : List (List ℕ)) (text a b c : List ℕ) → left ≡ pieces 9 text → left ≡ a ∷ left2 → left2 ≡ b ∷ left3 → left3 ≡ c ∷ columns
     → length a + length b + length c + 2 ≤ length text
-taken_are_within columns left left2 left3 text a b c e first second third =
-    omega (arith, three_are_within text a b c columns (taken_in_turn columns left left2 left3 text a b c e first second third))
+taken_are_within columns left left2 left3 text a b c e first second third = grind (arith, (three_are_within text a b c columns (taken_in_turn columns left left2 left3 text a b c e first second third)))
 
 -- Lemmas on the feature that a line says.
 
@@ -118,8 +116,7 @@ said_stands text f e =
     let m = columns_made (pieces 9 text) f e in
     let chrom : m.chrom ≡ f.chrom = ap (λ g. g.chrom) m.whole_is.same in
     let rest : kept_columns m.rest ≡ f.rest = ap (λ g. g.rest) m.whole_is.same in
-    let split : text ≡ (m.chrom ++ 9 ∷ (m.start ++ 9 ∷ m.stop)) ++ kept_columns m.rest = three_columns text m.chrom m.start m.stop m.rest m.cut in
-    (m.start ++ 9 ∷ m.stop, split ∙ ap (λ l. (l ++ 9 ∷ (m.start ++ 9 ∷ m.stop)) ++ kept_columns m.rest) chrom ∙ ap (λ l. (f.chrom ++ 9 ∷ (m.start ++ 9 ∷ m.stop)) ++ l) rest)
+    grind (arith, (three_columns text m.chrom m.start m.stop m.rest m.cut))
 
 -- a header line says nothing
 pub header_says : (text : List ℕ) → is_header text ≡ true → record_of text ≡ Ok None
@@ -152,7 +149,7 @@ three_say text a b c rest bounds cut found = ap columns_say cut ∙ sym found
 pub made_is_said : (text a b c : List ℕ) (rest : List (List ℕ)) (bounds : ℕ × ℕ) (strand : Strand) (kept : List ℕ) → pieces 9 text ≡ a ∷ b ∷ c ∷ rest
     → feature_between a (Ok bounds) rest ≡ feature_of a (value_of b) (value_of c) rest → strand ≡ strand_of (columns_in kept) → kept ≡ drop (length a + length b + length c + 2) text
     → Ok (record { chrom = a; start = bounds.0; stop = bounds.1; strand = strand; rest = kept }) ≡ columns_say (pieces 9 text)
-made_is_said text a b c rest bounds strand kept cut found s k = grind (arith, rest_of_three, pieces_are_columns, columns_in_kept, three_say)
+made_is_said text a b c rest bounds strand kept cut found s k = grind (arith, rest_of_three, pieces_are_columns, columns_in_kept)
 
 pub made_is_feature : (text a b c : List ℕ) (rest : List (List ℕ)) (bounds : ℕ × ℕ) (strand : Strand) (kept : List ℕ) → pieces 9 text ≡ a ∷ b ∷ c ∷ rest
     → feature_between a (Ok bounds) rest ≡ feature_of a (value_of b) (value_of c) rest → strand ≡ strand_of (columns_in kept) → kept ≡ drop (length a + length b + length c + 2) text
@@ -171,14 +168,10 @@ of_word byte bytes b e = grind arith
 -- bytes that don't end a word begin the first one
 pub word_first : (word text : List ℕ) → All IsOfWord word → first_word (word ++ text) ≡ word ++ first_word text
 word_first [] text h = refl
-word_first (byte ∷ word) text h =
-    of_word byte (word ++ text) false (All-head IsOfWord byte word h) ∙ ap (λ l. byte ∷ l) (word_first word text (All-tail IsOfWord byte word h))
+word_first (byte ∷ word) text h = grind (arith, (of_word byte (word ++ text) false (All-head IsOfWord byte word h)), (word_first word text (All-tail IsOfWord byte word h)))
 
 same_word : (word : List ℕ) → true ≡ bytes_eq (word ++ []) word
 same_word word = sym ((bytes_eq-Decides (word ++ []) word).1 (append-nil word))
-
-longer_word : (word bytes : List ℕ) (byte : ℕ) → false ≡ bytes_eq (word ++ byte ∷ bytes) word
-longer_word word bytes byte = grind (arith, common_steps, false_from_ne_true, bytes_eq-Decides, length-append)
 
 -- a text of which a word was taken off
 stripped : (text word rest : List ℕ) → bytes_eq (take (length word) text) word ≡ true → rest ≡ drop (length word) text → text ≡ word ++ rest
@@ -188,7 +181,7 @@ alone : (word rest : List ℕ) → All IsOfWord word → length rest < 1 → tru
 alone word rest h short = grind (arith, common_steps, word_first, same_word)
 
 ended_by : (word bytes : List ℕ) (byte : ℕ) (b : Bool) → ends_word byte ≡ b → b ≡ bytes_eq (word ++ first_word (byte ∷ bytes)) word
-ended_by word bytes byte b e = grind (arith, of_word, same_word, longer_word)
+ended_by word bytes byte b e = grind (arith, same_word, common_steps)
 
 ended : (word rest : List ℕ) → All IsOfWord word → 1 ≤ length rest → ends_word (get_or rest 0 0) ≡ bytes_eq (first_word (word ++ rest)) word
 ended word rest h some = grind (arith, common_steps, word_first, ended_by)
@@ -204,7 +197,7 @@ pub word_ended : (text word rest : List ℕ) → All IsOfWord word → bytes_eq 
 word_ended text word rest h same e some = rw (stripped text word rest same e) (ended word rest h some)
 
 more_of_word : (byte : ℕ) (left right : List ℕ) (b : Bool) → ends_word byte ≡ b → first_word left ≡ first_word right → first_word (byte ∷ left) ≡ first_word (byte ∷ right)
-more_of_word byte left right b e same = grind (arith, common_steps, of_word)
+more_of_word byte left right b e same = grind (arith, common_steps)
 
 -- the first word ends before the first tab
 word_before_tab : (name left right : List ℕ) → first_word (name ++ 9 ∷ left) ≡ first_word (name ++ 9 ∷ right)

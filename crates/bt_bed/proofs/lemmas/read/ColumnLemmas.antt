@@ -16,7 +16,7 @@ use Rattle.bt_lines.proofs.lemmas.reader.lines.BufferedLemmas.{strip_begins}
 use Rattle.bt_bed.specs.declared.record.raw_record.RawRecord.{RawRecord}
 
 pub cut_by : (text : List ℕ) (n : ℕ) → n ≤ length text → (n < length text → get_or text n 0 ≡ 9) → IsColumn (take n text) → (b : Bool) → ltb n (length text) ≡ b → pieces 9 text ≡ take n text ∷ columns_in (drop n text)
-cut_by text n within tab column b e = grind (arith, nat_tests, drop_more, cut_at, take_all, drop_all, slice_split_none)
+cut_by text n within tab column b e = grind (arith, drop_more, cut_at, take_all, drop_all, slice_split_none)
 
 kept_by : (bytes : List ℕ) (columns : List (List ℕ)) → pieces 9 bytes ≡ columns → 0 < length columns → kept_columns columns ≡ 9 ∷ bytes
 kept_by bytes [] e some = absurd (omega arith)
@@ -24,11 +24,7 @@ kept_by bytes (x ∷ xs) e some = ap (λ l. 9 ∷ l) (sym (cut_and_kept bytes x 
 
 -- what is kept is its columns, each with a tab before it
 pub kept_again : (kept : List ℕ) → is_kept kept ≡ true → kept_columns (columns_in kept) ≡ kept
-kept_again kept e = grind (arith, kept_by, length-slice_split, eqb-true)
-
--- what follows a column begins with a tab
-pub kept_behind : (text : List ℕ) (n : ℕ) → n ≤ length text → (n < length text → get_or text n 0 ≡ 9) → is_kept (drop n text) ≡ true
-kept_behind text n within tab = grind (arith, nat_tests, drop_more, drop_all)
+kept_again kept e = grind (arith, kept_by, length-slice_split)
 
 numbers_say : (a : List ℕ) (b c : Option ℕ) (start stop : ℕ) (columns : List (List ℕ)) → 0 < length a → b ≡ Some start → c ≡ Some stop → start < stop
     → feature_of a b c columns ≡ Ok (record { chrom = a; start = start; stop = stop; strand = strand_of columns; rest = kept_columns columns })
@@ -40,27 +36,19 @@ pub direct_say : (text first second kept : List ℕ) (name : ℕ) (start stop : 
     → Ok (record { chrom = take name text; start = start.value; stop = stop.value; strand = strand; rest = kept }) ≡ columns_say (pieces 9 text)
 direct_say text first second kept name start stop strand f s k t n p inside q below =
     let last = cut_by second stop.end q.within q.tab q.column (ltb stop.end (length second)) refl ∙ ap (λ l. take stop.end second ∷ columns_in l) (sym k) in
-    let middle = cut_at first start.end inside (p.tab inside) p.column ∙ ap (λ l. take start.end first ∷ pieces 9 l) (sym s) ∙ ap (λ l. take start.end first ∷ l) last in
-    let cut : pieces 9 text ≡ take name text ∷ take start.end first ∷ take stop.end second ∷ columns_in kept =
-    cut_at text name n.within n.tab n.column ∙ ap (λ l. take name text ∷ pieces 9 l) (sym f) ∙ ap (λ l. take name text ∷ l) middle in
-    let size : 0 < length (take name text) = let some = n.some in let within = n.within in omega (arith, length-take name text) in
-    grind (arith, numbers_say, kept_again, kept_behind)
+    grind (arith, common_steps, (cut_at first start.end inside (p.tab inside) p.column), (cut_at text name n.within n.tab n.column), kept_again, drop_more, drop_all)
 
 -- a digit is no tab
 digit_inside : (byte : ℕ) → is_ascii_digit byte ≡ true → IsInside byte
-digit_inside byte digit = grind (arith, nat_tests)
-
--- digits have no tab among them
-pub digits_column : (bytes : List ℕ) → list_all is_ascii_digit bytes ≡ true → IsColumn bytes
-digits_column bytes e = grind (arith, common_steps, All-nil, and_parts, All-cons, digit_inside)
+digit_inside byte digit = grind arith
 
 -- the digits up to a tab or the end denote a number
 pub leads_by : (text : List ℕ) (value end : ℕ) → 0 < end → end ≤ length text → (end < length text → get_or text end 0 ≡ 9) → value ≡ digits_value 10 (take end text) → list_all is_ascii_digit (take end text) ≡ true → value ≤ 999999999999
     → Leads text (record { value = value; end = end })
-leads_by text value end some within tab is digits small = grind (arith, length-take, digits_column, value_of_digits)
+leads_by text value end some within tab is digits small = grind (arith, value_of_digits, common_steps)
 
 pub digit_bound : (byte : ℕ) → is_ascii_digit byte ≡ true → byte ≤ 57
-digit_bound byte digit = grind (arith, nat_tests)
+digit_bound byte digit = grind arith
 
 -- the value of the first digits is below the power of ten that has one digit more
 pub begins_below : (text : List ℕ) (lead : ParsedNumber) → BeginsWith text lead → lead.value < 10 ^ lead.end
@@ -103,8 +91,7 @@ named_is_no_header text name named e = ap is_header e ∙ named.no_header (drop 
 -- Lemmas on the first columns of a line that was parsed.
 
 behind_name : (name rest : List ℕ) → drop (length name + 1) (name ++ 9 ∷ rest) ≡ rest
-behind_name name rest =
-    ap (drop (length name + 1)) (sym (append_assoc name (9 ∷ []) rest)) ∙ drop_at (name ++ 9 ∷ []) rest (length name + 1) (length-append name (9 ∷ []))
+behind_name name rest = grind (arith, (append_assoc name (9 ∷ []) rest), (drop_at (name ++ 9 ∷ []) rest (length name + 1) (length-append name (9 ∷ []))))
 
 -- a text without a tab is its first column
 pub alone_ends : (text : List ℕ) → pieces 9 text ≡ text ∷ [] → EndsFirst text (length text)
@@ -140,10 +127,7 @@ module _ (text name : List ℕ) (r : Feature) (says : record_of text ≡ Ok (Som
     pub parsed_inside : a < length first
     parsed_inside = elim (cases_lt a (length first)) [
       | inl inside ↦ inside
-      | inr past ↦
-          let all : take a first ≡ first = take_all a first past in
-          let alone : pieces 9 first ≡ first ∷ [] = slice_split_none (λ byte. eqb byte 9) first (subst IsColumn all ends.column) in
-          absurd (few first (take (length name) text) r (sym (ap columns_say (cut_name ∙ ap (λ l. take (length name) text ∷ l) alone)) ∙ said))
+      | inr past ↦ grind (arith, (slice_split_none (λ byte. eqb byte 9) first (subst IsColumn (take_all a first past) ends.column)), cut_name, said)
     ]
 
     abbrev pub second : List ℕ
@@ -164,7 +148,7 @@ module _ (text name : List ℕ) (r : Feature) (says : record_of text ≡ Ok (Som
 
       -- the columns denote the bounds
       pub parsed_bounds : (start stop : ℕ) → IfSome (value_of (take a first)) (λ v. start ≡ v) → IfSome (value_of (take b second)) (λ v. stop ≡ v) → AreBounds text (length name) (record { value = start; end = a }) (record { value = stop; end = b })
-      parsed_bounds start stop p q = grind (arith, value_is, whole_is, parsed_inside)
+      parsed_bounds start stop p q = grind (arith, whole_is, parsed_inside)
 
   pub parsed_no_header : is_header text ≡ false
   parsed_no_header = (record_said text r says).0
@@ -217,7 +201,7 @@ some_digits end text value e = grind arith
 
 -- so is a column
 column_written : (text : List ℕ) (lead : ParsedNumber) → Leads text lead → lead.value ≤ 999999999999 → (get_or text 0 0 ≡ 48 → ⊥) → decimal lead.value ≡ take lead.end text
-column_written text lead leads small no_zero = grind (arith, digits_written, get_or-take, some_digits)
+column_written text lead leads small no_zero = grind (arith, digits_written)
 
 -- a text is its first column, the tab after that and the rest
 cut_there : (text : List ℕ) (end : ℕ) → end < length text → get_or text end 0 ≡ 9 → text ≡ take end text ++ 9 ∷ drop (end + 1) text
@@ -232,13 +216,7 @@ pub written_so : (line : RawRecord) (r : Feature) → record_of (strip_last 13 l
 unfolding text_in record_in kept_in
 written_so line r said start stop =
     let text = (strip_last 13 line.line.now) in
-    let first = drop (line.name + 1) text in
-    let second = drop (line.start.end + 1) first in
-    let rest = drop line.stop.end second in
-    let bounds = line.bounds in
-    let is : record_in line ≡ r = same_record line r said in
-    let feature = said_is_feature text r (record_said text r said).1 in
-    grind (arith, get_or-drop, column_written, rest_stands, append_assoc, cut_there, take-append-drop)
+    grind (arith, (same_record line r said), (said_is_feature text r (record_said text r said).1), get_or-drop, column_written, rest_stands, append_assoc, cut_there, take-append-drop)
 
 -- the record is one that a line can say
 pub raw_is_feature : (raw : RawRecord) → IsFeature (record_in raw)
@@ -269,7 +247,7 @@ on_line raw line name is chrom = grind (arith, says_its_record)
 
 -- the text's bytes are its line's
 pub byte_there : (line : List ℕ) (i : ℕ) → i < length (strip_last 13 line) → get_or line i 0 ≡ get_or (strip_last 13 line) i 0
-byte_there line i inside = grind (arith, common_steps, strip_begins, get_or_append_left)
+byte_there line i inside = grind (arith, common_steps)
 
 pub text_less : (line : List ℕ) → length (strip_last 13 line) ≤ length line
 text_less line = search rules
@@ -288,4 +266,4 @@ no_return_there bytes name line start stop has front inside is =
     let last : stop.end - 1 < stop.end = omega (arith, some) in
     let size : length digits ≡ stop.end = length-take-le stop.end (drop from bytes) has.second.within in
     let place : from + (stop.end - 1) ≡ end - 1 = omega (arith, some) in
-    grind (arith, get_or-take, get_or-drop, list_all_at, false≢true)
+    grind (arith, get_or-take, get_or-drop, list_all_at)

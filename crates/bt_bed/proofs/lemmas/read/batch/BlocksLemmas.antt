@@ -22,7 +22,7 @@ module _ {S : Type 0} (device : Source S) where
       ahead_is (view_of new) (λ m. IsFeature m.item × IsNext old m.item) m gives.ahead (said_features gives.said.0.text m.item said.says, block_up_to (view_of old).state (locus_at m.item) said.stays)
 
   filled : (old new : Blocks S) (result : Result Bool Fault) → FillAnswers device (view_of old) result (view_of new) → IfSome (ahead_in (view_of new)) (λ m. IsFeature m.item × IsNext old m.item)
-  filled old new result makes = grind (arith, given, none_ahead)
+  filled old new result makes = grind (arith, given)
 
   -- `fill` of the reader below
   pub fills_blocks : (old new : Blocks S) (result : Result Bool Fault) → Fills device (view_in block_sorting old.sorted) result (view_in block_sorting new.sorted)

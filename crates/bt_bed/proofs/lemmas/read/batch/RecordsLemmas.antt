@@ -45,11 +45,7 @@ pub said_behind : (order : Order) (last : Option Locus) (text : List ℕ) (r : F
     → BehindLast order last r
 said_behind order last text r total known says =
     let said = line_said (sorting_of order) last text r says in
-    record {
-      feature = said_features text r said.says;
-      known = said.known;
-      in_order = sorted_up_to order last (locus_at r) total (for_if last (λ place. IsTrue (order.knows place.chrom)) known) said.known said.stays;
-    }
+    grind (arith, (said_features text r said.says), (sorted_up_to order last (locus_at r) total (for_if last (λ place. IsTrue (order.knows place.chrom)) known) said.known said.stays))
 
 pub some_first : {A : Type 0} (line : ℕ) (items : List A) → IsSome (option_map (λ m. m.line) (first_from line items)) → (item : A) × (more : List A) × (items ≡ item ∷ more)
 some_first line items item = grind arith
@@ -74,13 +70,11 @@ passed_last device sorting old new item more is takes = last_one (records_in old
 module _ {S O : Type 0} {g : Ghosts O} (device : Source S) where
   given : (old new : Records S O g) (m : Member Feature) → IsTotal (order_in old) → GivesMember device (view_of old) m (view_of new) → IfSome (ahead_in (view_of new)) (λ m. IsFeature m.item × IsNext old m.item)
   unfolding view_of view_with order_in
-  given old new m total gives =
-      let behind = said_behind (order_in old) (view_of old).state gives.said.0.text m.item total old.placed.last gives.said.1 in
-      ahead_is (view_of new) (λ m. IsFeature m.item × IsNext old m.item) m gives.ahead (behind.feature, (behind.known, behind.in_order))
+  given old new m total gives = grind (arith, (said_behind (order_in old) (view_of old).state gives.said.0.text m.item total old.placed.last gives.said.1))
 
   -- the record ahead after `fill` of the reader below
   filled : (old new : Records S O g) (result : Result Bool Fault) → IsTotal (order_in old) → FillAnswers device (view_of old) result (view_of new) → IfSome (ahead_in (view_of new)) (λ m. IsFeature m.item × IsNext old m.item)
-  filled old new result total makes = grind (arith, given, none_ahead)
+  filled old new result total makes = grind (arith, given)
 
 module _ {S Q : Type 0} (device : Source S) (sorting : Sorting) (sorted : SortedReader S Q) where
   -- a reader that has given no record has all of the good ones left
@@ -122,13 +116,7 @@ module _ {S O : Type 0} {g : Ghosts O} (device : Source S) (old new : Records S 
   unfolding view_of view_with
   fills_records result total fills own =
       let there : Fills device (view_of old) result (view_of new) = rw (same_view, ← was_view) fills in
-      record {
-        answers = there.answers;
-        next = filled device old new result total there.answers;
-        own_failure = own;
-        kept = there.kept;
-        order = same_order;
-      }
+      grind (arith, (filled device old new result total there.answers), same_order)
 
   -- `consume` of the reader below
   pub takes_records : (count : ℕ) → Takes device (view_in (sorting_at g old.sorted) old.sorted) (take count (records_in old.sorted)) (view_in (sorting_at g old.sorted) new.sorted) → TakesRecords device old count new
@@ -200,7 +188,7 @@ fits_above sorting last r e = grind arith
 -- a record on the chromosome that doesn't start below
 pub placed_there : (name : List ℕ) (start : ℕ) (text : List ℕ) (r : Feature) → record_of text ≡ Ok (Some r) → r.chrom ≡ name → start ≤ r.start → record_on name start text ≡ Some r
 unfolding record_on
-placed_there name start text r says on above = grind (arith, bytes_eq-Decides, nat_tests)
+placed_there name start text r says on above = grind (arith, bytes_eq-Decides)
 
 -- one that starts below
 pub placed_below : (name : List ℕ) (start : ℕ) (text : List ℕ) (r : Feature) → record_of text ≡ Ok (Some r) → nat_lt r.start start ≡ true → record_on name start text ≡ None
@@ -239,7 +227,7 @@ line_there line bytes front cut = grind (arith, take-append_seam, take-append-ad
 
 -- bytes that a record's line begins aren't empty
 pub some_bytes : (raw : RawRecord) (line bytes : List ℕ) → raw.line.now ≡ line → take (length line) bytes ≡ line → 0 < length bytes
-some_bytes raw line bytes is front = grind (arith, take-nil, name_within)
+some_bytes raw line bytes is front = grind (arith, name_within)
 
 -- none is left without a line, and else where the next one says so
 pub none_either : (batch : Batch) (bytes : List ℕ) → rest_in (cursor_in batch) ≡ bytes → (rest_in (cursor_in batch) ≡ [] → lines_in (cursor_in batch) ≡ [])
@@ -291,7 +279,7 @@ one_more at size bytes line is = take-add at size bytes ∙ ap (λ l. take at by
 
 -- a prefix of a prefix
 take_less : (n m : ℕ) (bytes : List ℕ) → n ≤ m → m ≤ length bytes → take n (take m bytes) ≡ take n bytes
-take_less n m bytes less within = grind (arith, common_steps, take-append-le, length-take-le, take-append-drop)
+take_less n m bytes less within = grind (arith, common_steps)
 
 -- the bytes between two offsets
 pub bytes_between : (from to at : ℕ) (bytes : List ℕ) → from ≤ to → to ≤ at → at ≤ length bytes

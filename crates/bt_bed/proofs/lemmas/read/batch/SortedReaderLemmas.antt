@@ -58,8 +58,7 @@ say_all format state front items all e say = grind (arith, say_front)
 begins_good : {A State : Type 0} (format : Format A State) (input : Input) (state : State) (number : ℕ) (items : List A) (a : Option (List TextLine)) → IfSome a (AreNumbered number) → IfSome a (λ all. LinesSay format state all items)
     → IfSome (option_map (good_behind format input None state) a) (λ good. (rest : List (Member A)) × (good.members ≡ members_from number items ++ rest))
 begins_good format input state number items None n say = tt
-begins_good {A} {State} format input state number items (Some all) n say =
-    ((good_from format input (state_behind format state items) (drop (length items) all)).members, sym (ap (λ (good : Good A). good.members) (good_said format input number state all items n say)))
+begins_good {A} {State} format input state number items (Some all) n say = grind (arith, (good_said format input number state all items n say))
 
 begins_none : {A : Type 0} (good : Option (Good A)) (number : ℕ) (items : List A) → items ≡ [] → IfSome good (λ good. (rest : List (Member A)) × (good.members ≡ members_from number items ++ rest))
 begins_none None number items none = tt
@@ -122,14 +121,7 @@ module _ {S Q : Type 0} (device : Source S) (sorting : Sorting) (old : SortedRea
   was = is_ahead_by old.is_ahead (run_of (name_in old.lookahead) (start_in old.lookahead) (lines_buffered old.reader)) parts.0 (parts.1 ++ rest) parts.3
 
   run_then : run_of (name_in lookahead) (start_in lookahead) (lines_buffered reader) ≡ rest
-  run_then =
-      let start : start_in lookahead ≡ last_start (start_in old.lookahead) (parts.0 ∷ parts.1) =
-      makes.start_is ∙ is.start ∙ ap (last_start (start_in old.lookahead)) parts.2 in
-      let lines : lines_buffered reader ≡ drop (length (parts.0 ∷ parts.1)) (lines_buffered old.reader) = lines_then ∙ ap (λ k. drop k (lines_buffered old.reader)) parts.4 in
-      ap (λ m. run_of m (start_in lookahead) (lines_buffered reader)) makes.name_is
-      ∙ ap (λ s. run_of (name_in old.lookahead) s (lines_buffered reader)) start
-      ∙ ap (run_of (name_in old.lookahead) (last_start (start_in old.lookahead) (parts.0 ∷ parts.1))) lines
-      ∙ run_behind (name_in old.lookahead) (start_in old.lookahead) (lines_buffered old.reader) (parts.0 ∷ parts.1) rest was.1
+  run_then = grind (arith, (run_behind (name_in old.lookahead) (start_in old.lookahead) (lines_buffered old.reader) (parts.0 ∷ parts.1) rest was.1))
 
   buffered_then : ahead_of is_ahead reader lookahead ≡ rest
   buffered_then = cond_left is_ahead (run_of (name_in lookahead) (start_in lookahead) (lines_buffered reader)) rest (ahead ∙ is.ahead) run_then
@@ -159,10 +151,7 @@ module _ {S Q : Type 0} (device : Source S) (sorting : Sorting) (old : SortedRea
   count_is = parts.4 ∙ ap length (sym parts.2)
 
   state_then : last_in lookahead ≡ state_behind (bed_format sorting) (last_in old.lookahead) taken
-  state_then =
-      makes.last ∙ ap (λ s. Some (record { chrom = name_in old.lookahead; start = s })) (is.start ∙ ap (last_start (start_in old.lookahead)) parts.2)
-      ∙ sym (ap (state_behind (bed_format sorting) (last_in old.lookahead)) parts.2
-      ∙ place_behind sorting (last_in old.lookahead) (name_in old.lookahead) (start_in old.lookahead) (lines_buffered old.reader) parts.0 parts.1 rest was.1)
+  state_then = grind (arith, (place_behind sorting (last_in old.lookahead) (name_in old.lookahead) (start_in old.lookahead) (lines_buffered old.reader) parts.0 parts.1 rest was.1))
 
   fault_then : now.fault ≡ (view_in sorting old).fault
   unfolding view_with
@@ -180,14 +169,14 @@ module _ {S Q : Type 0} (device : Source S) (sorting : Sorting) (old : SortedRea
 
   pub sorted_takes : Takes device (view_in sorting old) taken now
   unfolding view_with
-  sorted_takes = grind (arith, split, buffered_then, said_fewer, said_all, state_then, good_then, fault_then, count_is, drops_pass)
+  sorted_takes = grind (arith, split, buffered_then, said_fewer, said_all, state_then, good_then, count_is)
 
   known_then : ForSome (last_in lookahead) (λ place. IsTrue (sorting.knows place.chrom))
   known_then = known_last sorting (last_in old.lookahead) parts.0 parts.1 rest (last_in lookahead) (subst (AreSaid (bed_format sorting) (last_in old.lookahead)) (split ∙ ap (λ l. l ++ rest) parts.2) said_all) (state_then ∙ ap (state_behind (bed_format sorting) (last_in old.lookahead)) parts.2)
 
   pub sorted_placed : IsPlaced sorting now
   unfolding view_with
-  sorted_placed = grind (arith, known_then, buffered_then, state_then, order_behind, split, order_all, going, fault_then)
+  sorted_placed = grind (arith, known_then, buffered_then, state_then, order_behind, split)
 
   pub sorted_ahead : is_ahead ≡ true → is_some_left (ahead_of is_ahead reader lookahead) ≡ true
   sorted_ahead e = ap is_some_left buffered_then ∙ sym (ahead ∙ is.ahead) ∙ e
@@ -223,14 +212,10 @@ module _ {S Q : Type 0} (device : Source S) (sorting : Sorting) (sorted : Sorted
 -- a line that says a record which fits begins the records that are buffered then
 module _ {Q : Type 0} (sorting : Sorting) (old new : OrderedLookahead Q) (line : TextLine) (more : List TextLine) (r : Feature) (says : line_says sorting (last_in old) line.text ≡ Ok (Some r)) (holds : HoldsChrom old r.chrom new) where
   pub found_run : run_of (name_in new) (start_in new) (line ∷ more) ≡ r ∷ run_of (name_in new) r.start more
-  found_run =
-      let said = line_said sorting (last_in old) line.text r says in
-      grind (arith, fits_above, run_some, placed_there)
+  found_run = grind (arith, (line_said sorting (last_in old) line.text r says), run_some, placed_there)
 
   pub found_said : AreSaid (bed_format sorting) (last_in old) (run_of (name_in new) (start_in new) (line ∷ more))
-  found_said =
-      let said = line_said sorting (last_in old) line.text r says in
-      grind (arith, found_run, run_is_said)
+  found_said = grind (arith, (line_said sorting (last_in old) line.text r says), found_run, run_is_said)
 
   pub found_buffered : (lines : List TextLine) → lines ≡ line ∷ more → run_of (name_in new) (start_in new) lines ≡ r ∷ run_of (name_in new) r.start more
   found_buffered lines e = ap (run_of (name_in new) (start_in new)) e ∙ found_run
@@ -370,7 +355,7 @@ none_buffered sorted none = rw none refl
 module _ {S Q : Type 0} (device : Source S) (sorting : Sorting) where
   -- a reader with no fault of its own and no record buffered
   pub view_before : (sorted : SortedReader S Q) → sorted.is_ahead ≡ false → sorted.fault ≡ None → view_in sorting sorted ≡ view_with sorting None sorted.reader sorted.lookahead []
-  view_before sorted none going = grind (arith, going, none_buffered)
+  view_before sorted none going = grind (arith, none_buffered)
 
   -- the next line, which was made buffered, was taken
   module _ {mid new : SortedReader S Q} (rules : Sorting) (same : rules ≡ sorting) where

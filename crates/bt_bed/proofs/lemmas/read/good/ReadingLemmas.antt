@@ -145,11 +145,7 @@ module _ {S : Type 0} (device : Source S) where
         let counted = p.bytes.1.counted in
         let given = cut.given in
         let front = front_of_both p.bytes.0 cut.bytes (2 ^ 63 - 1 - bytes_taken old) (2 ^ 63 - 1 - bytes_taken now) (omega arith) in
-        record {
-          bytes = p.bytes.0 ++ cut.bytes;
-          hands = hands_both device.left old now new p.bytes.0 cut.bytes p.bytes.1 cut.hands;
-          given = rw front (omega (arith, line_feeds-append p.bytes.0 (take (2 ^ 63 - 1 - bytes_taken now) cut.bytes)));
-        }
+        grind (arith, (hands_both device.left old now new p.bytes.0 cut.bytes p.bytes.1 cut.hands), (line_feeds-append p.bytes.0 (take (2 ^ 63 - 1 - bytes_taken now) cut.bytes)))
 
 -- Lemmas on a step of a reader of members, whatever the lines say.
 
@@ -175,7 +171,7 @@ module _ {A State : Type 0} (format : Format A State) (input : Input) (state : S
   -- after a line that says nothing what was to come still comes
   good_line : (line : TextLine) (a b : Option (List TextLine)) → GivesFirst a line b → format.says state line ≡ Ok None
       → Remains (option_map (good_behind format input None state) a) (option_map (good_behind format input None state) b)
-  good_line line a b g e = grind (arith, said_none, format, state)
+  good_line line a b g e = grind (arith, said_none)
 
   -- the member that a line says comes first
   good_first : (line : TextLine) (item : A) (a : Option (List TextLine)) → IfSome a (λ lines. (rest : List TextLine) × (lines ≡ line ∷ rest)) → format.says state line ≡ Ok (Some item)
@@ -192,7 +188,7 @@ module _ {A State : Type 0} (format : Format A State) (input : Input) (state : S
   -- a line at fault is all that was to come
   good_fault : (line : TextLine) (a b : Option (List TextLine)) (kind : Kind) → GivesFirst a line b → format.says state line ≡ Err kind
       → IfSome (option_map (good_behind format input None state) a) (λ good. good ≡ ends_with (Some (fault_at_line input line.number kind)))
-  good_fault line a b kind g e = grind (arith, format, state, wrong_good)
+  good_fault line a b kind g e = grind (arith, wrong_good)
 
   -- if no line is left, no member is
   good_end : (a : Option (List TextLine)) → IfSome a (λ lines. lines ≡ [])
@@ -285,32 +281,19 @@ module _ {S A State : Type 0} (device : Source S) where
     good_taken : (now new : MemberReader S A State) (line : TextLine) → Going old now → LineCame device now.below line new.below
         → now.format.says now.state line ≡ Ok None → new.fault ≡ None → Follows now new → Remains (good_coming device.left old) (good_coming device.left new)
     good_taken now new line g gives says none follows =
-        let going : now.fault ≡ None = g.rest ∙ gives.was_going.0 in
-        let step = good_line now.format (input_of now.below) now.state line (lines_left device.left now.below) (lines_left device.left new.below) gives.first says in
-        grind (arith, good_is, same_input, remains_further)
+        grind (arith, (good_line now.format (input_of now.below) now.state line (lines_left device.left now.below) (lines_left device.left new.below) gives.first says), good_is)
 
     -- a line said nothing
     pub going_more : (now new : MemberReader S A State) (line : TextLine) → Going old now → LineCame device now.below line new.below
         → (IsKept device now.below → IsKept device new.below) → now.format.says now.state line ≡ Ok None → new.buffered ≡ [] → new.fault ≡ line_fault new.below → Follows now new → Going old new
-    going_more now new line g gives sound says ahead rest follows = record {
-      good = good_taken now new line g gives says (rest ∙ gives.goes) follows;
-      was_none = g.was_none;
-      none_buffered = ahead;
-      begun = inr (begun_by now line new.below g.begun g.rest gives);
-      rest = rest;
-      going = λ none. rest ∙ gives.goes;
-      state = follows.state ∙ g.state;
-      format = follows.format ∙ g.format;
-      passed = passed_more now new line g gives sound;
-      served = gives.served ∙ g.served;
-      shrinks = omega (arith, gives.shrinks, g.shrinks);
-    }
+    going_more now new line g gives sound says ahead rest follows =
+        grind (arith, (good_taken now new line g gives says (rest ∙ gives.goes) follows), (passed_more now new line g gives sound))
 
     lines_first : (a b : Option (List TextLine)) (line : TextLine) (more buffered : List TextLine) → IfSome b (λ all. take (length buffered) all ≡ buffered) → buffered ≡ line ∷ more → IfSome b (λ lines. (rest : List TextLine) × (lines ≡ line ∷ rest))
     lines_first a b line more buffered p is = grind arith
 
     good_same : (now new : MemberReader S A State) → now.fault ≡ None → new.fault ≡ None → MakesLine device now.below new.below → Follows now new → Remains (good_coming device.left now) (good_coming device.left new)
-    good_same now new going goes makes follows = grind (arith, good_is, same_input, remains_lines)
+    good_same now new going goes makes follows = grind (arith, good_is)
 
     -- a line was made buffered that says a member
     pub going_member : (now new : MemberReader S A State) (line : TextLine) (more : List TextLine) (item : A) (items : List A) → Going old now → MakesLine device now.below new.below
@@ -327,7 +310,7 @@ module _ {S A State : Type 0} (device : Source S) where
         let there : IfSome (good_coming device.left new) (λ good. (rest : List (Member A)) × (good.members ≡ m ∷ rest)) =
         rw (good_is new goes, follows.state, follows.format)
         (good_first now.format (input_of new.below) now.state line item (lines_left device.left new.below) (lines_first (lines_left device.left now.below) (lines_left device.left new.below) line more (buffered_in new.below) (is_prefix device.left new.below) first) says) in
-        grind (arith, remains_if, none_ahead, buffered_below, was_faultless, stays_more, near_came, same_room)
+        grind (arith, buffered_below, near_came, same_room)
 
     -- a line is at fault
     wrong_cause : (now new : MemberReader S A State) (line : TextLine) (fault : FaultValue) (kind : Kind) → Going old now → LineCame device now.below line new.below
@@ -353,23 +336,23 @@ module _ {S A State : Type 0} (device : Source S) where
         let IsGood : Good A → Type 0 = λ good. (item : A) × (rest : List (Member A)) × (good.members ≡ record { line = lines_given new.below; item = item } ∷ rest) in
         let counted : line.number ≡ lines_given new.below = gives.number ∙ sym gives.counted in
         let first = good_first now.format (input_of now.below) now.state line item (lines_left device.left now.below) (first_came (lines_left device.left now.below) (lines_left device.left new.below) line gives.first) says in
-        grind (arith, good_is, told_first, remains_if)
+        grind (arith, good_is)
 
     lost_by : (now new : MemberReader S A State) (line : TextLine) (fault : FaultValue) → Going old now → LineCame device now.below line new.below → new.fault ≡ Some fault → new.buffered ≡ [] → Follows now new → (IsKept device now.below → IsKept device new.below)
         → Cause device old fault new → AnswersFault device old fault new
-    lost_by now new line fault g gives kept ahead follows sound cause = grind (arith, was_faultless, stays_more, passed_more, near_came)
+    lost_by now new line fault g gives kept ahead follows sound cause = grind (arith, passed_more, near_came)
 
     -- a line was wrong
     pub going_wrong : (now new : MemberReader S A State) (line : TextLine) (fault : FaultValue) (kind : Kind) → Going old now → LineCame device now.below line new.below → new.fault ≡ Some fault → new.buffered ≡ [] → Follows now new → (IsKept device now.below → IsKept device new.below)
         → now.format.says now.state line ≡ Err kind → is_of_line kind ≡ true → fault ≡ fault_at_line (input_of old.below) line.number kind → AnswersFault device old fault new
     going_wrong now new line fault kind g gives kept ahead follows sound says of_line is =
-        lost_by now new line fault g gives kept ahead follows sound (inl (wrong_cause now new line fault kind g gives says of_line is))
+        grind (arith, (lost_by now new line fault g gives kept ahead follows sound (inl (wrong_cause now new line fault kind g gives says of_line is))))
 
     -- a member had no room
     pub going_unkept : (now new : MemberReader S A State) (line : TextLine) (fault : FaultValue) (item : A) → Going old now → LineCame device now.below line new.below → new.fault ≡ Some fault → new.buffered ≡ [] → Follows now new → (IsKept device now.below → IsKept device new.below)
         → now.format.says now.state line ≡ Ok (Some item) → fault ≡ no_memory → AnswersFault device old fault new
     going_unkept now new line fault item g gives kept ahead follows sound says is =
-        lost_by now new line fault g gives kept ahead follows sound (inr (inr (unkept_cause now new line fault item g gives says is)))
+        grind (arith, (lost_by now new line fault g gives kept ahead follows sound (inr (inr (unkept_cause now new line fault item g gives says is)))))
 
     -- the line couldn't be read
     read_cause : (now new : MemberReader S A State) (fault : FaultValue) → Going old now → GivesFault device now.below fault new.below → line_fault now.below ≡ None → FailsToRead device now.below fault new.below ⊎ (fault ≡ no_memory) → Cause device old fault new
@@ -469,7 +452,7 @@ with_none good = grind arith
 
 -- no member was taken
 pub takes_none : {S A State : Type 0} (device : Source S) (reader : MemberReader S A State) → Takes device reader [] reader
-takes_none device reader = grind (arith, with_none, given_below, hands_none)
+takes_none device reader = grind (arith, given_below)
 
 -- Lemmas on failed reads that are reported for the first time.
 

@@ -48,10 +48,7 @@ module _ {A State : Type 0} (format : Format A State) where
   say_front state front all [] e say = tt
   say_front state [] all (item ∷ items) e say = absurd say
   say_front state (line ∷ front) [] (item ∷ items) e say = cc
-  say_front state (line ∷ front) (other ∷ all) (item ∷ items) e say =
-      let same : other ≡ line = cc in
-      let rest : take (length front) all ≡ front = cc in
-      (ap (format.says state) same ∙ say.0, say_front (format.after state item) front all items rest say.1)
+  say_front state (line ∷ front) (other ∷ all) (item ∷ items) e say = grind (arith, (say_front (format.after state item) front all items (cc) say.1))
 
   -- and they say the first of it
   pub say_fewer : (state : State) (lines : List TextLine) (items more : List A) → LinesSay format state lines (items ++ more) → LinesSay format state lines items
@@ -88,7 +85,7 @@ pub record FirstOfRun (name : List ℕ) (start : ℕ) (lines : List TextLine) (r
 pub first_of_run : (name : List ℕ) (start : ℕ) (lines : List TextLine) (r : Feature) (items : List Feature) → run_of name start lines ≡ r ∷ items → FirstOfRun name start lines r items
 unfolding run_of
 first_of_run name start [] r items e = cc
-first_of_run name start (line ∷ lines) r items e = grind (arith, run_head, record_on_is)
+first_of_run name start (line ∷ lines) r items e = grind (arith, record_on_is)
 
 -- what a line says after a place depends on its record alone
 said_after_is : (sorting : Sorting) (state : Option Locus) (said : Result (Option Feature) Kind) (r : Feature) → said_after sorting state said ≡ Ok (Some r) → said ≡ Ok (Some r)
@@ -105,10 +102,7 @@ run_says sorting state name start lines [] e said = tt
 run_says sorting state name start [] (r ∷ records) e said = let none = (first_of_run name start [] r records e).lines_are in cc
 run_says sorting state name start (line ∷ lines) (r ∷ records) e said =
     let first = first_of_run name start (line ∷ lines) r records e in
-    let is = first.lines_are in
-    let same : first.line ≡ line = cc in
-    let more : first.more ≡ lines = cc in
-    grind (arith, (run_says sorting (Some (locus_at r)) name r.start lines records (subst (λ l. run_of name r.start l ≡ records) more first.rest) said.1), says_again)
+    grind (arith, (run_says sorting (Some (locus_at r)) name r.start lines records (subst (λ l. run_of name r.start l ≡ records) (cc) first.rest) said.1), says_again)
 
 -- a record on the chromosome of the last place that doesn't start below
 pub says_on : (sorting : Sorting) (name : List ℕ) (start : ℕ) (text : List ℕ) (r : Feature) → IsTrue (sorting.knows name) → record_of text ≡ Ok (Some r) → r.chrom ≡ name → start ≤ r.start
@@ -131,16 +125,12 @@ run_behind name start lines [] more e = e
 run_behind name start [] (r ∷ records) more e = let none = (first_of_run name start [] r (records ++ more) e).lines_are in cc
 run_behind name start (line ∷ lines) (r ∷ records) more e =
     let first = first_of_run name start (line ∷ lines) r (records ++ more) e in
-    let is = first.lines_are in
-    let same : first.more ≡ lines = cc in
-    run_behind name r.start lines records more (subst (λ l. run_of name r.start l ≡ records ++ more) same first.rest)
+    grind (arith, (run_behind name r.start lines records more (subst (λ l. run_of name r.start l ≡ records ++ more) (cc) first.rest)))
 
 -- the place after some records of a run
 pub place_behind : (sorting : Sorting) (state : Option Locus) (name : List ℕ) (start : ℕ) (lines : List TextLine) (r : Feature) (records more : List Feature) → run_of name start lines ≡ r ∷ (records ++ more)
     → state_behind (bed_format sorting) state (r ∷ records) ≡ Some (record { chrom = name; start = last_start start (r ∷ records) })
-place_behind sorting state name start lines r [] more e =
-    let first = first_of_run name start lines r more e in
-    ap (λ (n : List ℕ). Some (record { chrom = n; start = r.start })) first.chrom
+place_behind sorting state name start lines r [] more e = grind (arith, (first_of_run name start lines r more e))
 place_behind sorting state name start lines r (x ∷ records) more e =
     let first = first_of_run name start lines r (x ∷ (records ++ more)) e in
     place_behind sorting (Some (locus_at r)) name r.start first.more x records more first.rest
@@ -170,9 +160,7 @@ order_behind sorting state (r ∷ records) more o = order_behind sorting (Some (
 -- what is said, one record after another, is in order
 pub said_in_order : (sorting : Sorting) (state : Option Locus) (records : List Feature) → AreSaid (bed_format sorting) state records → are_in_order sorting state records ≡ true
 said_in_order sorting state [] said = refl
-said_in_order sorting state (r ∷ records) said =
-    let first = line_said sorting state said.0.0.text r said.0.1 in
-    rw (first.known, first.stays) (said_in_order sorting (Some (locus_at r)) records said.1)
+said_in_order sorting state (r ∷ records) said = grind (arith, (line_said sorting state said.0.0.text r said.0.1), (said_in_order sorting (Some (locus_at r)) records said.1))
 
 -- What was consumed of a batch that a reader gave is a token that it takes.
 
@@ -186,7 +174,7 @@ none_some xs e = grind arith
 -- if no line was consumed, no byte was
 same_place : (first last : BufferedLines) → PassesLines first 0 last → last.at ≡ first.at
 unfolding rest_in
-same_place first last p = grind (arith, fed_none, length-take, length-drop)
+same_place first last p = grind (arith, fed_none, length-drop)
 
 -- if a record is buffered, the next one of the batch is some
 pub one_given : {S Q : Type 0} (sorted : SortedReader S Q) (first last : Batch) (next : Option RawRecord) (r : Feature) (more : List Feature) → buffered_in sorted ≡ r ∷ more → Lends sorted first
@@ -200,7 +188,7 @@ module _ {S Q : Type 0} (sorted : SortedReader S Q) (first last : Batch) (record
 
   taken_by : (b : Bool) → is_some_left (buffered_in sorted) ≡ b → TakenLines sorted.reader consumed.lines (length records)
   taken_by true e = lines_taken sorted.reader (cursor_in first) (cursor_in last) consumed.lines (length records) (lends.begins e) passes.lines is.lines
-  taken_by false e = grind (arith, none_before, none_some, all_is, same_place)
+  taken_by false e = grind (arith, none_before, same_place)
 
   lines_are : TakenLines sorted.reader consumed.lines (length records)
   lines_are = taken_by (is_some_left (buffered_in sorted)) refl
@@ -214,4 +202,4 @@ module _ {S Q : Type 0} (sorted : SortedReader S Q) (first last : Batch) (record
   taken_are = ap (λ n. take n (buffered_in sorted)) count_is ∙ ap (take (length records)) all_is ∙ take-append_seam records (left last)
 
   pub token_is : IsTaken sorted consumed
-  token_is = grind (arith, count_is, lines_are, all_is, length-append, taken_are, drop_at)
+  token_is = grind (arith, lines_are, length-append, taken_are, drop_at)
