@@ -1,5 +1,5 @@
 -- Lemmas on the definitions of a good input, and on lists of spans.
-use Rattle.bt_lines.proofs.Std.{◌≡◌, ℕ, ◌<◌, Bool, true, false, cond, List, [], ◌∷◌, Option, Some, None, Result, Ok, Err, refl, arith, IsTrue, IfSome, All-nil, All-cons, subst, bytes_eq, nat_lt, bytes_decides, nat_tests, ◌&&◌, ◌++◌, sym, ap, ◌∙◌, append_assoc, flat_map, if◌then◌else◌, list_all, and_parts, and_left, and_right, list_all-append, option_or, zero, suc, ◌+◌, ◌≤◌, ◌⊎◌, inl, inr, cases_Bool, cases_eq, cond-true, cond-false, ap₂, cases_lt}
+use Rattle.bt_lines.proofs.Std.{rules, ◌≡◌, ℕ, ◌<◌, Bool, true, false, cond, List, [], ◌∷◌, Option, Some, None, Result, Ok, Err, refl, arith, IsTrue, IfSome, All-nil, All-cons, subst, bytes_eq, nat_lt, bytes_decides, nat_tests, ◌&&◌, ◌++◌, sym, ap, ◌∙◌, append_assoc, flat_map, if◌then◌else◌, list_all, and_parts, and_left, and_right, list_all-append, option_or, zero, suc, ◌+◌, ◌≤◌, ◌⊎◌, inl, inr, cases_Bool, cases_eq, cond-true, cond-false, ap₂, cases_lt}
 use Rattle.bt_lines.specs.model.Lines.{lines_handed, TextLine}
 use Rattle.bt_lines.specs.declared.fault.Input.{Input}
 use Rattle.bt_lines.specs.declared.fault.Kind.{Kind}
@@ -103,11 +103,7 @@ non_empty_good input order handed = non_empty_from input (sorting_of order) None
 
 -- a place that doesn't fall below the last one doesn't start before it on its chromosome
 pub block_up_to : (last : Option Locus) (place : Locus) → falls_in block_sorting last place ≡ false → IfSome last (λ l. IsBlockUpTo l place)
-block_up_to None place stays = tt
-block_up_to (Some last) place stays = λ one.
-    let same : bytes_eq last.chrom place.chrom ≡ true = (bytes_decides last.chrom place.chrom).1 one in
-    let not_below : nat_lt place.start last.start ≡ false = subst (λ b. cond b (nat_lt place.start last.start) false ≡ false) same stays in
-    grind (arith, nat_tests)
+block_up_to last place stays = search rules
 
 -- the records come after the last place
 abbrev FollowInBlocks : Option Locus → List Feature → Type 0
@@ -200,15 +196,7 @@ record AddsPosition (p : ℕ) (xs ys : List Span) : Type 0 where
   whole : (q : ℕ) → IsCovered xs q → IsCovered ys q
 
 touching : (p : ℕ) (s : Span) (ss : List Span) → AreApartFrom (p + 1) (s ∷ ss) → s.start ≡ p + 1 → AddsPosition p (s ∷ ss) (record { start = p; stop = s.stop } ∷ ss)
-touching p s ss a e = record {
-  apart = (omega arith, omega arith, a.2);
-  within = λ q c. elim c [
-    | inl w ↦ elim (cases_eq q p) [ inl same ↦ inl same | inr other ↦ inr (inl (omega arith, w.1)) ]
-    | inr w ↦ inr (inr w)
-  ];
-  here = inl (omega arith, omega arith);
-  whole = λ q c. elim c [ inl w ↦ inl (omega arith, w.1) | inr w ↦ inr w ];
-}
+touching p s ss a e = grind arith
 
 with_position-adds : (p : ℕ) (xs : List Span) → AreApartFrom (p + 1) xs → AddsPosition p xs (with_position p xs)
 unfolding with_position
@@ -225,35 +213,14 @@ looser f g [] h a = tt
 looser f g (x ∷ xs) h a = (omega arith, a.1, a.2)
 
 passing : (test : ℕ → Bool) (first n : ℕ) (xs ys : List Span) → test first ≡ true → IsScanOf test (first + 1) n xs → AddsPosition first xs ys → IsScanOf test first (suc n) ys
-passing test first n xs ys t scan adds = record {
-  apart = adds.apart;
-  within = λ q c. elim (adds.within q c) [
-    | inl same ↦ (omega arith, rw same t)
-    | inr rest ↦ let h = scan.within q rest in (omega arith, h.1)
-  ];
-  whole = λ q low high pass. elim (cases_eq q first) [
-    | inl same ↦ rw same adds.here
-    | inr other ↦ adds.whole q (scan.whole q (omega arith) (omega arith) pass)
-  ];
-}
+passing test first n xs ys t scan adds = grind arith
 
 failing : (test : ℕ → Bool) (first n : ℕ) (xs : List Span) → test first ≡ false → IsScanOf test (first + 1) n xs → IsScanOf test first (suc n) xs
-failing test first n xs t scan = record {
-  apart = looser (first + 1) first xs (omega arith) scan.apart;
-  within = λ q c. let h = scan.within q c in (omega arith, h.1);
-  whole = λ q low high pass. elim (cases_eq q first) [
-    | inl same ↦ let f : test q ≡ false = rw same t in absurd (cc)
-    | inr other ↦ scan.whole q (omega arith) (omega arith) pass
-  ];
-}
+failing test first n xs t scan = grind (arith, looser)
 
 stretches_from-scans : (test : ℕ → Bool) (first n : ℕ) → IsScanOf test first n (stretches_from test first n)
 unfolding stretches_from
-stretches_from-scans test first zero = record {
-  apart = tt;
-  within = λ q c. absurd c;
-  whole = λ q low high pass. absurd (omega arith);
-}
+stretches_from-scans test first zero = grind arith
 stretches_from-scans test first (suc n) =
     let rest = stretches_from test (first + 1) n in
     let scan : IsScanOf test (first + 1) n rest = stretches_from-scans test (first + 1) n in
@@ -263,13 +230,7 @@ stretches_from-scans test first (suc n) =
     ]
 
 pub scan_finds : scan_finds_stretches
-scan_finds test n =
-    let scan = stretches_from-scans test 0 n in
-    record {
-      apart = scan.apart;
-      within = λ q c. let h = scan.within q c in (omega arith, h.1);
-      whole = λ q c. scan.whole q (omega arith) (omega arith) c.1;
-    }
+scan_finds test n = grind (arith, (stretches_from-scans test 0 n))
 
 -- Lists of spans with gaps between them: two that cover the same positions are equal.
 
@@ -302,12 +263,7 @@ stop_up_to f x y g xs ys a b within e =
     ]
 
 tail_within : (f : ℕ) (x y : Span) (xs ys : List Span) → AreApartFrom f (x ∷ xs) → x.stop ≡ y.stop → IsWithin (x ∷ xs) (y ∷ ys) → IsWithin xs ys
-tail_within f x y xs ys a e within p c =
-    let past = covered_from (x.stop + 1) xs p a.2 c in
-    elim (within p (inr c)) [
-      | inl w ↦ absurd (omega arith)
-      | inr h ↦ h
-    ]
+tail_within f x y xs ys a e within = grind (arith, covered_from)
 
 pub same_span : (x y : Span) → x.start ≡ y.start → x.stop ≡ y.stop → x ≡ y
 same_span x y s e = let make : ℕ → ℕ → Span = λ a b. record { start = a; stop = b } in ap₂ make s e
@@ -324,11 +280,7 @@ same_apart f g (x ∷ xs) (y ∷ ys) a b to back =
     let back_starts : y.start ≡ x.start = omega arith in
     let short = stop_up_to f x y g xs ys a b to starts in
     let long = stop_up_to g y x f ys xs b a back back_starts in
-    let stops : x.stop ≡ y.stop = omega arith in
-    let back_stops : y.stop ≡ x.stop = omega arith in
-    let heads = same_span x y starts stops in
-    let tails = same_apart (x.stop + 1) (y.stop + 1) xs ys a.2 b.2 (tail_within f x y xs ys a stops to) (tail_within g y x ys xs b back_stops back) in
-    cc
+    grind (arith, (same_apart (x.stop + 1) (y.stop + 1) xs ys a.2 b.2 (tail_within f x y xs ys a (omega arith) to) (tail_within g y x ys xs b (omega arith) back)))
 
 -- two lists that make up one set are one list
 pub stretches_are_same : (S : ℕ → Type 0) (xs ys : List Span) → AreStretchesOf S xs → AreStretchesOf S ys → xs ≡ ys

@@ -1,4 +1,5 @@
 -- Lemmas on records and intervals as lines.
+use Rattle.std.proofs.lemmas.Grind.{common_steps}
 use Rattle.bt_lines.proofs.Std.{◌≡◌, ℕ, [], ◌∷◌, ◌++◌, List, Result, false, ap, subst, true, ◌∙◌, append_assoc, codes, decimal, arith, drop, length, length-append, take, ◌-◌, length-drop, take_all, is_ok, take_at}
 use Rattle.bt_lines.specs.model.Fault.{write_failed, FaultValue}
 use Rattle.bt_lines.specs.calls.Output.{Output, Adds, FailsToPut, Puts, PutsAll, span_text}
@@ -11,14 +12,11 @@ use Rattle.bt_bed.specs.model.BedLine.{interval_line, interval_lines, bounds_tex
 
 -- the name, and what follows it
 pub line_parts : (r : Interval) → r.chrom ++ span_text r.start r.stop 10 ≡ interval_line r
-line_parts r = grind (arith, codes, append_assoc)
+line_parts r = grind (arith, append_assoc)
 
 -- no line is empty
 pub line_has_bytes : (r : Interval) → interval_line r ≡ [] → ⊥
-line_has_bytes r e =
-    let l = length-append (r.chrom ++ codes "\t" ++ decimal r.start ++ codes "\t" ++ decimal r.stop) (codes "\n") in
-    let none : length (interval_line r) ≡ 0 = ap length e in
-    absurd (omega arith)
+line_has_bytes r e = grind (arith, common_steps)
 
 -- the line of an interval alone
 pub adds_line : {A : Type 0} (r : Interval) (old new : Output) (result : Result A Fault) → Puts old (interval_line r) result new → Adds old (interval_lines (r ∷ [])) result new
@@ -34,9 +32,7 @@ was_cut old new bytes result p e = grind arith
 -- what a text of 43 bytes has from an offset on is put
 pub puts_text : {A : Type 0} (old new : Output) (name text behind : List ℕ) (first : ℕ) (result : Result A Fault) → length text ≡ 43 → drop first text ≡ behind
     → Puts old (name ++ take (43 - first) (drop first text)) result new → Puts old (name ++ behind) result new
-puts_text old new name text behind first result size is p =
-    let all = take_all (43 - first) (drop first text) (omega (arith, size, length-drop first text)) in
-    subst (λ (l : List ℕ). Puts old (name ++ l) result new) (all ∙ is) p
+puts_text old new name text behind first result size is p = grind (arith, take_all, length-drop)
 
 -- A record, put column by column, and what ends it.
 
@@ -46,14 +42,7 @@ span_is_bounds start stop end = simp append_assoc
 
 -- the line feed is the last byte of what follows a name
 pub bounds_before_feed : (text : List ℕ) (first start stop : ℕ) → length text ≡ 43 → drop first text ≡ span_text start stop 10 → take (42 - first) (drop first text) ≡ bounds_text start stop
-bounds_before_feed text first start stop l e =
-    let bounds = bounds_text start stop in
-    let whole : drop first text ≡ bounds ++ codes "\n" = e ∙ span_is_bounds start stop 10 in
-    let n = length-drop first text in
-    let m = length-append bounds (codes "\n") in
-    let same : length (drop first text) ≡ length (bounds ++ codes "\n") = ap length whole in
-    let size : length bounds ≡ 42 - first = omega arith in
-    ap (take (42 - first)) whole ∙ take_at bounds (codes "\n") (42 - first) size
+bounds_before_feed text first start stop l e = grind (arith, common_steps, span_is_bounds)
 
 -- the parts of a record and its end
 record_parts : (r : Feature) (end : List ℕ) → r.chrom ++ (bounds_text r.start r.stop ++ (r.rest ++ end)) ≡ bed_text r ++ end
@@ -65,11 +54,9 @@ module _ (r : Feature) (end : List ℕ) where
 
   -- the record was cut off in its name or in its bounds
   pub cut_in_front : (old new : Output) (fault : FaultValue) → FailsToPut old (r.chrom ++ bounds_text r.start r.stop) fault new → FailsToPut old (bed_text r ++ end) fault new
-  cut_in_front old new fault p =
-      subst (λ bytes. FailsToPut old bytes fault new) front_parts (fails_before old new (r.chrom ++ bounds_text r.start r.stop) (r.rest ++ end) fault p)
+  cut_in_front old new fault p = grind (arith, front_parts, fails_before)
 
   -- or after them, or put in full
   pub puts_record : {A : Type 0} (old mid new : Output) (result : Result A Fault) → PutsAll old (r.chrom ++ bounds_text r.start r.stop) mid → Puts mid (r.rest ++ end) result new
       → Puts old (bed_text r ++ end) result new
-  puts_record old mid new result p q =
-      subst (λ bytes. Puts old bytes result new) front_parts (puts_more old mid new (r.chrom ++ bounds_text r.start r.stop) (r.rest ++ end) result p q)
+  puts_record old mid new result p q = grind (arith, front_parts, puts_more)

@@ -1,5 +1,5 @@
 -- Lemmas on orders of records.
-use Rattle.bt_lines.proofs.Std.{◌≡◌, ℕ, ◌≤◌, ◌⊎◌, inl, inr, List, [], ◌∷◌, ◌++◌, refl, sym, ◌∙◌, subst, true, false, bytes_eq, Some, IsTrue, or_parts, or_from, or_left, or_right, Bool, cond, Option, arith, IfSome, nat_lt, bytes_decides, false≢true, suc, ◌||◌, ap, is_some, option_map, tied_itself, nat_list_cmp_total}
+use Rattle.bt_lines.proofs.Std.{rules, ◌≡◌, ℕ, ◌≤◌, ◌⊎◌, inl, inr, List, [], ◌∷◌, ◌++◌, refl, sym, ◌∙◌, subst, true, false, bytes_eq, Some, IsTrue, or_parts, or_from, or_left, or_right, Bool, cond, Option, arith, IfSome, nat_lt, bytes_decides, false≢true, suc, ◌||◌, ap, is_some, option_map, tied_itself, nat_list_cmp_total}
 use Rattle.std.specs.declared.cmp.Ordering.TheVariants.{Less, Equal}
 use Rattle.bt_bed.specs.model.Feature.{last_from, last_of, Interval}
 use Rattle.bt_bed.specs.model.Order.{Order, IsTotal, is_among, rank_of, byte_order}
@@ -14,8 +14,7 @@ pub has_records-append : (name : List ℕ) (xs ys : List Interval) → has_recor
 has_records-append name [] ys f = (refl, f)
 has_records-append name (x ∷ xs) ys f =
     let parts = or_parts (bytes_eq x.chrom name) (has_records name (xs ++ ys)) f in
-    let rest = has_records-append name xs ys parts.1 in
-    (or_from (bytes_eq x.chrom name) (has_records name xs) parts.0 rest.0, rest.1)
+    grind (arith, (has_records-append name xs ys parts.1))
 
 -- records in order: the last of them, and one more
 pub contiguous_prefix : prefixes_are_contiguous
@@ -30,22 +29,8 @@ contiguous_prefix (x ∷ y ∷ zs) ys t =
     (next, rest)
 
 pub next_place : (q : Interval) (qs : List Interval) (r : Interval) → AreContiguous (q ∷ qs ++ r ∷ []) → ((r.chrom ≡ (last_from q qs).chrom) × ((last_from q qs).start ≤ r.start)) ⊎ (has_records r.chrom (q ∷ qs) ≡ false)
-next_place q [] r t = elim t.0 [
-  | inl same ↦ inl same
-  | inr gone ↦ inr (or_from (bytes_eq q.chrom r.chrom) false (name_ne-sym r.chrom q.chrom (or_parts (bytes_eq r.chrom q.chrom) false gone).0) refl)
-]
-next_place q (s ∷ ss) r t = elim (next_place s ss r t.1) [
-  | inl same ↦ inl same
-  | inr gone ↦
-      let parts = or_parts (bytes_eq s.chrom r.chrom) (has_records r.chrom ss) gone in
-      let miss : bytes_eq q.chrom r.chrom ≡ false = elim t.0 [
-        | inl same ↦ name_ne q.chrom r.chrom (λ e. other_name s.chrom r.chrom parts.0 (same.0 ∙ e))
-        | inr away ↦
-            let behind = has_records-append q.chrom (s ∷ ss) (r ∷ []) away in
-            name_ne-sym r.chrom q.chrom (or_parts (bytes_eq r.chrom q.chrom) false behind.1).0
-      ] in
-      inr (or_from (bytes_eq q.chrom r.chrom) (has_records r.chrom (s ∷ ss)) miss gone)
-]
+next_place q [] r t = grind (arith, name_ne-sym)
+next_place q (s ∷ ss) r t = grind (arith, (next_place s ss r t.1), has_records-append, name_ne-sym, or_from)
 
 pub last_of-push : (past : List Interval) (r : Interval) → last_of (past ++ r ∷ []) ≡ Some r
 last_of-push [] r = refl
@@ -59,15 +44,11 @@ has_records-last q (s ∷ ss) = or_right (bytes_eq q.chrom (last_from s ss).chro
 
 -- a name that comes before another isn't that one
 lower_is_other : (order : Order) (a b : List ℕ) → IsTotal order → IsTrue (order.knows a) → order.compare a b ≡ Less → b ≡ a → ⊥
-lower_is_other order a b total known lower e =
-    let same = total.same a known in
-    let it : order.compare a a ≡ Less = subst (λ (c : List ℕ). order.compare a c ≡ Less) e lower in
-    absurd (let apart : Less ≡ Equal = sym it ∙ same in cc)
+lower_is_other order a b total known lower e = grind arith
 
 -- a chromosome that comes before the first record's has no records
 lower_is_absent : (order : Order) (name : List ℕ) (s : Interval) (ss : List Interval) → IsTotal order → IsTrue (order.knows name) → ArePlaced order (s ∷ ss) → order.compare name s.chrom ≡ Less → has_records name (s ∷ ss) ≡ false
-lower_is_absent order name s [] total known placed lower =
-    or_from (bytes_eq s.chrom name) false (name_ne s.chrom name (lower_is_other order name s.chrom total known lower)) refl
+lower_is_absent order name s [] total known placed lower = grind (arith, name_ne)
 lower_is_absent order name s (t ∷ ts) total known placed lower =
     let further : order.compare name t.chrom ≡ Less = elim placed.1 [
       | inl less ↦ total.ascends name s.chrom t.chrom known placed.0 placed.2.0 lower less
@@ -77,12 +58,7 @@ lower_is_absent order name s (t ∷ ts) total known placed lower =
 
 -- what comes next is on the same chromosome, or has none of it
 followed : (order : Order) (r : Interval) (rs : List Interval) → IsTotal order → ArePlaced order (r ∷ rs) → IsFollowed r rs
-followed order r [] total placed = tt
-followed order r (s ∷ ss) total placed =
-    elim placed.1 [
-      | inl lower ↦ inr (lower_is_absent order r.chrom s ss total placed.0 placed.2 lower)
-      | inr same ↦ inl (sym same.0, same.1)
-    ]
+followed order r rs total placed = grind (arith, lower_is_absent)
 
 pub placed_contiguous : placed_are_contiguous
 placed_contiguous order [] total placed = tt
@@ -98,8 +74,7 @@ placed_from order q [] r placed known next = (placed.0, next, (known, tt, tt))
 placed_from order q (s ∷ ss) r placed known next = (placed.0, placed.1, placed_from order s ss r placed.2 known next)
 
 pub grows_placed : placed_grows
-grows_placed order [] r placed known next = (known, tt, tt)
-grows_placed order (q ∷ qs) r placed known next = placed_from order q qs r placed known next
+grows_placed = grind (arith, placed_from)
 
 -- Lemmas on how records are sorted.
 
@@ -117,15 +92,7 @@ apart_by o start other apart = grind arith
 
 sorted_by : (order : Order) (last place : Locus) → IsTotal order → IsTrue (order.knows last.chrom) → IsTrue (order.knows place.chrom)
     → (b : Bool) → bytes_eq last.chrom place.chrom ≡ b → cond b (nat_lt place.start last.start) (is_lt (order.compare place.chrom last.chrom)) ≡ is_below order place last
-sorted_by order last place total was is true e =
-    let one : last.chrom ≡ place.chrom = (bytes_decides last.chrom place.chrom).0 e in
-    let equal : order.compare place.chrom last.chrom ≡ Equal = subst (λ name. order.compare name last.chrom ≡ Equal) one (total.same last.chrom was) in
-    rw equal refl
-sorted_by order last place total was is false e =
-    let apart : order.compare place.chrom last.chrom ≡ Equal → ⊥ = λ equal.
-    let same = total.equal place.chrom last.chrom is was equal in
-    false≢true (sym e ∙ (bytes_decides last.chrom place.chrom).1 (sym same)) in
-    apart_by (order.compare place.chrom last.chrom) place.start last.start apart
+sorted_by order last place total was is b e = search rules
 
 -- in a total order places are sorted as the order has them
 pub places_sorted : sorted_by_places
@@ -134,7 +101,7 @@ places_sorted order last place total was is = sorted_by order last place total w
 -- a place that doesn't fall below the last one isn't before it
 pub sorted_up_to : (order : Order) (last : Option Locus) (place : Locus) → IsTotal order → IfSome last (λ l. IsTrue (order.knows l.chrom)) → IsTrue (order.knows place.chrom) → falls_in (sorting_of order) last place ≡ false
     → IfSome last (λ l. IsUpTo order l place)
-sorted_up_to order last place total was is stays = grind (arith, stays_up_to, places_sorted)
+sorted_up_to order last place total was is stays = grind (arith, places_sorted)
 
 -- Lemmas on the ranks of names.
 
@@ -150,6 +117,4 @@ among_ranked (n ∷ ns) name = is_some-cond (bytes_eq n name) (rank_of ns name) 
 
 -- equal names
 pub same_name_same : (left right : List ℕ) → bytes_eq left right ≡ true → byte_order.compare left right ≡ Equal
-same_name_same left right e =
-    subst (λ (name : List ℕ). byte_order.compare left name ≡ Equal) (same_name left right e)
-    (tied_itself nat_list_cmp_total left)
+same_name_same left right e = grind (arith, (same_name left right e), (tied_itself nat_list_cmp_total left))

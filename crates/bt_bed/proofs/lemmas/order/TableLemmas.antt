@@ -1,5 +1,6 @@
 -- Lemmas on the entries of a genome file.
-use Rattle.bt_lines.proofs.Std.{◌≡◌, ℕ, arith, false, List, [], ◌∷◌, ◌++◌, Option, Some, None, Result, Ok, Err, refl, sym, ap, ◌∙◌, append_assoc, append-nil, bytes_eq, or_parts, ◌⊎◌, IsErrAnd, OnOk, OnErr, inl, inr, suc, ◌+◌, ◌-◌, ◌^◌, ◌<◌, ◌≤◌, length, take, drop, IfSome, zero, Bool, true, cond, map, subst, length-append, All-push, All-head, All-tail, All, Vec, is_some, option_map, position, slice_get, option_to_list, map-append, slice_get-map, take-append_seam, position_from, keys_of, position_from-zero}
+use Rattle.std.proofs.lemmas.Grind.{common_steps}
+use Rattle.bt_lines.proofs.Std.{rules, ◌≡◌, ℕ, arith, false, List, [], ◌∷◌, ◌++◌, Option, Some, None, Result, Ok, Err, refl, sym, ap, ◌∙◌, append_assoc, append-nil, bytes_eq, or_parts, ◌⊎◌, IsErrAnd, OnOk, OnErr, inl, inr, suc, ◌+◌, ◌-◌, ◌^◌, ◌<◌, ◌≤◌, length, take, drop, IfSome, zero, Bool, true, cond, map, subst, length-append, All-push, All-head, All-tail, All, Vec, is_some, option_map, position, slice_get, option_to_list, map-append, slice_get-map, take-append_seam, position_from, keys_of, position_from-zero}
 use Rattle.bt_lines.specs.model.Fault.{FaultValue, no_memory, read_failed}
 use Rattle.bt_lines.specs.model.Lines.{TextLine, bytes_in}
 use Rattle.bt_lines.specs.declared.fault.Input.{Input}
@@ -28,9 +29,7 @@ use Rattle.bt_bed.specs.declared.order.genome.Genome.{Genome}
 -- a name that isn't among names is none of them
 pub among_push : (names : List (List ℕ)) (n name : List ℕ) → is_among names name ≡ false → bytes_eq n name ≡ false → is_among (names ++ n ∷ []) name ≡ false
 among_push [] n name e d = rw d refl
-among_push (m ∷ ms) n name e d =
-    let parts = or_parts (bytes_eq m name) (is_among ms name) e in
-    rw (parts.0, among_push ms n name parts.1 d) refl
+among_push (m ∷ ms) n name e d = grind (arith, (among_push ms n name (or_parts (bytes_eq m name) (is_among ms name) e).1 d))
 
 -- a new name keeps the names distinct
 pub distinct_push : (names : List (List ℕ)) (n : List ℕ) → AreDistinct names → is_among names n ≡ false → AreDistinct (names ++ n ∷ [])
@@ -79,18 +78,12 @@ said_with input number names given others (Err kind) entries h e = cc
 said_with input number names given others (Ok None) entries h e = h names entries e
 said_with input number names given others (Ok (Some entry)) entries h e =
     let parts = ok_entries entry (genome_from input (names ++ entry.name ∷ []) given) entries e in
-    ap (with_entry entry) (h (names ++ entry.name ∷ []) parts.0 parts.1)
-    ∙ before_more entry parts.0 (genome_from input ((names ++ entry.name ∷ []) ++ genome_names parts.0) others)
-    ∙ ap (λ all. before (entry ∷ parts.0) (genome_from input all others)) (append_assoc names (entry.name ∷ []) (genome_names parts.0))
-    ∙ sym (ap (λ all. before all (genome_from input (names ++ genome_names all) others)) parts.2)
+    grind (arith, (before_more entry parts.0 (genome_from input ((names ++ entry.name ∷ []) ++ genome_names parts.0) others)), (append_assoc names (entry.name ∷ []) (genome_names parts.0)))
 
 pub says_then : (input : Input) (names : List (List ℕ)) (given others : List TextLine) → SaysThen input names given others
 unfolding genome_from
-says_then input names [] others entries e =
-    let none : entries ≡ [] = cc in
-    rw (none, append-nil) (sym (before_none (genome_from input names others)))
-says_then input names (line ∷ given) others entries e =
-    said_with input line.number names given others (new_entry names (entry_of line.text)) entries (λ now. says_then input now given others) e
+says_then input names [] others entries e = grind (arith, append-nil, before_none)
+says_then input names (line ∷ given) others entries e = grind (arith, (said_with input line.number names given others (new_entry names (entry_of line.text)) entries (λ now. says_then input now given others) e))
 
 -- Lemmas on results and options that are passed on.
 
@@ -116,9 +109,7 @@ module _ {A : Type 0} (place : Place) where
     pub is : fault ≡ no_memory
 
   pub lost_parts : (said : Result (Option A) Kind) (fault : FaultValue) → IsLost place said fault → IsWrong said fault ⊎ IsUnkept said fault
-  lost_parts (Err kind) fault lost = inl (record { kind = kind; says = refl; is = lost })
-  lost_parts (Ok None) fault lost = absurd lost
-  lost_parts (Ok (Some item)) fault lost = inr (record { item = item; says = refl; is = lost })
+  lost_parts said fault lost = grind arith
 
   pub lost_wrong : (said : Result (Option A) Kind) (fault : FaultValue) (kind : Kind) → said ≡ Err kind → fault ≡ fault_at_line place.input place.line kind → IsLost place said fault
   lost_wrong said fault kind says is = rw says is
@@ -130,9 +121,7 @@ module _ {A : Type 0} (place : Place) where
 
 near_fewer : (a : Option (List TextLine)) (rest : Option (List ℕ)) → IfSome a (λ all. IfSome rest (λ bytes. bytes_in all ≤ length bytes + block_size))
     → IfSome a (λ all. IfSome rest (λ bytes. bytes_in (drop 1 all) ≤ length bytes + block_size))
-near_fewer None rest h = tt
-near_fewer (Some all) None h = tt
-near_fewer (Some all) (Some bytes) h = omega (arith, bytes_in-drop 1 all)
+near_fewer a rest h = grind (arith, common_steps)
 
 module _ {S : Type 0} (device : Source S) where
   -- lines were given, in some calls one after another
@@ -143,12 +132,7 @@ module _ {S : Type 0} (device : Source S) where
     pub sound : IsSound device old → IsSound device now
 
   pub passed_none : (reader : LineReader S) → Passed reader reader
-  passed_none reader = record {
-    lines = no_pass (lines_left device.left reader) (lines_given reader);
-    least = omega arith;
-    bytes = ([], hands_none device.left reader);
-    sound = λ sound. sound;
-  }
+  passed_none reader = grind arith
 
   module _ (old now new : LineReader S) (p : Passed old now) where
     pub passed_line : (line : TextLine) → GivesLine device now line new → (IsSound device now → IsSound device new) → Passed old new
@@ -174,11 +158,7 @@ module _ {S : Type 0} (device : Source S) where
         let counted = p.bytes.1.counted in
         let given = cut.given in
         let front = front_of_both p.bytes.0 cut.bytes (2 ^ 63 - 1 - bytes_taken old) (2 ^ 63 - 1 - bytes_taken now) (omega arith) in
-        record {
-          bytes = p.bytes.0 ++ cut.bytes;
-          hands = hands_both device.left old now new p.bytes.0 cut.bytes p.bytes.1 cut.hands;
-          given = rw front (omega (arith, line_feeds-append p.bytes.0 (take (2 ^ 63 - 1 - bytes_taken now) cut.bytes)));
-        }
+        grind (arith, (hands_both device.left old now new p.bytes.0 cut.bytes p.bytes.1 cut.hands), (line_feeds-append p.bytes.0 (take (2 ^ 63 - 1 - bytes_taken now) cut.bytes)))
 
   -- of known bytes, those after the lines given are left, and so those after one more
   pub near_line : (old new : LineReader S) → Passed old new → fault_kept new ≡ None → IsSound device old → IsNear device.left old new
@@ -190,12 +170,10 @@ module _ {S : Type 0} (device : Source S) where
 
 -- a line's entry is new if its name has no rank, and else repeated
 pub says_new : (names : List (List ℕ)) (said : Result (Option Entry) Kind) (entry : Entry) → said ≡ Ok (Some entry) → is_some (rank_of names entry.name) ≡ false → new_entry names said ≡ Ok (Some entry)
-says_new names said entry e unranked =
-    ap (new_entry names) e ∙ ap (λ b. cond b (Err RepeatedChrom) (Ok (Some entry))) (sym (among_ranked names entry.name) ∙ unranked)
+says_new names said entry e unranked = grind (arith, among_ranked)
 
 pub says_repeated : (names : List (List ℕ)) (said : Result (Option Entry) Kind) (entry : Entry) → said ≡ Ok (Some entry) → is_some (rank_of names entry.name) ≡ true → new_entry names said ≡ Err RepeatedChrom
-says_repeated names said entry e ranked =
-    ap (new_entry names) e ∙ ap (λ b. cond b (Err RepeatedChrom) (Ok (Some entry))) (sym (among_ranked names entry.name) ∙ ranked)
+says_repeated names said entry e ranked = grind (arith, among_ranked)
 
 -- what is wrong with a line is of a line
 pub refused_at_place : (names : List (List ℕ)) (text : List ℕ) (kind : Kind) → new_entry names (entry_of text) ≡ Err kind → is_genome_kind kind ≡ true
@@ -219,9 +197,7 @@ placed_from : (chromosomes : List (Vec ℕ Global × ℕ)) (name : List ℕ) (n 
     → position_from (λ key. bytes_eq name key.items) n (keys_of chromosomes) ≡ plus n (rank_of (genome_names (map entry_seen chromosomes)) name)
 unfolding plus
 placed_from [] name n = refl
-placed_from (chromosome ∷ more) name n =
-    rw (name_eq-sym name chromosome.0.items, placed_from more name (n + 1))
-    (plus_cond n (bytes_eq chromosome.0.items name) (rank_of (genome_names (map entry_seen more)) name))
+placed_from (chromosome ∷ more) name n = grind (arith, (placed_from more name (n + 1)), name_eq-sym)
 
 -- the index of a name among the keys is its rank
 pub placed_by_rank : (chromosomes : List (Vec ℕ Global × ℕ)) (name : List ℕ)
@@ -238,10 +214,7 @@ inserted_last (chromosome ∷ more) name size e =
 -- a name that isn't among the chromosomes goes last
 pub entries_push : (chromosomes : List (Vec ℕ Global × ℕ)) (name : Vec ℕ Global) (size : ℕ) (text : List ℕ) → name.items ≡ text → is_among (genome_names (map entry_seen chromosomes)) text ≡ false
     → map entry_seen (insert_entry (λ a b. bytes_eq a.items b.items) chromosomes name size) ≡ map entry_seen chromosomes ++ record { name = text; length = size } ∷ []
-entries_push chromosomes name size text is new =
-    ap (map entry_seen) (inserted_last chromosomes name size (rw is new))
-    ∙ map-append entry_seen chromosomes ((name, size) ∷ [])
-    ∙ ap (λ n. map entry_seen chromosomes ++ record { name = n; length = size } ∷ []) is
+entries_push chromosomes name size text is new = grind (arith, inserted_last, map-append)
 
 seen_name : (o : Option (Vec ℕ Global × ℕ)) → option_map (λ entry. entry.name) (option_map entry_seen o) ≡ option_map (λ chromosome. chromosome.0.items) o
 seen_name o = grind arith
@@ -251,11 +224,11 @@ seen_length o = grind arith
 
 -- the name at a rank is that of the chromosome there
 pub name_at : (chromosomes : List (Vec ℕ Global × ℕ)) (rank : ℕ) → slice_get (genome_names (map entry_seen chromosomes)) rank ≡ option_map (λ chromosome. chromosome.0.items) (slice_get chromosomes rank)
-name_at chromosomes rank = grind (arith, slice_get-map, seen_name)
+name_at chromosomes rank = grind (arith, slice_get-map)
 
 -- and so is the length
 pub length_at : (chromosomes : List (Vec ℕ Global × ℕ)) (rank : ℕ) → option_map (λ entry. entry.length) (slice_get (map entry_seen chromosomes) rank) ≡ slice_get (map (λ chromosome. chromosome.1) chromosomes) rank
-length_at chromosomes rank = grind (arith, slice_get-map, seen_length)
+length_at chromosomes rank = grind (arith, slice_get-map)
 
 -- the lines before those left were given, and have these entries
 abbrev Continues : Input → Option (List TextLine) → ℕ → List Entry → Option (List TextLine) → ℕ → Type 0
@@ -288,31 +261,19 @@ continues_line input (Some old) (Some now) (Some next) from to further front lin
 )
 
 continues_end : (input : Input) (old now : Option (List TextLine)) (from to : ℕ) (front : List Entry) → Continues input old from front now to → IfSome now (λ lines. lines ≡ []) → IfSome old (λ lines. genome_of input lines ≡ Ok front)
-continues_end input None now from to front c e = tt
-continues_end input (Some old) None from to front c e = absurd c
-continues_end input (Some old) (Some now) from to front c e =
-    let all : old ≡ c.0 = c.1 ∙ ap (λ lines. c.0 ++ lines) e ∙ append-nil c.0 in
-    ap (λ lines. genome_of input lines) all ∙ c.3
+continues_end input old now from to front c e = search rules
 
 -- a line that is at fault after those given
 fault_behind : (input : Input) (given : List TextLine) (front : List Entry) (line : TextLine) (lines : List TextLine) (kind : Kind) → genome_of input given ≡ Ok front
     → new_entry (genome_names front) (entry_of line.text) ≡ Err kind → genome_of input (given ++ line ∷ lines) ≡ Err (fault_at_line input line.number kind)
-fault_behind input given front line lines kind good e =
-    says_then input [] given (line ∷ lines) front good
-    ∙ before_err front (fault_at_line input line.number kind) (genome_from input (genome_names front) (line ∷ lines)) (says_wrong input (genome_names front) line lines kind e)
+fault_behind input given front line lines kind good e = grind (arith, (says_then input [] given (line ∷ lines) front good), before_err, (says_wrong input (genome_names front) line lines kind e))
 
 continues_fault : (input : Input) (old now next : Option (List TextLine)) (from to : ℕ) (front : List Entry) (line : TextLine) (kind : Kind) → Continues input old from front now to → GivesFirst now line next
     → new_entry (genome_names front) (entry_of line.text) ≡ Err kind → IfSome old (λ lines. genome_of input lines ≡ Err (fault_at_line input line.number kind))
-continues_fault input None now next from to front line kind c g e = tt
-continues_fault input (Some old) None next from to front line kind c g e = absurd c
-continues_fault input (Some old) (Some now) None from to front line kind c g e = absurd g
-continues_fault input (Some old) (Some now) (Some next) from to front line kind c g e =
-    ap (λ lines. genome_of input lines) (c.1 ∙ ap (λ lines. c.0 ++ lines) g) ∙ fault_behind input c.0 front line next kind c.3 e
+continues_fault input old now next from to front line kind c g e = grind (arith, fault_behind)
 
 first_lines : (old given new : List TextLine) (from to : ℕ) → old ≡ given ++ new → from + length given ≡ to → take (to - from) old ≡ given
-first_lines old given new from to e n =
-    let count : to - from ≡ length given = omega arith in
-    rw (e, count) (take-append_seam given new)
+first_lines old given new from to e n = grind (arith, common_steps)
 
 -- if one of the first lines is at fault, its fault is the one reported
 abbrev IsToldFirst : Input → Option (List TextLine) → ℕ → FaultValue → Type 0
@@ -320,11 +281,7 @@ IsToldFirst input lines count fault = IfSome lines (λ all. (other : FaultValue)
 
 -- no line given is at fault
 none_wrong : (input : Input) (old now : Option (List TextLine)) (from to : ℕ) (front : List Entry) (fault : FaultValue) → Continues input old from front now to → IsToldFirst input old (to - from) fault
-none_wrong input None now from to front fault c = tt
-none_wrong input (Some old) None from to front fault c = absurd c
-none_wrong input (Some old) (Some now) from to front fault c = λ other e.
-    let good : genome_of input (take (to - from) old) ≡ Ok front = ap (λ lines. genome_of input lines) (first_lines old c.0 now from to c.1 c.2) ∙ c.3 in
-    cc
+none_wrong input old now from to front fault c = grind (arith, first_lines)
 
 -- the last line given is
 last_wrong : (input : Input) (old now next : Option (List TextLine)) (from to further : ℕ) (front : List Entry) (line : TextLine) (kind : Kind) → Continues input old from front now to → GivesFirst now line next → further ≡ suc to
@@ -340,9 +297,7 @@ last_wrong input (Some old) (Some now) (Some next) from to further front line ki
     cc
 
 distinct_more : (front : List Entry) (said : Result (Option Entry) Kind) (entry : Option Entry) → AreDistinct (genome_names front) → new_entry (genome_names front) said ≡ Ok entry → AreDistinct (genome_names (front ++ option_to_list entry))
-distinct_more front said None d e = rw append-nil d
-distinct_more front said (Some entry) d e =
-    rw (map-append (λ it. it.name) front (entry ∷ [])) (distinct_push (genome_names front) entry.name d (is_new (genome_names front) said entry e))
+distinct_more front said entry d e = grind (arith, append-nil, map-append, distinct_push)
 
 -- the lines given made entries
 given_entries : (input : Input) (old now : Option (List TextLine)) (from to : ℕ) (front : List Entry) → Continues input old from front now to → IfSome old (λ lines. (entries : List Entry) × (genome_of input (take (to - from) lines) ≡ Ok entries))
@@ -361,24 +316,11 @@ pub record Going {S : Type 0} (device : Source S) (old now : LineReader S) (geno
 
 module _ {S : Type 0} (device : Source S) (old : LineReader S) where
   pub going_start : (genome : Genome) → entries genome ≡ [] → Going device old old genome
-  going_start genome none = record {
-    continues = rw none (continues_start (input_of old) (lines_left device.left old) (lines_given old));
-    distinct = rw none tt;
-    stays = λ before e. refl;
-    going = λ e. e;
-    served = refl;
-    passed = passed_none device old;
-  }
+  going_start genome none = grind (arith, continues_start)
 
   -- a reader that returns anything but a fault had none from the start
   had_none : (now : LineReader S) (genome : Genome) → Going device old now genome → fault_kept now ≡ None → fault_kept old ≡ None
-  had_none now genome g none = by (fault_kept old) refl
-    where
-      by : (kept : Option FaultValue) → fault_kept old ≡ kept → kept ≡ None
-      by None e = refl
-      by (Some before) e =
-          let same : fault_kept now ≡ fault_kept old = ap fault_kept (g.stays before e) in
-          cc
+  had_none now genome g none = grind arith
 
   distinct_line : (text : List ℕ) (genome grown : Genome) → AreDistinct (names_of genome) → LineAdded text genome grown → AreDistinct (names_of grown)
   distinct_line text genome grown d added = rw added.added (distinct_more (entries genome) (entry_of text) added.entry d added.says)
@@ -400,16 +342,7 @@ module _ {S : Type 0} (device : Source S) (old : LineReader S) where
   }
 
   pub going_end : (now new : LineReader S) (genome : Genome) → Going device old now genome → GivesEnd device now new → ReadsAll device old new genome
-  going_end now new genome g gives = record {
-    was_going = had_none now genome g gives.was_going;
-    is = continues_end (input_of old) (lines_left device.left old) (lines_left device.left now) (lines_given old) (lines_given now) (entries genome) g.continues gives.none_left;
-    distinct = g.distinct;
-    ended = gives.ends;
-    told = gives.told;
-    going = gives.goes;
-    served = gives.served ∙ g.served;
-    bytes = both now new g.passed.bytes (gives.bytes.0, gives.bytes.1);
-  }
+  going_end now new genome g gives = grind (arith, continues_end, (both now new g.passed.bytes (gives.bytes.0, gives.bytes.1)))
 
   pub going_refused : (now next : LineReader S) (line : TextLine) (genome : Genome) (place : Place) (fault : FaultValue) → Going device old now genome → GivesLine device now line next
       → place ≡ record { input = input_of old; line = line.number } → IsWrong place (new_entry (names_of genome) (entry_of line.text)) fault → EntryIsWrong device old next fault
@@ -496,5 +429,4 @@ some_length (first ∷ others) (suc rank) size all e = some_length others rank s
 -- a chromosome after others that have bases
 pub entries_non_empty : (chromosomes : List (Vec ℕ Global × ℕ)) (name : Vec ℕ Global) (size : ℕ) (text : List ℕ) → name.items ≡ text → is_among (genome_names (map entry_seen chromosomes)) text ≡ false → All (λ chromosome. 0 < chromosome.1) chromosomes → 0 < size
     → All (λ chromosome. 0 < chromosome.1) (insert_entry (λ a b. bytes_eq a.items b.items) chromosomes name size)
-entries_non_empty chromosomes name size text is new all some =
-    rw (inserted_last chromosomes name size (rw is new)) (All-push (λ (chromosome : Vec ℕ Global × ℕ). 0 < chromosome.1) chromosomes (name, size) all some)
+entries_non_empty chromosomes name size text is new all some = grind (arith, common_steps, inserted_last)

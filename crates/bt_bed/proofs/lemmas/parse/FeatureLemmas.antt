@@ -1,4 +1,5 @@
 -- Lemmas on columns, and on what is kept of them.
+use Rattle.std.proofs.lemmas.Grind.{common_steps}
 use Rattle.bt_lines.proofs.Std.{◌≡◌, ℕ, ◌+◌, ◌≤◌, Bool, List, [], ◌∷◌, ◌++◌, length, drop, refl, sym, ap, ◌∙◌, eqb, append_assoc, append-nil, arith, length-append, drop_at, slice_split_at, slice_split_none, join_with_byte-slice_split, AllByRecursion, join_with_byte, ◌<◌, true, false, ◌&&◌, cond, Option, Some, None, Result, Ok, subst, ltb, leb, leb-true, and_parts, list_all, is_ascii_digit, digits_value, ◌||◌, bytes_eq, take, get_or, false_from_ne_true, take-append-drop, All-head, All-tail, bytes_eq-Decides, All}
 use Rattle.bt_lines.specs.model.Lines.{pieces, value_of, is_number}
 use Rattle.bt_lines.proofs.lemmas.reader.lines.TextLemmas.{IsColumn}
@@ -41,8 +42,7 @@ pub three_are_within : (text a b c : List ℕ) (rest : List (List ℕ)) → piec
 three_are_within text a b c rest e = omega (arith, ap length (three_columns text a b c rest e), length_of_three a b c, length-append (a ++ 9 ∷ (b ++ 9 ∷ c)) (kept_columns rest))
 
 pub rest_of_three : (text a b c : List ℕ) (rest : List (List ℕ)) → pieces 9 text ≡ a ∷ b ∷ c ∷ rest → drop (length a + length b + length c + 2) text ≡ kept_columns rest
-rest_of_three text a b c rest e =
-    ap (drop (length a + length b + length c + 2)) (three_columns text a b c rest e) ∙ drop_at (a ++ 9 ∷ (b ++ 9 ∷ c)) (kept_columns rest) (length a + length b + length c + 2) (length_of_three a b c)
+rest_of_three text a b c rest e = grind (arith, (three_columns text a b c rest e), (drop_at (a ++ 9 ∷ (b ++ 9 ∷ c)) (kept_columns rest) (length a + length b + length c + 2) (length_of_three a b c)))
 
 -- three columns that were taken one after another
 pub taken_in_turn : (columns left left2 left3 : List (List ℕ)) (text a b c : List ℕ) → left ≡ pieces 9 text → left ≡ a ∷ left2 → left2 ≡ b ∷ left3 → left3 ≡ c ∷ columns
@@ -51,8 +51,7 @@ taken_in_turn columns left left2 left3 text a b c e first second third = cc
 
 pub taken_are_within : (columns left left2 left3 : List (List ℕ)) (text a b c : List ℕ) → left ≡ pieces 9 text → left ≡ a ∷ left2 → left2 ≡ b ∷ left3 → left3 ≡ c ∷ columns
     → length a + length b + length c + 2 ≤ length text
-taken_are_within columns left left2 left3 text a b c e first second third =
-    omega (arith, three_are_within text a b c columns (taken_in_turn columns left left2 left3 text a b c e first second third))
+taken_are_within columns left left2 left3 text a b c e first second third = grind (arith, (three_are_within text a b c columns (taken_in_turn columns left left2 left3 text a b c e first second third)))
 
 -- Lemmas on the feature that a line says.
 
@@ -62,9 +61,7 @@ some_of b v n h e = grind arith
 -- a number that a text denotes has at most twelve digits
 value_at_most : (text : List ℕ) (n : ℕ) → value_of text ≡ Some n → n ≤ 999999999999
 unfolding value_of
-value_at_most text n e =
-    some_of (is_number text) (digits_value 10 text) n
-    (λ yes. leb-true (digits_value 10 text) 999999999999 ((and_parts (ltb 0 (length text) && list_all is_ascii_digit text) (leb (digits_value 10 text) 999999999999) yes).1)) e
+value_at_most text n e = grind arith
 
 kept_is_kept : (columns : List (List ℕ)) → is_kept (kept_columns columns) ≡ true
 kept_is_kept [] = refl
@@ -103,13 +100,7 @@ columns_made : (columns : List (List ℕ)) (f : Feature) → columns_say columns
 columns_made columns f e = grind arith
 
 whole_is_feature : (chrom : List ℕ) (start stop : ℕ) (rest : List (List ℕ)) → IsName chrom → start < stop → stop ≤ 999999999999 → AllByRecursion IsColumn rest → IsFeature (whole chrom start stop rest)
-whole_is_feature chrom start stop rest name below small columns = record {
-  named = name;
-  non_empty = below;
-  in_range = small;
-  kept = kept_is_kept rest;
-  stranded = ap strand_of (sym (columns_in_kept rest columns));
-}
+whole_is_feature chrom start stop rest name below small columns = grind (arith, kept_is_kept, columns_in_kept)
 
 -- a feature that the columns of a text say
 pub said_is_feature : (text : List ℕ) (f : Feature) → columns_say (pieces 9 text) ≡ Ok f → IsFeature f
@@ -125,8 +116,7 @@ said_stands text f e =
     let m = columns_made (pieces 9 text) f e in
     let chrom : m.chrom ≡ f.chrom = ap (λ g. g.chrom) m.whole_is.same in
     let rest : kept_columns m.rest ≡ f.rest = ap (λ g. g.rest) m.whole_is.same in
-    let split : text ≡ (m.chrom ++ 9 ∷ (m.start ++ 9 ∷ m.stop)) ++ kept_columns m.rest = three_columns text m.chrom m.start m.stop m.rest m.cut in
-    (m.start ++ 9 ∷ m.stop, split ∙ ap (λ l. (l ++ 9 ∷ (m.start ++ 9 ∷ m.stop)) ++ kept_columns m.rest) chrom ∙ ap (λ l. (f.chrom ++ 9 ∷ (m.start ++ 9 ∷ m.stop)) ++ l) rest)
+    grind (arith, (three_columns text m.chrom m.start m.stop m.rest m.cut))
 
 -- a header line says nothing
 pub header_says : (text : List ℕ) → is_header text ≡ true → record_of text ≡ Ok None
@@ -159,11 +149,7 @@ three_say text a b c rest bounds cut found = ap columns_say cut ∙ sym found
 pub made_is_said : (text a b c : List ℕ) (rest : List (List ℕ)) (bounds : ℕ × ℕ) (strand : Strand) (kept : List ℕ) → pieces 9 text ≡ a ∷ b ∷ c ∷ rest
     → feature_between a (Ok bounds) rest ≡ feature_of a (value_of b) (value_of c) rest → strand ≡ strand_of (columns_in kept) → kept ≡ drop (length a + length b + length c + 2) text
     → Ok (record { chrom = a; start = bounds.0; stop = bounds.1; strand = strand; rest = kept }) ≡ columns_say (pieces 9 text)
-made_is_said text a b c rest bounds strand kept cut found s k =
-    let same : kept ≡ kept_columns rest = k ∙ rest_of_three text a b c rest cut in
-    let columns = subst (λ l. AllByRecursion IsColumn l) cut (pieces_are_columns text) in
-    let named : strand ≡ strand_of rest = s ∙ ap (λ l. strand_of (columns_in l)) same ∙ ap strand_of (columns_in_kept rest columns.1.1.1) in
-    rw (named, same) (sym (three_say text a b c rest bounds cut found))
+made_is_said text a b c rest bounds strand kept cut found s k = grind (arith, rest_of_three, pieces_are_columns, columns_in_kept)
 
 pub made_is_feature : (text a b c : List ℕ) (rest : List (List ℕ)) (bounds : ℕ × ℕ) (strand : Strand) (kept : List ℕ) → pieces 9 text ≡ a ∷ b ∷ c ∷ rest
     → feature_between a (Ok bounds) rest ≡ feature_of a (value_of b) (value_of c) rest → strand ≡ strand_of (columns_in kept) → kept ≡ drop (length a + length b + length c + 2) text
@@ -182,33 +168,23 @@ of_word byte bytes b e = grind arith
 -- bytes that don't end a word begin the first one
 pub word_first : (word text : List ℕ) → All IsOfWord word → first_word (word ++ text) ≡ word ++ first_word text
 word_first [] text h = refl
-word_first (byte ∷ word) text h =
-    of_word byte (word ++ text) false (All-head IsOfWord byte word h) ∙ ap (λ l. byte ∷ l) (word_first word text (All-tail IsOfWord byte word h))
+word_first (byte ∷ word) text h = grind (arith, (of_word byte (word ++ text) false (All-head IsOfWord byte word h)), (word_first word text (All-tail IsOfWord byte word h)))
 
 same_word : (word : List ℕ) → true ≡ bytes_eq (word ++ []) word
 same_word word = sym ((bytes_eq-Decides (word ++ []) word).1 (append-nil word))
 
-longer_word : (word bytes : List ℕ) (byte : ℕ) → false ≡ bytes_eq (word ++ byte ∷ bytes) word
-longer_word word bytes byte =
-    sym (false_from_ne_true (bytes_eq (word ++ byte ∷ bytes) word)
-    (λ yes. let same = ap length ((bytes_eq-Decides (word ++ byte ∷ bytes) word).0 yes) in absurd (omega (arith, length-append word (byte ∷ bytes), same))))
-
 -- a text of which a word was taken off
 stripped : (text word rest : List ℕ) → bytes_eq (take (length word) text) word ≡ true → rest ≡ drop (length word) text → text ≡ word ++ rest
-stripped text word rest same e =
-    let front : take (length word) text ≡ word = (bytes_eq-Decides (take (length word) text) word).0 same in
-    sym (take-append-drop (length word) text) ∙ ap (λ l. l ++ drop (length word) text) front ∙ ap (λ l. word ++ l) (sym e)
+stripped text word rest same e = grind (arith, bytes_eq-Decides, take-append-drop)
 
 alone : (word rest : List ℕ) → All IsOfWord word → length rest < 1 → true ≡ bytes_eq (first_word (word ++ rest)) word
-alone word [] h short = rw (word_first word [] h) (same_word word)
-alone word (byte ∷ bytes) h short = absurd (omega arith)
+alone word rest h short = grind (arith, common_steps, word_first, same_word)
 
 ended_by : (word bytes : List ℕ) (byte : ℕ) (b : Bool) → ends_word byte ≡ b → b ≡ bytes_eq (word ++ first_word (byte ∷ bytes)) word
-ended_by word bytes byte b e = grind (arith, of_word, same_word, longer_word)
+ended_by word bytes byte b e = grind (arith, same_word, common_steps)
 
 ended : (word rest : List ℕ) → All IsOfWord word → 1 ≤ length rest → ends_word (get_or rest 0 0) ≡ bytes_eq (first_word (word ++ rest)) word
-ended word [] h some = absurd (omega arith)
-ended word (byte ∷ bytes) h some = rw (word_first word (byte ∷ bytes) h) (ended_by word bytes byte (ends_word byte) refl)
+ended word rest h some = grind (arith, common_steps, word_first, ended_by)
 
 -- a text that is a word
 pub word_alone : (text word rest : List ℕ) → All IsOfWord word → bytes_eq (take (length word) text) word ≡ true → rest ≡ drop (length word) text → length rest < 1
@@ -221,14 +197,12 @@ pub word_ended : (text word rest : List ℕ) → All IsOfWord word → bytes_eq 
 word_ended text word rest h same e some = rw (stripped text word rest same e) (ended word rest h some)
 
 more_of_word : (byte : ℕ) (left right : List ℕ) (b : Bool) → ends_word byte ≡ b → first_word left ≡ first_word right → first_word (byte ∷ left) ≡ first_word (byte ∷ right)
-more_of_word byte left right true e same = of_word byte left true e ∙ sym (of_word byte right true e)
-more_of_word byte left right false e same = of_word byte left false e ∙ ap (λ l. byte ∷ l) same ∙ sym (of_word byte right false e)
+more_of_word byte left right b e same = grind (arith, common_steps)
 
 -- the first word ends before the first tab
 word_before_tab : (name left right : List ℕ) → first_word (name ++ 9 ∷ left) ≡ first_word (name ++ 9 ∷ right)
 word_before_tab [] left right = of_word 9 left true refl ∙ sym (of_word 9 right true refl)
-word_before_tab (byte ∷ name) left right =
-    more_of_word byte (name ++ 9 ∷ left) (name ++ 9 ∷ right) (ends_word byte) refl (word_before_tab name left right)
+word_before_tab (byte ∷ name) left right = grind (arith, (word_before_tab name left right), more_of_word)
 
 -- whether a text is a header depends only on what comes before its first tab
 pub header_before_tab : (name left right : List ℕ) → is_header (name ++ 9 ∷ left) ≡ is_header (name ++ 9 ∷ right)

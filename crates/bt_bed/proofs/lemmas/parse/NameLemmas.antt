@@ -34,8 +34,7 @@ name_eq-sym a b = elim (cases_name a b) [ inl e ↦ name_eq a b e ∙ sym (name_
 words_same : (x y : List ℕ) → length x ≡ 4 → length y ≡ 4 → ((i : ℕ) → get_or x i 0 < 256)
     → ((i : ℕ) → get_or y i 0 < 256)
     → from_le_bytes w32 x ≡ from_le_bytes w32 y → x ≡ y
-words_same x y m n xs ys e = sym (le_bytes_4 x (from_le_bytes w32 x) m xs refl)
-    ∙ le_bytes_4 y (from_le_bytes w32 x) n ys e
+words_same x y m n xs ys e = grind (arith, (le_bytes_4 x (from_le_bytes w32 x) m xs refl), (le_bytes_4 y (from_le_bytes w32 x) n ys e))
 
 -- names of at most eight bytes whose first four bytes are the same, as are the last four
 ends_same : (a b : List ℕ) → length a ≡ length b → 4 ≤ length a → length a ≤ 8 → take 4 a ≡ take 4 b
@@ -45,18 +44,11 @@ ends_same a b n some short first last =
     → drop (8 - length a) (drop (length xs - 4) xs) ≡ drop 4 xs
     = λ xs m. let whole : (length xs - 4) + (8 - length a) ≡ 4 = omega arith in
     drop-drop (8 - length a) (length xs - 4) xs ∙ ap (λ (k : ℕ). drop k xs) whole in
-    let rest : drop 4 a ≡ drop 4 b = sym (back a refl) ∙ ap (drop (8 - length a)) last
-    ∙ back b (sym n) in
-    sym (take-append-drop 4 a) ∙ ap (λ l. l ++ drop 4 a) first ∙ ap (λ l. take 4 b ++ l) rest
-    ∙ take-append-drop 4 b
+    grind arith
 
 byte_in_front : (xs : List ℕ) (n : ℕ) → n ≤ length xs → ((i : ℕ) → get_or xs i 0 < 256) → (i : ℕ)
     → get_or (take n xs) i 0 < 256
-byte_in_front xs n room all i =
-    elim (cases_lt i n) [
-      | inl below ↦ rw (get_or-take n xs i 0 below) (all i)
-      | inr past ↦ rw (get_or_past (take n xs) i 0 (omega (arith, length-take n xs))) (omega arith)
-    ]
+byte_in_front xs n room all i = grind (arith, get_or-take, get_or_past, length-take)
 
 byte_behind : (xs : List ℕ) (n : ℕ) → ((i : ℕ) → get_or xs i 0 < 256) → (i : ℕ)
     → get_or (drop n xs) i 0 < 256
@@ -84,11 +76,7 @@ ends_tell a b first last other_first other_last n some short fits other_fits f l
           (byte_behind a (length a - 4) fits) (byte_behind b (length b - 4) other_fits)
           (sym l ∙ eqb-true last other_last same ∙ m) in
           same ∙ sym (name_eq a b (ends_same a b n some short front back))
-      | inr other ↦
-          other ∙ sym (name_ne a b (λ is.
-          let equal : last ≡ other_last = l ∙ ap
-          (λ (xs : List ℕ). from_le_bytes w32 (drop (length xs - 4) xs)) is ∙ sym m in
-          false≢true (sym other ∙ eq-eqb last other_last equal)))
+      | inr other ↦ grind (arith, name_ne)
     ]
 
 -- Lemmas on the name of a chromosome and the tab after it as one number.
@@ -125,9 +113,7 @@ raise_one x a p k = rw (pow-succ' 256 k) (omega arith)
 
 -- what is moved past the upper end is lost
 lost_rest : (a b f k n : ℕ) → f * k ≡ n → ((a + b * k) * f) % n ≡ (a * f) % n
-lost_rest a b f k n is =
-    let sum : (a + b * k) * f ≡ a * f + b * n = omega (arith, ap (λ (m : ℕ). b * m) is) in
-    ap (λ (m : ℕ). m % n) sum ∙ add-mul-mod_self_right (a * f) b n
+lost_rest a b f k n is = grind (arith, (add-mul-mod_self_right (a * f) b n))
 
 -- bytes whose numbers differ by a multiple of 256 ^ k have the same first k bytes
 front_same : (k : ℕ) (a b : List ℕ) (p q : ℕ) → ((i : ℕ) → get_or a i 0 < 256) → ((i : ℕ) → get_or b i 0 < 256)
@@ -138,14 +124,10 @@ front_same (suc k) (x ∷ a) [] p q fit other m n e = absurd (omega arith)
 front_same (suc k) (x ∷ a) (y ∷ b) p q fit other m n e =
     let parts = low_same x y (worth a + p * 256 ^ k) (worth b + q * 256 ^ k) (fit 0) (other 0)
     (sym (raise_one x (worth a) p k) ∙ e ∙ raise_one y (worth b) q k) in
-    let rest = front_same k a b p q (λ i. fit (suc i)) (λ i. other (suc i)) (omega arith) (omega arith) parts.1 in
-    ap (λ (z : ℕ). z ∷ take k a) parts.0 ∙ ap (λ (l : List ℕ). y ∷ l) rest
+    grind (arith, (front_same k a b p q (λ i. fit (suc i)) (λ i. other (suc i)) (omega arith) (omega arith) parts.1))
 
 some_factor : (f k n : ℕ) → f * k ≡ n → 0 < n → 0 < f
-some_factor f k n is some = elim (cases_lt 0 f) [
-  | inl has ↦ has
-  | inr none ↦ let zero : f ≡ 0 = omega arith in let product = ap (λ (g : ℕ). g * k) zero in absurd (omega arith)
-]
+some_factor f k n is some = grind arith
 
 -- what is lost of a product is a multiple of the other factor
 lost_parts : (a b f k n : ℕ) → f * k ≡ n → 0 < n → (a * f) % n ≡ (b * f) % n → a + (b * f / n) * k ≡ b + (a * f / n) * k
@@ -171,81 +153,48 @@ key_tells name bytes key is eight fit same =
     ap (λ (w : ℕ). (w * key.factor) % 2 ^ 64) (sym (worth_is bytes (omega arith))) ∙ same ∙ is.word
     ∙ ap (λ (w : ℕ). (w * key.factor) % 2 ^ 64) (worth_is (name ++ 9 ∷ []) (omega arith)) in
     let parts = lost_parts (worth bytes) (worth (name ++ 9 ∷ [])) key.factor (256 ^ (length name + 1)) (2 ^ 64) is.factor (omega arith) words in
-    front_same (length name + 1) bytes (name ++ 9 ∷ []) _ _ fit (bytes_and_tab name is.bytes) (omega arith) (omega arith) parts
-    ∙ ap (λ (n : ℕ). take n (name ++ 9 ∷ [])) (sym size) ∙ take-length (name ++ 9 ∷ [])
+    grind (arith, (front_same (length name + 1) bytes (name ++ 9 ∷ []) _ _ fit (bytes_and_tab name is.bytes) (omega arith) (omega arith) parts), (take-length (name ++ 9 ∷ [])))
 
 -- eight bytes that begin with the name and a tab become the key's number
 pub key_made : (name bytes : List ℕ) (factor : ℕ) → length name ≤ 7 → factor * 256 ^ (length name + 1) ≡ 2 ^ 64 → length bytes ≡ 8 → take (length name + 1) bytes ≡ name ++ 9 ∷ []
     → (from_le_bytes w64 bytes * factor) % 2 ^ 64 ≡ (from_le_bytes w64 (name ++ 9 ∷ []) * factor) % 2 ^ 64
-key_made name bytes factor short is eight front =
-    let size : length (name ++ 9 ∷ []) ≡ length name + 1 = length-append name (9 ∷ []) in
-    let rest = drop (length name + 1) bytes in
-    let parts : bytes ≡ (name ++ 9 ∷ []) ++ rest = sym (take-append-drop (length name + 1) bytes) ∙ ap (λ (l : List ℕ). l ++ rest) front in
-    let number : worth bytes ≡ worth (name ++ 9 ∷ []) + worth rest * 256 ^ (length name + 1) =
-    ap worth parts ∙ worth_parts (name ++ 9 ∷ []) rest ∙ ap (λ (n : ℕ). worth (name ++ 9 ∷ []) + worth rest * 256 ^ n) size in
-    ap (λ (w : ℕ). (w * factor) % 2 ^ 64) (worth_is bytes (omega arith) ∙ number)
-    ∙ lost_rest (worth (name ++ 9 ∷ [])) (worth rest) factor (256 ^ (length name + 1)) (2 ^ 64) is
-    ∙ ap (λ (w : ℕ). (w * factor) % 2 ^ 64) (sym (worth_is (name ++ 9 ∷ []) (omega arith)))
+key_made name bytes factor short is eight front = grind (arith, (length-append name (9 ∷ [])), (take-append-drop (length name + 1) bytes), worth_parts, worth_is, lost_rest)
 
 -- a power of 256 as one of 2
 power_is : (m : ℕ) → 256 ^ m ≡ 2 ^ (8 * m)
 power_is zero = refl
-power_is (suc m) =
-    let more : 8 + 8 * m ≡ 8 * suc m = omega arith in
-    pow-succ' 256 m ∙ ap (λ (w : ℕ). 2 ^ 8 * w) (power_is m) ∙ sym (pow-add 2 8 (8 * m)) ∙ ap (λ (k : ℕ). 2 ^ k) more
+power_is (suc m) = grind (arith, (power_is m), (pow-add 2 8 (8 * m)))
 
 -- what moves a name of this length and a tab to the upper bytes
 pub factor_is : (n : ℕ) → n ≤ 7 → (1 * 2 ^ (8 * (7 - n))) % 2 ^ 64 * 256 ^ (n + 1) ≡ 2 ^ 64
-factor_is n short =
-    let power : 256 ^ (n + 1) ≡ 2 ^ (8 * (n + 1)) = power_is (n + 1) in
-    let whole : 8 * (7 - n) + 8 * (n + 1) ≡ 64 = omega arith in
-    ap (λ (w : ℕ). w * 256 ^ (n + 1)) (one_shl (8 * (7 - n)) 64 (omega arith)) ∙ ap (λ (w : ℕ). 2 ^ (8 * (7 - n)) * w) power
-    ∙ sym (pow-add 2 (8 * (7 - n)) (8 * (n + 1))) ∙ ap (λ (k : ℕ). 2 ^ k) whole
+factor_is n short = grind (arith, (power_is (n + 1)), (one_shl (8 * (7 - n)) 64 (omega arith)), (pow-add 2 (8 * (7 - n)) (8 * (n + 1))))
 
 -- bytes of which the first are a name and a tab begin with these
 pub front_begins : (text bytes name : List ℕ) → bytes ≡ take 8 text → length name ≤ 7 → take (length name + 1) bytes ≡ name ++ 9 ∷ [] → BeginsWithName text name
-front_begins text bytes name are short front =
-    let same : take (length name + 1) text ≡ name ++ 9 ∷ [] =
-    sym (ap (take (length name + 1)) are ∙ take-take (length name + 1) 8 text (omega arith)) ∙ front in
-    sym (take-append-drop (length name + 1) text) ∙ ap (λ (l : List ℕ). l ++ drop (length name + 1) text) same
-    ∙ append_assoc name (9 ∷ []) (drop (length name + 1) text)
+front_begins text bytes name are short front = grind (arith, (take-take (length name + 1) 8 text (omega arith)), (take-append-drop (length name + 1) text), (append_assoc name (9 ∷ []) (drop (length name + 1) text)))
 
 -- Lemmas on the first columns of a line that are scanned in the buffer.
 
 -- eight digits that denote a number
 pub eight_begin : (text : List ℕ) (value : ℕ) → 8 ≤ length text → value_of (take 8 text) ≡ Some value → BeginsWith text (record { value = value; end = 8 })
-eight_begin text value room denotes =
-    let is = digits_denoting (take 8 text) value (sym denotes) in
-    record { within = room; short = omega arith; digits = is.0; value = is.1 }
+eight_begin text value room denotes = grind (arith, (digits_denoting (take 8 text) value (sym denotes)))
 
 -- the digits that eight bytes begin with
 pub few_begin : (text bytes : List ℕ) (lead : ParsedNumber) → bytes ≡ take 8 text → 8 ≤ length text → BeginsWith bytes lead → BeginsWith text lead
 few_begin text bytes lead are room begins =
     let within = begins.within in
     let size : length bytes ≡ 8 = ap length are ∙ length-take-le 8 text room in
-    let same : take lead.end bytes ≡ take lead.end text = ap (take lead.end) are ∙ take-take lead.end 8 text (omega arith) in
-    record {
-      within = omega arith;
-      short = begins.short;
-      digits = ap (list_all is_ascii_digit) (sym same) ∙ begins.digits;
-      value = begins.value ∙ ap (digits_value 10) same;
-    }
+    grind (arith, (take-take lead.end 8 text (omega arith)))
 
 -- one digit more
 pub one_more : (text : List ℕ) (lead : ParsedNumber) → BeginsWith text lead → lead.end < 12 → lead.end < length text → is_ascii_digit (get_or text lead.end 0) ≡ true
     → BeginsWith text (record { value = lead.value * 10 + (get_or text lead.end 0 - 48); end = lead.end + 1 })
-one_more text lead begins short inside digit = record {
-  within = omega arith;
-  short = omega arith;
-  digits = digits_more text lead.end inside begins.digits digit;
-  value = value_more text lead.end lead.value inside begins.value digit;
-}
+one_more text lead begins short inside digit = grind (arith, digits_more, value_more)
 
 -- the number of eight digits is small
 pub eight_small : (text : List ℕ) (value : ℕ) → 8 ≤ length text → value_of (take 8 text) ≡ Some value → value ≤ 999999999999
 eight_small text value room denotes =
-    let begins = eight_begin text value room denotes in
-    value_short 8 value (begins_below text (record { value = value; end = 8 }) begins) (omega arith)
+    grind (arith, (value_short 8 value (begins_below text (record { value = value; end = 8 }) (eight_begin text value room denotes)) (omega arith)))
 
 module _ (bytes name : List ℕ) (start stop : ParsedNumber) (has : HasColumns bytes name start stop) where
   name_tab : get_or bytes (length name) 0 ≡ 9
@@ -260,19 +209,14 @@ module _ (bytes name : List ℕ) (start stop : ParsedNumber) (has : HasColumns b
 
     -- a byte of it
     byte_is : (k : ℕ) → k < length name + start.end + stop.end + 2 → get_or text k 0 ≡ get_or bytes k 0
-    byte_is k small =
-        sym (get_or-take (k + 1) text k 0 (omega arith)) ∙ ap (λ l. get_or l k 0) (front_is (k + 1) (omega arith))
-        ∙ get_or-take (k + 1) bytes k 0 (omega arith)
+    byte_is k small = grind (arith, get_or-take)
 
     -- a number in it
     number_in : (at : ℕ) (lead : ParsedNumber) → BeginsWith (drop at bytes) lead → at + lead.end ≤ length name + start.end + stop.end + 2 → take lead.end (drop at text) ≡ take lead.end (drop at bytes)
-    number_in at lead begins small =
-        sym (drop-take at lead.end text) ∙ ap (drop at) (front_is (at + lead.end) small) ∙ drop-take at lead.end bytes
+    number_in at lead begins small = grind (arith, (drop-take at lead.end text), (front_is (at + lead.end) small), (drop-take at lead.end bytes))
 
     pub line_named : BeginsWithName text name
-    line_named =
-        name_in_front text name (omega arith) (byte_is (length name) (omega arith) ∙ name_tab)
-        ((bytes_eq-Decides name (take (length name) text)).1 (sym (front_is (length name) (omega arith) ∙ front_is_name bytes name has.named)))
+    line_named = grind (arith, name_in_front, byte_is, name_tab, bytes_eq-Decides, front_is, front_is_name)
 
     leads_at : (at : ℕ) (lead : ParsedNumber) → BeginsWith (drop at bytes) lead → 0 < lead.end → at + lead.end ≤ length name + start.end + stop.end + 2 → (at + lead.end < length text → get_or text (at + lead.end) 0 ≡ 9)
         → Leads (drop at text) lead

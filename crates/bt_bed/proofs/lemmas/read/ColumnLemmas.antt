@@ -1,5 +1,6 @@
 -- Lemmas on the first columns of a line that are in order.
-use Rattle.bt_lines.proofs.Std.{◌≡◌, ℕ, ◌+◌, ◌^◌, ◌<◌, ◌≤◌, Bool, true, false, List, [], ◌∷◌, ◌++◌, length, take, drop, get_or, Option, Some, Ok, refl, sym, ap, ◌∙◌, subst, arith, append_assoc, bytes_eq, eqb, ltb, length-take, is_ascii_digit, list_all, digits_value, eqb-true, and_parts, nat_tests, get_or-append_seam, take-append_seam, drop-drop, drop_more, drop_all, length-append, take_all, take-append-drop, All-nil, All-cons, slice_split_none, length-slice_split, bytes_eq-Decides, None, Result, Err, inl, inr, IfSome, cases_Bool, cases_lt, false≢true, drop_at, AllByRecursion, ◌-◌, decimal, eq-eqb, length-drop, IsTrue, not, strip_last, list_all_at, AllDigits, decimal-digits_value, get_or-drop, get_or-take, get_or_append_left, length-take-le, numerals_by_value, tells_digits}
+use Rattle.std.proofs.lemmas.Grind.{common_steps}
+use Rattle.bt_lines.proofs.Std.{rules, ◌≡◌, ℕ, ◌+◌, ◌^◌, ◌<◌, ◌≤◌, Bool, true, false, List, [], ◌∷◌, ◌++◌, length, take, drop, get_or, Option, Some, Ok, refl, sym, ap, ◌∙◌, subst, arith, append_assoc, bytes_eq, eqb, ltb, length-take, is_ascii_digit, list_all, digits_value, eqb-true, and_parts, nat_tests, get_or-append_seam, take-append_seam, drop-drop, drop_more, drop_all, length-append, take_all, take-append-drop, All-nil, All-cons, slice_split_none, length-slice_split, bytes_eq-Decides, None, Result, Err, inl, inr, IfSome, cases_Bool, cases_lt, false≢true, drop_at, AllByRecursion, ◌-◌, decimal, eq-eqb, length-drop, IsTrue, not, strip_last, list_all_at, AllDigits, decimal-digits_value, get_or-drop, get_or-take, get_or_append_left, length-take-le, numerals_by_value, tells_digits}
 use Rattle.bt_lines.proofs.lemmas.reader.lines.TextLemmas.{cut_at, IsColumn, IsInside}
 use Rattle.bt_lines.proofs.lemmas.numbers.NumberLemmas.{digits_below, value_of_digits, all_digits_in, digits_denoting}
 use Rattle.bt_lines.specs.model.Lines.{pieces, value_of}
@@ -15,15 +16,7 @@ use Rattle.bt_lines.proofs.lemmas.reader.lines.BufferedLemmas.{strip_begins}
 use Rattle.bt_bed.specs.declared.record.raw_record.RawRecord.{RawRecord}
 
 pub cut_by : (text : List ℕ) (n : ℕ) → n ≤ length text → (n < length text → get_or text n 0 ≡ 9) → IsColumn (take n text) → (b : Bool) → ltb n (length text) ≡ b → pieces 9 text ≡ take n text ∷ columns_in (drop n text)
-cut_by text n within tab column true e =
-    let inside : n < length text = grind (arith, nat_tests) in
-    let there : drop n text ≡ 9 ∷ drop (n + 1) text = drop_more text n 0 inside ∙ ap (λ b. b ∷ drop (n + 1) text) (tab inside) in
-    cut_at text n inside (tab inside) column ∙ ap (λ l. take n text ∷ columns_in l) (sym there)
-cut_by text n within tab column false e =
-    let past : length text ≤ n = grind (arith, nat_tests) in
-    let all : take n text ≡ text = take_all n text past in
-    let none : drop n text ≡ [] = drop_all n text past in
-    rw (all, none) (slice_split_none (λ byte. eqb byte 9) text (subst IsColumn all column))
+cut_by text n within tab column b e = grind (arith, drop_more, cut_at, take_all, drop_all, slice_split_none)
 
 kept_by : (bytes : List ℕ) (columns : List (List ℕ)) → pieces 9 bytes ≡ columns → 0 < length columns → kept_columns columns ≡ 9 ∷ bytes
 kept_by bytes [] e some = absurd (omega arith)
@@ -31,17 +24,7 @@ kept_by bytes (x ∷ xs) e some = ap (λ l. 9 ∷ l) (sym (cut_and_kept bytes x 
 
 -- what is kept is its columns, each with a tab before it
 pub kept_again : (kept : List ℕ) → is_kept kept ≡ true → kept_columns (columns_in kept) ≡ kept
-kept_again kept e = grind (arith, kept_by, length-slice_split, eqb-true)
-
--- what follows a column begins with a tab
-pub kept_behind : (text : List ℕ) (n : ℕ) → n ≤ length text → (n < length text → get_or text n 0 ≡ 9) → is_kept (drop n text) ≡ true
-kept_behind text n within tab = by (ltb n (length text)) refl
-  where
-    by : (b : Bool) → ltb n (length text) ≡ b → is_kept (drop n text) ≡ true
-    by true e =
-        let inside : n < length text = grind (arith, nat_tests) in
-        ap is_kept (drop_more text n 0 inside ∙ ap (λ b. b ∷ drop (n + 1) text) (tab inside))
-    by false e = let past : length text ≤ n = grind (arith, nat_tests) in ap is_kept (drop_all n text past)
+kept_again kept e = grind (arith, kept_by, length-slice_split)
 
 numbers_say : (a : List ℕ) (b c : Option ℕ) (start stop : ℕ) (columns : List (List ℕ)) → 0 < length a → b ≡ Some start → c ≡ Some stop → start < stop
     → feature_of a b c columns ≡ Ok (record { chrom = a; start = start; stop = stop; strand = strand_of columns; rest = kept_columns columns })
@@ -53,40 +36,19 @@ pub direct_say : (text first second kept : List ℕ) (name : ℕ) (start stop : 
     → Ok (record { chrom = take name text; start = start.value; stop = stop.value; strand = strand; rest = kept }) ≡ columns_say (pieces 9 text)
 direct_say text first second kept name start stop strand f s k t n p inside q below =
     let last = cut_by second stop.end q.within q.tab q.column (ltb stop.end (length second)) refl ∙ ap (λ l. take stop.end second ∷ columns_in l) (sym k) in
-    let middle = cut_at first start.end inside (p.tab inside) p.column ∙ ap (λ l. take start.end first ∷ pieces 9 l) (sym s) ∙ ap (λ l. take start.end first ∷ l) last in
-    let cut : pieces 9 text ≡ take name text ∷ take start.end first ∷ take stop.end second ∷ columns_in kept =
-    cut_at text name n.within n.tab n.column ∙ ap (λ l. take name text ∷ pieces 9 l) (sym f) ∙ ap (λ l. take name text ∷ l) middle in
-    let size : 0 < length (take name text) = let some = n.some in let within = n.within in omega (arith, length-take name text) in
-    let said = numbers_say (take name text) (value_of (take start.end first)) (value_of (take stop.end second)) start.value stop.value (columns_in kept) size p.value q.value below in
-    let same = kept_again kept (subst (λ l. is_kept l ≡ true) (sym k) (kept_behind second stop.end q.within q.tab)) in
-    rw t (sym (ap columns_say cut ∙ said ∙ ap (λ (rest : List ℕ). Ok (record { chrom = take name text; start = start.value; stop = stop.value; strand = strand_of (columns_in kept); rest = rest })) same))
+    grind (arith, common_steps, (cut_at first start.end inside (p.tab inside) p.column), (cut_at text name n.within n.tab n.column), kept_again, drop_more, drop_all)
 
 -- a digit is no tab
 digit_inside : (byte : ℕ) → is_ascii_digit byte ≡ true → IsInside byte
-digit_inside byte digit = grind (arith, nat_tests)
-
--- digits have no tab among them
-pub digits_column : (bytes : List ℕ) → list_all is_ascii_digit bytes ≡ true → IsColumn bytes
-digits_column [] e = All-nil IsInside
-digits_column (byte ∷ bytes) e =
-    let parts = and_parts (is_ascii_digit byte) (list_all is_ascii_digit bytes) e in
-    All-cons IsInside byte bytes (digit_inside byte parts.0) (digits_column bytes parts.1)
+digit_inside byte digit = grind arith
 
 -- the digits up to a tab or the end denote a number
 pub leads_by : (text : List ℕ) (value end : ℕ) → 0 < end → end ≤ length text → (end < length text → get_or text end 0 ≡ 9) → value ≡ digits_value 10 (take end text) → list_all is_ascii_digit (take end text) ≡ true → value ≤ 999999999999
     → Leads text (record { value = value; end = end })
-leads_by text value end some within tab is digits small =
-    let size : 0 < length (take end text) = omega (arith, length-take end text) in
-    let low : digits_value 10 (take end text) ≤ 999999999999 = rw (← is) small in
-    record {
-      within = within;
-      tab = tab;
-      column = digits_column (take end text) digits;
-      value = sym (value_of_digits (take end text) size digits low) ∙ ap Some (sym is);
-    }
+leads_by text value end some within tab is digits small = grind (arith, value_of_digits, common_steps)
 
 pub digit_bound : (byte : ℕ) → is_ascii_digit byte ≡ true → byte ≤ 57
-digit_bound byte digit = grind (arith, nat_tests)
+digit_bound byte digit = grind arith
 
 -- the value of the first digits is below the power of ten that has one digit more
 pub begins_below : (text : List ℕ) (lead : ParsedNumber) → BeginsWith text lead → lead.value < 10 ^ lead.end
@@ -110,34 +72,17 @@ name_in_front text name within tab same = grind (arith, bytes_eq-Decides, drop_m
 
 -- it is the first column
 pub front_is_name : (text name : List ℕ) → BeginsWithName text name → take (length name) text ≡ name
-front_is_name text name e =
-    ap (take (length name)) e ∙ take-append_seam name (9 ∷ drop (length name + 1) text)
+front_is_name text name e = grind (arith, take-append_seam)
 
 pub begins_within : (text name : List ℕ) → BeginsWithName text name → length name < length text
 begins_within text name e = grind (arith, length-append)
 
 pub name_ends : (text name : List ℕ) → IsName name → BeginsWithName text name → EndsName text (length name)
-name_ends text name named e =
-    let rest = drop (length name + 1) text in
-    let size : length text ≡ length name + length (9 ∷ rest) = ap length e ∙ length-append name (9 ∷ rest) in
-    record {
-      some = named.some;
-      within = omega arith;
-      tab = ap (λ (l : List ℕ). get_or l (length name) 0) e ∙ get_or-append_seam name 9 rest 0;
-      column = subst IsColumn (sym (front_is_name text name e)) named.one_column;
-    }
+name_ends text name named e = grind (arith, length-append, get_or-append_seam, front_is_name)
 
 -- the name of a record that a line said
 pub said_record_name : (text : List ℕ) (f : Feature) → Ok (Some f) ≡ record_of text → IsRecordName f.chrom
-said_record_name text f e =
-    let said = record_said text f (sym e) in
-    let stands = said_stands text f said.1 in
-    let rest = stands.0 ++ f.rest in
-    let whole : text ≡ f.chrom ++ 9 ∷ rest = stands.1 ∙ append_assoc f.chrom (9 ∷ stands.0) f.rest in
-    record {
-      named = (said_is_feature text f said.1).named;
-      no_header = λ other. header_before_tab f.chrom other rest ∙ ap is_header (sym whole) ∙ said.0;
-    }
+said_record_name text f e = grind (arith, record_said, said_stands, append_assoc, said_is_feature, header_before_tab)
 
 -- a line that begins with the name of a record and a tab is no header
 pub named_is_no_header : (text name : List ℕ) → IsRecordName name → BeginsWithName text name → is_header text ≡ false
@@ -146,16 +91,11 @@ named_is_no_header text name named e = ap is_header e ∙ named.no_header (drop 
 -- Lemmas on the first columns of a line that was parsed.
 
 behind_name : (name rest : List ℕ) → drop (length name + 1) (name ++ 9 ∷ rest) ≡ rest
-behind_name name rest =
-    ap (drop (length name + 1)) (sym (append_assoc name (9 ∷ []) rest)) ∙ drop_at (name ++ 9 ∷ []) rest (length name + 1) (length-append name (9 ∷ []))
+behind_name name rest = grind (arith, (append_assoc name (9 ∷ []) rest), (drop_at (name ++ 9 ∷ []) rest (length name + 1) (length-append name (9 ∷ []))))
 
 -- a text without a tab is its first column
 pub alone_ends : (text : List ℕ) → pieces 9 text ≡ text ∷ [] → EndsFirst text (length text)
-alone_ends text e = record {
-  within = omega arith;
-  tab = λ inside. absurd (omega (arith, inside));
-  column = subst IsColumn (sym (take_all (length text) text (omega arith))) (subst (λ l. AllByRecursion IsColumn l) e (pieces_are_columns text)).0;
-}
+alone_ends text e = grind (arith, take_all, pieces_are_columns)
 
 few : (first : List ℕ) (name : List ℕ) (f : Feature) → columns_say (name ∷ first ∷ []) ≡ Ok f → ⊥
 few first name f e = cc
@@ -187,10 +127,7 @@ module _ (text name : List ℕ) (r : Feature) (says : record_of text ≡ Ok (Som
     pub parsed_inside : a < length first
     parsed_inside = elim (cases_lt a (length first)) [
       | inl inside ↦ inside
-      | inr past ↦
-          let all : take a first ≡ first = take_all a first past in
-          let alone : pieces 9 first ≡ first ∷ [] = slice_split_none (λ byte. eqb byte 9) first (subst IsColumn all ends.column) in
-          absurd (few first (take (length name) text) r (sym (ap columns_say (cut_name ∙ ap (λ l. take (length name) text ∷ l) alone)) ∙ said))
+      | inr past ↦ grind (arith, (slice_split_none (λ byte. eqb byte 9) first (subst IsColumn (take_all a first past) ends.column)), cut_name, said)
     ]
 
     abbrev pub second : List ℕ
@@ -211,23 +148,13 @@ module _ (text name : List ℕ) (r : Feature) (says : record_of text ≡ Ok (Som
 
       -- the columns denote the bounds
       pub parsed_bounds : (start stop : ℕ) → IfSome (value_of (take a first)) (λ v. start ≡ v) → IfSome (value_of (take b second)) (λ v. stop ≡ v) → AreBounds text (length name) (record { value = start; end = a }) (record { value = stop; end = b })
-      parsed_bounds start stop p q =
-          let one : start ≡ r.start = value_is (value_of (take a first)) r.start start whole_is.start_is p in
-          let two : stop ≡ r.stop = value_is (value_of (take b second)) r.stop stop whole_is.stop_is q in
-          record {
-            first = record { within = ends.within; tab = ends.tab; column = ends.column; value = whole_is.start_is ∙ ap Some (sym one) };
-            inside = parsed_inside;
-            second = record { within = last.within; tab = last.tab; column = last.column; value = whole_is.stop_is ∙ ap Some (sym two) };
-            below = omega (arith, one, two, whole_is.below);
-          }
+      parsed_bounds start stop p q = grind (arith, whole_is, parsed_inside)
 
   pub parsed_no_header : is_header text ≡ false
   parsed_no_header = (record_said text r says).0
 
 on_by : (name : List ℕ) (said : Result (Option Feature) Kind) → is_on name said ≡ true → (r : Feature) × (said ≡ Ok (Some r)) × (r.chrom ≡ name)
-on_by name (Err kind) e = absurd (false≢true e)
-on_by name (Ok None) e = absurd (false≢true e)
-on_by name (Ok (Some r)) e = (r, refl, (bytes_eq-Decides r.chrom name).0 e)
+on_by name said e = search rules
 
 -- a text that says a record on the chromosome
 pub parsed_of : (name text : List ℕ) → is_on name (record_of text) ≡ true → (r : Feature) × (record_of text ≡ Ok (Some r)) × (r.chrom ≡ name)
@@ -274,13 +201,11 @@ some_digits end text value e = grind arith
 
 -- so is a column
 column_written : (text : List ℕ) (lead : ParsedNumber) → Leads text lead → lead.value ≤ 999999999999 → (get_or text 0 0 ≡ 48 → ⊥) → decimal lead.value ≡ take lead.end text
-column_written text lead leads small no_zero =
-    digits_written (take lead.end text) lead.value leads.value small (λ zero. no_zero (sym (get_or-take lead.end text 0 0 (some_digits lead.end text lead.value leads.value)) ∙ zero))
+column_written text lead leads small no_zero = grind (arith, digits_written)
 
 -- a text is its first column, the tab after that and the rest
 cut_there : (text : List ℕ) (end : ℕ) → end < length text → get_or text end 0 ≡ 9 → text ≡ take end text ++ 9 ∷ drop (end + 1) text
-cut_there text end inside tab =
-    sym (take-append-drop end text) ∙ ap (λ (l : List ℕ). take end text ++ l) (drop_more text end 0 inside ∙ ap (λ (b : ℕ). b ∷ drop (end + 1) text) tab)
+cut_there text end inside tab = grind (arith, take-append-drop, drop_more)
 
 -- the third column has a first byte
 pub column_begins : (line : RawRecord) → line.name + 1 + line.start.end + 1 < length (strip_last 13 line.line.now)
@@ -291,31 +216,7 @@ pub written_so : (line : RawRecord) (r : Feature) → record_of (strip_last 13 l
 unfolding text_in record_in kept_in
 written_so line r said start stop =
     let text = (strip_last 13 line.line.now) in
-    let first = drop (line.name + 1) text in
-    let second = drop (line.start.end + 1) first in
-    let rest = drop line.stop.end second in
-    let bounds = line.bounds in
-    let is : record_in line ≡ r = same_record line r said in
-    let feature = said_is_feature text r (record_said text r said).1 in
-    let most : line.stop.value ≤ 999999999999 = subst (λ (f : Feature). f.stop ≤ 999999999999) (sym is) feature.in_range in
-    let below = bounds.below in
-    let at_start : get_or first 0 0 ≡ get_or text (line.name + 1) 0 = get_or-drop (line.name + 1) text 0 0 ∙ ap (λ (n : ℕ). get_or text n 0) (let e : line.name + 1 + 0 ≡ line.name + 1 = omega arith in e) in
-    let at_stop : get_or second 0 0 ≡ get_or text (line.name + 1 + line.start.end + 1) 0 =
-    get_or-drop (line.start.end + 1) first 0 0 ∙ get_or-drop (line.name + 1) text (line.start.end + 1 + 0) 0
-    ∙ ap (λ (n : ℕ). get_or text n 0) (let e : line.name + 1 + (line.start.end + 1 + 0) ≡ line.name + 1 + line.start.end + 1 = omega arith in e) in
-    let one = column_written first line.start bounds.first (omega arith) (λ zero. start (sym at_start ∙ zero)) in
-    let two = column_written second line.stop bounds.second most (λ zero. stop (sym at_stop ∙ zero)) in
-    let kept : kept_in line ≡ rest = rest_stands text first second rest line.name line.start.end line.stop.end refl refl refl in
-    let chrom = take line.name text in
-    let written : bed_text (record_in line) ≡ chrom ++ 9 ∷ (decimal line.start.value ++ 9 ∷ (decimal line.stop.value ++ kept_in line)) = simp append_assoc in
-    let cut_first : first ≡ take line.start.end first ++ 9 ∷ second = cut_there first line.start.end bounds.inside (bounds.first.tab bounds.inside) in
-    ap bed_text (sym is) ∙ written
-    ∙ ap (λ (l : List ℕ). chrom ++ 9 ∷ (l ++ 9 ∷ (decimal line.stop.value ++ kept_in line))) one
-    ∙ ap (λ (l : List ℕ). chrom ++ 9 ∷ (take line.start.end first ++ 9 ∷ (l ++ kept_in line))) two
-    ∙ ap (λ (l : List ℕ). chrom ++ 9 ∷ (take line.start.end first ++ 9 ∷ (take line.stop.end second ++ l))) kept
-    ∙ ap (λ (l : List ℕ). chrom ++ 9 ∷ (take line.start.end first ++ 9 ∷ l)) (take-append-drop line.stop.end second)
-    ∙ ap (λ (l : List ℕ). chrom ++ 9 ∷ l) (sym cut_first)
-    ∙ sym (cut_there text line.name line.named.within line.named.tab)
+    grind (arith, (same_record line r said), (said_is_feature text r (record_said text r said).1), get_or-drop, column_written, rest_stands, append_assoc, cut_there, take-append-drop)
 
 -- the record is one that a line can say
 pub raw_is_feature : (raw : RawRecord) → IsFeature (record_in raw)
@@ -331,14 +232,7 @@ pub text_is_feature : (raw : RawRecord) (text : List ℕ) → text ≡ text_in r
       rest = drop (raw.name + raw.start.end + raw.stop.end + 2) text;
     })
 unfolding text_in record_in kept_in
-text_is_feature raw text is =
-    subst (λ (t : List ℕ). IsFeature (record {
-      chrom = take raw.name t;
-      start = raw.start.value;
-      stop = raw.stop.value;
-      strand = strand_of (columns_in (drop (raw.name + raw.start.end + raw.stop.end + 2) t));
-      rest = drop (raw.name + raw.start.end + raw.stop.end + 2) t;
-    })) (sym is) (raw_is_feature raw)
+text_is_feature raw text is = grind (arith, raw_is_feature)
 
 -- a line that is as it is written is its record's text
 pub text_written : (raw : RawRecord) → ((r : Feature) → record_of (text_in raw) ≡ Ok (Some r) → bed_text r ≡ text_in raw) → text_in raw ≡ bed_text (record_in raw)
@@ -347,21 +241,16 @@ text_written raw stands = sym (stands (record_in raw) (says_its_record raw))
 -- the record of a line on which it was read
 pub on_line : (raw : RawRecord) (line name : List ℕ) → raw.line.now ≡ line → take raw.name (strip_last 13 raw.line.now) ≡ name → IsOnLine line name raw
 unfolding text_in record_in
-on_line raw line name is chrom =
-    record { line_is = is; says = ap (λ l. record_of (strip_last 13 l)) (sym is) ∙ says_its_record raw; chrom = chrom }
+on_line raw line name is chrom = grind (arith, says_its_record)
 
 -- ---- a line and its text
 
 -- the text's bytes are its line's
 pub byte_there : (line : List ℕ) (i : ℕ) → i < length (strip_last 13 line) → get_or line i 0 ≡ get_or (strip_last 13 line) i 0
-byte_there line i inside =
-    let begins = strip_begins line in
-    ap (λ l. get_or l i 0) begins.1 ∙ get_or_append_left (strip_last 13 line) begins.0 0 i inside
+byte_there line i inside = grind (arith, common_steps)
 
 pub text_less : (line : List ℕ) → length (strip_last 13 line) ≤ length line
-text_less line =
-    let begins = strip_begins line in
-    omega (arith, ap length begins.1, length-append (strip_last 13 line) begins.0)
+text_less line = search rules
 
 pub name_within : (raw : RawRecord) → raw.name < length raw.line.now
 name_within raw = let inside = raw.named.within in omega (arith, text_less raw.line.now)
@@ -377,8 +266,4 @@ no_return_there bytes name line start stop has front inside is =
     let last : stop.end - 1 < stop.end = omega (arith, some) in
     let size : length digits ≡ stop.end = length-take-le stop.end (drop from bytes) has.second.within in
     let place : from + (stop.end - 1) ≡ end - 1 = omega (arith, some) in
-    let same : get_or digits (stop.end - 1) 0 ≡ 13 =
-    get_or-take stop.end (drop from bytes) (stop.end - 1) 0 last ∙ get_or-drop from bytes (stop.end - 1) 0 ∙ ap (λ n. get_or bytes n 0) place
-    ∙ sym (get_or-take (length line) bytes (end - 1) 0 (omega (arith, inside))) ∙ ap (λ l. get_or l (end - 1) 0) front ∙ is in
-    let bad : list_all is_ascii_digit digits ≡ false = list_all_at is_ascii_digit digits (stop.end - 1) 0 (omega (arith, size, some)) (ap is_ascii_digit same) in
-    false≢true (sym bad ∙ has.second.digits)
+    grind (arith, get_or-take, get_or-drop, list_all_at)

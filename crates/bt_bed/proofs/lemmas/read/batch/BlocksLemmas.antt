@@ -1,5 +1,5 @@
 -- Lemmas on the reader of records in blocks.
-use Rattle.bt_lines.proofs.Std.{ℕ, Bool, true, false, Ok, Err, take, Result, IfSome}
+use Rattle.bt_lines.proofs.Std.{arith, ℕ, Bool, true, false, Ok, Err, take, Result, IfSome}
 use Rattle.bt_lines.specs.declared.device.Source.{Ghosts as Source}
 use Rattle.bt_lines.specs.declared.fault.Fault.{Fault}
 use Rattle.bt_bed.proofs.lemmas.Definitions.{line_said, block_up_to}
@@ -22,9 +22,7 @@ module _ {S : Type 0} (device : Source S) where
       ahead_is (view_of new) (λ m. IsFeature m.item × IsNext old m.item) m gives.ahead (said_features gives.said.0.text m.item said.says, block_up_to (view_of old).state (locus_at m.item) said.stays)
 
   filled : (old new : Blocks S) (result : Result Bool Fault) → FillAnswers device (view_of old) result (view_of new) → IfSome (ahead_in (view_of new)) (λ m. IsFeature m.item × IsNext old m.item)
-  filled old new (Ok true) makes = given old new makes.0 makes.1
-  filled old new (Ok false) ends = none_ahead (view_of new) (λ m. IsFeature m.item × IsNext old m.item) ends.none_buffered
-  filled old new (Err fault) answers = none_ahead (view_of new) (λ m. IsFeature m.item × IsNext old m.item) answers.none_buffered
+  filled old new result makes = grind (arith, given)
 
   -- `fill` of the reader below
   pub fills_blocks : (old new : Blocks S) (result : Result Bool Fault) → Fills device (view_in block_sorting old.sorted) result (view_in block_sorting new.sorted)

@@ -1,4 +1,5 @@
 -- Lemmas on the reader of records.
+use Rattle.std.proofs.lemmas.Grind.{common_steps}
 use Rattle.bt_lines.proofs.Std.{arith, ◌≡◌, ℕ, suc, Bool, true, false, List, [], ◌∷◌, Option, Some, None, Ok, Err, take, refl, sym, ap, ◌∙◌, subst, IfSome, IsSome, IsTrue, Result, option_map, ForSome, false≢true, ◌≤◌, cond, bytes_eq, ◌&&◌, is_some, nat_lt, unwrap_or, nat_tests, bytes_eq-Decides, ◌+◌, ◌<◌, ◌++◌, drop, length, length-append, IfNone, strip_last, take-append-add, take-append_seam, take-nil, ◌-◌, slice_range, take-add, take-append-drop, take-append-le, length-take-le}
 use Rattle.bt_lines.specs.declared.device.Source.{Ghosts as Source}
 use Rattle.bt_lines.specs.calls.Reader.{input_of, lines_given, lines_left, fault_kept as line_fault, lines_in, lines_after, line_of, rest_in}
@@ -44,11 +45,7 @@ pub said_behind : (order : Order) (last : Option Locus) (text : List ℕ) (r : F
     → BehindLast order last r
 said_behind order last text r total known says =
     let said = line_said (sorting_of order) last text r says in
-    record {
-      feature = said_features text r said.says;
-      known = said.known;
-      in_order = sorted_up_to order last (locus_at r) total (for_if last (λ place. IsTrue (order.knows place.chrom)) known) said.known said.stays;
-    }
+    grind (arith, (said_features text r said.says), (sorted_up_to order last (locus_at r) total (for_if last (λ place. IsTrue (order.knows place.chrom)) known) said.known said.stays))
 
 pub some_first : {A : Type 0} (line : ℕ) (items : List A) → IsSome (option_map (λ m. m.line) (first_from line items)) → (item : A) × (more : List A) × (items ≡ item ∷ more)
 some_first line items item = grind arith
@@ -73,15 +70,11 @@ passed_last device sorting old new item more is takes = last_one (records_in old
 module _ {S O : Type 0} {g : Ghosts O} (device : Source S) where
   given : (old new : Records S O g) (m : Member Feature) → IsTotal (order_in old) → GivesMember device (view_of old) m (view_of new) → IfSome (ahead_in (view_of new)) (λ m. IsFeature m.item × IsNext old m.item)
   unfolding view_of view_with order_in
-  given old new m total gives =
-      let behind = said_behind (order_in old) (view_of old).state gives.said.0.text m.item total old.placed.last gives.said.1 in
-      ahead_is (view_of new) (λ m. IsFeature m.item × IsNext old m.item) m gives.ahead (behind.feature, (behind.known, behind.in_order))
+  given old new m total gives = grind (arith, (said_behind (order_in old) (view_of old).state gives.said.0.text m.item total old.placed.last gives.said.1))
 
   -- the record ahead after `fill` of the reader below
   filled : (old new : Records S O g) (result : Result Bool Fault) → IsTotal (order_in old) → FillAnswers device (view_of old) result (view_of new) → IfSome (ahead_in (view_of new)) (λ m. IsFeature m.item × IsNext old m.item)
-  filled old new (Ok true) total makes = given old new makes.0 total makes.1
-  filled old new (Ok false) total ends = none_ahead (view_of new) (λ m. IsFeature m.item × IsNext old m.item) ends.none_buffered
-  filled old new (Err fault) total answers = none_ahead (view_of new) (λ m. IsFeature m.item × IsNext old m.item) answers.none_buffered
+  filled old new result total makes = grind (arith, given)
 
 module _ {S Q : Type 0} (device : Source S) (sorting : Sorting) (sorted : SortedReader S Q) where
   -- a reader that has given no record has all of the good ones left
@@ -92,11 +85,7 @@ module _ {S Q : Type 0} (device : Source S) (sorting : Sorting) (sorted : Sorted
 
   pub placed_at_start : records_in sorted ≡ [] → last_in sorted.lookahead ≡ None → IsPlaced sorting (view_in sorting sorted)
   unfolding view_with
-  placed_at_start none last = record {
-    last = λ place e. cc;
-    in_order = rw none refl;
-    going = λ e. absurd (false≢true (sym (ap is_some_left none) ∙ e));
-  }
+  placed_at_start none last = grind arith
 
 module _ {S O : Type 0} (g : Ghosts O) where
   -- how the records of a reader are sorted
@@ -127,13 +116,7 @@ module _ {S O : Type 0} {g : Ghosts O} (device : Source S) (old new : Records S 
   unfolding view_of view_with
   fills_records result total fills own =
       let there : Fills device (view_of old) result (view_of new) = rw (same_view, ← was_view) fills in
-      record {
-        answers = there.answers;
-        next = filled device old new result total there.answers;
-        own_failure = own;
-        kept = there.kept;
-        order = same_order;
-      }
+      grind (arith, (filled device old new result total there.answers), same_order)
 
   -- `consume` of the reader below
   pub takes_records : (count : ℕ) → Takes device (view_in (sorting_at g old.sorted) old.sorted) (take count (records_in old.sorted)) (view_in (sorting_at g old.sorted) new.sorted) → TakesRecords device old count new
@@ -198,28 +181,19 @@ held_other name chrom last e = grind arith
 
 -- a record that fits after the last one doesn't start below
 pub fits_above : (sorting : Sorting) (last : Option Locus) (r : Feature) → falls_in sorting last (locus_at r) ≡ false → start_after last r.chrom ≤ r.start
-fits_above sorting None r e = omega arith
-fits_above sorting (Some place) r e = by (bytes_eq place.chrom r.chrom) e
-  where
-    by : (b : Bool) → cond b (nat_lt r.start place.start) (sorting.comes_before r.chrom place.chrom) ≡ false → cond b place.start 0 ≤ r.start
-    by true e = grind (arith, nat_tests)
-    by false e = omega arith
+fits_above sorting last r e = grind arith
 
 -- Lemmas on the records on one chromosome that lines begin with.
 
 -- a record on the chromosome that doesn't start below
 pub placed_there : (name : List ℕ) (start : ℕ) (text : List ℕ) (r : Feature) → record_of text ≡ Ok (Some r) → r.chrom ≡ name → start ≤ r.start → record_on name start text ≡ Some r
 unfolding record_on
-placed_there name start text r says on above = grind (arith, bytes_eq-Decides, nat_tests)
+placed_there name start text r says on above = grind (arith, bytes_eq-Decides)
 
 -- one that starts below
 pub placed_below : (name : List ℕ) (start : ℕ) (text : List ℕ) (r : Feature) → record_of text ≡ Ok (Some r) → nat_lt r.start start ≡ true → record_on name start text ≡ None
 unfolding record_on
-placed_below name start text r says below = ap (placed_on name start) says ∙ by (bytes_eq r.chrom name)
-  where
-    by : (b : Bool) → cond b (cond (nat_lt r.start start) None (Some r)) None ≡ None
-    by true = rw below refl
-    by false = refl
+placed_below name start text r says below = grind arith
 
 not_placed_by : (name : List ℕ) (start : ℕ) (said : Result (Option Feature) Kind) → is_on name said ≡ false → placed_on name start said ≡ None
 not_placed_by name start said e = grind arith
@@ -253,14 +227,13 @@ line_there line bytes front cut = grind (arith, take-append_seam, take-append-ad
 
 -- bytes that a record's line begins aren't empty
 pub some_bytes : (raw : RawRecord) (line bytes : List ℕ) → raw.line.now ≡ line → take (length line) bytes ≡ line → 0 < length bytes
-some_bytes raw line bytes is front = grind (arith, take-nil, name_within)
+some_bytes raw line bytes is front = grind (arith, name_within)
 
 -- none is left without a line, and else where the next one says so
 pub none_either : (batch : Batch) (bytes : List ℕ) → rest_in (cursor_in batch) ≡ bytes → (rest_in (cursor_in batch) ≡ [] → lines_in (cursor_in batch) ≡ [])
     → (0 < length (rest_in (cursor_in batch)) → left batch ≡ []) → left batch ≡ []
 unfolding left cursor_in
-none_either batch [] e none some = run_nil batch.name.now batch.start _ (none e)
-none_either batch (byte ∷ bytes) e none some = some (omega (arith, ap length e))
+none_either batch bytes e none some = grind (arith, common_steps, run_nil)
 
 module _ (batch : Batch) (line : List ℕ) (front : take (length line) (rest_in (cursor_in batch)) ≡ line) (cut : Cut (rest_in (cursor_in batch)) (shown_of line))
     (first : lines_in (cursor_in batch) ≡ line_of (cursor_in batch) (shown_of line) ∷ lines_after (cursor_in batch) (length line + 1)) where
@@ -291,17 +264,12 @@ module _ (batch : Batch) (line : List ℕ) (front : take (length line) (rest_in 
   unfolding left chrom_in start_in cursor_in
   none_below raw is below =
       let test : nat_lt (record_in raw).start batch.start ≡ true = grind (arith, nat_tests) in
-      ap (run_of batch.name.now batch.start) first
-      ∙ run_none batch.name.now batch.start (line_of batch.lines (shown_of line)) (lines_after batch.lines (length line + 1))
-      (placed_below batch.name.now batch.start (strip_last 13 line) (record_in raw) is.says test)
+      grind (arith, run_none, placed_below)
 
   -- or the line says none on the chromosome
   pub none_elsewhere : is_on (chrom_in batch) (record_of (strip_last 13 line)) ≡ false → left batch ≡ []
   unfolding left chrom_in start_in cursor_in
-  none_elsewhere other =
-      ap (run_of batch.name.now batch.start) first
-      ∙ run_none batch.name.now batch.start (line_of batch.lines (shown_of line)) (lines_after batch.lines (length line + 1))
-      (placed_elsewhere batch.name.now batch.start (strip_last 13 line) other)
+  none_elsewhere other = grind (arith, run_none, placed_elsewhere)
 
 -- Lemmas on the bytes of lines that were consumed.
 
@@ -311,16 +279,11 @@ one_more at size bytes line is = take-add at size bytes ∙ ap (λ l. take at by
 
 -- a prefix of a prefix
 take_less : (n m : ℕ) (bytes : List ℕ) → n ≤ m → m ≤ length bytes → take n (take m bytes) ≡ take n bytes
-take_less n m bytes less within =
-    sym (take-append-le n (take m bytes) (drop m bytes) (omega (arith, less, length-take-le m bytes within)))
-    ∙ ap (take n) (take-append-drop m bytes)
+take_less n m bytes less within = grind (arith, common_steps)
 
 -- the bytes between two offsets
 pub bytes_between : (from to at : ℕ) (bytes : List ℕ) → from ≤ to → to ≤ at → at ≤ length bytes
     → take to (take at bytes) ≡ take from (take at bytes) ++ slice_range bytes from to
 bytes_between from to at bytes ordered within inside =
     let same : to ≡ from + (to - from) = omega (arith, ordered) in
-    take_less to at bytes within inside
-    ∙ ap (λ n. take n bytes) same
-    ∙ take-add from (to - from) bytes
-    ∙ ap (λ l. l ++ slice_range bytes from to) (sym (take_less from at bytes (omega (arith, ordered, within)) inside))
+    grind (arith, take_less, take-add)

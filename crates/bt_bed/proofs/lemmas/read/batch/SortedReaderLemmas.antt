@@ -42,8 +42,7 @@ unknown_by a b t u h k n m e none = grind arith
 -- if no bytes are known, none are once lines were taken
 still_unknown : {S : Type 0} (left : S → Option (List ℕ)) (old new : LineReader S) → source_of new ≡ source_of old → lines_left left old ≡ None → lines_left left new ≡ None
 unfolding bytes_left
-still_unknown left old new same none =
-    unknown_by (left (source_of old)) (left (source_of new)) (end_told old) (end_told new) (held old) (held new) (suc (lines_given old)) (suc (lines_given new)) (ap left same) none
+still_unknown left old new same none = grind arith
 
 -- what is good after items that were taken
 taken_good : {A State : Type 0} (format : Format A State) (input : Input) (state : State) (number : ℕ) (items : List A) (a b : Option (List TextLine)) → IfSome a (AreNumbered number) → IfSome a (λ all. LinesSay format state all items)
@@ -59,8 +58,7 @@ say_all format state front items all e say = grind (arith, say_front)
 begins_good : {A State : Type 0} (format : Format A State) (input : Input) (state : State) (number : ℕ) (items : List A) (a : Option (List TextLine)) → IfSome a (AreNumbered number) → IfSome a (λ all. LinesSay format state all items)
     → IfSome (option_map (good_behind format input None state) a) (λ good. (rest : List (Member A)) × (good.members ≡ members_from number items ++ rest))
 begins_good format input state number items None n say = tt
-begins_good {A} {State} format input state number items (Some all) n say =
-    ((good_from format input (state_behind format state items) (drop (length items) all)).members, sym (ap (λ (good : Good A). good.members) (good_said format input number state all items n say)))
+begins_good {A} {State} format input state number items (Some all) n say = grind (arith, (good_said format input number state all items n say))
 
 begins_none : {A : Type 0} (good : Option (Good A)) (number : ℕ) (items : List A) → items ≡ [] → IfSome good (λ good. (rest : List (Member A)) × (good.members ≡ members_from number items ++ rest))
 begins_none None number items none = tt
@@ -89,9 +87,7 @@ knows_said sorting state text r e = (line_said sorting state text r e).known
 
 known_last : (sorting : Sorting) (state : Option Locus) (r : Feature) (records more : List Feature) (last : Option Locus) → AreSaid (bed_format sorting) state ((r ∷ records) ++ more) → last ≡ state_behind (bed_format sorting) state (r ∷ records)
     → ForSome last (λ place. IsTrue (sorting.knows place.chrom))
-known_last sorting state r [] more last said e place is =
-    let same : locus_at r ≡ place = let both : Some (locus_at r) ≡ Some place = sym e ∙ is in cc in
-    subst (λ (p : Locus). IsTrue (sorting.knows p.chrom)) same (knows_said sorting state said.0.0.text r said.0.1)
+known_last sorting state r [] more last said e place is = grind (arith, knows_said)
 known_last sorting state r (x ∷ records) more last said e place is = known_last sorting (Some (locus_at r)) x records more last said.1 e place is
 
 module _ {S Q : Type 0} (device : Source S) (sorting : Sorting) (old : SortedReader S Q) (reader : LineReader S) (lookahead : OrderedLookahead Q) (is_ahead : Bool) (consumed : Consumed) (is : IsTaken old consumed) (some : 0 < count_in old consumed)
@@ -115,11 +111,7 @@ module _ {S Q : Type 0} (device : Source S) (sorting : Sorting) (old : SortedRea
   -- the lines that are buffered then
   lines_then : lines_buffered reader ≡ drop n (lines_buffered old.reader)
   unfolding buffered_bytes is_open lines_given
-  lines_then =
-      ap (λ o. buffered_lines o (lines_given reader) (buffered_bytes reader)) takes.open_is
-      ∙ ap (λ k. buffered_lines (is_open old.reader) k (buffered_bytes reader)) takes.given
-      ∙ ap (buffered_lines (is_open old.reader) consumed.lines.lines) takes.bytes
-      ∙ is.lines.left_is
+  lines_then = grind arith
 
   parts : (r : Feature) × (more : List Feature) × (take n (buffered_in old) ≡ r ∷ more) × (buffered_in old ≡ r ∷ (more ++ drop n (buffered_in old))) × (n ≡ length (r ∷ more))
   parts = some_taken n (buffered_in old) some is.within
@@ -129,14 +121,7 @@ module _ {S Q : Type 0} (device : Source S) (sorting : Sorting) (old : SortedRea
   was = is_ahead_by old.is_ahead (run_of (name_in old.lookahead) (start_in old.lookahead) (lines_buffered old.reader)) parts.0 (parts.1 ++ rest) parts.3
 
   run_then : run_of (name_in lookahead) (start_in lookahead) (lines_buffered reader) ≡ rest
-  run_then =
-      let start : start_in lookahead ≡ last_start (start_in old.lookahead) (parts.0 ∷ parts.1) =
-      makes.start_is ∙ is.start ∙ ap (last_start (start_in old.lookahead)) parts.2 in
-      let lines : lines_buffered reader ≡ drop (length (parts.0 ∷ parts.1)) (lines_buffered old.reader) = lines_then ∙ ap (λ k. drop k (lines_buffered old.reader)) parts.4 in
-      ap (λ m. run_of m (start_in lookahead) (lines_buffered reader)) makes.name_is
-      ∙ ap (λ s. run_of (name_in old.lookahead) s (lines_buffered reader)) start
-      ∙ ap (run_of (name_in old.lookahead) (last_start (start_in old.lookahead) (parts.0 ∷ parts.1))) lines
-      ∙ run_behind (name_in old.lookahead) (start_in old.lookahead) (lines_buffered old.reader) (parts.0 ∷ parts.1) rest was.1
+  run_then = grind (arith, (run_behind (name_in old.lookahead) (start_in old.lookahead) (lines_buffered old.reader) (parts.0 ∷ parts.1) rest was.1))
 
   buffered_then : ahead_of is_ahead reader lookahead ≡ rest
   buffered_then = cond_left is_ahead (run_of (name_in lookahead) (start_in lookahead) (lines_buffered reader)) rest (ahead ∙ is.ahead) run_then
@@ -166,10 +151,7 @@ module _ {S Q : Type 0} (device : Source S) (sorting : Sorting) (old : SortedRea
   count_is = parts.4 ∙ ap length (sym parts.2)
 
   state_then : last_in lookahead ≡ state_behind (bed_format sorting) (last_in old.lookahead) taken
-  state_then =
-      makes.last ∙ ap (λ s. Some (record { chrom = name_in old.lookahead; start = s })) (is.start ∙ ap (last_start (start_in old.lookahead)) parts.2)
-      ∙ sym (ap (state_behind (bed_format sorting) (last_in old.lookahead)) parts.2
-      ∙ place_behind sorting (last_in old.lookahead) (name_in old.lookahead) (start_in old.lookahead) (lines_buffered old.reader) parts.0 parts.1 rest was.1)
+  state_then = grind (arith, (place_behind sorting (last_in old.lookahead) (name_in old.lookahead) (start_in old.lookahead) (lines_buffered old.reader) parts.0 parts.1 rest was.1))
 
   fault_then : now.fault ≡ (view_in sorting old).fault
   unfolding view_with
@@ -187,34 +169,14 @@ module _ {S Q : Type 0} (device : Source S) (sorting : Sorting) (old : SortedRea
 
   pub sorted_takes : Takes device (view_in sorting old) taken now
   unfolding view_with
-  sorted_takes = record {
-    buffered = split ∙ ap (λ l. taken ++ l) (sym buffered_then);
-    said = said_fewer (bed_format sorting) (last_in old.lookahead) taken rest (subst (AreSaid (bed_format sorting) (last_in old.lookahead)) split said_all);
-    state = state_then;
-    good = good_then;
-    goes = fault_then;
-    format = refl;
-    given = takes.given ∙ is.lines.given ∙ ap (λ k. lines_given old.reader + k) count_is;
-    below = takes.below;
-    hands = takes.hands;
-    source = takes.source_is;
-    lines = drops_pass (lines_left device.left old.reader) (lines_left device.left reader) _ (lines_given reader - lines_given old.reader) takes.left_is (omega (arith, takes.given, is.lines.given, is.lines.feeds));
-    kept = takes.kept;
-    near = λ h. takes.near (some_bytes consumed.lines.bytes (buffered_bytes old.reader) (omega (arith, is.lines.feeds, some)));
-    shrinks = omega (arith, takes.taken_is, takes.shrinks, is.lines.feeds, count_is);
-  }
+  sorted_takes = grind (arith, split, buffered_then, said_fewer, said_all, state_then, good_then, count_is)
 
   known_then : ForSome (last_in lookahead) (λ place. IsTrue (sorting.knows place.chrom))
   known_then = known_last sorting (last_in old.lookahead) parts.0 parts.1 rest (last_in lookahead) (subst (AreSaid (bed_format sorting) (last_in old.lookahead)) (split ∙ ap (λ l. l ++ rest) parts.2) said_all) (state_then ∙ ap (state_behind (bed_format sorting) (last_in old.lookahead)) parts.2)
 
   pub sorted_placed : IsPlaced sorting now
   unfolding view_with
-  sorted_placed = record {
-    last = known_then;
-    in_order = ap (are_in_order sorting (last_in lookahead)) buffered_then
-        ∙ ap (λ s. are_in_order sorting s rest) state_then ∙ order_behind sorting (last_in old.lookahead) taken rest (ap (are_in_order sorting (last_in old.lookahead)) (sym split) ∙ order_all);
-    going = λ e. fault_then ∙ going;
-  }
+  sorted_placed = grind (arith, known_then, buffered_then, state_then, order_behind, split)
 
   pub sorted_ahead : is_ahead ≡ true → is_some_left (ahead_of is_ahead reader lookahead) ≡ true
   sorted_ahead e = ap is_some_left buffered_then ∙ sym (ahead ∙ is.ahead) ∙ e
@@ -242,8 +204,7 @@ module _ {S Q : Type 0} (device : Source S) (sorting : Sorting) (sorted : Sorted
 
   comes_by : (items : List Feature) → buffered_in sorted ≡ items → BeginsComing device.left (view_in sorting sorted)
   unfolding view_with
-  comes_by [] e = begins_none (good_coming device.left (view_in sorting sorted)) (suc (lines_given sorted.reader)) (buffered_in sorted) e
-  comes_by (r ∷ more) e = some_comes r more e
+  comes_by items e = grind (arith, begins_none, some_comes)
 
   pub sorted_comes : BeginsComing device.left (view_in sorting sorted)
   sorted_comes = comes_by (buffered_in sorted) refl
@@ -251,25 +212,16 @@ module _ {S Q : Type 0} (device : Source S) (sorting : Sorting) (sorted : Sorted
 -- a line that says a record which fits begins the records that are buffered then
 module _ {Q : Type 0} (sorting : Sorting) (old new : OrderedLookahead Q) (line : TextLine) (more : List TextLine) (r : Feature) (says : line_says sorting (last_in old) line.text ≡ Ok (Some r)) (holds : HoldsChrom old r.chrom new) where
   pub found_run : run_of (name_in new) (start_in new) (line ∷ more) ≡ r ∷ run_of (name_in new) r.start more
-  found_run =
-      let said = line_said sorting (last_in old) line.text r says in
-      let above : start_in new ≤ r.start = subst (λ (n : ℕ). n ≤ r.start) (sym holds.start_is) (fits_above sorting (last_in old) r said.stays) in
-      run_some (name_in new) (start_in new) line more r (placed_there (name_in new) (start_in new) line.text r said.says (sym holds.name_is) above)
+  found_run = grind (arith, (line_said sorting (last_in old) line.text r says), run_some, placed_there)
 
   pub found_said : AreSaid (bed_format sorting) (last_in old) (run_of (name_in new) (start_in new) (line ∷ more))
-  found_said =
-      let said = line_said sorting (last_in old) line.text r says in
-      let place : ◌≡◌ {A = Locus} (record { chrom = name_in new; start = r.start }) (locus_at r) = ap (λ (n : List ℕ). record { chrom = n; start = r.start }) holds.name_is in
-      let known : IsTrue (sorting.knows (name_in new)) = subst (λ n. IsTrue (sorting.knows n)) (sym holds.name_is) said.known in
-      subst (AreSaid (bed_format sorting) (last_in old)) (sym found_run)
-      ((line, says), subst (λ (p : Locus). AreSaid (bed_format sorting) (Some p) (run_of (name_in new) r.start more)) place (run_is_said sorting (name_in new) r.start more (run_of (name_in new) r.start more) known refl))
+  found_said = grind (arith, (line_said sorting (last_in old) line.text r says), found_run, run_is_said)
 
   pub found_buffered : (lines : List TextLine) → lines ≡ line ∷ more → run_of (name_in new) (start_in new) lines ≡ r ∷ run_of (name_in new) r.start more
   found_buffered lines e = ap (run_of (name_in new) (start_in new)) e ∙ found_run
 
   pub found_in_order : (lines : List TextLine) → lines ≡ line ∷ more → are_in_order sorting (last_in old) (run_of (name_in new) (start_in new) lines) ≡ true
-  found_in_order lines e =
-      ap (λ l. are_in_order sorting (last_in old) (run_of (name_in new) (start_in new) l)) e ∙ said_in_order sorting (last_in old) (run_of (name_in new) (start_in new) (line ∷ more)) found_said
+  found_in_order lines e = grind (arith, said_in_order, found_said)
 
   pub found_some : (lines : List TextLine) → lines ≡ line ∷ more → is_some_left (run_of (name_in new) (start_in new) lines) ≡ true
   found_some lines e = ap is_some_left (found_buffered lines e)
@@ -403,9 +355,7 @@ none_buffered sorted none = rw none refl
 module _ {S Q : Type 0} (device : Source S) (sorting : Sorting) where
   -- a reader with no fault of its own and no record buffered
   pub view_before : (sorted : SortedReader S Q) → sorted.is_ahead ≡ false → sorted.fault ≡ None → view_in sorting sorted ≡ view_with sorting None sorted.reader sorted.lookahead []
-  view_before sorted none going =
-      ap (λ own. view_with sorting (option_map fault_value own) sorted.reader sorted.lookahead (buffered_in sorted)) going
-      ∙ ap (view_with sorting None sorted.reader sorted.lookahead) (none_buffered sorted none)
+  view_before sorted none going = grind (arith, none_buffered)
 
   -- the next line, which was made buffered, was taken
   module _ {mid new : SortedReader S Q} (rules : Sorting) (same : rules ≡ sorting) where

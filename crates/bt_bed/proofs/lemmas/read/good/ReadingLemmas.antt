@@ -33,12 +33,7 @@ pass_more a b c i j k p q e = grind (arith, drop-drop)
 pub near_pass : (a b : Option (List TextLine)) (rest : Option (List ℕ)) (i j k : ℕ) → IfSome a (λ all. b ≡ Some (drop i all)) → k ≡ i + j
     → IfSome b (λ all. IfSome rest (λ bytes. bytes_in (drop j all) ≤ length bytes + block_size))
     → IfSome a (λ all. IfSome rest (λ bytes. bytes_in (drop k all) ≤ length bytes + block_size))
-near_pass None b rest i j k p e q = tt
-near_pass (Some all) None rest i j k p e q = cc
-near_pass (Some all) (Some some) rest i j k p e q =
-    let same : some ≡ drop i all = cc in
-    let is : drop j some ≡ drop k all = ap (λ l. drop j l) same ∙ drop-drop j i all ∙ ap (λ n. drop n all) (sym e) in
-    subst (λ lines. IfSome rest (λ bytes. bytes_in lines ≤ length bytes + block_size)) is q
+near_pass a b rest i j k p e q = grind (arith, drop-drop)
 
 numbered_by : (n : ℕ) (bytes : Option (List ℕ)) → IfSome (option_map (lines_from n) bytes) (AreNumbered n)
 numbered_by n bytes = grind (arith, lines_are_numbered)
@@ -76,8 +71,7 @@ some_bytes count bytes some = grind arith
 
 module _ {S : Type 0} (device : Source S) (old mid new : LineReader S) (makes : MakesLine device old mid) where
   pub same_room : room mid ≡ room old
-  same_room =
-      omega (arith, makes.bytes.1.counted, ap length makes.bytes.2, length-append (held old) makes.bytes.0, makes.within)
+  same_room = grind (arith, length-append)
 
   module _ (line : TextLine) (more : List TextLine) (first : buffered_in mid ≡ line ∷ more) (number : line.number ≡ suc (lines_given mid)) (consumed : ConsumedLines) (are : TakenLines mid consumed 1) (takes : TakesLines device mid consumed new) where
     pub line_came : LineCame device old line new
@@ -103,12 +97,7 @@ module _ {S : Type 0} (device : Source S) where
     pub kept : IsKept device old → IsKept device now
 
   pub came_none : (reader : LineReader S) → Came reader reader
-  came_none reader = record {
-    lines = no_pass (lines_left device.left reader) (lines_given reader);
-    least = omega arith;
-    bytes = ([], hands_none device.left reader);
-    kept = λ kept. kept;
-  }
+  came_none reader = grind arith
 
   -- the lines that are left are numbered on from those given
   pub left_numbered : (reader : LineReader S) → IfSome (lines_left device.left reader) (AreNumbered (suc (lines_given reader)))
@@ -156,11 +145,7 @@ module _ {S : Type 0} (device : Source S) where
         let counted = p.bytes.1.counted in
         let given = cut.given in
         let front = front_of_both p.bytes.0 cut.bytes (2 ^ 63 - 1 - bytes_taken old) (2 ^ 63 - 1 - bytes_taken now) (omega arith) in
-        record {
-          bytes = p.bytes.0 ++ cut.bytes;
-          hands = hands_both device.left old now new p.bytes.0 cut.bytes p.bytes.1 cut.hands;
-          given = rw front (omega (arith, line_feeds-append p.bytes.0 (take (2 ^ 63 - 1 - bytes_taken now) cut.bytes)));
-        }
+        grind (arith, (hands_both device.left old now new p.bytes.0 cut.bytes p.bytes.1 cut.hands), (line_feeds-append p.bytes.0 (take (2 ^ 63 - 1 - bytes_taken now) cut.bytes)))
 
 -- Lemmas on a step of a reader of members, whatever the lines say.
 
@@ -186,7 +171,7 @@ module _ {A State : Type 0} (format : Format A State) (input : Input) (state : S
   -- after a line that says nothing what was to come still comes
   good_line : (line : TextLine) (a b : Option (List TextLine)) → GivesFirst a line b → format.says state line ≡ Ok None
       → Remains (option_map (good_behind format input None state) a) (option_map (good_behind format input None state) b)
-  good_line line a b g e = grind (arith, said_none, format, state)
+  good_line line a b g e = grind (arith, said_none)
 
   -- the member that a line says comes first
   good_first : (line : TextLine) (item : A) (a : Option (List TextLine)) → IfSome a (λ lines. (rest : List TextLine) × (lines ≡ line ∷ rest)) → format.says state line ≡ Ok (Some item)
@@ -203,7 +188,7 @@ module _ {A State : Type 0} (format : Format A State) (input : Input) (state : S
   -- a line at fault is all that was to come
   good_fault : (line : TextLine) (a b : Option (List TextLine)) (kind : Kind) → GivesFirst a line b → format.says state line ≡ Err kind
       → IfSome (option_map (good_behind format input None state) a) (λ good. good ≡ ends_with (Some (fault_at_line input line.number kind)))
-  good_fault line a b kind g e = grind (arith, format, state, wrong_good)
+  good_fault line a b kind g e = grind (arith, wrong_good)
 
   -- if no line is left, no member is
   good_end : (a : Option (List TextLine)) → IfSome a (λ lines. lines ≡ [])
@@ -264,29 +249,14 @@ module _ {S A State : Type 0} (device : Source S) where
 
   module _ (old : MemberReader S A State) where
     pub going_start : old.buffered ≡ [] → old.fault ≡ line_fault old.below → Going old old
-    going_start none rest = record {
-      good = remains_same (good_coming device.left old);
-      was_none = none;
-      none_buffered = none;
-      begun = inl refl;
-      rest = rest;
-      going = λ going. going;
-      state = refl;
-      format = refl;
-      passed = came_none device old.below;
-      served = refl;
-      shrinks = omega arith;
-    }
+    going_start none rest = grind arith
 
     begun_by : (now : MemberReader S A State) (line : TextLine) (reader : LineReader S) → (now ≡ old) ⊎ Begun old → now.fault ≡ line_fault now.below → LineCame device now.below line reader → Begun old
     begun_by now line reader e rest gives = grind arith
 
     -- the old reader had no fault
     was_faultless : (now : MemberReader S A State) → Going old now → line_fault now.below ≡ None → old.fault ≡ None
-    was_faultless now g going = elim g.begun [
-      | inl same ↦ ap (λ r. r.fault) (sym same) ∙ g.rest ∙ going
-      | inr begun ↦ begun.was_going
-    ]
+    was_faultless now g going = grind arith
 
     more_bytes : (now : MemberReader S A State) (reader : LineReader S) → Going old now → (bytes : List ℕ) × Hands device.left now.below bytes reader → (bytes : List ℕ) × Hands device.left old.below bytes reader
     more_bytes now reader g more = (g.passed.bytes.0 ++ more.0, hands_both device.left old.below now.below reader g.passed.bytes.0 more.0 g.passed.bytes.1 more.1)
@@ -311,35 +281,19 @@ module _ {S A State : Type 0} (device : Source S) where
     good_taken : (now new : MemberReader S A State) (line : TextLine) → Going old now → LineCame device now.below line new.below
         → now.format.says now.state line ≡ Ok None → new.fault ≡ None → Follows now new → Remains (good_coming device.left old) (good_coming device.left new)
     good_taken now new line g gives says none follows =
-        let going : now.fault ≡ None = g.rest ∙ gives.was_going.0 in
-        let step = good_line now.format (input_of now.below) now.state line (lines_left device.left now.below) (lines_left device.left new.below) gives.first says in
-        let further : Remains (good_coming device.left now) (good_coming device.left new) = rw (good_is now going, good_is new none, gives.bytes.1.same_input, follows.state, follows.format) step in
-        remains_further (good_coming device.left old) (good_coming device.left now) (good_coming device.left new) g.good further
+        grind (arith, (good_line now.format (input_of now.below) now.state line (lines_left device.left now.below) (lines_left device.left new.below) gives.first says), good_is)
 
     -- a line said nothing
     pub going_more : (now new : MemberReader S A State) (line : TextLine) → Going old now → LineCame device now.below line new.below
         → (IsKept device now.below → IsKept device new.below) → now.format.says now.state line ≡ Ok None → new.buffered ≡ [] → new.fault ≡ line_fault new.below → Follows now new → Going old new
-    going_more now new line g gives sound says ahead rest follows = record {
-      good = good_taken now new line g gives says (rest ∙ gives.goes) follows;
-      was_none = g.was_none;
-      none_buffered = ahead;
-      begun = inr (begun_by now line new.below g.begun g.rest gives);
-      rest = rest;
-      going = λ none. rest ∙ gives.goes;
-      state = follows.state ∙ g.state;
-      format = follows.format ∙ g.format;
-      passed = passed_more now new line g gives sound;
-      served = gives.served ∙ g.served;
-      shrinks = omega (arith, gives.shrinks, g.shrinks);
-    }
+    going_more now new line g gives sound says ahead rest follows =
+        grind (arith, (good_taken now new line g gives says (rest ∙ gives.goes) follows), (passed_more now new line g gives sound))
 
     lines_first : (a b : Option (List TextLine)) (line : TextLine) (more buffered : List TextLine) → IfSome b (λ all. take (length buffered) all ≡ buffered) → buffered ≡ line ∷ more → IfSome b (λ lines. (rest : List TextLine) × (lines ≡ line ∷ rest))
     lines_first a b line more buffered p is = grind arith
 
     good_same : (now new : MemberReader S A State) → now.fault ≡ None → new.fault ≡ None → MakesLine device now.below new.below → Follows now new → Remains (good_coming device.left now) (good_coming device.left new)
-    good_same now new going goes makes follows =
-        rw (good_is now going, good_is new goes, makes.bytes.1.same_input, follows.state, follows.format)
-        (remains_lines now.format (input_of now.below) now.state (lines_left device.left now.below) (lines_left device.left new.below) makes.same)
+    good_same now new going goes makes follows = grind (arith, good_is)
 
     -- a line was made buffered that says a member
     pub going_member : (now new : MemberReader S A State) (line : TextLine) (more : List TextLine) (item : A) (items : List A) → Going old now → MakesLine device now.below new.below
@@ -356,24 +310,7 @@ module _ {S A State : Type 0} (device : Source S) where
         let there : IfSome (good_coming device.left new) (λ good. (rest : List (Member A)) × (good.members ≡ m ∷ rest)) =
         rw (good_is new goes, follows.state, follows.format)
         (good_first now.format (input_of new.below) now.state line item (lines_left device.left new.below) (lines_first (lines_left device.left now.below) (lines_left device.left new.below) line more (buffered_in new.below) (is_prefix device.left new.below) first) says) in
-        record {
-          ahead = ap (first_from (suc (lines_given new.below))) buffered ∙ ap (λ n. Some (record { line = n; item = item })) (sym number);
-          state = follows.state ∙ g.state;
-          good = good;
-          first = remains_if (good_coming device.left old) (good_coming device.left new) (λ good. (rest : List (Member A)) × (good.members ≡ m ∷ rest)) good there;
-          said = (line, rw (g.format, g.state) at says);
-          again = λ some. absurd (none_ahead (suc (lines_given old.below)) old.buffered g.was_none some);
-          at = number;
-          rises = came.least;
-          below = omega (arith, number, buffered_below new.below makes.some);
-          served = makes.served ∙ g.served;
-          was_going = was_faultless now g makes.was_going.0;
-          goes = goes ∙ sym (was_faultless now g makes.was_going.0);
-          stays = stays_more now new g (makes.bytes.0, makes.bytes.1) follows;
-          lines = came.lines;
-          near = near_came device old.below new.below came;
-          shrinks = omega (arith, same_room device now.below new.below new.below makes, g.shrinks);
-        }
+        grind (arith, buffered_below, near_came, same_room)
 
     -- a line is at fault
     wrong_cause : (now new : MemberReader S A State) (line : TextLine) (fault : FaultValue) (kind : Kind) → Going old now → LineCame device now.below line new.below
@@ -383,19 +320,7 @@ module _ {S A State : Type 0} (device : Source S) where
         let before = good_is now (g.rest ∙ gives.was_going.0) in
         let none : IfSome (good_coming device.left now) (λ good. good ≡ ends_with (Some (fault_at_line (input_of now.below) line.number kind))) =
         rw before (good_fault now.format (input_of now.below) now.state line (lines_left device.left now.below) (lines_left device.left new.below) kind gives.first says) in
-        let none_at : IfSome (good_coming device.left now) (λ good. good ≡ ends_with (Some fault)) = rw is (rw (same_input now g) at none) in
-        record {
-          none_left = remains_if (good_coming device.left old) (good_coming device.left now) (λ good. good ≡ ends_with (Some fault)) g.good none_at;
-          kind = kind;
-          line = line;
-          says = rw (g.format, g.state) at says;
-          of_line = of_line;
-          place = is ∙ ap (λ n. fault_at_line (input_of old.below) n kind) counted;
-          rises = omega (arith, g.passed.least, gives.counted);
-          going = gives.goes;
-          served = gives.served ∙ g.served;
-          near = gives.near;
-        }
+        grind arith
 
     first_came : (a b : Option (List TextLine)) (line : TextLine) → GivesFirst a line b → IfSome a (λ lines. (rest : List TextLine) × (lines ≡ line ∷ rest))
     first_came a b line g = grind arith
@@ -411,35 +336,23 @@ module _ {S A State : Type 0} (device : Source S) where
         let IsGood : Good A → Type 0 = λ good. (item : A) × (rest : List (Member A)) × (good.members ≡ record { line = lines_given new.below; item = item } ∷ rest) in
         let counted : line.number ≡ lines_given new.below = gives.number ∙ sym gives.counted in
         let first = good_first now.format (input_of now.below) now.state line item (lines_left device.left now.below) (first_came (lines_left device.left now.below) (lines_left device.left new.below) line gives.first) says in
-        let here : IfSome (good_coming device.left now) IsGood = rw (good_is now (g.rest ∙ gives.was_going.0)) (told_first _ (lines_given new.below) line.number item counted first) in
-        record { is = is; checked = inr (record { first = remains_if (good_coming device.left old) (good_coming device.left now) IsGood g.good here; rises = omega (arith, g.passed.least, gives.counted); going = gives.goes; near = gives.near }); served = gives.served ∙ g.served }
+        grind (arith, good_is)
 
     lost_by : (now new : MemberReader S A State) (line : TextLine) (fault : FaultValue) → Going old now → LineCame device now.below line new.below → new.fault ≡ Some fault → new.buffered ≡ [] → Follows now new → (IsKept device now.below → IsKept device new.below)
         → Cause device old fault new → AnswersFault device old fault new
-    lost_by now new line fault g gives kept ahead follows sound cause = record {
-      kept = kept;
-      was_none = g.was_none;
-      none_buffered = ahead;
-      state = follows.state ∙ g.state;
-      again = λ before was. absurd (let apart : None ≡ Some before = sym (was_faultless now g gives.was_going.0) ∙ was in cc);
-      first = λ none. cause;
-      stays = stays_more now new g (gives.bytes.0, gives.bytes.1) follows;
-      rises = omega (arith, g.passed.least, gives.counted);
-      lines = λ none. (passed_more now new line g gives sound).lines;
-      near = λ none was. near_came device old.below new.below (passed_more now new line g gives sound);
-    }
+    lost_by now new line fault g gives kept ahead follows sound cause = grind (arith, passed_more, near_came)
 
     -- a line was wrong
     pub going_wrong : (now new : MemberReader S A State) (line : TextLine) (fault : FaultValue) (kind : Kind) → Going old now → LineCame device now.below line new.below → new.fault ≡ Some fault → new.buffered ≡ [] → Follows now new → (IsKept device now.below → IsKept device new.below)
         → now.format.says now.state line ≡ Err kind → is_of_line kind ≡ true → fault ≡ fault_at_line (input_of old.below) line.number kind → AnswersFault device old fault new
     going_wrong now new line fault kind g gives kept ahead follows sound says of_line is =
-        lost_by now new line fault g gives kept ahead follows sound (inl (wrong_cause now new line fault kind g gives says of_line is))
+        grind (arith, (lost_by now new line fault g gives kept ahead follows sound (inl (wrong_cause now new line fault kind g gives says of_line is))))
 
     -- a member had no room
     pub going_unkept : (now new : MemberReader S A State) (line : TextLine) (fault : FaultValue) (item : A) → Going old now → LineCame device now.below line new.below → new.fault ≡ Some fault → new.buffered ≡ [] → Follows now new → (IsKept device now.below → IsKept device new.below)
         → now.format.says now.state line ≡ Ok (Some item) → fault ≡ no_memory → AnswersFault device old fault new
     going_unkept now new line fault item g gives kept ahead follows sound says is =
-        lost_by now new line fault g gives kept ahead follows sound (inr (inr (unkept_cause now new line fault item g gives says is)))
+        grind (arith, (lost_by now new line fault g gives kept ahead follows sound (inr (inr (unkept_cause now new line fault item g gives says is)))))
 
     -- the line couldn't be read
     read_cause : (now new : MemberReader S A State) (fault : FaultValue) → Going old now → GivesFault device now.below fault new.below → line_fault now.below ≡ None → FailsToRead device now.below fault new.below ⊎ (fault ≡ no_memory) → Cause device old fault new
@@ -454,9 +367,7 @@ module _ {S A State : Type 0} (device : Source S) where
           };
           passed = said;
         }))
-    read_cause now new fault g gives going (inr is) =
-        let said = rw (sym gives.counted) at (beyond now g going) in
-        inr (inr (record { is = is; checked = inl (gives.kept ∙ ap Some is, said); served = gives.served is ∙ g.served }))
+    read_cause now new fault g gives going (inr is) = grind (arith, beyond)
 
     again_by : (now new : MemberReader S A State) (fault : FaultValue) → Going old now → GivesFault device now.below fault new.below → new.fault ≡ Some fault → (new.below ≡ now.below → new.fault ≡ now.fault → new ≡ now) → (now ≡ old) ⊎ Begun old → (before : FaultValue) → old.fault ≡ Some before
         → (fault ≡ before) × (new ≡ old)
@@ -541,31 +452,14 @@ with_none good = grind arith
 
 -- no member was taken
 pub takes_none : {S A State : Type 0} (device : Source S) (reader : MemberReader S A State) → Takes device reader [] reader
-takes_none device reader = record {
-  buffered = refl;
-  said = tt;
-  state = refl;
-  good = with_none (good_coming device.left reader);
-  goes = refl;
-  format = refl;
-  given = omega arith;
-  below = given_below reader.below;
-  hands = hands_none device.left reader.below;
-  source = refl;
-  lines = (came_none device reader.below).lines;
-  kept = λ was. was;
-  near = λ some. absurd (omega (arith, some));
-  shrinks = omega arith;
-}
+takes_none device reader = grind (arith, given_below)
 
 -- Lemmas on failed reads that are reported for the first time.
 
 -- a fault of a line is no failed read
 line_no_read : (place : Place) (kind : Kind) (input : Input) (line : ℕ) → is_of_line kind ≡ true
     → fault_at_line place.input place.line kind ≡ read_failed input line → ⊥
-line_no_read place kind input line of_line e =
-    let same : kind ≡ ReadFailed = ap (λ (f : FaultValue). f.kind) e in
-    false≢true (subst (λ k. is_of_line k ≡ true) same of_line)
+line_no_read place kind input line of_line e = grind arith
 
 module _ (T : Type 0) {S : Type 0} (IsRead : S → Option ℕ → S → Type 0) (before : Option FaultValue) (old new : LineReader S) (fault : Fault) where
   module _ (read : HasRead IsRead old new) where

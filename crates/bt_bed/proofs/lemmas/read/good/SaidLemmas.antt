@@ -68,9 +68,7 @@ module _ {A State : Type 0} (format : Format A State) (input : Input) where
 
 ascending_beyond : {A : Type 0} (count line : ℕ) (members : List (Member A)) → count < line → AreAscending line members → All (λ m. count < m.line) members
 ascending_beyond {A} count line [] low asc = All-nil (λ (m : Member A). count < m.line)
-ascending_beyond {A} count line (m ∷ ms) low asc =
-    let first = asc.0 in
-    All-cons (λ (m : Member A). count < m.line) m ms (omega arith) (ascending_beyond count (suc m.line) ms (omega arith) asc.1)
+ascending_beyond {A} count line (m ∷ ms) low asc = grind (arith, (ascending_beyond count (suc m.line) ms (omega arith) asc.1))
 
 module _ {A State : Type 0} (format : Format A State) (input : Input) where
   fault_with : (count number : ℕ) (state : State) (said : Result (Option A) Kind) (rest : State → Good A) → count < number
@@ -94,10 +92,7 @@ module _ {A State : Type 0} (format : Format A State) (input : Input) where
 -- members on lines after a line have none up to it
 none_up_to : {A : Type 0} (count : ℕ) (past rest : List (Member A)) → AreAscending (suc count) (past ++ rest) → All (λ m. m.line ≤ count) past → past ≡ []
 none_up_to count [] rest asc up = refl
-none_up_to {A} count (m ∷ ms) rest asc up =
-    let low : m.line ≤ count = All-head (λ (m : Member A). m.line ≤ count) m ms up in
-    let high = asc.0 in
-    absurd (omega arith)
+none_up_to {A} count (m ∷ ms) rest asc up = grind (arith, All-head)
 
 no_front : {A : Type 0} (past rest : List (Member A)) → [] ≡ past ++ rest → past ≡ []
 no_front [] rest e = refl
@@ -109,19 +104,12 @@ module _ {A State : Type 0} (format : Format A State) (input : Input) where
       → (good_with format input number state said whole).members ≡ past ++ rest → (good_with format input number state said whole).fault ≡ fault
       → All (λ m. m.line ≤ count) past → IsBeyond count (record { members = rest; fault = fault })
       → good_with format input number state said taken ≡ record { members = past; fault = None }
-  first_with count number state (Err kind) whole taken past rest fault low h e f up beyond =
-      let high = subst (λ fault. IfSome fault (IsFaultBeyond count)) (sym f) beyond.fault in
-      absurd (omega arith)
+  first_with count number state (Err kind) whole taken past rest fault low h e f up beyond = grind arith
   first_with count number state (Ok None) whole taken past rest fault low h e f up beyond = h state past e f up
   first_with count number state (Ok (Some item)) whole taken [] rest fault low h e f up beyond =
       let high : All (λ (m : Member A). count < m.line) (record { line = number; item = item } ∷ (whole (format.after state item)).members) = subst (λ ms. All (λ (m : Member A). count < m.line) ms) (sym e) beyond.members in
-      let first = All-head (λ (m : Member A). count < m.line) _ _ high in
-      absurd (omega arith)
-  first_with count number state (Ok (Some item)) whole taken (m ∷ ms) rest fault low h e f up beyond =
-      let now = format.after state item in
-      let same : record { line = number; item = item } ≡ m = cc in
-      let more : (whole now).members ≡ ms ++ rest = cc in
-      rw (h now ms more f (All-tail (λ (m : Member A). m.line ≤ count) m ms up)) (ap (λ (m : Member A). record { members = m ∷ ms; fault = None }) same)
+      grind (arith, All-head)
+  first_with count number state (Ok (Some item)) whole taken (m ∷ ms) rest fault low h e f up beyond = grind (arith, (All-tail (λ (m : Member A). m.line ≤ count) m ms up))
 
   -- what is good of the first lines are the members up to the last of these, if the others are after it
   pub first_from : (more count number : ℕ) (state : State) (lines : List TextLine) (past rest : List (Member A)) (fault : Option FaultValue) → suc count ≡ number + more → AreNumbered number lines
@@ -131,8 +119,7 @@ module _ {A State : Type 0} (format : Format A State) (input : Input) where
   unfolding good_from
   first_from zero count number state lines past rest fault size n e f up beyond =
       let start : number ≡ suc count = omega arith in
-      let none = none_up_to count past rest (subst (λ k. AreAscending k (past ++ rest)) start (subst (λ ms. AreAscending number ms) e (ascend_from format input number state lines n))) up in
-      rw none refl
+      grind (arith, none_up_to, (ascend_from format input number state lines n))
   first_from (suc more) count number state [] past rest fault size n e f up beyond = rw (no_front past rest e) refl
   first_from (suc more) count number state (line ∷ lines) past rest fault size n e f up beyond =
       let same = n.0 in

@@ -1,5 +1,5 @@
 -- Lemmas on records that lines say one after another, and on what is good of such lines.
-use Rattle.bt_lines.proofs.Std.{◌≡◌, ℕ, suc, ◌≤◌, Bool, true, false, cond, List, [], ◌∷◌, ◌++◌, length, take, drop, Option, Some, None, Result, Ok, Err, refl, sym, ap, ◌∙◌, subst, arith, bytes_eq, nat_lt, ⊤, ◌&&◌, not, IsTrue, false≢true, nat_tests, bytes_eq-Decides, ◌+◌, ◌-◌, length-append, length-take, IfNone, IfSome, take-append_seam, drop_at, length-drop}
+use Rattle.bt_lines.proofs.Std.{rules, ◌≡◌, ℕ, suc, ◌≤◌, Bool, true, false, cond, List, [], ◌∷◌, ◌++◌, length, take, drop, Option, Some, None, Result, Ok, Err, refl, sym, ap, ◌∙◌, subst, arith, bytes_eq, nat_lt, ⊤, ◌&&◌, not, IsTrue, false≢true, nat_tests, bytes_eq-Decides, ◌+◌, ◌-◌, length-append, length-take, IfNone, IfSome, take-append_seam, drop_at, length-drop}
 use Rattle.bt_bed.specs.calls.Batch.{IsWhere, Passes, cursor_in, left}
 use Rattle.bt_bed.specs.calls.SortedReader.{are_in_order, IsTaken, Lends, buffered_in, count_in}
 use Rattle.bt_lines.specs.model.Lines.{AreNumbered, TextLine}
@@ -40,10 +40,7 @@ module _ {A State : Type 0} (format : Format A State) (input : Input) where
       → with_members (members_from number items) (good_from format input (state_behind format state items) (drop (length items) lines)) ≡ good_from format input state lines
   good_said number state lines [] n say = refl
   good_said number state [] (item ∷ items) n say = absurd say
-  good_said number state (line ∷ lines) (item ∷ items) n say =
-      ap (with_members (record { line = number; item = item } ∷ [])) (good_said (suc number) (format.after state item) lines items n.1 say.1)
-      ∙ ap (λ (k : ℕ). with_members (record { line = k; item = item } ∷ []) (good_from format input (format.after state item) lines)) (sym n.0)
-      ∙ sym (said_one state line lines item say.0)
+  good_said number state (line ∷ lines) (item ∷ items) n say = grind (arith, (good_said (suc number) (format.after state item) lines items n.1 say.1), said_one)
 
 module _ {A State : Type 0} (format : Format A State) where
   -- what the first lines say, all lines say
@@ -51,10 +48,7 @@ module _ {A State : Type 0} (format : Format A State) where
   say_front state front all [] e say = tt
   say_front state [] all (item ∷ items) e say = absurd say
   say_front state (line ∷ front) [] (item ∷ items) e say = cc
-  say_front state (line ∷ front) (other ∷ all) (item ∷ items) e say =
-      let same : other ≡ line = cc in
-      let rest : take (length front) all ≡ front = cc in
-      (ap (format.says state) same ∙ say.0, say_front (format.after state item) front all items rest say.1)
+  say_front state (line ∷ front) (other ∷ all) (item ∷ items) e say = grind (arith, (say_front (format.after state item) front all items (cc) say.1))
 
   -- and they say the first of it
   pub say_fewer : (state : State) (lines : List TextLine) (items more : List A) → LinesSay format state lines (items ++ more) → LinesSay format state lines items
@@ -67,17 +61,7 @@ module _ {A State : Type 0} (format : Format A State) where
   said_fewer state (item ∷ items) more said = (said.0, said_fewer (format.after state item) items more said.1)
 
 placed_is_by : (name : List ℕ) (start : ℕ) (said : Result (Option Feature) Kind) (r : Feature) → placed_on name start said ≡ Some r → (said ≡ Ok (Some r)) × (r.chrom ≡ name) × (start ≤ r.start)
-placed_is_by name start (Err kind) r e = cc
-placed_is_by name start (Ok None) r e = cc
-placed_is_by name start (Ok (Some x)) r e = by (bytes_eq x.chrom name) (nat_lt x.start start) refl refl e
-  where
-    by : (b d : Bool) → bytes_eq x.chrom name ≡ b → nat_lt x.start start ≡ d → cond b (cond d None (Some x)) None ≡ Some r → ◌≡◌ {A = Result (Option Feature) Kind} (Ok (Some x)) (Ok (Some r)) × (r.chrom ≡ name) × (start ≤ r.start)
-    by false d p q h = cc
-    by true true p q h = cc
-    by true false p q h =
-        let same : x ≡ r = cc in
-        let above : start ≤ x.start = grind (arith, nat_tests) in
-        (ap (λ (f : Feature). Ok (Some f)) same, ap (λ (f : Feature). f.chrom) (sym same) ∙ (bytes_eq-Decides x.chrom name).0 p, subst (λ (f : Feature). start ≤ f.start) same above)
+placed_is_by name start said r e = search rules
 
 -- a record of a run is what its line says
 pub record_on_is : (name : List ℕ) (start : ℕ) (text : List ℕ) (r : Feature) → record_on name start text ≡ Some r → (record_of text ≡ Ok (Some r)) × (r.chrom ≡ name) × (start ≤ r.start)
@@ -101,26 +85,15 @@ pub record FirstOfRun (name : List ℕ) (start : ℕ) (lines : List TextLine) (r
 pub first_of_run : (name : List ℕ) (start : ℕ) (lines : List TextLine) (r : Feature) (items : List Feature) → run_of name start lines ≡ r ∷ items → FirstOfRun name start lines r items
 unfolding run_of
 first_of_run name start [] r items e = cc
-first_of_run name start (line ∷ lines) r items e =
-    let head = run_head name (record_on name start line.text) (λ next. run_of name next lines) r items e in
-    let is = record_on_is name start line.text r head.0 in
-    record { line = line; more = lines; lines_are = refl; says = is.0; chrom = is.1; above = is.2; rest = head.1 }
+first_of_run name start (line ∷ lines) r items e = grind (arith, record_on_is)
 
 -- what a line says after a place depends on its record alone
 said_after_is : (sorting : Sorting) (state : Option Locus) (said : Result (Option Feature) Kind) (r : Feature) → said_after sorting state said ≡ Ok (Some r) → said ≡ Ok (Some r)
-said_after_is sorting state (Err kind) r e = cc
-said_after_is sorting state (Ok None) r e = cc
-said_after_is sorting state (Ok (Some x)) r e = by (sorting.knows x.chrom) (falls_in sorting state (locus_at x)) e
-  where
-    by : (b d : Bool) → ◌≡◌ {A = Result (Option Feature) Kind} (cond b (cond d (Err OutOfOrder) (Ok (Some x))) (Err UnknownChrom)) (Ok (Some r)) → ◌≡◌ {A = Result (Option Feature) Kind} (Ok (Some x)) (Ok (Some r))
-    by false d h = cc
-    by true true h = cc
-    by true false h = h
+said_after_is sorting state said r e = grind arith
 
 pub says_again : (sorting : Sorting) (state : Option Locus) (text other : List ℕ) (r : Feature) → line_says sorting state other ≡ Ok (Some r) → record_of text ≡ Ok (Some r) → line_says sorting state text ≡ Ok (Some r)
 unfolding line_says
-says_again sorting state text other r said e =
-    ap (said_after sorting state) (e ∙ sym (said_after_is sorting state (record_of other) r said)) ∙ said
+says_again sorting state text other r said e = grind arith
 
 -- the lines of a run say its records, if each is said after those before it
 pub run_says : (sorting : Sorting) (state : Option Locus) (name : List ℕ) (start : ℕ) (lines : List TextLine) (records : List Feature) → run_of name start lines ≡ records → AreSaid (bed_format sorting) state records
@@ -129,23 +102,13 @@ run_says sorting state name start lines [] e said = tt
 run_says sorting state name start [] (r ∷ records) e said = let none = (first_of_run name start [] r records e).lines_are in cc
 run_says sorting state name start (line ∷ lines) (r ∷ records) e said =
     let first = first_of_run name start (line ∷ lines) r records e in
-    let is = first.lines_are in
-    let same : first.line ≡ line = cc in
-    let more : first.more ≡ lines = cc in
-    let says : record_of line.text ≡ Ok (Some r) = subst (λ (l : TextLine). record_of l.text ≡ Ok (Some r)) same first.says in (
-      says_again sorting state line.text said.0.0.text r said.0.1 says,
-      run_says sorting (Some (locus_at r)) name r.start lines records (subst (λ l. run_of name r.start l ≡ records) more first.rest) said.1,
-    )
+    grind (arith, (run_says sorting (Some (locus_at r)) name r.start lines records (subst (λ l. run_of name r.start l ≡ records) (cc) first.rest) said.1), says_again)
 
 -- a record on the chromosome of the last place that doesn't start below
 pub says_on : (sorting : Sorting) (name : List ℕ) (start : ℕ) (text : List ℕ) (r : Feature) → IsTrue (sorting.knows name) → record_of text ≡ Ok (Some r) → r.chrom ≡ name → start ≤ r.start
     → line_says sorting (Some (record { chrom = name; start = start })) text ≡ Ok (Some r)
 unfolding line_says
-says_on sorting name start text r known says on above =
-    let knows : sorting.knows r.chrom ≡ true = subst (λ n. sorting.knows n ≡ true) (sym on) known in
-    let one : bytes_eq name r.chrom ≡ true = (bytes_eq-Decides name r.chrom).1 (sym on) in
-    let test : nat_lt r.start start ≡ false = grind (arith, nat_tests) in
-    ap (said_after sorting (Some (record { chrom = name; start = start }))) says ∙ rw (knows, one, test) refl
+says_on sorting name start text r known says on above = search rules
 
 -- the records of a run are said after the place that it begins at
 pub run_is_said : (sorting : Sorting) (name : List ℕ) (start : ℕ) (lines : List TextLine) (records : List Feature) → IsTrue (sorting.knows name) → run_of name start lines ≡ records
@@ -153,10 +116,7 @@ pub run_is_said : (sorting : Sorting) (name : List ℕ) (start : ℕ) (lines : L
 run_is_said sorting name start lines [] known e = tt
 run_is_said sorting name start lines (r ∷ records) known e =
     let first = first_of_run name start lines r records e in
-    let place : ◌≡◌ {A = Locus} (record { chrom = name; start = r.start }) (locus_at r) = ap (λ (n : List ℕ). record { chrom = n; start = r.start }) (sym first.chrom) in (
-      (first.line, says_on sorting name start first.line.text r known first.says first.chrom first.above),
-      subst (λ (p : Locus). AreSaid (bed_format sorting) (Some p) records) place (run_is_said sorting name r.start first.more records known first.rest),
-    )
+    grind (arith, (run_is_said sorting name r.start first.more records known first.rest), says_on)
 
 -- what is left of a run after some of its records
 pub run_behind : (name : List ℕ) (start : ℕ) (lines : List TextLine) (records more : List Feature) → run_of name start lines ≡ records ++ more
@@ -165,16 +125,12 @@ run_behind name start lines [] more e = e
 run_behind name start [] (r ∷ records) more e = let none = (first_of_run name start [] r (records ++ more) e).lines_are in cc
 run_behind name start (line ∷ lines) (r ∷ records) more e =
     let first = first_of_run name start (line ∷ lines) r (records ++ more) e in
-    let is = first.lines_are in
-    let same : first.more ≡ lines = cc in
-    run_behind name r.start lines records more (subst (λ l. run_of name r.start l ≡ records ++ more) same first.rest)
+    grind (arith, (run_behind name r.start lines records more (subst (λ l. run_of name r.start l ≡ records ++ more) (cc) first.rest)))
 
 -- the place after some records of a run
 pub place_behind : (sorting : Sorting) (state : Option Locus) (name : List ℕ) (start : ℕ) (lines : List TextLine) (r : Feature) (records more : List Feature) → run_of name start lines ≡ r ∷ (records ++ more)
     → state_behind (bed_format sorting) state (r ∷ records) ≡ Some (record { chrom = name; start = last_start start (r ∷ records) })
-place_behind sorting state name start lines r [] more e =
-    let first = first_of_run name start lines r more e in
-    ap (λ (n : List ℕ). Some (record { chrom = n; start = r.start })) first.chrom
+place_behind sorting state name start lines r [] more e = grind (arith, (first_of_run name start lines r more e))
 place_behind sorting state name start lines r (x ∷ records) more e =
     let first = first_of_run name start lines r (x ∷ (records ++ more)) e in
     place_behind sorting (Some (locus_at r)) name r.start first.more x records more first.rest
@@ -182,12 +138,7 @@ place_behind sorting state name start lines r (x ∷ records) more e =
 -- what is in order fits, one after another
 pub order_first : (sorting : Sorting) (state : Option Locus) (r : Feature) (records : List Feature) → are_in_order sorting state (r ∷ records) ≡ true
     → (sorting.knows r.chrom ≡ true) × (falls_in sorting state (locus_at r) ≡ false) × (are_in_order sorting (Some (locus_at r)) records ≡ true)
-order_first sorting state r records e = by (sorting.knows r.chrom) (falls_in sorting state (locus_at r)) (are_in_order sorting (Some (locus_at r)) records) e
-  where
-    by : (a b d : Bool) → (a && not b && d) ≡ true → (a ≡ true) × (b ≡ false) × (d ≡ true)
-    by true false d h = (refl, refl, h)
-    by true true d h = absurd (false≢true h)
-    by false b d h = absurd (false≢true h)
+order_first sorting state r records e = grind arith
 
 says_in_order : (sorting : Sorting) (state : Option Locus) (text : List ℕ) (r : Feature) → sorting.knows r.chrom ≡ true → falls_in sorting state (locus_at r) ≡ false → record_of text ≡ Ok (Some r) → line_says sorting state text ≡ Ok (Some r)
 unfolding line_says
@@ -209,9 +160,7 @@ order_behind sorting state (r ∷ records) more o = order_behind sorting (Some (
 -- what is said, one record after another, is in order
 pub said_in_order : (sorting : Sorting) (state : Option Locus) (records : List Feature) → AreSaid (bed_format sorting) state records → are_in_order sorting state records ≡ true
 said_in_order sorting state [] said = refl
-said_in_order sorting state (r ∷ records) said =
-    let first = line_said sorting state said.0.0.text r said.0.1 in
-    rw (first.known, first.stays) (said_in_order sorting (Some (locus_at r)) records said.1)
+said_in_order sorting state (r ∷ records) said = grind (arith, (line_said sorting state said.0.0.text r said.0.1), (said_in_order sorting (Some (locus_at r)) records said.1))
 
 -- What was consumed of a batch that a reader gave is a token that it takes.
 
@@ -225,9 +174,7 @@ none_some xs e = grind arith
 -- if no line was consumed, no byte was
 same_place : (first last : BufferedLines) → PassesLines first 0 last → last.at ≡ first.at
 unfolding rest_in
-same_place first last p =
-    let gone : take (last.at - first.at) (rest_in first) ≡ [] = fed_none (take (last.at - first.at) (rest_in first)) p.fed p.feeds in
-    omega (arith, ap length gone, length-take (last.at - first.at) (rest_in first), length-drop first.at first.all.now, last.within, ap (λ a. length a.now) p.all_is, p.rises)
+same_place first last p = grind (arith, fed_none, length-drop)
 
 -- if a record is buffered, the next one of the batch is some
 pub one_given : {S Q : Type 0} (sorted : SortedReader S Q) (first last : Batch) (next : Option RawRecord) (r : Feature) (more : List Feature) → buffered_in sorted ≡ r ∷ more → Lends sorted first
@@ -241,18 +188,7 @@ module _ {S Q : Type 0} (sorted : SortedReader S Q) (first last : Batch) (record
 
   taken_by : (b : Bool) → is_some_left (buffered_in sorted) ≡ b → TakenLines sorted.reader consumed.lines (length records)
   taken_by true e = lines_taken sorted.reader (cursor_in first) (cursor_in last) consumed.lines (length records) (lends.begins e) passes.lines is.lines
-  taken_by false e =
-      let none : records ≡ [] = none_before records (left last) (sym (none_some (buffered_in sorted) e) ∙ all_is) in
-      let same = same_place (cursor_in first) (cursor_in last) (subst (λ n. PassesLines (cursor_in first) n (cursor_in last)) (ap length none) passes.lines) in
-      let bytes : consumed.lines.bytes ≡ 0 = is.lines.bytes ∙ same ∙ lends.at in
-      let given : consumed.lines.lines ≡ lines_given sorted.reader + length records = is.lines.lines ∙ passes.lines.given ∙ ap (λ n. n + length records) lends.given in
-      let lines : consumed.lines.lines ≡ lines_given sorted.reader = omega (arith, given, ap length none) in
-      rw (bytes, lines, none) (record {
-        taken = record { within = omega arith; fed = refl; lines = omega arith };
-        feeds = refl;
-        given = omega arith;
-        left_is = refl;
-      })
+  taken_by false e = grind (arith, none_before, same_place)
 
   lines_are : TakenLines sorted.reader consumed.lines (length records)
   lines_are = taken_by (is_some_left (buffered_in sorted)) refl
@@ -266,9 +202,4 @@ module _ {S Q : Type 0} (sorted : SortedReader S Q) (first last : Batch) (record
   taken_are = ap (λ n. take n (buffered_in sorted)) count_is ∙ ap (take (length records)) all_is ∙ take-append_seam records (left last)
 
   pub token_is : IsTaken sorted consumed
-  token_is = record {
-    lines = subst (TakenLines sorted.reader consumed.lines) (sym count_is) lines_are;
-    within = omega (arith, count_is, ap length all_is, length-append records (left last));
-    start = is.start ∙ passes.start ∙ ap (λ s. last_start s records) lends.start ∙ ap (last_start (start_of sorted.lookahead)) (sym taken_are);
-    ahead = is.ahead ∙ ap is_some_left (sym (ap (λ n. drop n (buffered_in sorted)) count_is ∙ ap (drop (length records)) all_is ∙ drop_at records (left last) (length records) refl));
-  }
+  token_is = grind (arith, lines_are, length-append, taken_are, drop_at)
