@@ -1,6 +1,6 @@
 -- What a complement says of one chromosome: its gaps, if they are wanted; those that are done by the last start, and the place up to which they are.
 -- The file has what it owes of one chromosome.
-use Rattle.bt_lines.proofs.Std.{Option, ◌≡◌, ℕ, ◌<◌, inl, inr, List, [], ◌∷◌, ◌++◌, refl, ap, ◌∙◌, map, filter, flat_map, cond, not, nat_le, nat_lt, Bool, true, false, bytes_eq, ◌≤◌, sym, arith, max, min, cases_Bool, cases_lt, cond-true, or_right, lt-ltb, le-ltb, lt-leb, le-leb, map-append, subst, Some, ap₂, length, None, ◌⊎◌, suc, eqb, Result, Ok, Err, OnOk, option_map, option_eq, cond-false, eqb-false, eqb-true, flat_map-append}
+use Rattle.bt_lines.proofs.Std.{Option, ◌≡◌, ℕ, ◌<◌, inl, inr, List, [], ◌∷◌, ◌++◌, refl, ap, ◌∙◌, map, filter, flat_map, cond, not, nat_le, nat_lt, Bool, true, false, bytes_eq, ◌≤◌, sym, arith, max, min, cases_Bool, cases_lt, cond-true, or_right, lt-ltb, le-ltb, lt-leb, le-leb, map-append, Some, ap₂, length, None, ◌⊎◌, suc, eqb, Result, Ok, Err, OnOk, option_map, option_eq, cond-false, eqb-false, eqb-true, flat_map-append}
 use Rattle.std.specs.Option.{option_map_or}
 use Rattle.std.specs.declared.cmp.Ordering.TheVariants.{Less, Equal, Greater}
 use Rattle.bt_bed.specs.model.Feature.{Feature, intervals_of, interval_of, Interval, Span, placed_on, spans_on, span_of}
