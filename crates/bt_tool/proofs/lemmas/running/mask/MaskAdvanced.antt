@@ -40,8 +40,8 @@ asked_more : (lines more : List SequenceLine) (records : List Feature) → (reco
 asked_more lines more records asks = grind (arith, asked_of)
 
 -- masking has come so far, and more lines and records are given
-module _ {A B : Type 0} {source_a : Source A} {source_b : Source B} {start : MaskRun A B} {before : Output} {at : Reached} {lines : LineReader A} {second : MemberReader B Feature (Option Locus)} {mask : Masking}
-    {grown : Output} (s : Masks source_a source_b start before at lines second mask grown) {new : LineReader A} (over : has_ended lines ≡ true → buffered_in lines ≡ []) {consumed : ConsumedLines}
+module _ {A B : Type 0} {source_a : Source A} {source_b : Source B} {start : MaskRun A B} {before : Output} {at : Reached} {lines : LineReader A} {second : MemberReader B Feature (Option Locus)}
+    {mask : Masking} {grown : Output} (s : Masks source_a source_b start before at lines second mask grown) {new : LineReader A} (over : has_ended lines ≡ true → buffered_in lines ≡ []) {consumed : ConsumedLines}
     (takes : TakesLines source_a lines consumed new) {taken : List Feature} {second_now : MemberReader B Feature (Option Locus)} (has : HasTaken source_b second taken second_now) where
   abbrev Going : Reached → LineReader A → MemberReader B Feature (Option Locus) → Masking → Output → Type 0
   Going = Masks source_a source_b start before

@@ -82,8 +82,8 @@ no_bytes true lines bytes fed last none =
 some_buffered : {S : Type 0} (reader : LineReader S) (first : BufferedLines) → BeginsLines (buffered_bytes reader) (lines_given reader) (is_open reader) first → buffered_in reader ≡ [] → 0 < length (buffered_bytes reader) → ⊥
 some_buffered reader first begins none some = grind (arith, no_bytes)
 
-module _ {A B : Type 0} {source_a : Source A} {source_b : Source B} {start : MaskRun A B} {before : Output} {at : Reached} {lines : LineReader A} {second : MemberReader B Feature (Option Locus)} {mask : Masking}
-    {out : Output} (s : Masks source_a source_b start before at lines second mask out) {first_lines : BufferedLines} (begins : BeginsLines (buffered_bytes lines) (lines_given lines) (is_open lines) first_lines)
+module _ {A B : Type 0} {source_a : Source A} {source_b : Source B} {start : MaskRun A B} {before : Output} {at : Reached} {lines : LineReader A} {second : MemberReader B Feature (Option Locus)}
+    {mask : Masking} {out : Output} (s : Masks source_a source_b start before at lines second mask out) {first_lines : BufferedLines} (begins : BeginsLines (buffered_bytes lines) (lines_given lines) (is_open lines) first_lines)
     (last_lines : BufferedLines) (texts : List TextLine) (parts : buffered_in lines ≡ texts ++ lines_in last_lines) (numbered : AreNumbered (suc (lines_given lines)) texts)
     {first_beds last_beds : Batch} (lent : left first_beds ≡ second.buffered) (lent_at : (cursor_in first_beds).lines ≡ lines_given second.below) {taken : List Feature} (gave : Passes first_beds taken last_beds)
     {new : LineReader A} (over : has_ended lines ≡ true → buffered_in lines ≡ []) {consumed : ConsumedLines} (are : TakenLines lines consumed (length texts)) (takes : TakesLines source_a lines consumed new)

@@ -59,8 +59,8 @@ at_end waits want e = ap (mask_rounds waits) e
 some_there : (line : ℕ) (records : List Feature) (m : Member Feature) → first_from line records ≡ Some m → 0 < length records
 some_there line records m e = grind arith
 
-module _ {A B : Type 0} {source_a : Source A} {source_b : Source B} {start : MaskRun A B} {before : Output} {at : Reached} {lines : LineReader A} {second : MemberReader B Feature (Option Locus)} {mask : Masking}
-    {out : Output} (s : Masks source_a source_b start before at lines second mask out) where
+module _ {A B : Type 0} {source_a : Source A} {source_b : Source B} {start : MaskRun A B} {before : Output} {at : Reached} {lines : LineReader A} {second : MemberReader B Feature (Option Locus)}
+    {mask : Masking} {out : Output} (s : Masks source_a source_b start before at lines second mask out) where
   -- what is wanted was made buffered, or the end of that input was given
   abbrev Fills : LineReader A → MemberReader B Feature (Option Locus) → Masking → Output → Type 0
   Fills new second_now masked grown =

@@ -209,7 +209,8 @@ module _ {A B : Type 0} {source_a : Source A} {source_b : Source B} {start : Mas
     -- a line couldn't be read
     pub stops_lines : (fault : FaultValue) (new : LineReader A) → GivesFault source_a lines fault new → (IsKept source_a lines → IsKept source_a new) → EndsAt (Some fault) new second grown
     stops_lines fault new gives kept =
-        ends_at at (stop.stops_first s.comes asks_for (λ known. tt) (wrong_first start.mask.full) no_line.0 no_line.1 fault (line_members start.mask.full at new) (gives_unread source_a start.mask.full at lines new kept fault gives))
+        ends_at at (stop.stops_first s.comes asks_for (λ known. tt) (wrong_first start.mask.full) no_line.0 no_line.1 fault (line_members start.mask.full at new)
+        (gives_unread source_a start.mask.full at lines new kept fault gives))
 
   -- a record is wanted, only while they may come
   module _ (wants : mask.want ≡ WantBed) where
@@ -244,7 +245,8 @@ module _ {A B : Type 0} {source_a : Source A} {source_b : Source B} {start : Mas
       -- the waiting line wasn't written
       pub fails_at_end : (a : SequenceLine) → stage.waiting ≡ Some a → (fault : FaultValue) (now : Output) → FailsToAdd grown (masked_line mask.how stage.taken a) fault now → EndsAt (Some fault) lines second_now now
       fails_at_end a waits fault now fails =
-          ends_at at (stop.fails_at_end s.comes asks_for (λ known. tt) a waits (asked (s.stands.waits a waits).lines) goes fault second_now now over (subst (λ (h : MaskHow). FailsToAdd grown (masked_line h stage.taken a) fault now) s.how_is fails))
+          ends_at at (stop.fails_at_end s.comes asks_for (λ known. tt) a waits (asked (s.stands.waits a waits).lines) goes fault second_now now over
+          (subst (λ (h : MaskHow). FailsToAdd grown (masked_line h stage.taken a) fault now) s.how_is fails))
 
     -- the second input couldn't give a record
     stops_by : (o : Option SequenceLine) → stage.waiting ≡ o → (fault : FaultValue) (second_now : MemberReader B Feature (Option Locus)) → IsStopped source_b second fault second_now → EndsAt (Some fault) lines second_now grown

@@ -60,7 +60,8 @@ begins_items : {S A State : Type 0} (device : Source S) (reader : MemberReader S
 begins_items device reader past items rest e begins = items_first (good_coming device.left reader) items rest (items_begin (good_coming device.left reader) past items rest e begins)
 
 -- what was written, by the second reader where it is, and what was read of it later
-wrote_by : {A B X Y U V : Type 0} {join : JoinDef X Y} {pair : Pair A B X Y U V} {out : Output} {past : List (Member Y)} {now new : MemberReader B Y V} {first : MemberReader A X U} {written : List X} {bytes : List ℕ} {grown : Output}
+wrote_by : {A B X Y U V : Type 0} {join : JoinDef X Y} {pair : Pair A B X Y U V} {out : Output} {past : List (Member Y)}
+    {now new : MemberReader B Y V} {first : MemberReader A X U} {written : List X} {bytes : List ℕ} {grown : Output}
     → Passes pair.source_b pair.second past now
     → (IsSome new.fault → All (λ m. m.line ≤ lines_given new.below) (past ++ option_to_list (ahead_in now)))
     → HandsOver pair.source_b pair.second new → HandsOver pair.source_a pair.first first → (ended : Bool)
