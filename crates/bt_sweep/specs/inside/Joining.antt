@@ -165,14 +165,13 @@ module _ {A B R S : Type 0} (cursor_a : Cursor A R) (cursor_b : Cursor B S) (For
       pub goes : GoesToFor For first proceeds.firsts proceeds.seconds old new
       pub writes : WritesFor For first proceeds.firsts proceeds.seconds old proceeds.newly pending out left grown
 
-    module _ (firsts seconds newly : List Feature) (waiting : Option Feature) (to_b : B) (fault : FaultValue)
-        (left : List ℕ) (grown : Output) where
-      -- the next record of the second input shares a base with the one that waits, and can't be held
-      pub record LacksRoom : Type 0 where
-        pub shares : SharesBase cursor_b.gives waiting to_b
-        pub writes : WritesFor For first firsts seconds old newly pending out left grown
-        pub lacks : (at : Behind For first firsts seconds old)
-            → CannotBeHeld old.limit shares.last (at.taken ++ seconds) (cursor_b.line shares.after) fault
+    -- the next record of the second input shares a base with the one that waits, and can't be held
+    pub record LacksRoom (firsts seconds newly : List Feature) (waiting : Option Feature) (to_b : B)
+        (fault : FaultValue) (left : List ℕ) (grown : Output) : Type 0 where
+      pub shares : SharesBase cursor_b.gives waiting to_b
+      pub writes : WritesFor For first firsts seconds old newly pending out left grown
+      pub lacks : (at : Behind For first firsts seconds old)
+          → CannotBeHeld old.limit shares.last (at.taken ++ seconds) (cursor_b.line shares.after) fault
 
     -- it failed once these lines of the first were settled
     pub record Breaks (fault : FaultValue) (to_a : A) (to_b : B) (left : List ℕ) (grown : Output) : Type 0 where

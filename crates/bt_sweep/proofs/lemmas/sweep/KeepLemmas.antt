@@ -427,12 +427,11 @@ module _ {A R : Type 0} {cursor : Cursor A R} {place : ℕ} {old : Sweeping} {fi
 -- Lemmas on cursors that give records on known chromosomes.
 
 -- after some of them
-pub known_later : {A R : Type 0} (cursor : Cursor A R) (gives_more : (old mid new : A) (xs ys : List Feature) → cursor.gives old xs mid → cursor.gives mid ys new → cursor.gives old (xs ++ ys) new)
-    (order now : Order) (from mid : A) (fs : List Feature) → now ≡ order → GivesKnown cursor order from → cursor.gives from fs mid → GivesKnown cursor now mid
-known_later cursor gives_more order now from mid fs same known given records to more =
-    subst (λ (o : Order). list_all (λ (r : Feature). o.knows r.chrom) records ≡ true) (sym same)
-    ((and_parts (list_all (λ (r : Feature). order.knows r.chrom) fs) (list_all (λ (r : Feature). order.knows r.chrom) records)
-    (sym (list_all-append (λ (r : Feature). order.knows r.chrom) fs records) ∙ known (fs ++ records) to (gives_more from mid to fs records given more))).1)
+pub known_later : {A R : Type 0} (cursor : Cursor A R) {order now : Order} {from mid : A} (fs : List Feature) → ((old mid new : A) (xs ys : List Feature) → cursor.gives old xs mid → cursor.gives mid ys new → cursor.gives old (xs ++ ys) new)
+    → now ≡ order → GivesKnown cursor order from → cursor.gives from fs mid → GivesKnown cursor now mid
+known_later cursor {order = order} {from = from} {mid = mid} fs gives_more same known given records to more =
+    let knows = λ (r : Feature). order.knows r.chrom in
+    rw same (and_parts (list_all knows fs) (list_all knows records) (sym (list_all-append knows fs records) ∙ known (fs ++ records) to (gives_more from mid to fs records given more))).1
 
 known_front : (order : Order) (r : Feature) (records left : List Feature) → order.knows r.chrom ≡ true → r ∷ [] ≡ records ++ left → list_all (λ (x : Feature). order.knows x.chrom) records ≡ true
 known_front order r [] left known e = refl
