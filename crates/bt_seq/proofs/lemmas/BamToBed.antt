@@ -1,5 +1,6 @@
 -- Lemmas on bamtobed.
-use Rattle.bt_lines.proofs.Std.{◌≡◌, ℕ, Bool, true, false, List, [], ◌∷◌, ◌++◌, Result, sym, ap, subst, ◌∙◌, append_assoc, append-nil, codes, length, arith, map, length-append, flat_map, flat_map-append, map-append, ◌<◌, max}
+use Rattle.std.proofs.lemmas.Grind.{common_steps}
+use Rattle.bt_lines.proofs.Std.{rules, ◌≡◌, ℕ, Bool, true, false, List, [], ◌∷◌, ◌++◌, Result, sym, ap, subst, ◌∙◌, append_assoc, append-nil, codes, length, arith, map, length-append, flat_map, flat_map-append, map-append, ◌<◌, max}
 use Rattle.bt_bed.specs.model.Feature.{Span}
 use Rattle.bt_lines.specs.model.Fault.{FaultValue}
 use Rattle.bt_lines.specs.calls.Output.{Output, Adds, FailsToAdd, FailsToPut, Grown, Puts, PutsAll}
@@ -24,19 +25,14 @@ module _ (with_cigar : Bool) (a : Alignment) where
 
   -- name and tail were cut off before the CIGAR
   pub read_cut : (piece : List ℕ) (old new : Output) (fault : FaultValue) → piece ≡ marks a.first a.last ++ quality_text with_cigar a → FailsToPut old (a.name ++ piece) fault new → FailsToPut old (a.name ++ line_tail with_cigar a) fault new
-  read_cut piece old new fault e p =
-      rw (← read_parts) (fails_before old new read_head (text_if with_cigar (a.cigar ++ codes "\n")) fault (subst (λ l. FailsToPut old (a.name ++ l) fault new) e p))
+  read_cut piece old new fault e p = grind (arith, read_parts, fails_before)
 
   pub read_alone : {A : Type 0} (piece : List ℕ) (old new : Output) (result : Result A Fault) → piece ≡ marks a.first a.last ++ quality_text with_cigar a → with_cigar ≡ false → Puts old (a.name ++ piece) result new → Puts old (a.name ++ line_tail with_cigar a) result new
-  read_alone piece old new result e unasked p =
-      subst (λ l. Puts old (a.name ++ l) result new) (e ∙ sym (append-nil (marks a.first a.last ++ quality_text with_cigar a)) ∙ ap (λ b. (marks a.first a.last ++ quality_text with_cigar a) ++ text_if b (a.cigar ++ codes "\n")) (sym unasked)) p
+  read_alone piece old new result e unasked p = search rules
 
   pub read_puts : {A : Type 0} (piece : List ℕ) (old mid new : Output) (result : Result A Fault) → piece ≡ marks a.first a.last ++ quality_text with_cigar a → with_cigar ≡ true
       → PutsAll old (a.name ++ piece) mid → Puts mid (a.cigar ++ codes "\n") result new → Puts old (a.name ++ line_tail with_cigar a) result new
-  read_puts piece old mid new result e asked p q =
-      rw (← read_parts) (puts_more old mid new read_head (text_if with_cigar (a.cigar ++ codes "\n")) result
-      (subst (λ l. PutsAll old (a.name ++ l) mid) e p)
-      (subst (λ b. Puts mid (text_if b (a.cigar ++ codes "\n")) result new) (sym asked) q))
+  read_puts piece old mid new result e asked p q = grind (arith, read_parts, puts_more)
 
   -- the line was cut off in one of its pieces
   module _ (s : Span) (o : Output) (fault : FaultValue) where
@@ -52,9 +48,7 @@ module _ (with_cigar : Bool) (a : Alignment) where
       rw (← append_assoc a.chrom (bounds_text s.start s.stop) (a.name ++ line_tail with_cigar a) ∙ line_parts with_cigar a s) (puts_more o p new (a.chrom ++ bounds_text s.start s.stop) (a.name ++ line_tail with_cigar a) result x y)
 
   pub line_has_bytes : (s : Span) → bed_line with_cigar a s ≡ [] → ⊥
-  line_has_bytes s e =
-      let size : length (bed_line with_cigar a s) ≡ 0 = ap length e in
-      absurd (omega (arith, ap length (sym (line_parts with_cigar a s)), length-append a.chrom (bounds_text s.start s.stop ++ (a.name ++ line_tail with_cigar a))))
+  line_has_bytes s e = grind (arith, common_steps)
 
   -- the line of a block alone
   pub adds_line : {A : Type 0} (s : Span) (old new : Output) (result : Result A Fault) → Puts old (bed_line with_cigar a s) result new → Adds old (flat_map (bed_line with_cigar a) (s ∷ [])) result new
@@ -68,8 +62,7 @@ module _ (with_cigar : Bool) (a : Alignment) where
   one_more done s = flat_map-append (bed_line with_cigar a) done (s ∷ []) ∙ ap (λ l. lines_of done ++ l) (append-nil (bed_line with_cigar a s))
 
   pub grown_line : (done : List Span) (s : Span) (old mid new : Output) → Grown old (lines_of done) mid → PutsAll mid (bed_line with_cigar a s) new → Grown old (lines_of (done ++ s ∷ [])) new
-  grown_line done s old mid new p q =
-      rw (one_more done s) (grown_more old mid new (lines_of done) (bed_line with_cigar a s) p (grown_all mid new (bed_line with_cigar a s) (line_has_bytes s) q))
+  grown_line done s old mid new p q = grind (arith, (one_more done s), (grown_more old mid new (lines_of done) (bed_line with_cigar a s) p (grown_all mid new (bed_line with_cigar a s) (line_has_bytes s) q)))
 
   -- one of them was cut off
   pub cut_line : (done : List Span) (s : Span) (rest all : List Span) (old mid new : Output) (fault : FaultValue) → done ++ s ∷ rest ≡ all → Grown old (lines_of done) mid → FailsToPut mid (bed_line with_cigar a s) fault new

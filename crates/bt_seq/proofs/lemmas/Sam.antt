@@ -1,4 +1,5 @@
 -- Lemmas on SAM lines and on blocks.
+use Rattle.std.proofs.lemmas.Grind.{common_steps}
 use Rattle.bt_lines.proofs.Std.{◌≡◌, ℕ, ◌+◌, ◌≤◌, Bool, true, false, List, [], ◌∷◌, ◌++◌, length, Option, Some, None, refl, sym, ap, ◌∙◌, arith, cond, append-nil, add-zero, append_assoc, flat_map, nat_lt, not, false≢true, nat_tests, sum_by-cons, sum_by_push, take_while-cons, ◌<◌, take, drop, get_or, option_map, length-append, length-take, IfSome, is_ascii_digit, list_all, list_all_more, digits_value, and_parts, take-append-drop, take_more, drop_more, take-append-le, get_or_append_left, take_all, ◌-◌, zero, suc, min, ◌||◌, map, list_any, list_any-append, Result, Ok, Err, subst, nat_le, bytes_eq, bytes_decides, ⊤, flat_map-append}
 use Rattle.bt_bed.specs.model.Feature.{Span, Feature}
 use Rattle.bt_seq.specs.model.Alignment.{begins_block, block_at, blocks_in, blocks_of, cuts, is_skip, up_to_skip, with_bases, covered_by, operations_in, reference_length, with_operation, Part, is_letter, onto_part, operation_of, each_operation, parts_of, with_part, span_with, Alignment, Fields, alignment_of, columns_say, fields_of, fields_say, is_skipped, value_up_to, length_of, is_sam_kind, sam_kinds_are_of_lines, wrong_have_sam_kinds}
@@ -40,16 +41,14 @@ length_push before operation = sum_by_push covered_by before operation
 
 -- an N covers all of its number
 pub skip_covers : (operation : Operation) → is_skip operation ≡ true → covered_by operation ≡ operation.length
-skip_covers operation e = grind (arith, nat_tests)
+skip_covers operation e = grind arith
 
 up_by : (b : Bool) (operation : Operation) (rest : List Operation) → reference_length (cond (not b) (operation ∷ rest) []) ≡ cond b 0 (covered_by operation + reference_length rest)
-up_by true operation rest = refl
-up_by false operation rest = sum_by-cons covered_by operation rest
+up_by b operation rest = grind (arith, common_steps)
 
 -- how far the operations up to the next N go
 up_length : (operation : Operation) (operations : List Operation) → reference_length (up_to_skip (operation ∷ operations)) ≡ cond (is_skip operation) 0 (covered_by operation + reference_length (up_to_skip operations))
-up_length operation operations =
-    ap reference_length (take_while-cons (λ o. not (is_skip o)) operation operations) ∙ up_by (is_skip operation) operation (up_to_skip operations)
+up_length operation operations = grind (arith, common_steps)
 
 -- the block that is open, if none begins here
 abbrev still_open : Bool → ℕ → ℕ → List Operation → List Span
@@ -66,14 +65,12 @@ open_more : (operation : Operation) (operations : List Operation) (start at : �
     → (is_skip operation ≡ false → with_bases start (at + covered_by operation + reference_length (up_to_skip operations)) ++ found ≡ open_blocks start (at + covered_by operation) operations)
     → with_bases start (at + cond k 0 (covered_by operation + reference_length (up_to_skip operations))) ++ found
     ≡ cond k (with_bases start at ++ open_blocks (at + operation.length) (at + operation.length) operations) (open_blocks start (at + covered_by operation) operations)
-open_more operation operations start at found k e skipped more = grind (arith, nat_tests)
+open_more operation operations start at found k e skipped more = grind arith
 
 module _ (s : ℕ) where
   found_open : (operations before : List Operation) (b : Bool) (start at : ℕ) → at ≡ s + reference_length before → begins_block before ≡ b → (b ≡ true → start ≡ at)
       → still_open b start at operations ++ flat_map (block_at s) (cuts before operations) ≡ open_blocks start at operations
-  found_open [] before b start at e begins same =
-      ap (λ l. still_open b start at [] ++ l) (append-nil (block_at s (record { before = before; behind = [] })))
-      ∙ one_open b s start at before [] e begins same ∙ ap (with_bases start) (add-zero at)
+  found_open [] before b start at e begins same = grind arith
   found_open (operation ∷ operations) before b start at e begins same =
       let found = flat_map (block_at s) (cuts (before ++ operation ∷ []) operations) in
       let more : at + covered_by operation ≡ s + reference_length (before ++ operation ∷ []) = omega (arith, length_push before operation) in
@@ -81,10 +78,7 @@ module _ (s : ℕ) where
       λ k. found_open operations (before ++ operation ∷ []) true (at + operation.length) (at + operation.length) (ap (λ n. at + n) (sym (skip_covers operation k)) ∙ more) (begins_push before operation ∙ k) (λ h. refl) in
       let going : is_skip operation ≡ false → with_bases start (at + covered_by operation + reference_length (up_to_skip operations)) ++ found ≡ open_blocks start (at + covered_by operation) operations =
       λ k. found_open operations (before ++ operation ∷ []) false start (at + covered_by operation) more (begins_push before operation ∙ k) (λ h. absurd (false≢true h)) in
-      sym (append_assoc (still_open b start at (operation ∷ operations)) (block_at s (record { before = before; behind = operation ∷ operations })) found)
-      ∙ ap (λ l. l ++ found) (one_open b s start at before (operation ∷ operations) e begins same)
-      ∙ ap (λ n. with_bases start (at + n) ++ found) (up_length operation operations)
-      ∙ open_more operation operations start at found (is_skip operation) refl skipped going
+      grind (arith, up_length)
 
 -- the blocks are those that are found in one pass
 pub blocks_open : (start : ℕ) (operations : List Operation) → blocks_of start operations ≡ open_blocks start start operations
@@ -108,22 +102,21 @@ block_is_last start stop rest e h = grind (arith, blocks_open)
 -- an empty text has no blocks
 pub no_blocks : (start : ℕ) (rest : List ℕ) → length rest ≡ 0 → blocks_in start (operations_in rest) ≡ []
 unfolding operations_in
-no_blocks start [] e = blocks_open start [] ∙ no_bases start start refl
-no_blocks start (byte ∷ bytes) e = absurd (omega arith)
+no_blocks start rest e = grind (arith, common_steps, blocks_open)
 
 pub is_skip_by : (operation : Operation) → operation.letter ≡ 78 → is_skip operation ≡ true
-is_skip_by operation e = grind (arith, nat_tests)
+is_skip_by operation e = grind arith
 
 -- an empty text has operations, none of them
 pub nothing_fits : (start : ℕ) → start ≤ 999999999999 → FitBehind start (operations_in [])
 unfolding operations_in
-nothing_fits start small = grind (arith, nat_tests)
+nothing_fits start small = grind arith
 
 -- Lemmas on the operations of a CIGAR.
 
 -- no digit is a letter of an operation
 pub digit_no_letter : (byte : ℕ) → is_ascii_digit byte ≡ true → is_letter byte ≡ false
-digit_no_letter byte digit = grind (arith, nat_tests)
+digit_no_letter byte digit = grind arith
 
 -- some bytes before the first of the parts
 abbrev onto_front : List ℕ → Option (List Part) → Option (List Part)
@@ -141,8 +134,7 @@ parts_behind : (front rest : List ℕ) → no_letters front ≡ true → parts_o
 parts_behind [] rest e = refl
 parts_behind (byte ∷ bytes) rest e =
     let p = and_parts (cond (is_letter byte) false true) (no_letters bytes) e in
-    let no : is_letter byte ≡ false = flipped (is_letter byte) p.0 in
-    rw (no, parts_behind bytes rest p.1) refl
+    grind (arith, (parts_behind bytes rest p.1))
 
 -- digits before the parts, of which the first begins so
 onto_some : (front : List ℕ) (part : Part) (parts : List Part)
@@ -168,24 +160,12 @@ no_number_by byte bytes (Some (part ∷ parts)) none = rw (onto_some (byte ∷ b
 pub no_number : (front rest : List ℕ) → 0 < length front → no_letters front ≡ true → ((more : List ℕ) → value_of (front ++ more) ≡ None) → operations_in (front ++ rest) ≡ None
 unfolding operations_in
 no_number [] rest some e none = absurd (omega arith)
-no_number (byte ∷ bytes) rest some e none =
-    ap (option_and_then each_operation) (parts_behind (byte ∷ bytes) rest e) ∙ no_number_by byte bytes (parts_of rest) none
-
--- digits and the letter after them
-operation_by : (digits : List ℕ) (letter : ℕ) (parts : Option (List Part)) → option_and_then each_operation (onto_front digits (with_part (record { digits = []; letter = letter }) parts))
-    ≡ with_operation (operation_of (record { digits = digits; letter = letter })) (option_and_then each_operation parts)
-operation_by digits letter None = rw (onto_none digits) (cases (value_of digits))
-  where
-    cases : (value : Option ℕ) → None ≡ with_operation (option_map (λ length. record { length = length; letter = letter }) value) None
-    cases None = refl
-    cases (Some value) = refl
-operation_by digits letter (Some parts) = rw (onto_some digits (record { digits = []; letter = letter }) parts, append-nil digits) refl
+no_number (byte ∷ bytes) rest some e none = grind (arith, parts_behind, no_number_by)
 
 pub first_operation_is : (digits : List ℕ) (letter : ℕ) (rest : List ℕ) → no_letters digits ≡ true → is_letter letter ≡ true
     → operations_in (digits ++ letter ∷ rest) ≡ with_operation (operation_of (record { digits = digits; letter = letter })) (operations_in rest)
 unfolding operations_in
-first_operation_is digits letter rest e is =
-    ap (option_and_then each_operation) (parts_behind digits (letter ∷ rest) e ∙ ap (onto_front digits) (rw is refl)) ∙ operation_by digits letter (parts_of rest)
+first_operation_is digits letter rest e is = grind (arith, parts_behind, onto_none, onto_some, append-nil)
 
 none_left_some : (text : List ℕ) → 0 < length text → none_left text ≡ None
 none_left_some text some = grind arith
@@ -208,9 +188,7 @@ first_is text value end letter inside some is digits small at named =
     let size : 0 < length (take end text) = omega (arith, length-take end text) in
     let low : digits_value 10 (take end text) ≤ 999999999999 = rw (← is) small in
     let number : value_of (take end text) ≡ Some value = sym (value_of_digits (take end text) size digits low) ∙ ap Some (sym is) in
-    let cut : text ≡ take end text ++ letter ∷ drop (end + 1) text = cut_there text end inside ∙ ap (λ b. take end text ++ b ∷ drop (end + 1) text) (sym at) in
-    let first = first_operation_is (take end text) letter (drop (end + 1) text) (digits_no_letters (take end text) digits) named in
-    ap operations_in cut ∙ first ∙ ap (λ v. with_operation (option_map (λ length. record { length = length; letter = letter }) v) (operations_in (drop (end + 1) text))) number
+    grind (arith, (cut_there text end inside), (first_operation_is (take end text) letter (drop (end + 1) text) (digits_no_letters (take end text) digits) named))
 
 -- a letter without a number
 pub bare_letter : (text : List ℕ) → 0 < length text → is_letter (get_or text 0 0) ≡ true → operations_in text ≡ none_left text
@@ -226,10 +204,7 @@ other_byte text end inside digits no_digit no_letter =
     let at : (more : List ℕ) → get_or (front ++ more) end 0 ≡ get_or text end 0 =
     λ more. get_or_append_left front more 0 end (omega arith) ∙ get_or_front text end inside in
     let clear : no_letters front ≡ true = rw (list_all_more (λ byte. cond (is_letter byte) false true) text end 0 inside, digits_no_letters (take end text) digits, no_letter) refl in
-    let none : (more : List ℕ) → value_of (front ++ more) ≡ None =
-    λ more. sym (value_of_other (front ++ more) end (omega (arith, length-append front more)) (ap is_ascii_digit (at more) ∙ no_digit)) in
-    ap operations_in (sym (take-append-drop (end + 1) text)) ∙ no_number front (drop (end + 1) text) (omega arith) clear none
-    ∙ sym (none_left_some text (omega arith))
+    grind (arith, value_of_other, length-append, (take-append-drop (end + 1) text), no_number)
   where
     get_or_front : (text : List ℕ) (end : ℕ) → end < length text → get_or (take (end + 1) text) end 0 ≡ get_or text end 0
     get_or_front text end inside = sym (get_or_append_left (take (end + 1) text) (drop (end + 1) text) 0 end (omega (arith, length-take (end + 1) text))) ∙ ap (λ l. get_or l end 0) (take-append-drop (end + 1) text)
@@ -250,8 +225,7 @@ large_number text end value inside digits is large =
     let size : length front ≡ end + 1 = omega (arith, length-take (end + 1) text) in
     let none : (more : List ℕ) → value_of (front ++ more) ≡ None =
     λ more. sym (value_of_large (front ++ more) (end + 1) (rw (take-append-le (end + 1) front more (omega arith), take_front text (end + 1), ← is) large)) in
-    ap operations_in (sym (take-append-drop (end + 1) text)) ∙ no_number front (drop (end + 1) text) (omega arith) (digits_no_letters front digits) none
-    ∙ sym (none_left_some text (omega arith))
+    grind (arith, (take-append-drop (end + 1) text), (no_number front (drop (end + 1) text) (omega arith) (digits_no_letters front digits) none))
   where
     take_front : (text : List ℕ) (n : ℕ) → take n (take n text) ≡ take n text
     take_front text n = take_all n (take n text) (omega (arith, length-take n text))
@@ -262,37 +236,26 @@ unfolding operations_in
 digits_alone [] end past digits = refl
 digits_alone (byte ∷ bytes) end past digits =
     let all : list_all is_ascii_digit (byte ∷ bytes) ≡ true = sym (ap (list_all is_ascii_digit) (take_all end (byte ∷ bytes) past)) ∙ digits in
-    ap (λ l. option_and_then each_operation (parts_of l)) (sym (append-nil (byte ∷ bytes)))
-    ∙ ap (option_and_then each_operation) (parts_behind (byte ∷ bytes) [] (digits_no_letters (byte ∷ bytes) all) ∙ onto_nothing byte bytes)
+    grind (arith, (append-nil (byte ∷ bytes)), (parts_behind (byte ∷ bytes) [] (digits_no_letters (byte ∷ bytes) all)), (onto_nothing byte bytes))
 
 -- no operation is left
 pub span_end : (total : ℕ) (rest : List ℕ) → length rest ≡ 0 → total ≤ 1000000000000 → Some total ≡ span_with total (operations_in rest)
 unfolding operations_in
-span_end total [] e small = ap Some (grind (arith, nat_tests))
-span_end total (byte ∷ bytes) e small = absurd (omega arith)
+span_end total rest e small = grind (arith, common_steps)
 
 -- an operation covers no more bases than its number
 pub covered_within : (operation : Operation) → covered_by operation ≤ operation.length
-covered_within operation = grind (arith, nat_tests)
+covered_within operation = grind arith
 
 -- a part before the parts of the rest
 pub parts_cut : (digits : List ℕ) (letter : ℕ) (rest : List ℕ) (parts : List Part) → no_letters digits ≡ true → is_letter letter ≡ true → parts_of rest ≡ Some parts
     → parts_of (digits ++ letter ∷ rest) ≡ Some (record { digits = digits; letter = letter } ∷ parts)
-parts_cut digits letter rest parts e is found =
-    let here : parts_of (letter ∷ rest) ≡ Some (record { digits = []; letter = letter } ∷ parts) = rw (is, found) refl in
-    parts_behind digits (letter ∷ rest) e ∙ ap (onto_front digits) here ∙ onto_some digits (record { digits = []; letter = letter }) parts
-    ∙ ap (λ (d : List ℕ). Some (record { digits = d; letter = letter } ∷ parts)) (append-nil digits)
+parts_cut digits letter rest parts e is found = grind (arith, parts_behind, onto_some, append-nil)
 
 -- a single M covers as many bases as its number says
 single_match : (digits : List ℕ) (value : ℕ) → length digits ≤ 12 → Some value ≡ value_of digits → span_with 0 (operations_in (digits ++ 77 ∷ [])) ≡ Some value
 unfolding operations_in value_of
-single_match digits value few e =
-    let are = digits_denoting digits value e in
-    let small : value ≤ 999999999999 = value_short (length digits) value (omega (arith, are.1, digits_below digits are.0)) few in
-    let first = first_operation_is digits 77 [] (digits_no_letters digits are.0) refl in
-    ap (span_with 0) first
-    ∙ ap (λ v. span_with 0 (with_operation (option_map (λ l. record { length = l; letter = 77 }) v) (Some []))) (sym e)
-    ∙ ap Some (grind (arith, nat_tests))
+single_match digits value few e = grind (arith, first_operation_is, digits_no_letters)
 
 pub single_span_is : (text : List ℕ) (end : ℕ) (number : Option ℕ) → end ≤ 12 → length text ≡ end + 1 → get_or text end 0 ≡ 77 → number ≡ value_of (take end text) → IfSome number (λ span. span_with 0 (operations_in text) ≡ Some span)
 single_span_is text end number few size last e = grind (arith, take_all, take_more, single_match, length-take)
@@ -321,12 +284,8 @@ module _ (how : MaskHow) (s : Extent) where
       → map (masked_byte how) (take to bases) ++ drop to bases ≡ masked_in how (s ∷ []) position bases
   from_inside [] position zero low e = refl
   from_inside [] position (suc to) low e = absurd (omega arith)
-  from_inside (base ∷ bases) position zero low e =
-      ap (λ bs. base ∷ bs) (from_inside bases (suc position) zero (omega arith) (omega arith))
-      ∙ outside position base bases (grind (arith, nat_tests))
-  from_inside (base ∷ bases) position (suc to) low e =
-      ap (λ bs. masked_byte how base ∷ bs) (from_inside bases (suc position) to (omega arith) (omega arith))
-      ∙ inside position base bases (grind (arith, nat_tests))
+  from_inside (base ∷ bases) position zero low e = grind (arith, (from_inside bases (suc position) zero (omega arith) (omega arith)))
+  from_inside (base ∷ bases) position (suc to) low e = grind (arith, (from_inside bases (suc position) to (omega arith) (omega arith)))
 
   -- from any position on
   pub masked_between : (bases : List ℕ) (position from count : ℕ) → from ≡ min (s.start - position) (length bases) → from + count ≡ min (s.stop - position) (length bases)
@@ -335,9 +294,7 @@ module _ (how : MaskHow) (s : Extent) where
   masked_between [] position zero (suc count) d e = absurd (omega arith)
   masked_between [] position (suc from) count d e = absurd (omega arith)
   masked_between (base ∷ bases) position zero count d e = from_inside (base ∷ bases) position count (omega arith) (omega arith)
-  masked_between (base ∷ bases) position (suc from) count d e =
-      ap (λ bs. base ∷ bs) (masked_between bases (suc position) from count (omega arith) (omega arith))
-      ∙ outside position base bases (grind (arith, nat_tests))
+  masked_between (base ∷ bases) position (suc from) count d e = grind (arith, (masked_between bases (suc position) from count (omega arith) (omega arith)))
 
   -- if nothing is between, nothing changes
   pub masked_nowhere : (bases : List ℕ) (position from to : ℕ) → from ≡ min (s.start - position) (length bases) → to ≡ min (s.stop - position) (length bases) → to ≤ from
@@ -357,9 +314,7 @@ of_columns f flag chrom p q s kind e = grind arith
 
 of_fields : (fields : Option Fields) (kind : Kind) → fields_say fields ≡ Err kind → is_sam_kind kind ≡ true
 unfolding fields_say
-of_fields None kind e = same_kind {T = Option Alignment} (Err TooFewColumns) TooFewColumns kind refl e refl
-of_fields (Some f) kind e =
-    of_columns f (value_up_to 65535 f.flag) f.chrom (value_up_to 2147483647 f.position) (value_up_to 255 f.quality) (length_of f.cigar) kind e
+of_fields fields kind e = grind (arith, of_columns)
 
 of_line : (b : Bool) (fields : Option Fields) (kind : Kind) → cond b (Ok None) (fields_say fields) ≡ Err kind → is_sam_kind kind ≡ true
 of_line true fields kind e = cc
@@ -430,9 +385,7 @@ module _ {A : Type 0} (chrom : A → List ℕ) where
 
   tags_on : (left : Option (List (List ℕ))) (last : Option (List ℕ)) (xs : List A) → tags left last xs ≡ blocks_tags left last (blocks xs)
   tags_on left last [] = refl
-  tags_on left last (x ∷ xs) =
-      ap (λ (ts : List (Tagged A)). record { item = x; left = next_left left last x } ∷ ts) (tags_on (next_left left last x) (Some (chrom x)) xs)
-      ∙ with_any left last x (blocks xs)
+  tags_on left last (x ∷ xs) = grind (arith, (tags_on (next_left left last x) (Some (chrom x)) xs), with_any)
 
   all_tags : (left : Option (List (List ℕ))) (bs : List (Block A)) → blocks_tags left None bs ≡ spread (owned_from left bs)
   all_tags left bs = grind arith
@@ -487,13 +440,10 @@ module _ (bases : ℕ) where
   early_decides n ns [] = refl
   early_decides n ns (r ∷ rs) = early_decides n ns rs
 
-  items_decide : (left : Option (List (List ℕ))) (rs : List Feature) → HasOne rs → block_decides bases left rs ≡ list_any (tag_decides bases) (tag_items left rs)
-  items_decide left rs h = grind (arith, own_decides, early_decides)
-
   any_decides : (left : Option (List (List ℕ))) (bs : List (Block Feature)) → AllHaveOne bs
       → list_any (λ (o : Owned Feature). block_decides bases o.left o.block.items) (owned_from left bs) ≡ list_any (tag_decides bases) (spread (owned_from left bs))
   any_decides left [] h = refl
-  any_decides left (b ∷ bs) h = grind (arith, items_decide, list_any-append, any_decides (left_by left b.chrom) bs h.1)
+  any_decides left (b ∷ bs) h = grind (arith, list_any-append, any_decides (left_by left b.chrom) bs h.1, own_decides, early_decides)
 
   pub decided_tagged : (names : List (List ℕ)) (records : List Feature)
       → list_any (λ (o : Owned Feature). block_decides bases o.left o.block.items) (owned names records) ≡ list_any (tag_decides bases) (tags_of names records)
@@ -503,8 +453,7 @@ module _ (bases : ℕ) where
 pub tags_more : (left : Option (List (List ℕ))) (last : Option (List ℕ)) (rs : List Feature) (r : Feature)
     → tags (λ (r : Feature). r.chrom) left last (rs ++ r ∷ []) ≡ tags (λ (r : Feature). r.chrom) left last rs ++ record { item = r; left = leave left last (rs ++ r ∷ []) } ∷ []
 tags_more left last [] r = refl
-tags_more left last (s ∷ ss) r =
-    ap (λ (ts : List (Tagged Feature)). record { item = s; left = next_left (λ (r : Feature). r.chrom) left last s } ∷ ts) (tags_more (next_left (λ (r : Feature). r.chrom) left last s) (Some s.chrom) ss r)
+tags_more left last (s ∷ ss) r = grind (arith, (tags_more (next_left (λ (r : Feature). r.chrom) left last s) (Some s.chrom) ss r))
 
 -- the chromosome of the last record, or else this
 abbrev pub last_from : Option (List ℕ) → List Feature → Option (List ℕ)
@@ -515,5 +464,4 @@ pub tags_append : (left : Option (List (List ℕ))) (last : Option (List ℕ)) (
     → tags (λ (r : Feature). r.chrom) left last (rs ++ more)
     ≡ tags (λ (r : Feature). r.chrom) left last rs ++ tags (λ (r : Feature). r.chrom) (leave left last rs) (last_from last rs) more
 tags_append left last [] more = refl
-tags_append left last (s ∷ ss) more =
-    ap (λ (ts : List (Tagged Feature)). record { item = s; left = next_left (λ (r : Feature). r.chrom) left last s } ∷ ts) (tags_append (next_left (λ (r : Feature). r.chrom) left last s) (Some s.chrom) ss more)
+tags_append left last (s ∷ ss) more = grind (arith, (tags_append (next_left (λ (r : Feature). r.chrom) left last s) (Some s.chrom) ss more))

@@ -41,13 +41,8 @@ leave_on : (left : Option (List (List ℕ))) (last : List ℕ) (rs : List Featur
 leave_on left last [] = refl
 leave_on left last (r ∷ rs) = leave_on (one_leaves left (Some last) r) r.chrom rs ∙ with_any left last r (blocks rs)
 
-first_joined : (left : Option (List (List ℕ))) (r : Feature) (b : Block Feature) (bs : List (Block Feature)) (t : Bool) → bytes_eq r.chrom b.chrom ≡ t
-    → cond t (left_at_last (left_by left r.chrom) (owned_from (left_by left r.chrom) bs)) (left_at_last (left_by left r.chrom) (owned_from (left_by left r.chrom) (b ∷ bs)))
-    ≡ left_at_last left (owned_from left (cond t (record { chrom = b.chrom; items = r ∷ b.items } ∷ bs) (record { chrom = r.chrom; items = r ∷ [] } ∷ b ∷ bs)))
-first_joined left r b bs t e = grind (arith, bytes_decides)
-
 first_any : (left : Option (List (List ℕ))) (r : Feature) (bs : List (Block Feature)) → blocks_leave (left_by left r.chrom) r.chrom bs ≡ left_at_last left (owned_from left (block_with r.chrom r bs))
-first_any left r bs = grind (arith, first_joined)
+first_any left r bs = grind (arith, bytes_decides)
 
 -- from the start
 pub leave_all : (left : Option (List (List ℕ))) (rs : List Feature) → leave left None rs ≡ left_at_last left (owned_from left (blocks rs))
@@ -65,16 +60,12 @@ more left [] r = refl
 more left (s ∷ ss) r = more_on left None s ss r
 
 pub goes_on_or_begins : next_goes_on_or_begins
-goes_on_or_begins names records r =
-    sym (leave_all (Some names) (records ++ r ∷ [])) ∙ more (Some names) records r
-    ∙ ap (λ left. cond (goes_on records r) left (left_by left r.chrom)) (leave_all (Some names) records)
+goes_on_or_begins names records r = grind (arith, (leave_all (Some names) (records ++ r ∷ [])), (more (Some names) records r), (leave_all (Some names) records))
 
 -- Lemmas on what an engine knows of sequences and blocks.
 
 pub last_goes_on : (records : List Feature) (r : Feature) → is_it (last_chrom records) r.chrom ≡ goes_on records r
-last_goes_on [] r = refl
-last_goes_on (s ∷ []) r = refl
-last_goes_on (s ∷ t ∷ ss) r = last_goes_on (t ∷ ss) r
+last_goes_on records r = grind arith
 
 -- the owner, once it is known whether the record goes on with the last block
 abbrev pub found_by : (own goes is_name : Bool) → Owner

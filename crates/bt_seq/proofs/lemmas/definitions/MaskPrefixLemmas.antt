@@ -1,5 +1,5 @@
 -- Lemmas on lines that are decided early.
-use Rattle.bt_lines.proofs.Std.{◌≡◌, ℕ, suc, ◌+◌, ◌<◌, ◌≤◌, Bool, true, false, cond, ◌&&◌, ◌||◌, nat_le, nat_lt, length, List, [], ◌∷◌, ◌++◌, filter, Option, Some, None, refl, sym, ap, ◌∙◌, subst, append-nil, bytes_eq, arith, ⊤, bytes_decides, AllByRecursion, list_any, nat_tests, flat_map-append, filter-append, list_any-append, map, is_none, is_some, option_and_then}
+use Rattle.bt_lines.proofs.Std.{rules, ◌≡◌, ℕ, suc, ◌+◌, ◌<◌, ◌≤◌, Bool, true, false, cond, ◌&&◌, ◌||◌, nat_le, nat_lt, length, List, [], ◌∷◌, ◌++◌, filter, Option, Some, None, refl, sym, ap, ◌∙◌, subst, append-nil, bytes_eq, arith, ⊤, bytes_decides, AllByRecursion, list_any, nat_tests, flat_map-append, filter-append, list_any-append, map, is_none, is_some, option_and_then}
 use Rattle.bt_bed.specs.model.Feature.{Feature}
 use Rattle.bt_bed.specs.model.BedLine.{fault_at_line}
 use Rattle.bt_bed.specs.model.Good.{locus_at, AreInBlocks, IsBlockUpTo, Member}
@@ -28,14 +28,7 @@ stays_by : (a : Bool) (b c : Bool) → (a || b) ≡ true → (a || (b || c)) ≡
 stays_by a b c e = grind arith
 
 pub decided_stays : decided_lines_stay
-decided_stays line records more e =
-    let decides = tag_decides (bases_up_to line) in
-    let before = tags_of line.names records in
-    let after = tags chrom_of (leave (Some line.names) None records) (last_from None records) more in
-    decided_by_tags line (records ++ more)
-    ∙ ap (λ (ts : List (Tagged Feature)). is_unnamed line.names || list_any decides ts) (tags_append (Some line.names) None records more)
-    ∙ ap (λ b. is_unnamed line.names || b) (list_any-append decides before after)
-    ∙ stays_by (is_unnamed line.names) (list_any decides before) (list_any decides after) (sym (decided_by_tags line records) ∙ e)
+decided_stays line records more e = grind (arith, (decided_by_tags line (records ++ more)), (tags_append (Some line.names) None records more), list_any-append, (decided_by_tags line records))
 
 -- records that start after these bases
 abbrev pub AreBehind : ℕ → List Feature → Type 0
@@ -50,8 +43,7 @@ behind_rest bases [] more h = h
 behind_rest bases (r ∷ rs) more h = behind_rest bases rs more h.1
 
 blocks_rest : (r : Feature) (rs : List Feature) → AreInBlocks (r ∷ rs) → AreInBlocks rs
-blocks_rest r [] h = tt
-blocks_rest r (s ∷ ss) h = h.1
+blocks_rest r rs h = grind arith
 
 blocks_drop : (rs more : List Feature) → AreInBlocks (rs ++ more) → AreInBlocks more
 blocks_drop [] more h = h
@@ -70,46 +62,30 @@ module _ (bases : ℕ) where
   IsPast (Some (name ∷ names)) r = ⊥
 
   past_own : (left : Option (List (List ℕ))) (r : Feature) → IsPast left r → AreBehind bases (items_if_last left (r ∷ []))
-  past_own None r h = tt
-  past_own (Some []) r h = (h, tt)
-  past_own (Some (name ∷ names)) r h = absurd h
+  past_own left r h = grind arith
 
   past_next : (left : Option (List (List ℕ))) (r s : Feature) (t : Bool) → bytes_eq r.chrom s.chrom ≡ t → IsBlockUpTo (locus_at r) (locus_at s) → IsPast left r
       → IsPast (cond t left (left_by left s.chrom)) s
-  past_next None r s true e up h = tt
-  past_next None r s false e up h = tt
-  past_next (Some []) r s true e up h =
-      let rises : r.start ≤ s.start = up ((bytes_decides r.chrom s.chrom).0 e) in omega arith
-  past_next (Some []) r s false e up h = tt
-  past_next (Some (name ∷ names)) r s t e up h = absurd h
+  past_next left r s t e up h = search rules
 
   -- all that follow it in order
   past_all : (left : Option (List (List ℕ))) (r : Feature) (rs : List Feature) → IsPast left r → AreInBlocks (r ∷ rs) → AreBehind bases (own_in (tags chrom_of left (Some r.chrom) rs))
   past_all left r [] h placed = tt
   past_all left r (s ∷ ss) h placed =
       let now = past_next left r s (bytes_eq r.chrom s.chrom) refl placed.0 h in
-      let left_now = next_left chrom_of left (Some r.chrom) s in
-      behind_both bases (items_if_last left_now (s ∷ [])) (own_in (tags chrom_of left_now (Some s.chrom) ss)) (past_own left_now s now) (past_all left_now s ss now placed.1)
+      grind (arith, (past_all (next_left chrom_of left (Some r.chrom) s) s ss now placed.1))
 
   le_true : (a b : ℕ) → (nat_le a b || false) ≡ true → a ≤ b
-  le_true a b e = grind (arith, nat_tests)
+  le_true a b e = grind arith
 
   decides_past : (left : Option (List (List ℕ))) (r : Feature) → block_decides bases left (r ∷ []) ≡ true → IsPast left r
-  decides_past None r e = tt
-  decides_past (Some []) r e = le_true bases r.start e
-  decides_past (Some (name ∷ names)) r e = absurd (let apart : false ≡ true = e in cc)
+  decides_past left r e = grind arith
 
   after_by : (left : Option (List (List ℕ))) (r : Feature) (rs more : List Feature) (t : Bool) → block_decides bases left (r ∷ []) ≡ t
       → (t || list_any (tag_decides bases) (tags chrom_of left (Some r.chrom) rs)) ≡ true → AreInBlocks (r ∷ (rs ++ more))
       → (list_any (tag_decides bases) (tags chrom_of left (Some r.chrom) rs) ≡ true → AreInBlocks (rs ++ more) → AreBehind bases (own_in (tags chrom_of (leave left (Some r.chrom) rs) (last_from (Some r.chrom) rs) more)))
       → AreBehind bases (own_in (tags chrom_of (leave left (Some r.chrom) rs) (last_from (Some r.chrom) rs) more))
-  after_by left r rs more true d e placed rest =
-      let all = past_all left r (rs ++ more) (decides_past left r d) placed in
-      let split : own_in (tags chrom_of left (Some r.chrom) (rs ++ more)) ≡ own_in (tags chrom_of left (Some r.chrom) rs) ++ own_in (tags chrom_of (leave left (Some r.chrom) rs) (last_from (Some r.chrom) rs) more) =
-      ap own_in (tags_append left (Some r.chrom) rs more)
-      ∙ flat_map-append (λ (t : Tagged Feature). items_if_last t.left (t.item ∷ [])) (tags chrom_of left (Some r.chrom) rs) (tags chrom_of (leave left (Some r.chrom) rs) (last_from (Some r.chrom) rs) more) in
-      behind_rest bases (own_in (tags chrom_of left (Some r.chrom) rs)) (own_in (tags chrom_of (leave left (Some r.chrom) rs) (last_from (Some r.chrom) rs) more))
-      (subst (λ (l : List Feature). AreBehind bases l) split all)
+  after_by left r rs more true d e placed rest = grind (arith, (past_all left r (rs ++ more) (decides_past left r d) placed), (tags_append left (Some r.chrom) rs more), flat_map-append, behind_rest)
   after_by left r rs more false d e placed rest = rest e (blocks_rest r (rs ++ more) placed)
 
   -- the records that follow those that decide a line
@@ -122,9 +98,7 @@ module _ (bases : ℕ) where
 
   before_by : (left : Option (List (List ℕ))) (r : Feature) (more : List Feature) → block_decides bases left (r ∷ []) ≡ true → AreInBlocks (r ∷ more)
       → AreBehind bases (items_if_last left (r ∷ []) ++ own_in (tags chrom_of left (Some r.chrom) more))
-  before_by left r more d placed =
-      let past = decides_past left r d in
-      behind_both bases (items_if_last left (r ∷ [])) (own_in (tags chrom_of left (Some r.chrom) more)) (past_own left r past) (past_all left r more past placed)
+  before_by left r more d placed = grind (arith, past_all)
 
   drop_false : (b : Bool) → (b || false) ≡ true → b ≡ true
   drop_false b e = grind arith
@@ -133,39 +107,23 @@ module _ (bases : ℕ) where
       → (a || (block_decides bases (next_left chrom_of (leave left last rs) (last_from last rs) r) (r ∷ []) || false)) ≡ true → AreInBlocks (rs ++ r ∷ more)
       → AreBehind bases (own_in (tags chrom_of (leave left last rs) (last_from last rs) (r ∷ more)))
   before_split left last rs r more true a e placed = after_all left last rs (r ∷ more) a placed
-  before_split left last rs r more false a e placed =
-      let now = next_left chrom_of (leave left last rs) (last_from last rs) r in
-      before_by now r more (drop_false (block_decides bases now (r ∷ [])) e) (blocks_drop rs (r ∷ more) placed)
+  before_split left last rs r more false a e placed = grind (arith, before_by, drop_false, blocks_drop)
 
   -- the record that decides it and those that follow
   pub before_all : (left : Option (List (List ℕ))) (last : Option (List ℕ)) (rs : List Feature) (r : Feature) (more : List Feature)
       → list_any (tag_decides bases) (tags chrom_of left last (rs ++ r ∷ [])) ≡ true → AreInBlocks (rs ++ r ∷ more)
       → AreBehind bases (own_in (tags chrom_of (leave left last rs) (last_from last rs) (r ∷ more)))
-  before_all left last rs r more e placed =
-      let decides = tag_decides bases in
-      let behind = tags chrom_of (leave left last rs) (last_from last rs) (r ∷ []) in
-      before_split left last rs r more (list_any decides (tags chrom_of left last rs)) refl
-      (sym (list_any-append decides (tags chrom_of left last rs) behind) ∙ sym (ap (list_any decides) (tags_append left last rs (r ∷ []))) ∙ e) placed
+  before_all left last rs r more e placed = grind (arith, before_split, list_any-append, tags_append)
 
   no_cover : (position : ℕ) (rs : List Feature) → position < bases → AreBehind bases rs → list_any (covers position) rs ≡ false
   no_cover position [] low h = refl
-  no_cover position (r ∷ rs) low h =
-      let start : bases ≤ r.start = h.0 in
-      let none : covers position r ≡ false = grind (arith, nat_tests) in
-      ap (λ b. b || list_any (covers position) rs) none ∙ no_cover position rs low h.1
-
-  cover_same : (position : ℕ) (rs extra : List Feature) → position < bases → AreBehind bases extra → list_any (covers position) (rs ++ extra) ≡ list_any (covers position) rs
-  cover_same position rs extra low h = grind (arith, list_any-append, no_cover)
+  no_cover position (r ∷ rs) low h = grind (arith, (no_cover position rs low h.1))
 
   -- they mask nothing before
   masked_same : (how : MaskHow) (rs extra : List Feature) (position : ℕ) (text : List ℕ) → position + length text ≤ bases → AreBehind bases extra
       → masked_from how (rs ++ extra) position text ≡ masked_from how rs position text
   masked_same how rs extra position [] low h = refl
-  masked_same how rs extra position (base ∷ text) low h = grind (arith, cover_same, masked_same how rs extra (suc position) text (omega arith) h)
-
-text_same : (how : MaskHow) (line : SequenceLine) (rs extra : List Feature) → AreBehind (bases_up_to line) extra → (h : Bool) → is_header line.text ≡ h
-    → cond h line.text (masked_from how (rs ++ extra) line.before line.text) ≡ cond h line.text (masked_from how rs line.before line.text)
-text_same how line rs extra behind h is = grind (arith, masked_same)
+  masked_same how rs extra position (base ∷ text) low h = grind (arith, masked_same how rs extra (suc position) text (omega arith) h, list_any-append, no_cover)
 
 pub none_next : (t : Bool) (name : List ℕ) → cond t None (left_by None name) ≡ None
 none_next t name = grind arith
@@ -184,10 +142,7 @@ unnamed_alike names e rs ss = grind (arith, unnamed_own)
 
 -- the records of the line's sequence, split where it was decided
 own_split : (names : List (List ℕ)) (rs more : List Feature) → own_records names (rs ++ more) ≡ own_records names rs ++ own_in (tags chrom_of (leave (Some names) None rs) (last_from None rs) more)
-own_split names rs more =
-    own_tagged names (rs ++ more) ∙ ap own_in (tags_append (Some names) None rs more)
-    ∙ flat_map-append (λ (t : Tagged Feature). items_if_last t.left (t.item ∷ [])) (tags_of names rs) (tags chrom_of (leave (Some names) None rs) (last_from None rs) more)
-    ∙ ap (λ (l : List Feature). l ++ own_in (tags chrom_of (leave (Some names) None rs) (last_from None rs) more)) (sym (own_tagged names rs))
+own_split names rs more = grind (arith, (own_tagged names (rs ++ more)), (tags_append (Some names) None rs more), flat_map-append, (own_tagged names rs))
 
 module _ (how : MaskHow) (line : SequenceLine) where
   abbrev text_by : List Feature → List ℕ
@@ -196,16 +151,12 @@ module _ (how : MaskHow) (line : SequenceLine) where
   stay_text : (rs more : List Feature) → AreInBlocks (rs ++ more) → (u : Bool) → is_unnamed line.names ≡ u → (u || list_any (tag_decides (bases_up_to line)) (tags_of line.names rs)) ≡ true
       → masked_text how (rs ++ more) line ≡ masked_text how rs line
   stay_text rs more placed true u e = ap text_by (unnamed_alike line.names u (rs ++ more) rs)
-  stay_text rs more placed false u e =
-      ap text_by (own_split line.names rs more)
-      ∙ text_same how line (own_records line.names rs) (own_in (tags chrom_of (leave (Some line.names) None rs) (last_from None rs) more)) (after_all (bases_up_to line) (Some line.names) None rs more e placed) (is_header line.text) refl
+  stay_text rs more placed false u e = grind (arith, (own_split line.names rs more), (after_all (bases_up_to line) (Some line.names) None rs more e placed), masked_same)
 
   before_text : (rs : List Feature) (r : Feature) (more : List Feature) → AreInBlocks (rs ++ r ∷ more) → (u : Bool) → is_unnamed line.names ≡ u → (u || list_any (tag_decides (bases_up_to line)) (tags_of line.names (rs ++ r ∷ []))) ≡ true
       → masked_text how (rs ++ r ∷ more) line ≡ masked_text how rs line
   before_text rs r more placed true u e = ap text_by (unnamed_alike line.names u (rs ++ r ∷ more) rs)
-  before_text rs r more placed false u e =
-      ap text_by (own_split line.names rs (r ∷ more))
-      ∙ text_same how line (own_records line.names rs) (own_in (tags chrom_of (leave (Some line.names) None rs) (last_from None rs) (r ∷ more))) (before_all (bases_up_to line) (Some line.names) None rs r more e placed) (is_header line.text) refl
+  before_text rs r more placed false u e = grind (arith, (own_split line.names rs (r ∷ more)), (before_all (bases_up_to line) (Some line.names) None rs r more e placed), masked_same)
 
 -- a record that decides a line isn't held by it
 module _ (line : SequenceLine) where
@@ -214,10 +165,7 @@ module _ (line : SequenceLine) where
 
   none_reaches : (rs : List Feature) → AreBehind (bases_up_to line) rs → filter reaches rs ≡ []
   none_reaches [] h = refl
-  none_reaches (r ∷ rs) h =
-      let start : bases_up_to line ≤ r.start = h.0 in
-      let past : reaches r ≡ false = grind (arith, nat_tests) in
-      ap (λ b. cond b (r ∷ filter reaches rs) (filter reaches rs)) past ∙ none_reaches rs h.1
+  none_reaches (r ∷ rs) h = grind (arith, (none_reaches rs h.1))
 
   held_same : (rs extra : List Feature) → AreBehind (bases_up_to line) extra
       → filter reaches (rs ++ extra) ≡ filter reaches rs
@@ -228,12 +176,7 @@ module _ (line : SequenceLine) where
       → (u || list_any (tag_decides (bases_up_to line)) (tags_of line.names (rs ++ r ∷ []))) ≡ true
       → held_for line (rs ++ r ∷ []) ≡ held_for line rs
   held_by_tags rs r placed true u e = grind (arith, unnamed_alike)
-  held_by_tags rs r placed false u e =
-      let left = leave (Some line.names) None rs in
-      let next = own_in (tags chrom_of left (last_from None rs) (r ∷ [])) in
-      ap (filter reaches) (own_split line.names rs (r ∷ []))
-      ∙ held_same (own_records line.names rs) next
-      (before_all (bases_up_to line) (Some line.names) None rs r [] e placed)
+  held_by_tags rs r placed false u e = grind (arith, (own_split line.names rs (r ∷ [])), held_same, (before_all (bases_up_to line) (Some line.names) None rs r [] e placed))
 
   pub held_before : (rs : List Feature) (r : Feature) → AreInBlocks (rs ++ r ∷ [])
       → decided line (rs ++ r ∷ []) ≡ true → held_for line (rs ++ r ∷ []) ≡ held_for line rs
@@ -272,19 +215,12 @@ told_later names (m ∷ ms) ts = told_later names ms ts
 abbrev told_in : List (Owned (Member Feature)) → Option FaultValue
 told_in os = option_and_then (λ (o : Owned (Member Feature)). told_at_first o.block.items) (find (λ (o : Owned (Member Feature)). is_none o.left) os)
 
-told_block : (left : Option (List (List ℕ))) (b : Block (Member Feature)) (os : List (Owned (Member Feature))) (ts : List (Tagged (Member Feature))) → HasOne b.items → told_in os ≡ told_of ts
-    → told_in (record { block = b; left = left } ∷ os) ≡ told_of (tag_items left b.items ++ ts)
-told_block left b os ts h e = grind (arith, told_later)
-
 told_spread : (left : Option (List (List ℕ))) (bs : List (Block (Member Feature))) → AllHaveOne bs → told_in (owned_from left bs) ≡ told_of (spread (owned_from left bs))
 told_spread left [] h = refl
-told_spread left (b ∷ bs) h =
-    let next = left_by left b.chrom in
-    told_block next b (owned_from next bs) (spread (owned_from next bs)) h.0 (told_spread next bs h.1)
+told_spread left (b ∷ bs) h = grind (arith, (told_spread (left_by left b.chrom) bs h.1), told_later)
 
 told_tagged : (names : List (List ℕ)) (ms : List (Member Feature)) → no_sequence names ms ≡ told_of (tags chrom_at (Some names) None ms)
-told_tagged names ms =
-    told_spread (Some names) (blocks_by chrom_at ms) (blocks_have_one chrom_at ms) ∙ sym (ap told_of (tags_all chrom_at (Some names) ms))
+told_tagged names ms = grind (arith, (told_spread (Some names) (blocks_by chrom_at ms) (blocks_have_one chrom_at ms)), (tags_all chrom_at (Some names) ms))
 
 -- after a block that belongs to none, all belong to none
 pub none_leaves : (last : Option (List ℕ)) (rs : List Feature) → leave None last rs ≡ None
@@ -320,9 +256,7 @@ first_told left last [] more m e none = first_here (next_left chrom_at left last
 first_told left last (p ∷ past) more m e none = grind (arith, first_by, first_told (next_left chrom_at left last p) (Some p.item.chrom) past more m e none)
 
 pub first_is_told : first_unowned_is_told
-first_is_told names past more m e none =
-    told_tagged names (past ++ m ∷ more)
-    ∙ first_told (Some names) None past more m (ap is_some (leave_all (Some names) (items past)) ∙ e) (leave_all (Some names) (items (past ++ m ∷ [])) ∙ none)
+first_is_told = grind (arith, told_tagged, first_told, leave_all)
 
 -- Lemmas on what is held by a line.
 
@@ -330,10 +264,7 @@ module _ (from to position : ℕ) (low : from ≤ position) (high : position < t
   any_held_at : (r : Feature) (rs : List Feature) (t : Bool) → (nat_lt r.start to && nat_lt from r.stop) ≡ t
       → list_any (has_position position) (map extent_of (filter (λ (r : Feature). nat_lt r.start to && nat_lt from r.stop) rs)) ≡ list_any (covers position) rs
       → list_any (has_position position) (map extent_of (cond t (r ∷ filter (λ (r : Feature). nat_lt r.start to && nat_lt from r.stop) rs) (filter (λ (r : Feature). nat_lt r.start to && nat_lt from r.stop) rs))) ≡ list_any (covers position) (r ∷ rs)
-  any_held_at r rs true e rest = ap (λ b. covers position r || b) rest
-  any_held_at r rs false e rest =
-      let none : covers position r ≡ false = grind (arith, nat_tests) in
-      rest ∙ sym (ap (λ b. b || list_any (covers position) rs) none)
+  any_held_at r rs t e rest = grind arith
 
   -- of the positions in between, the records that reach into them cover those that all cover
   any_held : (rs : List Feature) → list_any (has_position position) (map extent_of (filter (λ (r : Feature). nat_lt r.start to && nat_lt from r.stop) rs)) ≡ list_any (covers position) rs
@@ -344,9 +275,7 @@ masked_alike : (how : MaskHow) (extents : List Extent) (records : List Feature) 
     → ((at : ℕ) → position ≤ at → at < position + length bases → list_any (has_position at) extents ≡ list_any (covers at) records)
     → masked_in how extents position bases ≡ masked_from how records position bases
 masked_alike how extents records [] position h = refl
-masked_alike how extents records (base ∷ bases) position h =
-    ap (λ b. cond b (masked_byte how base) base ∷ masked_in how extents (suc position) bases) (h position (omega arith) (omega arith))
-    ∙ ap (λ bs. cond (list_any (covers position) records) (masked_byte how base) base ∷ bs) (masked_alike how extents records bases (suc position) (λ at low high. h at (omega arith) (omega arith)))
+masked_alike how extents records (base ∷ bases) position h = grind (arith, (masked_alike how extents records bases (suc position) (λ at low high. h at (omega arith) (omega arith))))
 
 pub held_alone : held_mask_alone
 held_alone how line records plain =

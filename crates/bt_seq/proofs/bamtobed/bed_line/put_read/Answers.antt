@@ -1,3 +1,4 @@
+use Rattle.std.proofs.lemmas.Grind.{common_steps}
 use Rattle.bt_lines.proofs.Std.{◌≡◌, ◌∙◌, ◌++◌, ◌-◌, List, ℕ, ap, append-nil, arith, length, replicate, take, drop, drop_all, length-drop, take_all, err_from_is_err_and}
 use Rattle.bt_seq.specs.inside.Sam.{marks, quality_text}
 use Rattle.bt_seq.specs.calls.Sam.{alignment_lent}
@@ -8,18 +9,10 @@ use Rattle.bt_seq.proofs.bamtobed.bed_line.put_read.Goals as goal
 piece_is : (text before empty : List ℕ) (first from : ℕ) (front tail : List ℕ) → length text ≡ 28 → length empty ≡ 28 → drop first text ≡ front ++ drop from before → drop from before ≡ tail ++ drop 28 empty
     → take (28 - first) (drop first text) ≡ front ++ tail
 piece_is text before empty first from front tail size none written is =
-    take_all (28 - first) (drop first text) (omega (arith, length-drop first text)) ∙ written
-    ∙ ap (λ l. front ++ l) (is ∙ ap (λ l. tail ++ l) (drop_all 28 empty (omega (arith, none))) ∙ append-nil tail)
+    grind (arith, (take_all (28 - first) (drop first text) (omega (arith, length-drop first text))), (drop_all 28 empty (omega (arith, none))), (append-nil tail))
 
 pub returns-then-not-with_cigar : goal.returns-then-not-with_cigar
-returns-then-not-with_cigar g c =
-    let a = alignment_lent c.args.sam.now in
-    let q = c.write_quality-quality in
-    let m = c.write_marks-first in
-    let kept = q.auto.text in
-    let same = m.auto.text in
-    read_alone c.args.with_cigar a _ _ _ c.put_both.result (piece_is m.new.text q.new.text (replicate 28 0) m.result q.result (marks a.first a.last) (quality_text c.args.with_cigar a) (omega arith) (omega arith) m.ensures.written q.ensures.written)
-    c.if-not-with_cigar.true c.put_both.ensures
+returns-then-not-with_cigar g c = grind (arith, common_steps, read_alone, piece_is)
 
 pub returns-in_err-put_both : goal.returns-in_err-put_both
 returns-in_err-put_both g c =

@@ -1,4 +1,5 @@
 -- Lemmas on what is known of blocks, from call to call.
+use Rattle.std.proofs.lemmas.Grind.{common_steps}
 use Rattle.bt_lines.proofs.Std.{◌≡◌, ℕ, ◌⊎◌, Bool, true, false, cond, List, [], ◌∷◌, ◌++◌, Option, Some, None, refl, sym, ap, ◌∙◌, subst, inl, inr, bytes_eq, arith, cases_Bool, bytes_decides, is_some, option_map}
 use Rattle.std.specs.List.{last_or}
 use Rattle.bt_bed.specs.model.Feature.{Feature}
@@ -32,11 +33,7 @@ snoc_front [] (b ∷ []) x y e = absurd (let apart : x ∷ [] ≡ b ∷ y ∷ []
 snoc_front [] (b ∷ c ∷ ys) x y e = absurd (let apart : x ∷ [] ≡ b ∷ c ∷ (ys ++ y ∷ []) = e in cc)
 snoc_front (a ∷ []) [] x y e = absurd (let apart : a ∷ x ∷ [] ≡ y ∷ [] = e in cc)
 snoc_front (a ∷ c ∷ xs) [] x y e = absurd (let apart : a ∷ c ∷ (xs ++ x ∷ []) ≡ y ∷ [] = e in cc)
-snoc_front (a ∷ xs) (b ∷ ys) x y e =
-    let whole : a ∷ (xs ++ x ∷ []) ≡ b ∷ (ys ++ y ∷ []) = e in
-    let first : a ≡ b = cc in
-    let rest : xs ++ x ∷ [] ≡ ys ++ y ∷ [] = cc in
-    let same : xs ≡ ys = snoc_front xs ys x y rest in cc
+snoc_front (a ∷ xs) (b ∷ ys) x y e = grind (arith, (snoc_front xs ys x y (cc)))
 
 no_snoc : (xs : List (List ℕ)) (x : List ℕ) → Some [] ≡ Some (xs ++ x ∷ []) → ⊥
 no_snoc [] x e = absurd (let apart : Some [] ≡ Some (x ∷ []) = e in cc)
@@ -96,33 +93,11 @@ module _ (names : List (List ℕ)) (taken : List Feature) (r : Feature) (m : Mat
 
   -- it begins a block of the last sequence
   begins_known : MayTake → goes_on taken r ≡ false → (owner_of m r.chrom ≡ Nobody → ⊥) → KnowsLast names (taken ++ r ∷ []) (matched_with m r.chrom)
-  begins_known k begins some =
-      let it : is_it m.last r.chrom ≡ false = goes_is k.knows ∙ begins in
-      let begun = begun_by m r.chrom some it in
-      let left : left_after names (taken ++ r ∷ []) ≡ Some [] = own_left (left_after names (taken ++ r ∷ [])) (sym begun.2 ∙ owner_may k) in
-      let x : Matched = record { name = m.name; last = m.name; own = true } in
-      let known : Knows names (taken ++ r ∷ []) x = record {
-        last = is_it_true m.name r.chrom begun.1 ∙ sym (chrom_more taken r);
-        where_last = inl (record { left = left; own = refl });
-      } in
-      let near : (e : KnowsEarlier names (taken ++ r ∷ []) x) → e.before ≡ [] = λ e. absurd (no_snoc e.before e.name (sym left ∙ e.left)) in
-      let all : KnowsLast names (taken ++ r ∷ []) x = record { knows = known; near = near } in
-      rw (it, begun.0) all
+  begins_known k begins some = grind (arith, owner_may, is_it_true, chrom_more)
 
   -- it is taken
   pub take_may : MayTake → (owner_of m r.chrom ≡ Nobody → ⊥) → KnowsLast names (taken ++ r ∷ []) (matched_with m r.chrom)
-  take_may k some = elim (cases_Bool (goes_on taken r)) [
-    | inl goes ↦ goes_known k goes
-    | inr begins ↦ begins_known k begins some
-  ]
-
-  -- it belongs to none
-  pub nobody_may : MayTake → owner_of m r.chrom ≡ Nobody → KnowsAhead names taken r (matched_with m r.chrom)
-  nobody_may k nobody =
-      let none = none_by m r.chrom nobody in
-      let begins = sym (goes_is k.knows) ∙ none.0 in
-      let all : KnowsAhead names taken r m = record { knows = k.knows; begins = begins; none = k.none begins } in
-      rw (none.0, none.1) all
+  take_may k some = grind (arith, goes_known, begins_known)
 
   -- it was ahead, and its block is known
   known_it : KnowsLast names (taken ++ r ∷ []) m → is_it m.last r.chrom ≡ true
@@ -132,20 +107,10 @@ module _ (names : List (List ℕ)) (taken : List Feature) (r : Feature) (m : Mat
   take_known k = rw (known_it k) k
 
   pub owner_known : KnowsLast names (taken ++ r ∷ []) m → owner_of m r.chrom ≡ owner_by (left_after names (taken ++ r ∷ []))
-  owner_known k =
-      owners_found names (taken ++ r ∷ []) m r k.knows (λ begins. absurd (never (sym begins ∙ goes_more taken r)))
-      ∙ ap owner_by (goes_on_or_begins names (taken ++ r ∷ []) r
-      ∙ ap (λ b. cond b (left_after names (taken ++ r ∷ [])) (left_by (left_after names (taken ++ r ∷ [])) r.chrom)) (goes_more taken r))
+  owner_known k = grind (arith, (owners_found names (taken ++ r ∷ []) m r k.knows (λ begins. absurd (never (sym begins ∙ goes_more taken r)))), (goes_on_or_begins names (taken ++ r ∷ []) r), (goes_more taken r))
 
   pub next_can_be : (waits : Bool) (ahead : Option Feature) → KnowsNext waits names taken ahead m → IsNext ahead r → KnowsNone names taken m ⊎ (MayTake ⊎ KnowsLast names (taken ++ r ∷ []) m)
-  next_can_be waits None known next = elim known [
-    | inl none ↦ inl none
-    | inr last ↦ inr (inl (may_last last))
-  ]
-  next_can_be waits (Some a) known next = elim known [
-    | inl last ↦ inr (inr (subst (λ (x : Feature). KnowsLast names (taken ++ x ∷ []) m) next last.0))
-    | inr ahead ↦ inr (inl (may_ahead (subst (λ (x : Feature). KnowsAhead names taken x m) next ahead.0)))
-  ]
+  next_can_be waits ahead known next = grind (arith, may_last)
 
   left_none : KnowsNone names taken m → left_after names (taken ++ r ∷ []) ≡ None
   left_none k = ap (λ ns. left_after ns (taken ++ r ∷ [])) k.unnamed ∙ ap (λ (rs : List Feature). left_after [] (rs ++ r ∷ [])) k.untaken
@@ -175,22 +140,13 @@ module _ (names : List (List ℕ)) (taken : List Feature) (r : Feature) (m : Mat
   own_ahead can left = inl (take_next can (ap is_some left), λ e. left)
 
   pub none_ahead : KnowsNone names taken m ⊎ (MayTake ⊎ KnowsLast names (taken ++ r ∷ []) m) → is_unnamed names ≡ false → left_after names (taken ++ r ∷ []) ≡ None → KnowsNext false names taken (Some r) (matched_with m r.chrom)
-  none_ahead can is_named left = elim can [
-    | inl none ↦ absurd (never (sym is_named ∙ ap is_unnamed none.unnamed))
-    | inr more ↦ elim more [
-      | inl may ↦ inr (nobody_may may (owner_may may ∙ ap owner_by left), λ e. left)
-      | inr last ↦ absurd (known_left last left)
-    ]
-  ]
+  none_ahead can is_named left = grind (arith, owner_may, common_steps)
 
 -- one more sequence
 module _ (names : List (List ℕ)) (n : List ℕ) (taken : List Feature) (m : Matched) where
   -- after the names that are left
   grown_known : (rs : List Feature) (left : List (List ℕ)) → m.last ≡ last_chrom rs → left_after names rs ≡ Some left → Knows (names ++ n ∷ []) rs (named m n)
-  grown_known rs left last e = record {
-    last = last;
-    where_last = inr (record { before = left; name = n; left = left_grows n names left rs e; named = refl; own = refl });
-  }
+  grown_known rs left last e = grind (arith, (left_grows n names left rs e))
 
   front_is : (rs : List Feature) (left : List (List ℕ)) → left_after names rs ≡ Some left → (e : KnowsEarlier (names ++ n ∷ []) rs (named m n)) → e.before ≡ left
   front_is rs left is e =
@@ -215,17 +171,7 @@ module _ (names : List (List ℕ)) (n : List ℕ) (taken : List Feature) (m : Ma
       }
 
   pub with_header : (ahead : Option Feature) → (is_some ahead ≡ false → (names ≡ []) × (taken ≡ [])) → KnowsNext false names taken ahead m → KnowsNext true (names ++ n ∷ []) taken ahead (named m n)
-  with_header None first known =
-      let at = first refl in
-      let left : left_after names taken ≡ Some [] = ap (λ ns. left_after ns taken) at.0 ∙ ap (λ (rs : List Feature). left_after [] rs) at.1 in
-      elim known [
-        | inl none ↦ inr (grown_last taken (none.last ∙ sym (ap last_chrom at.1)) left)
-        | inr last ↦ inr (grown_last taken last.knows.last left)
-      ]
-  with_header (Some r) first known = elim known [
-    | inl last ↦ inl (grown_last (taken ++ r ∷ []) last.0.knows.last (last.1 refl), λ e. absurd (never (sym e)))
-    | inr ahead ↦ inr (ahead_grows r ahead.0 (ahead.1 refl), λ e. absurd (never (sym e)))
-  ]
+  with_header ahead first known = grind (arith, grown_last, ahead_grows)
 
 -- one more line of the same sequence
 pub with_plain : (names : List (List ℕ)) (taken : List Feature) (ahead : Option Feature) (m : Matched) → KnowsNext false names taken ahead m → KnowsNext true names taken ahead m

@@ -1,5 +1,6 @@
 -- Lemmas on the steps of a masking engine.
-use Rattle.bt_lines.proofs.Std.{◌≡◌, ℕ, nat_eq, Bool, true, false, cond, not, ◌||◌, ◌&&◌, filter, if◌then◌else◌, is_none, is_some, nat_le, Option, nat_lt, length, List, [], ◌∷◌, ◌++◌, arith, Some, None, Result, Ok, Err, refl, sym, ap, ◌∙◌, subst, inl, inr, nat_tests, IsErr, IsOk, ◌+◌, ◌<◌, zero, suc, map, take, drop, slice_index_or, slice_set, ◌-◌, ◌≤◌, eqb, Fits, w8, ap₂, append-nil, append_assoc, length-append, Each1, chunk, put_chunk, sel_l, top, agree_below, agree_below_at, eqb_yes, T, drop-drop, drop_all, drop_at, length-drop, length-map, length-take-le, map-append, take-append-drop, take_at, take_rest, put_chunk_is, take-add, ◌==◌, take_while, take_all, All-head, All-tail, All-take, take_while-cons}
+use Rattle.std.proofs.lemmas.Grind.{common_steps}
+use Rattle.bt_lines.proofs.Std.{rules, ◌≡◌, ℕ, nat_eq, Bool, true, false, cond, not, ◌||◌, ◌&&◌, filter, if◌then◌else◌, is_none, is_some, nat_le, Option, nat_lt, length, List, [], ◌∷◌, ◌++◌, arith, Some, None, Result, Ok, Err, refl, sym, ap, ◌∙◌, subst, inl, inr, nat_tests, IsErr, IsOk, ◌+◌, ◌<◌, zero, suc, map, take, drop, slice_index_or, slice_set, ◌-◌, ◌≤◌, eqb, Fits, w8, ap₂, append-nil, append_assoc, length-append, Each1, chunk, put_chunk, sel_l, top, agree_below, agree_below_at, eqb_yes, T, drop-drop, drop_all, drop_at, length-drop, length-map, length-take-le, map-append, take-append-drop, take_at, take_rest, put_chunk_is, take-add, ◌==◌, take_while, take_all, All-head, All-tail, All-take, take_while-cons}
 use Rattle.bt_bed.specs.model.Feature.{Feature}
 use Rattle.bt_lines.specs.calls.Names.{fault_value}
 use Rattle.bt_lines.specs.calls.Output.{Output, Adds, FailsToAdd, Grown}
@@ -15,33 +16,21 @@ use Rattle.bt_seq.specs.declared.mask.matching.Owner.{Owner}
 use Rattle.bt_seq.specs.declared.sam.extent.Extent.{Extent}
 use Rattle.bt_lines.specs.calls.Columns.{IsBefore, Lacks}
 
--- what is put of a line into which nothing reaches
-plain_bytes : (old : Masking) (line : Waiting) → old.window.held ≡ []
-    → line.text ++ end_bytes line.ending ≡ line_bytes old line
-plain_bytes old line none = grind (arith, none_masked)
-
 pub none_held : (held : List Extent) → nat_eq (length held) 0 ≡ true → held ≡ []
-none_held [] e = refl
-none_held (s ∷ ss) e =
-    let some : nat_eq (length (s ∷ ss)) 0 ≡ false = grind (arith, nat_tests) in
-    absurd (let apart : false ≡ true = sym some ∙ e in cc)
+none_held held e = grind (arith, common_steps)
 
 -- it was written as it was given
 pub wrote_given : {A : Type 0} (r : Result A Fault) (old new : Masking) (line : Waiting) (out grown : Output)
     → old.window.held ≡ [] → Adds out (line.text ++ end_bytes line.ending) r grown
     → (IsOk r → new ≡ record old { waiting = None; want = Line }) → (IsErr r → new.want ≡ Nothing)
     → WritesGiven old line out r new grown
-wrote_given (Ok done) old new line out grown none adds next stops =
-    (next refl, subst (λ (l : List ℕ). Grown out l grown) (plain_bytes old line none) adds)
-wrote_given (Err fault) old new line out grown none adds next stops =
-    (stops refl, inl (subst (λ (l : List ℕ). FailsToAdd out l (fault_value fault) grown) (plain_bytes old line none) adds))
+wrote_given r old new line out grown none adds next stops = grind (arith, none_masked)
 
 -- it was kept and then written
 pub wrote_kept : {A : Type 0} (r : Result A Fault) (old kept new : Masking) (line : Waiting) (out grown : Output)
     → kept ≡ record old { waiting = Some line; want = Bed }
     → ((l : Waiting) → kept.waiting ≡ Some l → Writes kept l out r new grown) → WritesGiven old line out r new grown
-wrote_kept {A} r old kept new line out grown is writes =
-    kept_by r (subst (λ (s : Masking). Writes s line out r new grown) is (writes line (ap (λ (s : Masking). s.waiting) is)))
+wrote_kept {A} r old kept new line out grown is writes = grind (arith, kept_by)
   where
     kept_by : (r : Result A Fault) → Writes (record old { waiting = Some line; want = Bed }) line out r new grown
         → WritesGiven old line out r new grown
@@ -60,32 +49,13 @@ writes_line r old moved new number line out grown m now writes = grind arith
 waits_now : {A : Type 0} (r : Result A Fault) (old new : Masking) (number : ℕ) (line : Waiting) (out : Output)
     → is_stray old line.text ≡ false → writes_at_once (moved_to old line.text) line.text ≡ false
     → Keeps (moved_to old line.text) line r new → TakesLine old number line out r new out
-waits_now (Ok done) old new number line out fine later k =
-    let moved = moved_to old line.text in (
-      fine,
-      k ∙ ap (λ b. record moved { waiting = cond b None (Some line); want = cond b Line Bed }) (sym later),
-      subst (λ b. Grown out (cond b (line_bytes moved line) []) out) (sym later) (grown_none out),
-    )
-waits_now (Err fault) old new number line out fine later k =
-    let moved = moved_to old line.text in (
-      k.0,
-      inr (
-        fine,
-        inr (
-          k.1,
-          refl,
-          or_middle (is_header line.text) (writes_at_once moved line.text) (nat_lt 0 (length moved.window.held)) later,
-        ),
-      ),
-    )
+waits_now r old new number line out fine later k = search rules
 
 -- a line was kept until it is decided
 pub keeps_line : {A : Type 0} (r : Result A Fault) (old moved new : Masking) (number : ℕ) (line : Waiting) (out : Output)
     → (moved ≡ moved_to old line.text) × (is_stray old line.text ≡ false) → writes_at_once moved line.text ≡ false
     → Keeps moved line r new → TakesLine old number line out r new out
-keeps_line r old moved new number line out m later keeps =
-    waits_now r old new number line out m.1 (sym (ap (λ (s : Masking). writes_at_once s line.text) m.0) ∙ later)
-    (subst (λ (s : Masking). Keeps s line r new) m.0 keeps)
+keeps_line r old moved new number line out m later keeps = search rules
 
 ahead_parts : (h n e d : Bool) → (not h && (n && (e && d))) ≡ true
     → (h ≡ false) × (n ≡ true) × (e ≡ true) × (d ≡ true)
@@ -103,16 +73,7 @@ none_held_on held place none = ap (λ ss. filter (λ (s : Extent). nat_lt place 
 -- a line that stays as it was given was written
 pub passes_line : {A : Type 0} (done : A) (old new : Masking) (number : ℕ) (line : Waiting) (out grown : Output)
     → (stays_as_given old line.text ≡ true) × (new ≡ passed old line.text) × Grown out (line.text ++ end_bytes line.ending) grown → TakesLine old number line out (Ok done) new grown
-passes_line done old new number line out grown p =
-    let moved : Masking = record old { window = gone_on old.window (length line.text) } in
-    let ahead = ahead_parts (is_header line.text) (is_some old.matched.name) (nat_eq (length old.window.held) 0) (old.bed_ended || nat_le moved.window.bases old.decided_to) p.0 in
-    let is_moved : moved ≡ moved_to old line.text =
-    ap (λ b. if b then record old { matched = named old.matched (name_in old.full line.text); window = no_bases } else moved) (sym ahead.0) in
-    let none : moved.window.held ≡ [] = none_held_on old.window.held old.window.bases (none_held old.window.held ahead.2) in
-    writes_line (Ok done) old moved new number line out grown
-    (is_moved, named_not_stray old.matched.name (is_header line.text) (nat_lt 0 (length line.text)) ahead.1)
-    (decided_now old.bed_ended (is_none old.matched.name) (is_header line.text) (nat_le moved.window.bases old.decided_to) ahead.0 ahead.3)
-    (p.1, subst (λ (l : List ℕ). Grown out l grown) (plain_bytes moved line none) p.2)
+passes_line done old new number line out grown p = grind (arith, none_held, none_masked)
 
 -- a record decided the line that waits, which was written
 pub wrote_line : (old inside known new : Masking) (r : Feature) (owner : Owner) (matched : Matched) (line : Waiting) (out grown : Output)
@@ -231,23 +192,18 @@ module _ (text : List ℕ) (end n : ℕ) (space : IsBefore 32 text end) (tab : I
       let rest = drop (n + 1) front ++ drop end text in
       let whole : text ≡ name ++ 9 ∷ rest =
       sym (take-append-drop end text) ∙ ap (λ l. l ++ drop end text) (tab.cut below) ∙ append_assoc name (9 ∷ drop (n + 1) front) (drop end text) in
-      let is : take n text ≡ name = ap (take n) whole ∙ take_at name (9 ∷ rest) n (length-take-le n front tab.within) in
-      is ∙ sym (ap (take_while in_name) whole ∙ before_end name rest 9 (All-take (λ byte. (byte == 32) ≡ false) n front space.clear) tab.clear refl)
+      grind (arith, (take_at name (9 ∷ rest) n (length-take-le n front tab.within)), (before_end name rest 9 (All-take (λ byte. (byte == 32) ≡ false) n front space.clear) tab.clear refl))
 
   -- else a space does, or the end of the text
   module _ (none : n ≡ length front) where
     clear : Lacks 9 front
     clear = subst (Lacks 9) (take_all n front (omega (arith, none))) tab.clear
 
-    by_space : end < length text → take n text ≡ take_while in_name text
-    by_space below = grind (arith, size, before_end, clear)
-
     by_end : length text ≤ end → take n text ≡ take_while in_name text
     by_end over = grind (arith, take_all, all_named)
 
     by_rest : (b : Bool) → nat_lt end (length text) ≡ b → take n text ≡ take_while in_name text
-    by_rest true e = by_space (let below : end < length text = grind (arith, nat_tests) in below)
-    by_rest false e = by_end (let over : length text ≤ end = grind (arith, nat_tests) in over)
+    by_rest b e = grind (arith, by_end, size, before_end, clear)
 
   by_front : (b : Bool) → nat_lt n (length front) ≡ b → take n text ≡ take_while in_name text
   by_front true e = by_tab (let below : n < length front = grind (arith, nat_tests) in below)

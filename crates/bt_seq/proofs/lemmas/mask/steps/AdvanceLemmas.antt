@@ -1,5 +1,6 @@
 -- Lemmas on lines and records that are given to a masking engine together.
-use Rattle.bt_lines.proofs.Std.{◌≡◌, ◌⊎◌, inl, inr, ℕ, ◌<◌, ◌≤◌, Bool, true, false, cond, List, [], ◌∷◌, ◌++◌, length, append-nil, append_assoc, Option, None, Some, Result, Ok, Err, refl, sym, ap, ◌∙◌, arith, flat_map, false≢true}
+use Rattle.std.proofs.lemmas.Grind.{common_steps}
+use Rattle.bt_lines.proofs.Std.{rules, ◌≡◌, ◌⊎◌, inl, inr, ℕ, ◌<◌, ◌≤◌, Bool, true, false, cond, List, [], ◌∷◌, ◌++◌, length, append-nil, append_assoc, Option, None, Some, Result, Ok, Err, refl, sym, ap, ◌∙◌, arith, flat_map, false≢true}
 use Rattle.bt_bed.specs.model.Feature.{Feature}
 use Rattle.bt_bed.specs.declared.read.cursor.Cursor.{Ghosts as Cursor}
 use Rattle.bt_bed.specs.declared.record.taken.Taken.{Taken}
@@ -30,15 +31,7 @@ put_known bytes = record { put = Some bytes; took = Some bytes; has_failed = fal
 
 grown_known : (bytes : List ℕ) → Grown (put_known []) bytes (put_known bytes)
 unfolding put_known
-grown_known bytes = record {
-  appends = refl;
-  block = λ h. ([], sym (append-nil bytes), omega arith);
-  grows = (bytes, refl);
-  served = refl;
-  sink_served = refl;
-  again = λ e. absurd (false≢true e);
-  nothing = λ e. ap (λ (l : List ℕ). put_known l) e;
-}
+grown_known bytes = search rules
 
 bytes_known : {bytes more : List ℕ} → Grown (put_known []) more (put_known bytes) → bytes ≡ more
 unfolding put_known
@@ -110,8 +103,7 @@ NoneWaits old r number out answer new grown = (stage : MaskStage) → MaskStands
 
 -- while a record is wanted, they go on
 pub going : {stage : MaskStage} {old : Masking} → MaskStandsAt stage old → old.want ≡ Bed → (o : Option SequenceLine) → stage.waiting ≡ o → stage.bed_ended ≡ false
-going {stage} stands wants None e = (wants_bed stage.lines_ended stage.bed_ended (rw e at (sym stands.want_is ∙ wants))).1
-going stands wants (Some a) e = (stands.waits a e).bed
+going stands wants o e = grind (arith, common_steps)
 
 fails_by : {old : Masking} {r : Feature} {number : ℕ} {out grown : Output} (fault : Fault) (new : Masking) → Waits old r out (Err fault) new grown → NoneWaits old r number out (Err fault) new grown
     → (stage : MaskStage) → MaskStandsAt stage old → IsNext stage.ahead r → (o : Option SequenceLine) → stage.waiting ≡ o
@@ -292,13 +284,7 @@ module _ {C R : Type 0} (cursor : Cursor C R) (gives_more : (old mid new : C) (x
     (first : GivesBoth cursor old lines records out (Ok done) mid between passing through) where
   after_both : {was mid_ahead ahead : Option Feature} {taken : List Feature} → ComesAfter cursor was records first.taken mid_ahead → ComesAfter cursor mid_ahead passing taken ahead
       → ComesAfter cursor was records (first.taken ++ taken) ahead
-  after_both {taken} f c r e = elim (c r e) [
-    | inl same ↦ elim (f r same.0) [
-      | inl none ↦ inl (none.0, rw none.1 same.1)
-      | inr there ↦ inr (there.0, there.1, rw (same.1, append-nil first.taken) there.2, there.3)
-    ]
-    | inr there ↦ inr (there.0, there.1, gives_more records passing there.0 first.taken taken first.given there.2, there.3)
-  ]
+  after_both f c = search rules
 
   module _ {new : Masking} {left : BufferedLines} {last : C} {grown : Output} where
     -- what was given changes neither how it masks nor how it names sequences

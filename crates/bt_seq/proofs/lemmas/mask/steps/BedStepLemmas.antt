@@ -1,5 +1,6 @@
 -- Lemmas on a masking engine that is given a record, or the end of the records.
-use Rattle.bt_lines.proofs.Std.{◌≡◌, ℕ, ◌≤◌, ◌<◌, min, Bool, true, false, cond, ◌&&◌, ◌||◌, nat_lt, List, [], ◌∷◌, ◌++◌, map, filter, Option, Some, None, Result, Ok, Err, refl, sym, ap, ◌∙◌, subst, append-nil, inl, inr, ◌⊎◌, arith, is_some, option_map, option_to_list, nat_tests, map-append, filter-append, not, append_assoc, flat_map, list_all, and_from, and_parts, false≢true, or_left, flat_map-append, list_all-append}
+use Rattle.std.proofs.lemmas.Grind.{common_steps}
+use Rattle.bt_lines.proofs.Std.{rules, ◌≡◌, ℕ, ◌≤◌, ◌<◌, min, Bool, true, false, cond, ◌&&◌, ◌||◌, nat_lt, List, [], ◌∷◌, ◌++◌, map, filter, Option, Some, None, Result, Ok, Err, refl, sym, ap, ◌∙◌, subst, append-nil, inl, inr, ◌⊎◌, arith, is_some, option_map, option_to_list, nat_tests, map-append, filter-append, not, append_assoc, flat_map, list_all, and_from, and_parts, false≢true, or_left, flat_map-append, list_all-append}
 use Rattle.std.specs.List.{last_or}
 use Rattle.bt_bed.specs.model.Feature.{Feature}
 use Rattle.bt_bed.specs.model.BedLine.{fault_at_line}
@@ -42,18 +43,15 @@ module _ (line : SequenceLine) (r : Feature) (range : r.stop ≤ max_number) whe
   held_more rs = ap (filter reaches) (own_more line.names rs r) ∙ filter-append reaches (own_records line.names rs) (items_if_last (left_after line.names (rs ++ r ∷ [])) (r ∷ []))
 
   module _ (w : Bounds) (before : w.before ≡ min line.before limit) where
-    extent_by : (h t : Bool) → h ≡ t → (with_extent h w r.start r.stop).held ≡ w.held ++ map extent_of (cond t (r ∷ []) [])
-    extent_by h t e = grind (arith, append-nil)
-
     extent_more : (left : Option (List (List ℕ))) → block_decides (bases_up_to line) left (r ∷ []) ≡ false
         → (with_extent (holds_by (owner_by left) w r) w r.start r.stop).held ≡ w.held ++ map extent_of (filter reaches (items_if_last left (r ∷ [])))
-    extent_more left e = grind (arith, extent_by)
+    extent_more left e = grind (arith, append-nil)
 
     hold_item : (left : Option (List (List ℕ))) → block_decides (bases_up_to line) left (r ∷ []) ≡ false → holds_by (owner_by left) w r ≡ true → filter reaches (items_if_last left (r ∷ [])) ≡ r ∷ []
-    hold_item left e d = grind (arith, nat_tests)
+    hold_item left e d = grind arith
 
 left_some : (bases : ℕ) (left : Option (List (List ℕ))) (r : Feature) → block_decides bases left (r ∷ []) ≡ false → is_some left ≡ true
-left_some bases left r e = grind (arith, nat_tests)
+left_some bases left r e = grind arith
 
 owner_some : (left : Option (List (List ℕ))) → (owner_by left ≡ Nobody → ⊥) → is_some left ≡ true
 owner_some left h = grind arith
@@ -64,7 +62,7 @@ up_to_by left r = grind arith
 
 -- the block of a record that decides a line belongs to the last sequence or to none
 decides_left : (bases : ℕ) (left : Option (List (List ℕ))) (r : Feature) → block_decides bases left (r ∷ []) ≡ true → (left ≡ None) ⊎ (left ≡ Some [])
-decides_left bases left r e = grind (arith, nat_tests)
+decides_left bases left r e = grind arith
 
 -- a line waits
 module _ (how : MaskHow) (full : Bool) (stage : MaskStage) (line : SequenceLine) (waits : stage.waiting ≡ Some line) (old : Masking) (stands : MaskMovesTo how full stage old) where
@@ -176,79 +174,22 @@ module _ (how : MaskHow) (full : Bool) (stage : MaskStage) (line : SequenceLine)
 
     module _ (out : Output) (new : Masking) (grown : Output) where
       writes_line : (decides old r ≡ true) → Grown out (line_bytes old (kept_line line)) grown → new ≡ after_decided → WritesLine how full stage line r out new grown
-      writes_line e puts is = record {
-        decides = decided_is ∙ e;
-        stands = subst (λ (x : Masking). MaskMovesTo how full (with_decided stage r) x) (sym is) (decided_stands e);
-        puts = subst (λ (l : List ℕ). Grown out l grown) bytes_are puts;
-        settled = masked_before how line stage.taken r (decided_is ∙ e);
-      }
+      writes_line e puts is = grind (arith, decided_is, decided_stands, bytes_are, masked_before)
 
       pub gives_bed : (answer : Result Taken Fault) → TakesBed old (kept_line line) r out answer new grown → GivesBed how full stage line r out answer new grown
-      gives_bed (Ok Yes) t = record {
-        undecided = decided_is ∙ t.0;
-        stands = subst (λ (x : Masking). MaskMovesTo how full (with_record stage r) x) (sym t.1) (taken_stands t.0);
-        same_output = t.2;
-      }
+      gives_bed (Ok Yes) t = grind (arith, decided_is, taken_stands)
       gives_bed (Ok No) t = writes_line t.0 t.2 t.1
-      gives_bed (Err fault) t = (
-        t.0,
-        elim t.1 [
-          | inl wrote ↦ inl (record {
-            decides = decided_is ∙ wrote.0;
-            fails = subst (λ (l : List ℕ). FailsToAdd out l (fault_value fault) grown) bytes_are wrote.1;
-            settled = masked_before how line stage.taken r (decided_is ∙ wrote.0);
-          })
-          | inr held ↦ inr (record {
-            undecided = decided_is ∙ held.0;
-            to_hold = held_more line r range stage.taken
-                ∙ ap (λ (l : List Feature). held_for line stage.taken ++ l) (hold_item line r range old.window at_last.inside.counts.before left (sym decides_is ∙ held.0) (sym holds_is ∙ held.1));
-            is = held.2;
-            same_output = held.3;
-          })
-        ],
-      )
-
-  -- the records end
-  ended_stands : MaskMovesTo how full (with_bed_ended stage) (record old { bed_ended = true; waiting = None; want = Line })
-  ended_stands =
-      stands_at how full (with_bed_ended stage) (record old { bed_ended = true; waiting = None; want = Line }) (Some line) given_last stands.how_is stands.full_is (record {
-        waiting_is = refl;
-        want_is = sym (ap (λ b. want_of false b true) as_waits.lines);
-        bed_ended_is = refl;
-        waits = λ l d. absurd (let apart : None ≡ Some l = d in cc);
-        holds = at_last.holds;
-        is_open = at_last.is_open;
-        owned = at_last.owned;
-        inside = record {
-          counts = at_last.inside.counts;
-          name_is = at_last.inside.name_is;
-          is_decided = λ n going. absurd (never (sym going));
-          in_range = at_last.inside.in_range;
-          knows = λ d. absurd (never (sym d));
-          has_ahead = λ d e u. absurd (never (sym e));
-          ahead_in_range = at_last.inside.ahead_in_range;
-          decided_to_is = λ n going. absurd (never (sym going));
-        };
-      })
+      gives_bed (Err fault) t = grind (arith, decided_is, bytes_are, masked_before, held_more, hold_item, at_last, decides_is, holds_is)
 
   pub ends_bed : {A : Type 0} (answer : Result A Fault) (out : Output) (new : Masking) (grown : Output) → Writes (record old { bed_ended = true }) (kept_line line) out answer new grown → EndsRecords how full stage line out answer new grown
-  ends_bed (Ok done) out new grown w = (
-    subst (λ (x : Masking). MaskMovesTo how full (with_bed_ended stage) x) (sym w.0) ended_stands,
-    subst (λ (l : List ℕ). Grown out l grown) bytes_are w.1,
-  )
-  ends_bed (Err fault) out new grown w = (w.0, subst (λ (l : List ℕ). FailsToAdd out l (fault_value fault) grown) bytes_are w.1)
+  ends_bed answer out new grown w = grind (arith, bytes_are, given_last, at_last)
 
 -- what is decided by the records taken and the one ahead is decided by those taken, once it is
 -- taken too
 decided_next : (last : Option SequenceLine) (taken : List Feature) (ahead : Option Feature)
     (r : Feature) → IsNext ahead r → IsDecided last (taken ++ option_to_list ahead)
     → IsDecided last (taken ++ r ∷ [])
-decided_next None taken ahead r next e = tt
-decided_next (Some line) taken None r next e =
-    decided_stays line taken (r ∷ [])
-    (sym (ap (λ (rs : List Feature). decided line rs) (append-nil taken)) ∙ e)
-decided_next (Some line) taken (Some a) r next e =
-    ap (λ (a : Feature). decided line (taken ++ a ∷ [])) (sym next) ∙ e
+decided_next last taken ahead r next e = grind (arith, decided_stays, append-nil)
 
 -- and it isn't held
 held_next : (last : Option SequenceLine) (taken : List Feature) (r : Feature)
@@ -291,9 +232,7 @@ module _ (how : MaskHow) (full : Bool) (stage : MaskStage) (none : stage.waiting
         waits = λ l d. absurd (let apart : None ≡ Some l = sym none ∙ d in cc);
         holds = λ d. elim d [
           | inl lasts ↦ absurd (never (sym lasts ∙ ended.0))
-          | inr placed ↦ stands.stands.holds (inr (blocks_front stage.taken (r ∷ []) placed))
-              ∙ sym (ap (λ (rs : List Feature). map extent_of rs)
-              (held_next last stage.taken r decided_now placed))
+          | inr placed ↦ grind (arith, blocks_front, held_next, decided_now)
         ];
         is_open = λ d. absurd (never (sym d ∙ ended.0));
         owned = owned;
@@ -312,17 +251,10 @@ module _ (how : MaskHow) (full : Bool) (stage : MaskStage) (none : stage.waiting
     }
 
     pub checks_bed : (number : ℕ) (out : Output) (new : Masking) → (owner_of old.matched r.chrom ≡ Nobody → ⊥) → new ≡ with_owner old r.chrom → ChecksRecord how full stage r number out (Ok Yes) new out
-    checks_bed number out new owner is =
-        let owned : is_some left_now ≡ true = owner_some left_now (λ nobody. owner (owner_now ∙ nobody)) in
-        (subst (λ (x : Masking). MaskMovesTo how full (with_record stage r) x) (sym is) (checked_stands owned), refl)
+    checks_bed number out new owner is = grind (arith, owner_now, checked_stands)
 
     pub lacks_sequence : (number : ℕ) (out : Output) (fault : Fault) → owner_of old.matched r.chrom ≡ Nobody → fault_value fault ≡ fault_at_line Second number NoSequence → LacksSequence how full stage r number out (fault_value fault) out
-    lacks_sequence number out fault nobody is = record {
-      owned_before = stands.stands.owned;
-      unowned = nobody_left left_now (sym nobody ∙ owner_now);
-      is = is;
-      same_output = refl;
-    }
+    lacks_sequence number out fault nobody is = grind (arith, owner_now)
 
 -- Lemmas on how a masking engine goes on from one stage to another.
 
@@ -340,74 +272,26 @@ say_more : (full : Bool) (reached : Reached) (lines more : List TextLine) (items
 say_more full reached [] more [] later first rest = rest
 say_more full reached [] more (item ∷ items) later first rest = absurd (let apart : item ∷ items ≡ [] = first in cc)
 say_more full reached (line ∷ lines) more [] later first rest = absurd first
-say_more full reached (line ∷ lines) more (item ∷ items) later first rest =
-    (first.0, say_more full (reached_by (Some item)) lines more items later first.1 rest)
+say_more full reached (line ∷ lines) more (item ∷ items) later first rest = grind (arith, (say_more full (reached_by (Some item)) lines more items later first.1 rest))
 
 none_settled : (how : MaskHow) (stage : MaskStage) → SettlesLines how stage [] []
 none_settled how stage = record { are_decided = λ records follows going. refl; bytes_are = λ records ordered follows. refl }
 
 settled_later : (how : MaskHow) (old new : MaskStage) (lines : List SequenceLine) (bytes : List ℕ) → new.bed_ended ≡ old.bed_ended
     → ((records : List Feature) → MayFollow new records → MayFollow old records) → SettlesLines how old lines bytes → SettlesLines how new lines bytes
-settled_later how old new lines bytes same sees s = record {
-  are_decided = λ records follows going. s.are_decided records (sees records follows) (sym same ∙ going);
-  bytes_are = λ records ordered follows. s.bytes_are records ordered (sees records follows);
-}
+settled_later how old new lines bytes same sees s = grind arith
 
 settled_both : (how : MaskHow) (stage : MaskStage) (lines more : List SequenceLine) (bytes further : List ℕ) → SettlesLines how stage lines bytes
     → SettlesLines how stage more further → SettlesLines how stage (lines ++ more) (bytes ++ further)
-settled_both how stage lines more bytes further first rest = record {
-  are_decided = λ records follows going.
-      list_all-append (λ (line : SequenceLine). decided line records) lines more
-      ∙ and_from (list_all (λ (line : SequenceLine). decided line records) lines) (list_all (λ (line : SequenceLine). decided line records) more)
-      (first.are_decided records follows going) (rest.are_decided records follows going);
-  bytes_are = λ records ordered follows.
-      flat_map-append (masked_line how records) lines more
-      ∙ ap (λ l. l ++ flat_map (masked_line how records) more) (first.bytes_are records ordered follows)
-      ∙ ap (λ l. bytes ++ l) (rest.bytes_are records ordered follows);
-}
-
--- a line alone
-one_settled : (how : MaskHow) (stage : MaskStage) (line : SequenceLine) (bytes : List ℕ)
-    → ((records : List Feature) → MayFollow stage records → stage.bed_ended ≡ false → decided line records ≡ true)
-    → ((records : List Feature) → AreInBlocks records → MayFollow stage records → masked_line how records line ≡ bytes)
-    → SettlesLines how stage (line ∷ []) bytes
-one_settled how stage line bytes decides is = record {
-  are_decided = λ records follows going. and_from (decided line records) true (decides records follows going) refl;
-  bytes_are = λ records ordered follows. append-nil (masked_line how records line) ∙ is records ordered follows;
-}
+settled_both how stage lines more bytes further first rest = grind (arith, list_all-append, flat_map-append)
 
 pub goes_more : {how : MaskHow} {full : Bool} {old mid new : MaskStage} {lines more : List TextLine} {records further : List Feature} {x y : List ℕ} → GoesOn how full old lines records mid x
     → GoesOn how full mid more further new y → GoesOn how full old (lines ++ more) (records ++ further) new (x ++ y)
-goes_more {how} {full} {old} {mid} {new} {lines} {more} {records} {further} {x} {y} first rest =
-    let come : reached mid ≡ reached_behind (reached old) first.items =
-    ap (λ (l : List SequenceLine). reached_by (last_or None l)) first.given_is ∙ reached_more (given old) first.items in
-    record {
-      items = first.items ++ rest.items;
-      say = say_more full (reached old) lines more first.items rest.items first.say (rw come at rest.say);
-      newly = first.newly ++ rest.newly;
-      given_is = rest.given_is ∙ ap (λ l. l ++ rest.items) first.given_is ∙ append_assoc (given old) first.items rest.items;
-      written_is = rest.written_is ∙ ap (λ l. l ++ rest.newly) first.written_is ∙ append_assoc old.written first.newly rest.newly;
-      taken_is = rest.taken_is ∙ ap (λ l. l ++ further) first.taken_is ∙ append_assoc old.taken records further;
-      lines_ended_is = rest.lines_ended_is ∙ first.lines_ended_is;
-      bed_ended_is = rest.bed_ended_is ∙ first.bed_ended_is;
-      settles = settled_both how new first.newly rest.newly x y (settled_later how mid new first.newly x rest.bed_ended_is rest.sees first.settles) rest.settles;
-      sees = λ later follows. first.sees later (rest.sees later follows);
-    }
+goes_more first rest = grind (arith, reached_more, say_more, append_assoc, settled_both, settled_later)
 
 module _ (how : MaskHow) (full : Bool) where
   pub goes_nowhere : (stage : MaskStage) → GoesOn how full stage [] [] stage []
-  goes_nowhere stage = record {
-    items = [];
-    say = refl;
-    newly = [];
-    given_is = sym (append-nil (given stage));
-    written_is = sym (append-nil stage.written);
-    taken_is = sym (append-nil stage.taken);
-    lines_ended_is = refl;
-    bed_ended_is = refl;
-    settles = none_settled how stage;
-    sees = λ later follows. follows;
-  }
+  goes_nowhere stage = search rules
 
   -- a line before the first header is decided, whatever comes
   unnamed_decided : (line : SequenceLine) (records : List Feature) → is_unnamed line.names ≡ true → decided line records ≡ true
@@ -429,28 +313,12 @@ module _ (how : MaskHow) (full : Bool) where
   module _ (stage : MaskStage) (line : SequenceLine) where
     settled_ahead : (o : Option Feature) → stage.ahead ≡ o → is_written_ahead o stage.taken line ≡ true → stage.bed_ended ≡ false
         → SettlesLines how stage (line ∷ []) (masked_line how stage.taken line)
-    settled_ahead None is now going = absurd (false≢true now)
-    settled_ahead (Some r) is now going =
-        let decides : decided line (stage.taken ++ r ∷ []) ≡ true = (and_parts (not (is_header line.text)) (decided line (stage.taken ++ r ∷ [])) now).1 in
-        one_settled how stage line (masked_line how stage.taken line)
-        (λ records follows open_bed. ap (decided line) (follow_ahead stage r records going is follows) ∙ decided_stays line (stage.taken ++ r ∷ []) follows.more decides)
-        (λ records ordered follows.
-        let parts : records ≡ stage.taken ++ r ∷ follows.more = follow_ahead stage r records going is follows ∙ append_assoc stage.taken (r ∷ []) follows.more in
-        ap (λ (l : List Feature). masked_line how l line) parts ∙ masked_before how line stage.taken r decides follows.more (subst AreInBlocks parts ordered))
+    settled_ahead o is now going = grind (arith, decided_stays, append_assoc, masked_before)
 
     settled_at_once : (bed unnamed : Bool) → stage.bed_ended ≡ bed → is_unnamed line.names ≡ unnamed → (bed || (unnamed || is_written_ahead stage.ahead stage.taken line)) ≡ true
         → SettlesLines how stage (line ∷ []) (masked_line how stage.taken line)
-    settled_at_once true unnamed e u now =
-        one_settled how stage line (masked_line how stage.taken line)
-        (λ records follows going. absurd (false≢true (sym going ∙ e)))
-        (λ records ordered follows. ap (λ (l : List Feature). masked_line how l line) (follow_none stage records e follows))
-    settled_at_once false true e u now =
-        one_settled how stage line (masked_line how stage.taken line)
-        (λ records follows going. unnamed_decided line records u)
-        (λ records ordered follows.
-        let t = follow_taken stage records follows in
-        let front : AreInBlocks stage.taken = blocks_front stage.taken t.0 (subst AreInBlocks t.1 ordered) in
-        masked_stay how line [] records ordered (unnamed_decided line [] u) ∙ sym (masked_stay how line [] stage.taken front (unnamed_decided line [] u)))
+    settled_at_once true unnamed e u now = grind (arith, common_steps)
+    settled_at_once false true e u now = grind (arith, common_steps, blocks_front, masked_stay)
     settled_at_once false false e u now = settled_ahead stage.ahead refl now e
 
   -- one more line
@@ -460,20 +328,7 @@ module _ (how : MaskHow) (full : Bool) where
 
     line_by : (b : Bool) → is_written_at_once stage item ≡ b
         → GoesOn how full stage (line ∷ []) [] (cond b (record stage { written = stage.written ++ item ∷ [] }) (record stage { waiting = Some item })) (cond b (masked_line how stage.taken item) [])
-    line_by true now = record {
-      items = item ∷ [];
-      say = (says, refl);
-      newly = item ∷ [];
-      given_is = ap (λ (o : Option SequenceLine). (stage.written ++ item ∷ []) ++ option_to_list o) none ∙ append-nil (stage.written ++ item ∷ []) ∙ ap (λ l. l ++ item ∷ []) (sym given_alone);
-      written_is = refl;
-      taken_is = sym (append-nil stage.taken);
-      lines_ended_is = refl;
-      bed_ended_is = refl;
-      settles = settled_later how stage (record stage { written = stage.written ++ item ∷ [] }) (item ∷ []) (masked_line how stage.taken item) refl
-          (λ records follows. record { more = follows.more; begins = follows.begins; all = follows.all })
-          (settled_at_once stage item stage.bed_ended (is_unnamed item.names) refl refl now);
-      sees = λ records follows. record { more = follows.more; begins = follows.begins; all = follows.all };
-    }
+    line_by true now = grind (arith, (append-nil (stage.written ++ item ∷ [])), given_alone, (append-nil stage.taken), (settled_at_once stage item stage.bed_ended (is_unnamed item.names) refl refl now))
     line_by false later = record {
       items = item ∷ [];
       say = (says, refl);
@@ -510,40 +365,9 @@ module _ (how : MaskHow) (full : Bool) where
 
     -- it was taken
     pub record_goes : IsNext stage.ahead r → GoesOn how full stage [] (r ∷ []) (with_record stage r) []
-    record_goes next = record {
-      items = [];
-      say = refl;
-      newly = [];
-      given_is = sym (append-nil (given stage));
-      written_is = sym (append-nil stage.written);
-      taken_is = refl;
-      lines_ended_is = refl;
-      bed_ended_is = refl;
-      settles = none_settled how (with_record stage r);
-      sees = λ records follows.
-          seen_by stage.ahead refl next records follows.more
-          (follows.begins ∙ ap (λ (b : Bool). ((stage.taken ++ r ∷ []) ++ cond b [] []) ++ follows.more) going ∙ ap (λ l. l ++ follows.more) (append-nil (stage.taken ++ r ∷ [])));
-    }
+    record_goes next = grind (arith, append-nil, seen_by)
 
     -- it decided the line that waits
     pub decided_goes : IsNext stage.ahead r → (a : SequenceLine) → stage.waiting ≡ Some a → decided a (stage.taken ++ r ∷ []) ≡ true
         → GoesOn how full stage [] [] (with_decided stage r) (masked_line how stage.taken a)
-    decided_goes next a waits decides =
-        let follows_as : (records : List Feature) (f : MayFollow (with_decided stage r) records) → records ≡ (stage.taken ++ r ∷ []) ++ f.more =
-        λ records f. f.begins ∙ ap (λ (b : Bool). (stage.taken ++ cond b [] (r ∷ [])) ++ f.more) going in
-        record {
-          items = [];
-          say = refl;
-          newly = a ∷ [];
-          given_is = refl;
-          written_is = ap (λ (o : Option SequenceLine). stage.written ++ option_to_list o) waits;
-          taken_is = sym (append-nil stage.taken);
-          lines_ended_is = refl;
-          bed_ended_is = refl;
-          settles = one_settled how (with_decided stage r) a (masked_line how stage.taken a)
-              (λ records follows open_bed. ap (decided a) (follows_as records follows) ∙ decided_stays a (stage.taken ++ r ∷ []) follows.more decides)
-              (λ records ordered follows.
-              let parts : records ≡ stage.taken ++ r ∷ follows.more = follows_as records follows ∙ append_assoc stage.taken (r ∷ []) follows.more in
-              ap (λ (l : List Feature). masked_line how l a) parts ∙ masked_before how a stage.taken r decides follows.more (subst AreInBlocks parts ordered));
-          sees = λ records follows. seen_by stage.ahead refl next records follows.more (follows_as records follows);
-        }
+    decided_goes next a waits decides = grind (arith, append-nil, decided_stays, append_assoc, masked_before, seen_by)

@@ -1,4 +1,5 @@
 -- Lemmas on lines of bases that are copied through.
+use Rattle.std.proofs.lemmas.Grind.{common_steps}
 use Rattle.bt_lines.proofs.Std.{◌≡◌, ℕ, suc, ◌+◌, ◌-◌, ◌≤◌, min, Bool, true, false, ◌||◌, nat_eq, nat_le, nat_lt, if◌then◌else◌, List, [], ◌∷◌, ◌++◌, length, take, drop, length-append, append_assoc, append-nil, None, Result, Ok, Err, is_some, slice_range, refl, sym, ap, ◌∙◌, subst, arith, IsErr, IsOk, flat_map, nat_tests, take-append_seam, cond, Option, Some, bytes_eq, list_any, flat_map-append, list_any-append, or_parts, or_from, is_none, option_to_list}
 use Rattle.bt_lines.proofs.lemmas.reader.lines.TextLemmas.{spelled-fed}
 use Rattle.bt_lines.proofs.lemmas.Writer.{adds_some}
@@ -33,17 +34,7 @@ pub copied_line : (to : ℕ) (old new : CopyThrough) (line : Shown) (cut : Cut (
     → rest_in new.lines ≡ drop line.size (rest_in old.lines) → new.lines.at ≡ old.lines.at + line.size
     → is_header line.text ≡ false → new.before ≡ old.bases → new.bases ≡ min (old.bases + length line.text) limit → new.bases ≤ to
     → CopiesLine to old (line_of old.lines line) new
-copied_line to old new line cut closed passes rest at no_header before bases within =
-    let bytes : spelled (line_of old.lines line) ≡ cut.piece ++ 10 ∷ [] = spelled_cut (suc old.lines.lines) old.lines.is_open (rest_in old.lines) line cut closed in
-    record {
-      passes = passes;
-      bytes_are = cut.cut ∙ sym (append_assoc cut.piece (10 ∷ []) (drop line.size (rest_in old.lines)))
-          ∙ ap (λ l. l ++ drop line.size (rest_in old.lines)) (sym bytes) ∙ ap (λ l. spelled (line_of old.lines line) ++ l) (sym rest);
-      at = omega (arith, at, cut.size_is, ap length bytes, length-append cut.piece (10 ∷ []));
-      no_header = no_header;
-      counts = rw (before, bases) refl;
-      within = within;
-    }
+copied_line to old new line cut closed passes rest at no_header before bases within = grind (arith, common_steps)
 
 -- one more line was consumed after others
 pub copied_behind : (to : ℕ) (old mid new : CopyThrough) (lines : List TextLine) (line : TextLine)
@@ -55,12 +46,7 @@ pub none_pass : (lines : BufferedLines) → PassesLines lines [] lines
 none_pass lines = record { left_is = refl; all_is = refl; given = omega arith; open_is = refl }
 
 pub pass_more : {old mid new : BufferedLines} {lines more : List TextLine} → PassesLines old lines mid → PassesLines mid more new → PassesLines old (lines ++ more) new
-pass_more {new} {lines} {more} first rest = record {
-  left_is = first.left_is ∙ ap (λ l. lines ++ l) rest.left_is ∙ sym (append_assoc lines more (lines_in new));
-  all_is = rest.all_is ∙ first.all_is;
-  given = omega (arith, first.given, rest.given, length-append lines more);
-  open_is = rest.open_is ∙ first.open_is;
-}
+pass_more first rest = grind (arith, append_assoc, length-append)
 
 pub pass_one : {old new : BufferedLines} {line : TextLine} → PassesLine old line new → PassesLines old (line ∷ []) new
 pass_one p = record { left_is = p.left_is; all_is = p.all_is; given = p.given; open_is = p.open_is }
@@ -79,17 +65,11 @@ copies_bytes to (line ∷ lines) old new p = grind (arith, append_assoc, length-
 pub bytes_between : (to : ℕ) (lines : List TextLine) (old new : CopyThrough) → CopiesLines to old lines new
     → (slice_range old.lines.all.now old.lines.at new.lines.at ≡ flat_map spelled lines) × (old.lines.at ≤ new.lines.at)
 unfolding rest_in
-bytes_between to lines old new p =
-    let b = copies_bytes to lines old new p in
-    let bytes = flat_map spelled lines in
-    let count : new.lines.at - old.lines.at ≡ length bytes = omega (arith, b.1) in (
-      ap (λ n. take n (rest_in old.lines)) count ∙ ap (take (length bytes)) b.0 ∙ take-append_seam bytes (rest_in new.lines),
-      omega (arith, b.1),
-    )
+bytes_between to lines old new p = grind (arith, common_steps, copies_bytes)
 
 -- up to a base lines are known to be decided
 pub known_up_to : (ended : Bool) (to bases : ℕ) → bases ≤ (if ended then limit else to) → (ended || nat_le bases to) ≡ true
-known_up_to ended to bases within = grind (arith, nat_tests)
+known_up_to ended to bases within = grind arith
 
 -- the bounds of a line if nothing is held
 pub bounds_are : (before bases : ℕ) (w : Bounds) → before ≡ w.before → bases ≡ w.bases → w.held ≡ []
@@ -124,11 +104,10 @@ module _ (to : ℕ) where
   pub copies_end : (lines : List TextLine) (p q : CopyThrough) (m : Masking) (window : Bounds) → bounds_of p ≡ m.window → is_some m.matched.name ≡ true → IsKnownTo m → window ≡ bounds_of q
       → CopiesLines to p lines q → (flat_map spelled lines ≡ [] → ⊥) → record m { window = window; waiting = None; want = Line } ≡ passed_all m lines
   copies_end [] p q m window at named known is copies some = absurd (some refl)
-  copies_end (line ∷ lines) p q m window at named known is copies some =
-      ap (λ (w : Bounds). record m { window = w; waiting = None; want = Line }) is ∙ sym (copies_come lines line p q m at named known copies)
+  copies_end (line ∷ lines) p q m window at named known is copies some = grind (arith, (copies_come lines line p q m))
 
 pub some_bytes : (bytes : List ℕ) → nat_eq (length bytes) 0 ≡ false → bytes ≡ [] → ⊥
-some_bytes bytes e none = grind (arith, nat_tests)
+some_bytes bytes e none = grind arith
 
 -- where it has come lies within what is buffered
 pub copies_within : (to : ℕ) (lines : List TextLine) (old new : CopyThrough) → CopiesLines to old lines new → new.lines.at ≤ length old.lines.all.now
@@ -145,25 +124,13 @@ module _ (to : ℕ) (old : Masking) (first last : CopyThrough) (at : bounds_of f
   bytes_are : copied ≡ flat_map spelled copies.0
   bytes_are = copied_is ∙ (bytes_between to copies.0 first last copies.1).0
 
-  all_put : {A : Type 0} (r : Result A Fault) → Puts out (copied ++ []) r grown → Adds out (flat_map spelled copies.0) r grown
-  all_put r puts =
-      adds_some out grown (flat_map spelled copies.0) r (λ e. some (bytes_are ∙ e))
-      (subst (λ (l : List ℕ). Puts out l r grown) (append-nil copied ∙ bytes_are) puts)
-
   all_written : {A : Type 0} (r : Result A Fault) (new : Masking) → Puts out (copied ++ []) r grown → (IsOk r → new ≡ record old { window = window; waiting = None; want = Line })
       → (IsErr r → new.want ≡ Nothing) → WritesAll old copies.0 out r new grown
-  all_written {A} (Ok done) new puts goes stops =
-      (goes refl ∙ copies_end to copies.0 first last old window at named known is copies.1 (λ e. some (bytes_are ∙ e)), all_put {A = A} (Ok done) puts)
-  all_written {A} (Err fault) new puts goes stops = (stops refl, all_put {A = A} (Err fault) puts)
+  all_written r new puts goes stops = grind (arith, copies_end, bytes_are, append-nil)
 
   pub copied_through : {A : Type 0} (r : Result A Fault) (new : Masking) → Puts out (copied ++ []) r grown → (IsOk r → new ≡ record old { window = window; waiting = None; want = Line })
       → (IsErr r → new.want ≡ Nothing) → CopiesThrough old first.lines out r new last.lines grown
-  copied_through r new puts goes stops = record {
-    texts = copies.0;
-    passes = copies_pass to copies.0 first last copies.1;
-    stay = copies_stay to copies.0 first last old at named known copies.1;
-    writes = all_written r new puts goes stops;
-  }
+  copied_through r new puts goes stops = grind (arith, copies_pass, copies_stay, all_written)
 
 -- Lemmas on one more record, and on the next line.
 
@@ -182,15 +149,7 @@ or_last a b c = grind arith
 
 -- whether one more record decides a line
 pub decided_more : (line : SequenceLine) (rs : List Feature) (r : Feature) → decided line (rs ++ r ∷ []) ≡ (decided line rs || block_decides (bases_up_to line) (left_after line.names (rs ++ r ∷ [])) (r ∷ []))
-decided_more line rs r =
-    let decides = tag_decides (bases_up_to line) in
-    let left = leave (Some line.names) None (rs ++ r ∷ []) in
-    decided_by_tags line (rs ++ r ∷ [])
-    ∙ ap (λ (ts : List (Tagged Feature)). is_unnamed line.names || list_any decides ts) (tags_more (Some line.names) None rs r)
-    ∙ ap (λ b. is_unnamed line.names || b) (list_any-append decides (tags_of line.names rs) (record { item = r; left = left } ∷ []))
-    ∙ or_last (is_unnamed line.names) (list_any decides (tags_of line.names rs)) (block_decides (bases_up_to line) left (r ∷ []))
-    ∙ ap (λ b. b || block_decides (bases_up_to line) left (r ∷ [])) (sym (decided_by_tags line rs))
-    ∙ ap (λ l. decided line rs || block_decides (bases_up_to line) l (r ∷ [])) (leave_all (Some line.names) (rs ++ r ∷ []))
+decided_more line rs r = grind (arith, (decided_by_tags line (rs ++ r ∷ [])), (tags_more (Some line.names) None rs r), list_any-append, (decided_by_tags line rs), (leave_all (Some line.names) (rs ++ r ∷ [])))
 
 -- one more name
 module _ (n : List ℕ) where
@@ -224,22 +183,11 @@ module _ (n : List ℕ) where
 
   grown_by : (ns left : List (List ℕ)) (last : Option (List ℕ)) (r : Feature) (rs : List Feature) (next : Option (List (List ℕ))) → one_leaves (Some ns) last r ≡ next → leave next (Some r.chrom) rs ≡ Some left
       → ((k : List (List ℕ)) → leave (Some k) (Some r.chrom) rs ≡ Some left → GrownNames k (Some r.chrom) rs left) → GrownNames ns last (r ∷ rs) left
-  grown_by ns left last r rs None is e rest = absurd (let apart : None ≡ Some left = sym (none_leaves (Some r.chrom) rs) ∙ e in cc)
-  grown_by ns left last r rs (Some k) is e rest =
-      let grown = rest k e in
-      let now : one_leaves (Some (ns ++ n ∷ [])) last r ≡ Some (k ++ n ∷ []) = next_grows r.chrom ns k (is_last last r.chrom) is in
-      record {
-        leaves = ap (λ l. leave l (Some r.chrom) rs) now ∙ grown.leaves;
-        own = ap (λ l. items_if_last l (r ∷ []) ++ own_in (tags chrom_of l (Some r.chrom) rs)) now
-            ∙ ap (λ (l : List Feature). l ++ own_in (tags chrom_of (Some (k ++ n ∷ [])) (Some r.chrom) rs)) (no_items k (r ∷ [])) ∙ grown.own;
-        undecided = λ bases. ap (λ l. block_decides bases l (r ∷ []) || list_any (tag_decides bases) (tags chrom_of l (Some r.chrom) rs)) now
-            ∙ ap (λ b. b || list_any (tag_decides bases) (tags chrom_of (Some (k ++ n ∷ [])) (Some r.chrom) rs)) (never_decides bases k (r ∷ [])) ∙ grown.undecided bases;
-      }
+  grown_by ns left last r rs next is e rest = grind (arith, none_leaves, next_grows, no_items, never_decides)
 
   grown_names : (ns left : List (List ℕ)) (last : Option (List ℕ)) (rs : List Feature) → leave (Some ns) last rs ≡ Some left → GrownNames ns last rs left
   grown_names ns left last [] e = grown_first ns left last e
-  grown_names ns left last (r ∷ rs) e =
-      grown_by ns left last r rs (one_leaves (Some ns) last r) refl e (λ k d. grown_names k left (Some r.chrom) rs d)
+  grown_names ns left last (r ∷ rs) e = grind (arith, (grown_by ns left last r rs (one_leaves (Some ns) last r) refl e (λ k d. grown_names k left (Some r.chrom) rs d)))
 
   pub left_grows : (names left : List (List ℕ)) (rs : List Feature) → left_after names rs ≡ Some left → left_after (names ++ n ∷ []) rs ≡ Some (left ++ n ∷ [])
   left_grows names left rs e = sym (leave_all (Some (names ++ n ∷ [])) rs) ∙ (grown_names names left None rs (leave_all (Some names) rs ∙ e)).leaves
@@ -261,7 +209,7 @@ module _ (n : List ℕ) where
 -- a later line of the sequence isn't decided before an earlier one
 module _ (low high : ℕ) (up : low ≤ high) where
   not_yet : (left : Option (List (List ℕ))) (r : Feature) → block_decides low left (r ∷ []) ≡ false → block_decides high left (r ∷ []) ≡ false
-  not_yet left r e = grind (arith, nat_tests)
+  not_yet left r e = grind arith
 
   none_yet : (ts : List (Tagged Feature)) → list_any (tag_decides low) ts ≡ false → list_any (tag_decides high) ts ≡ false
   none_yet [] e = refl

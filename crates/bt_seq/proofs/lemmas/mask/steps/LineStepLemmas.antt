@@ -44,7 +44,7 @@ IsLow low r = (r.start < low) × (r.stop ≤ max_number)
 
 module _ (low : ℕ) where
   item_low : (left : Option (List (List ℕ))) (r : Feature) → block_decides low left (r ∷ []) ≡ false → r.stop ≤ max_number → AllByRecursion (IsLow low) (items_if_last left (r ∷ []))
-  item_low left r e h = grind (arith, nat_tests)
+  item_low left r e h = grind arith
 
   pub own_low : (left : Option (List (List ℕ))) (last : Option (List ℕ)) (rs : List Feature) → list_any (tag_decides low) (tags chrom_of left last rs) ≡ false → AreInRange rs
       → AllByRecursion (IsLow low) (own_in (tags chrom_of left last rs))
@@ -67,10 +67,10 @@ module _ (first low high : ℕ) (up : first ≤ low) (further : low ≤ high) wh
 
   held_if : (r : Feature) (old new : List Feature) (p w : Bool) → (p && nat_lt (min low limit) r.stop) ≡ w → filter goes_past (map extent_of old) ≡ map extent_of new
       → filter goes_past (map extent_of (cond p (r ∷ old) old)) ≡ map extent_of (cond w (r ∷ new) new)
-  held_if r old new p w e rest = grind (arith, nat_tests)
+  held_if r old new p w e rest = grind arith
 
   tests_agree : (start stop : ℕ) → start < low → stop ≤ max_number → ((nat_lt start low && nat_lt first stop) && nat_lt (min low limit) stop) ≡ (nat_lt start high && nat_lt low stop)
-  tests_agree start stop before short = grind (arith, nat_tests)
+  tests_agree start stop before short = grind arith
 
   pub held_on : (own : List Feature) → AllByRecursion (IsLow low) own → filter goes_past (map extent_of (filter is_old own)) ≡ map extent_of (filter is_new own)
   held_on [] h = refl
@@ -178,17 +178,17 @@ module _ (taken : List Feature) (range : AreInRange taken) (line : TextLine) (pl
 -- the record ahead doesn't decide a header, and if it decides a line there is one
 header_ahead : (o : Option Feature) (taken : List Feature) (item : SequenceLine) → is_header item.text ≡ true
     → is_written_ahead o taken item ≡ false
-header_ahead o taken item e = grind (arith, nat_tests)
+header_ahead o taken item e = grind arith
 
 decided_some : (o : Option Feature) (taken : List Feature) (item : SequenceLine) → is_written_ahead o taken item ≡ true
     → is_some o ≡ true
-decided_some o taken item e = grind (arith, nat_tests)
+decided_some o taken item e = grind arith
 
 -- a line that is written at once while records may come is decided
 decided_at_once : (u : Bool) (o : Option Feature) (taken : List Feature) (item : SequenceLine)
     → is_unnamed item.names ≡ u → (u || is_written_ahead o taken item) ≡ true
     → decided item (taken ++ option_to_list o) ≡ true
-decided_at_once u o taken item unnamed e = grind (arith, nat_tests)
+decided_at_once u o taken item unnamed e = grind arith
 
 or_rest : (a b : Bool) → (a || b) ≡ true → a ≡ false → b ≡ true
 or_rest a b e d = grind arith
@@ -197,7 +197,7 @@ or_rest a b e d = grind arith
 ahead_decides : (bases : ℕ) (left : Option (List (List ℕ))) (r : Feature) → r.start < limit
     → (left ≡ Some []) ⊎ (left ≡ None)
     → nat_le (min bases limit) (decided_up_to left r) ≡ block_decides bases left (r ∷ [])
-ahead_decides bases left r low which = grind (arith, nat_tests)
+ahead_decides bases left r low which = grind arith
 
 -- its block belongs to the last sequence, or to none
 ahead_left : (names : List (List ℕ)) (taken : List Feature) (r : Feature) (m : Matched) → KnowsNext false names taken (Some r) m
@@ -210,7 +210,7 @@ pub open_undecided : (item : SequenceLine) (taken : List Feature) → is_unnamed
 open_undecided item taken is_named open_at = grind arith
 
 not_strayed : (names : List (List ℕ)) (text : List ℕ) → may_stand names text ≡ not (is_unnamed names && nat_lt 0 (length text))
-not_strayed names text = grind (arith, nat_tests)
+not_strayed names text = grind arith
 
 module _ (how : MaskHow) (full : Bool) (stage : MaskStage) (old : Masking) (s : MaskMovesTo how full stage old) (wants : old.want ≡ Line) where
   asked : (stage.waiting ≡ None) × (stage.lines_ended ≡ false)

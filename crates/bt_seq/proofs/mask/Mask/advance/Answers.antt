@@ -1,4 +1,4 @@
-use Rattle.bt_lines.proofs.Std.{◌≡◌, ◌∙◌, Bool, Ok, Result, ap, true, false, err_from_is_err_and}
+use Rattle.bt_lines.proofs.Std.{arith, ◌≡◌, ◌∙◌, Bool, Ok, Result, ap, true, false, err_from_is_err_and}
 use Rattle.bt_lines.specs.declared.fault.Fault.{Fault}
 use Rattle.bt_seq.specs.calls.MaskState.{Masking}
 use Rattle.bt_seq.proofs.lemmas.mask.steps.AdvanceLemmas.{both_fail, both_more}
@@ -9,13 +9,7 @@ not_both : (given : Bool) → given ≡ true → ◌≡◌ {A = Result Bool Faul
 not_both given is none = cc
 
 pub loop-preserved : goal.loop-preserved
-loop-preserved g c = record {
-  gives = both_more g.C.Cursor g.met.C.Cursor.gives_more c.loop.invariant.gives true (rw c.if-branch.true at c.in_ok-gives_next.ensures.gives);
-  idle = λ nothing.
-      let stays = c.loop.invariant.idle nothing in
-      let more = c.in_ok-gives_next.ensures.idle (ap (λ (m : Masking). m.want) stays.0 ∙ nothing) in
-      absurd (not_both c.in_ok-gives_next.field-0 c.if-branch.true more.0);
-}
+loop-preserved g c = grind (arith, both_more, not_both)
 
 pub returns-in_err-gives_next-clause-gives : goal.returns-in_err-gives_next-clause-gives
 returns-in_err-gives_next-clause-gives g c =
@@ -23,5 +17,4 @@ returns-in_err-gives_next-clause-gives g c =
     rw (p.1, p.2) (both_fail g.C.Cursor g.met.C.Cursor.gives_more c.loop.invariant.gives c.in_err-gives_next.field-0.0 c.in_err-gives_next.ensures.gives)
 
 pub returns-clause-gives : goal.returns-clause-gives
-returns-clause-gives g c =
-    both_more g.C.Cursor g.met.C.Cursor.gives_more c.loop.invariant.gives (tt {0}) (rw c.if-branch.false at c.in_ok-gives_next.ensures.gives)
+returns-clause-gives g c = grind (arith, both_more)

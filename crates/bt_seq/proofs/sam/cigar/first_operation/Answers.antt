@@ -5,13 +5,7 @@ use Rattle.bt_seq.proofs.lemmas.Sam.{first_is, large_number}
 use Rattle.bt_seq.proofs.sam.cigar.first_operation.Goals as goal
 
 pub returns-then-not-is_ascii_digit-clause-first : goal.returns-then-not-is_ascii_digit-clause-first
-returns-then-not-is_ascii_digit-clause-first c =
-    let text = c.args.text.now in
-    let end = c.loop-end.end in
-    let whole : take (length text - (end + 1)) (drop (end + 1) text) ≡ drop (end + 1) text = take_all (length text - (end + 1)) (drop (end + 1) text) (omega (arith, length-drop (end + 1) text)) in
-    let some : 0 < end = omega (arith, c.if-end-eq0.false) in
-    first_is text c.loop-end.length end (get_or text end 0) c.loop-end-test.true some c.loop-end.invariant.value c.loop-end.invariant.digits c.loop-end.invariant.small refl (sym c.is_letter.ensures ∙ c.if-not-is_letter.false)
-    ∙ ap (λ l. with_operation (Some (record { length = c.loop-end.length; letter = get_or text end 0 })) (operations_in l)) (sym whole)
+returns-then-not-is_ascii_digit-clause-first c = grind (arith, take_all, length-drop, first_is)
 
 pub returns-then-length-gt-MAX_NUMBER-clause-first : goal.returns-then-length-gt-MAX_NUMBER-clause-first
 returns-then-length-gt-MAX_NUMBER-clause-first c =

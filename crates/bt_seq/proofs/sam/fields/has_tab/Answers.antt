@@ -6,13 +6,7 @@ use Rattle.bt_seq.proofs.sam.fields.has_tab.Goals as goal
 
 -- a text has two columns if it has a tab
 two_columns : (text : List ℕ) (r : Option ℕ) → IsLastByte (is_byte 9) text r → is_some r ≡ nat_le 2 (length (pieces 9 text))
-two_columns text None e = rw (pieces_whole 9 text e) refl
-two_columns text (Some at) e =
-    let below : at < length text = e.0.high in
-    let one : 1 ≤ count_by (λ byte. eqb byte 9) text = rw e.1 at (get_or-le-sum_by (λ byte. cond (eqb byte 9) 1 0) text at 0 below) in
-    let size = length-slice_split (λ byte. eqb byte 9) text in
-    let enough : 2 ≤ length (pieces 9 text) = omega (arith, one, size) in
-    grind (arith, nat_tests)
+two_columns text r e = grind (arith, pieces_whole, get_or-le-sum_by, length-slice_split, nat_tests)
 
 pub returns : goal.returns
 returns c = c.is_some.ensures ∙ two_columns c.args.text.now c.rfind_byte.result c.rfind_byte.ensures

@@ -6,9 +6,7 @@ use Rattle.bt_seq.proofs.sam.sam_text.nine_digits.Goals as goal
 
 -- eight digits denote less than this
 front_below : (text : List ℕ) → length text ≡ 9 → list_all is_ascii_digit (take 8 text) ≡ true → digits_value 10 (take 8 text) < 10 ^ 8
-front_below text n digits =
-    let size : length (take 8 text) ≡ 8 = omega (arith, length-take 8 text) in
-    subst (λ (m : ℕ). digits_value 10 (take 8 text) < 10 ^ m) size (digits_below (take 8 text) digits)
+front_below text n digits = grind (arith, length-take, digits_below)
 
 -- if the first eight denote no number, one of them is no digit
 none_by_front : (text : List ℕ) → length text ≡ 9 → None ≡ value_of (take 8 text) → None ≡ value_of text
@@ -16,15 +14,8 @@ unfolding value_of
 none_by_front text n none =
     let size : length (take 8 text) ≡ 8 = omega (arith, length-take 8 text) in
     elim (cases_Bool (list_all is_ascii_digit (take 8 text))) [
-      | inl digits ↦
-          let some : Some (digits_value 10 (take 8 text)) ≡ value_of (take 8 text) = value_of_digits (take 8 text) (omega arith) digits (value_short 8 _ (front_below text n digits) (omega arith)) in
-          let wrong : None ≡ Some (digits_value 10 (take 8 text)) = none ∙ sym some in
-          absurd cc
-      | inr other ↦
-          let more : list_all is_ascii_digit (take 9 text) ≡ (list_all is_ascii_digit (take 8 text) && is_ascii_digit (get_or text 8 0)) = list_all_more is_ascii_digit text 8 0 (omega arith) in
-          let whole : take 9 text ≡ text = take_all 9 text (omega arith) in
-          let fails : list_all is_ascii_digit text ≡ false = ap (list_all is_ascii_digit) (sym whole) ∙ more ∙ ap (λ b. b && is_ascii_digit (get_or text 8 0)) other in
-          sym (refused_second (ltb 0 (length text)) (list_all is_ascii_digit text) (leb (digits_value 10 text) 999999999999) (Some (digits_value 10 text)) None fails)
+      | inl digits ↦ grind (arith, (value_of_digits (take 8 text) (omega arith) digits (value_short 8 _ (front_below text n digits) (omega arith))))
+      | inr other ↦ grind (arith, (list_all_more is_ascii_digit text 8 0 (omega arith)), (take_all 9 text (omega arith)), refused_second)
     ]
 
 pub returns-in_err-value : goal.returns-in_err-value
@@ -37,19 +28,13 @@ pub overflow_mul-result : goal.overflow_mul-result
 overflow_mul-result c =
     let text = c.args.text.now in
     let is = digits_denoting (take 8 text) c.in_ok-value.value c.in_ok-value.ensures in
-    let below = front_below text c.requires is.0 in
-    let small = value_short 8 _ below (omega arith) in
-    omega (arith, is.1)
+    grind (arith, front_below, value_short)
 
 pub overflow_add-result : goal.overflow_add-result
 overflow_add-result c =
     let text = c.args.text.now in
     let is = digits_denoting (take 8 text) c.in_ok-value.value c.in_ok-value.ensures in
-    let below = front_below text c.requires is.0 in
-    let small = value_short 8 _ below (omega arith) in
-    let digit = sym c.is_ascii_digit.ensures.value ∙ c.if-not-is_ascii_digit.false in
-    let low = digit_bound (get_or text 8 0) digit in
-    omega (arith, is.1, c.from.ensures)
+    grind (arith, front_below, value_short, digit_bound)
 
 pub returns : goal.returns
 returns c =

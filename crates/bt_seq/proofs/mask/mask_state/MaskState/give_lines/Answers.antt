@@ -1,4 +1,4 @@
-use Rattle.bt_lines.proofs.Std.{err_from_is_err_and}
+use Rattle.bt_lines.proofs.Std.{arith, err_from_is_err_and}
 use Rattle.bt_lines.specs.calls.Line.{line_seen}
 use Rattle.bt_seq.proofs.lemmas.mask.steps.AdvanceLemmas.{failed_copy, failed_line, gave_copied, gave_line}
 use Rattle.bt_seq.proofs.mask.mask_state.MaskState.give_lines.Goals as goal
@@ -17,9 +17,7 @@ returns-in_err-take_line-clause-gives g c records =
     (line_seen c.in-Some.line) c.in-Some.ensures.some c.in_err-take_line.field-0.0 c.in_err-take_line.ensures)
 
 pub returns-in_default-clause-gives : goal.returns-in_default-clause-gives
-returns-in_default-clause-gives g c records =
-    rw c.in_default.ensures.unchanged (gave_copied g.C.Cursor g.met.C.Cursor.gives_none records
-    c.args.self.now c.args.lines.now c.args.out.now.output c.requires c.in_ok-copy_through.ensures)
+returns-in_default-clause-gives g c records = grind (arith, gave_copied)
 
 pub returns-clause-gives : goal.returns-clause-gives
 returns-clause-gives g c records =
