@@ -1,9 +1,8 @@
 -- Lemmas on the definitions of a good input, and on lists of spans.
-use Rattle.bt_lines.proofs.Std.{rules, ◌≡◌, ℕ, ◌<◌, Bool, true, false, cond, List, [], ◌∷◌, Option, Some, None, Result, Ok, Err, refl, arith, IsTrue, IfSome, All-nil, All-cons, subst, bytes_eq, nat_lt, bytes_decides, nat_tests, ◌&&◌, ◌++◌, sym, ap, ◌∙◌, append_assoc, flat_map, if◌then◌else◌, list_all, and_parts, and_left, and_right, list_all-append, option_or, zero, suc, ◌+◌, ◌≤◌, ◌⊎◌, inl, inr, cases_Bool, cases_eq, cond-true, cond-false, ap₂, cases_lt}
+use Rattle.bt_lines.proofs.Std.{rules, ◌≡◌, ℕ, ◌<◌, Bool, true, false, cond, List, [], ◌∷◌, Option, Some, None, Result, Ok, Err, refl, arith, IsTrue, IfSome, All-nil, All-cons, ◌&&◌, ◌++◌, sym, ap, ◌∙◌, append_assoc, flat_map, if◌then◌else◌, list_all, and_parts, and_left, and_right, list_all-append, option_or, zero, suc, ◌+◌, ◌≤◌, ◌⊎◌, inl, inr, cases_Bool, cond-true, cond-false, cases_lt}
 use Rattle.bt_lines.specs.model.Lines.{lines_handed, TextLine}
 use Rattle.bt_lines.specs.declared.fault.Input.{Input}
 use Rattle.bt_lines.specs.declared.fault.Kind.{Kind}
-use Rattle.bt_lines.specs.declared.fault.Kind.TheVariants.{UnknownChrom, OutOfOrder}
 use Rattle.bt_bed.specs.model.Feature.{Feature, interval_of, intervals_of, AreNonEmpty, Span}
 use Rattle.bt_bed.specs.model.Positions.{IsCovered, AreApartFrom, with_position, stretches_from, scan_finds_stretches, AreStretchesOf}
 use Rattle.bt_bed.specs.model.BedLine.{record_of}
@@ -21,9 +20,6 @@ pub record Said (sorting : Sorting) (last : Option Locus) (text : List ℕ) (r :
   pub known : IsTrue (sorting.knows r.chrom)
   pub stays : falls_in sorting last (locus_at r) ≡ false
   pub says : record_of text ≡ Ok (Some r)
-
-chosen : (knows falls : Bool) (r s : Feature) → cond knows (cond falls (Err OutOfOrder) (Ok (Some r))) (Err UnknownChrom) ≡ Ok (Some s) → (knows ≡ true) × (falls ≡ false) × (r ≡ s)
-chosen knows falls r s e = grind arith
 
 said_by_record : (sorting : Sorting) (last : Option Locus) (text : List ℕ) (said : Result (Option Feature) Kind) (r : Feature) → record_of text ≡ said → said_after sorting last said ≡ Ok (Some r) → Said sorting last text r
 said_by_record sorting last text said r was e = grind arith
@@ -195,9 +191,6 @@ record AddsPosition (p : ℕ) (xs ys : List Span) : Type 0 where
   here : IsCovered ys p
   whole : (q : ℕ) → IsCovered xs q → IsCovered ys q
 
-touching : (p : ℕ) (s : Span) (ss : List Span) → AreApartFrom (p + 1) (s ∷ ss) → s.start ≡ p + 1 → AddsPosition p (s ∷ ss) (record { start = p; stop = s.stop } ∷ ss)
-touching p s ss a e = grind arith
-
 with_position-adds : (p : ℕ) (xs : List Span) → AreApartFrom (p + 1) xs → AddsPosition p xs (with_position p xs)
 unfolding with_position
 with_position-adds p xs a = grind arith
@@ -264,9 +257,6 @@ stop_up_to f x y g xs ys a b within e =
 
 tail_within : (f : ℕ) (x y : Span) (xs ys : List Span) → AreApartFrom f (x ∷ xs) → x.stop ≡ y.stop → IsWithin (x ∷ xs) (y ∷ ys) → IsWithin xs ys
 tail_within f x y xs ys a e within = grind (arith, covered_from)
-
-pub same_span : (x y : Span) → x.start ≡ y.start → x.stop ≡ y.stop → x ≡ y
-same_span x y s e = let make : ℕ → ℕ → Span = λ a b. record { start = a; stop = b } in ap₂ make s e
 
 -- two lists of spans with gaps that cover the same positions are equal
 pub same_apart : (f g : ℕ) (xs ys : List Span) → AreApartFrom f xs → AreApartFrom g ys → IsWithin xs ys → IsWithin ys xs → xs ≡ ys

@@ -1,34 +1,32 @@
 -- Sums, pairs and bases.
-use Rattle.bt_lines.proofs.Std.{rules, ◌≡◌, ◌&&◌, ℕ, zero, suc, ◌+◌, ◌-◌, ◌*◌, ◌<◌, ◌≤◌, Bool, true, false, cond, List, [], ◌∷◌, map, filter, length, max, min, Option, Some, None, inl, inr, refl, sym, ap, ap₂, ◌∙◌, arith, eqb, ◌⊎◌, bytes_eq, flat_map, nat_lt, sum_by, cases_lt, eqb-true, le-leb, le-ltb, lt-leb, lt-ltb, or_parts, nat_tests, mul-suc, sum_by-append, sum_by-cons, ◌||◌, not, ◌++◌, append_assoc, subst, ltb, IsPermutation, flat_map-append, map-append, IsPermutation-append_comm, IsPermutation-append_left, IsPermutation-append_right, IsPermutation-refl, IsPermutation-trans, flat_map-map, cases_Bool, false≢true}
+use Rattle.bt_lines.proofs.Std.{rules, ◌≡◌, ℕ, zero, suc, ◌+◌, ◌-◌, ◌*◌, ◌<◌, ◌≤◌, Bool, false, cond, List, [], ◌∷◌, map, filter, length, max, min, Option, Some, None, inl, inr, refl, sym, ap, ap₂, ◌∙◌, arith, eqb, ◌⊎◌, bytes_eq, flat_map, nat_lt, sum_by, or_parts, mul-suc, sum_by-append, sum_by-cons, ◌++◌, append_assoc, subst, IsPermutation, flat_map-append, map-append, IsPermutation-append_comm, IsPermutation-append_left, IsPermutation-append_right, IsPermutation-refl, IsPermutation-trans, flat_map-map, cases_Bool, false≢true}
 use Rattle.std.proofs.lemmas.Grind.{common_steps}
-use Rattle.bt_bed.specs.model.Feature.{Feature, interval_of, intervals_of, Interval, Span, span_of, spans_on, is_strand, placed_on}
+use Rattle.bt_bed.specs.model.Feature.{Feature, interval_of, intervals_of, Interval, Span, span_of, spans_on, placed_on}
 use Rattle.bt_bed.specs.model.Positions.{IsCovered}
 use Rattle.bt_bed.specs.model.BedLine.{cut_to}
 use Rattle.bt_bed.specs.model.Genome.{Entry, genome_names}
 use Rattle.bt_bed.specs.model.Order.{AreDistinct, is_among, Order}
 use Rattle.bt_bed.specs.declared.record.strand.Strand.{Strand}
-use Rattle.bt_bed.proofs.lemmas.parse.NameLemmas.{cases_name, name_eq, name_ne-sym, name_eq-sym}
-use Rattle.bt_runs.specs.model.Depth.{counted_on, coverage, covers, depth_at, depth_of, depth_on, depths_on, is_counted_by, Begun, Level, begun_after, begun_at, ended_after, ended_at, levels_from, levels_of, next_begun, next_ended}
+use Rattle.bt_bed.proofs.lemmas.parse.NameLemmas.{cases_name, name_eq, name_eq-sym}
+use Rattle.bt_runs.specs.model.Depth.{coverage, covers, depth_at, depth_of, depths_on, is_counted_by, Begun, Level, begun_after, begun_at, ended_after, ended_at, levels_from, levels_of, next_begun, next_ended}
 use Rattle.bt_runs.specs.model.Gaps.{length_in}
-use Rattle.bt_runs.proofs.lemmas.order.FileOrder.{spans_on-elsewhere, spans_on-here, spans_on-append}
+use Rattle.bt_runs.proofs.lemmas.order.FileOrder.{spans_on-append}
 use Rattle.bt_runs.proofs.lemmas.coverage.LevelLemmas.{levels_more}
 use Rattle.bt_laws.specs.Counts.{bases_below, depth_bases, depths_sum, IsMutual, HitPair, exchanged, pair_line, pairs_have_two_sides, pairs_of, with_sides_exchanged, PartBases, intersect_and_subtract_part}
 use Rattle.bt_laws.specs.WholeRuns.{first_records, second_records, RunWrites, RunsWithoutFault}
 use Rattle.bt_laws.proofs.lemmas.pipes.PipeLaws.{depth_both, chroms_of, genomecov_whole, intersect_whole, well_there, cut_intersect_input, subtract_input}
-use Rattle.bt_lines.specs.model.Fault.{read_failed}
-use Rattle.bt_lines.specs.model.Lines.{Handed, cut_fault, lines_handed, whole_lines}
+use Rattle.bt_lines.specs.model.Lines.{Handed, cut_fault, lines_handed}
 use Rattle.bt_lines.specs.declared.fault.Input.TheVariants.{First, Second}
-use Rattle.bt_bed.specs.model.Good.{good, items_in, or_else, bed_format, bed_good}
+use Rattle.bt_bed.specs.model.Good.{good, items_in, bed_format, bed_good}
 use Rattle.bt_bed.specs.model.Sorted.{sorting_of}
-use Rattle.bt_bed.specs.declared.record.strand.Strand.TheVariants.{Dot, Minus, Plus}
-use Rattle.bt_sweep.specs.model.Hits.{has_fraction, hits, hits_among, is_enough, shared_bases, strands_agree, any_overlap}
+use Rattle.bt_sweep.specs.model.Hits.{hits, hits_among, is_enough, shared_bases, strands_agree, any_overlap}
 use Rattle.bt_sweep.specs.model.Lines.{intersect, lines_for, pieces, spans_of}
 use Rattle.bt_sweep.specs.declared.hits.hit_rule.HitRule.{HitRule}
 use Rattle.bt_sweep.specs.declared.output.shape.Shape.TheVariants.{OrigBoth, Cut, Pieces}
 use Rattle.bt_sweep.proofs.lemmas.definitions.HitLemmas.{enough_of_nothing}
 use Rattle.bt_tool.specs.model.Report.{order_of, or_empty}
 use Rattle.bt_tool.specs.declared.planning.plan_type.Command.TheVariants.{Intersect, Subtract}
-use Rattle.bt_laws.proofs.lemmas.same.SameSweeps.{writes_lines, cut_none, like_from, met_faultless, met_none, other_input, sweeps_from, uncut, other_shape, hit_back, hit_to}
+use Rattle.bt_laws.proofs.lemmas.same.SameSweeps.{writes_lines, cut_none, like_from, met_faultless, met_none, other_input, sweeps_from, other_shape, hit_back, hit_to}
 use Rattle.bt_runs.specs.model.Merged.{is_covered}
 use Rattle.bt_runs.proofs.lemmas.merge.Bridging.{covered_left, covered_parts, covered_right, is_covered-Decides}
 use Rattle.bt_sweep.proofs.lemmas.definitions.PieceLemmas.{are_pieces}
@@ -61,9 +59,6 @@ abbrev IsLow : Option Begun → ℕ → Type 0
 IsLow None p = Unit {0}
 IsLow (Some b) p = b.start ≤ p
 
-no_times : (v : ℕ) → v * 0 ≡ 0
-no_times v = omega arith
-
 one_longer : (v p s : ℕ) → s ≤ p → v * ((p + 1) - s) ≡ v * (p - s) + v
 one_longer v p s low = grind (arith, (mul-suc v (p - s)))
 
@@ -83,14 +78,8 @@ step_by None (Some v) p t low = let next = just_one v p in omega (arith, next)
 step_by (Some b) None p t low = let done = sum_one (record { start = b.start; stop = p; value = b.value }) in omega (arith, done)
 step_by (Some b) (Some v) p t low = goes_by (eqb b.value v) b v p t refl low
 
-low_by : (same : Bool) (b : Begun) (v p : ℕ) → b.start ≤ p → IsLow (cond same (Some b) (begun_at p (Some v))) (p + 1)
-low_by same b v p low = grind arith
-
 low_next : (g : Option Begun) (v : Option ℕ) (p : ℕ) → IsLow g p → IsLow (next_begun p v g) (p + 1)
 low_next g v p low = grind arith
-
-last_sum : (g : Option Begun) (p : ℕ) → sum_by weight (ended_at g p) ≡ pending g p
-last_sum g p = grind arith
 
 levels_sum : (value : ℕ → Option ℕ) (n p : ℕ) (g : Option Begun) → IsLow g p → sum_by weight (levels_from value p n g) ≡ pending g p + total (λ q. value_in (value q)) p n
 unfolding total ended_after begun_after
@@ -123,9 +112,6 @@ one_if b = cond b 1 0
 
 one_depth : (s : Span) (q : ℕ) → depth_at (s ∷ []) q ≡ one_if (covers q s)
 one_depth s q = grind arith
-
-covers_by : (s : Span) (p : ℕ) → ((one_if (covers p s) ≡ 1) × (s.start ≤ p) × (p < s.stop)) ⊎ ((one_if (covers p s) ≡ 0) × ((p < s.start) ⊎ (s.stop ≤ p)))
-covers_by s p = grind arith
 
 span_step : (s : Span) (p n t : ℕ) → t ≡ min s.stop ((p + 1) + n) - max s.start (p + 1) → one_if (covers p s) + t ≡ min s.stop (p + suc n) - max s.start p
 span_step s p n t e = grind arith
@@ -198,12 +184,6 @@ sum_depths strand inputs entries well =
 
 -- ---- a rule that asks the same of both
 
-and_swap : (a b : Bool) → (a && b) ≡ (b && a)
-and_swap a b = grind arith
-
-strand_swap : (s t : Strand) → is_strand s t ≡ is_strand t s
-strand_swap s t = grind arith
-
 min_swap : (a b : ℕ) → min a b ≡ min b a
 min_swap a b = omega arith
 
@@ -212,9 +192,6 @@ max_swap a b = omega arith
 
 shared_swap : (a b : Feature) → shared_bases a b ≡ shared_bases b a
 shared_swap a b = ap₂ (λ t n. cond t n 0) (name_eq-sym a.chrom b.chrom) (ap₂ (λ x y. x - y) (min_swap a.stop b.stop) (max_swap a.start b.start))
-
-enough_by : (x y both : Bool) → both ≡ true → (x && (not both || y)) ≡ (y && (not both || x))
-enough_by x y both e = grind arith
 
 enough_swap : (rule : HitRule) (bases : ℕ) (a b : Feature) → IsMutual rule → is_enough rule bases a b ≡ is_enough rule bases b a
 unfolding is_enough

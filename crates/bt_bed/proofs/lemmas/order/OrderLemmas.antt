@@ -1,12 +1,11 @@
 -- Lemmas on orders of records.
-use Rattle.bt_lines.proofs.Std.{rules, ◌≡◌, ℕ, ◌≤◌, ◌⊎◌, inl, inr, List, [], ◌∷◌, ◌++◌, refl, sym, ◌∙◌, subst, true, false, bytes_eq, Some, IsTrue, or_parts, or_from, or_left, or_right, Bool, cond, Option, arith, IfSome, nat_lt, bytes_decides, false≢true, suc, ◌||◌, ap, is_some, option_map, tied_itself, nat_list_cmp_total}
+use Rattle.bt_lines.proofs.Std.{rules, ◌≡◌, ℕ, ◌≤◌, ◌⊎◌, inl, inr, List, [], ◌∷◌, ◌++◌, refl, ◌∙◌, subst, true, false, bytes_eq, Some, IsTrue, or_parts, or_from, or_left, or_right, Bool, cond, Option, arith, IfSome, nat_lt, suc, ◌||◌, ap, is_some, option_map, tied_itself, nat_list_cmp_total}
 use Rattle.std.specs.declared.cmp.Ordering.TheVariants.{Less, Equal}
 use Rattle.bt_bed.specs.model.Feature.{last_from, last_of, Interval}
 use Rattle.bt_bed.specs.model.Order.{Order, IsTotal, is_among, rank_of, byte_order}
-use Rattle.bt_bed.specs.model.Sorted.{locus_of, IsUpTo, ArePlaced, placed_grows, prefixes_are_placed, has_records, IsFollowed, AreContiguous, placed_are_contiguous, prefixes_are_contiguous, Locus, is_below, is_below_at, falls_in, sorted_by_places, sorting_of}
-use Rattle.bt_bed.proofs.lemmas.parse.NameLemmas.{name_eq, name_ne, other_name, name_ne-sym, same_name}
+use Rattle.bt_bed.specs.model.Sorted.{locus_of, IsUpTo, ArePlaced, placed_grows, prefixes_are_placed, has_records, IsFollowed, AreContiguous, placed_are_contiguous, prefixes_are_contiguous, Locus, is_below, falls_in, sorted_by_places, sorting_of}
+use Rattle.bt_bed.proofs.lemmas.parse.NameLemmas.{name_eq, name_ne, name_ne-sym, same_name}
 use Rattle.std.specs.Ordering.{is_lt}
-use Rattle.std.specs.declared.cmp.Ordering.{Ordering}
 
 -- Lemmas on contiguous records, and on records in a total order of their chromosomes.
 
@@ -77,18 +76,6 @@ pub grows_placed : placed_grows
 grows_placed = grind (arith, placed_from)
 
 -- Lemmas on how records are sorted.
-
-up_to_by : (order : Order) (last place : Locus) → IsTotal order → IsTrue (order.knows last.chrom) → IsTrue (order.knows place.chrom)
-    → (o : Ordering) → order.compare place.chrom last.chrom ≡ o → is_below_at o place.start last.start ≡ false → IsUpTo order last place
-up_to_by order last place o was is e h stays = grind arith
-
--- a place that doesn't fall below the last one isn't before it
-stays_up_to : (order : Order) (last place : Locus) → IsTotal order → IsTrue (order.knows last.chrom) → IsTrue (order.knows place.chrom) → is_below order place last ≡ false → IsUpTo order last place
-stays_up_to order last place total was is stays = up_to_by order last place total was is (order.compare place.chrom last.chrom) refl stays
-
--- if the names differ, the order of the chromosomes decides alone
-apart_by : (o : Ordering) (start other : ℕ) → (o ≡ Equal → ⊥) → is_lt o ≡ is_below_at o start other
-apart_by o start other apart = grind arith
 
 sorted_by : (order : Order) (last place : Locus) → IsTotal order → IsTrue (order.knows last.chrom) → IsTrue (order.knows place.chrom)
     → (b : Bool) → bytes_eq last.chrom place.chrom ≡ b → cond b (nat_lt place.start last.start) (is_lt (order.compare place.chrom last.chrom)) ≡ is_below order place last

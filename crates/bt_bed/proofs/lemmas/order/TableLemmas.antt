@@ -1,6 +1,6 @@
 -- Lemmas on the entries of a genome file.
 use Rattle.std.proofs.lemmas.Grind.{common_steps}
-use Rattle.bt_lines.proofs.Std.{rules, ◌≡◌, ℕ, arith, false, List, [], ◌∷◌, ◌++◌, Option, Some, None, Result, Ok, Err, refl, sym, ap, ◌∙◌, append_assoc, append-nil, bytes_eq, or_parts, ◌⊎◌, IsErrAnd, OnOk, OnErr, inl, inr, suc, ◌+◌, ◌-◌, ◌^◌, ◌<◌, ◌≤◌, length, take, drop, IfSome, zero, Bool, true, cond, map, subst, length-append, All-push, All-head, All-tail, All, Vec, is_some, option_map, position, slice_get, option_to_list, map-append, slice_get-map, take-append_seam, position_from, keys_of, position_from-zero}
+use Rattle.bt_lines.proofs.Std.{rules, ◌≡◌, ℕ, arith, false, List, [], ◌∷◌, ◌++◌, Option, Some, None, Result, Ok, Err, refl, sym, ap, ◌∙◌, append_assoc, append-nil, bytes_eq, or_parts, ◌⊎◌, IsErrAnd, OnOk, OnErr, inl, inr, suc, ◌+◌, ◌-◌, ◌^◌, ◌<◌, ◌≤◌, length, take, drop, IfSome, zero, true, map, subst, length-append, All-head, All-tail, All, Vec, is_some, option_map, position, slice_get, option_to_list, map-append, slice_get-map, position_from, keys_of, position_from-zero}
 use Rattle.bt_lines.specs.model.Fault.{FaultValue, no_memory, read_failed}
 use Rattle.bt_lines.specs.model.Lines.{TextLine, bytes_in}
 use Rattle.bt_lines.specs.declared.fault.Input.{Input}
@@ -12,12 +12,12 @@ use Rattle.bt_lines.specs.declared.fault.Place.{Place}
 use Rattle.bt_bed.specs.calls.Reading.{IsLost, LinesPass}
 use Rattle.bt_bed.specs.model.BedLine.{fault_at_line, is_genome_kind}
 use Rattle.bt_lines.specs.declared.device.Source.{Ghosts as Source}
-use Rattle.bt_lines.proofs.lemmas.reader.lines.TakingLemmas.{given_drops, hands_none, hands_both, sound_near, taken_below, not_told}
-use Rattle.bt_lines.proofs.lemmas.reader.lines.TextLemmas.{bytes_in-drop, line_feeds-append}
+use Rattle.bt_lines.proofs.lemmas.reader.lines.TakingLemmas.{given_drops, hands_both, sound_near, taken_below, not_told}
+use Rattle.bt_lines.proofs.lemmas.reader.lines.TextLemmas.{line_feeds-append}
 use Rattle.bt_lines.specs.calls.Output.{block_size}
 use Rattle.bt_lines.specs.calls.Reader.{CutsOff, GivesFault, GivesLine, Hands, IsNear, IsSound, bytes_taken, fault_kept, input_of, lines_given, lines_left, source_of, end_told, GivesEnd, FailsToRead}
 use Rattle.bt_lines.specs.declared.reader.line_reader.LineReader.{LineReader}
-use Rattle.bt_bed.proofs.lemmas.read.good.ReadingLemmas.{front_of_both, near_pass, no_pass, pass_more}
+use Rattle.bt_bed.proofs.lemmas.read.good.ReadingLemmas.{front_of_both, near_pass, pass_more}
 use Rattle.bt_lines.specs.calls.Line.{GivesFirst}
 use Rattle.bt_lines.specs.declared.fault.Kind.TheVariants.{RepeatedChrom}
 use Rattle.bt_bed.proofs.lemmas.order.OrderLemmas.{among_ranked}
@@ -131,9 +131,6 @@ module _ {S : Type 0} (device : Source S) where
     pub bytes : (bytes : List ℕ) × Hands device.left old bytes now
     pub sound : IsSound device old → IsSound device now
 
-  pub passed_none : (reader : LineReader S) → Passed reader reader
-  passed_none reader = grind arith
-
   module _ (old now new : LineReader S) (p : Passed old now) where
     pub passed_line : (line : TextLine) → GivesLine device now line new → (IsSound device now → IsSound device new) → Passed old new
     passed_line line gives sound = record {
@@ -188,10 +185,6 @@ plus_none : (o : Option ℕ) → plus 0 o ≡ o
 unfolding plus
 plus_none o = grind arith
 
-plus_cond : (n : ℕ) (b : Bool) (o : Option ℕ) → cond b (Some n) (plus (n + 1) o) ≡ plus n (cond b (Some 0) (option_map (λ k. suc k) o))
-unfolding plus
-plus_cond n b o = grind arith
-
 -- the position of a name among the keys, counted from n, is its rank counted from n
 placed_from : (chromosomes : List (Vec ℕ Global × ℕ)) (name : List ℕ) (n : ℕ)
     → position_from (λ key. bytes_eq name key.items) n (keys_of chromosomes) ≡ plus n (rank_of (genome_names (map entry_seen chromosomes)) name)
@@ -215,12 +208,6 @@ inserted_last (chromosome ∷ more) name size e =
 pub entries_push : (chromosomes : List (Vec ℕ Global × ℕ)) (name : Vec ℕ Global) (size : ℕ) (text : List ℕ) → name.items ≡ text → is_among (genome_names (map entry_seen chromosomes)) text ≡ false
     → map entry_seen (insert_entry (λ a b. bytes_eq a.items b.items) chromosomes name size) ≡ map entry_seen chromosomes ++ record { name = text; length = size } ∷ []
 entries_push chromosomes name size text is new = grind (arith, inserted_last, map-append)
-
-seen_name : (o : Option (Vec ℕ Global × ℕ)) → option_map (λ entry. entry.name) (option_map entry_seen o) ≡ option_map (λ chromosome. chromosome.0.items) o
-seen_name o = grind arith
-
-seen_length : (o : Option (Vec ℕ Global × ℕ)) → option_map (λ entry. entry.length) (option_map entry_seen o) ≡ option_map (λ chromosome. chromosome.1) o
-seen_length o = grind arith
 
 -- the name at a rank is that of the chromosome there
 pub name_at : (chromosomes : List (Vec ℕ Global × ℕ)) (rank : ℕ) → slice_get (genome_names (map entry_seen chromosomes)) rank ≡ option_map (λ chromosome. chromosome.0.items) (slice_get chromosomes rank)

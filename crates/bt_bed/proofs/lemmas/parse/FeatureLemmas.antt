@@ -1,7 +1,7 @@
 -- Lemmas on columns, and on what is kept of them.
 use Rattle.std.proofs.lemmas.Grind.{common_steps}
-use Rattle.bt_lines.proofs.Std.{◌≡◌, ℕ, ◌+◌, ◌≤◌, Bool, List, [], ◌∷◌, ◌++◌, length, drop, refl, sym, ap, ◌∙◌, eqb, append_assoc, append-nil, arith, length-append, drop_at, slice_split_at, slice_split_none, join_with_byte-slice_split, AllByRecursion, join_with_byte, ◌<◌, true, false, ◌&&◌, cond, Option, Some, None, Result, Ok, subst, ltb, leb, leb-true, and_parts, list_all, is_ascii_digit, digits_value, ◌||◌, bytes_eq, take, get_or, false_from_ne_true, take-append-drop, All-head, All-tail, bytes_eq-Decides, All}
-use Rattle.bt_lines.specs.model.Lines.{pieces, value_of, is_number}
+use Rattle.bt_lines.proofs.Std.{◌≡◌, ℕ, ◌+◌, ◌≤◌, Bool, List, [], ◌∷◌, ◌++◌, length, drop, refl, sym, ap, ◌∙◌, eqb, append_assoc, append-nil, arith, length-append, drop_at, slice_split_at, slice_split_none, join_with_byte-slice_split, AllByRecursion, join_with_byte, ◌<◌, true, false, cond, Option, Some, None, Result, Ok, subst, ◌||◌, bytes_eq, take, get_or, take-append-drop, All-head, All-tail, bytes_eq-Decides, All}
+use Rattle.bt_lines.specs.model.Lines.{pieces, value_of}
 use Rattle.bt_lines.proofs.lemmas.reader.lines.TextLemmas.{IsColumn}
 use Rattle.bt_bed.specs.model.Feature.{Feature}
 use Rattle.bt_bed.specs.model.BedLine.{kept_columns, is_header, IsFeature, IsName, is_kept, record_of, not_skipped, columns_in, columns_say, feature_of, strand_of, ends_word, first_word, is_header_word}
@@ -54,9 +54,6 @@ pub taken_are_within : (columns left left2 left3 : List (List ℕ)) (text a b c 
 taken_are_within columns left left2 left3 text a b c e first second third = grind (arith, (three_are_within text a b c columns (taken_in_turn columns left left2 left3 text a b c e first second third)))
 
 -- Lemmas on the feature that a line says.
-
-some_of : (b : Bool) (v n : ℕ) → (b ≡ true → v ≤ 999999999999) → cond b (Some v) None ≡ Some n → n ≤ 999999999999
-some_of b v n h e = grind arith
 
 -- a number that a text denotes has at most twelve digits
 value_at_most : (text : List ℕ) (n : ℕ) → value_of text ≡ Some n → n ≤ 999999999999
@@ -139,11 +136,6 @@ record_said text f e = skipped_or_said (is_header text) (columns_say (pieces 9 t
 -- a line that is no header says what its columns say
 pub said_by_columns : (text : List ℕ) (said : Result Feature Kind) → is_header text ≡ false → said ≡ columns_say (pieces 9 text) → not_skipped said ≡ record_of text
 said_by_columns text said h e = ap not_skipped e ∙ sym (columns_of_line text h)
-
--- three columns, the numbers of which were found
-pub three_say : (text a b c : List ℕ) (rest : List (List ℕ)) (bounds : ℕ × ℕ) → pieces 9 text ≡ a ∷ b ∷ c ∷ rest
-    → feature_between a (Ok bounds) rest ≡ feature_of a (value_of b) (value_of c) rest → columns_say (pieces 9 text) ≡ Ok (whole a bounds.0 bounds.1 rest)
-three_say text a b c rest bounds cut found = ap columns_say cut ∙ sym found
 
 -- the feature made of a name, of the start and end that were found, and of what follows their columns is what the text says
 pub made_is_said : (text a b c : List ℕ) (rest : List (List ℕ)) (bounds : ℕ × ℕ) (strand : Strand) (kept : List ℕ) → pieces 9 text ≡ a ∷ b ∷ c ∷ rest

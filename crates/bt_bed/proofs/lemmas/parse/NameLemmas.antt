@@ -1,5 +1,5 @@
 -- Names of chromosomes: whether two are one.
-use Rattle.bt_lines.proofs.Std.{◌≡◌, ℕ, ◌⊎◌, ◌+◌, ◌-◌, ◌<◌, ◌≤◌, ◌++◌, inl, inr, List, length, take, drop, get_or, refl, sym, ap, ◌∙◌, arith, true, false, eqb, bytes_eq, length-take, length-drop, cases_Bool, cases_lt, eq-eqb, eqb-true, false_from_ne_true, false≢true, drop-drop, get_or-drop, get_or-take, get_or_past, take-append-drop, le_bytes_4, bytes_eq-Decides, from_le_bytes, w32, zero, suc, ◌*◌, ◌/◌, ◌%◌, ◌^◌, [], ◌∷◌, append_assoc, add-mul-mod_self_right, eq_of_mul-eq-mul_left, mod-add-div, pow-succ', one_shl, pow-add, length-append, take-take, take-length, w64, Some, subst, drop-take, length-take-le, get_or-append_seam, is_ascii_digit, list_all, digits_value}
+use Rattle.bt_lines.proofs.Std.{◌≡◌, ℕ, ◌⊎◌, ◌+◌, ◌-◌, ◌<◌, ◌≤◌, ◌++◌, inl, inr, List, length, take, drop, get_or, refl, sym, ap, ◌∙◌, arith, true, false, eqb, bytes_eq, length-take, length-drop, cases_Bool, eqb-true, false_from_ne_true, drop-drop, get_or-drop, get_or-take, get_or_past, take-append-drop, le_bytes_4, bytes_eq-Decides, from_le_bytes, w32, zero, suc, ◌*◌, ◌/◌, ◌%◌, ◌^◌, [], ◌∷◌, append_assoc, add-mul-mod_self_right, eq_of_mul-eq-mul_left, mod-add-div, pow-succ', one_shl, pow-add, length-append, take-take, take-length, w64, Some, subst, drop-take, length-take-le, get_or-append_seam, is_ascii_digit, list_all, digits_value}
 use Rattle.bt_bed.specs.inside.FirstColumns.{BeginsWithName, IsKey, AreBounds, BeginsWith, HasColumns, Leads}
 use Rattle.bt_bed.specs.declared.parse.packed_name.PackedName.{PackedName}
 use Rattle.bt_lines.proofs.lemmas.numbers.NumberLemmas.{digits_denoting, digits_more, value_more, value_short}

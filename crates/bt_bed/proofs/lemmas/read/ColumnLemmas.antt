@@ -1,18 +1,17 @@
 -- Lemmas on the first columns of a line that are in order.
 use Rattle.std.proofs.lemmas.Grind.{common_steps}
-use Rattle.bt_lines.proofs.Std.{rules, ◌≡◌, ℕ, ◌+◌, ◌^◌, ◌<◌, ◌≤◌, Bool, true, false, List, [], ◌∷◌, ◌++◌, length, take, drop, get_or, Option, Some, Ok, refl, sym, ap, ◌∙◌, subst, arith, append_assoc, bytes_eq, eqb, ltb, length-take, is_ascii_digit, list_all, digits_value, eqb-true, and_parts, nat_tests, get_or-append_seam, take-append_seam, drop-drop, drop_more, drop_all, length-append, take_all, take-append-drop, All-nil, All-cons, slice_split_none, length-slice_split, bytes_eq-Decides, None, Result, Err, inl, inr, IfSome, cases_Bool, cases_lt, false≢true, drop_at, AllByRecursion, ◌-◌, decimal, eq-eqb, length-drop, IsTrue, not, strip_last, list_all_at, AllDigits, decimal-digits_value, get_or-drop, get_or-take, get_or_append_left, length-take-le, numerals_by_value, tells_digits}
-use Rattle.bt_lines.proofs.lemmas.reader.lines.TextLemmas.{cut_at, IsColumn, IsInside}
+use Rattle.bt_lines.proofs.Std.{rules, ◌≡◌, ℕ, ◌+◌, ◌^◌, ◌<◌, ◌≤◌, Bool, true, false, List, [], ◌∷◌, ◌++◌, length, take, drop, get_or, Option, Some, Ok, refl, sym, ap, ◌∙◌, subst, arith, append_assoc, bytes_eq, eqb, ltb, length-take, is_ascii_digit, list_all, digits_value, get_or-append_seam, take-append_seam, drop-drop, drop_more, drop_all, length-append, take_all, take-append-drop, slice_split_none, length-slice_split, bytes_eq-Decides, Result, inl, inr, IfSome, cases_Bool, cases_lt, false≢true, drop_at, ◌-◌, decimal, eq-eqb, length-drop, IsTrue, not, strip_last, list_all_at, AllDigits, decimal-digits_value, get_or-drop, get_or-take, length-take-le, numerals_by_value, tells_digits}
+use Rattle.bt_lines.proofs.lemmas.reader.lines.TextLemmas.{cut_at, IsColumn}
 use Rattle.bt_lines.proofs.lemmas.numbers.NumberLemmas.{digits_below, value_of_digits, all_digits_in, digits_denoting}
 use Rattle.bt_lines.specs.model.Lines.{pieces, value_of}
 use Rattle.bt_bed.proofs.lemmas.parse.FeatureLemmas.{cut_and_kept, record_said, said_is_feature, said_stands, header_before_tab, pieces_are_columns, IsWhole, of_whole, said_by_columns}
 use Rattle.bt_bed.specs.model.Feature.{Feature}
-use Rattle.bt_bed.specs.model.BedLine.{is_header, IsName, columns_in, columns_say, feature_of, is_kept, kept_columns, record_of, strand_of, IsFeature, bed_text}
+use Rattle.bt_bed.specs.model.BedLine.{is_header, IsName, columns_in, columns_say, is_kept, kept_columns, record_of, strand_of, IsFeature, bed_text}
 use Rattle.bt_bed.specs.inside.FirstColumns.{AreBounds, BeginsWith, BeginsWithName, EndsName, IsRecordName, Leads, EndsFirst, HasColumns}
 use Rattle.bt_bed.specs.declared.parse.parsed_number.ParsedNumber.{ParsedNumber}
 use Rattle.bt_bed.specs.declared.record.strand.Strand.{Strand}
 use Rattle.bt_bed.specs.calls.Bed.{is_on, IsOnLine, kept_in, record_in, text_in}
 use Rattle.bt_lines.specs.declared.fault.Kind.{Kind}
-use Rattle.bt_lines.proofs.lemmas.reader.lines.BufferedLemmas.{strip_begins}
 use Rattle.bt_bed.specs.declared.record.raw_record.RawRecord.{RawRecord}
 
 pub cut_by : (text : List ℕ) (n : ℕ) → n ≤ length text → (n < length text → get_or text n 0 ≡ 9) → IsColumn (take n text) → (b : Bool) → ltb n (length text) ≡ b → pieces 9 text ≡ take n text ∷ columns_in (drop n text)
@@ -26,10 +25,6 @@ kept_by bytes (x ∷ xs) e some = ap (λ l. 9 ∷ l) (sym (cut_and_kept bytes x 
 pub kept_again : (kept : List ℕ) → is_kept kept ≡ true → kept_columns (columns_in kept) ≡ kept
 kept_again kept e = grind (arith, kept_by, length-slice_split)
 
-numbers_say : (a : List ℕ) (b c : Option ℕ) (start stop : ℕ) (columns : List (List ℕ)) → 0 < length a → b ≡ Some start → c ≡ Some stop → start < stop
-    → feature_of a b c columns ≡ Ok (record { chrom = a; start = start; stop = stop; strand = strand_of columns; rest = kept_columns columns })
-numbers_say a b c start stop columns some p q below = grind arith
-
 -- the three columns say a feature
 pub direct_say : (text first second kept : List ℕ) (name : ℕ) (start stop : ParsedNumber) (strand : Strand) → first ≡ drop (name + 1) text → second ≡ drop (start.end + 1) first → kept ≡ drop stop.end second → strand ≡ strand_of (columns_in kept)
     → EndsName text name → Leads first start → start.end < length first → Leads second stop → start.value < stop.value
@@ -37,10 +32,6 @@ pub direct_say : (text first second kept : List ℕ) (name : ℕ) (start stop : 
 direct_say text first second kept name start stop strand f s k t n p inside q below =
     let last = cut_by second stop.end q.within q.tab q.column (ltb stop.end (length second)) refl ∙ ap (λ l. take stop.end second ∷ columns_in l) (sym k) in
     grind (arith, common_steps, (cut_at first start.end inside (p.tab inside) p.column), (cut_at text name n.within n.tab n.column), kept_again, drop_more, drop_all)
-
--- a digit is no tab
-digit_inside : (byte : ℕ) → is_ascii_digit byte ≡ true → IsInside byte
-digit_inside byte digit = grind arith
 
 -- the digits up to a tab or the end denote a number
 pub leads_by : (text : List ℕ) (value end : ℕ) → 0 < end → end ≤ length text → (end < length text → get_or text end 0 ≡ 9) → value ≡ digits_value 10 (take end text) → list_all is_ascii_digit (take end text) ≡ true → value ≤ 999999999999
@@ -96,12 +87,6 @@ behind_name name rest = grind (arith, (append_assoc name (9 ∷ []) rest), (drop
 -- a text without a tab is its first column
 pub alone_ends : (text : List ℕ) → pieces 9 text ≡ text ∷ [] → EndsFirst text (length text)
 alone_ends text e = grind (arith, take_all, pieces_are_columns)
-
-few : (first : List ℕ) (name : List ℕ) (f : Feature) → columns_say (name ∷ first ∷ []) ≡ Ok f → ⊥
-few first name f e = cc
-
-value_is : (o : Option ℕ) (n value : ℕ) → o ≡ Some n → IfSome o (λ v. value ≡ v) → value ≡ n
-value_is o n value e h = grind arith
 
 module _ (text name : List ℕ) (r : Feature) (says : record_of text ≡ Ok (Some r)) (on : r.chrom ≡ name) where
   said : columns_say (pieces 9 text) ≡ Ok r

@@ -1,18 +1,16 @@
 -- What is good of two concatenated texts of records.
-use Rattle.bt_lines.proofs.Std.{rules, arith, ◌≡◌, ℕ, Bool, true, false, cond, List, [], ◌∷◌, ◌++◌, Option, Some, None, Result, Ok, Err, refl, ap, ◌∙◌, subst, IsTrue, flat_map, AllByRecursion, ordering_reverse}
+use Rattle.bt_lines.proofs.Std.{rules, arith, ◌≡◌, ℕ, List, [], ◌∷◌, ◌++◌, Option, Some, None, Result, Ok, Err, refl, ap, ◌∙◌, subst, IsTrue, flat_map, AllByRecursion, ordering_reverse}
 use Rattle.std.specs.declared.cmp.Ordering.{Ordering}
-use Rattle.std.specs.declared.cmp.Ordering.TheVariants.{Less, Equal, Greater}
+use Rattle.std.specs.declared.cmp.Ordering.TheVariants.{Less, Greater}
 use Rattle.bt_lines.specs.model.Lines.{TextLine, lines_from, text_lines}
 use Rattle.bt_lines.specs.declared.fault.Input.{Input}
 use Rattle.bt_lines.specs.declared.fault.Kind.{Kind}
-use Rattle.bt_lines.specs.declared.fault.Kind.TheVariants.{UnknownChrom, OutOfOrder}
 use Rattle.bt_bed.specs.model.Feature.{Feature}
 use Rattle.bt_bed.specs.model.BedLine.{record_of}
-use Rattle.bt_bed.specs.model.Good.{Good, good, good_from, good_with, items_in, bed_format, line_says, locus_at, said_after}
-use Rattle.bt_bed.specs.model.Sorted.{Locus, is_below_at, falls_in, sorting_of}
+use Rattle.bt_bed.specs.model.Good.{Good, good, good_from, good_with, items_in, bed_format, line_says, said_after}
+use Rattle.bt_bed.specs.model.Sorted.{Locus, sorting_of}
 use Rattle.bt_bed.specs.model.Order.{Order, IsTotal}
 use Rattle.bt_bed.proofs.lemmas.Definitions.{line_said}
-use Rattle.bt_bed.proofs.lemmas.order.OrderLemmas.{places_sorted}
 use Rattle.bt_laws.specs.Parts.{ComeBefore, StandsBefore, said_record, said_records}
 use Rattle.bt_laws.proofs.lemmas.parts.PartLines.{IsJoint, LeadsOn, good_joint, AreAlike, alike_lines}
 use Rattle.bt_laws.proofs.lemmas.Lists.{all_back, all_front, all_so}
@@ -27,9 +25,6 @@ alike_records [] (m ∷ ms) h = absurd h
 alike_records (l ∷ ls) [] h = absurd h
 alike_records (l ∷ ls) (m ∷ ms) h = ap (λ t. said_record (record_of t) ++ records_on ls) h.0 ∙ ap (λ rs. said_record (record_of m.text) ++ rs) (alike_records ls ms h.2)
 
-pub below_no : (o : Ordering) (start other : ℕ) → o ≡ Greater → is_below_at o start other ≡ false
-below_no o start other e = grind arith
-
 pub reversed_less : (o p : Ordering) → o ≡ Less → p ≡ ordering_reverse o → p ≡ Greater
 reversed_less o p e is = cc
 
@@ -38,16 +33,7 @@ module _ (order : Order) (total : IsTotal order) where
   abbrev pub Leading : List ℕ → List Feature → Type 0
   Leading name records = AllByRecursion (λ s. IsTrue (order.knows name) → IsTrue (order.knows s.chrom) → order.compare name s.chrom ≡ Less) records
 
-  -- a record on a later chromosome is in order
-  later_stays : (last place : Locus) → IsTrue (order.knows last.chrom) → IsTrue (order.knows place.chrom) → order.compare last.chrom place.chrom ≡ Less → falls_in (sorting_of order) (Some last) place ≡ false
-  later_stays last place was is less = search rules
-
   module _ (input : Input) (last : Locus) (was : IsTrue (order.knows last.chrom)) where
-    fresh_by : (n : ℕ) (r : Feature) (rest : Option Locus → Good Feature) (knows falls : Bool) → (knows ≡ true → falls ≡ false)
-        → good_with (bed_format (sorting_of order)) input n (Some last) (cond knows (cond falls (Err OutOfOrder) (Ok (Some r))) (Err UnknownChrom)) rest
-        ≡ good_with (bed_format (sorting_of order)) input n None (cond knows (Ok (Some r)) (Err UnknownChrom)) rest
-    fresh_by n r rest knows falls h = grind arith
-
     fresh_with : (n : ℕ) (said : Result (Option Feature) Kind) (rest : Option Locus → Good Feature) → Leading last.chrom (said_record said) → rest (Some last) ≡ rest None
         → good_with (bed_format (sorting_of order)) input n (Some last) (said_after (sorting_of order) (Some last) said) rest
         ≡ good_with (bed_format (sorting_of order)) input n None (said_after (sorting_of order) None said) rest

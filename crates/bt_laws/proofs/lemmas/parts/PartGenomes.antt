@@ -1,29 +1,27 @@
 -- Records of parts, each with its own part of the genome file.
-use Rattle.bt_lines.proofs.Std.{rules, ◌≡◌, ℕ, suc, ◌+◌, ◌<◌, Bool, true, false, cond, List, [], ◌∷◌, ◌++◌, ◌||◌, ◌⊎◌, length, Option, Some, None, inl, inr, refl, sym, ap, ap₂, ◌∙◌, arith, Result, Ok, Err, subst, IsTrue, bytes_eq, is_some, option_map, nat_lt, nat_cmp, cases_lt, or_parts, cases_Bool, or_right, AllByRecursion, map-append, flat_map-append, append-nil, ⊤, list_any, list_any-append}
-use Rattle.std.specs.declared.cmp.Ordering.TheVariants.{Less, Equal}
-use Rattle.bt_bed.specs.model.Order.{Order, AreDistinct, compare_ranks, is_among, rank_of, rank_order, IsTotal}
-use Rattle.bt_bed.proofs.lemmas.parse.NameLemmas.{same_name, name_ne, name_ne-sym}
+use Rattle.bt_lines.proofs.Std.{rules, ◌≡◌, ℕ, suc, ◌+◌, ◌<◌, Bool, true, false, cond, List, [], ◌∷◌, ◌++◌, ◌||◌, ◌⊎◌, length, Option, Some, None, inl, inr, refl, sym, ap, ◌∙◌, arith, Result, subst, IsTrue, bytes_eq, is_some, option_map, or_parts, cases_Bool, AllByRecursion, map-append, flat_map-append, append-nil, ⊤, list_any, list_any-append}
+use Rattle.std.specs.declared.cmp.Ordering.TheVariants.{Less}
+use Rattle.bt_bed.specs.model.Order.{Order, AreDistinct, is_among, rank_of, rank_order, IsTotal}
+use Rattle.bt_bed.proofs.lemmas.parse.NameLemmas.{same_name, name_ne-sym}
 use Rattle.bt_bed.proofs.lemmas.order.OrderLemmas.{among_ranked}
-use Rattle.bt_runs.proofs.lemmas.order.FileOrder.{rank_of-later, spans_on-append, spans_on-none}
-use Rattle.bt_runs.proofs.lemmas.definitions.Standing.{cmp_equal, cmp_greater, cmp_less, known_rank}
-use Rattle.bt_lines.specs.model.Lines.{TextLine, lines_from, text_lines}
+use Rattle.bt_runs.proofs.lemmas.order.FileOrder.{spans_on-append, spans_on-none}
+use Rattle.bt_runs.proofs.lemmas.definitions.Standing.{known_rank}
+use Rattle.bt_lines.specs.model.Lines.{TextLine}
 use Rattle.bt_lines.specs.declared.fault.Input.{Input}
 use Rattle.bt_lines.specs.declared.fault.Kind.{Kind}
-use Rattle.bt_lines.specs.declared.fault.Kind.TheVariants.{UnknownChrom, OutOfOrder}
 use Rattle.bt_bed.specs.model.Feature.{Feature, interval_of, intervals_of, Interval, last_from, last_of, spans_on}
 use Rattle.bt_bed.specs.model.BedLine.{record_of}
 use Rattle.bt_bed.specs.model.Genome.{Entry, genome_names}
-use Rattle.bt_bed.specs.model.Good.{Good, good_from, good_with, bed_format, in_order, line_says, locus_at, said_after}
-use Rattle.bt_bed.specs.model.Sorted.{Locus, falls_in, sorting_of, ArePlaced, IsPlacedBefore, has_records}
-use Rattle.std.specs.Ordering.{is_lt}
+use Rattle.bt_bed.specs.model.Good.{Good, good_from, good_with, bed_format, line_says, said_after}
+use Rattle.bt_bed.specs.model.Sorted.{Locus, sorting_of, ArePlaced, IsPlacedBefore, has_records}
 use Rattle.bt_laws.specs.Parts.{LiesWithin, ComeBefore, StandsBefore, said_record, said_records}
 use Rattle.bt_laws.proofs.lemmas.parts.PartBed.{alike_records, records_on, Earlier}
 use Rattle.bt_laws.proofs.lemmas.parts.PartLines.{alike_lines, lines_join}
 use Rattle.bt_laws.proofs.lemmas.Lists.{all_back, all_front, all_so, all_map, all_swapped}
 use Rattle.bt_laws.proofs.lemmas.single.Sequences.{owners_stay_so}
 use Rattle.bt_seq.proofs.lemmas.definitions.KnowsLemmas.{is_last, leave, one_leaves}
-use Rattle.bt_seq.proofs.lemmas.definitions.MaskPrefixLemmas.{chrom_of, none_next, none_leaves}
-use Rattle.bt_seq.proofs.lemmas.Sam.{Tagged, last_from as last_tagged, next_left, own_in, own_tagged, tag_decides, tag_items, tags, tags_append, tags_of}
+use Rattle.bt_seq.proofs.lemmas.definitions.MaskPrefixLemmas.{chrom_of, none_leaves}
+use Rattle.bt_seq.proofs.lemmas.Sam.{Tagged, last_from as last_tagged, own_in, own_tagged, tag_decides, tag_items, tags, tags_append, tags_of}
 use Rattle.bt_seq.specs.model.Masked.{items_if_last, names_behind as sequences_behind, own_records}
 
 abbrev shifted : ℕ → Option ℕ → Option ℕ
@@ -31,9 +29,6 @@ shifted k rank = option_map (λ r. k + r) rank
 
 shift_none : (rank : Option ℕ) → shifted 0 rank ≡ rank
 shift_none rank = grind arith
-
-shift_more : (k : ℕ) (rank : Option ℕ) → option_map (λ r. suc r) (shifted k rank) ≡ shifted (suc k) rank
-shift_more k rank = grind arith
 
 pub or_assoc : (a b c : Bool) → (a || (b || c)) ≡ ((a || b) || c)
 or_assoc a b c = grind arith
@@ -69,15 +64,6 @@ rank_first (x ∷ xs) ys name e = by_first (bytes_eq x name) refl (rank_first xs
     by_first true is more = ap (λ b. cond b (Some 0) (option_map (λ r. suc r) (rank_of (xs ++ ys) name))) is ∙ sym (ap (λ b. cond b (Some 0) (option_map (λ r. suc r) (rank_of xs name))) is)
     by_first false is more = ap (λ o. cond (bytes_eq x name) (Some 0) (option_map (λ r. suc r) o)) (more (sym (ap (λ b. b || is_among xs name) is) ∙ e))
 
-shift_cmp : (k i j : ℕ) → nat_cmp (k + i) (k + j) ≡ nat_cmp i j
-shift_cmp k i j = grind arith
-
-compare_shifted : (k : ℕ) (o p : Option ℕ) → compare_ranks (shifted k o) (shifted k p) ≡ compare_ranks o p
-compare_shifted k o p = grind arith
-
-some_shifted : (k : ℕ) (o : Option ℕ) → is_some (shifted k o) ≡ is_some o
-some_shifted k o = grind arith
-
 -- what is among all names is among those of the part
 abbrev pub Within : List (List ℕ) → List (List ℕ) → List ℕ → Type 0
 Within part whole name = IsTrue (is_among whole name) → IsTrue (is_among part name)
@@ -88,9 +74,6 @@ pub record Agree (mine yours : Order) (P : List ℕ → Type 0) : Type 0 where
   pub compare : (a b : List ℕ) → P a → P b → mine.compare a b ≡ yours.compare a b
 
 module _ (xs ys : List (List ℕ)) where
-  not_within : (a b : Bool) → (IsTrue a → IsTrue b) → b ≡ false → a ≡ false
-  not_within a b h e = grind arith
-
   pub first_agree : Agree (rank_order (xs ++ ys)) (rank_order xs) (Within xs (xs ++ ys))
   first_agree = grind (arith, rank_first, rank_before, among_append)
 
@@ -137,17 +120,6 @@ module _ (mine yours : Order) (P : List ℕ → Type 0) (agree : Agree mine your
   abbrev Mine : Option Locus → Type 0
   Mine None = Unit {0}
   Mine (Some last) = P last.chrom
-
-  falls_same : (last : Option Locus) (r : Feature) → Mine last → P r.chrom → falls_in (sorting_of mine) last (locus_at r) ≡ falls_in (sorting_of yours) last (locus_at r)
-  falls_same last r m p = grind arith
-
-  in_order_same : (last : Option Locus) (r : Feature) → Mine last → P r.chrom → in_order (sorting_of mine) last r ≡ in_order (sorting_of yours) last r
-  in_order_same last r m p = ap₂ (λ k f. cond k (cond f (Err OutOfOrder) (Ok (Some r))) (Err UnknownChrom)) (agree.knows r.chrom p) (falls_same last r m p)
-
-  agree_kept : (n : ℕ) (last : Option Locus) (r : Feature) (knows falls : Bool) (ms ys : Option Locus → Good Feature) → ms (Some (locus_at r)) ≡ ys (Some (locus_at r))
-      → good_with (bed_format (sorting_of mine)) input n last (cond knows (cond falls (Err OutOfOrder) (Ok (Some r))) (Err UnknownChrom)) ms
-      ≡ good_with (bed_format (sorting_of yours)) input n last (cond knows (cond falls (Err OutOfOrder) (Ok (Some r))) (Err UnknownChrom)) ys
-  agree_kept n last r knows falls ms ys e = grind arith
 
   agree_with : (n : ℕ) (last : Option Locus) (said : Result (Option Feature) Kind) (ms ys : Option Locus → Good Feature) → Mine last → AllByRecursion (λ r. P r.chrom) (said_record said)
       → ((now : Option Locus) → Mine now → ms now ≡ ys now)

@@ -1,5 +1,5 @@
 -- Lines of two concatenated texts, of which the first is empty or ends with a line feed.
-use Rattle.bt_lines.proofs.Std.{arith, ◌≡◌, ℕ, suc, true, false, List, [], ◌∷◌, ◌++◌, refl, sym, ap, ◌∙◌, append-nil, append_assoc, eqb, inl, inr, IsTrue, All-head, All-tail, Option, Some, None, Result, Ok, Err, subst, is_none, AllByRecursion, map-append}
+use Rattle.bt_lines.proofs.Std.{arith, ◌≡◌, ℕ, suc, false, List, [], ◌∷◌, ◌++◌, refl, sym, ap, ◌∙◌, append-nil, append_assoc, eqb, IsTrue, All-head, All-tail, Option, Some, None, Result, Ok, subst, is_none, AllByRecursion, map-append}
 use Rattle.bt_lines.specs.model.Lines.{TextLine, fed_line, last_line, lines_from, numbered, pieces, text_lines}
 use Rattle.bt_lines.specs.calls.Line.{NoLineFeed}
 use Rattle.bt_lines.proofs.lemmas.reader.lines.TextLemmas.{lines_from-fed, lines_from-nil, by_lines}
@@ -7,7 +7,7 @@ use Rattle.bt_laws.specs.Parts.{StandsBefore, ends_line}
 use Rattle.bt_lines.specs.model.Fault.{FaultValue}
 use Rattle.bt_lines.specs.declared.fault.Input.{Input}
 use Rattle.bt_lines.specs.declared.fault.Kind.{Kind}
-use Rattle.bt_bed.specs.model.Good.{Format, Good, Member, good, good_from, good_with, items_in, with_member}
+use Rattle.bt_bed.specs.model.Good.{Format, Good, good, good_from, good_with, items_in}
 
 -- lines that differ in their numbers alone
 abbrev pub AreAlike : List TextLine → List TextLine → Type 0
@@ -77,10 +77,6 @@ put_by (Some fault) g h = g
 put_behind : {A : Type 0} → Good A → Good A → Good A
 unfolding put_by
 put_behind g h = put_by g.fault g h
-
-member_by : {A : Type 0} (m : Member A) (fault : Option FaultValue) (g h : Good A) → with_member m (put_by fault g h) ≡ put_by fault (with_member m g) h
-unfolding put_by
-member_by m fault g h = grind arith
 
 abbrev pub IsJointBy : {A : Type 0} → Option FaultValue → Good A → Good A → Good A → Type 0
 IsJointBy None one two whole = (items_in whole ≡ items_in one ++ items_in two) × (is_none whole.fault ≡ is_none two.fault)

@@ -1,28 +1,28 @@
 -- The reports of maskfasta on two parts, and on both.
-use Rattle.bt_lines.proofs.Std.{arith, ◌≡◌, ℕ, Bool, true, false, List, [], ◌∷◌, ◌++◌, map, Option, Some, None, refl, sym, ap, ap₂, ◌∙◌, subst, cond, ◌||◌, ◌⊎◌, append-nil, inl, inr, IsTrue, flat_map, is_some, is_none, option_map, AllByRecursion, list_all, list_any, option_or, or_left, flat_map-append}
+use Rattle.bt_lines.proofs.Std.{arith, ◌≡◌, ℕ, Bool, true, false, List, [], ◌∷◌, ◌++◌, map, Option, Some, None, refl, sym, ap, ap₂, ◌∙◌, subst, ◌||◌, ◌⊎◌, append-nil, inl, inr, IsTrue, flat_map, is_some, is_none, option_map, AllByRecursion, list_all, list_any, flat_map-append}
 use Rattle.bt_laws.proofs.lemmas.parts.PartLines.{none_like}
 use Rattle.bt_seq.proofs.lemmas.mask.steps.LineStepLemmas.{some_list}
 use Rattle.bt_lines.specs.model.Fault.{FaultValue}
-use Rattle.bt_lines.specs.model.Lines.{text_lines, end_bytes}
+use Rattle.bt_lines.specs.model.Lines.{text_lines}
 use Rattle.bt_lines.specs.declared.fault.Input.TheVariants.{First, Second}
 use Rattle.bt_bed.specs.model.Feature.{Feature}
-use Rattle.bt_bed.specs.model.Good.{Good, good, items_in, or_else, block_format}
-use Rattle.bt_bed.specs.model.Meeting.{Rule, join_report, written}
+use Rattle.bt_bed.specs.model.Good.{Good, good, items_in, block_format}
+use Rattle.bt_bed.specs.model.Meeting.{Rule, written}
 use Rattle.bt_seq.proofs.lemmas.definitions.KnowsLemmas.{leave, leave_all}
 use Rattle.bt_seq.proofs.lemmas.definitions.MaskPrefixLemmas.{none_leaves, decided_by_tags, unnamed_own}
 use Rattle.bt_seq.proofs.lemmas.Sam.{last_from, tag_decides, tags_of}
-use Rattle.bt_seq.specs.model.Masked.{masked_line, names_of, decided, is_unnamed, mask_rule, masked_from, SequenceLine, sequence_format, bases_up_to, is_header, block_decides, own_records, owned}
+use Rattle.bt_seq.specs.model.Masked.{masked_line, names_of, decided, is_unnamed, mask_rule, SequenceLine, sequence_format, bases_up_to, owned}
 use Rattle.bt_seq.specs.declared.mask.mask_how.MaskHow.{MaskHow}
 use Rattle.bt_laws.specs.Parts.{BelongsToNone, MasksNone, begins_sequence, sequence_names, StandsBefore, said_records, Texts}
 use Rattle.bt_tool.specs.model.Written.{Report}
 use Rattle.bt_laws.proofs.lemmas.parts.PartSequences.{BeginsElsewhere, calm_joint, fresh_joint, sound_from, among_from, faulty_same, first_front, AreBothBy, fasta_both, line_after, names_begin, names_both, names_grown, second_named, second_sound, unnamed_from}
 use Rattle.bt_laws.proofs.lemmas.parts.PartMasked.{IsSound, lines_both, mask_good, report_sound, sound_output, sound_report, line_second, lines_first, told_lost}
-use Rattle.bt_laws.proofs.lemmas.parts.PartGenomes.{AreOff, IsLost, apart_next, both_owned, leave_append, lost_more, lost_off, any_behind, any_first, any_lost, any_second, later_leave, lost_behind, lost_fewer, none_behind, or_true}
+use Rattle.bt_laws.proofs.lemmas.parts.PartGenomes.{AreOff, IsLost, apart_next, both_owned, leave_append, lost_more, lost_off, any_behind, any_first, any_lost, any_second, later_leave, lost_behind, lost_fewer, none_behind}
 use Rattle.bt_laws.proofs.lemmas.parts.PartReports.{Adds, Stops}
 use Rattle.bt_lines.specs.declared.fault.Kind.TheVariants.{NoSequence}
-use Rattle.bt_bed.proofs.lemmas.Definitions.{all_written, met_fault_all, met_lines, written_at, written_past}
+use Rattle.bt_bed.proofs.lemmas.Definitions.{all_written, met_lines, written_at, written_past}
 use Rattle.bt_laws.proofs.lemmas.Lists.{all_so, flat_map_same, all_map}
-use Rattle.bt_laws.proofs.lemmas.parts.PartSweep.{all_true, take_front, unless_none, written_before}
+use Rattle.bt_laws.proofs.lemmas.parts.PartSweep.{all_true, take_front, written_before}
 
 module _ (how : MaskHow) (full : Bool) where
   -- what is good of FASTA text, and of records in blocks

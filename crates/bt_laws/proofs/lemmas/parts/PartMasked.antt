@@ -1,18 +1,18 @@
 -- What maskfasta writes and tells of two parts.
-use Rattle.bt_lines.proofs.Std.{arith, ◌≡◌, ℕ, Bool, true, false, cond, List, [], ◌∷◌, ◌++◌, map, append-nil, append_assoc, Option, Some, None, refl, sym, ap, ap₂, ◌∙◌, subst, flat_map, is_some, AllByRecursion, list_all, option_or, flat_map-append, flat_map-map}
+use Rattle.bt_lines.proofs.Std.{arith, ◌≡◌, ℕ, Bool, true, false, List, [], ◌∷◌, ◌++◌, map, append-nil, append_assoc, Option, Some, None, refl, sym, ap, ap₂, ◌∙◌, flat_map, is_some, AllByRecursion, list_all, option_or, flat_map-append, flat_map-map}
 use Rattle.bt_lines.specs.model.Fault.{FaultValue}
-use Rattle.bt_lines.specs.model.Lines.{end_bytes, text_lines}
+use Rattle.bt_lines.specs.model.Lines.{text_lines}
 use Rattle.bt_lines.specs.declared.fault.Input.TheVariants.{First, Second}
 use Rattle.bt_lines.specs.declared.fault.Kind.TheVariants.{NoSequence}
 use Rattle.bt_bed.specs.model.Feature.{Feature}
 use Rattle.bt_bed.specs.model.BedLine.{fault_at_line}
 use Rattle.bt_bed.specs.model.Good.{Good, Member, good, items_in, or_else, block_format}
 use Rattle.bt_bed.specs.model.Meeting.{Rule, join_report}
-use Rattle.bt_bed.proofs.lemmas.Definitions.{met_fault_all, met_fault_stop}
+use Rattle.bt_bed.proofs.lemmas.Definitions.{met_fault_all}
 use Rattle.bt_seq.proofs.lemmas.definitions.KnowsLemmas.{leave, leave_all}
 use Rattle.bt_laws.proofs.lemmas.single.Sequences.{faultless_masked}
 use Rattle.bt_seq.proofs.lemmas.definitions.MaskPrefixLemmas.{first_is_told, lack_none, items}
-use Rattle.bt_seq.specs.model.Masked.{is_unnamed, mask_met, mask_rule, masked_from, masked_line, names_of, no_sequence, own_records, SequenceLine, is_header, sequence_format}
+use Rattle.bt_seq.specs.model.Masked.{is_unnamed, mask_met, mask_rule, masked_line, names_of, no_sequence, SequenceLine, sequence_format}
 use Rattle.bt_seq.specs.declared.mask.mask_how.MaskHow.{MaskHow}
 use Rattle.bt_tool.specs.model.Written.{Report, met_report}
 use Rattle.bt_tool.specs.model.Report.{report_of}
@@ -41,9 +41,6 @@ module _ (how : MaskHow) where
   pub all_decided : (names : List (List ℕ)) (members : List (Member Feature)) (lines : List SequenceLine) → list_all (rule_of names members None).decided lines ≡ true
   all_decided names members [] = refl
   all_decided names members (l ∷ ls) = all_decided names members ls
-
-  never_none : (fault other : Option FaultValue) (f : FaultValue) → option_or fault (or_else other (Some f)) ≡ None → ⊥
-  never_none fault other f e = grind arith
 
   both_none : (fault other : Option FaultValue) → option_or fault (or_else other None) ≡ None → (fault ≡ None) × (other ≡ None)
   both_none fault other e = grind arith
@@ -124,10 +121,6 @@ module _ (how : MaskHow) (first : Good SequenceLine) (second : Good Feature) whe
 -- ---- masked lines of both parts
 
 module _ (how : MaskHow) where
-  -- a line, masked by these records
-  abbrev line_by : SequenceLine → List Feature → List ℕ
-  line_by line own = cond (is_header line.text) line.text (masked_from how own line.before line.text) ++ end_bytes line.ending
-
   -- of the first part
   pub line_first : (names : List (List ℕ)) (ones twos : List Feature) (line : SequenceLine) → IsLost names ones twos → (more : List (List ℕ)) × (names ≡ line.names ++ more)
       → masked_line how (ones ++ twos) line ≡ masked_line how ones line

@@ -5,7 +5,7 @@ use Rattle.bt_bed.specs.model.BedLine.{interval_lines, interval_line}
 use Rattle.bt_bed.specs.model.Sorted.{ArePlaced, has_records}
 use Rattle.bt_bed.specs.model.Order.{Order, IsTotal}
 use Rattle.bt_bed.proofs.lemmas.order.OrderLemmas.{placed_contiguous}
-use Rattle.bt_runs.specs.model.Merged.{counted, is_counted, chromosomes, merged, runs_of, runs_on, without, AreTaken, is_closed, merged_runs, passed_by, settled_runs, ordered_runs, StrandRun, begun_by, is_in, listed_behind, closed_prefix, places_of, runs_of_strand, settled_strand_runs, strand_runs, kept_strand_runs}
+use Rattle.bt_runs.specs.model.Merged.{counted, is_counted, chromosomes, merged, runs_of, runs_on, AreTaken, is_closed, merged_runs, passed_by, settled_runs, ordered_runs, StrandRun, begun_by, is_in, listed_behind, closed_prefix, places_of, runs_of_strand, settled_strand_runs, strand_runs, kept_strand_runs}
 use Rattle.bt_runs.specs.declared.merge.merge_strand.MergeStrand.{MergeStrand}
 use Rattle.bt_runs.proofs.lemmas.order.FileOrder.{among_chromosomes, without_absent, ordered_come}
 use Rattle.bt_runs.proofs.lemmas.definitions.Standing.{placed_elsewhere, counted-append, passed_elsewhere}

@@ -1,6 +1,5 @@
 -- Two inputs of which each part has its own part of the genome file.
-use Rattle.bt_lines.proofs.Std.{arith, ◌≡◌, ℕ, Bool, cond, not, ◌&&◌, ◌||◌, List, [], ◌∷◌, ◌++◌, map, append-nil, append_assoc, Option, Some, None, Ok, refl, sym, ap, ap₂, ◌∙◌, subst, true, false, Result, Err, IsTrue, flat_map, is_none, AllByRecursion, list_all, list_any, option_or, or_left, or_right}
-use Rattle.std.specs.declared.cmp.Ordering.TheVariants.{Less}
+use Rattle.bt_lines.proofs.Std.{arith, ◌≡◌, ℕ, Bool, not, ◌&&◌, ◌||◌, List, [], ◌∷◌, ◌++◌, map, append-nil, append_assoc, Option, Some, None, Ok, refl, sym, ap, ap₂, ◌∙◌, subst, Result, IsTrue, AllByRecursion, list_all, list_any, or_left, or_right}
 use Rattle.bt_lines.specs.model.Fault.{FaultValue}
 use Rattle.bt_lines.specs.model.Lines.{Handed, whole_text, lines_from, text_lines, TextLine}
 use Rattle.bt_lines.specs.declared.fault.Input.{Input}
@@ -8,18 +7,18 @@ use Rattle.bt_lines.specs.declared.fault.Input.TheVariants.{First, Second}
 use Rattle.bt_bed.specs.model.Feature.{Feature}
 use Rattle.bt_bed.specs.model.BedLine.{record_of}
 use Rattle.bt_bed.specs.model.Genome.{Entry, genome_names}
-use Rattle.bt_bed.specs.model.Good.{Good, good, items_in, good_from, good_with, bed_format, line_says, locus_at, said_after}
+use Rattle.bt_bed.specs.model.Good.{Good, good, items_in, good_from, good_with, bed_format, line_says, said_after}
 use Rattle.bt_bed.specs.model.Meeting.{join_report}
-use Rattle.bt_bed.specs.model.Sorted.{is_below_at, Locus, sorting_of, falls_in}
+use Rattle.bt_bed.specs.model.Sorted.{is_below_at, Locus, sorting_of}
 use Rattle.bt_bed.specs.model.Order.{AreDistinct, is_among, rank_order, Order}
 use Rattle.bt_bed.specs.inside.RankTotal.{ranks_total}
 use Rattle.bt_bed.proofs.lemmas.order.OrderLemmas.{among_ranked}
 use Rattle.bt_sweep.specs.model.Hits.{decided, decides}
-use Rattle.bt_sweep.specs.model.Lines.{subtract_shape, sweep_rule}
+use Rattle.bt_sweep.specs.model.Lines.{subtract_shape}
 use Rattle.bt_sweep.specs.declared.hits.hit_rule.HitRule.{HitRule}
 use Rattle.bt_sweep.specs.declared.output.shape.Shape.{Shape}
-use Rattle.bt_laws.specs.Parts.{LiesWithin, AreShards, Shard, ShardsAddUp, all_entries, PairShard, intersect_genomes_divide, pair_entries, pair_texts, subtract_genomes_divide, PairShardsAddUp, PairShardsSuffice, PairsLieWithin, ShardsSuffice, complement_shards_suffice, genomecov_shards_suffice, intersect_shards_suffice, merge_shards_suffice, subtract_shards_suffice, AddUp, AreOfLines, ComeBefore, StopWithin, joined, said_records, Suffice, said_record, ArePairs, PairsAscend, Texts, joined_texts, on_texts, records_of, PairsAddUp, on_text}
-use Rattle.bt_tool.specs.model.Written.{Report, good_report, report_by, met_report, Written, complement_written, coverage_written, merge_written}
+use Rattle.bt_laws.specs.Parts.{LiesWithin, AreShards, Shard, ShardsAddUp, all_entries, PairShard, intersect_genomes_divide, pair_entries, pair_texts, subtract_genomes_divide, PairShardsAddUp, PairShardsSuffice, ShardsSuffice, complement_shards_suffice, genomecov_shards_suffice, intersect_shards_suffice, merge_shards_suffice, subtract_shards_suffice, AddUp, AreOfLines, ComeBefore, StopWithin, joined, said_records, said_record, ArePairs, PairsAscend, Texts, joined_texts, on_texts, records_of, PairsAddUp, on_text}
+use Rattle.bt_tool.specs.model.Written.{Report, good_report, report_by, Written, complement_written, coverage_written, merge_written}
 use Rattle.bt_tool.specs.model.Report.{chromosomes_of, report_of, report_on, order_of}
 use Rattle.bt_tool.specs.declared.planning.plan_type.Command.TheVariants.{Intersect, Subtract, Complement, Coverage, Merge}
 use Rattle.bt_laws.proofs.lemmas.parts.PartBed.{items_all, records_on}
@@ -30,7 +29,6 @@ use Rattle.bt_laws.proofs.lemmas.parts.PartShards.{distinct_in, complement_parts
 use Rattle.bt_laws.proofs.lemmas.parts.PartSweep.{sweep_report, take_same, report_none}
 use Rattle.bt_tool.specs.declared.planning.plan_type.Command.{Command}
 use Rattle.bt_lines.specs.declared.fault.Kind.{Kind}
-use Rattle.bt_lines.specs.declared.fault.Kind.TheVariants.{OutOfOrder, UnknownChrom}
 use Rattle.bt_tool.proofs.lemmas.running.members.CursorLemmas.{good_whole}
 
 -- ---- two rules that agree
@@ -204,10 +202,6 @@ module _ (order : Order) (input : Input) where
   abbrev Known : List Feature → Type 0
   Known rs = AllByRecursion (λ r. IsTrue (order.knows r.chrom)) rs
 
-  known_kept : (n : ℕ) (last : Option Locus) (r : Feature) (rest : Option Locus → Good Feature) (more : List Feature) → ((now : Option Locus) → (rest now).fault ≡ None → Known more)
-      → (k f : Bool) → order.knows r.chrom ≡ k → (good_with (bed_format (sorting_of order)) input n last (cond k (cond f (Err OutOfOrder) (Ok (Some r))) (Err UnknownChrom)) rest).fault ≡ None → Known (r ∷ more)
-  known_kept n last r rest more next k f is e = grind arith
-
   known_with : (n : ℕ) (last : Option Locus) (said : Result (Option Feature) Kind) (rest : Option Locus → Good Feature) (more : List Feature) → ((now : Option Locus) → (rest now).fault ≡ None → Known more)
       → (good_with (bed_format (sorting_of order)) input n last (said_after (sorting_of order) last said) rest).fault ≡ None → Known (said_record said ++ more)
   known_with n last said rest more next e = grind arith
@@ -221,9 +215,6 @@ module _ (order : Order) (input : Input) where
 lies : (own whole : List Entry) (input : Input) (text : List ℕ) → (good (bed_format (sorting_of (rank_order (genome_names own)))) input (text_lines text)).fault ≡ None → AllByRecursion (LiesWithin own whole) (said_records text)
 lies own whole input text e =
     all_so _ _ (said_records text) (λ r known here. sym (among_ranked (genome_names own) r.chrom) ∙ known) (known_from (rank_order (genome_names own)) input None (text_lines text) e)
-
-add_suffices : (parts : List Report) (whole : Report) → AddUp parts whole → Suffice parts whole
-add_suffices parts whole add all = let none = add.faultless.1 all in (none, add.output none)
 
 -- ---- commands of one input
 

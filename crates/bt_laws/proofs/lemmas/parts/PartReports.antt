@@ -1,6 +1,5 @@
 -- The reports on two parts and on the whole, and from them those on any number of parts.
-use Rattle.std.proofs.lemmas.Grind.{common_steps}
-use Rattle.bt_lines.proofs.Std.{rules, arith, ◌≡◌, ℕ, true, false, List, [], ◌∷◌, ◌++◌, map, append-nil, append_assoc, Option, Some, None, refl, sym, ap, ap₂, ◌∙◌, subst, flat_map, is_none, flat_map-append}
+use Rattle.bt_lines.proofs.Std.{rules, arith, ◌≡◌, ℕ, false, List, [], ◌∷◌, ◌++◌, map, append-nil, append_assoc, Option, Some, None, sym, ap, ◌∙◌, subst, is_none, flat_map-append}
 use Rattle.bt_lines.specs.model.Fault.{FaultValue}
 use Rattle.bt_bed.specs.model.Good.{Good, items_in}
 use Rattle.bt_laws.specs.Parts.{AddUp, StopWithin, prefixes_begin, outputs_to_fault, unless_fault}
@@ -35,9 +34,6 @@ one_stop fault output = grind arith
 pub stop_one : (part : Report) → StopWithin (part ∷ []) part
 stop_one part = one_stop part.fault part.output
 
-pub add_more : (part : Report) (parts : List Report) (rest whole : Report) → AddUp parts rest → Adds part rest whole → AddUp (part ∷ parts) whole
-add_more part parts rest whole more adds = grind arith
-
 stop_by : (fault : Option FaultValue) (first whole output outputs left : List ℕ) → outputs ≡ output ++ left
     → (rest : List ℕ) × (first ++ unless_fault fault output ≡ whole ++ rest) → (rest : List ℕ) × (first ++ unless_fault fault outputs ≡ whole ++ rest)
 stop_by None first whole output outputs left more stops = grind (arith, (append_assoc first output left), (append_assoc whole stops.0 left))
@@ -55,13 +51,6 @@ pub record Splits {A : Type 0} (one two whole : Written A) (ones twos : List A) 
 abbrev pub Contiguous : {A : Type 0} → Option FaultValue → Option FaultValue → Option FaultValue → List A → List A → List A → Type 0
 Contiguous None g h ones twos all = (all ≡ ones ++ twos) × (is_none h ≡ is_none g)
 Contiguous (Some f) g h ones twos all = (all ≡ ones) × (is_none h ≡ false)
-
--- the whole is without a fault exactly if the parts are
-pub together_parts : {A : Type 0} (f g h : Option FaultValue) (ones twos all : List A) → Contiguous f g h ones twos all → h ≡ None → (f ≡ None) × (g ≡ None)
-together_parts f g h ones twos all is e = grind arith
-
-pub together_both : {A : Type 0} (f g h : Option FaultValue) (ones twos all : List A) → Contiguous f g h ones twos all → f ≡ None → g ≡ None → h ≡ None
-together_both f g h ones twos all is e d = grind arith
 
 pub together_all : {A : Type 0} (f g h : Option FaultValue) (ones twos all : List A) → Contiguous f g h ones twos all → f ≡ None → all ≡ ones ++ twos
 together_all f g h ones twos all is e = grind arith

@@ -1,19 +1,19 @@
 -- What is good of two concatenated FASTA texts.
-use Rattle.bt_lines.proofs.Std.{◌≡◌, ℕ, suc, ◌-◌, Bool, true, false, cond, List, [], ◌∷◌, ◌++◌, length, map, take, append-nil, append_assoc, Option, Some, None, Result, Ok, Err, refl, sym, ap, ap₂, ◌∙◌, subst, eqb, arith, IsTrue, ⊤, flat_map, AllByRecursion, ends_with_byte, strip_last, eqb-true, map-append, is_none, nat_lt, option_map}
+use Rattle.bt_lines.proofs.Std.{◌≡◌, ℕ, suc, ◌-◌, Bool, true, false, cond, List, [], ◌∷◌, ◌++◌, map, append-nil, append_assoc, Option, Some, None, Result, Ok, Err, refl, sym, ap, ap₂, ◌∙◌, subst, arith, IsTrue, ⊤, flat_map, AllByRecursion, map-append, is_none, option_map}
 use Rattle.std.proofs.lemmas.Grind.{common_steps}
 use Rattle.bt_lines.specs.model.Fault.{FaultValue}
 use Rattle.bt_lines.specs.model.Lines.{TextLine, fed_line, last_line, lines_from, text_lines}
 use Rattle.bt_lines.specs.declared.fault.Input.{Input}
 use Rattle.bt_lines.specs.declared.fault.Kind.{Kind}
-use Rattle.bt_lines.specs.declared.fault.Kind.TheVariants.{TextBeforeHeader, OutOfOrder}
+use Rattle.bt_lines.specs.declared.fault.Kind.TheVariants.{TextBeforeHeader}
 use Rattle.bt_lines.proofs.lemmas.reader.lines.TextLemmas.{lines_from-fed, lines_from-last, by_lines}
-use Rattle.bt_bed.specs.model.Good.{Format, Good, Member, good, good_from, good_with, items_in, with_member, line_says as record_says, locus_at, said_after, block_format}
+use Rattle.bt_bed.specs.model.Good.{Format, Good, good, good_from, good_with, items_in, line_says as record_says, locus_at, said_after, block_format}
 use Rattle.bt_seq.specs.model.Masked.{is_unnamed, names_of, Reached, SequenceLine, header_behind, is_header, line_behind, line_says, may_stand, name_in, sequence_format}
 use Rattle.bt_laws.specs.Parts.{begins_sequence, name_on, sequence_names, StandsBefore, said_record, said_records}
-use Rattle.bt_laws.proofs.lemmas.parts.PartLines.{like_from, none_like, alike_lines, lines_join, IsLike}
+use Rattle.bt_laws.proofs.lemmas.parts.PartLines.{like_from, alike_lines, lines_join, IsLike}
 use Rattle.bt_bed.specs.model.Feature.{Feature}
 use Rattle.bt_bed.specs.model.BedLine.{record_of}
-use Rattle.bt_bed.specs.model.Sorted.{Locus, block_sorting, falls_in}
+use Rattle.bt_bed.specs.model.Sorted.{Locus, block_sorting}
 use Rattle.bt_seq.proofs.lemmas.definitions.KnowsLemmas.{is_last}
 use Rattle.bt_seq.proofs.lemmas.Sam.{last_from}
 use Rattle.bt_laws.proofs.lemmas.parts.PartBed.{alike_records, records_on}
@@ -29,9 +29,6 @@ module _ {A State : Type 0} (format : Format A State) where
   abbrev pub put_on : Option FaultValue → Good A → Good A → Good A
   put_on None g h = record { members = g.members ++ h.members; fault = h.fault }
   put_on (Some fault) g h = g
-
-  member_on : (m : Member A) (fault : Option FaultValue) (g h : Good A) → with_member m (put_on fault g h) ≡ put_on fault (with_member m g) h
-  member_on m fault g h = grind arith
 
   module _ (input : Input) where
     go_with : (n : ℕ) (state : State) (said : Result (Option A) Kind) (ms : List TextLine) (whole ones : State → Good A)
@@ -69,16 +66,9 @@ abbrev pub BeginsAtHeader : List TextLine → Type 0
 BeginsAtHeader [] = ⊤
 BeginsAtHeader (line ∷ lines) = is_header line.text ≡ true
 
-named_behind : (names : List (List ℕ)) (name : List ℕ) → is_unnamed (names ++ name ∷ []) ≡ false
-named_behind [] name = refl
-named_behind (n ∷ ns) name = refl
-
 named_more : (names more : List (List ℕ)) → is_unnamed more ≡ false → is_unnamed (names ++ more) ≡ false
 named_more [] more e = e
 named_more (n ∷ ns) more e = refl
-
-stands : (names : List (List ℕ)) (text : List ℕ) → is_unnamed names ≡ false → may_stand names text ≡ true
-stands names text e = grind arith
 
 module _ (full : Bool) (input : Input) where
   abbrev Fasta : Format SequenceLine Reached
@@ -104,11 +94,6 @@ module _ (full : Bool) (input : Input) where
   moves_by : (names : List (List ℕ)) (s : Reached) (line : TextLine) → is_unnamed s.names ≡ false → (h : Bool) → is_header line.text ≡ h → Moves names s line
   moves_by names s line named true e = header_moves names s line e
   moves_by names s line named false e = grind (arith, (says_bases s line e named), (says_bases (reached_after names s) line e (named_more names s.names named)))
-
-  moved_with : (names : List (List ℕ)) (s : Reached) (n : ℕ) (it : SequenceLine) (here there : Result (Option SequenceLine) Kind) (hs ts : Reached → Good SequenceLine)
-      → here ≡ Ok (Some it) → there ≡ Ok (Some (line_after names it)) → is_unnamed it.names ≡ false
-      → AreMoved names (ts (reached_after names (Fasta.after s it))) (hs (Fasta.after s it)) → (r : Reached) → AreMoved names (good_with Fasta input n r there ts) (good_with Fasta input n s here hs)
-  moved_with names s n it here there hs ts e d named more r = grind arith
 
   moved_from : (names : List (List ℕ)) (s : Reached) (ls : List TextLine) → is_unnamed s.names ≡ false → AreMoved names (good_from Fasta input (reached_after names s) ls) (good_from Fasta input s ls)
   unfolding good_from
@@ -205,9 +190,6 @@ module _ (full : Bool) (input : Input) where
 
   -- ---- two texts
 
-  front_header : (byte : ℕ) (rest : List ℕ) → eqb byte 62 ≡ true → is_header (strip_last 13 (byte ∷ rest)) ≡ true
-  front_header byte rest e = grind arith
-
   fed_header : (n : ℕ) (piece rest : List ℕ) (ls : List TextLine) → IsTrue (begins_sequence (piece ++ 10 ∷ rest)) → BeginsAtHeader (fed_line n piece ∷ ls)
   fed_header n piece rest ls e = grind (arith, common_steps)
 
@@ -263,14 +245,7 @@ abbrev pub BeginsElsewhere : Option (List ℕ) → List Feature → Type 0
 BeginsElsewhere last [] = ⊤
 BeginsElsewhere last (r ∷ rs) = is_last last r.chrom ≡ false
 
-none_falls : (last : Option Locus) (r : Feature) → is_last (name_at last) r.chrom ≡ false → falls_in block_sorting last (locus_at r) ≡ false
-none_falls last r e = grind arith
-
 module _ (input : Input) where
-  kept_with : (n : ℕ) (last : Option Locus) (falls : Bool) (r : Feature) (rest : Option Locus → Good Feature) → falls ≡ false
-      → good_with block_format input n last (cond falls (Err OutOfOrder) (Ok (Some r))) rest ≡ good_with block_format input n None (Ok (Some r)) rest
-  kept_with n last falls r rest e = grind arith
-
   fresh_with : (n : ℕ) (last : Option Locus) (said : Result (Option Feature) Kind) (rest : Option Locus → Good Feature) (more : List Feature)
       → (BeginsElsewhere (name_at last) more → rest last ≡ rest None) → BeginsElsewhere (name_at last) (said_record said ++ more)
       → good_with block_format input n last (said_after block_sorting last said) rest ≡ good_with block_format input n None (said_after block_sorting None said) rest
@@ -281,11 +256,6 @@ module _ (input : Input) where
   unfolding good_from record_says
   fresh_from last [] h = refl
   fresh_from last (m ∷ ms) h = fresh_with m.number last (record_of m.text) (λ now. good_from block_format input now ms) (records_on ms) (fresh_from last ms) h
-
-  calm_kept : (n : ℕ) (last : Option Locus) (falls : Bool) (r : Feature) (rest : Option Locus → Good Feature)
-      → (good_with block_format input n last (cond falls (Err OutOfOrder) (Ok (Some r))) rest).fault ≡ None
-      → good_with block_format input n last (cond falls (Err OutOfOrder) (Ok (Some r))) rest ≡ good_with block_format input n None (Ok (Some r)) rest
-  calm_kept n last falls r rest e = grind arith
 
   calm_with : (n : ℕ) (last : Option Locus) (said : Result (Option Feature) Kind) (rest : Option Locus → Good Feature) → ((rest last).fault ≡ None → rest last ≡ rest None)
       → (good_with block_format input n last (said_after block_sorting last said) rest).fault ≡ None
@@ -298,11 +268,6 @@ module _ (input : Input) where
   calm_from last [] e = refl
   calm_from last (m ∷ ms) e = calm_with m.number last (record_of m.text) (λ now. good_from block_format input now ms) (calm_from last ms) e
 
-  sound_kept : (n : ℕ) (last : Option Locus) (falls : Bool) (r : Feature) (rest : Option Locus → Good Feature) (more : List Feature) → ((rest (Some (locus_at r))).fault ≡ None → items_in (rest (Some (locus_at r))) ≡ more)
-      → (good_with block_format input n last (cond falls (Err OutOfOrder) (Ok (Some r))) rest).fault ≡ None
-      → items_in (good_with block_format input n last (cond falls (Err OutOfOrder) (Ok (Some r))) rest) ≡ r ∷ more
-  sound_kept n last falls r rest more same e = grind arith
-
   sound_with : (n : ℕ) (last : Option Locus) (said : Result (Option Feature) Kind) (rest : Option Locus → Good Feature) (more : List Feature) → ((now : Option Locus) → (rest now).fault ≡ None → items_in (rest now) ≡ more)
       → (good_with block_format input n last (said_after block_sorting last said) rest).fault ≡ None → items_in (good_with block_format input n last (said_after block_sorting last said) rest) ≡ said_record said ++ more
   sound_with n last said rest more same e = grind arith
@@ -312,10 +277,6 @@ module _ (input : Input) where
   unfolding good_from record_says
   sound_from last [] e = refl
   sound_from last (m ∷ ms) e = sound_with m.number last (record_of m.text) (λ now. good_from block_format input now ms) (records_on ms) (λ now d. sound_from now ms d) e
-
-  among_kept : (P : Feature → Type 0) (n : ℕ) (last : Option Locus) (falls : Bool) (r : Feature) (rest : Option Locus → Good Feature) → P r → AllByRecursion P (items_in (rest (Some (locus_at r))))
-      → AllByRecursion P (items_in (good_with block_format input n last (cond falls (Err OutOfOrder) (Ok (Some r))) rest))
-  among_kept P n last falls r rest p h = grind arith
 
   among_with : (P : Feature → Type 0) (n : ℕ) (last : Option Locus) (said : Result (Option Feature) Kind) (rest : Option Locus → Good Feature) → ((now : Option Locus) → AllByRecursion P (items_in (rest now)))
       → AllByRecursion P (said_record said) → AllByRecursion P (items_in (good_with block_format input n last (said_after block_sorting last said) rest))
@@ -358,18 +319,12 @@ module _ (input : Input) where
     abbrev pub AreJoint : Type 0
     AreJoint = (items_in Whole-good ≡ items_in First-good ++ items_in Second-good) × (is_none Whole-good.fault ≡ is_none Second-good.fault)
 
-    put_none : (fault : Option FaultValue) (g h : Good Feature) → fault ≡ None → put_on block_format fault g h ≡ record { members = g.members ++ h.members; fault = h.fault }
-    put_none fault g h e = grind arith
-
     elsewhere : BeginsElsewhere (last_from None (items_in First-good)) (said_records two) → BeginsElsewhere (name_at Last) (records_on Lines-behind)
     elsewhere h = grind (arith, reached_last, alike_records, alike_lines)
 
     -- if those of the second text begin on another chromosome
     pub fresh_joint : First-good.fault ≡ None → BeginsElsewhere (last_from None (items_in First-good)) (said_records two) → AreJoint
     fresh_joint none h = grind (arith, like_two, whole_is, fresh_from, elsewhere, map-append)
-
-    none_by : (fault : Option FaultValue) (g h : Good Feature) → g.fault ≡ fault → (put_on block_format fault g h).fault ≡ None → (fault ≡ None) × (h.fault ≡ None)
-    none_by fault g h is e = grind arith
 
     -- or if both texts have no fault
     pub calm_joint : Whole-good.fault ≡ None → (First-good.fault ≡ None) × (Second-good.fault ≡ None) × (items_in Whole-good ≡ items_in First-good ++ items_in Second-good)

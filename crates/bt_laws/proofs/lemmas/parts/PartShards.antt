@@ -1,30 +1,28 @@
 -- Parts with their own parts of the genome file: complement, genomecov and merge.
-use Rattle.bt_lines.proofs.Std.{arith, ◌≡◌, ℕ, Bool, true, false, List, [], ◌∷◌, ◌++◌, filter, append-nil, Option, Some, None, refl, sym, ap, ap₂, ◌∙◌, cond, not, ◌||◌, map, Result, Ok, Err, subst, IsTrue, bytes_eq, flat_map, nat_le, nat_lt, AllByRecursion, or_left, or_right, flat_map-append, map-append, filter-append}
-use Rattle.std.specs.Option.{option_map_or}
+use Rattle.bt_lines.proofs.Std.{arith, ◌≡◌, ℕ, Bool, true, false, List, [], ◌∷◌, ◌++◌, filter, append-nil, Option, Some, None, refl, sym, ap, ap₂, ◌∙◌, cond, ◌||◌, map, Ok, subst, IsTrue, bytes_eq, flat_map, nat_le, nat_lt, AllByRecursion, or_left, or_right, flat_map-append, map-append, filter-append}
 use Rattle.std.specs.declared.cmp.Ordering.{Ordering}
-use Rattle.std.specs.declared.cmp.Ordering.TheVariants.{Less, Equal, Greater}
-use Rattle.bt_bed.specs.model.Feature.{Feature, interval_of, intervals_of, Interval, last_from, last_of, placed_on, spans_on}
+use Rattle.std.specs.declared.cmp.Ordering.TheVariants.{Less, Greater}
+use Rattle.bt_bed.specs.model.Feature.{Feature, interval_of, intervals_of, Interval, last_from, last_of}
 use Rattle.bt_bed.specs.model.BedLine.{interval_line, interval_lines}
-use Rattle.bt_bed.specs.model.Genome.{Entry, genome_names, genome_cut, genome_handed, genome_of}
+use Rattle.bt_bed.specs.model.Genome.{Entry, genome_names}
 use Rattle.bt_bed.specs.model.Order.{AreDistinct, is_among, rank_order, IsTotal, Order}
 use Rattle.bt_bed.specs.inside.RankTotal.{ranks_total}
 use Rattle.bt_bed.specs.model.Sorted.{has_records, ArePlaced, sorting_of}
 use Rattle.bt_bed.proofs.lemmas.parse.NameLemmas.{name_eq, name_ne}
 use Rattle.bt_bed.proofs.lemmas.order.OrderLemmas.{among_ranked}
-use Rattle.bt_runs.specs.model.Gaps.{is_over_at, AreTaken, complement, gaps_of, gaps_on, is_asked, is_over, settled_gaps}
+use Rattle.bt_runs.specs.model.Gaps.{is_over_at, AreTaken, complement, gaps_on, is_asked, settled_gaps}
 use Rattle.bt_tool.specs.model.Written.{Written, complement_written, coverage_written, merge_written, pooled_written, Report, good_report}
 use Rattle.bt_laws.proofs.lemmas.parts.PartGenomes.{agree_first, agree_second, apart_both, entry_less, names_both, among_append, no_first, agree_good, records_both, within_before, last_behind, last_is, none_has, has_append, records_away, spans_first, spans_second}
 use Rattle.bt_laws.proofs.lemmas.Lists.{all_flat_map, all_so, filter_all, filter_none, filter_same, flat_map_same, all_any, all_both, all_map, map_same}
 use Rattle.bt_laws.proofs.lemmas.parts.PartReports.{Splits, nothing, parts_both, splits_as, Joins, good_joins}
 use Rattle.bt_laws.proofs.lemmas.parts.PartBed.{reversed_less, Earlier, bed_joint, good_earlier, items_all}
-use Rattle.bt_lines.specs.model.Fault.{FaultValue}
-use Rattle.bt_lines.specs.model.Lines.{Handed, cut_fault, lines_handed, whole_text, lines_from, text_lines}
-use Rattle.bt_lines.specs.declared.fault.Input.TheVariants.{First, Genome}
+use Rattle.bt_lines.specs.model.Lines.{Handed, whole_text, lines_from, text_lines}
+use Rattle.bt_lines.specs.declared.fault.Input.TheVariants.{First}
 use Rattle.bt_bed.specs.model.Good.{Good, good, good_from, items_in, bed_format}
 use Rattle.bt_bed.specs.declared.record.strand.Strand.{Strand}
 use Rattle.bt_bed.proofs.lemmas.Definitions.{non_empty_from, placed_lines}
 use Rattle.bt_laws.proofs.lemmas.single.Records.{distinct_genome}
-use Rattle.bt_runs.specs.model.Depth.{DepthInterval, counted_on, coverage, depth_line, depth_of, depth_on, depths_on, is_counted_by, is_ended_by, settled_depths, levels_of}
+use Rattle.bt_runs.specs.model.Depth.{DepthInterval, coverage, depth_line, depths_on, is_counted_by, settled_depths}
 use Rattle.bt_runs.specs.model.Merged.{passed_by, merged, ordered_runs, strand_runs}
 use Rattle.bt_runs.specs.declared.merge.merge_strand.MergeStrand.{MergeStrand}
 use Rattle.bt_runs.specs.declared.merge.merge_strand.MergeStrand.TheVariants.{All, Each, One}
@@ -33,13 +31,12 @@ use Rattle.bt_runs.proofs.lemmas.coverage.DepthSteps.{settles_depths}
 use Rattle.bt_runs.proofs.lemmas.complement.GapRuleLemmas.{settles_gaps}
 use Rattle.bt_runs.proofs.lemmas.definitions.Standing.{begins}
 use Rattle.bt_laws.specs.Parts.{AreShards, LiesWithin, Shard, ShardsAddUp, all_entries, complement_divides, genomecov_divides, merge_genomes_divide, shard_texts, AreOfLines, StandsBefore, joined, said_records, on_text}
-use Rattle.bt_tool.specs.model.Report.{chromosomes_of, of_file, report_of, report_on}
+use Rattle.bt_tool.specs.model.Report.{chromosomes_of, report_of, report_on}
 use Rattle.bt_tool.specs.declared.planning.plan_type.Command.{Command}
 use Rattle.bt_tool.specs.declared.planning.plan_type.Command.TheVariants.{Complement, Coverage, Merge}
 use Rattle.bt_tool.proofs.lemmas.running.members.CursorLemmas.{good_whole}
 use Rattle.bt_laws.proofs.lemmas.parts.PartLines.{IsJoint}
 use Rattle.bt_laws.proofs.lemmas.parts.PartMerge.{fewer, pooled_split, strands_split}
-use Rattle.bt_laws.proofs.lemmas.parts.PartTexts.{lines_less}
 
 -- each entry's name is among those of its list
 own_names : (es : List Entry) (all : List (List ℕ)) → ((n : List ℕ) → is_among (genome_names es) n ≡ true → is_among all n ≡ true) → AllByRecursion (λ e. is_among all e.name ≡ true) es
@@ -186,12 +183,6 @@ pub record OwnParts (e_one e_two : List Entry) (ones twos : List Feature) : Type
   pub second_placed : ArePlaced (rank_order (genome_names (e_one ++ e_two))) (intervals_of twos)
   pub early : Earlier (rank_order (genome_names (e_one ++ e_two))) (ranks_total (genome_names (e_one ++ e_two))) ones twos
 
-or_not : (a b : Bool) → b ≡ false → (a || b) ≡ a
-or_not a b e = grind arith
-
-or_is : (a b : Bool) → a ≡ false → (a || b) ≡ b
-or_is a b e = ap (λ x. x || b) e
-
 module _ (limit : Bool) where
   gaps_here : List Feature → Entry → List Interval
   gaps_here records e = cond (is_asked limit (intervals_of records) e) (gaps_on (intervals_of records) e) []
@@ -205,9 +196,6 @@ module _ (limit : Bool) where
   complement_is : (entries : List Entry) (records : List Feature) → complement limit entries records ≡ whole_of gap_chrom gap_ends interval_line gaps_here entries records
   unfolding complement gaps_here
   complement_is entries records = flat_filter (gaps_on (intervals_of records)) (is_asked limit (intervals_of records)) entries
-
-  over_same : (names : List (List ℕ)) (items : List Interval) (o : Option Interval) → option_map_or (λ last. filter (is_over names last) items) o [] ≡ ended gap_chrom gap_ends interval_line gaps_here names items o
-  over_same names items o = grind arith
 
   gaps_settled : (entries : List Entry) (records : List Feature) → settled_gaps limit entries records ≡ settled_of gap_chrom gap_ends interval_line gaps_here entries records
   unfolding settled_gaps
@@ -252,9 +240,6 @@ module _ (zeros : Bool) (strand : Option Strand) where
   unfolding coverage
   coverage_is entries records = refl
 
-  ended_same : (names : List (List ℕ)) (items : List DepthInterval) (o : Option Interval) → option_map_or (λ last. filter (is_ended_by names last) items) o [] ≡ ended depth_chrom depth_ends depth_line depths_here names items o
-  ended_same names items o = grind arith
-
   depths_settled : (entries : List Entry) (records : List Feature) → settled_depths zeros strand entries records ≡ settled_of depth_chrom depth_ends depth_line depths_here entries records
   unfolding settled_depths
   depths_settled entries records = grind (arith, coverage_is)
@@ -267,9 +252,6 @@ module _ (zeros : Bool) (strand : Option Strand) where
 
   counted_both : (ones twos : List Feature) → intervals_of (filter counts (ones ++ twos)) ≡ intervals_of (filter counts ones) ++ intervals_of (filter counts twos)
   counted_both ones twos = ap intervals_of (filter-append counts ones twos) ∙ map-append interval_of (filter counts ones) (filter counts twos)
-
-  depths_by : (e : Entry) (xs ys : List Feature) → counted_on strand e.name xs ≡ counted_on strand e.name ys → depths_here xs e ≡ depths_here ys e
-  depths_by e xs ys is = ap (λ spans. map (depth_on e.name) (levels_of (depth_of zeros spans) e.length)) is
 
   depths_first : (ones twos : List Feature) (e : Entry) → has_records e.name (intervals_of twos) ≡ false → depths_here (ones ++ twos) e ≡ depths_here ones e
   depths_first ones twos e none = grind (arith, counted_both, spans_first, fewer)
@@ -319,13 +301,6 @@ module _ (d : ℕ) where
   merge_own Each = λ e_one e_two ones twos own. strands_split d ones twos (records_away (rank_order (genome_names (e_one ++ e_two))) (ranks_total (genome_names (e_one ++ e_two))) ones twos own.first_placed own.early)
 
 -- ---- any command that writes so
-
--- a genome file has each chromosome once
-cut_none : (fault : Option FaultValue) (result : Result (List Entry) FaultValue) (entries : List Entry) → genome_cut fault result ≡ Ok entries → result ≡ Ok entries
-cut_none fault result entries e = grind arith
-
-pub file_is : (result : Result (List Entry) FaultValue) (entries : List Entry) → of_file result ≡ Ok (Some entries) → result ≡ Ok entries
-file_is result entries e = grind arith
 
 pub distinct_in : (genome : Handed) (entries : List Entry) → chromosomes_of (Some genome) ≡ Ok (Some entries) → AreDistinct (genome_names entries)
 distinct_in genome entries e = grind (arith, distinct_genome)

@@ -1,25 +1,23 @@
 -- What intersect and subtract write of inputs of two parts.
-use Rattle.bt_lines.proofs.Std.{arith, ◌≡◌, ℕ, Bool, true, false, ◌&&◌, not, ◌||◌, cond, List, [], ◌∷◌, ◌++◌, append-nil, append_assoc, Option, Some, None, refl, sym, ap, ap₂, ◌∙◌, subst, ltb, min, max, ◌-◌, IsTrue, bytes_eq, flat_map, is_none, AllByRecursion, list_all, list_any, take_while, option_or, flat_map-append, filter-append, take_while-cons}
+use Rattle.bt_lines.proofs.Std.{arith, ◌≡◌, ℕ, Bool, true, false, ◌&&◌, ◌||◌, cond, List, [], ◌∷◌, ◌++◌, append-nil, append_assoc, Option, Some, None, refl, sym, ap, ap₂, ◌∙◌, ltb, min, max, ◌-◌, IsTrue, bytes_eq, flat_map, is_none, AllByRecursion, list_all, list_any, take_while, option_or, flat_map-append, filter-append, take_while-cons}
 use Rattle.std.proofs.lemmas.Grind.{common_steps}
-use Rattle.std.specs.declared.cmp.Ordering.{Ordering}
-use Rattle.std.specs.declared.cmp.Ordering.TheVariants.{Less, Equal, Greater}
+use Rattle.std.specs.declared.cmp.Ordering.TheVariants.{Less}
 use Rattle.bt_laws.proofs.lemmas.parts.PartGenomes.{or_true}
-use Rattle.bt_sweep.proofs.lemmas.definitions.HitLemmas.{later_at, apart_misses}
+use Rattle.bt_sweep.proofs.lemmas.definitions.HitLemmas.{apart_misses}
 use Rattle.bt_lines.specs.model.Fault.{FaultValue}
 use Rattle.bt_bed.specs.model.Feature.{Feature}
-use Rattle.bt_bed.specs.model.Sorted.{is_below_at}
 use Rattle.bt_bed.specs.model.Meeting.{Rule, join_report, written}
 use Rattle.bt_bed.specs.model.Order.{Order, IsTotal}
-use Rattle.bt_bed.proofs.lemmas.Definitions.{all_written, met_fault_all, met_fault_stop, met_lines, written_past}
-use Rattle.bt_sweep.specs.model.Hits.{decided, decides, hits, hits_among}
-use Rattle.bt_sweep.specs.model.Lines.{intersect, lines_for, lines_of, sweep_rule}
+use Rattle.bt_bed.proofs.lemmas.Definitions.{all_written, met_fault_all, met_lines, written_past}
+use Rattle.bt_sweep.specs.model.Hits.{decided, decides, hits}
+use Rattle.bt_sweep.specs.model.Lines.{intersect, lines_for, sweep_rule}
 use Rattle.bt_sweep.specs.declared.hits.hit_rule.HitRule.{HitRule}
 use Rattle.bt_sweep.specs.declared.output.shape.Shape.{Shape}
 use Rattle.bt_laws.specs.Parts.{unless_fault}
 use Rattle.bt_tool.specs.model.Written.{Report, met_report}
-use Rattle.bt_laws.proofs.lemmas.parts.PartBed.{Earlier, reversed_less}
+use Rattle.bt_laws.proofs.lemmas.parts.PartBed.{Earlier}
 use Rattle.bt_laws.proofs.lemmas.Lists.{all_any, all_so, all_swapped, filter_none, flat_map_same}
-use Rattle.bt_laws.proofs.lemmas.parts.PartReports.{Adds, Stops, Contiguous, together_all, together_both, together_parts, Joins}
+use Rattle.bt_laws.proofs.lemmas.parts.PartReports.{Adds, Stops, Contiguous, together_all, Joins}
 
 -- ---- lists up to the first that fails a test
 
@@ -54,9 +52,6 @@ pub any_behind : {A : Type 0} (t : A → Bool) (xs ys : List A) → AllByRecursi
 any_behind t [] ys h = refl
 any_behind t (x ∷ xs) ys h = ap (λ b. b || list_any t (xs ++ ys)) h.0 ∙ any_behind t xs ys h.1
 
-kept_by : {A : Type 0} (P : A → Type 0) (x : A) (kept : List A) (b : Bool) → P x → AllByRecursion P kept → AllByRecursion P (cond b (x ∷ kept) [])
-kept_by P x kept b p h = grind arith
-
 all_kept : {A : Type 0} (P : A → Type 0) (t : A → Bool) (xs : List A) → AllByRecursion P xs → AllByRecursion P (take_while t xs)
 all_kept P t xs h = grind (arith, common_steps)
 
@@ -69,17 +64,6 @@ written_before rule xs ys h = ap (flat_map rule.lines) (take_before rule.decided
 -- ---- what decides, and what hits
 
 module _ (order : Order) (total : IsTotal order) where
-  is_below_less : (o : Ordering) (start other : ℕ) → o ≡ Less → not (is_below_at o start other) ≡ false
-  is_below_less o start other e = grind arith
-
-  -- a record on a later chromosome decides one before it
-  pub later_decides : (a b : Feature) → IsTrue (order.knows a.chrom) → IsTrue (order.knows b.chrom) → order.compare a.chrom b.chrom ≡ Less → decides order a b ≡ true
-  later_decides a b ka kb less = later_at (order.compare b.chrom a.chrom) b.start a.stop (reversed_less (order.compare a.chrom b.chrom) (order.compare b.chrom a.chrom) less (total.swapped a.chrom b.chrom ka kb))
-
-  -- and one on an earlier chromosome doesn't
-  pub earlier_leaves : (a b : Feature) → order.compare b.chrom a.chrom ≡ Less → decides order a b ≡ false
-  earlier_leaves a b less = is_below_less (order.compare b.chrom a.chrom) b.start a.stop less
-
 apart_shares : (c : Bool) (n : ℕ) → c ≡ false → ltb 0 (cond c n 0) ≡ false
 apart_shares c n e = grind arith
 
@@ -96,9 +80,6 @@ module _ (shape : Shape) (rule : HitRule) where
   lines_second a bones btwos h = grind (arith, filter-append, filter_none, all_so, elsewhere_misses)
 
 -- ---- the faults of a meeting
-
-some_told : (fa : Option FaultValue) (f : FaultValue) → option_or fa (Some f) ≡ None → ⊥
-some_told fa f e = grind arith
 
 or_none : (fa : Option FaultValue) → option_or fa None ≡ fa
 or_none fa = grind arith
@@ -120,9 +101,6 @@ module _ (order : Order) (shape : Shape) (rule : HitRule) where
 
   fault_none : (given : List Feature) (fa : Option FaultValue) (bs : List Feature) → (sweep_report given fa bs None).fault ≡ fa
   fault_none given fa bs = met_fault_all (sweep_rule order shape rule bs None) given fa (decided_none bs given) ∙ or_none fa
-
-  some_by : (given : List Feature) (fa : Option FaultValue) (bs : List Feature) (f : FaultValue) (b : Bool) → list_all (sweep_rule order shape rule bs (Some f)).decided given ≡ b → (sweep_report given fa bs (Some f)).fault ≡ None → ⊥
-  some_by given fa bs f b e none = grind arith
 
   pub report_none : (given : List Feature) (fa : Option FaultValue) (bs : List Feature) (fb : Option FaultValue) → (sweep_report given fa bs fb).fault ≡ None → (fa ≡ None) × (fb ≡ None)
   report_none given fa bs fb e = grind (arith, fault_none)

@@ -1,15 +1,14 @@
 -- The reports of bamtobed, merge, intersect and subtract on two concatenated texts, and on any number.
 use Rattle.std.proofs.lemmas.Grind.{common_steps}
 use Rattle.bt_lines.proofs.Std.{rules, arith, ◌≡◌, ℕ, Bool, List, [], ◌∷◌, ◌++◌, append-nil, Option, Some, None, refl, sym, ap, ◌∙◌, map, Ok, ap₂, flat_map-append, IsTrue, AllByRecursion, ◌⊎◌, append_assoc, inl, inr, subst, flat_map, flat_map-map}
-use Rattle.bt_lines.specs.model.Lines.{lines_from, text_lines, Handed, whole_text}
+use Rattle.bt_lines.specs.model.Lines.{lines_from, text_lines, Handed}
 use Rattle.bt_lines.specs.declared.fault.Input.TheVariants.{First, Second}
 use Rattle.bt_bed.specs.model.Good.{Good, good, good_from, items_in, bed_format}
-use Rattle.bt_seq.specs.model.Alignment.{Alignment, alignment_of, bed_lines, sam_format}
+use Rattle.bt_seq.specs.model.Alignment.{Alignment, alignment_of, sam_format}
 use Rattle.bt_laws.specs.Parts.{AreOfLines, StandsBefore, joined, ComeBefore, said_records, bamtobed_divides, on_text, ArePairs, PairsAscend, Texts, TextsAscend, intersect_divides, joined_texts, merge_divides, on_texts, subtract_divides, PairsAddUp, AreAtHeaders, WritesOn, MaskTheirOwn, NoneMoves, begins_sequence, maskfasta_divides, repeated_names_divide, AddUp, StopWithin, outputs_to_fault, unless_fault}
-use Rattle.bt_tool.specs.model.Written.{Report, good_report, alignment_lines, alignments_written, merge_written}
-use Rattle.bt_tool.specs.model.Report.{report_of, chromosomes_of, report_on, order_of}
+use Rattle.bt_tool.specs.model.Written.{Report, good_report, alignments_written, merge_written}
+use Rattle.bt_tool.specs.model.Report.{report_of, chromosomes_of, order_of}
 use Rattle.bt_tool.specs.declared.planning.plan_type.Command.TheVariants.{BamToBed, Intersect, Merge, Subtract, MaskFasta}
-use Rattle.bt_tool.proofs.lemmas.running.members.CursorLemmas.{good_whole}
 use Rattle.bt_laws.proofs.lemmas.parts.PartLines.{IsJoint, good_joint}
 use Rattle.bt_laws.proofs.lemmas.parts.PartReports.{Splits, parts_both, Joins, good_joins, nothing, together, parts_add, stop_more, stop_none, stop_one}
 use Rattle.bt_laws.proofs.lemmas.Lists.{all_any, all_back, all_front, all_so, all_unmap}
@@ -29,7 +28,7 @@ use Rattle.bt_sweep.specs.declared.output.shape.Shape.{Shape}
 use Rattle.bt_laws.proofs.lemmas.parts.PartBed.{Earlier, bed_joint, good_earlier, items_all}
 use Rattle.bt_laws.proofs.lemmas.parts.PartMerge.{pooled_split, strands_split}
 use Rattle.bt_laws.proofs.lemmas.parts.PartGenomes.{names_apart, names_behind, records_away}
-use Rattle.bt_laws.proofs.lemmas.parts.PartSweep.{AreSplit, sweep_report, sweep_joins, unless_none}
+use Rattle.bt_laws.proofs.lemmas.parts.PartSweep.{AreSplit, sweep_report, sweep_joins}
 use Rattle.bt_tool.specs.declared.planning.plan_type.Command.{Command}
 use Rattle.bt_lines.specs.model.Fault.{FaultValue}
 use Rattle.bt_seq.specs.declared.mask.mask_how.MaskHow.{MaskHow}
@@ -234,9 +233,6 @@ module _ (how : MaskHow) (full : Bool) where
       by_first : (text : List ℕ) → IsTrue (begins_sequence text) → IsTrue (begins_sequence (joined_texts ts).first) → IsTrue (begins_sequence (text ++ (joined_texts ts).first))
       by_first [] e more = more
       by_first (byte ∷ bytes) e more = e
-
-  headers_less : (t : Texts) (ts : List Texts) → AreAtHeaders (t ∷ ts) → AreAtHeaders ts
-  headers_less t ts h = grind arith
 
   masked_less : (t : Texts) (ts : List Texts) → AreMasked (t ∷ ts) → AreMasked ts
   masked_less t ts fit = grind arith

@@ -1,6 +1,6 @@
 -- The lines of alignments that are sorted are an input.
 use Rattle.std.proofs.lemmas.Grind.{common_steps}
-use Rattle.bt_lines.proofs.Std.{rules, ◌≡◌, ◌||◌, ℕ, ◌+◌, ◌-◌, ◌<◌, ◌≤◌, Bool, true, false, cond, List, [], ◌∷◌, ◌++◌, append-nil, append_assoc, map, filter, length, Option, Some, None, Result, Ok, Err, inl, inr, refl, sym, ap, ◌∙◌, subst, arith, eqb, leb, ltb, decimal, codes, if◌then◌else◌, option_map, AllByRecursion, join_with_byte, ends_with_byte, strip_last, cases_lt, false≢true, lt-ltb, All-append, All-cons, All-from_recursion, All-nil, join_with_byte-slice_split, suc, ap₂, flat_map, cases_Bool, length-append}
+use Rattle.bt_lines.proofs.Std.{rules, ◌≡◌, ℕ, ◌+◌, ◌-◌, ◌<◌, ◌≤◌, Bool, true, false, cond, List, [], ◌∷◌, ◌++◌, append-nil, append_assoc, map, filter, length, Option, Some, None, Result, Ok, refl, sym, ap, ◌∙◌, subst, arith, eqb, decimal, codes, if◌then◌else◌, AllByRecursion, join_with_byte, ends_with_byte, strip_last, All-append, All-cons, All-from_recursion, All-nil, join_with_byte-slice_split, suc, ap₂, flat_map}
 use Rattle.bt_lines.specs.model.Fault.{FaultValue}
 use Rattle.std.specs.Prelude.{option_and_then}
 use Rattle.bt_lines.specs.model.Lines.{lines_handed, TextLine, pieces, end_bytes, fed_line, last_line, lines_from}
@@ -8,32 +8,21 @@ use Rattle.bt_lines.specs.calls.Line.{NoLineFeed}
 use Rattle.bt_lines.specs.declared.fault.Input.{Input}
 use Rattle.bt_lines.specs.declared.fault.Input.TheVariants.{First}
 use Rattle.bt_lines.specs.declared.fault.Kind.{Kind}
-use Rattle.bt_lines.specs.declared.fault.Kind.TheVariants.{StopTooLarge, TextBeforeHeader}
-use Rattle.bt_lines.proofs.lemmas.reader.lines.TextLemmas.{IsColumn, IsInside, strip_last-other, strip_last-push, lines_from-fed, lines_from-last, lines_from-nil, by_lines}
+use Rattle.bt_lines.proofs.lemmas.reader.lines.TextLemmas.{IsColumn, IsInside, strip_last-other, lines_from-fed, lines_from-last, lines_from-nil, by_lines}
 use Rattle.bt_bed.specs.model.Good.{Good, good_from, good_with, items_in}
 use Rattle.bt_bed.specs.model.BedLine.{IsName, columns_in, kept_columns, strand_named, strand_of}
 use Rattle.bt_bed.specs.declared.record.strand.Strand.TheVariants.{Plus, Minus}
 use Rattle.bt_bed.proofs.lemmas.parse.FeatureLemmas.{kept_is_cut, pieces_are_columns}
-use Rattle.bt_bed.proofs.lemmas.parse.NameLemmas.{name_ne}
-use Rattle.bt_seq.specs.model.Alignment.{Alignment, Fields, alignment_at, alignment_of, columns_say, fields_of, fields_say, gives_nothing, is_skipped, value_up_to, bed_lines, read_name, strand_sign, is_letter, length_of, onto_part, operations_in, each_operation, parts_of, reference_length, with_part, sam_format, sam_good}
+use Rattle.bt_seq.specs.model.Alignment.{Alignment, Fields, alignment_of, columns_say, fields_of, fields_say, is_skipped, value_up_to, bed_lines, read_name, strand_sign, length_of, operations_in, each_operation, parts_of, sam_format, sam_good}
 use Rattle.bt_tool.specs.model.Written.{alignment_lines, alignments_written, report_by}
 use Rattle.bt_tool.specs.model.Report.{Inputs, chromosomes_of, report_of, report_on}
 use Rattle.bt_tool.specs.declared.planning.plan_type.Command.TheVariants.{BamToBed}
 use Rattle.bt_laws.specs.Pipes.{aligned_at, aligned_record, alignments_of, bamtobed_is_input, IsInput, is_no_header}
-use Rattle.bt_laws.proofs.lemmas.pipes.LinesBack.{AreClear, clear_back, clear_both, clear_front, clear_tab, clear_number, number_column, Columns, IsColumns, record_back, text_of_columns, written_back, ends_both, record_with, strip_both, clear_handed, clear_strip}
+use Rattle.bt_laws.proofs.lemmas.pipes.LinesBack.{AreClear, clear_back, clear_both, clear_front, clear_tab, clear_number, number_column, Columns, IsColumns, record_back, text_of_columns, written_back, ends_both, strip_both, clear_handed, clear_strip}
 use Rattle.bt_laws.proofs.lemmas.Lists.{all_so}
 use Rattle.bt_lines.specs.declared.reader.line.LineEnd.{LineEnd}
 use Rattle.bt_lines.specs.declared.reader.line.LineEnd.TheVariants.{Absent, Cr, CrLf, Lf}
-use Rattle.bt_seq.specs.model.Masked.{Reached, SequenceLine, bases_in, header_behind, is_header, line_behind, line_says, may_stand, name_in, sequence_format}
-
-small_by : (n : ℕ) → ltb 999999999999 n ≡ false → n ≤ 999999999999
-small_by n e = grind arith
-
-some_span : (n : ℕ) → eqb n 0 ≡ false → 0 < n
-some_span n e = grind (arith)
-
-or_last : (a b : Bool) → (a || b) ≡ false → b ≡ false
-or_last a b e = grind arith
+use Rattle.bt_seq.specs.model.Masked.{Reached, SequenceLine, is_header, sequence_format}
 
 -- ---- columns of a text
 
@@ -52,11 +41,6 @@ clear_columns text h = clear_joined (pieces 9 text) (subst NoLineFeed (sym (join
 parts_none : (text : List ℕ) → parts_of (text ++ 13 ∷ []) ≡ None
 parts_none [] = refl
 parts_none (byte ∷ bytes) = grind (arith, (parts_none bytes))
-
-no_star : (text : List ℕ) → text ++ 13 ∷ [] ≡ 42 ∷ [] → ⊥
-no_star [] e = cc
-no_star (byte ∷ []) e = cc
-no_star (byte ∷ next ∷ bytes) e = cc
 
 none_in : (text : List ℕ) → operations_in (text ++ 13 ∷ []) ≡ None
 unfolding operations_in
@@ -94,21 +78,10 @@ record AreColumns (fields : Fields) : Type 0 where
   clear_name : NoLineFeed fields.name
   clear_cigar : NoLineFeed fields.cigar
 
-fields_by : (enough : Bool) (one fields : Fields) → cond enough (Some one) None ≡ Some fields → one ≡ fields
-fields_by enough one fields e = grind arith
-
 fields_columns : (columns : List (List ℕ)) (fields : Fields) → AllByRecursion IsColumn columns → AllByRecursion NoLineFeed columns → fields_of columns ≡ Some fields → AreColumns fields
 fields_columns columns fields h k e = grind arith
 
 module _ (fields : Fields) (are : AreColumns fields) where
-  large_by : (large : Bool) (flag position quality span : ℕ) (a : Alignment) → 0 < length fields.chrom → IsPlain fields.cigar → 0 < span → ltb 999999999999 (position - 1 + span) ≡ large
-      → cond large (Err StopTooLarge) (Ok (Some (alignment_at fields flag position quality span))) ≡ Ok (Some a) → IsAligned a
-  large_by large flag position quality span a some plain bases e is = grind arith
-
-  nothing_by : (nothing : Bool) (flag position quality span : ℕ) (a : Alignment) → 0 < length fields.chrom → IsPlain fields.cigar → gives_nothing flag fields.chrom position span ≡ nothing
-      → cond nothing (Ok None) (cond (ltb 999999999999 (position - 1 + span)) (Err StopTooLarge) (Ok (Some (alignment_at fields flag position quality span)))) ≡ Ok (Some a) → IsAligned a
-  nothing_by nothing flag position quality span a some plain e is = grind arith
-
   columns_by : (flag : Option ℕ) (chrom : List ℕ) (position quality span : Option ℕ) (a : Alignment) → chrom ≡ fields.chrom → length_of fields.cigar ≡ span → columns_say fields flag chrom position quality span ≡ Ok (Some a) → IsAligned a
   columns_by flag chrom position quality span a e long is = grind (arith, plain_cigar)
 
@@ -218,9 +191,6 @@ segment_column number inside = All-from_recursion IsInside (47 ∷ number ∷ []
 name_column : (a : Alignment) → IsColumn a.name → IsColumn (read_name a)
 name_column a h = column_both a.name _ h (column_both _ _ (column_if a.first (codes "/1") (segment_column 49 refl)) (column_if a.last (codes "/2") (segment_column 50 refl)))
 
-sign_column : (reverse : Bool) → IsColumn (strand_sign reverse)
-sign_column reverse = grind arith
-
 after_columns : (cigar : Bool) (a : Alignment) → IsAligned a → AllByRecursion IsColumn (columns_after cigar a)
 after_columns cigar a is = grind (arith, number_column)
 
@@ -267,47 +237,6 @@ pub record Stands (old new : List ℕ) : Type 0 where
 -- ---- one line
 
 module _ (full : Bool) where
-  may_same : (names : List (List ℕ)) (old new : List ℕ) → length new ≡ length old → may_stand names new ≡ may_stand names old
-  may_same names old new e = grind arith
-
-  bases_same : (old new : List ℕ) → Stands old new → bases_in new ≡ bases_in old
-  bases_same old new is = ap₂ (λ (b : Bool) n. if b then 0 else n) is.header is.size
-
-  -- the line that is said, with another text
-  said_with : List ℕ → Result (Option SequenceLine) Kind → Result (Option SequenceLine) Kind
-  said_with text (Err kind) = Err kind
-  said_with text (Ok None) = Ok None
-  said_with text (Ok (Some line)) = Ok (Some (with_text line text))
-
-  abbrev new_line : ℕ → TextLine → List ℕ → TextLine
-  new_line number line text = record { number = number; text = text; ending = line.ending }
-
-  stand_by : (reached : Reached) (line : TextLine) (text : List ℕ) (number : ℕ) (stands : Bool)
-      → (if stands then Ok (Some (line_behind reached (new_line number line text))) else Err TextBeforeHeader) ≡ said_with text (if stands then Ok (Some (line_behind reached line)) else Err TextBeforeHeader)
-  unfolding said_with
-  stand_by reached line text number stands = grind arith
-
-  -- a line says itself
-  record SaysLine (line : TextLine) (said : SequenceLine) : Type 0 where
-    text : said.text ≡ line.text
-    ending : said.ending ≡ line.ending
-
-  own_by : (reached : Reached) (line : TextLine) (header stands : Bool) (said : SequenceLine) → (if header then Ok (Some (header_behind full reached line)) else (if stands then Ok (Some (line_behind reached line)) else Err TextBeforeHeader)) ≡ Ok (Some said) → SaysLine line said
-  own_by reached line header stands said e = grind arith
-
-  says_own : (reached : Reached) (line : TextLine) (said : SequenceLine) → line_says full reached line ≡ Ok (Some said) → SaysLine line said
-  says_own reached line said e = own_by reached line (is_header line.text) (may_stand reached.names line.text) said e
-
-  none_by : (reached : Reached) (line : TextLine) (header stands : Bool) → (if header then Ok (Some (header_behind full reached line)) else (if stands then Ok (Some (line_behind reached line)) else Err TextBeforeHeader)) ≡ Ok None → ⊥
-  none_by reached line header stands e = grind arith
-
-  never_none : (reached : Reached) (line : TextLine) → line_says full reached line ≡ Ok None → ⊥
-  never_none reached line e = none_by reached line (is_header line.text) (may_stand reached.names line.text) e
-
-  says_new : (reached : Reached) (line : TextLine) (text : List ℕ) (number : ℕ) → Stands line.text text → line_says full reached (new_line number line text) ≡ said_with text (line_says full reached line)
-  unfolding said_with
-  says_new reached line text number is = grind arith
-
 -- ---- line ends
 
 clear_return : (text : List ℕ) → NoLineFeed text → NoLineFeed (text ++ 13 ∷ [])
@@ -358,24 +287,9 @@ module _ (full : Bool) (input : Input) (f : SequenceLine → List ℕ) (safe : (
   abbrev pub ReadsAgain : List TextLine → Type 0
   ReadsAgain lines = (m : ℕ) (reached : Reached) → (goods reached lines).fault ≡ None → ReadAgain m reached lines
 
-  -- one line, and then the others
-  again_with : (reached : Reached) (n m : ℕ) (line : TextLine) (said : Result (Option SequenceLine) Kind) (rest : List TextLine) (new_rest : List SequenceLine → List TextLine)
-      → line_says full reached line ≡ said → NoLineFeed line.text
-      → ((good_with (sequence_format full) input n reached said (λ now. goods now rest)).fault ≡ None)
-      → ((now : Reached) → (goods now rest).fault ≡ None → IsAgain (items_in (goods now rest)) (goods now (new_rest (items_in (goods now rest)))))
-      → (lines : List TextLine) → ((item : SequenceLine) (more : List SequenceLine) → item.text ≡ line.text → item.ending ≡ line.ending → items_in (good_with (sequence_format full) input n reached said (λ now. goods now rest)) ≡ item ∷ more
-      → lines ≡ line_at m (f item) line.ending ∷ new_rest more)
-      → IsAgain (items_in (good_with (sequence_format full) input n reached said (λ now. goods now rest))) (goods reached lines)
-  unfolding good_from said_with
-  again_with reached n m line said rest new_rest e clear none h lines is = grind arith
-
   none_again : (m : ℕ) (reached : Reached) → IsAgain [] (goods reached (lines_from m []))
   unfolding good_from
   none_again m reached = subst (λ ls. IsAgain [] (goods reached ls)) (sym (lines_from-nil m)) (record { items = refl; faultless = refl })
-
-  single_by : (reached : Reached) (n : ℕ) (line : TextLine) (said : Result (Option SequenceLine) Kind) (item : SequenceLine) (more : List SequenceLine) → items_in (good_with (sequence_format full) input n reached said (λ now. goods now [])) ≡ item ∷ more → more ≡ []
-  unfolding good_from
-  single_by reached n line said item more e = grind arith
 
   one_again : (n m : ℕ) (byte : ℕ) (bytes : List ℕ) (reached : Reached) → NoLineFeed (byte ∷ bytes) → (goods reached (last_line n (byte ∷ bytes))).fault ≡ None
       → ReadAgain m reached (last_line n (byte ∷ bytes))

@@ -1,12 +1,12 @@
 -- The intervals of depth 0, and the others.
-use Rattle.bt_lines.proofs.Std.{◌≡◌, ℕ, ◌<◌, Bool, true, false, cond, List, [], ◌∷◌, ◌++◌, map, filter, Option, Some, None, refl, sym, ap, ap₂, ◌∙◌, subst, inl, inr, arith, eqb, flat_map, nat_lt, cases_Bool, eqb-true, lt-ltb, ltb-true, filter-append}
+use Rattle.bt_lines.proofs.Std.{◌≡◌, ℕ, ◌<◌, Bool, true, false, cond, List, [], ◌∷◌, ◌++◌, map, filter, Option, Some, None, refl, sym, ap, ap₂, ◌∙◌, subst, inl, inr, arith, eqb, flat_map, nat_lt, cases_Bool, lt-ltb, ltb-true, filter-append}
 use Rattle.bt_lines.specs.declared.fault.Input.TheVariants.{First}
 use Rattle.bt_bed.specs.model.Feature.{Feature, Span}
 use Rattle.bt_bed.specs.model.Genome.{Entry}
 use Rattle.bt_bed.specs.model.Good.{items_in, bed_good}
 use Rattle.bt_bed.specs.declared.record.strand.Strand.{Strand}
 use Rattle.bt_laws.specs.Runs.{interval_at, AreDisjointFrom, DiffersFromNext, HasValue}
-use Rattle.bt_runs.specs.model.Depth.{DepthInterval, counted_on, coverage, depth_at, depth_lines, depth_of, depth_on, depths_on, Level, levels_of}
+use Rattle.bt_runs.specs.model.Depth.{DepthInterval, counted_on, coverage, depth_lines, depth_of, depth_on, depths_on, Level, levels_of}
 use Rattle.bt_runs.specs.model.Gaps.{complement}
 use Rattle.bt_laws.proofs.lemmas.single.LevelLemmas.{gaps_depth_0, are_levels, looser, only_levels}
 use Rattle.bt_tool.specs.model.Report.{entries_in, order_of}

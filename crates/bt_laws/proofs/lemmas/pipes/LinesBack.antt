@@ -1,30 +1,24 @@
 -- Lines and numbers have no line feed.
 use Rattle.std.proofs.lemmas.Grind.{common_steps}
-use Rattle.bt_lines.proofs.Std.{rules, ◌≡◌, ℕ, Bool, true, false, List, [], ◌∷◌, ◌++◌, refl, sym, subst, eqb, zero, suc, ◌+◌, ◌/◌, ◌%◌, ◌<◌, ◌≤◌, cond, arith, decimal, AllByRecursion, ends_with_byte, strip_last, All-append, All-cons, All-head, All-tail, All-nil, All-from_recursion, digit_glyph, digits_onto, lt-ltb, nat_tests, ◌-◌, ◌||◌, length, Option, Some, None, Ok, ap, ◌∙◌, append_assoc, append-nil, IsTrue, ◌==◌, codes, nat_lt, decimal_is_IsNumeral, append_cancel_right, get_or-append-add, length-append, Err, inl, inr, not, map, filter, flat_map, flat_map-map, ◌&&◌, Result, ltb, leb, if◌then◌else◌, list_all, join_with_byte, is_ascii_digit, digits_value, and_parts, leb-true, join_with_byte-slice_split}
+use Rattle.bt_lines.proofs.Std.{rules, ◌≡◌, ℕ, Bool, true, false, List, [], ◌∷◌, ◌++◌, refl, sym, subst, eqb, zero, suc, ◌+◌, ◌/◌, ◌%◌, ◌<◌, ◌≤◌, cond, arith, decimal, AllByRecursion, ends_with_byte, strip_last, All-append, All-cons, All-head, All-tail, All-nil, All-from_recursion, digit_glyph, digits_onto, lt-ltb, ◌-◌, ◌||◌, length, Option, Some, None, Ok, ap, ◌∙◌, append_assoc, append-nil, IsTrue, ◌==◌, codes, decimal_is_IsNumeral, get_or-append-add, length-append, Err, map, filter, flat_map, flat_map-map, Result, join_with_byte, join_with_byte-slice_split}
 use Rattle.bt_lines.specs.calls.Line.{NoLineFeed}
-use Rattle.bt_lines.specs.model.Lines.{TextLine, last_line, lines_from, whole_lines_from, fed_line, text_lines, Handed, lines_handed, pieces, whole_lines, is_number, value_of}
-use Rattle.bt_lines.proofs.lemmas.reader.lines.TextLemmas.{lines_from-fed, lines_from-last, strip_last-other, strip_last-push, by_lines, whole_lines_from-fed, whole_lines_from-last, IsColumn, IsInside, lines_from-nil}
+use Rattle.bt_lines.specs.model.Lines.{TextLine, last_line, lines_from, whole_lines_from, fed_line, text_lines, Handed, lines_handed, pieces, whole_lines, value_of}
+use Rattle.bt_lines.proofs.lemmas.reader.lines.TextLemmas.{lines_from-fed, lines_from-last, by_lines, whole_lines_from-fed, whole_lines_from-last, IsColumn, IsInside, lines_from-nil}
 use Rattle.std.specs.Fmt.{digits}
-use Rattle.bt_laws.proofs.lemmas.Lists.{all_back, all_so, all_any, all_map, map_map, flat_map_same}
+use Rattle.bt_laws.proofs.lemmas.Lists.{all_so, all_any, all_map, map_map, flat_map_same}
 use Rattle.bt_bed.specs.model.Feature.{Feature, interval_of, intervals_of, Interval}
 use Rattle.bt_bed.specs.model.BedLine.{ends_word, first_word, is_header, is_header_word, IsName, columns_in, is_kept, record_of, strand_of, IsFeature, not_skipped}
 use Rattle.bt_bed.proofs.lemmas.parse.FeatureLemmas.{header_says, of_word, record_said, said_is_feature, said_stands, pieces_are_columns}
 use Rattle.bt_laws.proofs.lemmas.single.Records.{written_feature}
-use Rattle.std.specs.declared.cmp.Ordering.{Ordering}
-use Rattle.std.specs.declared.cmp.Ordering.TheVariants.{Less, Equal, Greater}
 use Rattle.bt_lines.specs.declared.fault.Input.{Input}
-use Rattle.bt_lines.specs.declared.fault.Kind.TheVariants.{UnknownChrom, OutOfOrder, BadLength, RepeatedChrom}
 use Rattle.bt_bed.specs.model.Good.{Good, good, good_from, good_with, items_in, bed_format, line_says, locus_at, said_after, bed_good}
-use Rattle.bt_bed.specs.model.Sorted.{ArePlaced, IsPlacedBefore, IsUpTo, Locus, is_below_at, falls_in, sorting_of, Sorting}
-use Rattle.bt_bed.specs.model.Order.{Order, IsTotal, is_among}
-use Rattle.bt_bed.proofs.lemmas.order.OrderLemmas.{places_sorted}
-use Rattle.bt_laws.proofs.lemmas.parts.PartBed.{below_no, reversed_less}
+use Rattle.bt_bed.specs.model.Sorted.{ArePlaced, IsPlacedBefore, IsUpTo, Locus, falls_in, sorting_of, Sorting}
+use Rattle.bt_bed.specs.model.Order.{Order, IsTotal}
 use Rattle.bt_runs.proofs.lemmas.order.FileOrder.{some_placed}
 use Rattle.bt_laws.specs.Pipes.{IsInput, is_no_header}
-use Rattle.bt_tool.proofs.lemmas.running.members.CursorLemmas.{or_else_none}
 use Rattle.bt_lines.specs.model.Fault.{FaultValue}
 use Rattle.bt_lines.specs.declared.fault.Kind.{Kind}
-use Rattle.bt_bed.specs.model.Genome.{Entry, columns_give, entry_from, entry_of, genome_cut, genome_from, genome_handed, genome_of, genome_with, is_skipped, new_entry, with_entry}
+use Rattle.bt_bed.specs.model.Genome.{Entry, columns_give, entry_from, entry_of, genome_from, genome_handed, genome_with, is_skipped, new_entry}
 use Rattle.bt_bed.proofs.lemmas.Definitions.{line_said}
 
 pub clear_front : (xs ys : List ℕ) → NoLineFeed (xs ++ ys) → NoLineFeed xs
@@ -82,9 +76,6 @@ onto_digits (suc k) n acc h = grind (arith, (onto_digits k (n / 10) (digit_glyph
 pub decimal_digits : (n : ℕ) → AllByRecursion IsDigit (decimal n)
 unfolding digits
 decimal_digits n = onto_digits 64 n [] tt
-
-clear_digit : (c : ℕ) → IsDigit c → eqb c 10 ≡ false
-clear_digit c h = grind arith
 
 no_return : (c : ℕ) → IsDigit c → eqb c 13 ≡ false
 no_return c h = grind arith
@@ -198,9 +189,6 @@ module _ (order : Order) (total : IsTotal order) where
   Follow last [] = Unit {0}
   Follow last (r ∷ rs) = IsTrue (order.knows r.chrom) × (falls_in (sorting_of order) last (locus_at r) ≡ false) × Follow (Some (locus_at r)) rs
 
-  below_same : (o : Ordering) (start other : ℕ) → o ≡ Equal → other ≤ start → is_below_at o start other ≡ false
-  below_same o start other e up = grind arith
-
   pub up_to_stays : (last place : Locus) → IsTrue (order.knows last.chrom) → IsTrue (order.knows place.chrom) → IsUpTo order last place → falls_in (sorting_of order) (Some last) place ≡ false
   up_to_stays last place was is p1 = search rules
 
@@ -276,9 +264,6 @@ record_back line = record_with line.at.chrom line.at.start line.at.stop (strip_l
 
 abbrev pub said_back : Columns → Option Feature
 said_back line = unless_header line.at.chrom (record_back line)
-
-said_by : (header : Bool) (r : Feature) (rs : List Feature) → some_said (cond header None (Some r)) ++ rs ≡ cond (not header) (r ∷ rs) rs
-said_by header r rs = grind arith
 
 said_are : (lines : List Columns) → flat_map (λ line. some_said (said_back line)) lines ≡ filter is_no_header (map record_back lines)
 said_are [] = refl
@@ -368,16 +353,9 @@ pub record IsChrom (entry : Entry) : Type 0 where
   pub some : 0 < entry.length
   pub small : entry.length ≤ 999999999999
 
-some_of : (b : Bool) (v n : ℕ) → (b ≡ true → v ≤ 999999999999) → cond b (Some v) None ≡ Some n → n ≤ 999999999999
-some_of b v n h e = grind arith
-
 value_at_most : (text : List ℕ) (n : ℕ) → value_of text ≡ Some n → n ≤ 999999999999
 unfolding value_of
 value_at_most text n e = grind arith
-
-chosen_entry : (b : Bool) (byte : ℕ) (bytes : List ℕ) (size : ℕ) (entry : Entry) → eqb size 0 ≡ b → cond b (Err BadLength) (Ok (record { name = byte ∷ bytes; length = size })) ≡ Ok entry
-    → (byte ∷ bytes ≡ entry.name) × (size ≡ entry.length) × (0 < size)
-chosen_entry b byte bytes size entry e is = grind arith
 
 entry_said : (name : List ℕ) (size : Option ℕ) (entry : Entry) → entry_from name size ≡ Ok entry → (name ≡ entry.name) × (size ≡ Some entry.length) × (0 < length name) × (0 < entry.length)
 entry_said name size entry e = grind arith
@@ -406,9 +384,6 @@ abbrev pub AreChroms : Result (List Entry) FaultValue → Type 0
 AreChroms (Ok entries) = AllByRecursion IsChrom entries
 AreChroms (Err fault) = Unit {0}
 
-with_chrom : (entry : Entry) (rest : Result (List Entry) FaultValue) → IsChrom entry → AreChroms rest → AreChroms (with_entry entry rest)
-with_chrom entry rest is h = grind arith
-
 new_chrom : (input : Input) (n : ℕ) (names : List (List ℕ)) (text : List ℕ) (said : Result (Option Entry) Kind) (rest : List (List ℕ) → Result (List Entry) FaultValue) → NoLineFeed text → entry_of text ≡ said
     → ((now : List (List ℕ)) → AreChroms (rest now)) → AreChroms (genome_with input n names (new_entry names said) rest)
 new_chrom input n names text said rest clear e h = grind (arith, line_is_chrom)
@@ -418,9 +393,6 @@ unfolding genome_from
 chroms_from input names [] clear = tt
 chroms_from input names (line ∷ lines) clear =
     new_chrom input line.number names line.text (entry_of line.text) (λ now. genome_from input now lines) clear.0 refl (λ now. chroms_from input now lines clear.1)
-
-cut_chroms : (fault : Option FaultValue) (answer : Result (List Entry) FaultValue) → AreChroms answer → AreChroms (genome_cut fault answer)
-cut_chroms fault answer h = grind arith
 
 pub genome_chroms : (input : Input) (handed : Handed) (entries : List Entry) → genome_handed input handed ≡ Ok entries → AllByRecursion IsChrom entries
 genome_chroms input handed entries e = grind (arith, chroms_from, clear_handed)

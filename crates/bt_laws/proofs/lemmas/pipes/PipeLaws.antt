@@ -1,48 +1,48 @@
 -- The reports whose outputs go on as inputs.
-use Rattle.bt_lines.proofs.Std.{append-nil, append_assoc, ◌≡◌, ℕ, Bool, true, false, List, [], ◌∷◌, ◌++◌, map, filter, Option, Some, None, Ok, refl, sym, ap, ◌∙◌, subst, ◌≢◌, flat_map, if◌then◌else◌, AllByRecursion, AllPairs, list_all, option_or, ◌+◌, ◌<◌, length, inl, inr, arith, length-append, cases_eq, cases_lt, lt-ltb, ltb-true, filter-append}
+use Rattle.bt_lines.proofs.Std.{append-nil, append_assoc, ◌≡◌, ℕ, Bool, true, false, List, [], ◌∷◌, ◌++◌, map, filter, Option, Some, None, Ok, refl, sym, ap, ◌∙◌, subst, ◌≢◌, if◌then◌else◌, AllByRecursion, AllPairs, ◌+◌, ◌<◌, length, arith, length-append, cases_lt, lt-ltb, ltb-true, filter-append}
 use Rattle.bt_lines.specs.model.Fault.{FaultValue}
 use Rattle.bt_lines.specs.model.Lines.{Handed}
-use Rattle.bt_lines.specs.declared.fault.Input.TheVariants.{First, Genome, Second}
+use Rattle.bt_lines.specs.declared.fault.Input.TheVariants.{First, Second}
 use Rattle.bt_bed.specs.model.Order.{byte_order, bytes_total, Order, IsTotal, AreDistinct}
 use Rattle.bt_bed.specs.model.Feature.{Feature, intervals_of, interval_of, Interval, Span}
 use Rattle.bt_bed.specs.model.Positions.{IsCovered}
 use Rattle.bt_bed.specs.model.BedLine.{interval_lines, fault_at_line}
-use Rattle.bt_bed.specs.model.Genome.{Entry, genome_handed, genome_names}
+use Rattle.bt_bed.specs.model.Genome.{Entry, genome_names}
 use Rattle.bt_bed.specs.model.Good.{Good, Member, items_in, bed_good}
-use Rattle.bt_bed.specs.model.Meeting.{Met, join_report, written}
+use Rattle.bt_bed.specs.model.Meeting.{join_report, written}
 use Rattle.bt_bed.specs.model.Sorted.{ArePlaced}
 use Rattle.bt_lines.specs.declared.fault.Kind.TheVariants.{TooManyHeld}
 use Rattle.bt_bed.specs.declared.record.strand.Strand.{Strand}
 use Rattle.bt_bed.proofs.lemmas.Definitions.{non_empty_good, placed_good}
 use Rattle.bt_laws.specs.Runs.{interval_at}
 use Rattle.bt_runs.specs.model.Depth.{coverage, depth_lines, DepthInterval, covers, depth_at, levels_of}
-use Rattle.bt_runs.specs.model.Gaps.{complement, IsBare, gaps_of}
-use Rattle.bt_runs.specs.model.Merged.{ordered_runs, places_of, strand_runs, Bridged, runs_of}
+use Rattle.bt_runs.specs.model.Gaps.{complement, gaps_of}
+use Rattle.bt_runs.specs.model.Merged.{ordered_runs, Bridged, runs_of}
 use Rattle.bt_runs.specs.declared.merge.merge_strand.MergeStrand.{MergeStrand}
 use Rattle.bt_runs.specs.declared.merge.merge_strand.MergeStrand.TheVariants.{All, Each, One}
 use Rattle.bt_laws.proofs.lemmas.single.StrandOrder.{in_order}
 use Rattle.bt_sweep.specs.model.Lines.{intersect, subtract_shape, sweep_rule}
-use Rattle.bt_sweep.specs.model.Hits.{are_too_many, cut_behind, limited}
+use Rattle.bt_sweep.specs.model.Hits.{cut_behind, limited}
 use Rattle.bt_sweep.specs.declared.hits.hit_rule.HitRule.{HitRule}
 use Rattle.bt_sweep.specs.declared.output.shape.Shape.{Shape}
 use Rattle.bt_sweep.specs.declared.output.shape.Shape.TheVariants.{Pieces, Whole}
 use Rattle.bt_sweep.proofs.lemmas.definitions.HitLemmas.{faultless_all}
 use Rattle.bt_tool.specs.model.Report.{behaviour_of, entries_in, order_of, Inputs, or_empty, chromosomes_of, report_of, report_on}
-use Rattle.bt_tool.specs.model.Written.{Report, report_by, met_within, Written, complement_written, coverage_written, merge_written}
+use Rattle.bt_tool.specs.model.Written.{Report, report_by, met_within, Written, coverage_written, merge_written}
 use Rattle.bt_tool.specs.declared.planning.plan_type.Command.{Command}
 use Rattle.bt_tool.specs.declared.planning.plan_type.Command.TheVariants.{Complement, Coverage, Intersect, Merge, Subtract}
 use Rattle.bt_laws.specs.WholeRuns.{RunsWithoutFault, first_records, second_records}
-use Rattle.bt_laws.specs.Pipes.{runs_by, complement_is_input, cut_intersect_is_input, cut_strands_stay, genomecov_is_input, intersect_is_input, kept_places_stay, kept_records_stay, kept_strands_stay, merge_is_input, subtract_is_input, whole_subtract_is_input, begins_with_a, records_written, AreSeparate, AreDisjoint, IsInput, four_columns, is_no_header, three_columns, complement_writes_disjoint, genomecov_writes_disjoint, merge_writes_disjoint}
+use Rattle.bt_laws.specs.Pipes.{complement_is_input, cut_intersect_is_input, cut_strands_stay, genomecov_is_input, intersect_is_input, kept_places_stay, kept_records_stay, kept_strands_stay, merge_is_input, subtract_is_input, whole_subtract_is_input, begins_with_a, records_written, AreSeparate, AreDisjoint, IsInput, four_columns, is_no_header, three_columns, complement_writes_disjoint, genomecov_writes_disjoint, merge_writes_disjoint}
 use Rattle.bt_laws.proofs.lemmas.Lists.{EachPair, pairs_all, pairs_each}
 use Rattle.bt_laws.proofs.lemmas.pipes.RunsBack.{coverage_back, depths_disjoint, gaps_back, gaps_pairs, intervals_back, merge_apart, merge_back, runs_back, strands_written}
-use Rattle.bt_laws.proofs.lemmas.parts.PartShards.{distinct_in, file_is}
+use Rattle.bt_laws.proofs.lemmas.parts.PartShards.{distinct_in}
 use Rattle.bt_laws.proofs.lemmas.pipes.LinesBack.{IsChrom, IsSaid, genome_chroms, good_are_said}
 use Rattle.bt_laws.proofs.lemmas.pipes.SweepBack.{cut_back, kept_back, pieces_back}
 use Rattle.bt_laws.proofs.lemmas.pipes.SweepRead.{all_read, cut_stay, places_stay, records_stay, strands_stay}
 use Rattle.bt_laws.proofs.lemmas.parts.PartTexts.{order_total}
-use Rattle.bt_laws.proofs.lemmas.pipes.Placing.{apart_disjoint, pairs_filter, pairs_from_map, pairs_map}
+use Rattle.bt_laws.proofs.lemmas.pipes.Placing.{pairs_filter, pairs_from_map, pairs_map}
 use Rattle.bt_runs.proofs.lemmas.merge.Bridging.{are_runs, bridged_here, is_covered-Decides, only_runs}
-use Rattle.bt_laws.proofs.lemmas.single.LevelLemmas.{covered_depth, are_levels, only_levels}
+use Rattle.bt_laws.proofs.lemmas.single.LevelLemmas.{covered_depth}
 use Rattle.bt_runs.proofs.lemmas.complement.Walks.{are_gaps, only_gaps}
 
 -- ---- the order in use
@@ -170,12 +170,6 @@ cut_whole too past (m ∷ more) fault e =
 pub limit_whole : (order : Order) (limit : Option ℕ) (first : List Feature) (second : Good Feature) → (limited order limit first second).fault ≡ None → limited order limit first second ≡ second
 limit_whole order limit first second e = grind (arith, cut_whole)
 
-abbrev pub either_met : Bool → List ℕ → List ℕ → Option FaultValue → Option FaultValue → Met ℕ FaultValue
-either_met b lines other one fault = if b then record { lines = lines; fault = option_or one fault } else record { lines = other; fault = fault }
-
-pub either_fault : (b : Bool) (lines other : List ℕ) (one : Option FaultValue) (fault : Option FaultValue) → (either_met b lines other one fault).fault ≡ None → fault ≡ None
-either_fault b lines other one fault e = grind arith
-
 met_whole : (order : Order) (shape : Shape) (rule : HitRule) (first : Good Feature) (second : List Feature) (fault : Option FaultValue) → fault ≡ None
     → (join_report (sweep_rule order shape rule second fault) (items_in first) first.fault).lines ≡ intersect shape rule (items_in first) second
 met_whole order shape rule first second fault e = grind (arith, faultless_all)
@@ -294,14 +288,8 @@ pub record SameCover (xs ys : List Span) : Type 0 where
 pub same_sym : (xs ys : List Span) → SameCover xs ys → SameCover ys xs
 same_sym xs ys h = record { to = h.back; back = h.to }
 
-bridged_to : (gap : ℕ) (xs ys : List Span) (p : ℕ) → SameCover xs ys → Bridged gap xs p → Bridged gap ys p
-bridged_to gap xs ys p same b = grind arith
-
 pub same_runs : (gap : ℕ) (xs ys : List Span) → SameCover xs ys → runs_of gap xs ≡ runs_of gap ys
 same_runs gap xs ys same = grind (arith, (are_runs gap xs), only_runs)
-
-bare_to : (size : ℕ) (xs ys : List Span) (p : ℕ) → SameCover xs ys → IsBare size xs p → IsBare size ys p
-bare_to size xs ys p same b = record { within = b.within; bare = λ c. b.bare (same.back p c) }
 
 pub same_gaps : (size : ℕ) (xs ys : List Span) → SameCover xs ys → gaps_of size xs ≡ gaps_of size ys
 same_gaps size xs ys same = grind (arith, (are_gaps size xs), only_gaps)

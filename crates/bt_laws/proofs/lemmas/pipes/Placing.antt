@@ -1,15 +1,14 @@
 -- Intervals chromosome by chromosome: they are in order, and those of different chromosomes have nothing in common.
-use Rattle.bt_lines.proofs.Std.{◌≡◌, ℕ, suc, ◌+◌, ◌<◌, ◌≤◌, Bool, true, false, cond, List, [], ◌∷◌, ◌++◌, map, filter, Option, Some, None, refl, sym, ap, ◌∙◌, subst, inl, inr, arith, IsTrue, flat_map, bytes_eq, is_some, option_map, AllByRecursion, or_parts}
-use Rattle.std.specs.declared.cmp.Ordering.TheVariants.{Less, Equal}
+use Rattle.bt_lines.proofs.Std.{◌≡◌, ℕ, ◌+◌, ◌<◌, ◌≤◌, Bool, false, cond, List, [], ◌∷◌, ◌++◌, map, filter, refl, sym, subst, inr, arith, IsTrue, flat_map, bytes_eq, AllByRecursion, or_parts}
+use Rattle.std.specs.declared.cmp.Ordering.TheVariants.{Less}
 use Rattle.bt_bed.specs.model.Feature.{Interval, Span, placed_on}
 use Rattle.bt_bed.specs.model.Positions.{AreApartFrom}
 use Rattle.bt_bed.specs.model.Sorted.{ArePlaced, IsPlacedBefore}
-use Rattle.bt_bed.specs.model.Order.{Order, IsTotal, AreDistinct, compare_ranks, is_among, rank_of, rank_order}
+use Rattle.bt_bed.specs.model.Order.{Order, IsTotal, AreDistinct, is_among, rank_order}
 use Rattle.bt_bed.proofs.lemmas.parse.NameLemmas.{name_ne-sym}
 use Rattle.bt_laws.specs.Runs.{AreAscending, AreKnown}
-use Rattle.bt_runs.proofs.lemmas.definitions.Standing.{cmp_less, less_cmp}
-use Rattle.bt_runs.proofs.lemmas.order.FileOrder.{rank_of-here, rank_of-later}
-use Rattle.bt_laws.specs.Pipes.{AreSeparate, AreDisjoint}
+use Rattle.bt_runs.proofs.lemmas.order.FileOrder.{rank_of-here}
+use Rattle.bt_laws.specs.Pipes.{AreSeparate}
 use Rattle.bt_laws.proofs.lemmas.Lists.{EachPair, all_any, all_both, all_filter, all_flat_map, all_map, all_so, all_unmap, all_zip}
 
 -- ---- pairs
@@ -58,9 +57,6 @@ module _ (order : Order) where
 
 -- ---- the names of a genome file
 
-some_rank : (b : Bool) (o : Option ℕ) → is_some o ≡ true → is_some (cond b (Some 0) (option_map (λ rank. suc rank) o)) ≡ true
-some_rank b o e = grind arith
-
 pub known_names : (names : List (List ℕ)) → AllByRecursion (λ name. IsTrue ((rank_order names).knows name)) names
 known_names [] = tt
 known_names (n ∷ ns) = grind (arith, (known_names ns), rank_of-here, all_so)
@@ -68,12 +64,6 @@ known_names (n ∷ ns) = grind (arith, (known_names ns), rank_of-here, all_so)
 pub others : (n : List ℕ) (ns : List (List ℕ)) → is_among ns n ≡ false → AllByRecursion (λ m. bytes_eq n m ≡ false) ns
 others n [] e = tt
 others n (m ∷ ns) e = let parts = or_parts (bytes_eq m n) (is_among ns n) e in (name_ne-sym m n parts.0, others n ns parts.1)
-
-less_shift : (o p : Option ℕ) → compare_ranks o p ≡ Less → compare_ranks (option_map (λ rank. suc rank) o) (option_map (λ rank. suc rank) p) ≡ Less
-less_shift o p e = grind arith
-
-less_first : (o : Option ℕ) → is_some o ≡ true → compare_ranks (Some 0) (option_map (λ rank. suc rank) o) ≡ Less
-less_first o e = grind arith
 
 pub names_pairs : (names : List (List ℕ)) → AreDistinct names → EachPair (Earlier (rank_order names)) names
 names_pairs [] distinct = tt
@@ -131,9 +121,6 @@ apart_pairs first (s ∷ ss) h = (apart_behind (s.stop + 1) s.stop ss (omega ari
 
 pub spans_apart : (name : List ℕ) (spans : List Span) → EachPair (λ (s t : Span). s.stop < t.start) spans → EachPair AreSeparate (map (placed_on name) spans)
 spans_apart name spans h = pairs_map AreSeparate (placed_on name) spans (pairs_so (λ s. Unit {0}) (λ (s t : Span). s.stop < t.start) (λ s t. AreSeparate (placed_on name s) (placed_on name t)) spans (λ s t p q less same. less) (all_any (λ s. Unit {0}) spans (λ s. tt)) h)
-
-pub apart_disjoint : (rs : List Interval) → EachPair AreSeparate rs → EachPair AreDisjoint rs
-apart_disjoint rs h = pairs_so (λ r. Unit {0}) AreSeparate AreDisjoint rs (λ r s p q apart same. omega (arith, apart same)) (all_any (λ r. Unit {0}) rs (λ r. tt)) h
 
 module _ (order : Order) (name : List ℕ) (known : IsTrue (order.knows name)) where
   spans_before : (first : ℕ) (s : Span) (ss : List Span) → s.start ≤ first → AreApartFrom first ss → IsPlacedBefore order (placed_on name s) (map (placed_on name) ss)

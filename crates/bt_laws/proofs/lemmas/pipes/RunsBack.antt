@@ -1,13 +1,13 @@
 -- What merge, complement and genomecov write is an input of the next command.
-use Rattle.bt_lines.proofs.Std.{◌≡◌, ℕ, ◌+◌, ◌-◌, ◌<◌, ◌≤◌, Bool, true, false, cond, not, List, [], ◌∷◌, ◌++◌, map, filter, refl, sym, ap, ◌∙◌, subst, inl, inr, arith, eqb, append-nil, decimal, Option, ap₂, append_assoc, IsTrue, codes, if◌then◌else◌, bytes_eq, flat_map, AllByRecursion, is_lt, All-nil, map-id, map-append, slice_split_none}
+use Rattle.bt_lines.proofs.Std.{◌≡◌, ℕ, ◌+◌, ◌-◌, ◌<◌, ◌≤◌, Bool, true, false, not, List, [], ◌∷◌, ◌++◌, map, filter, refl, sym, ap, subst, inl, inr, arith, eqb, append-nil, decimal, Option, append_assoc, IsTrue, codes, flat_map, AllByRecursion, All-nil, map-id, map-append, slice_split_none}
 use Rattle.bt_lines.specs.calls.Line.{NoLineFeed}
-use Rattle.bt_bed.specs.model.Feature.{Feature, interval_of, intervals_of, Interval, Span, placed_on, spans_on, span_of}
+use Rattle.bt_bed.specs.model.Feature.{Feature, intervals_of, Interval, Span, placed_on, spans_on}
 use Rattle.bt_bed.specs.model.Positions.{AreApartFrom, IsCovered, stretches_from}
-use Rattle.bt_bed.specs.model.BedLine.{is_header, interval_line, interval_lines, IsName, columns_in, strand_of}
+use Rattle.bt_bed.specs.model.BedLine.{is_header, interval_line, interval_lines, IsName}
 use Rattle.bt_bed.specs.model.Sorted.{ArePlaced, IsPlacedBefore}
 use Rattle.bt_bed.specs.model.Order.{Order, IsTotal, AreDistinct, rank_order}
 use Rattle.bt_bed.proofs.lemmas.Definitions.{scan_finds}
-use Rattle.bt_runs.specs.model.Merged.{counted, is_counted, chromosomes, end_of, merged, runs_of, runs_on, merged_runs, in_order, ordered_runs, put_in_order, StrandRun, places_of, runs_of_strand, strand_runs}
+use Rattle.bt_runs.specs.model.Merged.{counted, is_counted, chromosomes, end_of, merged, runs_of, runs_on, in_order, ordered_runs, put_in_order, StrandRun, places_of, runs_of_strand, strand_runs}
 use Rattle.bt_runs.specs.declared.merge.merge_strand.MergeStrand.{MergeStrand}
 use Rattle.bt_runs.specs.declared.merge.merge_strand.MergeStrand.TheVariants.{One}
 use Rattle.bt_bed.specs.declared.record.strand.Strand.{Strand}
@@ -22,7 +22,7 @@ use Rattle.bt_lines.specs.model.Lines.{pieces}
 use Rattle.bt_bed.specs.model.Genome.{Entry, genome_names}
 use Rattle.bt_bed.specs.inside.RankTotal.{ranks_total}
 use Rattle.bt_laws.specs.Runs.{interval_at, AreDisjointFrom, AreLevelsOf, HasValue}
-use Rattle.bt_runs.specs.model.Depth.{DepthInterval, coverage, depth_line, depth_lines, depth_on, depth_of, depths_on, counted_on, Level, levels_of}
+use Rattle.bt_runs.specs.model.Depth.{DepthInterval, coverage, depth_line, depth_lines, depth_of, depths_on, counted_on, Level, levels_of}
 use Rattle.bt_runs.specs.model.Gaps.{complement, gaps_of, gaps_on, is_asked}
 use Rattle.bt_laws.proofs.lemmas.single.LevelLemmas.{are_levels}
 

@@ -1,6 +1,5 @@
 -- What intersect and subtract write is an input of the next command.
 use Rattle.bt_lines.proofs.Std.{◌≡◌, ℕ, zero, suc, ◌+◌, ◌-◌, ◌<◌, ◌≤◌, Bool, true, false, cond, not, List, [], ◌∷◌, ◌++◌, map, filter, length, max, min, refl, sym, ap, ap₂, ◌∙◌, subst, inl, inr, arith, append_assoc, append-nil, decimal, IsTrue, flat_map, replicate, AllByRecursion, bytes_decides, flat_map-append}
-use Rattle.std.specs.declared.cmp.Ordering.TheVariants.{Less, Equal}
 use Rattle.bt_lines.specs.calls.Line.{NoLineFeed}
 use Rattle.bt_bed.specs.model.Feature.{Feature, interval_of, intervals_of, Interval, Span}
 use Rattle.bt_bed.specs.model.Positions.{AreApartFrom, IsCovered}
@@ -17,7 +16,7 @@ use Rattle.bt_sweep.proofs.lemmas.definitions.PieceLemmas.{are_pieces}
 use Rattle.bt_sweep.proofs.lemmas.definitions.HitLemmas.{hit_overlaps, overlap_parts}
 use Rattle.bt_laws.specs.Pipes.{begins_with_a, line_count, AreDisjoint, IsInput, is_no_header}
 use Rattle.bt_laws.proofs.lemmas.Lists.{EachPair, all_any, all_both, all_flat_map, all_map, all_so, filter_all, all_zip, map_flat, map_map, all_unmap}
-use Rattle.bt_laws.proofs.lemmas.pipes.LinesBack.{clear_both, clear_tab, clear_number, Columns, IsColumns, lines_back, record_back, text_of_columns, placed_known, IsSaid, tail_clear}
+use Rattle.bt_laws.proofs.lemmas.pipes.LinesBack.{clear_both, clear_number, Columns, IsColumns, lines_back, record_back, text_of_columns, placed_known, IsSaid, tail_clear}
 use Rattle.bt_laws.proofs.lemmas.pipes.Placing.{apart_pairs, pairs_both, pairs_filter, pairs_from_map, pairs_map, pairs_so}
 
 -- ---- pairs of a list of lists
@@ -137,9 +136,6 @@ module _ (shape : Shape) (rule : HitRule) (second : List Feature) where
 
 -- ---- each is written so
 
-pub kept_more : (rest more : List ℕ) → IsTrue (is_kept rest) → IsTrue (is_kept (rest ++ 9 ∷ more))
-kept_more rest more h = grind arith
-
 clear_record : (b : Feature) → IsSaid b → NoLineFeed (bed_text b)
 clear_record b is = tail_clear b.chrom b.start b.stop is.feature.named is.feature.non_empty is.feature.in_range b.rest is.clear_name is.clear_rest
 
@@ -155,18 +151,9 @@ cut_bounds rule a b h = omega (arith, (overlap_parts a b (hit_overlaps rule a b 
 pub same_name : (rule : HitRule) (a b : Feature) → hits rule a b ≡ true → a.chrom ≡ b.chrom
 same_name rule a b h = (bytes_decides a.chrom b.chrom).0 (overlap_parts a b (hit_overlaps rule a b h)).0
 
-whole_columns : (a : Feature) (more : List ℕ) → IsSaid a → IsTrue (is_kept more) → NoLineFeed more → IsColumns (columns_at a more)
-whole_columns a more is kept clear = record { named = is.feature.named; clear = is.clear_name; below = is.feature.non_empty; small = is.feature.in_range; kept = kept; clear_tail = clear }
-
 module _ (rule : HitRule) (a : Feature) (is : IsSaid a) where
-  plain_columns : IsColumns (columns_at a a.rest)
-  plain_columns = whole_columns a a.rest is is.feature.kept is.clear_rest
-
   cut_columns : (b : Feature) (more : List ℕ) → Hit rule a b → IsTrue (is_kept more) → NoLineFeed more → IsColumns (columns_at (cut a b) more)
   cut_columns b more hit kept clear = said_columns a (max a.start b.start) (min a.stop b.stop) more is (cut_bounds rule a b hit.1) (omega arith) kept clear
-
-  with_record : (b : Feature) → IsSaid b → NoLineFeed (a.rest ++ 9 ∷ bed_text b)
-  with_record b said = clear_both a.rest (9 ∷ bed_text b) is.clear_rest (clear_tab (bed_text b) (clear_record b said))
 
   hit_is : (shape : Shape) (b : Feature) → Hit rule a b → IsColumns (hit_columns shape a b)
   unfolding hit_columns
@@ -321,9 +308,6 @@ abbrev Rise : Feature → Feature → Type 0
 Rise b c = b.start ≤ c.start
 
 module _ (order : Order) (total : IsTotal order) where
-  rise_by : (name : List ℕ) (b c : Feature) → IsTrue (order.knows name) → b.chrom ≡ name → c.chrom ≡ name → UpTo order total (interval_of b) (interval_of c) → Rise b c
-  rise_by name b c known one two p1 = grind arith
-
   hits_rise : (rule : HitRule) (a : Feature) (bs : List Feature) → IsTrue (order.knows a.chrom) → AllByRecursion IsSaid bs → ArePlaced order (intervals_of bs) → EachPair Rise (hits_among rule a bs)
   hits_rise rule a bs known said placed = grind (arith, pairs_so, same_name, (all_hits rule a bs said), pairs_filter, (pairs_of_places order total bs (placed_pairs order total (intervals_of bs) placed)))
 

@@ -1,12 +1,11 @@
 -- The records that the lines of intersect and subtract are read as.
-use Rattle.bt_lines.proofs.Std.{rules, ◌≡◌, ℕ, ◌<◌, Bool, true, false, List, [], ◌∷◌, ◌++◌, map, length, refl, sym, ap, ap₂, ◌∙◌, subst, arith, append_assoc, append-nil, decimal, eqb, IsTrue, bytes_eq, flat_map, replicate, if◌then◌else◌, AllByRecursion, ends_with_byte, strip_last, map-append, slice_split_at}
+use Rattle.bt_lines.proofs.Std.{rules, ◌≡◌, ℕ, ◌<◌, true, false, List, [], ◌∷◌, ◌++◌, map, length, refl, sym, ap, ap₂, ◌∙◌, subst, arith, append_assoc, append-nil, decimal, eqb, IsTrue, flat_map, replicate, AllByRecursion, ends_with_byte, strip_last, map-append, slice_split_at}
 use Rattle.bt_lines.specs.model.Lines.{pieces as columns_of}
-use Rattle.bt_lines.proofs.lemmas.reader.lines.TextLemmas.{IsColumn, strip_last-other}
-use Rattle.bt_bed.specs.model.Feature.{Span, Feature, interval_of, intervals_of}
+use Rattle.bt_lines.proofs.lemmas.reader.lines.TextLemmas.{IsColumn}
+use Rattle.bt_bed.specs.model.Feature.{Span, Feature, intervals_of}
 use Rattle.bt_bed.specs.model.BedLine.{IsName, bed_text, columns_in, cut_to, is_kept, kept_columns, strand_named, strand_of}
-use Rattle.bt_bed.specs.declared.record.strand.Strand.TheVariants.{Plus, Minus, Dot}
+use Rattle.bt_bed.specs.declared.record.strand.Strand.TheVariants.{Dot}
 use Rattle.bt_bed.proofs.lemmas.parse.FeatureLemmas.{kept_is_cut, pieces_are_columns}
-use Rattle.bt_bed.proofs.lemmas.parse.NameLemmas.{name_ne}
 use Rattle.bt_bed.proofs.lemmas.read.ColumnLemmas.{kept_again}
 use Rattle.bt_sweep.specs.model.Hits.{hits_among, shared_bases}
 use Rattle.bt_sweep.specs.model.Lines.{cut, pieces}
@@ -15,7 +14,7 @@ use Rattle.bt_sweep.specs.declared.output.shape.Shape.{Shape}
 use Rattle.bt_sweep.specs.declared.output.shape.Shape.TheVariants.{Count, Cut, CutAndB, Missing, Once, OrigA, OrigBoth, Overlap, Pieces, Whole}
 use Rattle.bt_laws.specs.Pipes.{EndsPlain, KeepsStrand, TakesNoStrand, begins_with_a, copies_written, is_a_alone, line_count, read_alone, read_before, records_for, records_written}
 use Rattle.bt_laws.proofs.lemmas.pipes.LinesBack.{IsDigit, decimal_digits, strip_number, number_column, record_back, IsSaid, columns_text, kept_by, name_first, record_with, strip_both, strip_columns}
-use Rattle.bt_laws.proofs.lemmas.pipes.SweepBack.{Hit, all_columns, all_hits, columns_at, columns_for, hit_columns, kept_more, part, piece_columns, same_name}
+use Rattle.bt_laws.proofs.lemmas.pipes.SweepBack.{Hit, all_columns, all_hits, columns_at, columns_for, hit_columns, part, piece_columns, same_name}
 use Rattle.bt_laws.proofs.lemmas.Lists.{all_any, all_map, all_so, flat_map_same, all_zip, map_map, map_flat}
 
 -- ---- the columns of a line, read again
@@ -67,9 +66,6 @@ records_stay shape rule first second e said plain =
 
 -- ---- a number is a column, and names no strand
 
-no_sign : (c : ℕ) (cs : List ℕ) (byte : ℕ) → IsDigit c → byte < 48 → bytes_eq (c ∷ cs) (byte ∷ []) ≡ false
-no_sign c cs byte h low = name_ne (c ∷ cs) (byte ∷ []) (λ e. let same : c ≡ byte = cc in absurd (omega (arith, same, h.0, low)))
-
 digits_unsigned : (ds : List ℕ) → AllByRecursion IsDigit ds → strand_named ds ≡ Dot
 digits_unsigned ds h = search rules
 
@@ -104,16 +100,6 @@ line_columns chrom start stop tail named kept =
 some_both : (xs ys : List ℕ) → 0 < length xs → 0 < length (xs ++ ys)
 some_both [] ys some = absurd (omega (arith, some))
 some_both (x ∷ xs) ys some = omega arith
-
-first_alike : (a b : List ℕ) (more : List (List ℕ)) → strand_of (a ∷ more) ≡ strand_of (b ∷ more)
-first_alike a b more = grind arith
-
-two_alike : (a b c d : List ℕ) (more : List (List ℕ)) → strand_of (a ∷ b ∷ more) ≡ strand_of (c ∷ d ∷ more)
-two_alike a b c d more = grind arith
-
--- more columns don't change the strand, if the one that becomes the sixth names none
-more_strand : (xs more : List (List ℕ)) → strand_of more ≡ Dot → strand_of ([] ∷ more) ≡ Dot → (length xs ≡ 2 → strand_of ([] ∷ [] ∷ more) ≡ Dot) → strand_of (xs ++ more) ≡ strand_of xs
-more_strand xs more none one two = grind arith
 
 module _ (a : Feature) (is : IsSaid a) where
   after_number : (n : ℕ) → (read_before (decimal n) a).strand ≡ a.strand

@@ -1,23 +1,22 @@
 -- What is left of a record lies in the gaps of the second input.
-use Rattle.bt_lines.proofs.Std.{rules, ◌≡◌, ℕ, ◌+◌, ◌<◌, ◌≤◌, true, false, cond, not, List, [], ◌∷◌, ◌++◌, append-nil, map, filter, max, min, Some, None, Ok, refl, sym, ap, ap₂, ◌∙◌, subst, inl, inr, arith, bytes_eq, flat_map, AllByRecursion, cases_Bool, false≢true, or_parts, flat_map-map}
+use Rattle.bt_lines.proofs.Std.{rules, ◌≡◌, ℕ, ◌+◌, ◌<◌, ◌≤◌, false, not, List, [], ◌∷◌, append-nil, map, filter, max, min, Some, None, Ok, refl, sym, ap, ◌∙◌, subst, inl, inr, arith, bytes_eq, flat_map, AllByRecursion, or_parts, flat_map-map}
 use Rattle.bt_lines.specs.model.Lines.{whole_text}
 use Rattle.bt_lines.specs.declared.fault.Input.TheVariants.{First, Second}
-use Rattle.bt_bed.specs.model.Feature.{Feature, interval_of, intervals_of, Interval, Span, span_of, spans_on}
+use Rattle.bt_bed.specs.model.Feature.{Feature, interval_of, intervals_of, Interval, Span, spans_on}
 use Rattle.bt_bed.specs.model.Positions.{AreApartFrom, IsCovered, stretches_from}
 use Rattle.bt_bed.specs.model.BedLine.{is_header, interval_lines}
 use Rattle.bt_bed.specs.model.Genome.{Entry, genome_names}
-use Rattle.bt_bed.specs.model.Good.{items_in, bed_good}
+use Rattle.bt_bed.specs.model.Good.{bed_good}
 use Rattle.bt_bed.specs.model.Order.{Order, AreDistinct, is_among}
-use Rattle.bt_bed.proofs.lemmas.parse.NameLemmas.{cases_name, name_eq}
-use Rattle.bt_runs.specs.model.Gaps.{IsBare, complement, gaps_of, gaps_on, is_asked, length_in}
-use Rattle.bt_runs.proofs.lemmas.order.FileOrder.{spans_on-append, spans_on-elsewhere}
+use Rattle.bt_bed.proofs.lemmas.parse.NameLemmas.{cases_name}
+use Rattle.bt_runs.specs.model.Gaps.{complement, gaps_of, gaps_on, is_asked, length_in}
+use Rattle.bt_runs.proofs.lemmas.order.FileOrder.{spans_on-append}
 use Rattle.bt_runs.proofs.lemmas.complement.Walks.{are_gaps}
-use Rattle.bt_sweep.specs.model.Hits.{any_overlap, hits, hits_among}
+use Rattle.bt_sweep.specs.model.Hits.{any_overlap, hits_among}
 use Rattle.bt_sweep.specs.model.Lines.{intersect, lines_for, piece_line, pieces, spans_of}
 use Rattle.bt_sweep.specs.declared.output.shape.Shape.TheVariants.{Cut, Pieces}
 use Rattle.bt_sweep.proofs.lemmas.definitions.PieceLemmas.{only_pieces}
 use Rattle.bt_tool.specs.model.Report.{order_of, Inputs, or_empty, chromosomes_of}
-use Rattle.bt_tool.specs.model.Written.{Report, complement_written}
 use Rattle.bt_tool.specs.declared.planning.plan_type.Command.TheVariants.{Complement, Intersect, Subtract}
 use Rattle.bt_laws.specs.WholeRuns.{first_records, second_records, RunWrites, of_second, with_second}
 use Rattle.bt_laws.specs.Same.{LieWithinLengths, subtract_by_complement}
@@ -28,7 +27,7 @@ use Rattle.bt_laws.proofs.lemmas.pipes.PipeLaws.{chroms_of, intersect_whole, sub
 use Rattle.bt_laws.proofs.lemmas.pipes.Placing.{pairs_filter, pairs_map, pairs_so}
 use Rattle.bt_laws.proofs.lemmas.same.SameRuns.{here_all, none_there, report_there}
 use Rattle.bt_laws.proofs.lemmas.pipes.LinesBack.{IsChrom, IsSaid, good_are_said}
-use Rattle.bt_laws.proofs.lemmas.same.SameSweeps.{hit_back, hit_to, met_none, nones, other_input, output_by, sweeps_from}
+use Rattle.bt_laws.proofs.lemmas.same.SameSweeps.{hit_back, hit_to, met_none, nones, other_input, sweeps_from}
 use Rattle.bt_laws.proofs.lemmas.pipes.SweepBack.{Hit, all_hits, cut_bounds, same_name as hit_name}
 
 -- ---- the gaps of one chromosome

@@ -1,5 +1,5 @@
 -- Gaps of gaps, and merged depths.
-use Rattle.bt_lines.proofs.Std.{◌≡◌, ℕ, ◌+◌, ◌<◌, ◌≤◌, true, false, cond, List, [], ◌∷◌, ◌++◌, map, filter, min, Some, None, refl, sym, ap, ap₂, ◌∙◌, subst, inl, inr, arith, append-nil, bytes_eq, flat_map, nat_lt, AllByRecursion, cases_Bool, cases_lt, false≢true, le-ltb, lt-ltb, or_parts, flat_map-append, map-append}
+use Rattle.bt_lines.proofs.Std.{◌≡◌, ℕ, ◌+◌, ◌<◌, ◌≤◌, true, false, cond, List, [], ◌∷◌, ◌++◌, map, filter, min, Some, None, refl, sym, ap, ◌∙◌, subst, inl, inr, arith, append-nil, bytes_eq, flat_map, nat_lt, AllByRecursion, cases_Bool, cases_lt, le-ltb, lt-ltb, or_parts, flat_map-append, map-append}
 use Rattle.bt_lines.specs.declared.fault.Input.TheVariants.{First}
 use Rattle.bt_bed.specs.model.Feature.{Feature, intervals_of, interval_of, Interval, Span, placed_on, spans_on, span_of}
 use Rattle.bt_bed.specs.model.Positions.{AreApartFrom, IsCovered}
@@ -11,7 +11,7 @@ use Rattle.bt_bed.specs.model.Order.{Order, AreDistinct, is_among, rank_order}
 use Rattle.bt_bed.proofs.lemmas.Definitions.{placed_good}
 use Rattle.bt_bed.proofs.lemmas.parse.NameLemmas.{name_eq, name_ne-sym, cases_name}
 use Rattle.bt_runs.specs.model.Gaps.{complement, gaps_of, gaps_on, is_asked, length_in}
-use Rattle.bt_runs.specs.model.Merged.{is_covered, merged, runs_of, runs_on, ordered_runs}
+use Rattle.bt_runs.specs.model.Merged.{merged, runs_of, runs_on, ordered_runs}
 use Rattle.bt_runs.specs.declared.merge.merge_strand.MergeStrand.TheVariants.{All}
 use Rattle.bt_runs.proofs.lemmas.merge.Bridging.{are_runs, is_covered-Decides}
 use Rattle.bt_runs.proofs.lemmas.complement.Walks.{are_gaps, only_gaps}
@@ -31,7 +31,7 @@ use Rattle.bt_laws.proofs.lemmas.parts.PartTexts.{order_total}
 use Rattle.bt_lines.specs.model.Lines.{whole_text}
 use Rattle.bt_laws.specs.Runs.{interval_at, HasValue}
 use Rattle.bt_runs.specs.model.Depth.{DepthInterval, counted_on, coverage, depth_at, depth_of, depth_on, depths_on, Level, begun_after, ended_after, levels_of}
-use Rattle.bt_runs.proofs.lemmas.order.FileOrder.{spans_on-append, spans_on-elsewhere}
+use Rattle.bt_runs.proofs.lemmas.order.FileOrder.{spans_on-append}
 use Rattle.bt_laws.proofs.lemmas.single.LevelLemmas.{are_levels}
 use Rattle.bt_laws.proofs.lemmas.pipes.DepthParts.{shown}
 use Rattle.bt_laws.proofs.lemmas.pipes.LinesBack.{IsSaid, good_are_said}

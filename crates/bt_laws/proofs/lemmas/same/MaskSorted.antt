@@ -52,9 +52,6 @@ Finds c n xs ys = IsBefore c n xs ys ⊎ (IsHere c n xs ys ⊎ IsAfter c n xs ys
 abbrev behind_by : Bool → Names → Option Names → Option Names
 behind_by b found more = cond b (Some found) more
 
-find_more : (c n x : List ℕ) (xs ys : Names) → bytes_eq x c ≡ false → Finds c n xs ys → Finds c n (x ∷ xs) ys
-find_more c n x xs ys other p1 = grind arith
-
 find : (c n : List ℕ) (xs ys : Names) → is_among xs n ≡ false → Finds c n xs ys
 find c n [] ys off = grind (arith, name_ne-sym)
 find c n (x ∷ xs) ys off = grind (arith, (cases_name x c), (find c n xs ys (or_parts (bytes_eq x n) (is_among xs n) off).1))
@@ -136,9 +133,6 @@ module _ (t : Feature → Bool) (n : List ℕ) where
 abbrev Other : List ℕ → List ℕ → Names → Type 0
 Other c n zs = ((rest : Names) × (names_behind c (zs ++ n ∷ []) ≡ Some (rest ++ n ∷ []))) ⊎ (names_behind c (zs ++ n ∷ []) ≡ None)
 
-skip_behind : (c n z : List ℕ) (zs : Names) → bytes_eq z c ≡ false → Other c n zs → Other c n (z ∷ zs)
-skip_behind c n z zs other p1 = grind arith
-
 -- another name is found before it, or not at all
 other_behind : (c n : List ℕ) (zs : Names) → bytes_eq c n ≡ false → Other c n zs
 other_behind c n [] e = inr (ap (λ b. behind_by b [] None) (name_ne-sym c n e))
@@ -183,9 +177,6 @@ none_few n (y ∷ ys) few = elim (cases_Bool (bytes_eq y n)) [
   | inl t ↦ absurd (omega (arith, subst (λ b. length (cond b (y ∷ named n ys) (named n ys)) ≤ 0) t few))
   | inr f ↦ ap₂ (λ a b. a || b) f (none_few n ys (subst (λ b. length (cond b (y ∷ named n ys) (named n ys)) ≤ 0) f few))
 ]
-
-some_one : (n : List ℕ) (xs ys : Names) → 0 < length (named n (xs ++ n ∷ ys))
-some_one n xs ys = grind (arith, common_steps, name_eq)
 
 once_around : (n : List ℕ) (xs ys : Names) → length (named n (xs ++ n ∷ ys)) ≤ 1 → (is_among xs n ≡ false) × (is_among ys n ≡ false)
 once_around n xs ys once = grind (arith, common_steps, name_eq, none_few)

@@ -1,6 +1,6 @@
 -- What maskfasta writes has the lines of its input, and is masked already.
 use Rattle.std.proofs.lemmas.Grind.{common_steps}
-use Rattle.bt_lines.proofs.Std.{◌≡◌, ◌||◌, ℕ, suc, ◌+◌, ◌≤◌, Bool, true, false, List, [], ◌∷◌, ◌++◌, map, length, Option, Some, None, refl, sym, ap, ap₂, ◌∙◌, arith, eqb, leb, flat_map, if◌then◌else◌, is_none, list_all, list_any, option_or, ends_with_byte, and_parts, false≢true, leb-true, ne_eqb, nat_tests, All-cons, All-head, All-nil, All-tail, ◌<◌, Result, Ok, Err, subst, ltb, bytes_eq, is_some, AllByRecursion, flat_map-map}
+use Rattle.bt_lines.proofs.Std.{◌≡◌, ◌||◌, ℕ, suc, ◌+◌, ◌≤◌, Bool, true, false, List, [], ◌∷◌, ◌++◌, map, length, Option, Some, None, refl, sym, ap, ap₂, ◌∙◌, arith, eqb, flat_map, if◌then◌else◌, list_all, list_any, option_or, ends_with_byte, All-head, All-nil, All-tail, ◌<◌, Result, subst, is_some, AllByRecursion, flat_map-map}
 use Rattle.bt_lines.specs.model.Fault.{FaultValue, read_failed}
 use Rattle.bt_lines.specs.model.Lines.{Handed, cut_fault, lines_handed, whole_text, TextLine, end_bytes, text_lines, whole_lines}
 use Rattle.bt_lines.specs.calls.Line.{NoLineFeed}
@@ -8,9 +8,8 @@ use Rattle.bt_lines.specs.declared.fault.Input.TheVariants.{First, Second}
 use Rattle.bt_bed.specs.model.Feature.{Feature, intervals_of, Interval, spans_on}
 use Rattle.bt_bed.specs.model.BedLine.{record_of}
 use Rattle.bt_bed.specs.model.Genome.{Entry}
-use Rattle.bt_bed.specs.model.Good.{Good, good, items_in, or_else, block_good, good_from, good_with, block_format, bed_format, bed_good, line_says, locus_at, said_after}
+use Rattle.bt_bed.specs.model.Good.{Good, good, items_in, or_else, block_good, good_from, good_with, block_format, bed_format, bed_good, line_says, said_after}
 use Rattle.bt_bed.specs.model.Meeting.{Met, Rule, join_report, written}
-use Rattle.std.specs.Char.{is_ascii_uppercase}
 use Rattle.bt_seq.specs.model.Masked.{covers, decided, mask_met, mask_rule, masked_byte, masked_from, masked_line, masked_text, names_of, no_sequence, own_records, SequenceLine, is_header, sequence_format, sequence_good, bases_up_to}
 use Rattle.bt_seq.specs.declared.mask.mask_how.MaskHow.{MaskHow}
 use Rattle.bt_seq.specs.declared.mask.mask_how.MaskHow.TheVariants.{Soft, Hard}
@@ -25,17 +24,14 @@ use Rattle.bt_laws.proofs.lemmas.same.SameRuns.{report_there, writes_is, back, r
 use Rattle.bt_laws.proofs.lemmas.pipes.LinesBack.{ends_both, IsSaid, good_are_said}
 use Rattle.bt_laws.proofs.lemmas.parts.PartSweep.{all_true}
 use Rattle.bt_laws.proofs.lemmas.Lists.{all_any, flat_map_same, all_so}
-use Rattle.bt_laws.proofs.lemmas.same.SameSweeps.{cut_none, leave_alike, own_alike, uncut}
-use Rattle.bt_tool.proofs.lemmas.running.members.CursorLemmas.{or_else_none}
+use Rattle.bt_laws.proofs.lemmas.same.SameSweeps.{cut_none, leave_alike, own_alike}
 use Rattle.bt_lines.specs.declared.fault.Input.{Input}
 use Rattle.bt_lines.specs.declared.fault.Kind.{Kind}
-use Rattle.bt_lines.specs.declared.fault.Kind.TheVariants.{OutOfOrder, UnknownChrom}
-use Rattle.bt_bed.specs.model.Sorted.{AreContiguous, ArePlaced, Locus, block_sorting, falls_in, sorting_of}
+use Rattle.bt_bed.specs.model.Sorted.{AreContiguous, ArePlaced, Locus, block_sorting, sorting_of}
 use Rattle.bt_bed.specs.model.Order.{Order, IsTotal}
-use Rattle.std.specs.Ordering.{is_lt}
 use Rattle.bt_bed.proofs.lemmas.Definitions.{placed_good}
 use Rattle.bt_bed.proofs.lemmas.order.OrderLemmas.{placed_contiguous}
-use Rattle.bt_runs.specs.model.Merged.{counted, chromosomes, runs_of, ordered_runs}
+use Rattle.bt_runs.specs.model.Merged.{counted, chromosomes, ordered_runs}
 use Rattle.bt_runs.specs.declared.merge.merge_strand.MergeStrand.TheVariants.{All}
 use Rattle.bt_seq.proofs.lemmas.definitions.KnowsLemmas.{leave}
 use Rattle.bt_laws.specs.Pipes.{IsInput, three_columns}
@@ -49,21 +45,6 @@ use Rattle.bt_laws.proofs.lemmas.parts.PartTexts.{order_total}
 abbrev IsNot : MaskHow → ℕ → Type 0
 IsNot Soft byte = Unit {0}
 IsNot (Hard mask) byte = mask ≡ byte → ⊥
-
-soft_by : (upper : Bool) (base byte : ℕ) → is_ascii_uppercase base ≡ upper → byte ≤ 64 → eqb base byte ≡ false → eqb (if upper then base + 32 else base) byte ≡ false
-soft_by upper base byte e low other = grind arith
-
-masked_not : (how : MaskHow) (base byte : ℕ) → IsNot how byte → byte ≤ 64 → eqb base byte ≡ false → eqb (masked_byte how base) byte ≡ false
-masked_not how base byte is low other = grind arith
-
-high_not : (n : ℕ) → 91 ≤ n → is_ascii_uppercase n ≡ false
-high_not n h = grind arith
-
-twice_by : (upper : Bool) (base : ℕ) → is_ascii_uppercase base ≡ upper → (if is_ascii_uppercase (if upper then base + 32 else base) then (if upper then base + 32 else base) + 32 else (if upper then base + 32 else base)) ≡ (if upper then base + 32 else base)
-twice_by upper base e = grind arith
-
-pub masked_again : (how : MaskHow) (base : ℕ) → masked_byte how (masked_byte how base) ≡ masked_byte how base
-masked_again how base = grind arith
 
 -- ---- masked bases
 
@@ -96,9 +77,6 @@ module _ (how : MaskHow) (keeps : KeepsLines how) where
     clear_from : (position : ℕ) (bases : List ℕ) → NoLineFeed bases → NoLineFeed (masked_from how records position bases)
     clear_from position [] h = All-nil (λ b. eqb b 10 ≡ false)
     clear_from position (base ∷ bases) h = grind (arith, (clear_from (suc position) bases (All-tail (λ b. eqb b 10 ≡ false) base bases h)), All-head)
-
-    pub header_from : (position : ℕ) (bases : List ℕ) → is_header bases ≡ false → is_header (masked_from how records position bases) ≡ false
-    header_from position bases e = grind arith
 
     last_from : (position : ℕ) (bases : List ℕ) → ends_with_byte 13 bases ≡ false → ends_with_byte 13 (masked_from how records position bases) ≡ false
     last_from position [] e = e
@@ -268,10 +246,6 @@ module _ (how : MaskHow) where
   pub same_line : (rs ss : List Feature) (line : SequenceLine) → ((p : ℕ) → line.before ≤ p → p < bases_up_to line → list_any (covers p) (own_records line.names rs) ≡ list_any (covers p) (own_records line.names ss)) → masked_line how rs line ≡ masked_line how ss line
   same_line rs ss line e = ap (λ t. t ++ end_bytes line.ending) (same_by (is_header line.text) (own_records line.names rs) (own_records line.names ss) line.before line.text e)
 
-  -- one mask and then another
-  base_both : (one two : Bool) (base : ℕ) → (if two then masked_byte how (if one then masked_byte how base else base) else (if one then masked_byte how base else base)) ≡ (if one || two then masked_byte how base else base)
-  base_both one two base = grind arith
-
   both_from : (rs ss ts : List Feature) (position : ℕ) (bases : List ℕ) → ((p : ℕ) → position ≤ p → p < position + length bases → list_any (covers p) ts ≡ (list_any (covers p) rs || list_any (covers p) ss)) → masked_from how ss position (masked_from how rs position bases) ≡ masked_from how ts position bases
   both_from rs ss ts position [] e = refl
   both_from rs ss ts position (base ∷ bases) e = grind (arith, (both_from rs ss ts (suc position) bases (λ p from to. e p (omega (arith, from)) (omega (arith, to)))))
@@ -332,24 +306,12 @@ goes_on how next full inputs other chromosomes keeps one two =
 
 -- ---- records in an order, read in blocks
 
-falls_by : (same : Bool) (start other : ℕ) (less : Bool) → (if same then ltb start other else less) ≡ false → (if same then ltb start other else false) ≡ false
-falls_by same start other less e = grind arith
-
-no_fall : (order : Order) (last : Option Locus) (place : Locus) → falls_in (sorting_of order) last place ≡ false → falls_in block_sorting last place ≡ false
-no_fall order last place e = grind arith
-
 -- the same records, and no fault
 record IsLike (one other : Good Feature) : Type 0 where
   items : items_in other ≡ items_in one
   faultless : other.fault ≡ None
 
 module _ (order : Order) (one other : Input) where
-  record_by : (knows falls block_falls : Bool) (n : ℕ) (last : Option Locus) (r : Feature) (ls ms : Option Locus → Good Feature) → (falls ≡ false → block_falls ≡ false)
-      → ((now : Option Locus) → (ls now).fault ≡ None → IsLike (ls now) (ms now))
-      → (good_with (bed_format (sorting_of order)) one n last (if knows then (if falls then Err OutOfOrder else Ok (Some r)) else Err UnknownChrom) ls).fault ≡ None
-      → IsLike (good_with (bed_format (sorting_of order)) one n last (if knows then (if falls then Err OutOfOrder else Ok (Some r)) else Err UnknownChrom) ls) (good_with block_format other n last (if block_falls then Err OutOfOrder else Ok (Some r)) ms)
-  record_by knows falls block_falls n last r ls ms within h e = grind arith
-
   line_by : (n : ℕ) (last : Option Locus) (said : Result (Option Feature) Kind) (ls ms : Option Locus → Good Feature)
       → ((now : Option Locus) → (ls now).fault ≡ None → IsLike (ls now) (ms now))
       → (good_with (bed_format (sorting_of order)) one n last (said_after (sorting_of order) last said) ls).fault ≡ None

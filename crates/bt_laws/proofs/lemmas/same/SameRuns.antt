@@ -1,7 +1,6 @@
 -- Records that differ in their order, or in one that comes twice.
 use Rattle.std.proofs.lemmas.Grind.{common_steps}
-use Rattle.bt_lines.proofs.Std.{◌≡◌, inl, inr, ◌||◌, ℕ, ◌+◌, ◌<◌, Bool, true, false, cond, not, List, [], ◌∷◌, ◌++◌, map, filter, Option, refl, sym, ap, ◌∙◌, subst, arith, ◌≢◌, bytes_eq, flat_map, sum_by, IsPermutation, IsTrue, map-append, filter-append, AllByRecursion, list_any, cases_Bool, list_any-IsPermutation, sum_by-IsPermutation, sum_by-cons, append-nil, Some, None, Ok, ap₂, length, or_parts}
-use Rattle.std.specs.declared.cmp.Ordering.TheVariants.{Less, Equal}
+use Rattle.bt_lines.proofs.Std.{◌≡◌, inl, inr, ◌||◌, ℕ, ◌+◌, ◌<◌, Bool, true, false, cond, not, List, [], ◌∷◌, ◌++◌, map, filter, Option, refl, sym, ap, ◌∙◌, subst, arith, ◌≢◌, bytes_eq, flat_map, sum_by, IsPermutation, IsTrue, map-append, filter-append, AllByRecursion, list_any, cases_Bool, list_any-IsPermutation, sum_by-IsPermutation, sum_by-cons, append-nil, None, Ok, ap₂, length, or_parts}
 use Rattle.bt_lines.specs.declared.fault.Input.TheVariants.{First}
 use Rattle.bt_bed.specs.model.Sorted.{ArePlaced, has_records}
 use Rattle.bt_bed.proofs.lemmas.Definitions.{placed_good}
@@ -20,7 +19,7 @@ use Rattle.bt_bed.specs.model.Order.{Order, IsTotal, is_among, AreDistinct}
 use Rattle.bt_bed.specs.declared.record.strand.Strand.{Strand}
 use Rattle.bt_runs.specs.model.Merged.{counted, is_counted, chromosomes, merged, runs_on, in_order, ordered_runs, without, runs_of}
 use Rattle.bt_runs.specs.model.Depth.{coverage, depth_at, depth_lines, depth_of, depth_on, depths_on, is_counted_by, reported}
-use Rattle.bt_runs.specs.model.Gaps.{complement, gaps_on, is_asked}
+use Rattle.bt_runs.specs.model.Gaps.{complement}
 use Rattle.bt_laws.specs.Runs.{AreKnown}
 use Rattle.bt_runs.specs.declared.merge.merge_strand.MergeStrand.{MergeStrand}
 use Rattle.bt_runs.specs.declared.merge.merge_strand.MergeStrand.TheVariants.{All, Each, One}
@@ -29,7 +28,7 @@ use Rattle.bt_tool.specs.declared.planning.plan_type.Command.TheVariants.{Comple
 use Rattle.bt_laws.specs.WholeRuns.{RunsWithoutFault, first_records, RunWrites, piped}
 use Rattle.bt_laws.specs.Same.{IsRepeated, exchanged_complement, exchanged_genomecov, exchanged_merge, repeated_complement, repeated_merge, complement_of_merge, merge_of_merge}
 use Rattle.bt_laws.proofs.lemmas.pipes.PipeLaws.{SameCover, depth_both, same_by_depth, same_gaps, same_levels, same_runs, complement_whole, genomecov_whole, merge_whole, runs_again, runs_cover}
-use Rattle.bt_laws.proofs.lemmas.Lists.{EachPair, all_any, filter_all, filter_same, flat_map_same, all_filter, all_map, all_so}
+use Rattle.bt_laws.proofs.lemmas.Lists.{EachPair, all_any, filter_all, flat_map_same, all_filter, all_map, all_so}
 use Rattle.bt_laws.proofs.lemmas.parts.PartTexts.{order_total}
 use Rattle.bt_lines.specs.model.Fault.{FaultValue}
 use Rattle.bt_lines.specs.model.Lines.{whole_text}
@@ -40,12 +39,6 @@ use Rattle.bt_tool.specs.declared.planning.plan_type.Command.{Command}
 use Rattle.bt_laws.specs.Pipes.{IsInput, three_columns}
 
 -- ---- what comes twice
-
-or_twice : (a b : Bool) → (a || b) ≡ (a || (a || b))
-or_twice a b = grind arith
-
-or_swap : (a b c : Bool) → (a || (b || c)) ≡ (b || (a || c))
-or_swap a b c = grind arith
 
 any_twice : (q : Feature → Bool) (before : List Feature) (r : Feature) (after : List Feature) → list_any q (before ++ r ∷ after) ≡ (q r || list_any q (before ++ r ∷ after))
 any_twice q before r after = grind (arith, common_steps)
@@ -125,9 +118,6 @@ among_first : (n : List ℕ) (ns : List (List ℕ)) → is_among (n ∷ ns) n �
 among_first n ns = ap (λ b. b || is_among ns n) (name_eq n n refl)
 
 module _ (order : Order) (total : IsTotal order) where
-  not_before : (n : List ℕ) → IsTrue (order.knows n) → Earlier order n n → ⊥
-  not_before n known less = let apart : Less ≡ Equal = sym less ∙ total.same n known in cc
-
   not_among : (n : List ℕ) (ns : List (List ℕ)) → IsTrue (order.knows n) → AllByRecursion (Earlier order n) ns → is_among ns n ≡ false
   not_among n ns known later = grind (arith, among_so)
 

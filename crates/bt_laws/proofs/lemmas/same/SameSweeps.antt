@@ -1,16 +1,16 @@
 -- Which runs of intersect and subtract write the same lines.
-use Rattle.bt_lines.proofs.Std.{◌≡◌, ℕ, Bool, true, false, cond, List, [], ◌∷◌, ◌++◌, map, filter, length, Option, Result, Ok, Err, refl, sym, ap, ap₂, ◌∙◌, subst, arith, decimal, ◌&&◌, suc, ◌-◌, ◌<◌, ◌≤◌, max, min, Some, None, inl, inr, ltb, lt-ltb, ne_eqb, cases_Bool, flat_map, if◌then◌else◌, nat_lt, replicate, ◌==◌, bytes_eq, list_all, AllByRecursion, option_or, map-id, ◌||◌, not, leb, list_any, or_parts, list_any-append}
-use Rattle.bt_lines.specs.model.Fault.{FaultValue, read_failed}
-use Rattle.bt_lines.specs.model.Lines.{Handed, cut_fault, lines_handed, whole_text, TextLine, whole_lines}
+use Rattle.bt_lines.proofs.Std.{◌≡◌, ℕ, Bool, true, false, cond, List, [], ◌∷◌, ◌++◌, map, filter, length, Option, Result, Ok, Err, refl, sym, ap, ap₂, ◌∙◌, subst, arith, decimal, ◌-◌, ◌<◌, ◌≤◌, max, min, Some, None, inl, inr, cases_Bool, flat_map, nat_lt, replicate, ◌==◌, bytes_eq, AllByRecursion, map-id, list_any, or_parts, list_any-append}
+use Rattle.bt_lines.specs.model.Fault.{FaultValue}
+use Rattle.bt_lines.specs.model.Lines.{Handed, cut_fault, lines_handed, whole_text, TextLine}
 use Rattle.bt_lines.specs.declared.fault.Input.TheVariants.{First, Second}
 use Rattle.bt_bed.specs.model.Feature.{Feature, interval_of, intervals_of, Interval, span_of, spans_on}
 use Rattle.bt_bed.specs.model.Positions.{IsCovered}
 use Rattle.bt_bed.specs.model.BedLine.{bed_text, interval_lines}
 use Rattle.bt_bed.specs.model.Genome.{Entry}
 use Rattle.bt_bed.specs.model.Good.{Good, items_in, good, good_from, good_with, or_else, bed_good, bed_format, line_says}
-use Rattle.bt_bed.specs.model.Meeting.{Met, Rule, join_report, written}
+use Rattle.bt_bed.specs.model.Meeting.{join_report, written}
 use Rattle.bt_bed.specs.model.Order.{Order, is_among}
-use Rattle.bt_sweep.specs.model.Hits.{hits_among, any_overlap, hits, shared_bases, strands_agree, limited}
+use Rattle.bt_sweep.specs.model.Hits.{hits_among, any_overlap, hits, strands_agree}
 use Rattle.bt_sweep.specs.model.Lines.{hit_line, intersect, line_with, lines_for, lines_of, piece_line, sweep_rule, IsLeft, pieces, spans_of}
 use Rattle.bt_sweep.specs.declared.hits.hit_rule.HitRule.{HitRule}
 use Rattle.bt_sweep.specs.declared.output.shape.Shape.{Shape}
@@ -21,14 +21,14 @@ use Rattle.bt_tool.specs.declared.planning.plan_type.Command.TheVariants.{Inters
 use Rattle.bt_laws.specs.WholeRuns.{RunsWithoutFault, first_records, second_records, RunWrites, of_second, with_second}
 use Rattle.bt_laws.specs.Same.{Counted, counts_say_all, missing_is_whole, own_line, merged_second_missing, merged_second_once, merged_second_subtract, one_base}
 use Rattle.bt_laws.proofs.lemmas.Lists.{all_any, flat_map_same, map_map, all_so}
-use Rattle.bt_laws.proofs.lemmas.parts.PartSweep.{written_same, all_true}
-use Rattle.bt_laws.proofs.lemmas.pipes.PipeLaws.{intersect_whole, limit_whole, subtract_whole, well_there, either_met, either_fault, SameCover, runs_cover, same_sym}
+use Rattle.bt_laws.proofs.lemmas.parts.PartSweep.{all_true}
+use Rattle.bt_laws.proofs.lemmas.pipes.PipeLaws.{intersect_whole, limit_whole, subtract_whole, well_there, SameCover, runs_cover, same_sym}
 use Rattle.bt_lines.specs.declared.fault.Input.{Input}
 use Rattle.bt_lines.specs.declared.fault.Kind.{Kind}
 use Rattle.bt_bed.specs.model.Sorted.{Locus, Sorting, sorting_of, AreContiguous, IsFollowed, has_records}
 use Rattle.bt_bed.proofs.lemmas.Definitions.{placed_good}
 use Rattle.bt_bed.proofs.lemmas.parse.NameLemmas.{cases_name, name_eq, name_ne-sym}
-use Rattle.bt_runs.specs.model.Merged.{counted, runs_of, ordered_runs, chromosomes, is_covered, without}
+use Rattle.bt_runs.specs.model.Merged.{ordered_runs, chromosomes, is_covered, without}
 use Rattle.bt_runs.specs.declared.merge.merge_strand.MergeStrand.TheVariants.{All}
 use Rattle.bt_runs.proofs.lemmas.order.FileOrder.{spans_on-here, spans_on-elsewhere, among_chromosomes, same_chromosome, without_absent}
 use Rattle.bt_sweep.proofs.lemmas.definitions.PieceLemmas.{are_pieces, only_pieces}
@@ -42,21 +42,11 @@ use Rattle.bt_laws.proofs.lemmas.pipes.LinesBack.{IsSaid, good_are_said}
 use Rattle.bt_laws.proofs.lemmas.pipes.SweepBack.{Hit, all_hits, cut_bounds, same_name}
 use Rattle.bt_laws.proofs.lemmas.parts.PartTexts.{order_total}
 use Rattle.bt_runs.proofs.lemmas.merge.Bridging.{is_covered-Decides}
-use Rattle.bt_seq.specs.model.Masked.{covers, Block, Owned, block_with, blocks_by, items_if_last, left_at_last, left_by, own_records, owned_from}
+use Rattle.bt_seq.specs.model.Masked.{covers, Block, Owned, blocks_by, items_if_last, left_at_last, left_by, own_records, owned_from}
 use Rattle.bt_seq.proofs.lemmas.definitions.KnowsLemmas.{leave, leave_all}
 use Rattle.bt_laws.proofs.lemmas.pipes.Placing.{others}
 
 -- ---- two shapes that write the same lines of each record
-
-abbrev met_by : Bool → List ℕ → List ℕ → Option FaultValue → Option FaultValue → Option FaultValue → Met ℕ FaultValue
-met_by b lines other fault last stop = if b then record { lines = lines; fault = option_or fault last } else record { lines = other; fault = stop }
-
-meet_same : (mine yours : Rule Feature ℕ FaultValue) (members : List Feature) (fault : Option FaultValue) → mine.decided ≡ yours.decided → mine.fault ≡ yours.fault → mine.last ≡ yours.last → ((a : Feature) → mine.lines a ≡ yours.lines a)
-    → join_report mine members fault ≡ join_report yours members fault
-meet_same mine yours members fault decided stop last lines = grind arith
-
-missing_lines : (rule : HitRule) (a : Feature) (found : List Feature) → lines_of Missing a found ≡ lines_of Whole a found
-missing_lines rule a found = grind arith
 
 missing_met : (order : Order) (rule : HitRule) (limit : Option ℕ) (first second : Good Feature) → met_within order Missing rule limit first second ≡ met_within order Whole rule limit first second
 unfolding lines_for
@@ -71,12 +61,6 @@ unfolding report_of
 missing_whole rule held inputs = same_report_on rule held (chromosomes_of inputs.genome) inputs.first inputs.second
 
 -- ---- the fault doesn't depend on the shape
-
-fault_by : (b : Bool) (l m k n : List ℕ) (fault last stop : Option FaultValue) → (met_by b l m fault last stop).fault ≡ (met_by b k n fault last stop).fault
-fault_by b l m k n fault last stop = grind arith
-
-same_fault : (order : Order) (one other : Shape) (rule : HitRule) (limit : Option ℕ) (first second : Good Feature) → (met_within order one rule limit first second).fault ≡ (met_within order other rule limit first second).fault
-same_fault order one other rule limit first second = grind arith
 
 pub other_shape : (one other : Shape) (rule : HitRule) (held : Option ℕ) (inputs : Inputs) (chromosomes : Option (List Entry)) → RunsWithoutFault (Intersect one rule held) inputs chromosomes → RunsWithoutFault (Intersect other rule held) inputs chromosomes
 unfolding report_of
@@ -155,9 +139,6 @@ any_hits a b same some = grind (arith, name_eq, enough_of_nothing)
 first_or : (a b : Feature) (bs : List Feature) (p : ℕ) → IsCovered (spans_of (b ∷ hits_among any_overlap a bs)) p → (IsCovered (spans_of (hits_among any_overlap a bs)) p → IsCovered (spans_on a.chrom (intervals_of bs)) p) → IsCovered (span_of (interval_of b) ∷ spans_on a.chrom (intervals_of bs)) p
 first_or a b bs p p1 more = grind arith
 
-wider : (name : List ℕ) (b : Feature) (bs : List Feature) (p : ℕ) → IsCovered (spans_on name (intervals_of bs)) p → IsCovered (spans_on name (intervals_of (b ∷ bs))) p
-wider name b bs p c = grind arith
-
 longer : (a b : Feature) (bs : List Feature) (p : ℕ) → IsCovered (spans_of (hits_among any_overlap a bs)) p → IsCovered (spans_of (hits_among any_overlap a (b ∷ bs))) p
 longer a b bs p c = grind arith
 
@@ -230,12 +211,6 @@ intersect_sees shape see first bs cs one two same = flat_map_same (λ a. lines_f
 
 -- ---- a run by another second input
 
-none_by : (b : Bool) (lines other : List ℕ) (one fault : Option FaultValue) → one ≡ None → fault ≡ None → (either_met b lines other one fault).fault ≡ None
-none_by b lines other one fault e f = grind arith
-
-alone_none : (b : Bool) (lines other : List ℕ) (one : Option FaultValue) → b ≡ true → (either_met b lines other one None).fault ≡ None → one ≡ None
-alone_none b lines other one e f = grind arith
-
 first_none : (order : Order) (shape : Shape) (rule : HitRule) (first : Good Feature) (second : List Feature) (fault : Option FaultValue) → fault ≡ None → (join_report (sweep_rule order shape rule second fault) (items_in first) first.fault).fault ≡ None → first.fault ≡ None
 first_none order shape rule first second fault none e = grind (arith, all_true, all_any)
 
@@ -260,9 +235,6 @@ like_from sorting one other last (line ∷ lines) e =
 
 pub cut_none : (fault cut : Option FaultValue) → or_else fault cut ≡ None → (fault ≡ None) × (cut ≡ None)
 cut_none fault cut e = grind arith
-
-pub uncut : (is_cut : Bool) (one other : FaultValue) → (if is_cut then Some one else None) ≡ None → (if is_cut then Some other else None) ≡ None
-uncut is_cut one other e = grind arith
 
 pub other_input : (order : Order) (handed : Handed) → (bed_good Second order handed).fault ≡ None → (items_in (bed_good First order handed) ≡ items_in (bed_good Second order handed)) × ((bed_good First order handed).fault ≡ None)
 other_input order handed e =
@@ -377,17 +349,10 @@ none_on : (name : List ℕ) (rs : List Feature) → has_records name (intervals_
 none_on name [] e = refl
 none_on name (r ∷ rs) e = grind (arith, (none_on name rs (or_parts (bytes_eq r.chrom name) (has_records name (intervals_of rs)) e).1))
 
-not_false : (b : Bool) → not b ≡ true → b ≡ false
-not_false b e = grind arith
-
 without_others : (n : List ℕ) (ns : List (List ℕ)) → AllByRecursion (λ m. bytes_eq n m ≡ false) (without n ns)
 without_others n ns = grind (arith, all_so, name_ne-sym, kept_pass)
 
 -- ---- one block for each chromosome
-
--- the blocks with one more record before them
-abbrev before_by : Bool → Feature → List Feature → List ℕ → List (Block Feature) → List (Block Feature)
-before_by b r items name more = if b then record { chrom = name; items = r ∷ items } ∷ more else record { chrom = r.chrom; items = r ∷ [] } ∷ record { chrom = name; items = items } ∷ more
 
 followed : (r s : Feature) (ss : List Feature) → IsFollowed (interval_of r) (intervals_of (s ∷ ss)) → blocks (s ∷ ss) ≡ map (block_of (s ∷ ss)) (chromosomes (intervals_of (s ∷ ss)))
     → blocks (r ∷ s ∷ ss) ≡ map (block_of (r ∷ s ∷ ss)) (chromosomes (intervals_of (r ∷ s ∷ ss)))
@@ -417,13 +382,7 @@ covers_on : (p : ℕ) (name : List ℕ) (rs : List Feature) → list_any (covers
 covers_on p name [] = refl
 covers_on p name (r ∷ rs) = grind (arith, (covers_on p name rs))
 
-both_ways : (a b : Bool) → (a ≡ true → b ≡ true) → (b ≡ true → a ≡ true) → a ≡ b
-both_ways a b to back = grind arith
-
 module _ (rs ss : List Feature) where
-  if_last : (p : ℕ) (left : Option (List (List ℕ))) (xs ys : List Feature) → list_any (covers p) xs ≡ list_any (covers p) ys → list_any (covers p) (items_if_last left xs) ≡ list_any (covers p) (items_if_last left ys)
-  if_last p left xs ys e = grind arith
-
   abbrev own_of : List (Owned Feature) → List Feature
   own_of os = flat_map (λ (o : Owned Feature). items_if_last o.left o.block.items) os
 

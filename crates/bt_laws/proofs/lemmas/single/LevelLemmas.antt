@@ -1,18 +1,16 @@
 -- A scan of the positions finds the intervals of equal value, and no other list has them; scans in parts, and scans that see the same values.
-use Rattle.bt_lines.proofs.Std.{◌≡◌, ℕ, zero, suc, ◌+◌, ◌<◌, ◌≤◌, inl, inr, List, [], ◌∷◌, ◌++◌, refl, sym, ap, ap₂, ◌∙◌, subst, arith, map, cond, Bool, true, false, ◌==◌, Option, Some, None, IsTrue, cases_Bool, cases_lt, cases_eq, cond-true, eq-eqb, eqb-true, filter, flat_map, length, not, ◌||◌, nat_lt, cond-false, lt-ltb, ltb-false, not-true, or_left, map-append, filter-append, min}
-use Rattle.bt_bed.specs.model.Feature.{Span, Feature, intervals_of, Interval, placed_on, spans_on, last_of}
+use Rattle.bt_lines.proofs.Std.{◌≡◌, ℕ, zero, suc, ◌+◌, ◌<◌, ◌≤◌, inl, inr, List, [], ◌∷◌, ◌++◌, refl, sym, ap, ◌∙◌, subst, arith, map, Bool, true, ◌==◌, Option, Some, None, cases_Bool, cases_lt, eq-eqb, eqb-true, filter, flat_map, map-append, filter-append}
+use Rattle.bt_bed.specs.model.Feature.{Span, Feature, intervals_of, Interval, placed_on}
 use Rattle.bt_bed.specs.model.Positions.{AreApartFrom, IsCovered}
 use Rattle.bt_laws.specs.Runs.{AreDisjointFrom, DiffersFromNext, HasValue, level_on, levels_are, levels_only, stretches_are_levels, covered_have_depth, gaps_are_levels, gaps_have_depth_0, interval_at, is_bare, one_value, touching_runs_are_levels, runs_are_levels, one_place_is_kept}
-use Rattle.bt_runs.specs.model.Depth.{Begun, Level, begun_after, ended_after, ended_at, levels_from, levels_of, next_begun, next_ended, DepthInterval, coverage, covers, depth_at, depth_of, depth_on, depths_on}
+use Rattle.bt_runs.specs.model.Depth.{Begun, Level, begun_after, ended_after, levels_from, levels_of, next_begun, next_ended, DepthInterval, coverage, depth_of, depth_on, depths_on}
 use Rattle.bt_runs.proofs.lemmas.coverage.LevelLemmas.{levels_more}
 use Rattle.bt_bed.specs.model.Genome.{Entry}
-use Rattle.bt_runs.specs.model.Gaps.{complement, gaps_of, gaps_on, is_asked, kept_place, length_in}
-use Rattle.bt_runs.specs.model.Merged.{Bridged, is_bridged, is_covered, runs_of, end_of}
+use Rattle.bt_runs.specs.model.Gaps.{complement, gaps_of, gaps_on, kept_place}
+use Rattle.bt_runs.specs.model.Merged.{Bridged, is_covered, runs_of}
 use Rattle.bt_runs.proofs.lemmas.complement.Walks.{are_gaps, is_bare-Decides}
 use Rattle.bt_runs.proofs.lemmas.merge.Bridging.{are_runs, covered_below_end, is_bridged-Decides, is_covered-Decides, bridged_here}
 use Rattle.bt_runs.proofs.lemmas.definitions.Standing.{each_all, filter_keeps}
-use Rattle.std.specs.Option.{option_map_or}
-use Rattle.bt_bed.specs.model.Sorted.{Locus}
 use Rattle.bt_runs.proofs.lemmas.merge.SettledRuns.{few, whole_taken}
 use Rattle.bt_runs.proofs.lemmas.merge.StrandListing.{are_listed}
 use Rattle.bt_runs.proofs.lemmas.merge.StrandSettling.{strand_runs_are_all}
@@ -87,10 +85,6 @@ pub looser : (f g : ℕ) (xs : List Level) → g ≤ f → AreDisjointFrom f xs 
 looser f g [] h d = tt
 looser f g (x ∷ xs) h d = (omega (arith, d.0), d.1, d.2, d.3)
 
--- what has begun ends here
-ended_scans : (value : ℕ → Option ℕ) (first p : ℕ) (begun : Option Begun) → IsBegun value first p begun → IsScanOf value first p (ended_at begun p)
-ended_scans value first p begun b = grind arith
-
 differs_before : (value : ℕ → Option ℕ) (begun : Begun) (p end : ℕ) (rest : List Level) → ((v : ℕ) → value p ≡ Some v → begun.value ≡ v → ⊥) → IsScanOf value p end rest → DiffersFromNext (record { start = begun.start; stop = p; value = begun.value }) rest
 differs_before value begun p end [] other scan = tt
 differs_before value begun p end (m ∷ ms) other scan = λ touch same.
@@ -164,9 +158,6 @@ apart_differs s (t ∷ ts) a = λ touch same. omega (arith, a.0)
 apart_disjoint : (first second : ℕ) (spans : List Span) → second ≤ first → AreApartFrom first spans → AreDisjointFrom second (map (level_on 0) spans)
 apart_disjoint first second [] h a = tt
 apart_disjoint first second (s ∷ ss) h a = (omega (arith, a.0), a.1, apart_differs s ss a.2, apart_disjoint (s.stop + 1) s.stop ss (omega arith) a.2)
-
-pub value_one : (test : Bool) (v : ℕ) → cond test (Some 0) None ≡ Some v → (IsTrue test) × (0 ≡ v)
-value_one test v e = grind arith
 
 pub levels_of_stretches : stretches_are_levels
 levels_of_stretches test size spans h = grind (arith, only_levels, (apart_disjoint 0 0 spans (omega arith) h.apart), level_covered, covered_level)
@@ -283,10 +274,6 @@ unfolding complement coverage no_depth
 gaps_depth_0 entries records = grind (arith, (filter_keeps (λ e. true) entries (each_all (λ e. true ≡ true) (λ e. refl) entries)), (gaps_on_all records entries))
 
 -- Lemmas on what is kept beside what is settled.
-
--- the kept place is one, or none
-kept_one : (place : Interval → Locus) (o : Option Interval) → length (option_map_or (λ last. place last ∷ []) o []) ≤ 1
-kept_one place o = grind arith
 
 pub one_kept : one_place_is_kept
 unfolding kept_place

@@ -1,16 +1,16 @@
 -- Lemmas on lines, records and their orders.
-use Rattle.bt_lines.proofs.Std.{◌≡◌, ℕ, Bool, true, false, cond, List, [], ◌∷◌, Option, Some, None, Result, Ok, Err, refl, sym, ap, ◌∙◌, ⊤, ◌≢◌, IfSome, nat_lt, length, arith, zero, suc, ◌+◌, ◌<◌, ◌≤◌, take, ◌++◌, append_assoc, append-nil, IfErr, ◌==◌, ◌||◌, ltb, leb, decimal, lt-ltb, nat_tests, decimal_is_IsNumeral, All-cons, digit_from_value, is_ascii_digit, IsInRange, AllByRecursion, list_all, AllDigits, digits_value, false≢true, nat_cmp_total, tied_itself, slice_cmp, nat_cmp, ordering_then, IsTrue, ◌⊎◌, inl, inr, bytes_eq, or_parts, or_from}
-use Rattle.bt_lines.specs.model.Fault.{FaultValue, read_failed}
-use Rattle.bt_lines.specs.model.Lines.{cut_fault, lines_handed, TextLine, pieces, value_of, text_lines, AreNumbered}
+use Rattle.bt_lines.proofs.Std.{◌≡◌, ℕ, Bool, true, false, cond, List, [], ◌∷◌, Option, Some, None, Result, Ok, Err, refl, sym, ap, ◌∙◌, ⊤, ◌≢◌, IfSome, length, arith, zero, suc, ◌+◌, ◌<◌, ◌≤◌, take, ◌++◌, append_assoc, append-nil, IfErr, decimal, lt-ltb, decimal_is_IsNumeral, All-cons, digit_from_value, is_ascii_digit, IsInRange, AllByRecursion, list_all, AllDigits, digits_value, false≢true, nat_cmp_total, tied_itself, slice_cmp, nat_cmp, ordering_then, IsTrue, ◌⊎◌, inl, inr, bytes_eq, or_parts, or_from}
+use Rattle.bt_lines.specs.model.Fault.{FaultValue}
+use Rattle.bt_lines.specs.model.Lines.{lines_handed, TextLine, pieces, value_of, text_lines, AreNumbered}
 use Rattle.bt_lines.specs.declared.fault.Input.{Input}
 use Rattle.bt_lines.specs.declared.fault.Kind.{Kind}
-use Rattle.bt_lines.specs.declared.fault.Kind.TheVariants.{EmptyFeature, OutOfOrder, UnknownChrom}
+use Rattle.bt_lines.specs.declared.fault.Kind.TheVariants.{OutOfOrder, UnknownChrom}
 use Rattle.bt_bed.specs.model.Feature.{Feature, Interval, last_from}
-use Rattle.bt_bed.specs.model.BedLine.{is_header, columns_say, feature_of, not_skipped, record_of, ends_word, first_word, is_header_word, IsFeature, bed_text, columns_in, kept_columns, said_are_features}
-use Rattle.bt_bed.specs.model.Good.{Good, good_from, good_with, or_else, line_says, locus_at, said_after, block_format, block_good, bed_format}
+use Rattle.bt_bed.specs.model.BedLine.{is_header, columns_say, not_skipped, record_of, ends_word, first_word, IsFeature, bed_text, columns_in, kept_columns, said_are_features}
+use Rattle.bt_bed.specs.model.Good.{Good, good_from, good_with, line_says, said_after, block_format, bed_format}
 use Rattle.bt_bed.specs.model.Meeting.{Rule, join_report, written}
 use Rattle.bt_laws.specs.Records.{blocks_know_each_chromosome, good_stand_on_lines, first_lines_have_the_first, good_in_blocks_are_non_empty, good_in_blocks_stand_on_lines, genome_names_are_distinct, first_lines_make_entries, read_are_rewritten, written_are_read, StaysDecided, bytes_know_each_chromosome, first_difference_decides, prefixes_come_first, HasBase, HasShared, shared_are_common, stretches_are_one, contiguous_grows}
-use Rattle.bt_bed.specs.model.Sorted.{Locus, block_sorting, falls_in, sorting_of, has_records, IsFollowed, AreContiguous}
+use Rattle.bt_bed.specs.model.Sorted.{Locus, block_sorting, sorting_of, has_records, AreContiguous}
 use Rattle.bt_lines.proofs.lemmas.reader.lines.TextLemmas.{lines_are_numbered, IsColumn, IsInside}
 use Rattle.bt_bed.proofs.lemmas.read.good.SaidLemmas.{ascend_from, first_from, within_from}
 use Rattle.bt_bed.proofs.lemmas.Definitions.{non_empty_from, met_lines, written_at, stretches_are_same}
@@ -18,7 +18,6 @@ use Rattle.bt_bed.specs.calls.Reading.{IsFaultBeyond}
 use Rattle.bt_bed.specs.model.Order.{AreDistinct, byte_order}
 use Rattle.bt_bed.specs.model.Genome.{Entry, genome_names, genome_from, genome_with, new_entry, entry_of, with_entry}
 use Rattle.bt_bed.proofs.lemmas.order.TableLemmas.{distinct_push, is_new, ok_entries}
-use Rattle.bt_laws.specs.Parts.{joined}
 use Rattle.bt_bed.proofs.lemmas.read.ColumnLemmas.{kept_again}
 use Rattle.bt_bed.proofs.lemmas.parse.FeatureLemmas.{columns_of_line, record_said, said_is_feature, said_stands, whole, of_word, kept_is_cut, pieces_are_columns}
 use Rattle.std.specs.declared.cmp.Ordering.TheVariants.{Less}
@@ -38,14 +37,6 @@ Other (Err kind) = is_other kind ≡ true
 abbrev Tells : Option FaultValue → Type 0
 Tells None = ⊤
 Tells (Some fault) = is_other fault.kind ≡ true
-
-based : (t : Bool) (r : Feature) → Other (cond t (Ok r) (Err EmptyFeature))
-unfolding is_other
-based t r = grind arith
-
-feature_other : (chrom : List ℕ) (start stop : Option ℕ) (rest : List (List ℕ)) → Other (feature_of chrom start stop rest)
-unfolding is_other
-feature_other chrom start stop rest = grind arith
 
 columns_other : (columns : List (List ℕ)) → Other (columns_say columns)
 unfolding is_other
@@ -81,13 +72,6 @@ unfolding good_from
 from_other input last [] = tt
 from_other input last (line ∷ lines) =
     with_other input line.number last (line_says block_sorting last line.text) (λ now. good_from block_format input now lines) (line_other last line.text) (λ now. from_other input now lines)
-
-else_other : (one other : Option FaultValue) → Tells one → Tells other → Tells (or_else one other)
-else_other one other h k = grind arith
-
-cut_by : (t : Bool) (input : Input) (line : ℕ) → Tells (cond t (Some (read_failed input line)) None)
-unfolding is_other
-cut_by t input line = grind arith
 
 never_unknown : (fault : Option FaultValue) → Tells fault → IfSome fault (λ fault. fault.kind ≢ UnknownChrom)
 unfolding is_other
@@ -205,9 +189,6 @@ decimal_is_column n small = digits_are_column (decimal n) (decimal_is_IsNumeral 
 
 rest_are_columns : (rest : List ℕ) → AllByRecursion IsColumn (columns_in rest)
 rest_are_columns rest = grind (arith, pieces_are_columns)
-
-of_numbers : (chrom : List ℕ) (start stop : ℕ) (rest : List (List ℕ)) → 0 < length chrom → start < stop → feature_of chrom (Some start) (Some stop) rest ≡ Ok (whole chrom start stop rest)
-of_numbers chrom start stop rest some below = grind arith
 
 -- the columns of a record's bytes
 columns_of_text : (f : Feature) → IsFeature f → pieces 9 (bed_text f) ≡ f.chrom ∷ decimal f.start ∷ decimal f.stop ∷ columns_in f.rest

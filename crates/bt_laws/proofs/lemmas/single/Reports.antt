@@ -1,13 +1,12 @@
 -- The words of a command line divide into items in one way.
-use Rattle.bt_lines.proofs.Std.{rules, ◌≡◌, ◌≢◌, ℕ, ◌+◌, ◌≤◌, Bool, true, false, List, [], ◌∷◌, ◌++◌, length, Option, Some, None, drop, refl, sym, ap, ◌∙◌, subst, arith, append_assoc, length-append, All, bytes_eq, Result, ◌↔◌, flat_map-append, All-head, All-tail, drop-append_seam, drop-length, bytes_eq-Decides}
+use Rattle.bt_lines.proofs.Std.{rules, ◌≡◌, ◌≢◌, ℕ, ◌+◌, ◌≤◌, Bool, false, List, [], ◌∷◌, ◌++◌, length, Option, Some, None, refl, arith, append_assoc, length-append, All, bytes_eq, Result, ◌↔◌, flat_map-append, All-head, All-tail, drop-append_seam, drop-length, bytes_eq-Decides}
 use Rattle.bt_tool.specs.model.Usage.{Item, IsItem, items_of, words_of, spelled, IsLongestDivision}
 use Rattle.bt_laws.specs.Reports.{AnswerIsUnique, FaultIsOfWhatIsLeft, LastItemCounts, LongestDivisionIsUnique}
-use Rattle.bt_tool.specs.model.Options.{AnswersPlan, AnswersAll, PlanSeen, asked, command_of, fault_at, last_item, options, word_fault}
+use Rattle.bt_tool.specs.model.Options.{AnswersPlan, AnswersAll, PlanSeen, asked, command_of, last_item, options, word_fault}
 use Rattle.bt_tool.specs.model.Table.{Word, Table, table_of}
 use Rattle.bt_tool.specs.declared.options.usage.Usage.{Usage}
 use Rattle.bt_tool.proofs.lemmas.Options.{items_of-item}
 use Rattle.bt_tool.proofs.lemmas.Division.{allowed, divided}
-use Rattle.bt_laws.specs.Parts.{joined}
 
 -- the words begin with the items
 abbrev Front : List Word → List Item → Type 0
@@ -49,10 +48,6 @@ longest-items_of table words items h = grind (arith, (items_of-spelled table ite
 
 pub division-unique : LongestDivisionIsUnique
 division-unique table words items = grind (arith, (items_of-IsLongest table words), (longest-items_of table words items))
-
-fault_at-none : (table : Table) (at : ℕ) (words : List Word) → fault_at table at words ≡ None
-    → words ≡ []
-fault_at-none table at words e = grind arith
 
 no_fault-all : (table : Table) (at : ℕ) (words : List Word) → word_fault table at words ≡ None
     → spelled (items_of table words) ≡ words

@@ -1,21 +1,20 @@
 -- Lemmas on alignments and masked sequences.
-use Rattle.bt_lines.proofs.Std.{rules, ◌≡◌, ℕ, ◌<◌, ◌≤◌, Bool, true, false, cond, List, [], ◌∷◌, ◌++◌, length, Option, Some, None, refl, sym, ap, ◌∙◌, length-append, arith, bytes_eq, append_cancel_right, ◌+◌, subst, option_map, nat_tests, sum_by-cons, add-zero, not, list_all, not-true, and_parts, ◌&&◌, append_assoc, flat_map, nat_lt, nat_le, is_ascii_digit, digits_value, is_none, AllByRecursion, or_left, or_right, ◌≢◌, bytes_decides, All-nil, All-cons, Ok, Err, inl, inr, false≢true, ◌⊎◌}
+use Rattle.bt_lines.proofs.Std.{rules, ◌≡◌, ℕ, ◌<◌, ◌≤◌, Bool, true, false, cond, List, [], ◌∷◌, ◌++◌, length, Option, Some, None, refl, sym, ap, ◌∙◌, length-append, arith, bytes_eq, append_cancel_right, ◌+◌, subst, option_map, sum_by-cons, add-zero, not, list_all, and_parts, append_assoc, flat_map, AllByRecursion, ◌≢◌, bytes_decides, ◌⊎◌}
 use Rattle.std.proofs.lemmas.Grind.{common_steps}
 use Rattle.bt_bed.specs.model.Feature.{Feature, Span}
-use Rattle.bt_seq.specs.model.Masked.{Block, blocks_by, left_at_last, names_behind, owned_from, decided, mask_rule, masked_line, SequenceLine}
+use Rattle.bt_seq.specs.model.Masked.{Block, blocks_by, left_at_last, names_behind, owned_from, decided, mask_rule, SequenceLine}
 use Rattle.bt_laws.specs.Sequences.{owners_stay, owners_were, AreBetween, blocks_are_within, unskipped_are_one_block, Divides, division_is_found, division_is_one, is_operation, operations_are_divided, spelled, early_mask_rule, faultless_are_masked, masked_are_a_prefix, AreApart, AreOfChrom, DividesAt, blocks_are_maximal_runs, items_of, owners_are_first, unowned_find_no_name, quiet_records_are_taken, taken_are_first}
-use Rattle.bt_seq.specs.model.Alignment.{blocks_in, is_skip, with_bases, covered_by, operations_of, reference_length, Part, each_operation, is_letter, onto_part, operation_of, operations_in, parts_of, with_operation, with_part}
+use Rattle.bt_seq.specs.model.Alignment.{is_skip, with_bases, covered_by, reference_length, Part, each_operation, is_letter, onto_part, operation_of, operations_in, parts_of, with_operation, with_part}
 use Rattle.bt_seq.specs.declared.sam.operation.Operation.{Operation}
 use Rattle.bt_seq.proofs.lemmas.Sam.{blocks_open, open_blocks, skip_covers, digits_no_letters, parts_cut}
 use Rattle.std.specs.Prelude.{option_and_then}
 use Rattle.bt_lines.specs.model.Lines.{is_number, value_of}
 use Rattle.bt_bed.specs.model.Good.{Good, items_in, AreInBlocks}
-use Rattle.bt_bed.proofs.lemmas.Definitions.{all_written, met_lines}
+use Rattle.bt_bed.proofs.lemmas.Definitions.{all_written}
 use Rattle.bt_laws.proofs.lemmas.single.Records.{written_begins}
 use Rattle.bt_seq.proofs.lemmas.definitions.MaskPrefixLemmas.{decided_stays, masked_stay}
 use Rattle.bt_seq.specs.declared.mask.mask_how.MaskHow.{MaskHow}
 use Rattle.bt_laws.specs.Records.{StaysDecided}
-use Rattle.bt_bed.specs.declared.record.taken.Taken.TheVariants.{Yes, No}
 use Rattle.std.specs.List.{last_or}
 use Rattle.bt_seq.specs.calls.MaskSteps.{IsOpen}
 
@@ -103,10 +102,6 @@ later : (less more stop : ℕ) (blocks : List Span) → less ≤ more → AreBet
 later less more stop [] h b = omega (arith, b)
 later less more stop (block ∷ blocks) h b = (omega (arith, b.0), b.1, b.2)
 
--- a block before others, if it has a base
-first_between : (start stop last : ℕ) (rest : List Span) → start ≤ stop → AreBetween stop last rest → AreBetween start last (with_bases start stop ++ rest)
-first_between start stop last rest h r = grind arith
-
 between_by : (k : Bool) (operation : Operation) (operations : List Operation) (start stop last : ℕ) → is_skip operation ≡ k → start ≤ stop
     → (is_skip operation ≡ true → AreBetween (stop + operation.length) last (open_blocks (stop + operation.length) (stop + operation.length) operations))
     → (is_skip operation ≡ false → AreBetween start last (open_blocks start (stop + covered_by operation) operations))
@@ -142,9 +137,6 @@ pub one_block : unskipped_are_one_block
 one_block start operations all = blocks_open start operations ∙ open_unskipped start start operations all
 
 -- A CIGAR's division into numbers and letters: there is one at most, and it is the one that is found.
-
-number_digits : (a b c : Bool) → ((a && b) && c) ≡ true → b ≡ true
-number_digits a b c e = grind arith
 
 -- the parts of a division are those that are found_parts
 found_parts : (parts : List Part) → list_all is_operation parts ≡ true → parts_of (flat_map spelled parts) ≡ Some parts
@@ -188,10 +180,6 @@ whole (byte ∷ bytes) parts e = whole_by byte bytes (is_letter byte) parts e (�
 -- each ends with a letter
 abbrev letters : List Part → Bool
 letters parts = list_all (λ part. is_letter part.letter) parts
-
-letter_lettered : (byte : ℕ) (found_parts : Option (List Part)) (parts : List Part) → is_letter byte ≡ true → with_part (record { digits = []; letter = byte }) found_parts ≡ Some parts
-    → ((others : List Part) → found_parts ≡ Some others → letters others ≡ true) → letters parts ≡ true
-letter_lettered byte found_parts parts is e h = grind arith
 
 byte_lettered : (byte : ℕ) (found_parts : Option (List Part)) (parts : List Part) → onto_part byte found_parts ≡ Some parts
     → ((others : List Part) → found_parts ≡ Some others → letters others ≡ true) → letters parts ≡ true
@@ -264,16 +252,6 @@ record Runs (records : List Feature) (bs : List (Block Feature)) : Type 0 where
   items : items_of bs ≡ records
   apart : AreApart bs
   chroms : AllByRecursion AreOfChrom bs
-
-still_apart : (b : Block Feature) (items : List Feature) (bs : List (Block Feature)) → AreApart (b ∷ bs) → AreApart (record { chrom = b.chrom; items = items } ∷ bs)
-still_apart b items bs apart = grind arith
-
-one_of : (r : Feature) → AreOfChrom (record { chrom = r.chrom; items = r ∷ [] })
-one_of r = record { chrom = All-cons (λ (s : Feature). s.chrom ≡ r.chrom) r [] refl (All-nil (λ (s : Feature). s.chrom ≡ r.chrom)); some = omega arith }
-
-runs_with : (r : Feature) (rs : List Feature) (b : Block Feature) (bs : List (Block Feature)) → Runs rs (b ∷ bs) → (t : Bool) → bytes_eq r.chrom b.chrom ≡ t
-    → Runs (r ∷ rs) (cond t (record { chrom = b.chrom; items = r ∷ b.items } ∷ bs) (record { chrom = r.chrom; items = r ∷ [] } ∷ b ∷ bs))
-runs_with r rs b bs runs t e = search rules
 
 runs_step : (r : Feature) (rs : List Feature) (bs : List (Block Feature)) → blocks_by (λ r. r.chrom) rs ≡ bs → Runs rs bs → Runs (r ∷ rs) (blocks_by (λ r. r.chrom) (r ∷ rs))
 runs_step r rs bs e runs = search rules

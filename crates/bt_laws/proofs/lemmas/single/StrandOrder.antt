@@ -1,5 +1,5 @@
 -- The runs of several strands come in the order of their first records.
-use Rattle.bt_lines.proofs.Std.{rules, ◌≡◌, ℕ, zero, suc, ◌+◌, ◌<◌, ◌≤◌, inl, inr, refl, sym, ap, ap₂, ◌∙◌, arith, subst, List, [], ◌∷◌, ◌++◌, append_assoc, append-nil, length, map, Bool, true, false, not, Some, option_map, IsTrue, find, list_any, position_or_len, IsStrictlyIncreasing, cases_Bool, cond-true, cond-false, not_from_true, not_from_false, map-append, ◌||◌, false≢true, or_parts, bytes_decides, is_lt, ordering_reverse, bytes_eq, if◌then◌else◌}
+use Rattle.bt_lines.proofs.Std.{rules, ◌≡◌, ℕ, zero, suc, ◌+◌, ◌<◌, ◌≤◌, inl, inr, refl, sym, ap, ap₂, ◌∙◌, arith, subst, List, [], ◌∷◌, ◌++◌, append_assoc, append-nil, length, map, Bool, true, false, Some, IsTrue, find, list_any, position_or_len, IsStrictlyIncreasing, cases_Bool, map-append, ◌||◌, or_parts, is_lt, bytes_eq, if◌then◌else◌}
 use Rattle.bt_bed.specs.model.Feature.{Feature, interval_of, intervals_of, Interval}
 use Rattle.bt_bed.specs.model.Sorted.{ArePlaced, IsPlacedBefore, IsUpTo, Locus, locus_of}
 use Rattle.bt_bed.specs.model.Order.{IsTotal, Order, AreDistinct, is_among, rank_order}
@@ -9,12 +9,11 @@ use Rattle.bt_laws.specs.Merges.{first_place, first_start, strand_runs_come_in_o
 use Rattle.bt_runs.specs.inside.merge.StrandStep.{run_from}
 use Rattle.bt_runs.proofs.lemmas.definitions.Standing.{Each, Some_of, each_append, each_map, each_weaker, each_both, none_each, some_weaker}
 use Rattle.bt_runs.proofs.lemmas.order.FileOrder.{skips, in_file_order, ordered_come}
-use Rattle.bt_runs.proofs.lemmas.merge.StrandListing.{joined_to, new_run, reaches, IsWithinOrFar, Lies, Listed, are_listed, join_is, join_not, lies_true, listing_next, not_in_new, same_in, some_base, up}
+use Rattle.bt_runs.proofs.lemmas.merge.StrandListing.{joined_to, new_run, reaches, IsWithinOrFar, Lies, Listed, are_listed, lies_true, listing_next, not_in_new, same_in, some_base, up}
 use Rattle.bt_runs.proofs.lemmas.merge.SettledRuns.{taken_front}
 use Rattle.bt_laws.specs.Parts.{joined}
 use Rattle.std.specs.declared.cmp.Ordering.{Ordering}
-use Rattle.std.specs.declared.cmp.Ordering.TheVariants.{Equal, Greater, Less}
-use Rattle.bt_laws.specs.Runs.{AreAscending, AreKnown, ComesBefore, names_come_in_order, file_runs_are_ordered}
+use Rattle.bt_laws.specs.Runs.{AreAscending, AreKnown, names_come_in_order, file_runs_are_ordered}
 use Rattle.bt_bed.specs.inside.RankTotal.{ranks_total}
 
 -- the first element that passes
@@ -268,9 +267,6 @@ in_order order gap records total placed full =
 
 -- Names that are put in order: each comes before the next, and none is lost.
 
-or_swap : (a b c : Bool) → (a || (b || c)) ≡ (b || (a || c))
-or_swap a b c = grind arith
-
 module _ (order : Order) where
   among_if : (c : Bool) (name n x : List ℕ) (ns : List (List ℕ))
       → is_among (put_in_order order name ns) x ≡ is_among (name ∷ ns) x
@@ -297,13 +293,6 @@ module _ (order : Order) where
   known_order : (ns : List (List ℕ)) → AreKnown order ns → AreKnown order (runs_in_order order ns)
   known_order [] known = tt
   known_order (n ∷ ns) known = known_put n (runs_in_order order ns) known.0 (known_order ns known.1)
-
-  before_if : (c : Bool) (m name n : List ℕ) (ns : List (List ℕ)) → order.compare m n ≡ Less → order.compare m name ≡ Less
-      → ComesBefore order m (if c then name ∷ n ∷ ns else n ∷ put_in_order order name ns)
-  before_if c m name n ns old new = grind arith
-
-  before_put : (m name : List ℕ) (ns : List (List ℕ)) → ComesBefore order m ns → order.compare m name ≡ Less → ComesBefore order m (put_in_order order name ns)
-  before_put m name ns old new = grind arith
 
   ascending_by : IsTotal order → (name n : List ℕ) (ns : List (List ℕ)) → IsTrue (order.knows name) → AreKnown order (n ∷ ns)
       → is_among (n ∷ ns) name ≡ false → AreAscending order (n ∷ ns) → AreAscending order (put_in_order order name ns)

@@ -1,12 +1,12 @@
 -- Lemmas on what a sweep decides, takes and writes.
-use Rattle.bt_lines.proofs.Std.{arith, false, List, [], ◌∷◌, ◌++◌, Option, refl, sym, ◌∙◌, not, ◌||◌, ap, ◌-◌, ◌&&◌, ltb, is_none, AllByRecursion, or_right, or_left, list_any-append, inl, inr, ◌≡◌, Bool, true, cond, subst, append_assoc, IsTrue, list_all, take_while, and_parts, or_from, cases_Bool, take_while-cons, ℕ, Some, filter, length, map, nat_lt, find, false≢true, and_from, lt-ltb, ltb-true, false_from_ne_true, Ok, Err}
+use Rattle.bt_lines.proofs.Std.{arith, false, List, [], ◌∷◌, ◌++◌, Option, refl, sym, ◌∙◌, not, ◌||◌, ap, ◌-◌, AllByRecursion, or_left, list_any-append, inl, inr, ◌≡◌, Bool, true, cond, subst, append_assoc, IsTrue, list_all, take_while, and_parts, or_from, cases_Bool, take_while-cons, ℕ, Some, filter, length, map, nat_lt, find, false≢true, and_from, lt-ltb, ltb-true}
 use Rattle.bt_lines.specs.model.Fault.{FaultValue}
-use Rattle.bt_bed.specs.model.Feature.{Feature, intervals_of, is_strand}
+use Rattle.bt_bed.specs.model.Feature.{Feature, intervals_of}
 use Rattle.bt_bed.specs.model.BedLine.{fault_at_line}
 use Rattle.bt_bed.specs.model.Sorted.{ArePlaced}
 use Rattle.bt_bed.specs.model.Order.{Order, IsTotal}
 use Rattle.bt_laws.proofs.lemmas.single.Records.{written_begins}
-use Rattle.bt_sweep.specs.model.Hits.{decided, decides, hits, shared_bases, strands_agree, are_too_many, cut_behind, held_for, is_held, limited}
+use Rattle.bt_sweep.specs.model.Hits.{decided, decides, hits, strands_agree, are_too_many, cut_behind, held_for, is_held, limited}
 use Rattle.bt_sweep.specs.model.Lines.{sweep_rule, intersect, intersect_met}
 use Rattle.bt_sweep.specs.declared.hits.hit_rule.HitRule.{HitRule}
 use Rattle.bt_sweep.specs.declared.output.shape.Shape.{Shape}
@@ -20,7 +20,6 @@ use Rattle.bt_lines.specs.declared.fault.Kind.TheVariants.{TooManyHeld}
 use Rattle.bt_bed.specs.model.Good.{Good, items_in}
 use Rattle.bt_bed.specs.model.Meeting.{Met, join_report}
 use Rattle.bt_bed.proofs.lemmas.Definitions.{all_stop, met_fault_stop, met_lines, written_stop}
-use Rattle.bt_bed.specs.declared.record.taken.Taken.TheVariants.{Yes, No}
 
 -- Lemmas on what a sweep decides and writes early.
 

@@ -1,6 +1,6 @@
 -- Lemmas on eight bytes that are read as one number, the first in its lowest byte.
-use Rattle.bt_lines.proofs.Std.{zero, suc, inl, inr, ◌≡◌, ℕ, ◌+◌, ◌-◌, ◌*◌, ◌/◌, ◌%◌, ◌^◌, ◌<◌, ◌≤◌, true, false, List, [], ◌∷◌, ◌++◌, drop, length, get_or, length-take-le, subst, Some, None, refl, sym, ap, ◌∙◌, arith, bit_and, bit_or, bit_xor, take, w64, ltb, leb, cases_Bool, and_parts, nat_tests, and_assoc, and_block, and_comm, and_le_l, and_le_r, and_mask, and_or_apart, and_or_self, mod_below, or_comm, pow-add, shr_split, xor_block, xor_of_8, and_high, mul_assoc, pow-suc, take-append-drop, is_ascii_digit, digit_value, from_le_bytes, and_zero_r, xor_add_and, xor_zero_r, list_all, digits_value}
-use Rattle.bt_lines.proofs.lemmas.numbers.NumberLemmas.{digit_is, refused_second, value_of_digits}
+use Rattle.bt_lines.proofs.Std.{zero, suc, ◌≡◌, ℕ, ◌+◌, ◌-◌, ◌*◌, ◌/◌, ◌%◌, ◌^◌, ◌<◌, ◌≤◌, true, false, List, [], ◌∷◌, ◌++◌, drop, length, get_or, length-take-le, subst, Some, None, refl, sym, ap, ◌∙◌, arith, bit_and, bit_or, bit_xor, take, w64, and_parts, and_assoc, and_block, and_comm, and_le_r, and_mask, and_or_apart, and_or_self, mod_below, or_comm, pow-add, xor_block, xor_of_8, and_high, mul_assoc, take-append-drop, is_ascii_digit, digit_value, from_le_bytes, and_zero_r, xor_add_and, xor_zero_r, list_all, digits_value}
+use Rattle.bt_lines.proofs.lemmas.numbers.NumberLemmas.{digit_is, value_of_digits}
 use Rattle.bt_lines.specs.inside.Digits.{AreOnes}
 use Rattle.bt_lines.specs.model.Lines.{value_of}
 
@@ -98,9 +98,6 @@ no_uppers (byte ∷ bytes) all = grind (arith, (no_uppers bytes all.2), upper)
 lowered_within : (bytes : List ℕ) (high more : ℕ) → AreWithin 0 (high + more) (raised bytes more) → AreWithin 0 high bytes
 lowered_within [] high more all = tt
 lowered_within (byte ∷ bytes) high more all = (omega arith, omega arith, lowered_within bytes high more all.2)
-
-digit_within : (byte : ℕ) → is_ascii_digit byte ≡ true → (48 ≤ byte) × (byte ≤ 57)
-digit_within byte digit = (grind (arith, nat_tests), grind (arith, nat_tests))
 
 within_digit : (byte : ℕ) → 48 ≤ byte → byte ≤ 57 → is_ascii_digit byte ≡ true
 within_digit byte low high = grind arith
@@ -227,10 +224,6 @@ value_in pairs = (pairs * 100 + pairs / 65536) % 65536 * 10000 + (pairs * 100 + 
 
 value_small : (pairs : ℕ) → value_in pairs ≤ 999999999999
 value_small pairs = omega arith
-
-value_fours : (a c e g : ℕ) → a ≤ 99 → c ≤ 99 → e ≤ 99 → g ≤ 99
-    → value_in (worth (a ∷ 0 ∷ c ∷ 0 ∷ e ∷ 0 ∷ g ∷ 0 ∷ [])) ≡ a * 1000000 + c * 10000 + e * 100 + g
-value_fours a c e g i j k l = grind arith
 
 value_eight : (a b c d e f g h ones : ℕ) → a ≤ 9 → b ≤ 9 → c ≤ 9 → d ≤ 9 → e ≤ 9 → f ≤ 9 → g ≤ 9 → h ≤ 9
     → ones ≡ worth (a ∷ b ∷ c ∷ d ∷ e ∷ f ∷ g ∷ h ∷ [])

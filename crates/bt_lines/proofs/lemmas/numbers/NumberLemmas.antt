@@ -1,23 +1,13 @@
 -- Lemmas on the number that a text denotes.
 use Rattle.std.proofs.lemmas.Grind.{common_steps}
-use Rattle.bt_lines.proofs.Std.{[], ◌∷◌, ◌≡◌, ℕ, ◌+◌, ◌-◌, ◌*◌, ◌<◌, ◌≤◌, Bool, true, false, ◌&&◌, List, ◌++◌, length, take, drop, get_or, Some, None, refl, sym, ap, ◌∙◌, arith, ltb, leb, cond, map, ◌^◌, pow-suc, add-one, pow-le-pow_right, take-append-drop, map-append, take_all, list_all_more, list_all_at, and_parts, digits_value-lt, digits_value_is, digits_value_more, number_after_append, number_after_ge, nat_tests, list_all, is_ascii_digit, digit_value, AllDigits, digits_value, number_from_digits, number_from_digits_after, suc, ◌||◌, not, replicate, subst, bit_or, take-length, prefix_len-le-length, prefix_len_stops, or_block, first_set_mask_l, trailing_mask_l, prefix_len, chunk, mask_l}
+use Rattle.bt_lines.proofs.Std.{[], ◌∷◌, ◌≡◌, ℕ, ◌+◌, ◌-◌, ◌*◌, ◌<◌, ◌≤◌, Bool, true, false, ◌&&◌, List, length, take, drop, get_or, Some, None, refl, ap, arith, ltb, leb, cond, map, ◌^◌, pow-suc, add-one, pow-le-pow_right, take-append-drop, map-append, take_all, list_all_more, list_all_at, and_parts, digits_value-lt, digits_value_is, digits_value_more, number_after_append, number_after_ge, list_all, is_ascii_digit, digit_value, AllDigits, digits_value, ◌||◌, not, replicate, bit_or, take-length, prefix_len-le-length, prefix_len_stops, or_block, trailing_mask_l, prefix_len, chunk, mask_l}
 use Rattle.bt_lines.specs.model.Lines.{value_of}
 use Rattle.bt_lines.specs.inside.Digits.{is_other}
 use lib.Count.{count_trailing_zeros}
 use lib.Lanes.{zip2}
 
--- a chosen value, by the three tests
-chosen : {X : Type 0} (a b c : Bool) (x y : X) → a ≡ true → b ≡ true → c ≡ true → cond ((a && b) && c) x y ≡ x
-chosen a b c x y p q r = rw (p, q, r) refl
-
-refused_first : {X : Type 0} (a b c : Bool) (x y : X) → a ≡ false → cond ((a && b) && c) x y ≡ y
-refused_first a b c x y p = rw p refl
-
 pub refused_second : {X : Type 0} (a b c : Bool) (x y : X) → b ≡ false → cond ((a && b) && c) x y ≡ y
 refused_second a b c x y p = grind arith
-
-refused_third : {X : Type 0} (a b c : Bool) (x y : X) → c ≡ false → cond ((a && b) && c) x y ≡ y
-refused_third a b c x y p = grind arith
 
 pub value_of_empty : (text : List ℕ) → length text ≡ 0 → None ≡ value_of text
 unfolding value_of
@@ -93,9 +83,6 @@ pub splat_before : (t : ℕ → ℕ → Bool) (y : ℕ) (xs : List ℕ) → zip2
 splat_before t y [] = refl
 splat_before t y (x ∷ xs) = ap (λ l. t y x ∷ l) (splat_before t y xs)
 
-or_bits : (a b : Bool) → bit_or (cond a 1 0) (cond b 1 0) ≡ cond (a || b) 1 0
-or_bits a b = grind arith
-
 small_bit : (a : Bool) → cond a 1 0 < 2 ^ 1
 small_bit a = grind arith
 
@@ -103,13 +90,6 @@ small_bit a = grind arith
 pub or_masks : (p q : ℕ → Bool) (xs : List ℕ) → bit_or (mask_l (map p xs)) (mask_l (map q xs)) ≡ mask_l (map (λ x. p x || q x) xs)
 or_masks p q [] = refl
 or_masks p q (x ∷ xs) = grind (arith, (or_masks p q xs), (or_block 1 (mask_l (map p xs)) (mask_l (map q xs)) (cond (p x) 1 0) (cond (q x) 1 0) (small_bit (p x)) (small_bit (q x))))
-
--- no other byte is a digit, and a digit is none
-digit_if_no_other : (byte : ℕ) → is_other byte ≡ false → is_ascii_digit byte ≡ true
-digit_if_no_other byte e = grind arith
-
-other_is_no_digit : (byte : ℕ) → not (is_other byte) ≡ false → is_ascii_digit byte ≡ false
-other_is_no_digit byte e = grind arith
 
 front_of : (bytes : List ℕ) (byte n : ℕ) (b : Bool) → is_other byte ≡ b → list_all is_ascii_digit (take n bytes) ≡ true
     → list_all is_ascii_digit (take (cond (not b) (1 + n) 0) (byte ∷ bytes)) ≡ true

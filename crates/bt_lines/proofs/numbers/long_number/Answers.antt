@@ -1,5 +1,4 @@
-use Rattle.bt_lines.proofs.Std.{arith, ◌+◌, sym, ◌∙◌}
-use Rattle.bt_lines.proofs.lemmas.numbers.NumberLemmas.{value_of_other, value_of_large, value_of_whole, value_more, digits_more}
+use Rattle.bt_lines.proofs.lemmas.numbers.NumberLemmas.{value_of_whole}
 use Rattle.bt_lines.proofs.numbers.long_number.Goals as goal
 
 pub returns : goal.returns

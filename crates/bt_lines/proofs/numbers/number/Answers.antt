@@ -1,5 +1,5 @@
 use Rattle.bt_lines.proofs.Std.{rules, arith, ◌≤◌, ◌+◌, ◌-◌, ◌*◌, get_or, sym, ◌∙◌}
-use Rattle.bt_lines.proofs.lemmas.numbers.NumberLemmas.{value_of_empty, value_of_other, value_of_whole, value_more, digits_more, value_below, value_short, digit_small}
+use Rattle.bt_lines.proofs.lemmas.numbers.NumberLemmas.{value_of_whole, value_more, digits_more, value_below, value_short, digit_small}
 use Rattle.bt_lines.proofs.numbers.number.Goals as goal
 
 pub loop-byte-preserved : goal.loop-byte-preserved

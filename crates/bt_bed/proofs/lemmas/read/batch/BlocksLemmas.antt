@@ -1,10 +1,10 @@
 -- Lemmas on the reader of records in blocks.
-use Rattle.bt_lines.proofs.Std.{arith, ℕ, Bool, true, false, Ok, Err, take, Result, IfSome}
+use Rattle.bt_lines.proofs.Std.{arith, ℕ, Bool, take, Result, IfSome}
 use Rattle.bt_lines.specs.declared.device.Source.{Ghosts as Source}
 use Rattle.bt_lines.specs.declared.fault.Fault.{Fault}
 use Rattle.bt_bed.proofs.lemmas.Definitions.{line_said, block_up_to}
 use Rattle.bt_bed.proofs.lemmas.read.good.SaidLemmas.{said_features}
-use Rattle.bt_bed.proofs.lemmas.read.batch.RecordsLemmas.{ahead_is, none_ahead}
+use Rattle.bt_bed.proofs.lemmas.read.batch.RecordsLemmas.{ahead_is}
 use Rattle.bt_bed.specs.calls.Blocks.{FillsBlocks, IsNext, TakesBlocks, view_of}
 use Rattle.bt_bed.specs.calls.SortedReader.{buffered_in as records_in, view_in, view_with}
 use Rattle.bt_bed.specs.model.Feature.{Feature}

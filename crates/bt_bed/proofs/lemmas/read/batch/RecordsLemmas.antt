@@ -1,8 +1,8 @@
 -- Lemmas on the reader of records.
 use Rattle.std.proofs.lemmas.Grind.{common_steps}
-use Rattle.bt_lines.proofs.Std.{arith, ◌≡◌, ℕ, suc, Bool, true, false, List, [], ◌∷◌, Option, Some, None, Ok, Err, take, refl, sym, ap, ◌∙◌, subst, IfSome, IsSome, IsTrue, Result, option_map, ForSome, false≢true, ◌≤◌, cond, bytes_eq, ◌&&◌, is_some, nat_lt, unwrap_or, nat_tests, bytes_eq-Decides, ◌+◌, ◌<◌, ◌++◌, drop, length, length-append, IfNone, strip_last, take-append-add, take-append_seam, take-nil, ◌-◌, slice_range, take-add, take-append-drop, take-append-le, length-take-le}
+use Rattle.bt_lines.proofs.Std.{arith, ◌≡◌, ℕ, Bool, true, false, List, [], ◌∷◌, Option, Some, None, Ok, Err, take, refl, sym, ap, ◌∙◌, subst, IfSome, IsSome, IsTrue, Result, option_map, ForSome, false≢true, ◌≤◌, cond, bytes_eq, ◌&&◌, is_some, nat_lt, unwrap_or, nat_tests, bytes_eq-Decides, ◌+◌, ◌<◌, ◌++◌, drop, length, length-append, IfNone, strip_last, take-append-add, take-append_seam, ◌-◌, slice_range, take-add}
 use Rattle.bt_lines.specs.declared.device.Source.{Ghosts as Source}
-use Rattle.bt_lines.specs.calls.Reader.{input_of, lines_given, lines_left, fault_kept as line_fault, lines_in, lines_after, line_of, rest_in}
+use Rattle.bt_lines.specs.calls.Reader.{input_of, lines_left, fault_kept as line_fault, lines_in, lines_after, line_of, rest_in}
 use Rattle.bt_lines.specs.declared.fault.Fault.{Fault}
 use Rattle.bt_lines.specs.declared.reader.line_reader.LineReader.{LineReader}
 use Rattle.bt_bed.proofs.lemmas.Definitions.{line_said}
@@ -19,7 +19,7 @@ use Rattle.bt_bed.specs.model.Order.{Order, IsTotal}
 use Rattle.bt_bed.specs.model.Sorted.{Locus, IsUpTo, Sorting, sorting_of, falls_in}
 use Rattle.bt_bed.specs.calls.Reading.{Fills, FillAnswers, GivesMember, MemberReader, Takes, TellsOwnFailure, ahead_in, first_from, good_coming}
 use Rattle.bt_bed.specs.calls.Records.{FillsRecords, IsNext, TakesRecords, order_in, view_of}
-use Rattle.bt_bed.specs.calls.Bed.{is_some_left, is_on, placed_on, record_on, run_of, run_then, IsOnLine, raw_in, record_in, text_in}
+use Rattle.bt_bed.specs.calls.Bed.{is_on, placed_on, record_on, run_of, run_then, IsOnLine, raw_in, record_in, text_in}
 use Rattle.bt_bed.specs.declared.read.sorted_reader.SortedReader.{SortedReader}
 use Rattle.bt_bed.specs.declared.read.sorted.ByOrder.{ByOrder}
 use Rattle.bt_bed.specs.declared.order.ChromOrder.{Ghosts}
@@ -54,9 +54,6 @@ some_first line items item = grind arith
 module _ {S : Type 0} (reader : MemberReader S Feature (Option Locus)) (P : Member Feature → Type 0) where
   pub ahead_is : (m : Member Feature) → ahead_in reader ≡ Some m → P m → IfSome (ahead_in reader) P
   ahead_is m is holds = subst (λ (o : Option (Member Feature)). IfSome o P) (sym is) holds
-
-  pub none_ahead : reader.buffered ≡ [] → IfSome (ahead_in reader) P
-  none_ahead none = subst (λ (items : List Feature). IfSome (first_from (suc (lines_given reader.below)) items) P) (sym none) tt
 
 last_one : (items : List Feature) (line : ℕ) (item : Feature) (more : List Feature) (state : Option Locus) → items ≡ item ∷ more → state ≡ Some (locus_at item) → state ≡ option_map (λ m. locus_at m.item) (first_from line items)
 last_one items line item more state e s = grind arith
@@ -178,10 +175,6 @@ held_same name chrom last e = grind (arith, bytes_eq-Decides)
 -- if it is another
 pub held_other : (name chrom : List ℕ) (last : Option ℕ) → is_some last && bytes_eq name chrom ≡ false → 0 ≡ start_after (start_at name last) chrom
 held_other name chrom last e = grind arith
-
--- a record that fits after the last one doesn't start below
-pub fits_above : (sorting : Sorting) (last : Option Locus) (r : Feature) → falls_in sorting last (locus_at r) ≡ false → start_after last r.chrom ≤ r.start
-fits_above sorting last r e = grind arith
 
 -- Lemmas on the records on one chromosome that lines begin with.
 

@@ -2,22 +2,22 @@
 use Rattle.bt_lines.proofs.Std.{◌≡◌, ℕ, suc, ◌+◌, ◌-◌, ◌<◌, ◌≤◌, Bool, true, false, List, [], ◌∷◌, ◌++◌, length, take, drop, Option, Some, None, Ok, refl, sym, ap, ◌∙◌, subst, arith, length-take, take-append-drop, if◌then◌else◌, IfSome, IsTrue, is_some, option_map, ForSome, Result, Err, inl, inr}
 use Rattle.bt_lines.specs.declared.device.Source.{Ghosts as Source}
 use Rattle.bt_lines.proofs.lemmas.reader.lines.TakingLemmas.{is_prefix, next_bytes, next_number}
-use Rattle.bt_lines.specs.calls.Reader.{buffered_lines, DropsLines, TakesLines, bytes_left, buffered_bytes, buffered_in as lines_buffered, end_told, fault_kept as line_fault, held, input_of, is_open, left_at, lines_given, lines_left, source_of, GivesEnd, GivesFault, HasRead, IsKept, MakesLine, bytes_taken}
-use Rattle.bt_lines.specs.model.Lines.{AreNumbered, TextLine, lines_from}
+use Rattle.bt_lines.specs.calls.Reader.{DropsLines, TakesLines, bytes_left, buffered_in as lines_buffered, fault_kept as line_fault, input_of, lines_given, lines_left, source_of, GivesEnd, GivesFault, HasRead, IsKept, MakesLine, bytes_taken}
+use Rattle.bt_lines.specs.model.Lines.{AreNumbered, TextLine}
 use Rattle.bt_lines.specs.calls.Names.{fault_value}
 use Rattle.bt_lines.specs.declared.fault.Input.{Input}
 use Rattle.bt_lines.specs.declared.reader.line_reader.LineReader.{LineReader}
-use Rattle.bt_bed.proofs.lemmas.read.good.ReadingLemmas.{drops_pass, left_numbered, some_bytes, LineCame, line_came, lost_is_own, Follows, Going, gives_again, going_end, going_member, going_more, going_start, going_unkept, going_unread, going_wrong}
+use Rattle.bt_bed.proofs.lemmas.read.good.ReadingLemmas.{left_numbered, LineCame, line_came, lost_is_own, Follows, Going, gives_again, going_end, going_member, going_more, going_start, going_unkept, going_unread, going_wrong}
 use Rattle.bt_bed.proofs.lemmas.Definitions.{line_said}
-use Rattle.bt_bed.proofs.lemmas.read.batch.RecordsLemmas.{fits_above, placed_there, run_some, says_of_line}
+use Rattle.bt_bed.proofs.lemmas.read.batch.RecordsLemmas.{placed_there, run_some, says_of_line}
 use Rattle.bt_bed.proofs.lemmas.read.good.SaidRuns.{LinesSay, good_said, order_behind, order_is_said, place_behind, run_behind, run_is_said, run_says, said_fewer, said_in_order, say_fewer, say_front, FirstOfRun, first_of_run, says_again}
 use Rattle.bt_bed.specs.model.Feature.{Feature}
 use Rattle.bt_bed.specs.model.BedLine.{fault_at_line}
-use Rattle.bt_bed.specs.model.Good.{Format, Good, Member, good_from, or_else, bed_format, line_says, locus_at}
+use Rattle.bt_bed.specs.model.Good.{Format, Good, Member, or_else, bed_format, line_says, locus_at}
 use Rattle.bt_bed.specs.model.Sorted.{Locus, Sorting}
 use Rattle.bt_bed.specs.inside.OrderedLookahead.{HoldsChrom, LineTaken, MakesLast, ahead_of, last_in, name_in, start_in, KeepsLast}
 use Rattle.bt_bed.specs.calls.Reading.{AreSaid, BeginsComing, MemberReader, Takes, good_behind, good_coming, members_from, state_behind, with_members, AnswersFault, Fills, IsLost, TellsOwnFailure}
-use Rattle.bt_bed.specs.calls.Bed.{is_some_left, last_start, run_of}
+use Rattle.bt_bed.specs.calls.Bed.{is_some_left, run_of}
 use Rattle.bt_bed.specs.calls.SortedReader.{IsPlaced, IsTaken, are_in_order, buffered_in, count_in, view_in, view_with, FindsRecord, LosesLine, SkipsLine, TakesFirst, TakesOne}
 use Rattle.bt_bed.specs.declared.read.batch.Consumed.{Consumed}
 use Rattle.bt_bed.specs.declared.read.lookahead.OrderedLookahead.{OrderedLookahead}
@@ -29,15 +29,6 @@ use Rattle.bt_bed.proofs.lemmas.read.ColumnLemmas.{said_record_name}
 use Rattle.bt_lines.proofs.lemmas.reader.block.ReadsLemmas.{counts_none, has_read_then, reads_same}
 use Rattle.bt_bed.proofs.lemmas.order.TableLemmas.{lost_parts}
 use Rattle.bt_bed.specs.inside.FirstColumns.{IsRecordName}
-
-none_by : (told : Bool) (held : List ℕ) (number : ℕ) → option_map (lines_from number) (left_at told held None) ≡ None
-none_by told held number = grind arith
-
-some_by : (told : Bool) (held : List ℕ) (number : ℕ) (rest : List ℕ) → option_map (lines_from number) (left_at told held (Some rest)) ≡ None → ⊥
-some_by told held number rest e = grind arith
-
-unknown_by : (a b : Option (List ℕ)) (t u : Bool) (h k : List ℕ) (n m : ℕ) → b ≡ a → option_map (lines_from n) (left_at t h a) ≡ None → option_map (lines_from m) (left_at u k b) ≡ None
-unknown_by a b t u h k n m e none = grind arith
 
 -- if no bytes are known, none are once lines were taken
 still_unknown : {S : Type 0} (left : S → Option (List ℕ)) (old new : LineReader S) → source_of new ≡ source_of old → lines_left left old ≡ None → lines_left left new ≡ None
@@ -108,11 +99,6 @@ module _ {S Q : Type 0} (device : Source S) (sorting : Sorting) (old : SortedRea
   split : buffered_in old ≡ taken ++ rest
   split = sym (take-append-drop n (buffered_in old))
 
-  -- the lines that are buffered then
-  lines_then : lines_buffered reader ≡ drop n (lines_buffered old.reader)
-  unfolding buffered_bytes is_open lines_given
-  lines_then = grind arith
-
   parts : (r : Feature) × (more : List Feature) × (take n (buffered_in old) ≡ r ∷ more) × (buffered_in old ≡ r ∷ (more ++ drop n (buffered_in old))) × (n ≡ length (r ∷ more))
   parts = some_taken n (buffered_in old) some is.within
 
@@ -152,10 +138,6 @@ module _ {S Q : Type 0} (device : Source S) (sorting : Sorting) (old : SortedRea
 
   state_then : last_in lookahead ≡ state_behind (bed_format sorting) (last_in old.lookahead) taken
   state_then = grind (arith, (place_behind sorting (last_in old.lookahead) (name_in old.lookahead) (start_in old.lookahead) (lines_buffered old.reader) parts.0 parts.1 rest was.1))
-
-  fault_then : now.fault ≡ (view_in sorting old).fault
-  unfolding view_with
-  fault_then = ap (or_else (option_map fault_value old.fault)) takes.fault_is
 
   good_then : option_map (with_members (members_from (suc (lines_given old.reader)) taken)) (good_coming device.left now) ≡ good_coming device.left (view_in sorting old)
   unfolding good_coming view_with

@@ -1,5 +1,5 @@
 -- Lemmas on lines that a reader of records takes one after another.
-use Rattle.bt_lines.proofs.Std.{◌≡◌, ℕ, suc, ◌+◌, ◌-◌, ◌^◌, ◌<◌, ◌≤◌, List, [], ◌∷◌, ◌++◌, length, take, drop, Option, Some, None, sym, ap, ◌∙◌, subst, arith, false, length-append, IfSome, option_map, take-append-add, drop-drop, true, Ok, Err, refl, inl, inr, ◌⊎◌, IsSome, Result, false≢true}
+use Rattle.bt_lines.proofs.Std.{◌≡◌, ℕ, suc, ◌+◌, ◌-◌, ◌^◌, ◌<◌, ◌≤◌, List, [], ◌∷◌, ◌++◌, length, take, drop, Option, Some, None, sym, ap, ◌∙◌, arith, false, length-append, IfSome, option_map, take-append-add, drop-drop, true, Ok, Err, refl, inl, inr, ◌⊎◌, Result}
 use Rattle.bt_lines.specs.declared.device.Source.{Ghosts as Source}
 use Rattle.bt_lines.proofs.lemmas.reader.lines.TakingLemmas.{hands_both, hands_none, is_prefix, near_next, not_told, given_below, next_below}
 use Rattle.bt_lines.proofs.lemmas.reader.lines.TextLemmas.{line_feeds-append, lines_are_numbered}
@@ -10,7 +10,7 @@ use Rattle.bt_lines.specs.calls.Output.{block_size}
 use Rattle.bt_lines.specs.calls.Reader.{CutsOff, DropsLines, GivesFault, Hands, IsKept, IsNear, MakesLine, TakenLines, TakesLines, buffered_bytes, buffered_in, bytes_left, bytes_taken, fault_kept, has_ended, held, input_of, lines_given, lines_left, room, source_of, FailsToRead, GivesEnd, end_told, room as line_room, fault_kept as line_fault, HasRead, TellsOwnFailure as LineTellsOwnFailure}
 use Rattle.bt_lines.specs.declared.reader.buffered_lines.ConsumedLines.{ConsumedLines}
 use Rattle.bt_lines.specs.declared.reader.line_reader.LineReader.{LineReader}
-use Rattle.bt_bed.specs.calls.Reading.{LinesPass, IsBeyond, MemberReader, Remains, first_from, good_behind, good_coming, with_members, Stays, Takes, GivesMember, EndsMembers, LineIsWrong, RunsOut, Cause, AnswersFault, IsLost, TellsOwnFailure}
+use Rattle.bt_bed.specs.calls.Reading.{LinesPass, IsBeyond, MemberReader, Remains, first_from, good_behind, good_coming, Stays, Takes, GivesMember, EndsMembers, LineIsWrong, RunsOut, Cause, AnswersFault, IsLost, TellsOwnFailure}
 use Rattle.bt_lines.specs.declared.fault.Input.{Input}
 use Rattle.bt_lines.specs.declared.fault.Kind.{Kind}
 use Rattle.bt_bed.proofs.lemmas.read.good.SaidLemmas.{beyond_from}
@@ -19,13 +19,8 @@ use Rattle.bt_bed.specs.model.BedLine.{fault_at_line, is_of_line}
 use Rattle.bt_lines.proofs.lemmas.reader.block.ReadsLemmas.{some_is, tells_no_memory, tells_read, tells_then}
 use Rattle.bt_lines.specs.calls.Names.{fault_value}
 use Rattle.bt_lines.specs.declared.fault.Fault.{Fault}
-use Rattle.bt_lines.specs.declared.fault.Kind.TheVariants.{ReadFailed}
 use Rattle.bt_lines.specs.declared.fault.Place.{Place}
 use Rattle.bt_lines.specs.declared.reader.line.Line.{Line}
-
--- lines that were passed none at a time, or some and then others
-pub no_pass : (lines : Option (List TextLine)) (n : ℕ) → IfSome lines (λ all. lines ≡ Some (drop (n - n) all))
-no_pass lines n = grind arith
 
 pub pass_more : (a b c : Option (List TextLine)) (i j k : ℕ) → IfSome a (λ all. b ≡ Some (drop i all)) → IfSome b (λ all. c ≡ Some (drop j all)) → k ≡ i + j → IfSome a (λ all. c ≡ Some (drop k all))
 pass_more a b c i j k p q e = grind (arith, drop-drop)
@@ -196,16 +191,9 @@ module _ {A State : Type 0} (format : Format A State) (input : Input) (state : S
   unfolding good_from
   good_end a h = grind arith
 
-remains_lines : {A State : Type 0} (format : Format A State) (input : Input) (state : State) (a b : Option (List TextLine)) → DropsLines a 0 b
-    → Remains (option_map (good_behind format input None state) a) (option_map (good_behind format input None state) b)
-remains_lines format input state a b s = grind arith
-
 buffered_below : {S : Type 0} (reader : LineReader S) → 0 < length (buffered_bytes reader) → suc (lines_given reader) < 2 ^ 63
 unfolding buffered_bytes
 buffered_below reader some = next_below reader some
-
-none_ahead : {A : Type 0} (line : ℕ) (items : List A) → items ≡ [] → IsSome (first_from line items) → ⊥
-none_ahead line items e some = grind arith
 
 all_given : (a b : Option (List TextLine)) (i k : ℕ) → IfSome a (λ all. b ≡ Some (drop i all)) → IfSome b (λ lines. lines ≡ []) → k ≡ i → IfSome a (λ all. drop k all ≡ [])
 all_given a b i k p q e = grind arith
@@ -250,9 +238,6 @@ module _ {S A State : Type 0} (device : Source S) where
   module _ (old : MemberReader S A State) where
     pub going_start : old.buffered ≡ [] → old.fault ≡ line_fault old.below → Going old old
     going_start none rest = grind arith
-
-    begun_by : (now : MemberReader S A State) (line : TextLine) (reader : LineReader S) → (now ≡ old) ⊎ Begun old → now.fault ≡ line_fault now.below → LineCame device now.below line reader → Begun old
-    begun_by now line reader e rest gives = grind arith
 
     -- the old reader had no fault
     was_faultless : (now : MemberReader S A State) → Going old now → line_fault now.below ≡ None → old.fault ≡ None
@@ -324,10 +309,6 @@ module _ {S A State : Type 0} (device : Source S) where
 
     first_came : (a b : Option (List TextLine)) (line : TextLine) → GivesFirst a line b → IfSome a (λ lines. (rest : List TextLine) × (lines ≡ line ∷ rest))
     first_came a b line g = grind arith
-
-    told_first : (good : Option (Good A)) (n line : ℕ) (item : A) → line ≡ n → IfSome good (λ good. (rest : List (Member A)) × (good.members ≡ record { line = line; item = item } ∷ rest))
-        → IfSome good (λ good. (first : A) × (rest : List (Member A)) × (good.members ≡ record { line = n; item = first } ∷ rest))
-    told_first good n line item e h = grind arith
 
     -- a member that couldn't be kept was good
     unkept_cause : (now new : MemberReader S A State) (line : TextLine) (fault : FaultValue) (item : A) → Going old now → LineCame device now.below line new.below
@@ -446,9 +427,6 @@ module _ {S A State : Type 0} (device : Source S) where
     near = near_came device old.below old.below (came_none device old.below);
     shrinks = omega arith;
   }
-
-with_none : {A : Type 0} (good : Option (Good A)) → option_map (with_members []) good ≡ good
-with_none good = grind arith
 
 -- no member was taken
 pub takes_none : {S A State : Type 0} (device : Source S) (reader : MemberReader S A State) → Takes device reader [] reader

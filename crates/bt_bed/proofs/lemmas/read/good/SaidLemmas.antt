@@ -1,5 +1,5 @@
 -- Lemmas on what a line says on its own.
-use Rattle.bt_lines.proofs.Std.{arith, ◌≡◌, ℕ, true, List, Err, zero, suc, ◌+◌, ◌<◌, ◌≤◌, [], ◌∷◌, ◌++◌, take, length, Option, Some, None, Result, Ok, refl, sym, ap, subst, All, IfSome, All-nil, All-cons, All-head, All-tail}
+use Rattle.bt_lines.proofs.Std.{arith, ◌≡◌, ℕ, true, List, Err, zero, suc, ◌+◌, ◌<◌, ◌≤◌, [], ◌∷◌, ◌++◌, take, length, Option, Some, None, Result, Ok, refl, sym, subst, All, IfSome, All-nil, All-head, All-tail}
 use Rattle.bt_lines.specs.declared.fault.Kind.{Kind}
 use Rattle.bt_bed.proofs.lemmas.parse.FeatureLemmas.{said_is_feature, record_said}
 use Rattle.bt_bed.specs.model.BedLine.{is_bed_kind, is_genome_kind, is_of_line, is_record_kind, record_of, said_are_features}

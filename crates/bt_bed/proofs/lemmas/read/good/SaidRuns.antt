@@ -1,23 +1,21 @@
 -- Lemmas on records that lines say one after another, and on what is good of such lines.
-use Rattle.bt_lines.proofs.Std.{rules, ◌≡◌, ℕ, suc, ◌≤◌, Bool, true, false, cond, List, [], ◌∷◌, ◌++◌, length, take, drop, Option, Some, None, Result, Ok, Err, refl, sym, ap, ◌∙◌, subst, arith, bytes_eq, nat_lt, ⊤, ◌&&◌, not, IsTrue, false≢true, nat_tests, bytes_eq-Decides, ◌+◌, ◌-◌, length-append, length-take, IfNone, IfSome, take-append_seam, drop_at, length-drop}
+use Rattle.bt_lines.proofs.Std.{rules, ◌≡◌, ℕ, suc, ◌≤◌, Bool, true, false, List, [], ◌∷◌, ◌++◌, length, take, drop, Option, Some, None, Result, Ok, refl, sym, ap, ◌∙◌, subst, arith, ⊤, IsTrue, ◌+◌, ◌-◌, length-append, IfNone, IfSome, take-append_seam, drop_at, length-drop}
 use Rattle.bt_bed.specs.calls.Batch.{IsWhere, Passes, cursor_in, left}
 use Rattle.bt_bed.specs.calls.SortedReader.{are_in_order, IsTaken, Lends, buffered_in, count_in}
 use Rattle.bt_lines.specs.model.Lines.{AreNumbered, TextLine}
 use Rattle.bt_lines.specs.declared.fault.Input.{Input}
 use Rattle.bt_lines.specs.declared.fault.Kind.{Kind}
-use Rattle.bt_lines.specs.declared.fault.Kind.TheVariants.{OutOfOrder, UnknownChrom}
 use Rattle.bt_bed.proofs.lemmas.Definitions.{line_said}
 use Rattle.bt_bed.specs.model.Feature.{Feature}
 use Rattle.bt_bed.specs.model.BedLine.{record_of}
 use Rattle.bt_bed.specs.model.Good.{Format, good_from, bed_format, line_says, locus_at, said_after}
 use Rattle.bt_bed.specs.model.Sorted.{Locus, Sorting, falls_in}
 use Rattle.bt_bed.specs.calls.Reading.{AreSaid, members_from, state_behind, with_members}
-use Rattle.bt_bed.specs.calls.Bed.{last_start, placed_on, record_on, run_of, run_then, record_in, is_some_left}
+use Rattle.bt_bed.specs.calls.Bed.{last_start, placed_on, record_on, run_of, record_in, is_some_left}
 use Rattle.bt_lines.proofs.lemmas.reader.block.BufferLemmas.{fed_none}
 use Rattle.bt_lines.proofs.lemmas.reader.lines.BufferedLemmas.{lines_taken}
-use Rattle.bt_lines.specs.calls.Reader.{PassesLines, rest_in, TakenLines, lines_given}
+use Rattle.bt_lines.specs.calls.Reader.{PassesLines, rest_in, TakenLines}
 use Rattle.bt_lines.specs.declared.reader.buffered_lines.BufferedLines.{BufferedLines}
-use Rattle.bt_bed.specs.inside.OrderedLookahead.{start_in as start_of}
 use Rattle.bt_bed.specs.declared.read.batch.Batch.{Batch}
 use Rattle.bt_bed.specs.declared.read.batch.Consumed.{Consumed}
 use Rattle.bt_bed.specs.declared.record.raw_record.RawRecord.{RawRecord}
@@ -68,10 +66,6 @@ pub record_on_is : (name : List ℕ) (start : ℕ) (text : List ℕ) (r : Featur
 unfolding record_on
 record_on_is name start text r e = placed_is_by name start (record_of text) r e
 
--- the head of a run
-run_head : (name : List ℕ) (o : Option Feature) (more : ℕ → List Feature) (r : Feature) (items : List Feature) → run_then o more ≡ r ∷ items → (o ≡ Some r) × (more r.start ≡ items)
-run_head name o more r items e = grind arith
-
 -- the first line of a run
 pub record FirstOfRun (name : List ℕ) (start : ℕ) (lines : List TextLine) (r : Feature) (items : List Feature) : Type 0 where
   pub line : TextLine
@@ -86,10 +80,6 @@ pub first_of_run : (name : List ℕ) (start : ℕ) (lines : List TextLine) (r : 
 unfolding run_of
 first_of_run name start [] r items e = cc
 first_of_run name start (line ∷ lines) r items e = grind (arith, record_on_is)
-
--- what a line says after a place depends on its record alone
-said_after_is : (sorting : Sorting) (state : Option Locus) (said : Result (Option Feature) Kind) (r : Feature) → said_after sorting state said ≡ Ok (Some r) → said ≡ Ok (Some r)
-said_after_is sorting state said r e = grind arith
 
 pub says_again : (sorting : Sorting) (state : Option Locus) (text other : List ℕ) (r : Feature) → line_says sorting state other ≡ Ok (Some r) → record_of text ≡ Ok (Some r) → line_says sorting state text ≡ Ok (Some r)
 unfolding line_says
@@ -167,9 +157,6 @@ said_in_order sorting state (r ∷ records) said = grind (arith, (line_said sort
 none_before : (xs ys : List Feature) → [] ≡ xs ++ ys → xs ≡ []
 none_before [] ys e = refl
 none_before (x ∷ xs) ys e = cc
-
-none_some : (xs : List Feature) → is_some_left xs ≡ false → xs ≡ []
-none_some xs e = grind arith
 
 -- if no line was consumed, no byte was
 same_place : (first last : BufferedLines) → PassesLines first 0 last → last.at ≡ first.at

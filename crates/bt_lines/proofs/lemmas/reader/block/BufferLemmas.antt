@@ -1,6 +1,6 @@
 -- Lemmas on the bytes of a block.
 use Rattle.std.proofs.lemmas.Grind.{common_steps}
-use Rattle.bt_lines.proofs.Std.{rules, ◌≡◌, ℕ, ◌+◌, ◌-◌, ◌≤◌, List, length, take, drop, slice_range, sym, ap, ◌∙◌, arith, length-take, drop-take, drop-drop, zero, suc, ◌<◌, ◌⊎◌, inl, inr, Bool, true, false, cond, [], ◌∷◌, ◌++◌, get_or, set, Some, None, refl, subst, append_assoc, length-append, eqb, paste, take-add, eqb-true, false_from_ne_true, false≢true, take-append-drop, take-append-le, take-take, drop-append-le, take_at, take_more, take_more_set, length-take-le, length-drop, get_or-drop, get_or_default, All-append, All-nil, nat_eq, ◌^◌, Option, append-nil, add-zero, Consumes-nil, Consumes-trans, nat_tests, Consumes, Result, Ok, Err}
+use Rattle.bt_lines.proofs.Std.{rules, ◌≡◌, ℕ, ◌+◌, ◌-◌, ◌≤◌, List, length, take, drop, slice_range, sym, ap, ◌∙◌, arith, length-take, drop-take, drop-drop, zero, suc, ◌<◌, ◌⊎◌, inl, inr, Bool, true, false, cond, [], ◌∷◌, ◌++◌, get_or, set, Some, None, refl, subst, append_assoc, length-append, eqb, paste, take-add, eqb-true, false_from_ne_true, false≢true, take-append-drop, take-append-le, take-take, drop-append-le, take_at, take_more, take_more_set, length-take-le, length-drop, get_or-drop, get_or_default, All-append, All-nil, nat_eq, ◌^◌, Option, append-nil, add-zero, Consumes-trans, Consumes, Result, Ok, Err}
 use Rattle.bt_lines.specs.inside.ReadBuffer.{unread, MovesPiece}
 use Rattle.bt_lines.specs.declared.reader.read_buffer.ReadBuffer.{ReadBuffer}
 use Rattle.bt_lines.specs.calls.Output.{block_size}
@@ -246,9 +246,6 @@ then_counted IsRead a b c m n k Failed one two = fails_then IsRead a b c m n one
 then_counted IsRead a b c m n k TooLong one two = counts_then IsRead a b c m n (suc k) one two
 then_counted IsRead a b c m n k NoMemory one two = counts_then IsRead a b c m n k one two
 
-pub zero_of : (n : ℕ) → (0 < n → ⊥) → n ≡ 0
-zero_of n h = grind arith
-
 -- if bytes have no line feed, neither has a prefix of them
 none_in_front : (xs ys all : List ℕ) → all ≡ xs ++ ys → NoLineFeed all → 0 < line_feeds xs → ⊥
 none_in_front xs ys all e clear h = omega (arith, h, line_feeds-none all clear, ap line_feeds e, line_feeds-append xs ys)
@@ -259,11 +256,6 @@ fed_line text line e = rw e (fed_push line)
 
 pub one_line : (text line : List ℕ) → NoLineFeed line → text ≡ line ++ 10 ∷ [] → line_feeds text ≤ 1
 one_line text line clear e = grind (arith, line_feeds-append, line_feeds-none)
-
--- reads before them that served change nothing of where they stopped
-then_stopped : (stop : Stop) (left : Option (List ℕ)) (first mid last told : Bool) (all same complete rest : List ℕ) (taken : ℕ) → all ≡ same → mid ≡ first
-    → StopsWith stop left mid last told same complete rest taken → StopsWith stop left first last told all complete rest taken
-then_stopped stop left first mid last told all same complete rest taken e f h = rw (e, ← f) h
 
 module _ {S : Type 0} (device : Source S) where
   -- the bytes read so far follow those that were held
@@ -297,9 +289,6 @@ module _ {S : Type 0} (device : Source S) where
       pub more_read : (new : S) (next_unread : List ℕ) (next_taken : ℕ) → AsksMore device mid same taken Bytes new next_unread next_taken
           → ReadSoFar old old_unread old_taken new next_unread next_taken
       more_read new next_unread next_taken asks = grind (arith, both, counts, all, never)
-
-      pub shorter : (new : S) (next_unread : List ℕ) (next_taken : ℕ) → AsksMore device mid same taken Bytes new next_unread next_taken → 2 ^ 63 - next_taken < 2 ^ 63 - taken
-      shorter new next_unread next_taken asks = omega (arith, asks.counted, asks.came.0, asks.within, so_far.within)
 
       -- where the reading stopped, after more reads
       stops_by : (stop : Stop) (new : S) (next complete rest : List ℕ) (next_taken : ℕ) → Consumes (device.left mid) (device.left new) next → next_taken + uncounted stop ≡ taken + length next → next_taken < 2 ^ 63

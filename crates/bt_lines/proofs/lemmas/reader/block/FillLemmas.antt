@@ -1,40 +1,23 @@
 -- Lemmas on making a line buffered, and on the step to the next line by it.
 use Rattle.std.proofs.lemmas.Grind.{common_steps}
-use Rattle.bt_lines.proofs.Std.{rules, ◌≡◌, ◌⊎◌, inl, inr, ℕ, suc, ◌-◌, ◌<◌, Bool, true, false, List, [], ◌++◌, length, take, Option, Result, None, Some, Ok, Err, refl, sym, ap, ◌∙◌, subst, append_assoc, append-nil, length-append, add-zero, arith, option_map, is_some, IfSome, IsSome, false≢true, Consumes-nil, ◌+◌, ◌≤◌, ◌∷◌, drop, eqb, take-add, take-length, take-append-drop, take_at, drop_at, length-take-le, length-drop, All-append}
+use Rattle.bt_lines.proofs.Std.{rules, ◌≡◌, ℕ, suc, ◌-◌, ◌<◌, Bool, true, false, List, [], ◌++◌, length, take, Option, Result, None, Some, Ok, Err, sym, ap, ◌∙◌, subst, append_assoc, length-append, arith, option_map, is_some, IfSome, IsSome, false≢true, ◌+◌, ◌≤◌, ◌∷◌, drop, eqb, take-add, take-append-drop, take_at, drop_at, length-take-le, length-drop, All-append}
 use Rattle.bt_lines.specs.declared.device.Source.{Ghosts as Source}
-use Rattle.bt_lines.proofs.lemmas.reader.lines.TakingLemmas.{hands_both, hands_none}
-use Rattle.bt_lines.proofs.lemmas.reader.block.ReadsLemmas.{has_read_then, some_is}
-use Rattle.bt_lines.proofs.lemmas.reader.lines.StepLemmas.{some_state, none_told, some_length}
+use Rattle.bt_lines.proofs.lemmas.reader.block.ReadsLemmas.{has_read_then}
+use Rattle.bt_lines.proofs.lemmas.reader.lines.StepLemmas.{none_told}
 use Rattle.bt_lines.proofs.lemmas.reader.lines.TextLemmas.{line_feeds-append}
-use Rattle.bt_lines.specs.model.Fault.{FaultValue}
 use Rattle.bt_lines.specs.calls.Columns.{IsBefore, IsFirstOf, Lacks}
-use Rattle.bt_lines.specs.calls.Line.{GivesFirst, line_seen}
-use Rattle.bt_lines.specs.model.Lines.{TextLine, line_feeds, lines_from}
+use Rattle.bt_lines.specs.calls.Line.{line_seen}
+use Rattle.bt_lines.specs.model.Lines.{TextLine, lines_from}
 use Rattle.bt_lines.specs.calls.Names.{fault_value}
-use Rattle.bt_lines.specs.inside.ReadBuffer.{complete, unread, ended_at, fault_at, lends_at, open_at, taken_at}
-use Rattle.bt_lines.specs.calls.Reader.{DropsLines, FillsLines, GivesFault, GivesLine, HasRead, IsKept, IsSound, MakesLine, NextLine, TellsOwnFailure, TellsReads, buffered_bytes, bytes_left, bytes_taken, end_told, fault_kept, feeds_taken, has_ended, held, input_of, left_at, line_at, lines_given, lines_left, source_of}
-use Rattle.bt_lines.specs.inside.Shape.{held_at}
+use Rattle.bt_lines.specs.inside.ReadBuffer.{complete}
+use Rattle.bt_lines.specs.calls.Reader.{DropsLines, FillsLines, GivesLine, HasRead, IsKept, IsSound, MakesLine, NextLine, TellsOwnFailure, buffered_bytes, bytes_left, bytes_taken, end_told, fault_kept, feeds_taken, has_ended, held, input_of, left_at, line_at, lines_given, lines_left, source_of}
 use Rattle.bt_lines.specs.declared.fault.Fault.{Fault}
-use Rattle.bt_lines.specs.declared.fault.Input.{Input}
 use Rattle.bt_lines.specs.declared.reader.line.Line.{Line}
 use Rattle.bt_lines.specs.declared.reader.line_reader.LineReader.{LineReader}
-use Rattle.bt_lines.specs.declared.reader.line_reader.State.{State}
-use Rattle.bt_lines.specs.declared.reader.line_reader.State.TheVariants.{Reading, LastLine, Ended}
+use Rattle.bt_lines.specs.declared.reader.line_reader.State.TheVariants.{LastLine, Ended}
 
 same_lines : (lines : Option (List TextLine)) → DropsLines lines 0 lines
 same_lines lines = grind arith
-
-first_of_same : (xs : List TextLine) (b : Option (List TextLine)) (line : TextLine) (c : Option (List TextLine)) → b ≡ Some xs → GivesFirst b line c → GivesFirst (Some xs) line c
-first_of_same xs b line c e first = subst (λ (o : Option (List TextLine)). GivesFirst o line c) e first
-
-first_after : (a b : Option (List TextLine)) (line : TextLine) (c : Option (List TextLine)) → DropsLines a 0 b → GivesFirst b line c → GivesFirst a line c
-first_after a b line c same first = grind arith
-
-going_by : (state : State) (input : Input) (lines taken : ℕ) → (state ≡ Reading) ⊎ (state ≡ LastLine) → (fault_at state input lines ≡ None) × (ended_at state ≡ false) × (taken_at state taken ≡ taken)
-going_by state input lines taken p1 = grind arith
-
-some_told : (fault : Fault) (kept : Option FaultValue) → kept ≡ Some (fault_value fault) → kept ≡ None → ⊥
-some_told fault kept e f = false≢true (ap is_some (sym f ∙ e))
 
 none_left_at : (told : Bool) (held : List ℕ) (n : ℕ) (a : Option (List ℕ)) → told ≡ true → held ≡ [] → IfSome (option_map (lines_from n) (left_at told held a)) (λ lines. lines ≡ [])
 none_left_at told held n a e none = grind (arith, none_told)

@@ -1,13 +1,13 @@
 -- Lemmas on a line that is taken of those that are buffered.
 use Rattle.std.proofs.lemmas.Grind.{common_steps}
-use Rattle.bt_lines.proofs.Std.{rules, ◌≡◌, ◌⊎◌, inl, inr, ℕ, suc, ◌+◌, ◌-◌, ◌<◌, ◌≤◌, Bool, true, false, cond, nat_eq, List, [], ◌∷◌, ◌++◌, length, take, drop, slice_range, Option, Some, refl, sym, ap, ◌∙◌, subst, append_assoc, append-nil, length-append, add-zero, arith, IsSome, nat_lt, ends_with_byte, strip_last, take-append_seam, false≢true, nat_tests, length-take, Consumes-nil, Consumes, ◌^◌, cases_lt, drop-drop, length-drop, take-append-drop, take_all, zero, take-add}
+use Rattle.bt_lines.proofs.Std.{◌≡◌, ◌⊎◌, ℕ, suc, ◌+◌, ◌-◌, ◌<◌, ◌≤◌, Bool, true, false, cond, nat_eq, List, [], ◌∷◌, ◌++◌, length, take, drop, slice_range, Option, Some, refl, sym, ap, ◌∙◌, subst, append_assoc, append-nil, length-append, add-zero, arith, IsSome, nat_lt, ends_with_byte, strip_last, take-append_seam, length-take, Consumes-nil, Consumes, ◌^◌, drop-drop, length-drop, take-append-drop, take_all, zero, take-add}
 use Rattle.bt_lines.specs.declared.device.Source.{Ghosts as Source}
 use Rattle.bt_lines.proofs.lemmas.reader.block.BufferLemmas.{unread_fits, fed_none, fed_clear, fed_drop, fed_after, fed_push}
-use Rattle.bt_lines.proofs.lemmas.reader.lines.StepLemmas.{some_state, goes, told_last, gives_fed, sound_fed, gives_last, sound_last, last_line-some}
-use Rattle.bt_lines.proofs.lemmas.reader.lines.TextLemmas.{line_feeds-fed, lines_from-last, lines_from-nil, strip_last-other, strip_last-push, whole_lines_from-fed, whole_lines_from-last, line_feeds-append}
+use Rattle.bt_lines.proofs.lemmas.reader.lines.StepLemmas.{some_state, goes, told_last, gives_fed, sound_fed, gives_last, sound_last}
+use Rattle.bt_lines.proofs.lemmas.reader.lines.TextLemmas.{line_feeds-fed, lines_from-last, lines_from-nil, strip_last-other, strip_last-push, whole_lines_from-fed, whole_lines_from-last}
 use Rattle.bt_lines.specs.calls.Columns.{IsBefore}
 use Rattle.bt_lines.specs.calls.Line.{Cut, Shown, ending_at, NoLineFeed, line_seen, IsFirst, shown_of}
-use Rattle.bt_lines.specs.model.Lines.{TextLine, fed_line, line_feeds, lines_from, whole_lines_from}
+use Rattle.bt_lines.specs.model.Lines.{TextLine, fed_line, line_feeds}
 use Rattle.bt_lines.specs.calls.Output.{block_size}
 use Rattle.bt_lines.specs.inside.ReadBuffer.{complete, text_in, unread, lends_at, open_at, told_at}
 use Rattle.bt_lines.specs.calls.Reader.{GivesLine, IsKept, IsSound, has_ended, held, input_of, line_at, lines_given, source_of, BeginsLines, buffered_lines, line_of, lines_after, lines_in, rest_in, IsWhere, PassesLines, TakenLines, buffered_bytes, is_open}
@@ -197,10 +197,6 @@ strip_begins line = begins_by (ends_with_byte 13 line) refl
 pub take_front : (xs tail line bytes : List ℕ) → line ≡ xs ++ tail → take (length line) bytes ≡ line → take (length xs) bytes ≡ xs
 take_front xs tail line bytes is front = grind (arith, (take-append-drop (length line) bytes), (append_assoc xs tail (drop (length line) bytes)), (take-append_seam xs (tail ++ drop (length line) bytes)))
 
--- whether a carriage return was taken off
-returned_by : (line : List ℕ) (b : Bool) → ends_with_byte 13 line ≡ b → nat_lt (length (strip_last 13 line) + 1) (length line + 1) ≡ b
-returned_by line b e = search rules
-
 -- the first line, as it was cut
 cut_of : (bytes line : List ℕ) → IsBefore 10 bytes (length line) → take (length line) bytes ≡ line → length line < length bytes → Cut bytes (shown_of line)
 cut_of bytes line before front inside = grind (arith, common_steps)
@@ -292,19 +288,9 @@ module _ (old new : BufferedLines) (line : Shown) (cut : Cut (rest_in old) line)
 -- what was consumed of what a reader gave
 module _ {S : Type 0} (reader : LineReader S) (first last : BufferedLines) (consumed : ConsumedLines) (count : ℕ)
     (begins : BeginsLines (buffered_bytes reader) (lines_given reader) (is_open reader) first) (passes : PassesLines first count last) (is : IsWhere last consumed) where
-  rest_first : rest_in first ≡ buffered_bytes reader
-  unfolding rest_in
-  rest_first = ap (λ n. drop n first.all.now) begins.at ∙ begins.bytes_are
-
-  front_first : take (last.at - first.at) (rest_in first) ≡ take consumed.bytes (buffered_bytes reader)
-  front_first = grind (arith, rest_first)
-
   pub lines_taken : TakenLines reader consumed count
   unfolding lines_in rest_in
   lines_taken = grind arith
-
-count_by : (n : ℕ) → (n ≡ 0 → ⊥) → 0 < n
-count_by n none = grind arith
 
 -- if bytes were consumed, lines were
 pub some_lines : {S : Type 0} (reader : LineReader S) (consumed : ConsumedLines) (count : ℕ) → TakenLines reader consumed count → (consumed.bytes ≡ 0 → ⊥) → 0 < count

@@ -1,18 +1,18 @@
 -- Lemmas on a step of the reader of lines.
 use Rattle.std.proofs.lemmas.Grind.{common_steps}
-use Rattle.bt_lines.proofs.Std.{rules, ◌≡◌, ℕ, suc, ◌+◌, ◌-◌, ◌^◌, ◌<◌, ◌≤◌, ◌⊎◌, inl, inr, true, false, cond, List, [], ◌∷◌, ◌++◌, length, Option, None, Some, Ok, Err, take, drop, refl, sym, ap, ◌∙◌, subst, append_assoc, append-nil, add-zero, length-append, arith, option_map, is_some, IfSome, flat_map, nil_from_length, take_all, false≢true, take-append-add, take-append_seam, Consumes-nil, Consumes, IsAtEnd, prepend_known, ends_with_byte, strip_last, nat_eq, nat_tests}
+use Rattle.bt_lines.proofs.Std.{rules, ◌≡◌, ℕ, suc, ◌+◌, ◌-◌, ◌^◌, ◌<◌, ◌≤◌, ◌⊎◌, inl, inr, true, false, cond, List, [], ◌∷◌, ◌++◌, length, Option, None, Some, Ok, Err, take, drop, refl, sym, ap, ◌∙◌, subst, append_assoc, append-nil, length-append, arith, option_map, is_some, IfSome, take_all, false≢true, take-append-add, take-append_seam, Consumes, IsAtEnd, prepend_known, ends_with_byte, strip_last}
 use Rattle.bt_lines.specs.declared.device.Source.{Ghosts as Source}
 use Rattle.bt_lines.proofs.lemmas.reader.block.BufferLemmas.{unread_fits, one_line}
-use Rattle.bt_lines.proofs.lemmas.reader.lines.TextLemmas.{lines_from-fed, lines_from-last, lines_from-nil, spelled-fed, spelled-last, line_feeds-append, line_feeds-none, line_feeds-fed, bytes_behind_first}
+use Rattle.bt_lines.proofs.lemmas.reader.lines.TextLemmas.{lines_from-fed, lines_from-last, lines_from-nil, spelled-fed, line_feeds-append, line_feeds-none, line_feeds-fed, bytes_behind_first}
 use Rattle.bt_lines.specs.inside.ReadBuffer.{complete, unread, lends_at, open_at, told_at}
 use Rattle.bt_lines.specs.model.Lines.{TextLine, fed_line, last_line, lines_from, line_feeds, bytes_in, spelled}
-use Rattle.bt_lines.specs.model.Fault.{FaultValue, read_failed, no_memory}
+use Rattle.bt_lines.specs.model.Fault.{read_failed, no_memory}
 use Rattle.bt_lines.specs.inside.Shape.{held_at, IsLast}
 use Rattle.bt_lines.specs.inside.Spill.{Buffers, closed}
 use Rattle.bt_lines.specs.calls.Output.{block_size}
-use Rattle.bt_lines.specs.calls.Line.{GivesFirst, NoLineFeed}
+use Rattle.bt_lines.specs.calls.Line.{NoLineFeed}
 use Rattle.bt_lines.specs.calls.Names.{fault_value}
-use Rattle.bt_lines.specs.calls.Reader.{FillsLines, IsKept, IsSound, MakesLine, DropsLines, buffered_bytes, Hands, IsNear, FailsToRead, end_told, GivesLine, line_at, source_of, input_of, lines_given, bytes_taken, held, fault_kept, has_ended, bytes_left, feeds_taken}
+use Rattle.bt_lines.specs.calls.Reader.{FillsLines, IsKept, IsSound, DropsLines, buffered_bytes, Hands, IsNear, FailsToRead, end_told, GivesLine, line_at, source_of, input_of, lines_given, bytes_taken, held, fault_kept, has_ended, bytes_left, feeds_taken}
 use Rattle.bt_lines.specs.declared.fault.Fault.{Fault}
 use Rattle.bt_lines.specs.declared.fault.Input.{Input}
 use Rattle.bt_lines.specs.declared.reader.spill.Stop.{Stop}
@@ -52,20 +52,10 @@ told_ended reader e = record { good = rw e refl; is_told = rw e refl; taken = rw
 
 -- ---- lines of known bytes
 
--- the last one, which was held
-last_of_known : (n : ℕ) (a : Option (List ℕ)) (piece rest : List ℕ) (line : TextLine) → lines_from n piece ≡ line ∷ [] → rest ≡ []
-    → GivesFirst (option_map (lines_from n) (option_map (λ ys. piece) a)) line (option_map (lines_from (suc n)) (option_map (λ ys. rest) a))
-last_of_known n a piece rest line h e = grind (arith, lines_from-nil)
-
 -- those that are left stay the same while more bytes are taken
 same_known : (n : ℕ) (a b : Option (List ℕ)) (old new bytes : List ℕ) → Consumes a b bytes → new ≡ old ++ bytes
     → DropsLines (option_map (lines_from n) (prepend_known old a)) 0 (option_map (lines_from n) (prepend_known new b))
 same_known n a b old new bytes c e = grind (arith, append_assoc)
-
--- nor when the end is reported
-same_at_end : (n : ℕ) (a b : Option (List ℕ)) (old new bytes : List ℕ) → Consumes a b bytes → IsAtEnd b → new ≡ old ++ bytes
-    → DropsLines (option_map (lines_from n) (prepend_known old a)) 0 (option_map (lines_from n) (option_map (λ ys. new) b))
-same_at_end n a b old new bytes c end e = search rules
 
 -- none is left once the end was reported and nothing is held
 pub none_told : (n : ℕ) (a : Option (List ℕ)) (held : List ℕ) → held ≡ [] → IfSome (option_map (lines_from n) (option_map (λ ys. held) a)) (λ lines. lines ≡ [])
@@ -89,9 +79,6 @@ module _ {S : Type 0} (device : Source S) (old new : LineReader S) (bytes piece 
     (at : line_at new ≡ Some (fed_line (suc (lines_given old)) piece)) (near : length (held new) ≤ block_size) (ready : 0 < line_feeds (held old) → source_of new ≡ source_of old) (served : device.has_failed (source_of new) ≡ device.has_failed (source_of old)) where
   fed_size : length (held old) + length bytes ≡ length piece + suc (length (held new))
   fed_size = omega (arith, length-append (held old) bytes, ap length joined, length-append piece (10 ∷ held new))
-
-  taken_more : bytes_taken new ≡ bytes_taken old + length bytes
-  taken_more = is.taken ∙ counted ∙ ap (λ n. n + length bytes) (sym was.taken)
 
   within : bytes_taken new < 2 ^ 63
   within = rw is.taken new.counted
@@ -125,18 +112,12 @@ module _ {S : Type 0} (device : Source S) (old new : LineReader S) (piece : List
   one : last_line (suc (lines_given old)) piece ≡ line ∷ []
   one = last_line-some (suc (lines_given old)) piece some
 
-  last_hands : Hands device.left old [] new
-  last_hands = grind arith
-
   last_held : held old ++ [] ≡ spelled line ++ held new
   last_held = grind (arith, common_steps)
 
   last_below : lines_given new < 2 ^ 63
   unfolding lines_given
   last_below = omega (arith, new.a_byte_each, new.counted)
-
-  last_within : bytes_taken old < 2 ^ 63
-  last_within = rw was.taken old.counted
 
   module _ (at : line_at new ≡ Some line) where
     pub gives_last : GivesLine device old line new
@@ -171,18 +152,11 @@ module _ {S : Type 0} (device : Source S) (old new : LineReader S) (bytes : List
     (same : input_of new ≡ input_of old) (same_lines : lines_given new ≡ lines_given old) (consumed : Consumes (device.left (source_of old)) (device.left (source_of new)) bytes)
     (counted : new.taken ≡ old.taken + length bytes) (nothing : held old ++ bytes ≡ []) (gone : held new ≡ [])
     (served : device.has_failed (source_of new) ≡ device.has_failed (source_of old)) (told : device.end_told (source_of new) ≡ true) (none : IsAtEnd (device.left (source_of new))) (ended : has_ended new ≡ true) (empty : buffered_bytes old ≡ []) where
-  end_hands : Hands device.left old bytes new
-  end_hands = grind arith
-
   pub fills_end : FillsLines device old (Ok false) new
   unfolding bytes_left
   fills_end = grind (arith, append-nil, lines_from-nil)
 
 -- ---- a line that couldn't be given
-
--- no fault is none
-some_fault : (fault : FaultValue) → None ≡ Some fault → ⊥
-some_fault fault e = false≢true (ap is_some e)
 
 -- a failed read has a place
 some_place : {input : Input} {line : ℕ} → read_failed input line ≡ no_memory → ⊥
@@ -198,9 +172,6 @@ module _ {S : Type 0} (device : Source S) (old new : LineReader S) (bytes text b
     (counted : bytes_taken new ≡ bytes_taken old + length bytes) (joined : held old ++ bytes ≡ text ++ behind) (clear : NoLineFeed text)
     (short : length behind ≤ block_size) (holds : bytes_taken new < 2 ^ 63 → lines_given old + line_feeds (held new) ≡ lines_given old + line_feeds (held old) + line_feeds bytes)
     (kept : fault_kept new ≡ Some (fault_value fault)) (untold : end_told new ≡ false) (empty : buffered_bytes old ≡ []) where
-  cut_counts : bytes_taken new < 2 ^ 63 → lines_given new + line_feeds (held new) ≡ lines_given old + line_feeds (held old) + line_feeds bytes
-  cut_counts below = grind arith
-
   cut_hands : Hands device.left old bytes new
   unfolding feeds_taken
   cut_hands = grind arith
@@ -224,21 +195,12 @@ module _ {S : Type 0} (device : Source S) (old new : LineReader S) (bytes text b
 
 -- ---- the same, by the fields of the reader
 
-pub held_told : (complete unread : List ℕ) → complete ≡ [] → held_at true complete unread ≡ []
-held_told complete unread e = ap (λ l. take (length l - 1) l) e
-
 -- a last piece with its line feed holds the piece
 pub held_closed : (all complete unread : List ℕ) → complete ≡ closed all → held_at true complete unread ≡ all
 held_closed all complete unread e = grind (arith, common_steps)
 
 no_feeds_by : (stop : Stop) (n : ℕ) → (stop ≡ StopLineFeed → ⊥) → (n ≡ 0) ⊎ (stop ≡ StopLineFeed) → n ≡ 0
 no_feeds_by stop n other p1 = grind arith
-
-pub some_length : (xs : List ℕ) → (length xs ≡ 0 → ⊥) → 0 < length xs
-some_length xs h = grind arith
-
-closed_none : (xs : List ℕ) → closed xs ≡ [] → xs ≡ []
-closed_none xs e = grind arith
 
 module _ {S : Type 0} (device : Source S) (old new : LineReader S) (going : old.state ≡ Reading) (none : complete old.buffer ≡ [])
     (same : new.input ≡ old.input) (same_lines : new.lines ≡ old.lines) (stop : Stop)

@@ -1,31 +1,20 @@
 -- Lemmas on lines that are taken of those that are buffered.
 use Rattle.std.proofs.lemmas.Grind.{common_steps}
-use Rattle.bt_lines.proofs.Std.{rules, ◌≡◌, ◌⊎◌, inl, inr, ℕ, zero, suc, ◌+◌, ◌-◌, ◌^◌, ◌<◌, ◌≤◌, Bool, true, false, nat_eq, List, [], ◌∷◌, ◌++◌, length, take, drop, refl, sym, ap, ◌∙◌, subst, Option, None, Some, append_assoc, length-append, arith, IfSome, option_map, false≢true, nat_tests, drop_all, drop_at, take_all, take_at, length-take, length-drop, take-append-drop, count_by-le-length, Consumes-nil, add-zero, Consumes-trans}
+use Rattle.bt_lines.proofs.Std.{◌≡◌, ◌⊎◌, inl, inr, ℕ, zero, suc, ◌+◌, ◌-◌, ◌^◌, ◌<◌, ◌≤◌, Bool, true, false, nat_eq, List, [], ◌∷◌, ◌++◌, length, take, drop, refl, sym, ap, ◌∙◌, Option, None, Some, append_assoc, length-append, arith, IfSome, option_map, drop_all, drop_at, take_all, take_at, length-take, take-append-drop, Consumes-trans}
 use Rattle.bt_lines.specs.declared.device.Source.{Ghosts as Source}
 use Rattle.bt_lines.proofs.lemmas.reader.block.BufferLemmas.{fed_clear, fed_drop, fed_last, fed_none, unread_fits}
 use Rattle.bt_lines.proofs.lemmas.reader.lines.BufferedLemmas.{are_fed, lines_fit}
 use Rattle.bt_lines.proofs.lemmas.reader.lines.TextLemmas.{lines_from-fed, lines_from-last, lines_from-nil, by_lines, bytes_in-drop, bytes_in-lines, lines_are_numbered, whole_lines_from-last, line_feeds-append, line_feeds-fed, whole_count, whole_front}
 use Rattle.bt_lines.specs.calls.Reader.{buffered_lines, DropsLines, Hands, IsKept, IsPrefix, TakesLines, bytes_taken, buffered_in, fault_kept, feeds_taken, has_ended, input_of, buffered_bytes, bytes_left, is_open, end_told, held, left_at, lines_given, lines_left, source_of, IsSound}
 use Rattle.bt_lines.specs.calls.Line.{NoLineFeed, GivesFirst}
-use Rattle.bt_lines.specs.model.Lines.{AreNumbered, TextLine, bytes_in, fed_line, last_line, line_feeds, lines_from, whole_lines_from}
+use Rattle.bt_lines.specs.model.Lines.{TextLine, bytes_in, last_line, line_feeds, lines_from, whole_lines_from}
 use Rattle.bt_lines.specs.calls.Output.{block_size}
 use Rattle.bt_lines.specs.inside.ReadBuffer.{complete, unread, ended_at, fault_at, lends_at, open_at, taken_at, told_at}
-use Rattle.bt_lines.specs.inside.Shape.{AreComplete, IsLast, held_at, is_fed}
+use Rattle.bt_lines.specs.inside.Shape.{IsLast, held_at, is_fed}
 use Rattle.bt_lines.specs.declared.fault.Input.{Input}
 use Rattle.bt_lines.specs.declared.reader.buffered_lines.ConsumedLines.{ConsumedLines}
 use Rattle.bt_lines.specs.declared.reader.line_reader.LineReader.{LineReader}
 use Rattle.bt_lines.specs.declared.reader.line_reader.State.{State}
-use Rattle.bt_lines.specs.declared.reader.line_reader.State.TheVariants.{Reading, LastLine, Ended, ReadFailed, TooLong, NoMemory}
-use Rattle.bt_lines.specs.declared.reader.read_buffer.ReadBuffer.{ReadBuffer}
-
-feeds_le : (xs : List ℕ) → line_feeds xs ≤ length xs
-feeds_le xs = count_by-le-length _ xs
-
-not_one : (n m : ℕ) → n ≡ m → nat_eq m 1 ≡ false → nat_eq n 1 ≡ false
-not_one n m e h = rw e h
-
-two_of : (n : ℕ) → 0 < n → nat_eq n 1 ≡ false → 2 ≤ n
-two_of n some h = grind arith
 
 -- a last line is taken whole or not at all
 pub record Whole (lines : List ℕ) (n : ℕ) : Type 0 where
@@ -47,15 +36,6 @@ module _ (state : State) (lines unread : List ℕ) (given taken n : ℕ) (within
     (last : IsLast (told_at state) (open_at state) lines unread) (quiet : lends_at state ≡ false → lines ≡ []) (before : given + length (held_at (open_at state) lines unread) ≤ taken) where
   alone_by : open_at state ≡ true → Whole lines n
   alone_by e = whole lines n within fed front (last.one e)
-
-  spaced_whole : given + length (held_at true lines unread) ≤ taken → nat_eq (length lines) 1 ≡ false
-      → ((drop n lines ≡ lines) × (line_feeds (take n lines) ≡ 0) × (n ≡ 0)) ⊎ ((drop n lines ≡ []) × (line_feeds (take n lines) ≡ 1) × (0 < length lines))
-      → given + line_feeds (take n lines) + length (held_at true (drop n lines) unread) ≤ taken
-  spaced_whole now some p1 = search rules
-
-  some_by : nat_eq (length lines) 1 ≡ false → ((drop n lines ≡ lines) × (line_feeds (take n lines) ≡ 0) × (n ≡ 0)) ⊎ ((drop n lines ≡ []) × (line_feeds (take n lines) ≡ 1) × (0 < length lines))
-      → nat_eq (length (drop n lines)) 1 ≡ false
-  some_by some p1 = grind arith
 
   spaced_closed : (b : Bool) → open_at state ≡ b → given + line_feeds (take n lines) + length (held_at b (drop n lines) unread) ≤ taken
   spaced_closed b e = grind (arith, common_steps)
@@ -135,12 +115,6 @@ is_prefix left reader = prefix_by (told_at reader.state) (open_at reader.state) 
 
 -- ---- what is held then
 
-gone_by : (lines : List ℕ) (n : ℕ) → 0 < n → ((drop n lines ≡ lines) × (line_feeds (take n lines) ≡ 0) × (n ≡ 0)) ⊎ ((drop n lines ≡ []) × (line_feeds (take n lines) ≡ 1) × (0 < length lines)) → drop n lines ≡ []
-gone_by lines n some p1 = grind arith
-
-held_short : (b : Bool) (lines unread : List ℕ) → length (held_at b lines unread) ≤ length (lines ++ unread)
-held_short b lines unread = grind (arith, length-take, length-append)
-
 -- ---- an open line
 
 last_few : (number : ℕ) (piece : List ℕ) → length (last_line number piece) ≤ 1
@@ -174,9 +148,6 @@ closed_held reader e = held_plain (open_at reader.state) (complete reader.buffer
 
 closed_by : (state : State) → told_at state ≡ false → open_at state ≡ false
 closed_by state e = grind arith
-
-none_taken : (lines : List ℕ) (n : ℕ) → lines ≡ [] → line_feeds (take n lines) ≡ 0
-none_taken lines n e = ap line_feeds (ap (take n) e ∙ take_all n [] (omega arith))
 
 module _ {S : Type 0} (device : Source S) (old new : LineReader S) (n : ℕ) (takes : Takes old new n) where
   near_taken : 0 < n → length (held new) ≤ block_size
@@ -297,9 +268,6 @@ near_one : (number : ℕ) (lines unread : List ℕ) (told : Bool) (left : Option
     → IfSome (option_map (lines_from number) (left_at told (lines ++ unread) left)) (λ all. IfSome left (λ rest. bytes_in (drop 1 all) ≤ length rest + block_size))
 near_one number lines unread told left fed one short = grind (arith, length-append, append_assoc, drop_fed, bytes_in-lines)
 
-one_or_none : (n : ℕ) → n ≤ 1 → (n ≡ 0) ⊎ (n ≡ 1)
-one_or_none n small = grind arith
-
 open_few : (number : ℕ) (lines : List ℕ) → is_fed lines ≡ true → line_feeds lines ≤ 1 → drop 1 (lines_from number (take (length lines - 1) lines)) ≡ []
 open_few number lines fed one = grind (arith, common_steps, (few_lines number (take (length lines - 1) lines)), (front_feeds lines one (fed_last lines fed)))
 
@@ -338,9 +306,6 @@ unfolding fault_kept bytes_taken
 taken_below reader going = taken_by reader.state reader.input reader.lines reader.taken reader.counted going
 
 -- ---- the number of the next line
-
-head_number : (n k : ℕ) (all : List TextLine) (line : TextLine) (more : List TextLine) → AreNumbered n all → take k all ≡ line ∷ more → line.number ≡ n
-head_number n k all line more a e = grind arith
 
 number_by : (b : Bool) (given : ℕ) (bytes : List ℕ) (line : TextLine) (more : List TextLine) → buffered_lines b given bytes ≡ line ∷ more → line.number ≡ suc given
 number_by true given bytes line more e = grind (arith, (lines_are_numbered (suc given) (take (length bytes - 1) bytes)))

@@ -1,10 +1,10 @@
 -- Lemmas on the lines of a text.
 use Rattle.std.proofs.lemmas.Grind.{common_steps}
-use Rattle.bt_lines.proofs.Std.{rules, ◌≡◌, ℕ, suc, ◌+◌, ◌-◌, ◌<◌, Bool, true, false, cond, List, [], ◌∷◌, ◌++◌, length, take, drop, get_or, refl, sym, ap, ◌∙◌, append_assoc, append-nil, eqb, arith, flat_map, nat_lt, join_with_byte, ends_with_byte, strip_last, take-append-drop, drop_more, drop_all, slice_split_at, slice_split_none, length-slice_split, join_with_byte-slice_split, eqb-true, ltb-true, and_parts, zero, ◌≤◌, subst, length-append, All-push, All-nil, All-head, All-tail, sum_by-append, false≢true, All, Option, Some, None, get_or-take, get_or_default, length-take-le, take_all, false_from_ne_true, slice_index, eq-eqb}
+use Rattle.bt_lines.proofs.Std.{◌≡◌, ℕ, suc, ◌+◌, ◌-◌, ◌<◌, Bool, true, false, cond, List, [], ◌∷◌, ◌++◌, length, take, drop, get_or, refl, sym, ap, ◌∙◌, append_assoc, append-nil, eqb, arith, flat_map, join_with_byte, ends_with_byte, strip_last, take-append-drop, drop_more, drop_all, slice_split_at, slice_split_none, length-slice_split, join_with_byte-slice_split, eqb-true, zero, ◌≤◌, subst, length-append, All-push, All-nil, All-head, All-tail, sum_by-append, false≢true, All, Option, Some, None, get_or-take, get_or_default, length-take-le, take_all, false_from_ne_true}
 use Rattle.bt_lines.specs.model.Lines.{pieces, fed_line, last_line, numbered, lines_from, spelled, end_bytes, TextLine, whole_lines_from, numbered_whole, line_feeds, bytes_in, AreNumbered}
 use Rattle.bt_lines.specs.calls.Columns.{IsBefore, IsFirstOf, Lacks, CutAt}
 use Rattle.bt_lines.specs.calls.Line.{NoLineFeed}
-use Rattle.bt_lines.specs.declared.reader.line.LineEnd.TheVariants.{Absent, Lf, CrLf, Cr}
+use Rattle.bt_lines.specs.declared.reader.line.LineEnd.TheVariants.{Lf, CrLf}
 use Rattle.memchr.specs.Find.{FindsNeedle, IsFirstByte, OccursAt, Passes, is_byte}
 
 -- a piece is followed by others
@@ -34,9 +34,6 @@ strip_last-other byte xs e = rw e refl
 
 fed_end : (b : Bool) (piece stripped : List ℕ) → (b ≡ true → stripped ++ 13 ∷ [] ≡ piece) → (b ≡ false → stripped ≡ piece) → stripped ++ end_bytes (cond b CrLf Lf) ≡ piece ++ 10 ∷ []
 fed_end b piece stripped with without = grind (arith, append_assoc)
-
-last_end : (b : Bool) (piece stripped : List ℕ) → (b ≡ true → stripped ++ 13 ∷ [] ≡ piece) → (b ≡ false → stripped ≡ piece) → stripped ++ end_bytes (cond b Cr Absent) ≡ piece
-last_end b piece stripped with without = search rules
 
 -- a line with a line feed, as the text has it
 pub spelled-fed : (n : ℕ) (piece : List ℕ) → spelled (fed_line n piece) ≡ piece ++ 10 ∷ []

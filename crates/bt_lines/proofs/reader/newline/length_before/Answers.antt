@@ -1,5 +1,5 @@
 use Rattle.bt_lines.proofs.Std.{arith}
-use Rattle.bt_lines.proofs.lemmas.reader.block.FillLemmas.{before_feed, chunk_first, feed_first, none_behind}
+use Rattle.bt_lines.proofs.lemmas.reader.block.FillLemmas.{before_feed, feed_first}
 use Rattle.bt_lines.proofs.reader.newline.length_before.Goals as goal
 
 pub returns-in-Some-find_near : goal.returns-in-Some-find_near

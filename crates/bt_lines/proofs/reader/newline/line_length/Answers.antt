@@ -1,4 +1,4 @@
-use Rattle.bt_lines.proofs.Std.{◌≡◌, ◌≤◌, length, arith, ap, ◌∙◌, length-take-le}
+use Rattle.bt_lines.proofs.Std.{◌≤◌, length, arith, length-take-le}
 use Rattle.bt_lines.proofs.lemmas.reader.block.FillLemmas.{before_feed, chunk_first, chunk_of, feed_behind, feed_first, none_behind}
 use Rattle.bt_lines.proofs.reader.newline.line_length.Goals as goal
 

@@ -1,6 +1,6 @@
-use Rattle.bt_lines.proofs.Std.{arith, refl}
-use Rattle.bt_lines.proofs.lemmas.reader.block.BufferLemmas.{unread_fits, more_read, none_yet, not_full, some_full, source_failed, text_ended, text_too_long, then_counted, then_long}
-use Rattle.bt_lines.proofs.lemmas.reader.block.ReadsLemmas.{counts_none, counts_then, fails_then}
+use Rattle.bt_lines.proofs.Std.{refl}
+use Rattle.bt_lines.proofs.lemmas.reader.block.BufferLemmas.{unread_fits, none_yet, not_full, some_full, source_failed, text_ended, text_too_long, then_counted, then_long}
+use Rattle.bt_lines.proofs.lemmas.reader.block.ReadsLemmas.{counts_none, fails_then}
 use Rattle.bt_lines.proofs.reader.spill.read_lines.Goals as goal
 
 pub loop-buffer-init : goal.loop-buffer-init

@@ -1,6 +1,6 @@
-use Rattle.bt_lines.proofs.Std.{[], ◌∷◌, ◌++◌, ◌∙◌, refl, ap, arith, length, Ok}
-use Rattle.bt_lines.proofs.lemmas.reader.block.BufferLemmas.{fed_line, one_line, at_first, at_feed, at_refusal, feed_fed, feed_one, more_came, no_feed, none_came, none_refused, read_failed, past_bound}
-use Rattle.bt_lines.proofs.lemmas.reader.block.ReadsLemmas.{counts_none, counts_then, fails_then}
+use Rattle.bt_lines.proofs.Std.{[], ◌∷◌, ◌++◌, ◌∙◌, ap, Ok}
+use Rattle.bt_lines.proofs.lemmas.reader.block.BufferLemmas.{fed_line, one_line, at_feed, at_refusal, feed_fed, feed_one, no_feed, none_came, none_refused, read_failed, past_bound}
+use Rattle.bt_lines.proofs.lemmas.reader.block.ReadsLemmas.{fails_then}
 use Rattle.bt_lines.proofs.reader.spill.read_long.Goals as goal
 
 pub returns-in-Err-clause-buffers : goal.returns-in-Err-clause-buffers

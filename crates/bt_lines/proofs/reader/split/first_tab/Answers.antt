@@ -1,4 +1,3 @@
-use Rattle.bt_lines.proofs.Std.{arith}
 use Rattle.bt_lines.proofs.lemmas.reader.lines.TextLemmas.{finds_byte, tab_divides}
 use Rattle.bt_lines.proofs.reader.split.first_tab.Goals as goal
 

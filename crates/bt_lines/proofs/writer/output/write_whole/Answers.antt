@@ -1,5 +1,5 @@
-use Rattle.bt_lines.proofs.Std.{arith, ◌∙◌, ◌++◌, take, take_rest}
-use Rattle.bt_lines.proofs.lemmas.Writer.{front_part, more_taken, always_err}
+use Rattle.bt_lines.proofs.Std.{arith, take_rest}
+use Rattle.bt_lines.proofs.lemmas.Writer.{more_taken}
 use Rattle.bt_lines.proofs.writer.output.write_whole.Goals as goal
 
 pub loop-rest-preserved : goal.loop-rest-preserved

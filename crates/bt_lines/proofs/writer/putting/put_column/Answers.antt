@@ -1,5 +1,5 @@
-use Rattle.bt_lines.proofs.Std.{arith, Ok, Err, err_from_is_err_and}
-use Rattle.bt_lines.proofs.lemmas.Writer.{fails_before, puts_from, puts_more}
+use Rattle.bt_lines.proofs.Std.{Err, err_from_is_err_and}
+use Rattle.bt_lines.proofs.lemmas.Writer.{fails_before, puts_from}
 use Rattle.bt_lines.proofs.writer.putting.put_column.Goals as goal
 
 pub returns-in_err-put : goal.returns-in_err-put

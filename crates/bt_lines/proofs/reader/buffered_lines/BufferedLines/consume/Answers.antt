@@ -1,4 +1,3 @@
-use Rattle.bt_lines.proofs.Std.{arith}
 use Rattle.bt_lines.proofs.lemmas.reader.lines.BufferedLemmas.{kept_after, passes_one}
 use Rattle.bt_lines.proofs.Std.{◌+◌, ap, refl, sym}
 use Rattle.bt_lines.proofs.reader.buffered_lines.BufferedLines.consume.Goals as goal

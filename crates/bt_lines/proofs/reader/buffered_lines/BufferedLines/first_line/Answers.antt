@@ -1,4 +1,4 @@
-use Rattle.bt_lines.proofs.Std.{arith, ◌≡◌, ◌∙◌, ap, length, subst, sym, take, length-take-le}
+use Rattle.bt_lines.proofs.Std.{◌≡◌, ◌∙◌, ap, length, subst, sym, take, length-take-le}
 use Rattle.bt_lines.specs.calls.Reader.{rest_in}
 use Rattle.bt_lines.specs.calls.Columns.{IsBefore}
 use Rattle.bt_lines.proofs.lemmas.reader.lines.BufferedLemmas.{line_first, line_none}

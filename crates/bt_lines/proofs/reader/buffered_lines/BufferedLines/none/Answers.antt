@@ -1,4 +1,4 @@
-use Rattle.bt_lines.proofs.Std.{arith, drop, length-take, take, drop_all}
+use Rattle.bt_lines.proofs.Std.{arith, length-take, drop_all}
 use Rattle.bt_lines.proofs.lemmas.reader.lines.BufferedLemmas.{none_left}
 use Rattle.bt_lines.specs.calls.Reader.{lines_in, rest_in}
 use Rattle.bt_lines.proofs.reader.buffered_lines.BufferedLines.none.Goals as goal

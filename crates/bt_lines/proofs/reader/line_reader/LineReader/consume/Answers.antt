@@ -1,4 +1,4 @@
-use Rattle.bt_lines.proofs.Std.{arith, refl}
+use Rattle.bt_lines.proofs.Std.{refl}
 use Rattle.bt_lines.proofs.lemmas.reader.lines.BufferedLemmas.{are_fed}
 use Rattle.bt_lines.proofs.lemmas.reader.lines.TakingLemmas.{last_taken, quiet_taken, spaced_taken, takes_lines}
 use Rattle.bt_lines.specs.inside.ReadBuffer.{complete, unread}

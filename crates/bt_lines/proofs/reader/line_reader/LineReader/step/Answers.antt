@@ -1,4 +1,4 @@
-use Rattle.bt_lines.proofs.Std.{arith, ◌∙◌, Ok, ap}
+use Rattle.bt_lines.proofs.Std.{◌∙◌, Ok, ap}
 use Rattle.bt_lines.proofs.lemmas.reader.block.FillLemmas.{moves_by, stops_by}
 use Rattle.bt_lines.proofs.reader.line_reader.LineReader.step.Goals as goal
 

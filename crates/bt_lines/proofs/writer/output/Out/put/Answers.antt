@@ -1,4 +1,4 @@
-use Rattle.bt_lines.proofs.Std.{length, length-append, ap, arith}
+use Rattle.bt_lines.proofs.Std.{length-append, arith}
 use Rattle.bt_lines.proofs.lemmas.Writer.{front_held, holds_held}
 use Rattle.bt_lines.proofs.writer.output.Out.put.Goals as goal
 

@@ -1,4 +1,4 @@
-use Rattle.bt_lines.proofs.Std.{◌≡◌, ◌+◌, ◌≤◌, ap, arith, length, take, length-take-le}
+use Rattle.bt_lines.proofs.Std.{arith, length-take-le}
 use Rattle.bt_lines.proofs.lemmas.Writer.{two_put}
 use Rattle.bt_lines.proofs.writer.write_buffer.WriteBuffer.append_both.Goals as goal
 
