@@ -2,9 +2,6 @@ use Rattle.bt_lines.proofs.Std.{◌≡◌, ◌+◌, ◌<◌, ◌∙◌, ap, arit
 use Rattle.bt_bed.proofs.lemmas.read.ColumnLemmas.{front_is_name, name_in_front}
 use Rattle.bt_bed.proofs.parse.columns.begins_with_long.Goals as goal
 
-pub returns-then-bytes-end-eq9-clause-same : goal.returns-then-bytes-end-eq9-clause-same
-returns-then-bytes-end-eq9-clause-same c = grind (arith, name_in_front)
-
 pub returns-then-bytes-end-eq9-clause-other : goal.returns-then-bytes-end-eq9-clause-other
 returns-then-bytes-end-eq9-clause-other c = grind (arith, bytes_eq-Decides, front_is_name)
 

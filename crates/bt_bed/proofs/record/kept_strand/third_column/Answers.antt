@@ -5,9 +5,6 @@ use Rattle.bt_bed.proofs.record.kept_strand.third_column.Goals as goal
 pub returns-then-first-text : goal.returns-then-first-text
 returns-then-first-text c = rw (without_tab c.args.text.now c.length_before-first.result c.length_before-first.ensures c.if-first-text.true) refl
 
-pub returns-then-second-text : goal.returns-then-second-text
-returns-then-second-text c = grind (arith, before_tab, without_tab)
-
 pub returns : goal.returns
 returns c =
     let first = c.length_before-first in
