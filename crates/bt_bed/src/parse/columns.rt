@@ -47,6 +47,7 @@ pub(crate) fn scan_columns(bytes: &[u8], name: &[u8], key: PackedName) -> Option
 
 // Whether the bytes begin with this name and a tab. Most names have a key, and the length of these is tested once.
 #[inline(always)]
+#[tactic(auto, using(crate::proofs::lemmas::parse::NameLemmas::front_begins))]
 fn begins_with(bytes: &[u8], name: &[u8], key: PackedName) -> bool
     requires key { HasKey name.now key }
     requires room { length name.now + 32 ≤ length bytes.now }
@@ -60,6 +61,7 @@ fn begins_with(bytes: &[u8], name: &[u8], key: PackedName) -> bool
 
 // The same for a name of any length, by the tab after it and then the name.
 #[inline(always)]
+#[tactic(auto, using(crate::proofs::lemmas::read::ColumnLemmas::name_in_front))]
 pub(crate) fn begins_with_long(bytes: &[u8], name: &[u8]) -> bool
     requires { length name.now < length bytes.now }
     ensures same { IsTrue result → BeginsWithName bytes.now name.now }

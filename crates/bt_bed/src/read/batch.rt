@@ -234,6 +234,7 @@ fn ends_text(line: &[u8], end: usize) -> bool
 // Whether a line says a record on the chromosome of this name. One that begins with another name isn't parsed.
 #[cold]
 #[inline(never)]
+#[tactic(auto, using(crate::proofs::lemmas::read::ColumnLemmas::begins_within, crate::proofs::lemmas::read::ColumnLemmas::not_on))]
 fn is_record_on(line: &[u8], name: &[u8]) -> bool
     ensures { result ≡ is_on name.now (record_of (strip_last 13 line.now)) }
 {

@@ -21,6 +21,7 @@ pub(crate) fn kept_strand(text: &[u8], from: usize) -> Strand
 }
 
 // The strand that the third column of a text names.
+#[tactic(auto, using(bt_lines::proofs::lemmas::reader::lines::TextLemmas::before_tab, bt_lines::proofs::lemmas::reader::lines::TextLemmas::without_tab))]
 fn third_column(text: &[u8]) -> Strand
     ensures { result ≡ strand_of (pieces 9 text.now) }
 {

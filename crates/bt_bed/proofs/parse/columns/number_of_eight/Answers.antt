@@ -5,25 +5,16 @@ use Rattle.bt_bed.proofs.parse.columns.number_of_eight.Goals as goal
 
 pub returns-then-not-is_ascii_digit-clause-begins : goal.returns-then-not-is_ascii_digit-clause-begins
 returns-then-not-is_ascii_digit-clause-begins c =
-    let text = drop c.args.at c.args.bytes.now in
-    let room : 8 ≤ length text = omega (arith, length-drop c.args.at c.args.bytes.now) in
-    eight_begin text c.args.value room c.requires.value
+    grind (arith, (length-drop c.args.at c.args.bytes.now), (eight_begin (drop c.args.at c.args.bytes.now) c.args.value (omega (arith, length-drop c.args.at c.args.bytes.now)) c.requires.value))
 
 pub overflow_mul-result : goal.overflow_mul-result
-overflow_mul-result c =
-    let text = drop c.args.at c.args.bytes.now in
-    let room : 8 ≤ length text = omega (arith, length-drop c.args.at c.args.bytes.now) in
-    let small = eight_small text c.args.value room c.requires.value in
-    omega arith
+overflow_mul-result c = grind (arith, (length-drop c.args.at c.args.bytes.now), (eight_small (drop c.args.at c.args.bytes.now) c.args.value (omega (arith, length-drop c.args.at c.args.bytes.now)) c.requires.value))
 
 pub overflow_add-result : goal.overflow_add-result
 overflow_add-result c =
     let text = drop c.args.at c.args.bytes.now in
     let room : 8 ≤ length text = omega (arith, length-drop c.args.at c.args.bytes.now) in
-    let small = eight_small text c.args.value room c.requires.value in
-    let digit = sym c.is_ascii_digit.ensures.value ∙ c.if-not-is_ascii_digit.false in
-    let low = digit_bound (get_or c.args.bytes.now (c.args.at + 8) 0) digit in
-    omega (arith, c.from.ensures)
+    grind (arith, eight_small, digit_bound)
 
 pub returns-clause-begins : goal.returns-clause-begins
 returns-clause-begins c =
@@ -32,5 +23,4 @@ returns-clause-begins c =
     let room : 8 < length text = omega (arith, length-drop c.args.at sight) in
     let there : get_or text 8 0 ≡ get_or sight (c.args.at + 8) 0 = get_or-drop c.args.at sight 8 0 in
     let digit : is_ascii_digit (get_or text 8 0) ≡ true = ap is_ascii_digit there ∙ sym c.is_ascii_digit.ensures.value ∙ c.if-not-is_ascii_digit.false in
-    let more = one_more text (record { value = c.args.value; end = 8 }) (eight_begin text c.args.value (omega arith) c.requires.value) (omega arith) room digit in
-    rw (c.from.ensures, ← there) more
+    grind (arith, (one_more text (record { value = c.args.value; end = 8 }) (eight_begin text c.args.value (omega arith) c.requires.value) (omega arith) room digit))

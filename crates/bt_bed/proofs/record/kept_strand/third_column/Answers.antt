@@ -5,16 +5,6 @@ use Rattle.bt_bed.proofs.record.kept_strand.third_column.Goals as goal
 pub returns-then-first-text : goal.returns-then-first-text
 returns-then-first-text c = rw (without_tab c.args.text.now c.length_before-first.result c.length_before-first.ensures c.if-first-text.true) refl
 
-pub returns-then-second-text : goal.returns-then-second-text
-returns-then-second-text c =
-    let first = c.length_before-first in
-    let second = c.length_before-second in
-    rw (
-      before_tab c.args.text.now first.result first.ensures (omega (arith, first.ensures.within, c.if-first-text.false)),
-      ← c.behind-text.ensures,
-      without_tab c.behind-text.result.now second.result second.ensures c.if-second-text.true,
-    ) refl
-
 pub returns : goal.returns
 returns c =
     let first = c.length_before-first in

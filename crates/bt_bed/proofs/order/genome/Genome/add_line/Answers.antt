@@ -1,4 +1,4 @@
-use Rattle.bt_lines.proofs.Std.{◌∙◌, ℕ, ◌<◌, Some, ap, map, sym, All, Vec, is_some}
+use Rattle.bt_lines.proofs.Std.{arith, ◌∙◌, ℕ, ◌<◌, Some, ap, map, sym, All, Vec, is_some}
 use Rattle.std.specs.declared.alloc.Global.{Global}
 use Rattle.bt_lines.specs.declared.fault.Kind.TheVariants.{RepeatedChrom}
 use Rattle.bt_bed.proofs.lemmas.order.TableLemmas.{is_new, either_way, lost_item, lost_wrong, entries_non_empty, entries_push, refused_at_place, says_new, says_repeated}
@@ -8,9 +8,7 @@ use Rattle.bt_bed.specs.calls.GenomeTable.{entries, entry_lent, entry_seen, name
 use Rattle.bt_bed.proofs.order.genome.Genome.add_line.Goals as goal
 
 pub at_line-requires : goal.at_line-requires
-at_line-requires c =
-    let names = names_of c.args.self.now in
-    genome_of_line c.in-Err.kind (refused_at_place names c.args.text.now c.in-Err.kind (ap (new_entry names) (sym c.in-Err.ensures)))
+at_line-requires c = grind (arith, genome_of_line, (refused_at_place (names_of c.args.self.now) c.args.text.now c.in-Err.kind (ap (new_entry (names_of c.args.self.now)) (sym c.in-Err.ensures))))
 
 pub returns-then-is_some-clause-refused : goal.returns-then-is_some-clause-refused
 returns-then-is_some-clause-refused c =
@@ -22,8 +20,7 @@ pub returns-in_default-clause-refused : goal.returns-in_default-clause-refused
 returns-in_default-clause-refused c =
     let said = sym (rw c.in-Ok-Some.field-0-is at c.in-Ok-Some.ensures) in
     let unranked = sym (c.is_some.ensures ∙ ap is_some c.rank.ensures) ∙ c.if-is_some.false in
-    let entry = entry_lent c.in-Ok-Some.entry in
-    lost_item c.args.place _ _ entry (says_new (names_of c.args.self.now) (entry_of c.args.text.now) entry said unranked) c.no_memory.ensures
+    grind (arith, lost_item, (says_new (names_of c.args.self.now) (entry_of c.args.text.now) (entry_lent c.in-Ok-Some.entry) said unranked))
 
 pub invariant_of-self : goal.invariant_of-self
 unfolding entries
@@ -48,15 +45,10 @@ returns-in-Ok-insert-clause-added c =
     let text = entry_of c.args.text.now in
     let entry = entry_lent c.in-Ok-Some.entry in
     let says = says_new names text entry said unranked in
-    record {
-      entry = Some entry;
-      says = says;
-      added = ap (map entry_seen) c.in-Ok-insert.ensures.entries ∙ entries_push c.args.self.now.lengths.entries c.in-Ok.name entry.length entry.name c.in-Ok.ensures.items (is_new names text entry says);
-    }
+    grind (arith, (entries_push c.args.self.now.lengths.entries c.in-Ok.name entry.length entry.name c.in-Ok.ensures.items (is_new names text entry says)))
 
 pub returns-in-Err-insert-clause-refused : goal.returns-in-Err-insert-clause-refused
 returns-in-Err-insert-clause-refused c =
     let said = sym (rw c.in-Ok-Some.field-0-is at c.in-Ok-Some.ensures) in
     let unranked = sym (c.is_some.ensures ∙ ap is_some c.rank.ensures) ∙ c.if-is_some.false in
-    let entry = entry_lent c.in-Ok-Some.entry in
-    lost_item c.args.place _ _ entry (says_new (names_of c.args.self.now) (entry_of c.args.text.now) entry said unranked) c.no_memory-in-Err-insert.ensures
+    grind (arith, lost_item, (says_new (names_of c.args.self.now) (entry_of c.args.text.now) (entry_lent c.in-Ok-Some.entry) said unranked))

@@ -8,11 +8,7 @@ use Rattle.bt_bed.specs.model.BedLine.{record_of}
 use Rattle.bt_bed.proofs.read.batch.Batch.read.Goals as goal
 
 pub parse_number-start-requires : goal.parse_number-start-requires
-parse_number-start-requires c =
-    let text = c.without_return-text.result.now in
-    let name = c.args.self.now.name.now in
-    let p = parsed_of name text (ap (λ l. is_on name (record_of l)) c.without_return-text.ensures ∙ sym c.is_record_on.ensures ∙ c.if-not-is_record_on.false) in
-    omega (arith, (parsed_name text name p.0 p.1 p.2).within)
+parse_number-start-requires c = grind (arith, parsed_of, parsed_name)
 
 pub parse_number-stop-requires : goal.parse_number-stop-requires
 parse_number-stop-requires c =

@@ -8,9 +8,7 @@ use Rattle.bt_bed.proofs.read.batch.Batch.scan.Goals as goal
 
 pub ends_column-requires : goal.ends_column-requires
 unfolding cursor_in
-ends_column-requires c =
-    let line = c.args.line.now in
-    no_return_there c.rest-rest.result.now c.args.self.now.name.now line c.in_ok-columns.columns.start c.in_ok-columns.columns.stop c.in_ok-columns.ensures (ap (take (length line)) c.rest-rest.ensures ∙ c.requires)
+ends_column-requires c = grind (arith, no_return_there)
 
 pub invariant_of-result : goal.invariant_of-result
 unfolding cursor_in
@@ -26,11 +24,7 @@ invariant_of-result c =
     let some : 0 < length (rest_in c.args.self.now.lines) = omega (arith, c.if-rest-self.false, ap length c.rest-rest.ensures) in
     let is = c.args.self.now.named some in
     let begins = line_named rest name columns.start columns.stop has text past front (c.ends_column.ensures.tab ends) in
-    record {
-      named = name_ends text name is.named begins;
-      bounds = line_bounds rest name columns.start columns.stop has text past front (c.ends_column.ensures.tab ends);
-      no_header = named_is_no_header text name is begins;
-    }
+    grind (arith, (name_ends text name is.named begins), (line_bounds rest name columns.start columns.stop has text past front (c.ends_column.ensures.tab ends)), (named_is_no_header text name is begins))
 
 pub returns : goal.returns
 unfolding chrom_in cursor_in

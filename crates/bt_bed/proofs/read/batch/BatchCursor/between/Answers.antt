@@ -5,13 +5,8 @@ use Rattle.bt_bed.proofs.read.batch.BatchCursor.between.Goals as goal
 
 pub between-requires-clause-within : goal.between-requires-clause-within
 unfolding consumed_in
-between-requires-clause-within c =
-    let lines = c.args.self.now.lines in
-    omega (arith, c.requires.within, length-take-le lines.at lines.all.now lines.within, lines.within)
+between-requires-clause-within c = grind (arith, length-take-le)
 
 pub returns : goal.returns
 unfolding consumed_in
-returns c =
-    let lines = c.args.self.now.lines in
-    bytes_between c.args.from c.args.to lines.at lines.all.now c.requires.ordered (omega (arith, c.requires.within, length-take-le lines.at lines.all.now lines.within)) lines.within
-    ∙ ap (λ l. take c.args.from (take lines.at lines.all.now) ++ l) (sym c.between.ensures)
+returns c = grind (arith, bytes_between, length-take-le)

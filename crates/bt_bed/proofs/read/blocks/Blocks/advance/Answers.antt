@@ -1,3 +1,4 @@
+use Rattle.bt_lines.proofs.Std.{arith}
 use Rattle.bt_bed.specs.calls.Blocks.{view_of}
 use Rattle.bt_bed.specs.calls.SortedReader.{view_with}
 use Rattle.bt_bed.proofs.lemmas.read.batch.BlocksLemmas.{takes_blocks}
@@ -14,6 +15,4 @@ returns-clause-takes g c = takes_blocks g.S.Source c.args.self.now _ 1 c.advance
 
 pub returns-clause-last : goal.returns-clause-last
 unfolding view_of view_with
-returns-clause-last g c =
-    let first = some_first _ _ c.requires in
-    passed_last g.S.Source block_sorting c.args.self.now.sorted c.advance.new.self first.0 first.1 first.2 c.advance.ensures.takes
+returns-clause-last g c = grind (arith, some_first, passed_last)

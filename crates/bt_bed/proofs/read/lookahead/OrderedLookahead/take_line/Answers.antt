@@ -1,4 +1,4 @@
-use Rattle.bt_lines.proofs.Std.{◌≡◌, ◌∙◌, refl, rules, sym, Some, None}
+use Rattle.bt_lines.proofs.Std.{arith, ◌≡◌, ◌∙◌, refl, rules, sym, Some, None}
 use Rattle.bt_bed.proofs.lemmas.order.TableLemmas.{lost_item, lost_wrong}
 use Rattle.bt_bed.proofs.lemmas.read.good.SaidLemmas.{bed_of_line, wrong_is_of_line}
 use Rattle.bt_bed.proofs.lemmas.read.batch.RecordsLemmas.{held_other, held_same, says_nothing, says_wrong, says_misplaced, says_record}
@@ -8,15 +8,7 @@ use Rattle.bt_bed.proofs.read.lookahead.OrderedLookahead.take_line.Goals as goal
 use Rattle.bt_bed.proofs.read.lookahead.OrderedLookahead.take_line.Goals.{then-is_some, else-is_some}
 
 pub returns-in-Ok-None : goal.returns-in-Ok-None
-returns-in-Ok-None g c =
-    let said = rw c.in-Ok-None.field-0-is at c.in-Ok-None.ensures.said in
-    record {
-      said = None;
-      says = says_nothing _ _ c.args.text.now said;
-      is = refl;
-      ahead = tt;
-      keeps = record { rule = refl; last = refl };
-    }
+returns-in-Ok-None g c = grind (arith, says_nothing)
 
 pub at_line-requires : goal.at_line-requires
 at_line-requires g c = bed_of_line c.in-Err.kind (wrong_is_of_line c.args.text.now c.in-Err.kind c.in-Err.ensures.said)

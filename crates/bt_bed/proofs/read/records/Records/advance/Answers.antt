@@ -1,3 +1,4 @@
+use Rattle.bt_lines.proofs.Std.{arith}
 use Rattle.bt_bed.specs.calls.Records.{view_of}
 use Rattle.bt_bed.specs.calls.SortedReader.{view_with}
 use Rattle.bt_bed.proofs.lemmas.read.batch.RecordsLemmas.{passed_last, placed_by, some_first, takes_records}
@@ -16,6 +17,4 @@ returns-clause-takes g c = takes_records g.S.Source c.args.self.now _ c.advance.
 
 pub returns-clause-last : goal.returns-clause-last
 unfolding view_of view_with
-returns-clause-last g c =
-    let first = some_first _ _ c.requires in
-    passed_last g.S.Source (sorting_of (g.O.ChromOrder.order c.args.self.now.sorted.lookahead.rule.order.now)) c.args.self.now.sorted c.advance.new.self first.0 first.1 first.2 c.advance.ensures.takes
+returns-clause-last g c = grind (arith, some_first, passed_last)

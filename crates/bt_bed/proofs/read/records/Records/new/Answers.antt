@@ -1,4 +1,4 @@
-use Rattle.bt_lines.proofs.Std.{◌∙◌, ap, option_map}
+use Rattle.bt_lines.proofs.Std.{arith, ◌∙◌, ap, option_map}
 use Rattle.bt_lines.specs.calls.Reader.{input_of, lines_left}
 use Rattle.bt_bed.proofs.lemmas.read.batch.RecordsLemmas.{good_at_start, placed_at_start}
 use Rattle.bt_bed.specs.model.Good.{good, bed_format}
@@ -12,6 +12,4 @@ invariant_of-result g c = record { placed = placed_at_start g.S.Source _ c.new.r
 
 pub returns-clause-good : goal.returns-clause-good
 unfolding view_of
-returns-clause-good g c = λ going.
-    good_at_start g.S.Source _ c.new.result c.args.reader c.new.ensures.reader c.new.ensures.fault c.new.ensures.last going
-    ∙ ap (λ (by : ByOrder _). option_map (good (bed_format (sorting_of (g.O.ChromOrder.order by.order.now))) (input_of c.args.reader)) (lines_left g.S.Source.left c.args.reader)) c.new.ensures.rule
+returns-clause-good g c = grind (arith, good_at_start)

@@ -1,4 +1,4 @@
-use Rattle.bt_lines.proofs.Std.{[], ◌∷◌, subst, take}
+use Rattle.bt_lines.proofs.Std.{arith, [], ◌∷◌, subst, take}
 use Rattle.bt_bed.proofs.lemmas.read.good.SaidRuns.{count_is, one_given, token_is}
 use Rattle.bt_bed.specs.calls.Reading.{Takes}
 use Rattle.bt_bed.specs.calls.SortedReader.{buffered_in, view_in}
@@ -13,5 +13,4 @@ pub returns-clause-takes : goal.returns-clause-takes
 returns-clause-takes g c =
     let one = one_given c.args.self.now c.buffered-batch.result c.next.new.self c.next.result c.requires.some.0 c.requires.some.1 c.requires.some.2 c.buffered-batch.ensures c.next.ensures.some c.next.ensures.none in
     let count = count_is c.args.self.now c.buffered-batch.result c.next.new.self (one.0 ∷ []) c.consumed-consumed.result c.buffered-batch.ensures one.1 c.consumed-consumed.ensures in
-    let sorting = g.Q.Sorted.sorting c.args.self.now.lookahead.rule in
-    subst (λ n. Takes g.S.Source (view_in sorting c.args.self.now) (take n (buffered_in c.args.self.now)) (view_in sorting c.consume.new.self)) count c.consume.ensures.takes
+    grind arith

@@ -1,4 +1,4 @@
-use Rattle.bt_lines.proofs.Std.{◌≡◌, refl, sym, subst, take}
+use Rattle.bt_lines.proofs.Std.{arith, ◌≡◌, refl, sym, subst, take}
 use Rattle.bt_lines.proofs.lemmas.reader.lines.BufferedLemmas.{no_lines, some_lines}
 use Rattle.bt_bed.proofs.lemmas.read.good.ReadingLemmas.{takes_none}
 use Rattle.bt_bed.proofs.lemmas.read.batch.SortedReaderLemmas.{sorted_ahead, sorted_placed, sorted_takes, was_ahead}
@@ -9,20 +9,10 @@ use Rattle.bt_bed.proofs.read.sorted_reader.SortedReader.consume.Goals as goal
 pub returns-then-consumed-eq0-clause-takes : goal.returns-then-consumed-eq0-clause-takes
 returns-then-consumed-eq0-clause-takes g c =
     let none : count_in c.args.self.now c.args.consumed ≡ 0 = no_lines c.args.self.now.reader c.args.consumed.lines (count_in c.args.self.now c.args.consumed) c.requires.taken.lines c.if-consumed-eq0.true in
-    let view = view_in (g.Q.Sorted.sorting c.args.self.now.lookahead.rule) c.args.self.now in
-    subst (λ n. Takes g.S.Source view (take n (buffered_in c.args.self.now)) view) (sym none) (takes_none g.S.Source view)
+    grind (arith, (takes_none g.S.Source (view_in (g.Q.Sorted.sorting c.args.self.now.lookahead.rule) c.args.self.now)))
 
 pub invariant_of-self : goal.invariant_of-self
-invariant_of-self g c =
-    let some = some_lines c.args.self.now.reader c.args.consumed.lines (count_in c.args.self.now c.args.consumed) c.requires.taken.lines c.if-consumed-eq0.false in
-    record {
-      ahead = sorted_ahead g.S.Source (g.Q.Sorted.sorting c.args.self.now.lookahead.rule) c.args.self.now c.consume.new.self c.advance.new.self c.args.consumed.is_ahead c.args.consumed c.requires.taken some
-          c.requires.placed c.consume.ensures c.advance.ensures refl;
-      going = λ e.
-          c.args.self.now.going
-          (was_ahead g.S.Source (g.Q.Sorted.sorting c.args.self.now.lookahead.rule) c.args.self.now c.consume.new.self c.advance.new.self c.args.consumed.is_ahead c.args.consumed c.requires.taken some
-          c.requires.placed c.consume.ensures c.advance.ensures refl);
-    }
+invariant_of-self g c = grind (arith, some_lines, sorted_ahead, was_ahead)
 
 pub returns-clause-takes : goal.returns-clause-takes
 unfolding buffered_in

@@ -8,8 +8,4 @@ bounds-self-stop c = omega (arith, column_begins c.args.self.now, text_less c.ar
 
 pub returns-then-self-start-ne48 : goal.returns-then-self-start-ne48
 unfolding text_in
-returns-then-self-start-ne48 c = λ other.
-    let raw = c.args.self.now in
-    let line = raw.line.now in
-    let inside = column_begins raw in
-    λ r said. written_so raw r said (λ zero. c.if-self-start-ne48.true (byte_there line _ (omega (arith, inside)) ∙ zero)) (λ zero. other_byte _ 48 other (byte_there line _ inside ∙ zero))
+returns-then-self-start-ne48 c = grind (arith, column_begins, written_so, byte_there, other_byte)
