@@ -53,15 +53,11 @@ module _ (place : ℕ) where
 
   stay_rec : (xs : List Feature) → ((stop : ℕ) → 0 < length (filter (ends_at stop) xs) → place < stop) → xs ≡ filter stays xs
   stay_rec [] h = refl
-  stay_rec (x ∷ xs) h =
-      let it = subst (λ (b : Bool). 0 < length (cond b (x ∷ filter (ends_at x.stop) xs) (filter (ends_at x.stop) xs))) (sym (eq-eqb x.stop x.stop refl)) (omega arith) in
-      ap (λ l. x ∷ l) (stay_rec xs (λ stop some. h stop (one_longer x (filter (ends_at stop) xs) (ends_at stop x) some)))
-      ∙ sym (ap (λ b. cond b (x ∷ filter stays xs) (filter stays xs)) (lt-ltb place x.stop (h x.stop it)))
+  stay_rec (x ∷ xs) h = grind (arith, (eq-eqb x.stop x.stop refl), (stay_rec xs (λ stop some. h stop (one_longer x (filter (ends_at stop) xs) (ends_at stop x) some))))
 
   -- if each end that is counted lies after the place, no record has ended there
   pub none_ended : (ends : BTreeMap ℕ ℕ) (xs : List Feature) → CountsEnds ends xs → ((stop : ℕ) → IsSome (get nat_cmp ends stop) → place < stop) → xs ≡ filter stays xs
-  none_ended ends xs counts behind =
-      stay_rec xs (λ stop some. behind stop (subst IsSome (sym (counts stop)) (some_of (ending_at stop xs) (omega (arith, some, as_length stop xs)))))
+  none_ended ends xs counts behind = grind (arith, (stay_rec xs (λ stop some. behind stop (subst IsSome (sym (counts stop)) (some_of (ending_at stop xs) (omega (arith, some, as_length stop xs)))))))
 
   module _ (stop : ℕ) (xs : List Feature) where
     stop_stays : nat_lt place stop ≡ true → (x : Feature) → ends_at stop x ≡ true → stays x ≡ true
@@ -71,11 +67,8 @@ module _ (place : ℕ) where
     stop_goes h x s e = false≢true (sym h ∙ ap (nat_lt place) (sym (eqb-true x.stop stop e)) ∙ s)
 
     kept_by : (c : Bool) → nat_lt place stop ≡ c → if_some (ending_at stop (filter stays xs)) ≡ cond c (if_some (ending_at stop xs)) None
-    kept_by true h =
-        ap if_some (as_length stop (filter stays xs) ∙ ap length (filter-wider (ends_at stop) stays (stop_stays h) xs) ∙ sym (as_length stop xs))
-    kept_by false h =
-        ap if_some (as_length stop (filter stays xs)
-        ∙ ap length (filter-both (λ r. false) stays (ends_at stop) (λ x. never_both (stays x) (ends_at stop x) (stop_goes h x)) xs ∙ none_pass xs))
+    kept_by true h = grind (arith, (as_length stop (filter stays xs)), (filter-wider (ends_at stop) stays (stop_stays h) xs), (as_length stop xs))
+    kept_by false h = grind (arith, (as_length stop (filter stays xs)), (filter-both (λ r. false) stays (ends_at stop) (λ x. never_both (stays x) (ends_at stop x) (stop_goes h x)) xs), (none_pass xs))
 
     -- of the records that haven't ended at the place as many end anywhere after it, and none elsewhere
     pub kept_ends : if_some (ending_at stop (filter stays xs)) ≡ cond (nat_lt place stop) (if_some (ending_at stop xs)) None
@@ -134,9 +127,7 @@ module _ {X : Type 0} (p : X → Bool) where
   splits : (xs : List X) (i : ℕ) → i < length xs → Splits xs i
   splits [] i h = absurd (omega (arith, h))
   splits (x ∷ xs) zero h = record { x = x; behind = refl; before = refl }
-  splits (y ∷ xs) (suc i) h =
-      let s = splits xs i (omega (arith, h)) in
-      record { x = s.x; behind = s.behind; before = ap (λ l. y ∷ l) s.before }
+  splits (y ∷ xs) (suc i) h = grind (arith, (splits xs i (omega (arith, h))))
 
   module _ (xs items : List X) (i : ℕ) (h : i < length xs) (so_far : items ≡ drop i xs ++ filter p (take i xs)) where
     split : Splits xs i
@@ -153,10 +144,7 @@ module _ {X : Type 0} (p : X → Bool) where
 
     -- the first of them is visited
     pub passed_next : drop 1 items ++ filter p (take 1 items) ≡ drop (i + 1) xs ++ filter p (take (i + 1) xs)
-    passed_next =
-        rw add-one
-        (ap (λ l. l ++ filter p (take 1 items)) (ap (drop 1) parts) ∙ append_assoc (drop (suc i) xs) kept (filter p (take 1 items))
-        ∙ ap (λ l. drop (suc i) xs ++ l) one_more)
+    passed_next = grind (arith, parts, append_assoc, one_more)
 
     pub kept_next : length kept + length (filter p (take 1 items)) ≡ length (filter p (take (i + 1) xs))
     kept_next = rw add-one (sym (length-append kept (filter p (take 1 items))) ∙ ap length one_more)
@@ -179,18 +167,15 @@ module _ (place : ℕ) where
   module _ (xs : List Feature) (n : ℕ) (within : n ≤ length xs) (bases : HaveBases xs)
       (at : IsPartitionPoint (λ (r : Feature). nat_lt r.start place ≡ true) (λ (r : Feature). nat_lt r.start place ≡ false) xs n) where
     rest_stays : All (λ r. stays place r ≡ true) (drop n xs)
-    rest_stays k d h = grind (arith, length-drop, ltb-false, slice_index_or, lt-ltb, get_or-drop)
+    rest_stays k d h = grind (arith, length-drop, get_or-drop)
 
     -- those that have ended are dropped: all of them start before the place
     pub dropped : filter (stays place) (take n xs) ++ drop n xs ≡ filter (stays place) xs
-    dropped =
-        ap (λ l. filter (stays place) (take n xs) ++ l) (sym (all_pass (stays place) (drop n xs) rest_stays))
-        ∙ sym (filter-append (stays place) (take n xs) (drop n xs)) ∙ ap (filter (stays place)) (take-append-drop n xs)
+    dropped = grind (arith, (all_pass (stays place) (drop n xs) rest_stays), (filter-append (stays place) (take n xs) (drop n xs)), (take-append-drop n xs))
 
     -- if none of those that start before has ended, there is none
     pub none_dropped : list_any (λ r. nat_le r.stop place) (take n xs) ≡ false → xs ≡ filter (stays place) xs
-    none_dropped none =
-        sym (take-append-drop n xs) ∙ ap (λ l. l ++ drop n xs) (sym (pass_rec (stays place) (take n xs) (none_rec (take n xs) none))) ∙ dropped
+    none_dropped none = grind (arith, (take-append-drop n xs), (pass_rec (stays place) (take n xs) (none_rec (take n xs) none)), dropped)
 
 -- they rise and have bases if others did of which they are some
 pub rises_on : (p : Feature → Bool) (xs items : List Feature) → items ≡ filter p xs → IsNonDecreasingBy (λ r. r.start) xs → IsNonDecreasingBy (λ r. r.start) items

@@ -1,4 +1,5 @@
 -- Lemmas on what is written of a record.
+use Rattle.std.proofs.lemmas.Grind.{common_steps}
 use Rattle.bt_lines.proofs.Std.{◌≡◌, ℕ, ◌+◌, ◌<◌, ◌≤◌, Bool, true, false, ◌||◌, List, [], ◌∷◌, zero, suc, add-one, arith, drop, length, nat_le, leb-true, option_to_list, take, AllByRecursion, list_any, slice_get, leb-false, or_parts, All-from_recursion, cond, ◌++◌, Option, Err, refl, sym, ap, ◌∙◌, subst, append_assoc, filter, flat_map, length-append, or_left, or_right, or_from, take-append-drop, filter-append, list_any-append, ◌-◌, not, ltb, min, max, All, and_from, lt-ltb, length-take-le, All-take, recursion_from_All, Result, Ok, ◌⊎◌, inl, inr, bytes_eq, decimal}
 use Rattle.bt_bed.specs.model.Feature.{Feature, is_strand}
 use Rattle.bt_bed.specs.model.BedLine.{bed_text}
@@ -64,9 +65,7 @@ module _ (place : ℕ) where
   before_rec low [] i h e rises = absurd (omega (arith, h))
   before_rec low (b ∷ bs) zero h e rises = (only_before b.start e, tt)
   before_rec low (b ∷ []) (suc i) h e rises = absurd (omega (arith, h))
-  before_rec low (b ∷ next ∷ bs) (suc i) h e rises =
-      let rest = before_rec b.start (next ∷ bs) i (omega (arith, h)) e rises.1 in
-      (omega (arith, rest.0, rises.1.0), rest)
+  before_rec low (b ∷ next ∷ bs) (suc i) h e rises = grind (arith, (before_rec b.start (next ∷ bs) i (omega (arith, h)) e rises.1))
 
   -- if this one starts before it, it and those before it do
   pub start_ahead : (bs : List Feature) (i : ℕ) → i < length bs → list_any (λ r. nat_le place r.start) (option_to_list (slice_get bs i)) ≡ false → AreRising bs → StartBefore place (take (i + 1) bs)
@@ -122,11 +121,10 @@ module _ {X : Type 0} where
 
     -- how many pass so far
     pub count_next : (xs : List X) (i n : ℕ) (b : Bool) → n ≡ length (filter p (take i xs)) → list_any p (option_to_list (slice_get xs i)) ≡ b → n + cond b 1 0 ≡ length (filter p (take (i + 1) xs))
-    count_next xs i n b e f = grind (arith, one_counts, slice_get, take_next, filter-append, option_to_list, length-append)
+    count_next xs i n b e f = grind (arith, take_next, filter-append, length-append)
 
 flat_map-append : (f : Feature → List ℕ) (xs ys : List Feature) → flat_map f (xs ++ ys) ≡ flat_map f xs ++ flat_map f ys
-flat_map-append f [] ys = refl
-flat_map-append f (x ∷ xs) ys = ap (λ l. f x ++ l) (flat_map-append f xs ys) ∙ sym (append_assoc (f x) (flat_map f xs) (flat_map f ys))
+flat_map-append f xs ys = grind (arith, common_steps)
 
 module _ (f : Feature → List ℕ) (p : Feature → Bool) (xs : List Feature) where
   found_append : (ys zs : List Feature) → flat_map f (filter p (ys ++ zs)) ≡ flat_map f (filter p ys) ++ flat_map f (filter p zs)
@@ -179,7 +177,7 @@ open_kept last a bs same all = All-from_recursion (CanHit a) (filter (λ b. ltb 
 
 module _ (rule : HitRule) (a : Feature) (any : rule.billionths ≡ 0) (no_strand : rule.same_strand ≡ false) (some : a.start < a.stop) where
   shares : (b : Feature) → CanHit a b → b.start < a.stop → ltb 0 (shared_bases a b) ≡ true
-  shares b one before = grind (arith, name_eq, lt-ltb)
+  shares b one before = grind (arith, name_eq)
 
   strands : (b : Feature) → strands_agree rule a b ≡ true
   unfolding strands_agree
@@ -187,12 +185,11 @@ module _ (rule : HitRule) (a : Feature) (any : rule.billionths ≡ 0) (no_strand
 
   one_hits : (b : Feature) → CanHit a b → b.start < a.stop → hits rule a b ≡ true
   unfolding hits
-  one_hits b one before = grind (arith, and_from, shares, strands, enough_of_nothing)
+  one_hits b one before = grind (arith, shares, strands, enough_of_nothing)
 
   hit_rec : (bs : List Feature) → AllByRecursion (CanHit a) bs → AllByRecursion (λ b. b.start < a.stop) bs → hits_among rule a bs ≡ bs
   hit_rec [] able before = refl
-  hit_rec (b ∷ bs) able before =
-      ap (λ c. cond c (b ∷ hits_among rule a bs) (hits_among rule a bs)) (one_hits b able.0 before.0) ∙ ap (λ l. b ∷ l) (hit_rec bs able.1 before.1)
+  hit_rec (b ∷ bs) able before = grind (arith, (hit_rec bs able.1 before.1), one_hits)
 
 -- if one shared base is enough, those that can hit a record and start before its end do
 pub all_hit : (rule : HitRule) (a : Feature) (bs : List Feature) (n : ℕ) → rule.billionths ≡ 0 → rule.same_strand ≡ false → a.start < a.stop → n ≤ length bs → All (CanHit a) bs → StartBefore a.stop (take n bs)
@@ -211,13 +208,10 @@ free_append free (x ∷ xs) ys = free_append (max free x.stop) xs ys
 
 lines_append : (a : Feature) (free : ℕ) (xs ys : List Feature) → lines_before a free (xs ++ ys) ≡ lines_before a free xs ++ lines_before a (free_after free xs) ys
 lines_append a free [] ys = refl
-lines_append a free (x ∷ xs) ys =
-    ap (λ l. gap_lines a free x.start ++ l) (lines_append a (max free x.stop) xs ys)
-    ∙ sym (append_assoc (gap_lines a free x.start) (lines_before a (max free x.stop) xs) (lines_before a (free_after (max free x.stop) xs) ys))
+lines_append a free (x ∷ xs) ys = grind (arith, (lines_append a (max free x.stop) xs ys), append_assoc)
 
 adds_after : {A : Type 0} (r : Result A Fault) (old mid new : Output) (before after : List ℕ) → Grown old before mid → Adds mid after r new → Adds old (before ++ after) r new
-adds_after (Ok done) old mid new before after grown adds = grown_more old mid new before after grown adds
-adds_after (Err fault) old mid new before after grown adds = fails_then old mid new before after (fault_value fault) grown adds
+adds_after r old mid new before after grown adds = grind (arith, grown_more, fails_then)
 
 module _ (rule : HitRule) (a : Feature) (held : List Feature) where
   abbrev found_to : ℕ → List Feature
@@ -241,8 +235,7 @@ module _ (rule : HitRule) (a : Feature) (held : List Feature) where
 
     -- the pieces before one more
     pub pieces_next : (old mid new : Output) → Grown old (before_to i) mid → Grown mid (lines_before a free (found_at i)) new → Grown old (before_to (i + 1)) new
-    pieces_next old mid new so_far here =
-        subst (λ (l : List ℕ). Grown old l new) (sym next_lines) (grown_more old mid new (before_to i) (lines_before a free (found_at i)) so_far here)
+    pieces_next old mid new so_far here = grind (arith, next_lines, (grown_more old mid new (before_to i) (lines_before a free (found_at i)) so_far here))
 
     abbrev rest : List Feature
     rest = hits_among rule a (drop (i + 1) held)
@@ -254,10 +247,7 @@ module _ (rule : HitRule) (a : Feature) (held : List Feature) where
     lines_behind = lines_before a (free_after a.start (found_to (i + 1))) rest ++ gap_lines a (free_after a.start (hits_among rule a held)) a.stop
 
     all_lines : AreRising held → before_to (i + 1) ++ lines_behind ≡ flat_map (piece_line a) (pieces a (hits_among rule a held))
-    all_lines rises =
-        sym (append_assoc (before_to (i + 1)) (lines_before a (free_after a.start (found_to (i + 1))) rest) (gap_lines a (free_after a.start (hits_among rule a held)) a.stop))
-        ∙ ap (λ l. l ++ gap_lines a (free_after a.start (hits_among rule a held)) a.stop) (sym (lines_append a a.start (found_to (i + 1)) rest) ∙ ap (lines_before a a.start) all_found)
-        ∙ walked rule a held rises
+    all_lines rises = grind (arith, append_assoc, (lines_append a a.start (found_to (i + 1)) rest), all_found, (walked rule a held rises))
 
     -- the piece before one couldn't be put
     pub pieces_cut : (A : Type 0) (old mid new : Output) (fault : Fault) → AreRising held → Grown old (before_to i) mid → Adds {A = A} mid (lines_before a free (found_at i)) (Err fault) new
@@ -269,13 +259,7 @@ module _ (rule : HitRule) (a : Feature) (held : List Feature) where
   -- the last piece
   pub pieces_end : {A : Type 0} (r : Result A Fault) (i free : ℕ) (old mid new : Output) → length held ≤ i → free ≡ free_after a.start (found_to i) → AreRising held
       → Grown old (before_to i) mid → Adds mid (gap_lines a free a.stop) r new → Adds old (flat_map (piece_line a) (pieces a (hits_among rule a held))) r new
-  pieces_end r i free old mid new past reached rises so_far here =
-      let all : found_to i ≡ hits_among rule a held = ap (hits_among rule a) (take_whole held i past) in
-      subst (λ (l : List ℕ). Adds old l r new)
-      (ap (λ l. lines_before a a.start l ++ gap_lines a free a.stop) all
-      ∙ ap (λ n. lines_before a a.start (hits_among rule a held) ++ gap_lines a n a.stop) (reached ∙ ap (free_after a.start) all)
-      ∙ walked rule a held rises)
-      (adds_after r old mid new (before_to i) (gap_lines a free a.stop) so_far here)
+  pieces_end r i free old mid new past reached rises so_far here = grind (arith, (take_whole held i past), (walked rule a held rises), (adds_after r old mid new (before_to i) (gap_lines a free a.stop) so_far here))
 
 -- Lemmas on the lines of a record.
 

@@ -50,11 +50,11 @@ module _ (a : Feature) (bs : List Feature) (shape : Shape) (rule : HitRule) wher
 
     pub missing_none : (shape ≡ Missing) ⊎ (shape ≡ Whole) → n ≡ 0 → lines_for shape rule a bs ≡ line_with (bed_text a ∷ [])
     unfolding lines_for
-    missing_none is none = grind (arith, at_shape, missing_of, whole_of)
+    missing_none is none = grind arith
 
     pub missing_some : (shape ≡ Missing) ⊎ (shape ≡ Whole) → (n ≡ 0 → ⊥) → lines_for shape rule a bs ≡ []
     unfolding lines_for
-    missing_some is some = grind (arith, at_shape, missing_by, whole_by)
+    missing_some is some = grind arith
 
     pub count_all : shape ≡ Count → lines_for shape rule a bs ≡ line_with (bed_text a ∷ decimal n ∷ [])
     unfolding lines_for
@@ -70,7 +70,7 @@ module _ (a : Feature) (bs : List Feature) (shape : Shape) (rule : HitRule) wher
   -- a line for each hit
   pub each_hit : (shape ≡ Cut) ⊎ ((shape ≡ OrigA) ⊎ ((shape ≡ CutAndB) ⊎ ((shape ≡ OrigBoth) ⊎ (shape ≡ Overlap)))) → lines_for shape rule a bs ≡ flat_map (hit_line shape a) (hits_among rule a bs)
   unfolding lines_for
-  each_hit is = grind (arith, one_each)
+  each_hit is = grind arith
 
 -- The scan of a record's positions, from the last one on, against the definition of its pieces.
 
@@ -82,13 +82,13 @@ found_push xs x = ap (map piece_in) (reverse-append xs (x ∷ []))
 pub next_joined : (front : List PlainPiece) (piece : PlainPiece) (p : ℕ) → piece.start ≡ p + 1
     → pieces_in (front ++ record { start = p; stop = piece.stop } ∷ []) ≡ with_position p (pieces_in (front ++ piece ∷ []))
 unfolding with_position
-next_joined front piece p e = grind (arith, found_push, cond-true, eq-eqb)
+next_joined front piece p e = grind (arith, found_push)
 
 -- or is the first one of another
 pub next_apart : (front : List PlainPiece) (piece : PlainPiece) (p : ℕ) → (piece.start ≡ p + 1 → ⊥)
     → pieces_in ((front ++ piece ∷ []) ++ record { start = p; stop = p + 1 } ∷ []) ≡ with_position p (pieces_in (front ++ piece ∷ []))
 unfolding with_position
-next_apart front piece p other = grind (arith, found_push, cond-false, ne_eqb)
+next_apart front piece p other = grind (arith, found_push)
 
 pub first_found : (p : ℕ) → pieces_in (record { start = p; stop = p + 1 } ∷ []) ≡ with_position p []
 unfolding with_position
@@ -106,14 +106,7 @@ scan_none test first = refl
 -- one position more was tested
 pub scan_next : (test : ℕ → Bool) (stop passed : ℕ) (c : Bool) (old new : List Span) → passed < stop → test ((stop - passed) - 1) ≡ c → old ≡ stretches_from test (stop - passed) passed
     → new ≡ cond c (with_position ((stop - passed) - 1) old) old → new ≡ stretches_from test (stop - (passed + 1)) (passed + 1)
-scan_next test stop passed c old new less e so_far step =
-    let first = (stop - passed) - 1 in
-    let here : stop - (passed + 1) ≡ first = omega arith in
-    let back : stop - passed ≡ first + 1 = omega arith in
-    let rest = stretches_from test (first + 1) passed in
-    let was : old ≡ rest = so_far ∙ ap (λ n. stretches_from test n passed) back in
-    step ∙ ap (λ l. cond c (with_position first l) l) was ∙ ap (λ b. cond b (with_position first rest) rest) (sym e)
-    ∙ sym (scan_step test first passed) ∙ ap₂ (λ f n. stretches_from test f n) (sym here) (sym (add-one passed))
+scan_next test stop passed c old new less e so_far step = grind (arith, (scan_step test ((stop - passed) - 1) passed))
 
 -- all positions were
 pub scan_all : (a : Feature) (others : List Feature) (passed : ℕ) (found : List Span) → passed ≡ a.stop

@@ -35,7 +35,7 @@ pub(crate) fn plain_intersect(
 }
 
 // Adds what is written of a record against these.
-#[tactic(auto, using(std::proofs::lemmas::Result::on_ok_weaker, crate::proofs::lemmas::Plain::all_pieces, crate::proofs::lemmas::Plain::count_all, crate::proofs::lemmas::Plain::each_hit))]
+#[tactic(auto, using(std::proofs::lemmas::Result::on_ok_weaker, crate::proofs::lemmas::Plain::all_pieces, crate::proofs::lemmas::Plain::count_all, crate::proofs::lemmas::Plain::each_hit, crate::proofs::lemmas::Plain::once_some, crate::proofs::lemmas::Plain::missing_none))]
 fn write_lines(
     shape: Shape,
     rule: HitRule,

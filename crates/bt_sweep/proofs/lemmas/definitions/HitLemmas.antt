@@ -33,8 +33,7 @@ unfolding hits
 apart_misses rule a b e = ap (λ c. c && (strands_agree rule a b && is_enough rule (shared_bases a b) a b)) e
 
 parts_of : (c : Bool) (n : ℕ) → ltb 0 (cond c n 0) ≡ true → (c ≡ true) × (0 < n)
-parts_of true n e = (refl, ltb-true 0 n e)
-parts_of false n e = absurd (false≢true e)
+parts_of c n e = grind arith
 
 -- where the shared bases lie
 pub overlap_parts : (a b : Feature) → ltb 0 (shared_bases a b) ≡ true → (bytes_eq a.chrom b.chrom ≡ true) × (0 < min a.stop b.stop - max a.start b.start)
@@ -47,7 +46,7 @@ none_asked bases r = le-leb (0 * length_of (interval_of r)) (bases * 1000000000)
 -- without a fraction any number of bases is enough
 pub enough_of_nothing : (rule : HitRule) (bases : ℕ) (a b : Feature) → rule.billionths ≡ 0 → is_enough rule bases a b ≡ true
 unfolding is_enough
-enough_of_nothing rule bases a b e = grind (arith, none_asked, and_from, or_right)
+enough_of_nothing rule bases a b e = grind (arith, none_asked)
 
 -- Lemmas on what decides a record.
 
@@ -56,32 +55,26 @@ abbrev pub IsPast : Order → Feature → Feature → Type 0
 IsPast order a b = (order.compare b.chrom a.chrom ≡ Greater) ⊎ ((b.chrom ≡ a.chrom) × (a.stop ≤ b.start))
 
 past_at : (c : Ordering) (start stop : ℕ) → not (is_below_at c start stop) ≡ true → (c ≡ Greater) ⊎ ((c ≡ Equal) × (stop ≤ start))
-past_at Less start stop e = absurd (false≢true e)
-past_at Equal start stop e = inr (refl, grind (arith, ltb-false, e))
-past_at Greater start stop e = inl refl
+past_at c start stop e = grind arith
 
 pub past_from : (order : Order) (a b : Feature) → IsTotal order → IsTrue (order.knows a.chrom) → IsTrue (order.knows b.chrom) → decides order a b ≡ true → IsPast order a b
-past_from order a b total ka kb e = grind (arith, past_at)
+past_from order a b total ka kb e = grind arith
 
 here_at : (c : Ordering) (start stop : ℕ) → c ≡ Equal → stop ≤ start → not (is_below_at c start stop) ≡ true
-here_at Less start stop e h = cc
-here_at Equal start stop e h = ap not (le-ltb start stop h)
-here_at Greater start stop e h = cc
+here_at c start stop e h = grind arith
 
 pub later_at : (c : Ordering) (start stop : ℕ) → c ≡ Greater → not (is_below_at c start stop) ≡ true
-later_at Less start stop e = cc
-later_at Equal start stop e = cc
-later_at Greater start stop e = refl
+later_at c start stop e = grind arith
 
 pub decides_from : (order : Order) (a b : Feature) → IsTotal order → IsTrue (order.knows a.chrom) → IsPast order a b → decides order a b ≡ true
-decides_from order a b total ka past = grind (arith, later_at, here_at)
+decides_from order a b total ka past = grind arith
 
 -- what comes later in the order is later still
 further : (order : Order) (a b m : List ℕ) → IsTotal order → IsTrue (order.knows a) → IsTrue (order.knows b) → IsTrue (order.knows m) → order.compare b a ≡ Greater → order.compare b m ≡ Less → order.compare m a ≡ Greater
-further order a b m total ka kb km later next = grind (arith, ordering_reverse)
+further order a b m total ka kb km later next = grind arith
 
 pub past_moves : (order : Order) (a b m : Feature) → IsTotal order → IsTrue (order.knows a.chrom) → IsTrue (order.knows b.chrom) → IsTrue (order.knows m.chrom) → IsUpTo order (locus_at b) (locus_at m) → IsPast order a b → IsPast order a m
-past_moves order a b m total ka kb km up past = grind (arith, further, ordering_reverse)
+past_moves order a b m total ka kb km up past = grind arith
 
 pub decides_next : (order : Order) (a b m : Feature) → IsTotal order → IsTrue (order.knows a.chrom) → IsTrue (order.knows b.chrom) → IsTrue (order.knows m.chrom) → IsUpTo order (locus_at b) (locus_at m) → decides order a b ≡ true → decides order a m ≡ true
 decides_next order a b m total ka kb km up e = decides_from order a m total ka (past_moves order a b m total ka kb km up (past_from order a b total ka kb e))
@@ -108,12 +101,10 @@ decide_from order a b bs more total ka placed false e some rest = rest some
 -- once a is decided, all that follows decides it
 pub later_decide : (order : Order) (a : Feature) (bs more : List Feature) → IsTotal order → IsTrue (order.knows a.chrom) → ArePlaced order (intervals_of (bs ++ more)) → decided order a bs ≡ true → list_all (decides order a) more ≡ true
 later_decide order a [] more total ka placed e = absurd (false≢true e)
-later_decide order a (b ∷ bs) more total ka placed e =
-    decide_from order a b bs more total ka placed (decides order a b) refl e (later_decide order a bs more total ka placed.2)
+later_decide order a (b ∷ bs) more total ka placed e = grind (arith, (later_decide order a bs more total ka placed.2), decide_from)
 
 none_by : (order : Order) (a : Feature) (bs : List Feature) (b : Feature) → decides order a b ≡ false → (d : Bool) → decided order a bs ≡ d → (d ≡ true → ⊥) → decided order a (bs ++ b ∷ []) ≡ false
-none_by order a bs b e true f h = absurd (h refl)
-none_by order a bs b e false f h = list_any-append (decides order a) bs (b ∷ []) ∙ or_from (decided order a bs) (decides order a b || false) f (or_from (decides order a b) false e refl)
+none_by order a bs b e d f h = grind (arith, list_any-append)
 
 -- if the next record doesn't decide a, none before it did
 pub none_before : (order : Order) (a : Feature) (bs : List Feature) (b : Feature) → IsTotal order → IsTrue (order.knows a.chrom) → ArePlaced order (intervals_of (bs ++ b ∷ [])) → decides order a b ≡ false → decided order a (bs ++ b ∷ []) ≡ false
@@ -123,16 +114,15 @@ none_before order a bs b total ka placed e =
 -- Lemmas on hits: what decides a record doesn't hit it.
 
 nothing_shared : (c : Bool) (n : ℕ) → (c ≡ true → n ≡ 0) → ltb 0 (cond c n 0) ≡ false
-nothing_shared true n h = ap (ltb 0) (h refl)
-nothing_shared false n h = refl
+nothing_shared c n h = grind arith
 
 -- what is past a doesn't hit it
 past_misses : (order : Order) (rule : HitRule) (a b : Feature) → IsTotal order → IsTrue (order.knows b.chrom) → IsPast order a b → hits rule a b ≡ false
-past_misses order rule a b total kb past = grind (arith, apart_misses, nothing_shared, bytes_eq, same_name)
+past_misses order rule a b total kb past = grind (arith, apart_misses, same_name)
 
 -- what starts at its end or after it doesn't either
 behind_misses : (rule : HitRule) (a b : Feature) → a.stop ≤ b.start → hits rule a b ≡ false
-behind_misses rule a b h = grind (arith, apart_misses, nothing_shared, bytes_eq)
+behind_misses rule a b h = grind (arith, apart_misses)
 
 misses_at : (rule : HitRule) (a : Feature) (x : Feature) (xs : List Feature) → hits rule a x ≡ false → filter (hits rule a) xs ≡ [] → filter (hits rule a) (x ∷ xs) ≡ []
 misses_at rule a x xs e rest = ap (λ b. cond b (x ∷ filter (hits rule a) xs) (filter (hits rule a) xs)) e ∙ rest
@@ -170,18 +160,13 @@ module _ (rule : HitRule) (a : Feature) where
   pub none_left : (bs : List Feature) (n : ℕ) → list_any (hits rule a) (take n bs) ≡ false → StartFrom a.stop (drop n bs) → list_any (hits rule a) bs ≡ false
   none_left bs n none behind =
       let rest = none_behind (drop n bs) (recursion_from_All (λ (b : Feature). a.stop ≤ b.start) (drop n bs) behind) in
-      ap (list_any (hits rule a)) (sym (take-append-drop n bs))
-      ∙ list_any-append (hits rule a) (take n bs) (drop n bs)
-      ∙ or_from (list_any (hits rule a) (take n bs)) (list_any (hits rule a) (drop n bs)) none rest
+      grind (arith, (take-append-drop n bs), (list_any-append (hits rule a) (take n bs) (drop n bs)))
 
   -- so what hits it is among what comes before that
   pub took_hits : (bs : List Feature) (n : ℕ) → StartFrom a.stop (drop n bs) → hits_among rule a (take n bs) ≡ hits_among rule a bs
   took_hits bs n behind =
       let none = none_rec (drop n bs) (recursion_from_All (λ (b : Feature). a.stop ≤ b.start) (drop n bs) behind) in
-      sym (append-nil (hits_among rule a (take n bs)))
-      ∙ ap (λ l. hits_among rule a (take n bs) ++ l) (sym none)
-      ∙ sym (filter-append (hits rule a) (take n bs) (drop n bs))
-      ∙ ap (hits_among rule a) (take-append-drop n bs)
+      grind (arith, (append-nil (hits_among rule a (take n bs))), (filter-append (hits rule a) (take n bs) (drop n bs)), (take-append-drop n bs))
 
   -- and the lines are those against it
   pub took_lines : (shape : Shape) (bs : List Feature) (n : ℕ) → StartFrom a.stop (drop n bs) → lines_for shape rule a (take n bs) ≡ lines_for shape rule a bs
@@ -212,32 +197,27 @@ pub next_lies : (order : Order) (q : Feature) (qs : List Feature) (a : Feature) 
     → ((a.chrom ≡ (last_after q qs).chrom) × ((last_after q qs).start ≤ a.start)) ⊎ (has_records a.chrom (intervals_of (q ∷ qs)) ≡ false)
 next_lies order q qs a total placed =
     let apart : ArePlaced order (intervals_of (q ∷ qs) ++ interval_of a ∷ []) = subst (ArePlaced order) (map-append interval_of (q ∷ qs) (a ∷ [])) placed in
-    subst (λ (i : Interval). ((a.chrom ≡ i.chrom) × (i.start ≤ a.start)) ⊎ (has_records a.chrom (intervals_of (q ∷ qs)) ≡ false)) (last_lies q qs)
-    (next_place (interval_of q) (intervals_of qs) (interval_of a) (placed_contiguous order (intervals_of (q ∷ qs) ++ interval_of a ∷ []) total apart))
+    grind (arith, (last_lies q qs), (next_place (interval_of q) (intervals_of qs) (interval_of a) (placed_contiguous order (intervals_of (q ∷ qs) ++ interval_of a ∷ []) total apart)))
 
 -- the last record is one of them
 pub last_is_there : (q : Feature) (qs : List Feature) → has_records (last_after q qs).chrom (intervals_of (q ∷ qs)) ≡ true
-last_is_there q qs =
-    subst (λ (i : Interval). has_records i.chrom (intervals_of (q ∷ qs)) ≡ true) (last_lies q qs) (has_records-last (interval_of q) (intervals_of qs))
+last_is_there q qs = grind (arith, (last_lies q qs), (has_records-last (interval_of q) (intervals_of qs)))
 
 -- Lemmas on a limit on how many records are held.
 
 -- fewer than are allowed
 pub within_less : (limit : Option ℕ) (more less : ℕ) → less ≤ more → IfSome limit (λ most. more ≤ most) → IfSome limit (λ most. less ≤ most)
-within_less None more less h within = tt
-within_less (Some most) more less h within = omega arith
+within_less limit more less h within = grind arith
 
 passed_less : (c : Bool) (x : Feature) (xs : List Feature) (count : ℕ) → length xs ≤ count → length (cond c (x ∷ xs) xs) ≤ suc count
-passed_less true x xs count h = omega arith
-passed_less false x xs count h = omega arith
+passed_less c x xs count h = grind arith
 
 pub filter_less : (test : Feature → Bool) (xs : List Feature) → length (filter test xs) ≤ length xs
 filter_less test [] = omega arith
 filter_less test (x ∷ xs) = passed_less (test x) x (filter test xs) (length xs) (filter_less test xs)
 
 cond_less : (c : Bool) (xs : List Feature) (count : ℕ) → length xs ≤ count → length (cond c xs []) ≤ count
-cond_less true xs count h = h
-cond_less false xs count h = omega arith
+cond_less c xs count h = grind arith
 
 -- a record of the first input makes no more be held
 pub held_less : (held : List Feature) (a : Feature) → length (held_with held a) ≤ length held
@@ -245,9 +225,7 @@ held_less held a = cond_less (are_on held a.chrom) (filter (λ b. ltb a.start b.
 
 within_at : (limit : Option ℕ) (b : Feature) (held : List Feature) (c : Bool) → (c ≡ true → has_room limit (length held) ≡ true) → IfSome limit (λ most. length held ≤ most)
     → IfSome limit (λ most. length (held ++ cond c (b ∷ []) []) ≤ most)
-within_at None b held c room within = tt
-within_at (Some most) b held true room within = omega (arith, ltb-true (length held) most (room refl), length-append held (b ∷ []))
-within_at (Some most) b held false room within = omega (arith, ap length (append-nil held), within)
+within_at limit b held c room within = grind (arith, length-append)
 
 -- with one more, for which there is room if it has to be held
 pub within_more : (limit : Option ℕ) (a b : Feature) (held : List Feature) → (is_held a b ≡ true → has_room limit (length held) ≡ true) → IfSome limit (λ most. length held ≤ most)
@@ -289,9 +267,7 @@ front_by false cut on past more m e f = (f.0, sym (append_assoc past (m ∷ []) 
 -- what is left comes first
 pub cut_front : (too_many : List Feature → Bool) (past more : List (Member Feature)) (fault : Option FaultValue) → (rest : List (Member Feature)) × (past ++ more ≡ (cut_behind too_many past more fault).members ++ rest)
 cut_front too_many past [] fault = ([], refl)
-cut_front too_many past (m ∷ more) fault =
-    front_by (too_many (map (λ m. m.item) (past ++ m ∷ []))) (record { members = past ++ m ∷ []; fault = Some (fault_at_line Second m.line TooManyHeld) }) (cut_behind too_many (past ++ m ∷ []) more fault) past more m refl
-    (cut_front too_many (past ++ m ∷ []) more fault)
+cut_front too_many past (m ∷ more) fault = grind (arith, (cut_front too_many (past ++ m ∷ []) more fault), front_by)
 
 -- whatever comes after them, members stay
 pub cut_keeps : (too_many : List Feature → Bool) (past more : List (Member Feature)) (fault : Option FaultValue) → (rest : List (Member Feature)) × ((cut_behind too_many past more fault).members ≡ past ++ rest)
@@ -351,21 +327,17 @@ all_decided order shape rule (a ∷ first) second = all_decided order shape rule
 
 pub faultless_all : faultless_are_all
 faultless_all order shape rule first second fault =
-    met_lines (sweep_rule order shape rule second None) first fault
-    ∙ sym (all_written (sweep_rule order shape rule second None) first (all_decided order shape rule first second))
+    grind (arith, (all_written (sweep_rule order shape rule second None) first (all_decided order shape rule first second)))
 
 whole_left : (a : Feature) (found : List Feature) → lines_of Whole a found ≡ left_lines true a found
-whole_left a [] = refl
-whole_left a (b ∷ found) = refl
+whole_left a found = grind arith
 
 pub left_at : left_are_lines
 unfolding lines_for
-left_at false rule a second = refl
-left_at true rule a second = whole_left a (hits_among rule a second)
+left_at = grind arith
 
 left_of_all : (whole : Bool) (rule : HitRule) (first second : List Feature) → intersect (subtract_shape whole) rule first second ≡ subtract whole rule first second
-left_of_all whole rule [] second = refl
-left_of_all whole rule (a ∷ first) second = ap₂ (λ x y. x ++ y) (left_at whole rule a second) (left_of_all whole rule first second)
+left_of_all whole rule first second = grind (arith, left_at)
 
 pub subtract_met : subtract_is_met
 subtract_met order whole rule first second fault = faultless_all order (subtract_shape whole) rule first second fault ∙ left_of_all whole rule first second

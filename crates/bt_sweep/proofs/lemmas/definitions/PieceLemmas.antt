@@ -1,4 +1,6 @@
 -- Lemmas on records whose starts don't fall.
+use Rattle.bt_lines.proofs.Std.{rules}
+use Rattle.std.proofs.lemmas.Grind.{common_steps}
 use Rattle.bt_lines.proofs.Std.{◌≡◌, ℕ, ◌≤◌, inl, inr, Bool, true, false, cond, List, [], ◌∷◌, refl, sym, ◌∙◌, ltb, arith, filter, bytes_eq, IsTrue, and_parts, ◌+◌, ◌<◌, ◌&&◌, ◌++◌, ap, append_assoc, append-nil, flat_map, max, Decides, nat_le, nat_lt, leb-true, le-leb, list_any, cases_lt, false≢true, ltb-true, ltb-false, Decides-and, Decides-or, Decides-ltb, Decides-not}
 use Rattle.bt_bed.specs.model.Feature.{Feature, intervals_of, Span}
 use Rattle.bt_bed.specs.model.Positions.{AreApartFrom, IsCovered}
@@ -23,8 +25,7 @@ rising_from low high (b ∷ bs) h rises = (omega (arith, rises.0), rises.1)
 
 module _ (p : Feature → Bool) where
   filter_at : (low : ℕ) (b : Feature) (bs : List Feature) (c : Bool) → low ≤ b.start → AreRisingFrom b.start (filter p bs) → AreRisingFrom low (cond c (b ∷ filter p bs) (filter p bs))
-  filter_at low b bs true h rises = (h, rises)
-  filter_at low b bs false h rises = rising_from low b.start (filter p bs) h rises
+  filter_at low b bs c h rises = grind (arith, rising_from)
 
   -- some of them rise too
   pub rising_filter : (low : ℕ) (bs : List Feature) → AreRisingFrom low bs → AreRisingFrom low (filter p bs)
@@ -36,21 +37,18 @@ module _ (order : Order) (total : IsTotal order) (p : Feature → Bool) (name : 
   up_start x y known ex ey up = grind (arith)
 
   skip_second : (x y : Feature) (zs : List Feature) → ArePlaced order (intervals_of (x ∷ y ∷ zs)) → ArePlaced order (intervals_of (x ∷ zs))
-  skip_second x y [] placed = (placed.0, tt, tt)
-  skip_second x y (z ∷ zs) placed = (placed.0, up_trans order x y z total placed.0 placed.2.0 placed.2.2.0 placed.1 placed.2.1, placed.2.2)
+  skip_second x y zs placed = grind arith
 
   next_rises : (x y : Feature) (ys : List Feature) (c : Bool) → p y ≡ c → x.chrom ≡ name → ArePlaced order (intervals_of (x ∷ y ∷ ys))
       → (y.chrom ≡ name → AreRisingFrom y.start (filter p ys)) → AreRisingFrom x.start (filter p ys) → AreRisingFrom x.start (cond c (y ∷ filter p ys) (filter p ys))
-  next_rises x y ys true e ex placed taken skipped = let ey = on y e in (up_start x y placed.0 ex ey placed.1, taken ey)
-  next_rises x y ys false e ex placed taken skipped = skipped
+  next_rises x y ys c e ex placed taken skipped = grind arith
 
   rising_by : (x : Feature) (ys : List Feature) → x.chrom ≡ name → ArePlaced order (intervals_of (x ∷ ys)) → AreRisingFrom x.start (filter p ys)
   rising_by x [] ex placed = tt
   rising_by x (y ∷ ys) ex placed = next_rises x y ys (p y) refl ex placed (λ ey. rising_by y ys ey placed.2) (rising_by x ys ex (skip_second x y ys placed))
 
   first_rises : (x : Feature) (xs : List Feature) (c : Bool) → p x ≡ c → (x.chrom ≡ name → AreRisingFrom x.start (filter p xs)) → AreRising (filter p xs) → AreRising (cond c (x ∷ filter p xs) (filter p xs))
-  first_rises x xs true e taken skipped = (omega arith, taken (on x e))
-  first_rises x xs false e taken skipped = skipped
+  first_rises x xs c e taken skipped = grind arith
 
   rising_all : (xs : List Feature) → ArePlaced order (intervals_of xs) → AreRising (filter p xs)
   rising_all [] placed = tt
@@ -69,22 +67,11 @@ Decides-le a b = (leb-true a b, le-leb a b)
 
 covers-Decides : (others : List Feature) (p : ℕ) → Decides (list_any (has_position p) others) (IsCovered (spans_of others) p)
 covers-Decides [] p = (λ e. false≢true e, λ c. absurd c)
-covers-Decides (b ∷ others) p =
-    Decides-or (nat_le b.start p && nat_lt p b.stop) (list_any (has_position p) others)
-    (Decides-and (nat_le b.start p) (nat_lt p b.stop) (Decides-le b.start p) (Decides-ltb p b.stop)) (covers-Decides others p)
-
-left-Decides : (a : Feature) (others : List Feature) (p : ℕ) → Decides (is_left a others p) ((a.start ≤ p) × (IsCovered (spans_of others) p → ⊥))
-left-Decides a others p = grind (arith, Decides-and, Decides-not, covers-Decides)
+covers-Decides (b ∷ others) p = grind (arith, (covers-Decides others p))
 
 pub are_pieces : pieces_are
 unfolding pieces
-are_pieces a others =
-    let scan = scan_finds (is_left a others) a.stop in
-    record {
-      apart = scan.apart;
-      within = λ p c. let h = scan.within p c in let left = (left-Decides a others p).0 h.1 in record { from_start = left.0; before_stop = h.0; bare = left.1 };
-      whole = λ p l. scan.whole p (l.before_stop, (left-Decides a others p).1 (l.from_start, l.bare));
-    }
+are_pieces a others = grind (arith, (scan_finds (is_left a others) a.stop), covers-Decides)
 
 pub only_pieces : pieces_only
 only_pieces a others spans h = stretches_are_same (IsLeft a others) spans (pieces a others) h (are_pieces a others)
@@ -99,12 +86,10 @@ walk free stop [] = gap free stop
 walk free stop (b ∷ bs) = gap free b.start ++ walk (max free b.stop) stop bs
 
 flat_map-append : (f : Span → List ℕ) (xs ys : List Span) → flat_map f (xs ++ ys) ≡ flat_map f xs ++ flat_map f ys
-flat_map-append f [] ys = refl
-flat_map-append f (x ∷ xs) ys = ap (λ l. f x ++ l) (flat_map-append f xs ys) ∙ sym (append_assoc (f x) (flat_map f xs) (flat_map f ys))
+flat_map-append f xs ys = grind (arith, common_steps)
 
 gap_at : (a : Feature) (start stop : ℕ) (c : Bool) → flat_map (piece_line a) (cond c (record { start = start; stop = stop } ∷ []) []) ≡ cond c (piece_line a (record { start = start; stop = stop })) []
-gap_at a start stop true = append-nil (piece_line a (record { start = start; stop = stop }))
-gap_at a start stop false = refl
+gap_at a start stop c = search rules
 
 gap_written : (a : Feature) (start stop : ℕ) → flat_map (piece_line a) (gap start stop) ≡ gap_lines a start stop
 gap_written a start stop = gap_at a start stop (ltb start stop)
@@ -112,11 +97,7 @@ gap_written a start stop = gap_at a start stop (ltb start stop)
 -- the lines of a walk
 walk_lines : (a : Feature) (free stop : ℕ) (bs : List Feature) → flat_map (piece_line a) (walk free stop bs) ≡ lines_before a free bs ++ gap_lines a (free_after free bs) stop
 walk_lines a free stop [] = gap_written a free stop
-walk_lines a free stop (b ∷ bs) =
-    flat_map-append (piece_line a) (gap free b.start) (walk (max free b.stop) stop bs)
-    ∙ ap (λ l. l ++ flat_map (piece_line a) (walk (max free b.stop) stop bs)) (gap_written a free b.start)
-    ∙ ap (λ l. gap_lines a free b.start ++ l) (walk_lines a (max free b.stop) stop bs)
-    ∙ sym (append_assoc (gap_lines a free b.start) (lines_before a (max free b.stop) bs) (gap_lines a (free_after (max free b.stop) bs) stop))
+walk_lines a free stop (b ∷ bs) = grind (arith, (walk_lines a (max free b.stop) stop bs), append_assoc)
 
 -- each has a base, and starts before this position
 abbrev AreWithin : ℕ → List Feature → Type 0
@@ -132,24 +113,7 @@ record IsWalk (free stop : ℕ) (bs : List Feature) (spans : List Span) : Type 0
   whole : (p : ℕ) → free ≤ p → p < stop → (IsCovered (spans_of bs) p → ⊥) → IsCovered spans p
 
 gap_walks : (free stop : ℕ) (c : Bool) → ltb free stop ≡ c → IsWalk free stop [] (cond c (record { start = free; stop = stop } ∷ []) [])
-gap_walks free stop true e =
-    let less = ltb-true free stop e in
-    record {
-      apart = (omega arith, less, tt);
-      from_free = λ p c. elim c [ inl w ↦ w.0 | inr w ↦ absurd w ];
-      before_stop = λ p c. elim c [ inl w ↦ w.1 | inr w ↦ absurd w ];
-      bare = λ p c w. absurd w;
-      whole = λ p low high free. inl (low, high);
-    }
-gap_walks free stop false e =
-    let more = ltb-false free stop e in
-    record {
-      apart = tt;
-      from_free = λ p c. absurd c;
-      before_stop = λ p c. absurd c;
-      bare = λ p c w. absurd w;
-      whole = λ p low high free. absurd (omega (arith, more));
-    }
+gap_walks free stop c e = grind arith
 
 -- what rises from a position has none below it
 none_below : (low : ℕ) (bs : List Feature) (p : ℕ) → AreRisingFrom low bs → IsCovered (spans_of bs) p → low ≤ p
@@ -169,36 +133,16 @@ module _ (free stop : ℕ) (b : Feature) (bs : List Feature) (spans : List Span)
   past_b p c = let up = rest.from_free p c in (omega (arith, up), omega (arith, up))
 
   bare_rest : (p : ℕ) → IsCovered spans p → IsCovered (spans_of (b ∷ bs)) p → ⊥
-  bare_rest p c w = grind (arith, past_b)
+  bare_rest p c w = grind arith
 
   bare_gap : (p : ℕ) → p < b.start → IsCovered (spans_of (b ∷ bs)) p → ⊥
   bare_gap p low w = grind (arith, none_below)
 
   whole_rest : (p : ℕ) → free ≤ p → b.start ≤ p → p < stop → (IsCovered (spans_of (b ∷ bs)) p → ⊥) → IsCovered spans p
-  whole_rest p low start high bare = grind (arith, cases_lt, bare)
+  whole_rest p low start high bare = grind arith
 
   next_walks : (c : Bool) → ltb free b.start ≡ c → IsWalk free stop (b ∷ bs) (cond c (record { start = free; stop = b.start } ∷ []) [] ++ spans)
-  next_walks true e =
-      let less = ltb-true free b.start e in
-      record {
-        apart = (omega arith, less, apart_down (b.start + 1) (max free b.stop) spans (omega (arith, some)) rest.apart);
-        from_free = λ p c. elim c [ inl w ↦ w.0 | inr w ↦ (past_b p w).0 ];
-        before_stop = λ p c. elim c [ inl w ↦ omega (arith, w.1, within) | inr w ↦ rest.before_stop p w ];
-        bare = λ p c. elim c [ inl w ↦ bare_gap p w.1 | inr w ↦ bare_rest p w ];
-        whole = λ p low high bare. elim (cases_lt p b.start) [
-          | inl under ↦ inl (low, under)
-          | inr past ↦ inr (whole_rest p low past high bare)
-        ];
-      }
-  next_walks false e =
-      let more = ltb-false free b.start e in
-      record {
-        apart = apart_down free (max free b.stop) spans (omega arith) rest.apart;
-        from_free = λ p c. (past_b p c).0;
-        before_stop = λ p c. rest.before_stop p c;
-        bare = bare_rest;
-        whole = λ p low high bare. whole_rest p low (omega (arith, more, low)) high bare;
-      }
+  next_walks c e = grind (arith, apart_down, bare_gap)
 
 walk_walks : (free stop low : ℕ) (bs : List Feature) → AreWithin stop bs → AreRisingFrom low bs → IsWalk free stop bs (walk free stop bs)
 walk_walks free stop low [] within rises = gap_walks free stop (ltb free stop) refl
@@ -208,20 +152,11 @@ walk_walks free stop low (b ∷ bs) within rises =
 
 -- such a walk finds the pieces
 walk_finds : (a : Feature) (bs : List Feature) → AreWithin a.stop bs → AreRising bs → walk a.start a.stop bs ≡ pieces a bs
-walk_finds a bs within rises =
-    let walks = walk_walks a.start a.stop 0 bs within rises in
-    only_pieces a bs (walk a.start a.stop bs) (record {
-      apart = apart_down 0 a.start (walk a.start a.stop bs) (omega arith) walks.apart;
-      within = λ p c. record { from_start = walks.from_free p c; before_stop = walks.before_stop p c; bare = walks.bare p c };
-      whole = λ p l. walks.whole p l.from_start l.before_stop l.bare;
-    })
+walk_finds a bs within rises = grind (arith, (walk_walks a.start a.stop 0 bs within rises), only_pieces, (apart_down 0 a.start (walk a.start a.stop bs) (omega arith) (walk_walks a.start a.stop 0 bs within rises).apart))
 
 module _ (rule : HitRule) (a : Feature) where
   within_at : (b : Feature) (bs : List Feature) (c : Bool) → hits rule a b ≡ c → AreWithin a.stop (hits_among rule a bs) → AreWithin a.stop (cond c (b ∷ hits_among rule a bs) (hits_among rule a bs))
-  within_at b bs true e rest =
-      let parts = overlap_parts a b (hit_overlaps rule a b e) in
-      (omega (arith, parts.1), omega (arith, parts.1), rest)
-  within_at b bs false e rest = rest
+  within_at b bs c e rest = grind (arith, hit_overlaps)
 
   hits_within : (bs : List Feature) → AreWithin a.stop (hits_among rule a bs)
   hits_within [] = tt
@@ -230,9 +165,7 @@ module _ (rule : HitRule) (a : Feature) where
   -- the lines of the pieces, by a walk over what is held
   pub walked : (held : List Feature) → AreRising held
       → lines_before a a.start (hits_among rule a held) ++ gap_lines a (free_after a.start (hits_among rule a held)) a.stop ≡ flat_map (piece_line a) (pieces a (hits_among rule a held))
-  walked held rises =
-      let found = hits_among rule a held in
-      sym (walk_lines a a.start a.stop found) ∙ ap (flat_map (piece_line a)) (walk_finds a found (hits_within held) (rising_filter (hits rule a) 0 held rises))
+  walked held rises = grind (arith, (walk_lines a a.start a.stop (hits_among rule a held)), (walk_finds a (hits_among rule a held) (hits_within held) (rising_filter (hits rule a) 0 held rises)))
 
 -- a record that nothing hits is one piece, if it has a base
 pub walked_alone : (a : Feature) → gap_lines a a.start a.stop ≡ flat_map (piece_line a) (pieces a [])

@@ -1,5 +1,5 @@
 -- Lemmas on what is held.
-use Rattle.bt_lines.proofs.Std.{◌≡◌, ℕ, ◌≤◌, inl, inr, Bool, true, false, not, ◌&&◌, ◌||◌, cond, List, [], ◌∷◌, ◌++◌, Option, None, Some, refl, sym, ap, ◌∙◌, subst, ltb, arith, filter, bytes_eq, IsTrue, list_all, ordering_reverse, false≢true, and_from, and_parts, or_parts, or_left, or_right, cases_Bool, filter-append, list_any-append, list_all-append}
+use Rattle.bt_lines.proofs.Std.{rules, ◌≡◌, ℕ, ◌≤◌, inl, inr, Bool, true, false, not, ◌&&◌, ◌||◌, cond, List, [], ◌∷◌, ◌++◌, Option, None, Some, refl, sym, ap, ◌∙◌, subst, ltb, arith, filter, bytes_eq, IsTrue, list_all, ordering_reverse, false≢true, and_from, and_parts, or_parts, or_left, or_right, cases_Bool, filter-append, list_any-append, list_all-append}
 use Rattle.std.specs.declared.cmp.Ordering.{Ordering}
 use Rattle.std.specs.declared.cmp.Ordering.TheVariants.{Greater}
 use Rattle.bt_bed.specs.model.Feature.{Feature, intervals_of}
@@ -35,7 +35,7 @@ below_not_greater c start stop e f = grind arith
 
 -- a record on a chromosome that comes anew decides all that was given before
 left_at : (order : Order) (a b g : Feature) → IsTotal order → IsTrue (order.knows a.chrom) → IsTrue (order.knows g.chrom) → a.chrom ≡ b.chrom → (a.chrom ≡ g.chrom → ⊥) → IsUpTo order (locus_at g) (locus_at a) → not (decides order g b) ≡ true → ⊥
-left_at order a b g total ka kg same other up e = grind (arith, ordering_reverse, below_not_greater)
+left_at order a b g total ka kg same other up e = grind arith
 
 leaves_none : (order : Order) (a b : Feature) (gs : List Feature) → IsTotal order → ArePlaced order (intervals_of (gs ++ a ∷ [])) → has_records a.chrom (intervals_of gs) ≡ false → a.chrom ≡ b.chrom → leaves_some order gs b ≡ true → ⊥
 leaves_none order a b [] total placed none same some = false≢true some
@@ -61,34 +61,21 @@ narrow_at c l a stop h = grind arith
 
 -- on the same chromosome what is held becomes less
 same_held : (l a : Feature) (taken : List Feature) → a.chrom ≡ l.chrom → l.start ≤ a.start → filter (λ b. ltb a.start b.stop) (filter (is_held l) taken) ≡ filter (is_held a) taken
-same_held l a taken same up = grind (arith, filter-both, narrow_at, bytes_eq)
+same_held l a taken same up = grind (arith, filter-both)
 
 held_on : (l a : Feature) (held : List Feature) (c : Bool) → bytes_eq l.chrom a.chrom ≡ c → held_behind (Some l) held a ≡ cond c (filter (λ b. ltb a.start b.stop) held) []
 held_on l a held c e = ap (λ b. cond b (filter (λ b. ltb a.start b.stop) held) []) e
 
 -- what is held once a is given
 pub held_next : (order : Order) (gs taken held : List Feature) (a : Feature) → IsTotal order → ArePlaced order (intervals_of (gs ++ a ∷ [])) → HoldsFor order gs taken held → held_behind (last_given gs) held a ≡ filter (is_held a) taken
-held_next order [] [] held a total placed holds = refl
-held_next order [] (b ∷ taken) held a total placed holds = absurd (false≢true holds.reached)
-held_next order (q ∷ qs) taken held a total placed holds =
-    let l = last_after q qs in
-    elim (next_lies order q qs a total placed) [
-      | inl same ↦
-          held_on l a held true (name_eq l.chrom a.chrom (sym same.0))
-          ∙ ap (filter (λ b. ltb a.start b.stop)) holds.held_is ∙ same_held l a taken same.0 same.1
-      | inr new ↦
-          held_on l a held false (name_ne l.chrom a.chrom (λ e. false≢true (sym new ∙ ap (λ (c : List ℕ). has_records c (intervals_of (q ∷ qs))) (sym e) ∙ last_is_there q qs)))
-          ∙ sym (none_new order a (q ∷ qs) taken total placed new holds.reached)
-    ]
+held_next order gs taken held a total placed holds = grind (arith, next_lies, name_eq, same_held, name_ne, last_is_there, none_new)
 
 -- what was reached stays reached with more given
 reached_more : (order : Order) (gs more taken : List Feature) → list_all (leaves_some order gs) taken ≡ true → list_all (leaves_some order (gs ++ more)) taken ≡ true
 reached_more order gs more [] reached = refl
 reached_more order gs more (b ∷ taken) reached =
     let parts = and_parts (leaves_some order gs b) (list_all (leaves_some order gs) taken) reached in
-    and_from (leaves_some order (gs ++ more) b) (list_all (leaves_some order (gs ++ more)) taken)
-    (list_any-append (λ a. not (decides order a b)) gs more ∙ or_left (leaves_some order gs b) (leaves_some order more b) parts.0)
-    (reached_more order gs more taken parts.1)
+    grind (arith, (reached_more order gs more taken parts.1), list_any-append)
 
 -- with one more record of the first input
 pub holds_a : (order : Order) (gs taken held : List Feature) (a : Feature) → IsTotal order → ArePlaced order (intervals_of (gs ++ a ∷ [])) → HoldsFor order gs taken held
@@ -98,16 +85,13 @@ holds_a order gs taken held a total placed holds = grind (arith, held_next, last
 -- with one more record of the second, which leaves the last of the first undecided
 pub holds_b : (order : Order) (gs taken held : List Feature) (a b : Feature) → HoldsFor order (gs ++ a ∷ []) taken held → decides order a b ≡ false
     → HoldsFor order (gs ++ a ∷ []) (taken ++ b ∷ []) (held ++ filter (is_held a) (b ∷ []))
-holds_b order gs taken held a b holds e = grind (arith, last_given-push, filter-append, list_all-append, and_from, list_any-append, or_right, or_left)
+holds_b order gs taken held a b holds e = grind (arith, last_given-push, filter-append, list_all-append, list_any-append)
 
 -- ---- the first shows which of them lie on a chromosome
 
 first_at : (l x b : Feature) (xs more : List Feature) (c : Bool) → is_held l x ≡ c → (filter (is_held l) xs ≡ b ∷ more → b.chrom ≡ l.chrom)
     → cond c (x ∷ filter (is_held l) xs) (filter (is_held l) xs) ≡ b ∷ more → b.chrom ≡ l.chrom
-first_at l x b xs more true held rest e =
-    let same : x ≡ b = cc in
-    subst (λ (f : Feature). f.chrom ≡ l.chrom) same (sym (same_name l.chrom x.chrom (and_parts (bytes_eq l.chrom x.chrom) (ltb l.start x.stop) held).0))
-first_at l x b xs more false held rest e = rest e
+first_at l x b xs more c held rest e = search rules
 
 first_on : (l : Feature) (taken : List Feature) (b : Feature) (more : List Feature) → filter (is_held l) taken ≡ b ∷ more → b.chrom ≡ l.chrom
 first_on l [] b more e = absurd (let apart : [] ≡ b ∷ more = e in cc)
@@ -117,9 +101,4 @@ none_either : (c : Bool) → cond {A = List Feature} c [] [] ≡ []
 none_either c = grind arith
 
 pub held_is_behind : (order : Order) (gs taken held : List Feature) (a : Feature) → HoldsFor order gs taken held → held_with held a ≡ held_behind (last_given gs) held a
-held_is_behind order [] taken [] a holds = refl
-held_is_behind order (q ∷ qs) taken [] a holds = sym (none_either (bytes_eq (last_after q qs).chrom a.chrom))
-held_is_behind order [] taken (b ∷ more) a holds = absurd (let apart : b ∷ more ≡ [] = holds.held_is in cc)
-held_is_behind order (q ∷ qs) taken (b ∷ more) a holds =
-    let on : b.chrom ≡ (last_after q qs).chrom = first_on (last_after q qs) taken b more (sym holds.held_is) in
-    ap (λ (name : List ℕ). cond (bytes_eq name a.chrom) (filter (λ r. ltb a.start r.stop) (b ∷ more)) []) on
+held_is_behind order gs taken held a holds = grind (arith, first_on)

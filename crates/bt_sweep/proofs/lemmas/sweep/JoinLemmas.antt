@@ -1,4 +1,5 @@
 -- Lemmas on records of both inputs that are joined.
+use Rattle.std.proofs.lemmas.Grind.{common_steps}
 use Rattle.bt_lines.proofs.Std.{◌≡◌, ◌<◌, ◌⊎◌, inl, inr, ℕ, true, false, List, [], ◌∷◌, ◌++◌, Option, Some, None, Ok, Err, Result, refl, sym, ap, ◌∙◌, subst, append-nil, append_assoc, option_to_list, bytes_eq, length, ltb, arith, All, list_all, and_from, and_parts, ltb-true, or_left, or_right, list_any-append}
 use Rattle.bt_lines.specs.model.Fault.{FaultValue}
 use Rattle.bt_lines.specs.calls.Names.{fault_value}
@@ -17,7 +18,7 @@ use Rattle.bt_sweep.proofs.lemmas.sweep.KeepLemmas.{cut_both, decided_before, de
 
 -- the chromosome of the next record is known
 pub known_head : {B R : Type 0} (order : Order) (cursor : Cursor B R) (from : B) (b : Feature) (after : B) (name : List ℕ) → GivesKnown cursor order from → cursor.gives from (b ∷ []) after → b.chrom ≡ name → order.knows name ≡ true
-known_head order cursor from b after name known given on = grind (arith, known)
+known_head order cursor from b after name known given on = grind arith
 
 pub lie_more : (name : List ℕ) (bs : List Feature) (b : Feature) → LieOn name bs → b.chrom ≡ name → LieOn name (bs ++ b ∷ [])
 lie_more name [] b on is = (is, tt)
@@ -36,22 +37,12 @@ same_some : (a b : Feature) → Some a ≡ Some b → a ≡ b
 same_some a b e = cc
 
 leaves_push : (seconds : List Feature) (b a : Feature) → b.chrom ≡ a.chrom → b.start < a.stop → LeavesOn (seconds ++ b ∷ []) a
-leaves_push seconds b a on before_end order total known before x e =
-    let same : b ≡ x = same_some b x (sym (last_given-push seconds b) ∙ ap last_given e ∙ last_given-push before x) in
-    subst (λ (f : Feature). decides order a f ≡ false) same (undecided_beside order total a b known on before_end)
+leaves_push seconds b a on before_end = grind (arith, common_steps)
 
 -- ---- the records of the second input, each taken for one of the first
 
 taken_wider : (order : Order) (limit : Option ℕ) (as_given more taken : List Feature) (b : Feature) → TakenFor order limit as_given taken b → TakenFor order limit (as_given ++ more) taken b
-taken_wider order limit as_given more taken b t = record {
-  before = t.before;
-  a = t.a;
-  after = t.after ++ more;
-  parts = ap (λ (l : List Feature). l ++ more) t.parts ∙ append_assoc t.before (t.a ∷ t.after) more;
-  settled = t.settled;
-  undecided = t.undecided;
-  within = t.within;
-}
+taken_wider order limit as_given more taken b t = grind (arith, append_assoc)
 
 each_wider : (order : Order) (limit : Option ℕ) (as_given more taken seconds : List Feature) → TakenEach order limit as_given taken seconds → TakenEach order limit (as_given ++ more) taken seconds
 each_wider order limit as_given more taken [] each = tt
@@ -71,12 +62,7 @@ are_both newly cur {firsts2} newly2 rest are more =
 
 ends_decided : (order : Order) (name : List ℕ) (b : Feature) (bs newly : List Feature) → IsTotal order → order.knows name ≡ true → b.chrom ≡ name → EndUpTo name b.start newly → AreDecided order newly (bs ++ b ∷ [])
 ends_decided order name b bs [] total known on end = refl
-ends_decided order name b bs (a ∷ newly) total known on end =
-    and_from (decided order a (bs ++ b ∷ [])) (list_all (λ x. decided order x (bs ++ b ∷ [])) newly)
-    (list_any-append (decides order a) bs (b ∷ [])
-    ∙ or_right (decided order a bs) (decided order a (b ∷ []))
-    (or_left (decides order a b) false (decides_beside order total a b (subst (λ (c : List ℕ). order.knows c ≡ true) (sym end.0) known) (on ∙ sym end.0) end.1)))
-    (ends_decided order name b bs newly total known on end.2)
+ends_decided order name b bs (a ∷ newly) total known on end = grind (arith, (ends_decided order name b bs newly total known on end.2), list_any-append)
 
 module _ {A B R S : Type 0} {cursor_a : Cursor A R} {cursor_b : Cursor B S} {old : Sweeping} {first : Feature} {from_a : A} {from_b : B} {pending : List ℕ} {out : Output} where
   pub joins_first : ((x : A) → cursor_a.gives x [] x) → ((x : B) → cursor_b.gives x [] x) → {For : Order → Type 0} {Settles : List Feature → List Feature → Type 0} (Leaves : List Feature → Feature → Type 0)
@@ -142,7 +128,7 @@ module _ {A B R S : Type 0} {cursor_a : Cursor A R} {cursor_b : Cursor B S} {old
       settled = rw (front, append-nil j.proceeds.seconds) at j.proceeds.settles
 
       both_settled : (newly2 : List Feature) → EndUpTo cur.chrom b.start newly2 → AreDecidedOn first.chrom (j.proceeds.newly ++ newly2) (j.proceeds.seconds ++ b ∷ [])
-      both_settled newly2 end order total known = grind (arith, decided_both, decided_before, settled, known, ends_decided)
+      both_settled newly2 end order total known = grind (arith, decided_both, decided_before, settled, ends_decided)
 
       waits_on : (held : List Feature) (waiting : Option Feature) → WaitsOn cur.chrom held waiting → WaitsOn first.chrom held waiting
       waits_on held waiting is = grind arith
@@ -255,8 +241,7 @@ module _ {A B R S : Type 0} {cursor_a : Cursor A R} {cursor_b : Cursor B S} {old
         same_lines : intersect old.shape old.rule j.proceeds.newly (at.taken ++ (j.proceeds.seconds ++ b ∷ [])) ≡ intersect old.shape old.rule j.proceeds.newly (at.taken ++ j.proceeds.seconds)
         same_lines =
             let all = placed_back at.order at.before j.proceeds.newly (front_placed at.order (at.before ++ j.proceeds.newly) (cur ∷ []) (rw (split_last at.before j.proceeds.newly cur j.proceeds.are) at at.placed)) in
-            ap (intersect old.shape old.rule j.proceeds.newly) both
-            ∙ lines_stay_so at.order at.is_for old.shape old.rule (at.taken ++ j.proceeds.seconds) b [] (rw both at at.placed_taken) j.proceeds.newly all decided_now
+            grind (arith, both, lines_stay_so, decided_now)
 
       -- b was taken
       pub joins_take : ((old mid new : B) (xs ys : List Feature) → cursor_b.gives old xs mid → cursor_b.gives mid ys new → cursor_b.gives old (xs ++ ys) new) → (new : Sweeping) → new ≡ holding s cur b → (is_held cur b ≡ true → has_room_in s ≡ true)

@@ -1,4 +1,5 @@
 -- What is held is all that the lines of a record come from.
+use Rattle.std.proofs.lemmas.Grind.{common_steps}
 use Rattle.bt_lines.proofs.Std.{◌≡◌, true, List, ap, ltb, arith, filter, bytes_eq, lt-ltb, and_from, ◌<◌, ℕ, Bool, cond, [], ◌∷◌, length, Option, Some, None, refl, sym, ◌∙◌, All, IfSome, slice_index_or, AllByRecursion, false≢true, All-filter, All-from_recursion, recursion_from_All, ◌⊎◌, inl, inr, false, ◌++◌, Ok, Err, Result, subst, append-nil, append_assoc, decimal, OnOk, is_ok, decimal_digit, ◌≤◌, not, IsTrue, list_all, and_parts, or_left, or_right, flat_map-append, list_any-append, list_all-append, ◌&&◌}
 use Rattle.bt_bed.specs.model.Feature.{Feature, intervals_of}
 use Rattle.bt_bed.specs.model.BedLine.{bed_text}
@@ -36,7 +37,7 @@ use Rattle.bt_bed.specs.declared.order.ChromOrder.{Ghosts}
 use Rattle.bt_bed.specs.declared.read.records.Records.{Records}
 
 hit_is_held : (rule : HitRule) (a b : Feature) → hits rule a b ≡ true → is_held a b ≡ true
-hit_is_held rule a b e = grind (arith, overlap_parts, hit_overlaps, and_from, bytes_eq, lt-ltb)
+hit_is_held rule a b e = grind (arith, hit_overlaps)
 
 pub held_lines : (shape : Shape) (rule : HitRule) (a : Feature) (taken : List Feature) → lines_for shape rule a (filter (is_held a) taken) ≡ lines_for shape rule a taken
 unfolding lines_for
@@ -86,15 +87,7 @@ none_against shape rule a (b ∷ held) none = absurd (omega arith)
 -- ---- a record that nothing hits
 
 pub unmatched_itself : (shape : Shape) (a : Feature) → (shape ≡ Missing) ⊎ ((shape ≡ Pieces) ⊎ (shape ≡ Whole)) → a.start < a.stop → lines_of shape a [] ≡ line_with (bed_text a ∷ [])
-unmatched_itself shape a is filled =
-    elim is [
-      | inl missing ↦ ap (λ (s : Shape). lines_of s a []) missing
-      | inr rest ↦ elim rest [
-        | inl pieces ↦ ap (λ (s : Shape). lines_of s a []) pieces
-            ∙ sym (walked_alone a) ∙ ap (λ (c : Bool). cond c (piece_line a (record { start = a.start; stop = a.stop })) []) (lt-ltb a.start a.stop filled)
-        | inr whole ↦ ap (λ (s : Shape). lines_of s a []) whole
-      ]
-    ]
+unmatched_itself shape a is filled = grind (arith, (walked_alone a))
 
 module _ {T : Type 0} (a : Feature) (lines : List ℕ) (out grown : Output) (r : Result T Fault) where
   pub itself_adds : lines ≡ line_with (bed_text a ∷ []) → Puts out (bed_text a ++ 10 ∷ []) r grown → Adds out lines r grown
@@ -160,8 +153,7 @@ module _ {T : Type 0} (out half : Output) (xs : List ℕ) (r : Result T Fault) (
   puts_not ys b is none = subst (λ (c : Bool). PutsOr c out (xs ++ ys) half) (sym none) (not_put ys r (sym is ∙ none) adds)
 
   puts_second : {U : Type 0} (ys : List ℕ) (now : Output) (p : Result U Fault) → Grown out xs half → Adds half ys p now → PutsOr (is_ok p) out (xs ++ ys) now
-  puts_second ys now (Ok u) first second = grown_more out half now xs ys first second
-  puts_second ys now (Err f) first second = subst (λ (f : FaultValue). FailsToAdd out (xs ++ ys) f now) second.puts.is (fails_then out half now xs ys (fault_value f) first second)
+  puts_second ys now p first second = grind (arith, grown_more, fails_then)
 
   pub puts_then : {U : Type 0} (ys : List ℕ) (now : Output) (p : Result U Fault) (b : Bool) → is_ok r ≡ true → b ≡ is_ok p → Adds half ys p now → PutsOr b out (xs ++ ys) now
   puts_then ys now p b could is second = subst (λ (c : Bool). PutsOr c out (xs ++ ys) now) (sym is) (puts_second ys now p (could_put r could adds) second)
@@ -172,26 +164,15 @@ same_if_put r e h = grind arith
 -- ---- a record whose lines are put or left pending
 
 module _ (shape : Shape) (rule : HitRule) (a : Feature) (held : List Feature) (pending left : List ℕ) (out : Output) where
-  pub nothing_with : pending ≡ [] → left ≡ [] → NeedsHit shape → length held ≡ 0 → GrownWith pending out (lines_for shape rule a held) left out
-  nothing_with none same needs empty = record {
-    bytes = [];
-    parts = ap (λ (l : List ℕ). l ++ lines_for shape rule a held) none ∙ sym (none_against shape rule a held empty) ∙ needs a ∙ sym same;
-    puts = grown_none out;
-  }
-
   pub left_with : (line raw : List ℕ) → left ≡ pending ++ line → line ≡ raw → raw ≡ bed_text a ++ 10 ∷ [] → lines_of shape a [] ≡ line_with (bed_text a ∷ []) → length held ≡ 0 → GrownWith pending out (lines_for shape rule a held) left out
-  left_with line raw is on canonical alone empty = record {
-    bytes = [];
-    parts = ap (λ (l : List ℕ). pending ++ l) (sym (none_against shape rule a held empty) ∙ alone ∙ sym (on ∙ canonical)) ∙ sym is;
-    puts = grown_none out;
-  }
+  left_with line raw is on canonical alone empty = grind (arith, (none_against shape rule a held empty), (grown_none out))
 
   pub all_with : (lines : List ℕ) (now : Output) → lines ≡ pending → left ≡ [] → Grown out (lines ++ lines_for shape rule a held) now → GrownWith pending out (lines_for shape rule a held) left now
   all_with lines now is same puts = grind (arith, append-nil)
 
 module _ (inside now : Sweeping) (same : inside ≡ now) (a : Feature) (pending left : List ℕ) (out : Output) where
   pub nothing_in : (NeedsHit now.shape → pending ≡ []) → left ≡ [] → NeedsHit inside.shape → length inside.held ≡ 0 → GrownWith pending out (lines_for now.shape now.rule a now.held) left out
-  nothing_in quiet none needs empty = grind (arith, nothing_with)
+  nothing_in quiet none needs empty = grind (arith, common_steps, none_against)
 
   pub left_in : (line raw : List ℕ) → left ≡ pending ++ line → line ≡ raw → raw ≡ bed_text a ++ 10 ∷ [] → lines_of inside.shape a [] ≡ line_with (bed_text a ∷ []) → length inside.held ≡ 0 → GrownWith pending out (lines_for now.shape now.rule a now.held) left out
   left_in line raw is on canonical alone empty = grind (arith, left_with)
@@ -246,44 +227,36 @@ module _ (order : Order) (total : IsTotal order) (a b : Feature) (known : order.
   decides_beside behind = decides_from order a b total known (inr (same, behind))
 
   pub undecided_beside : b.start < a.stop → decides order a b ≡ false
-  undecided_beside before = grind (arith, lt-ltb)
+  undecided_beside before = grind arith
 
 -- ---- the lines of what is decided stay
 
 module _ (order : Order) (total : IsTotal order) (shape : Shape) (rule : HitRule) (taken : List Feature) (b : Feature) (more : List Feature) (placed : ArePlaced order (intervals_of (taken ++ b ∷ more))) where
-  decided_here : (a : Feature) → decided order a (taken ++ b ∷ []) ≡ true → decided order a taken ≡ false → decides order a b ≡ true
-  decided_here a some none = grind (arith, list_any-append)
-
   line_stays : (a : Feature) → IsTrue (order.knows a.chrom) → decided order a (taken ++ b ∷ []) ≡ true → lines_for shape rule a (taken ++ b ∷ more) ≡ lines_for shape rule a taken
-  line_stays a known some = grind (arith, stay_lines, before_lines, decided_here)
+  line_stays a known some = grind (arith, stay_lines, before_lines, list_any-append)
 
   pub lines_stay_so : (newly : List Feature) → ArePlaced order (intervals_of newly) → AreDecided order newly (taken ++ b ∷ []) → intersect shape rule newly (taken ++ b ∷ more) ≡ intersect shape rule newly taken
   lines_stay_so [] known all = refl
   lines_stay_so (a ∷ newly) known all =
       let parts = and_parts (decided order a (taken ++ b ∷ [])) (list_all (λ x. decided order x (taken ++ b ∷ [])) newly) all in
-      ap (λ (l : List ℕ). l ++ intersect shape rule newly (taken ++ b ∷ more)) (line_stays a known.0 parts.0)
-      ∙ ap (λ (l : List ℕ). lines_for shape rule a taken ++ l) (lines_stay_so newly known.2 parts.1)
+      grind (arith, (lines_stay_so newly known.2 parts.1), line_stays)
 
 -- decided by these, after others too
 pub decided_behind : (order : Order) (newly taken bs : List Feature) → AreDecided order newly bs → AreDecided order newly (taken ++ bs)
 decided_behind order [] taken bs all = refl
 decided_behind order (a ∷ newly) taken bs all =
     let parts = and_parts (decided order a bs) (list_all (λ x. decided order x bs) newly) all in
-    and_from (decided order a (taken ++ bs)) (list_all (λ x. decided order x (taken ++ bs)) newly)
-    (list_any-append (decides order a) taken bs ∙ or_right (decided order a taken) (decided order a bs) parts.0)
-    (decided_behind order newly taken bs parts.1)
+    grind (arith, (decided_behind order newly taken bs parts.1), list_any-append)
 
 -- and before others
 pub decided_before : (order : Order) (newly bs more : List Feature) → AreDecided order newly bs → AreDecided order newly (bs ++ more)
 decided_before order [] bs more all = refl
 decided_before order (a ∷ newly) bs more all =
     let parts = and_parts (decided order a bs) (list_all (λ x. decided order x bs) newly) all in
-    and_from (decided order a (bs ++ more)) (list_all (λ x. decided order x (bs ++ more)) newly)
-    (list_any-append (decides order a) bs more ∙ or_left (decided order a bs) (decided order a more) parts.0)
-    (decided_before order newly bs more parts.1)
+    grind (arith, (decided_before order newly bs more parts.1), list_any-append)
 
 pub decided_both : (order : Order) (xs ys bs : List Feature) → AreDecided order xs bs → AreDecided order ys bs → AreDecided order (xs ++ ys) bs
-decided_both order xs ys bs first second = grind (arith, list_all-append, and_from)
+decided_both order xs ys bs first second = grind (arith, list_all-append)
 
 -- ---- lines of one list of records after another
 
@@ -332,8 +305,7 @@ module _ (before : List Feature) {first : Feature} {firsts : List Feature} (newl
   split_last = ap (λ (l : List Feature). before ++ l) are ∙ sym (append_assoc before newly (cur ∷ []))
 
   pub split_more : (firsts2 : List Feature) → before ++ first ∷ (firsts ++ firsts2) ≡ (before ++ newly) ++ cur ∷ firsts2
-  split_more firsts2 =
-      sym (append_assoc before (first ∷ firsts) firsts2) ∙ ap (λ (l : List Feature). l ++ firsts2) split_last ∙ append_assoc (before ++ newly) (cur ∷ []) firsts2
+  split_more firsts2 = grind (arith, (append_assoc before (first ∷ firsts) firsts2), split_last, (append_assoc (before ++ newly) (cur ∷ []) firsts2))
 
 end_more : (name : List ℕ) (place : ℕ) (newly : List Feature) (a : Feature) → EndUpTo name place newly → a.chrom ≡ name → a.stop ≤ place → EndUpTo name place (newly ++ a ∷ [])
 end_more name place [] a end on up = (on, up, tt)
@@ -450,8 +422,7 @@ known_in : (sorting : Sorting) (last : Option Locus) (records more : List Featur
 known_in sorting last [] more e = refl
 known_in sorting last (r ∷ records) more e =
     let all = and_parts (sorting.knows r.chrom && not (falls_in sorting last (locus_at r))) (are_in_order sorting (Some (locus_at r)) (records ++ more)) e in
-    let here = and_parts (sorting.knows r.chrom) (not (falls_in sorting last (locus_at r))) all.0 in
-    and_from (sorting.knows r.chrom) (list_all (λ r. sorting.knows r.chrom) records) here.0 (known_in sorting (Some (locus_at r)) records more all.1)
+    grind (arith, (known_in sorting (Some (locus_at r)) records more all.1))
 
 module _ {S O : Type 0} {g : Ghosts O} (now : Records S O g) (batch : Batch) (lends : Lends now batch) where
   lent_is : records_left batch ≡ buffered_in now

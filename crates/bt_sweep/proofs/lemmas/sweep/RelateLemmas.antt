@@ -58,11 +58,7 @@ module _ (order : Order) (total : IsTotal order) (a : Feature) (known : order.kn
 
 after_decided : (order : Order) (b : Feature) (name : List ℕ) (newly : List Feature) (place : ℕ) → IsTotal order → order.knows name ≡ true → order.compare b.chrom name ≡ Greater → EndUpTo name place newly → AreDecided order newly (b ∷ [])
 after_decided order b name [] place total known compared end = refl
-after_decided order b name (a ∷ newly) place total known compared end =
-    and_from (decided order a (b ∷ [])) (list_all (λ x. decided order x (b ∷ [])) newly)
-    (or_left (decides order a b) false
-    (decides_from order a b total (subst (λ (c : List ℕ). order.knows c ≡ true) (sym end.0) known) (inl (subst (λ (c : List ℕ). order.compare b.chrom c ≡ Greater) (sym end.0) compared))))
-    (after_decided order b name newly place total known compared end.2)
+after_decided order b name (a ∷ newly) place total known compared end = grind (arith, (after_decided order b name newly place total known compared end.2))
 
 -- ---- in this order, which is total
 
@@ -166,8 +162,7 @@ module _ {A B R S : Type 0} (cursor_a : Cursor A R) (cursor_b : Cursor B S) (fea
   comes_of behind = grind arith
 
   settles_of : (behind : IsBehind) (newly : List Feature) → EndUpTo first.chrom max_number newly → Settles order old.phase newly ([] ++ option_to_list (next_of behind))
-  settles_of (inl ended) newly end = inl ended
-  settles_of (inr lies) newly end = inr (after_decided order lies.b first.chrom newly max_number total known (rw lies.on lies.compares.compared) end)
+  settles_of behind newly end = grind (arith, after_decided)
 
   abbrev proceeds_after : (firsts newly : List Feature) (waiting : Option Feature) (to_a : A) → ((x : B) → cursor_b.gives x [] x) → IsBehind → cursor_a.gives from_a firsts to_a → first ∷ firsts ≡ newly ++ option_to_list waiting
       → EndUpTo first.chrom max_number newly → Proceeded cursor_a (going_on old.phase cursor_b) (IsThis order) (Settles order old.phase) old first from_a from_b waiting to_a from_b

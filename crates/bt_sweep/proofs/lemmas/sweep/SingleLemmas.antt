@@ -1,4 +1,6 @@
 -- Lemmas on calls with one record: they are calls with cursors over one record, or over none.
+use Rattle.bt_lines.proofs.Std.{rules}
+use Rattle.std.proofs.lemmas.Grind.{common_steps}
 use Rattle.bt_lines.proofs.Std.{◌≡◌, ◌⊎◌, inl, inr, ℕ, Bool, true, false, cond, ◌&&◌, ◌||◌, List, [], ◌∷◌, ◌++◌, Option, Some, None, Ok, Err, Result, refl, sym, ap, ◌∙◌, subst, append-nil, option_to_list, bytes_eq, ltb, ◌<◌, arith, OnErr, is_some, and_from, false≢true, lt-ltb}
 use Rattle.bt_lines.specs.model.Fault.{FaultValue}
 use Rattle.bt_lines.specs.calls.Names.{fault_value}
@@ -36,22 +38,14 @@ nothing_left (f ∷ fs) left e = absurd (let apart : [] ≡ f ∷ (fs ++ left) =
 -- one record lies among the first of them or among the others
 one_of : (fs left : List Feature) (a : Feature) → a ∷ [] ≡ fs ++ left → ((fs ≡ []) × (left ≡ a ∷ [])) ⊎ ((fs ≡ a ∷ []) × (left ≡ []))
 one_of [] left a e = inl (refl, sym e)
-one_of (f ∷ fs) left a e =
-    let h = heads a f [] (fs ++ left) e in
-    let rest = nothing_left fs left h.1 in
-    inr (ap (λ (l : List Feature). f ∷ l) rest.0 ∙ ap (λ (x : Feature). x ∷ []) (sym h.0), rest.1)
+one_of (f ∷ fs) left a e = grind (arith, nothing_left)
 
 none_of : (newly : List Feature) (o : Option Feature) → [] ≡ newly ++ option_to_list o → (newly ≡ []) × (o ≡ None)
-none_of newly None e = ((nothing_left newly [] e).0, refl)
-none_of newly (Some w) e = absurd (let apart : w ∷ [] ≡ [] = (nothing_left newly (w ∷ []) e).1 in cc)
+none_of newly o e = grind (arith, nothing_left)
 
 -- it is written or waits
 one_written : (newly : List Feature) (o : Option Feature) (a : Feature) → a ∷ [] ≡ newly ++ option_to_list o → ((newly ≡ []) × (o ≡ Some a)) ⊎ ((newly ≡ a ∷ []) × (o ≡ None))
-one_written newly None a e = inr (sym (append-nil newly) ∙ sym e, refl)
-one_written newly (Some w) a e = elim (one_of newly (w ∷ []) a e) [
-  | inl waits ↦ inl (waits.0, ap (λ (x : Feature). Some x) (heads w a [] [] waits.1).0)
-  | inr gone ↦ absurd (let apart : w ∷ [] ≡ [] = gone.1 in cc)
-]
+one_written newly o a e = grind (arith, one_of)
 
 pub same_some : (a b : Feature) → Some a ≡ Some b → a ≡ b
 same_some a b e = cc
@@ -62,8 +56,7 @@ none_next to empty x2 comes = grind arith
 
 -- and only its record of one that isn't
 next_one : (to : Single) (b : Feature) → single_left to ≡ b ∷ [] → (next : Option Feature) → ComesNext single_cursor to next → (next ≡ None) ⊎ (next ≡ Some b)
-next_one to b one None comes = inl refl
-next_one to b one (Some r) comes = inr (ap (λ (x : Feature). Some x) (sym (heads b r [] (single_left comes.0) (sym one ∙ comes.1.left)).0))
+next_one to b one next comes = grind arith
 
 -- ---- what decides one record
 
@@ -126,8 +119,7 @@ module _ {order : Order} {stage : Stage} {old : Sweeping} (st : StandsAt order s
     at b = cond b (record stage { written = stage.written ++ a ∷ [] }) (record stage { waiting = Some a })
 
     given_at : (b : Bool) → given (at b) ≡ stage.written ++ a ∷ []
-    given_at true = ap (λ (o : Option Feature). (stage.written ++ a ∷ []) ++ option_to_list o) not_waiting ∙ append-nil (stage.written ++ a ∷ [])
-    given_at false = refl
+    given_at b = search rules
 
     taken_at : (b : Bool) → (at b).taken ≡ stage.taken
     taken_at b = grind arith
@@ -153,7 +145,7 @@ module _ {order : Order} {stage : Stage} {old : Sweeping} (st : StandsAt order s
       same_taken = ap (λ (l : List Feature). stage.taken ++ l) none_taken.0 ∙ append-nil stage.taken
 
       given_placed : ArePlaced order (intervals_of (given stage ++ p.firsts))
-      given_placed = grind (arith, firsts_are, given_is, append-nil, front_placed, placed)
+      given_placed = grind (arith, firsts_are, append-nil, front_placed, placed)
 
       taken_placed : ArePlaced order (intervals_of (stage.taken ++ p.seconds))
       taken_placed = rw (same_taken, ← taken_at stage.b_ended) ordered.second
@@ -163,11 +155,11 @@ module _ {order : Order} {stage : Stage} {old : Sweeping} (st : StandsAt order s
 
       -- what is written before the second input has ended is decided by one of its records
       ended : p.newly ≡ a ∷ [] → stage.b_ended ≡ true
-      ended n = grind (arith, ended_by, goes, undecided_by_none, none_taken, none_next)
+      ended n = grind (arith, none_taken)
 
       -- it is written or waits, if it was given
       newly_are : ((p.newly ≡ []) × ((p.firsts ≡ []) ⊎ (waiting ≡ Some a))) ⊎ ((p.newly ≡ a ∷ []) × (waiting ≡ None))
-      newly_are = grind (arith, firsts_are, none_of, all_are, one_written)
+      newly_are = grind (arith, firsts_are, none_of, one_written)
 
       lines_are : p.newly ≡ a ∷ [] → intersect old.shape old.rule p.newly (stage.taken ++ p.seconds) ≡ lines
       lines_are n = one_line old.shape old.rule a p.newly stage.taken (stage.taken ++ p.seconds) n same_taken ∙ ap (λ (c : Bool). cond c (lines_for old.shape old.rule a stage.taken) []) (sym (ended n))
@@ -182,28 +174,13 @@ module _ {order : Order} {stage : Stage} {old : Sweeping} (st : StandsAt order s
 
         -- it was given
         was_given : StopsFor single_cursor single_cursor (want_in new) to_a to_b ⊎ HasWritten old new → d.proceeds.firsts ≡ a ∷ []
-        was_given stops = elim (firsts_are d.proceeds) [
-          | inr came ↦ came.0
-          | inl kept ↦ absurd (elim stops [
-            | inr wrote ↦ false≢true (ap is_some (sym none) ∙ wrote.0)
-            | inl stop ↦
-                let gone = none_of d.proceeds.newly new.current (sym kept.0 ∙ all_are d.proceeds) in
-                let spent : HasNone to_a = rw (want_a new gone.1 (not_over_by stage.a_ended stage.b_ended new.phase stands_now.stands.phase_is goes)) at stop in
-                let apart : [] ≡ a ∷ [] = sym spent.none ∙ kept.1 in cc
-          ])
-        ]
+        was_given stops = grind (arith, common_steps, stands_now)
 
         gives_written : d.proceeds.newly ≡ a ∷ [] → new.current ≡ None → MovesTo order old (with_a stage a) new × Grown out lines grown
-        gives_written n w = (
-          subst (λ (c : Bool). MovesTo order old (at c) new) (sym (ended d.proceeds n)) (moves_as stage d.proceeds.newly d.proceeds.seconds (ap (λ (l : List Feature). stage.written ++ l) n) (w ∙ sym not_waiting) (same_taken d.proceeds) stands_now),
-          rw (lines_are d.proceeds n) at puts_now,
-        )
+        gives_written n w = grind (arith, (ended d.proceeds n), (same_taken d.proceeds), stands_now, (lines_are d.proceeds n), puts_now)
 
         gives_waiting : d.proceeds.newly ≡ [] → new.current ≡ Some a → MovesTo order old (with_a stage a) new × Grown out lines grown
-        gives_waiting n w =
-            let goes_on : stage.b_ended ≡ false = (stands_now.stands.unended (ap is_some w)).1 in
-            let none_newly : stage.written ++ d.proceeds.newly ≡ stage.written = ap (λ (l : List Feature). stage.written ++ l) n ∙ append-nil stage.written in
-            (subst (λ (c : Bool). MovesTo order old (at c) new) (sym goes_on) (moves_as stage d.proceeds.newly d.proceeds.seconds none_newly w (same_taken d.proceeds) stands_now), rw goes_on (rw n at puts_now))
+        gives_waiting n w = grind (arith, common_steps)
 
       done_a : (d : AdvancesSo single_cursor single_cursor order old from_a from_b out new to_a to_b grown) → StopsFor single_cursor single_cursor (want_in new) to_a to_b ⊎ HasWritten old new
           → MovesTo order old (with_a stage a) new × Grown out lines grown
@@ -220,17 +197,7 @@ module _ {order : Order} {stage : Stage} {old : Sweeping} (st : StandsAt order s
               | inl kept ↦ absurd (fails.some (no_lines old.shape old.rule b.proceeds.newly (stage.taken ++ b.proceeds.seconds) kept.0))
               | inr gone ↦ inl (rw (lines_are b.proceeds gone.0) at fails)
             ]
-        | inr rest ↦ elim rest [
-          | inl lack ↦ absurd (let apart : [] ≡ lack.shares.b ∷ single_left lack.shares.after = sym (none_taken b.proceeds).1 ∙ lack.shares.gives.left in cc)
-          | inr lost ↦ elim (newly_are b.proceeds) [
-            | inl kept ↦ inr (record {
-              goes_on = goes_by stage.a_ended stage.b_ended old.phase st.phase_is goes lost.both;
-              is = lost.is;
-              same_output = same_output old.shape old.rule b.proceeds.newly (stage.taken ++ b.proceeds.seconds) out grown kept.0 (lost.puts stage st (given_placed b.proceeds) (taken_placed b.proceeds));
-            })
-            | inr gone ↦ absurd (let apart : None ≡ Some lost.last = sym gone.1 ∙ lost.waits in cc)
-          ]
-        ]
+        | inr rest ↦ grind (arith, (none_taken b.proceeds), (newly_are b.proceeds), (given_placed b.proceeds), (taken_placed b.proceeds))
       ]
 
     pub gives_a : {T : Type 0} (out : Output) (result : Result T Fault) (new : Sweeping) (to_a to_b : Single) (grown : Output) → OnErr result (want_in new ≡ Nothing)
@@ -266,11 +233,11 @@ module _ {order : Order} {stage : Stage} {old : Sweeping} (st : StandsAt order s
 
       -- it was taken, so it leaves that one undecided
       undecided_by : p.seconds ≡ b ∷ [] → decides order a b ≡ false
-      undecided_by s = grind (arith, some, none_given, given_placed_b, taken_placed_b, one_of, heads)
+      undecided_by s = grind (arith, none_given, given_placed_b, one_of)
 
       -- if that one is written, it decides it
       decided_by : p.newly ≡ a ∷ [] → decides order a b ≡ true
-      decided_by n = grind (arith, not_first_by, is_some, seconds_are, decides_one, none_next, next_one, none)
+      decided_by n = grind (arith, seconds_are)
 
       lines_by : p.newly ≡ a ∷ [] → p.seconds ≡ [] → intersect old.shape old.rule p.newly (stage.taken ++ p.seconds) ≡ lines_for old.shape old.rule a stage.taken
       lines_by n s = one_line old.shape old.rule a p.newly stage.taken (stage.taken ++ p.seconds) n (ap (λ (l : List Feature). stage.taken ++ l) s ∙ append-nil stage.taken)
@@ -279,27 +246,14 @@ module _ {order : Order} {stage : Stage} {old : Sweeping} (st : StandsAt order s
       pub takes_b : {new : Sweeping} → AdvancesSo single_cursor single_cursor order old from_a from_b out new to_a to_b grown → single_left to_b ≡ [] → TakesB order stage a b line old out new grown
       takes_b {new} d gone = elim (seconds_are d.proceeds) [
         | inl kept ↦ absurd (let apart : [] ≡ b ∷ [] = sym gone ∙ kept.1 in cc)
-        | inr came ↦ elim (parts d.proceeds) [
-          | inr written ↦ not_both (decided_by d.proceeds written.0) (undecided_by d.proceeds came.0)
-          | inl still ↦ record {
-            undecided = undecided_by d.proceeds came.0;
-            stands = moves_as stage d.proceeds.newly d.proceeds.seconds (ap (λ (l : List Feature). stage.written ++ l) still.0 ∙ append-nil stage.written) (still.1 ∙ sym waits) (ap (λ (l : List Feature). stage.taken ++ l) came.0)
-                (d.stands stage st (given_placed_b d.proceeds) (taken_placed_b d.proceeds));
-            same_output = same_output old.shape old.rule d.proceeds.newly (stage.taken ++ d.proceeds.seconds) out grown still.0 (d.puts stage st (given_placed_b d.proceeds) (taken_placed_b d.proceeds));
-          }
-        ]
+        | inr came ↦ grind (arith, (parts d.proceeds), (undecided_by d.proceeds came.0), append-nil)
       ]
 
       -- it is still there, so it decides that one
       pub decides_a : {new : Sweeping} (d : AdvancesSo single_cursor single_cursor order old from_a from_b out new to_a to_b grown) → StopsFor single_cursor single_cursor (want_in new) to_a to_b ⊎ HasWritten old new → {r : Feature} → single_left to_b ≡ r ∷ []
           → WritesA order stage a b line old out new grown
       decides_a {new} d stops {r} still = elim (parts d.proceeds) [
-        | inl left ↦ absurd (elim stops [
-          | inl stop ↦
-              let spent : HasNone to_b = rw (want_b new a left.1) at stop in
-              (let apart : [] ≡ r ∷ [] = sym spent.none ∙ still in cc)
-          | inr wrote ↦ (let apart : None ≡ Some a = sym wrote.1 ∙ left.1 in cc)
-        ])
+        | inl left ↦ grind arith
         | inr written ↦ elim (seconds_are d.proceeds) [
           | inr came ↦ absurd (let apart : [] ≡ r ∷ [] = sym came.1 ∙ still in cc)
           | inl kept ↦
@@ -404,15 +358,7 @@ module _ (order : Order) (stage : Stage) (a : Feature) (old : Sweeping) (st : St
         let newly = written_is j.proceeds.newly j.proceeds.firsts waiting no_firsts (all_decided waiting to_a to_b stops) j.proceeds.are in
         let k = j.goes at in
         let puts = with_no_pending out grown (intersect mid.shape mid.rule j.proceeds.newly (stage.taken ++ j.proceeds.seconds)) (j.writes at) in
-        let same_given : stage.written ++ a ∷ j.proceeds.firsts ≡ given stage ++ [] = ap (λ (l : List Feature). stage.written ++ a ∷ l) no_firsts ∙ sym given_last ∙ sym (append-nil (given stage)) in
-        let stands : StandsAt order (with_b_ended stage) final = record {
-          current_is = gone;
-          phase_is = phase ∙ ap (λ (s : Sweeping). s.phase) mid_is ∙ ap (λ (e : Bool). phase_of e true) (sym (st.unended (ap is_some waits)).0);
-          holds = subst (λ (g : List Feature). HoldsFor order g stage.taken final.held) same_given (subst (λ (t : List Feature). HoldsFor order (stage.written ++ a ∷ j.proceeds.firsts) t final.held) (same_seconds j.proceeds.seconds no_seconds) k.holds.holds);
-          within = k.holds.within;
-          unended = λ some. absurd (false≢true some);
-        } in
-        (record { stands = stands; same = same_rules same k.same }, rw (← one_line old.shape old.rule a j.proceeds.newly stage.taken (stage.taken ++ j.proceeds.seconds) newly (same_seconds j.proceeds.seconds no_seconds), ← same.shape_is, ← same.rule_is) puts)
+        grind (arith, append-nil)
 
     pub stops_end : (final : Sweeping) (fault : Fault) → Breaks single_cursor (going_on mid.phase single_cursor) (IsThis order) (Settles order mid.phase) mid a from_a from_b [] out (fault_value fault) to_a to_b [] grown → want_in final ≡ Nothing
         → EndsB {A = Unit {0}} order stage a old out (Err fault) final grown

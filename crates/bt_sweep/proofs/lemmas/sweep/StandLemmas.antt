@@ -1,4 +1,6 @@
 -- Lemmas on where a sweep is once records of both inputs were given and taken.
+use Rattle.bt_lines.proofs.Std.{rules}
+use Rattle.std.proofs.lemmas.Grind.{common_steps}
 use Rattle.bt_lines.proofs.Std.{◌≡◌, inl, inr, Bool, true, false, List, [], ◌∷◌, ◌++◌, Option, Some, None, Ok, Err, Result, refl, sym, ap, ◌∙◌, subst, append-nil, append_assoc, option_to_list, arith, IfSome, is_some, ◌⊎◌}
 use Rattle.bt_lines.specs.model.Fault.{FaultValue}
 use Rattle.bt_lines.specs.declared.fault.Fault.{Fault}
@@ -54,14 +56,7 @@ starts_entered {order} {old} {mid} {first} total none is = rw is (record {
 
 -- one does
 pub starts_current : {order : Order} {old mid : Sweeping} {first : Feature} → old.current ≡ Some first → mid ≡ record old { current = None } → StartsAt order old mid first []
-starts_current {order} {old} {mid} {first} some is = rw is (record {
-  pre_is = ap (λ (o : Option Feature). option_to_list o ++ []) some;
-  holds = λ stage st placed.
-      let all : given stage ≡ stage.written ++ first ∷ [] = ap (λ (o : Option Feature). stage.written ++ option_to_list o) (sym st.current_is ∙ some) in
-      record { holds = rw all at st.holds; within = st.within };
-  same = record { shape_is = refl; rule_is = refl; limit_is = refl };
-  phase = refl;
-})
+starts_current some is = grind arith
 
 -- ---- what is asked for
 
@@ -97,10 +92,7 @@ want_b s a some = ap (λ (o : Option Feature). want_of (is_some o) (is_over s.ph
 
 module _ {order : Order} {old mid : Sweeping} {first : Feature} {pre : List Feature} (start : StartsAt order old mid first pre) where
   given_more : (stage : Stage) → StandsAt order stage old → (firsts : List Feature) → given stage ++ (pre ++ firsts) ≡ stage.written ++ first ∷ firsts
-  given_more stage st firsts =
-      ap (λ (o : Option Feature). (stage.written ++ option_to_list o) ++ (pre ++ firsts)) (sym st.current_is)
-      ∙ append_assoc stage.written (option_to_list old.current) (pre ++ firsts)
-      ∙ ap (λ (l : List Feature). stage.written ++ l) (sym (append_assoc (option_to_list old.current) pre firsts) ∙ ap (λ (l : List Feature). l ++ firsts) start.pre_is)
+  given_more stage st firsts = grind (arith, append_assoc)
 
   each_given : (firsts : List Feature) → option_to_list old.current ++ (pre ++ firsts) ≡ first ∷ firsts
   each_given firsts = sym (append_assoc (option_to_list old.current) pre firsts) ∙ ap (λ (l : List Feature). l ++ firsts) start.pre_is
@@ -121,13 +113,7 @@ module _ {order : Order} {old mid : Sweeping} {first : Feature} {pre : List Feat
   stands_from : (stage : Stage) (firsts seconds newly : List Feature) (waiting : Option Feature) (new final : Sweeping) → StandsAt order stage old
       → Keeps order (stage.written ++ first ∷ firsts) (stage.taken ++ seconds) mid new → first ∷ firsts ≡ newly ++ option_to_list waiting → new.phase ≡ old.phase → final ≡ record new { current = waiting } → IsOpen waiting
       → MovesTo order old (stage_after stage newly final.current seconds) final
-  stands_from stage firsts seconds newly waiting new final st k are phase is goes_on =
-      let all : stage.written ++ first ∷ firsts ≡ (stage.written ++ newly) ++ option_to_list waiting = ap (λ (l : List Feature). stage.written ++ l) are ∙ sym (append_assoc stage.written newly (option_to_list waiting)) in
-      let same = same_rules start.same k.same in
-      rw is (record {
-        stands = record { current_is = refl; phase_is = phase ∙ st.phase_is; holds = rw all at k.holds.holds; within = k.holds.within; unended = λ some. goes_on some stage st };
-        same = record { shape_is = same.shape_is; rule_is = same.rule_is; limit_is = same.limit_is };
-      })
+  stands_from stage firsts seconds newly waiting new final st k are phase is goes_on = grind (arith, append_assoc)
 
   module _ {A B U R S Q : Type 0} {cursor_a : Cursor A R} {cursor_b : Cursor B S} {cursor_u : Cursor U Q} {from_u to_u : U} {from_a to_a : A} {from_b to_b : B} where
     abbrev proceeds_from : (waiting now : Option Feature) (p : Joined cursor_a (going_on mid.phase cursor_b) (IsThis order) (Settles order mid.phase) mid first from_a from_b waiting to_a to_b)
@@ -189,20 +175,10 @@ module _ {order : Order} {old mid : Sweeping} {first : Feature} {pre : List Feat
 -- ---- where nothing is given or taken
 
 same_stands : {order : Order} {old : Sweeping} (stage : Stage) → StandsAt order stage old → MovesTo order old (stage_after stage [] old.current []) old
-same_stands {order} {old} stage st = record {
-  stands = record {
-    current_is = refl;
-    phase_is = st.phase_is;
-    holds = rw (append-nil stage.taken, append-nil stage.written, st.current_is) st.holds;
-    within = st.within;
-    unended = λ some. st.unended (ap is_some (sym st.current_is) ∙ some);
-  };
-  same = same_as old old.held;
-}
+same_stands stage st = search rules
 
 leaves_nothing : (order : Order) (current : Option Feature) → IfSome current (LeavesLast order [])
-leaves_nothing order None = tt
-leaves_nothing order (Some a) = leaves_none order [] a refl
+leaves_nothing order current = grind (arith, leaves_none)
 
 pub advances_none : {A B R S : Type 0} {cursor_a : Cursor A R} {cursor_b : Cursor B S} {order : Order} {old : Sweeping} {from_a : A} {from_b : B} {out : Output} → cursor_a.gives from_a [] from_a → cursor_b.gives from_b [] from_b → AdvancesSo cursor_a cursor_b order old from_a from_b out old from_a from_b out
 advances_none {order = order} {old = old} {out = out} a_none b_none = record {
@@ -240,8 +216,7 @@ some_more [] w e = cc
 some_more (x ∷ newly) w e = cc
 
 pub only_first : (first w : Feature) (newly : List Feature) → first ∷ [] ≡ newly ++ w ∷ [] → first ≡ w
-only_first first w [] e = (same_heads first w [] [] e).0
-only_first first w (x ∷ newly) e = absurd (some_more newly w (same_heads first x [] (newly ++ w ∷ []) e).1)
+only_first first w newly e = grind (arith, common_steps)
 
 -- Lemmas on what an advance is where one waits, and where none does.
 
@@ -263,18 +238,14 @@ module _ {A B R S : Type 0} (cursor_a : Cursor A R) (cursor_b : Cursor B S) (ord
   -- it still waits, and there is none of the second input, or none waits
   stops_so : (current : Option Feature) (over : Bool) → StopsFor no_cursor cursor_b (want_of (is_some current) over) tt to_v
       → StopsFor cursor_a cursor_b (want_of (is_some current) over) from_a to_v ⊎ (current ≡ None)
-  stops_so None over stops = inr refl
-  stops_so (Some a) over stops = inl stops
+  stops_so current over stops = grind arith
 
   pub lifts_current : {T : Type 0} (result : Result T Fault) (new : Sweeping) → is_some old.current ≡ true → AdvancesOn no_cursor cursor_b order old tt from_v out result new tt to_v grown
       → AdvancesOn cursor_a cursor_b order old from_a from_v out result new from_a to_v grown
   lifts_current (Ok t) new some d = (
     record { proceeds = lifts_so new.current d.0.proceeds; leaves = d.0.leaves; stands = d.0.stands; puts = d.0.puts },
     elim d.1 [
-      | inl stops ↦ elim (stops_so new.current (is_over new.phase) stops) [
-        | inl ended ↦ inl ended
-        | inr none ↦ inr (some, none)
-      ]
+      | inl stops ↦ grind arith
       | inr written ↦ inr written
     ],
   )
@@ -283,8 +254,7 @@ module _ {A B R S : Type 0} (cursor_a : Cursor A R) (cursor_b : Cursor B S) (ord
 -- while none waits, an end isn't asked for that could still come
 module _ {B S : Type 0} (cursor_b : Cursor B S) (to_b : B) where
   stops_over : (over : Bool) → StopsFor no_cursor cursor_b (want_of false over) tt to_b
-  stops_over true = tt
-  stops_over false = tt
+  stops_over over = grind arith
 
   pub stops_none : (new : Sweeping) → new.current ≡ None → StopsFor no_cursor cursor_b (want_in new) tt to_b
   stops_none new none = rw none (stops_over (is_over new.phase))

@@ -1,4 +1,4 @@
-use Rattle.bt_lines.proofs.Std.{ℕ, List, [], ◌∷◌, ◌++◌, ap, sym, ◌∙◌, append-nil, on_ok_weaker}
+use Rattle.bt_lines.proofs.Std.{arith, ℕ, List, [], ◌∷◌, ◌++◌, ap, sym, ◌∙◌, append-nil, on_ok_weaker}
 use Rattle.bt_bed.specs.model.Feature.{Feature}
 use Rattle.bt_bed.specs.model.BedLine.{bed_text}
 use Rattle.bt_sweep.specs.model.Lines.{line_with}
@@ -7,18 +7,6 @@ use Rattle.bt_sweep.proofs.plain.write_lines.Goals as goal
 
 pub returns-in-Once : goal.returns-in-Once
 returns-in-Once c = sym (append-nil c.args.text.now.items) ∙ ap (λ (l : List ℕ). c.args.text.now.items ++ l) (sym (once_none c.args.a.now c.args.second.now c.args.shape c.args.rule c.count_hits-count.result c.count_hits-count.ensures c.in-Once.is c.if-count-eq0.true))
-
-pub returns-in-Once-2 : goal.returns-in-Once-2
-returns-in-Once-2 c =
-    on_ok_weaker c.write_line.result
-    (λ e. e ∙ ap (λ (l : List ℕ). c.args.text.now.items ++ l) (ap (λ (f : Feature). line_with (bed_text f ∷ [])) c.as_bed-a.ensures ∙ sym (once_some c.args.a.now c.args.second.now c.args.shape c.args.rule c.count_hits-count.result c.count_hits-count.ensures c.in-Once.is c.if-count-eq0.false)))
-    c.write_line.ensures
-
-pub returns-in-Missing : goal.returns-in-Missing
-returns-in-Missing c =
-    on_ok_weaker c.write_line-in-Missing.result
-    (λ e. e ∙ ap (λ (l : List ℕ). c.args.text.now.items ++ l) (ap (λ (f : Feature). line_with (bed_text f ∷ [])) c.as_bed-a.ensures ∙ sym (missing_none c.args.a.now c.args.second.now c.args.shape c.args.rule c.count_hits-count.result c.count_hits-count.ensures c.in-Missing.is c.if-count-eq0-2.true)))
-    c.write_line-in-Missing.ensures
 
 pub returns-in-Missing-2 : goal.returns-in-Missing-2
 returns-in-Missing-2 c = sym (append-nil c.args.text.now.items) ∙ ap (λ (l : List ℕ). c.args.text.now.items ++ l) (sym (missing_some c.args.a.now c.args.second.now c.args.shape c.args.rule c.count_hits-count.result c.count_hits-count.ensures c.in-Missing.is c.if-count-eq0-2.false))

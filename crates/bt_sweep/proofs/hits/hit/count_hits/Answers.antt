@@ -13,10 +13,6 @@ loop-index-preserved g c =
     let n = c.loop-index.hits in
     let at = ap (λ o. list_any p (option_to_list o)) (c.nth.ensures ∙ sym (get_took held c.args.count i c.loop-index-test.true)) in
     elim c.if-is_hit_by.branch [
-      | then-is_hit_by w ↦
-          let next = count_next p (take c.args.count held) i n true c.loop-index.invariant.counted (sym (w.if-is_hit_by.ensures ∙ at)) in
-          record { counted = omega (arith, next); few = omega (arith, c.loop-index.invariant.few) }
-      | else-is_hit_by w ↦
-          let next = count_next p (take c.args.count held) i n false c.loop-index.invariant.counted (sym (w.if-is_hit_by.ensures ∙ at)) in
-          record { counted = omega (arith, next); few = omega (arith, c.loop-index.invariant.few) }
+      | then-is_hit_by w ↦ grind (arith, (count_next p (take c.args.count held) i n true c.loop-index.invariant.counted (sym (w.if-is_hit_by.ensures ∙ at))))
+      | else-is_hit_by w ↦ grind (arith, (count_next p (take c.args.count held) i n false c.loop-index.invariant.counted (sym (w.if-is_hit_by.ensures ∙ at))))
     ]

@@ -29,10 +29,4 @@ loop-index-preserved g c =
     lines_next (hit_line c.args.shape a) (hits c.args.rule a) (take n held) c.loop-index.index _ _ _ c.loop-index.invariant adds
 
 pub returns : goal.returns
-returns g c = λ rises.
-    let a = feature_lent c.args.a.now.bed in
-    let held = g.H.Held.records c.args.held.now in
-    let n = c.count_started-count.result in
-    let all = take_whole (take n held) c.loop-index.index (omega (arith, took_few held n, c.loop-index-test.false)) in
-    subst (λ (bs : List Feature). Grown c.args.out.now.output (flat_map (hit_line c.args.shape a) bs) c.loop-index.out.output)
-    (ap (hits_among c.args.rule a) all ∙ took_hits c.args.rule a held n (c.count_started-count.ensures.rest rises)) c.loop-index.invariant
+returns g c = grind (arith, take_whole, took_few, took_hits)

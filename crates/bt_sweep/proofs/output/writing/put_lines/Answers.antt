@@ -1,4 +1,4 @@
-use Rattle.bt_lines.proofs.Std.{ap, not, take}
+use Rattle.bt_lines.proofs.Std.{arith, ap, not, take}
 use Rattle.bt_bed.specs.calls.Bed.{feature_lent}
 use Rattle.bt_sweep.proofs.lemmas.definitions.HitLemmas.{took_lines}
 use Rattle.bt_sweep.proofs.lemmas.Output.{count_adds, hits_adds, once_adds, pieces_add, unmatched_adds}
@@ -12,19 +12,13 @@ returns-in-Count g c = λ rises.
     rw (← took_lines c.args.rule a c.args.shape held n (c.count_started-count.ensures.rest rises)) (count_adds a (take n held) _ _ c.put_counted.result c.args.shape c.args.rule _ c.in-Count.is (c.count_started_hits.ensures (c.count_started-count.ensures.before rises)) c.put_counted.ensures)
 
 pub returns-in-Once : goal.returns-in-Once
-returns-in-Once g c = λ rises.
-    let held = g.H.Held.records c.args.held.now in
-    once_adds (feature_lent c.args.a.now.bed) held _ _ c.put_where.result c.args.shape c.args.rule _ c.in-Once.is (c.is_any_hit.ensures rises) c.put_where.ensures
+returns-in-Once g c = grind (arith, once_adds)
 
 pub returns-in-Missing : goal.returns-in-Missing
-returns-in-Missing g c = λ rises.
-    let held = g.H.Held.records c.args.held.now in
-    unmatched_adds (feature_lent c.args.a.now.bed) held _ _ c.put_where-in-Missing.result c.args.shape c.args.rule _ c.in-Missing.is (ap not (c.is_any_hit-in-Missing.ensures rises)) c.put_where-in-Missing.ensures
+returns-in-Missing g c = grind (arith, unmatched_adds)
 
 pub returns-in-Cut : goal.returns-in-Cut
-returns-in-Cut g c = λ rises.
-    let held = g.H.Held.records c.args.held.now in
-    hits_adds (feature_lent c.args.a.now.bed) held _ _ c.put_hits.result c.args.shape c.args.rule c.in-Cut.is (c.put_hits.ensures rises)
+returns-in-Cut g c = grind (arith, hits_adds)
 
 pub returns-in-Pieces : goal.returns-in-Pieces
 returns-in-Pieces g c = λ rises.

@@ -1,12 +1,10 @@
-use Rattle.bt_lines.proofs.Std.{nat_lt, rules, ◌∙◌, filter_same}
+use Rattle.bt_lines.proofs.Std.{arith, nat_lt, rules, ◌∙◌, filter_same}
 use Rattle.bt_bed.specs.model.Feature.{Feature}
 use Rattle.bt_sweep.proofs.lemmas.Active.{bases_on, dropped, rises_on}
 use Rattle.bt_sweep.proofs.active.held_list.HeldList.remove_ended.Goals as goal
 
 pub returns-then-not-self : goal.returns-then-not-self
-returns-then-not-self c =
-    let test = λ (r : Feature). nat_lt c.args.place r.stop in
-    filter_same _ test _ (λ x b f' k. search rules) _ _ c.retain.ensures.filtered
+returns-then-not-self c = grind (arith, (filter_same _ (λ (r : Feature). nat_lt c.args.place r.stop) _ (λ x b f' k. search rules) _ _ c.retain.ensures.filtered))
 
 pub invariant_of-self-2 : goal.invariant_of-self-2
 invariant_of-self-2 c =
@@ -24,5 +22,4 @@ pub returns : goal.returns
 returns c =
     let held = c.args.self.now in
     let count = c.started_in-count in
-    c.drop_ended_of.ensures
-    ∙ dropped c.args.place held.records.items count.result count.ensures.within held.bases (count.ensures.point (held.rises c.if-not-self.false))
+    grind (arith, (dropped c.args.place held.records.items count.result count.ensures.within held.bases (count.ensures.point (held.rises c.if-not-self.false))))

@@ -1,4 +1,4 @@
-use Rattle.bt_lines.proofs.Std.{[], ◌<◌, ◌∷◌, ℕ, ap, inl, inr, refl, subst, ◌∙◌, err_from_is_err_and}
+use Rattle.bt_lines.proofs.Std.{arith, [], ◌<◌, ◌∷◌, ℕ, ap, inl, inr, refl, subst, ◌∙◌, err_from_is_err_and}
 use Rattle.bt_lines.specs.calls.Names.{fault_value}
 use Rattle.bt_sweep.specs.inside.Joining.{LeavesOn, pending_in, NeedsHit, has_room_in}
 use Rattle.bt_sweep.specs.calls.Sweeping.{CannotHold, Sweeping}
@@ -49,10 +49,8 @@ returns-in_err-take-clause-joins g c =
     let on = c.in-Some.ensures.on ∙ inv.beside ∙ c.requires.beside in
     let j = joins_past inv.going.0 gives_b on g.met.A.Cursor.gives_more inv.going.1 g.met.A.Cursor.gives_none past.self past.firsts.cursor rest past.out.output cur2
     (elim past.branch [
-      | else-stop-start-via-then-stop-start+in_ok-write_up_to+else-not-branch w ↦
-          inl (rw (w.self-is, w.firsts-is, w.out-is, w.current-is) (rw (w.start-then-stop-start.ensures, w.if-not-branch.false) at w.in_ok-write_up_to.ensures.writes).0)
-      | else-stop-start-via-else-stop-start w ↦
-          inr (w.self-is, ap (λ f. f.cursor) w.firsts-is, ap (λ f. pending_in (g.A.Cursor.consumed f.cursor) f.from f.to) w.firsts-is, ap (λ o. o.output) w.out-is, ap g.A.Record.Record.feature w.current-is)
+      | else-stop-start-via-then-stop-start+in_ok-write_up_to+else-not-branch w ↦ grind arith
+      | else-stop-start-via-else-stop-start w ↦ grind arith
     ]) in
     let before_end : b.start < cur2.stop = elim past.branch [
       | else-stop-start-via-then-stop-start+in_ok-write_up_to+else-not-branch w ↦ rw (w.current-is) (rw (w.start-then-stop-start.ensures, w.if-not-branch.false) at w.in_ok-write_up_to.ensures.writes).1.0
@@ -77,10 +75,8 @@ loop-next-preserved g c =
     let on = c.in-Some.ensures.on ∙ inv.beside ∙ c.requires.beside in
     let j = joins_past inv.going.0 gives_b on g.met.A.Cursor.gives_more inv.going.1 g.met.A.Cursor.gives_none past.self past.firsts.cursor rest past.out.output cur2
     (elim past.branch [
-      | else-stop-start-via-then-stop-start+in_ok-write_up_to+else-not-branch w ↦
-          inl (rw (w.self-is, w.firsts-is, w.out-is, w.current-is) (rw (w.start-then-stop-start.ensures, w.if-not-branch.false) at w.in_ok-write_up_to.ensures.writes).0)
-      | else-stop-start-via-else-stop-start w ↦
-          inr (w.self-is, ap (λ f. f.cursor) w.firsts-is, ap (λ f. pending_in (g.A.Cursor.consumed f.cursor) f.from f.to) w.firsts-is, ap (λ o. o.output) w.out-is, ap g.A.Record.Record.feature w.current-is)
+      | else-stop-start-via-then-stop-start+in_ok-write_up_to+else-not-branch w ↦ grind arith
+      | else-stop-start-via-else-stop-start w ↦ grind arith
     ]) in
     let before_end : b.start < cur2.stop = elim past.branch [
       | else-stop-start-via-then-stop-start+in_ok-write_up_to+else-not-branch w ↦ rw (w.current-is) (rw (w.start-then-stop-start.ensures, w.if-not-branch.false) at w.in_ok-write_up_to.ensures.writes).1.0

@@ -1,4 +1,4 @@
-use Rattle.bt_lines.proofs.Std.{◌∷◌, ◌++◌, ℕ, List, [], ap, filter, subst, ◌∙◌, nat_lt, err_from_is_err_and}
+use Rattle.bt_lines.proofs.Std.{arith, ◌∷◌, ◌++◌, ℕ, List, [], ap, filter, subst, ◌∙◌, nat_lt, err_from_is_err_and}
 use Rattle.bt_bed.specs.model.Feature.{Feature}
 use Rattle.bt_sweep.specs.calls.Sweeping.{Sweeping}
 use Rattle.bt_sweep.proofs.lemmas.sweep.KeepLemmas.{cuts_off, writes_last, writes_more}
@@ -10,11 +10,7 @@ returns-in_err-write-clause-writes g c =
     rw (e.1, e.2, c.write.ensures.cursor) (cuts_off c.loop-self.invariant.going (rw (← c.stop.ensures.is) c.loop-self-test.true) c.in_err-write.ensures.puts)
 
 pub returns-in_default-clause-writes : goal.returns-in_default-clause-writes
-returns-in_default-clause-writes g c =
-    let stays = c.in_default.ensures.unchanged ∙ c.write.ensures.cursor in (
-      rw (c.next.ensures.pending, c.in_ok-write.ensures.same, stays) (writes_last c.loop-self.invariant.going c.in_ok-write.ensures.puts (rw (← c.stop.ensures.is) c.loop-self-test.true)),
-      rw c.in_default.ensures.unchanged c.in_default.ensures.none,
-    )
+returns-in_default-clause-writes g c = grind (arith, writes_last)
 
 pub loop-self-preserved : goal.loop-self-preserved
 loop-self-preserved g c =
