@@ -1,4 +1,4 @@
-use Rattle.bt_lines.proofs.Std.{arith, List, [], ◌∷◌, ◌++◌, subst, sym}
+use Rattle.bt_lines.proofs.Std.{List, [], ◌∷◌, ◌++◌, subst, sym}
 use Rattle.bt_bed.proofs.lemmas.read.good.SaidRuns.{token_is}
 use Rattle.bt_bed.specs.calls.Batch.{Passes}
 use Rattle.bt_bed.specs.calls.CursorLaws.{batch_gives_more}
@@ -11,7 +11,10 @@ more_given : (first mid last : Batch) (x : Feature) → (records : List Feature)
 more_given first mid last x given one = (given.0 ++ x ∷ [], batch_gives_more first mid last given.0 (x ∷ []) given.1 one)
 
 pub loop-preserved : goal.loop-preserved
-loop-preserved g c = grind (arith, more_given)
+loop-preserved g c = elim c.match-next.branch [
+  | in-Some+in_ok-push w ↦ more_given c.buffered-batch.result c.loop.batch c.next.new.self _ c.loop.invariant w.in-Some.ensures.some
+  | in_default-next w ↦ subst (λ b. (records : List Feature) × Passes c.buffered-batch.result records b) (sym w.in_default-next.ensures.unchanged) c.loop.invariant
+]
 
 pub consume-requires : goal.consume-requires
 consume-requires g c = token_is c.fill.new.self.sorted c.buffered-batch.result c.loop.batch c.loop.invariant.0 c.consumed-consumed.result c.buffered-batch.ensures.lends c.loop.invariant.1 c.consumed-consumed.ensures
