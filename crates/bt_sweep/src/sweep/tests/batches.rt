@@ -35,7 +35,6 @@ fn end_first_if_wanted<H: Held, O: ChromOrder>(sweep: &mut Sweep<'_, H, O>)
 }
 
 // Gives a sweep what both cursors have, and the ends of both inputs.
-#[tactic(auto, using(crate::proofs::lemmas::sweep::KeepLemmas::known_later))]
 fn give_both<A: Cursor, B: Cursor, H: Held, O: ChromOrder, K: Sink>(
     sweep: &mut Sweep<'_, H, O>,
     a: &mut A,
