@@ -1,19 +1,18 @@
 -- Lemmas on SAM lines and on blocks.
 use Rattle.std.proofs.lemmas.Grind.{common_steps}
-use Rattle.bt_lines.proofs.Std.{◌≡◌, ℕ, ◌+◌, ◌≤◌, Bool, true, false, List, [], ◌∷◌, ◌++◌, length, Option, Some, None, refl, sym, ap, ◌∙◌, arith, cond, append-nil, add-zero, append_assoc, flat_map, nat_lt, not, false≢true, nat_tests, sum_by-cons, sum_by_push, take_while-cons, ◌<◌, take, drop, get_or, option_map, length-append, length-take, IfSome, is_ascii_digit, list_all, list_all_more, digits_value, and_parts, take-append-drop, take_more, drop_more, take-append-le, get_or_append_left, take_all, ◌-◌, zero, suc, min, ◌||◌, map, list_any, list_any-append, Result, Ok, Err, subst, nat_le, bytes_eq, bytes_decides, ⊤, flat_map-append}
+use Rattle.bt_lines.proofs.Std.{◌≡◌, ℕ, ◌+◌, ◌≤◌, Bool, true, false, List, [], ◌∷◌, ◌++◌, length, Option, Some, None, refl, sym, ap, ◌∙◌, arith, cond, append-nil, add-zero, flat_map, false≢true, nat_tests, sum_by_push, ◌<◌, take, drop, get_or, length-append, length-take, IfSome, is_ascii_digit, list_all, list_all_more, digits_value, and_parts, take-append-drop, take_more, drop_more, take-append-le, get_or_append_left, take_all, ◌-◌, zero, suc, min, ◌||◌, map, list_any, list_any-append, Ok, Err, nat_le, bytes_eq, bytes_decides, ⊤, flat_map-append}
 use Rattle.bt_bed.specs.model.Feature.{Span, Feature}
-use Rattle.bt_seq.specs.model.Alignment.{begins_block, block_at, blocks_in, blocks_of, cuts, is_skip, up_to_skip, with_bases, covered_by, operations_in, reference_length, with_operation, Part, is_letter, onto_part, operation_of, each_operation, parts_of, with_part, span_with, Alignment, Fields, alignment_of, columns_say, fields_of, fields_say, is_skipped, value_up_to, length_of, is_sam_kind, sam_kinds_are_of_lines, wrong_have_sam_kinds}
+use Rattle.bt_seq.specs.model.Alignment.{begins_block, block_at, blocks_in, blocks_of, cuts, is_skip, up_to_skip, with_bases, covered_by, operations_in, reference_length, with_operation, Part, is_letter, onto_part, operation_of, each_operation, parts_of, span_with, Fields, alignment_of, columns_say, fields_of, fields_say, is_skipped, is_sam_kind, sam_kinds_are_of_lines, wrong_have_sam_kinds}
 use Rattle.bt_seq.specs.inside.Sam.{none_left, FitBehind}
 use Rattle.bt_seq.specs.declared.sam.operation.Operation.{Operation}
 use Rattle.std.specs.Prelude.{option_and_then}
-use Rattle.bt_lines.proofs.lemmas.numbers.NumberLemmas.{digits_below, digits_denoting, value_of_digits, value_of_empty, value_of_large, value_of_other, value_short}
+use Rattle.bt_lines.proofs.lemmas.numbers.NumberLemmas.{value_of_digits, value_of_empty, value_of_large, value_of_other}
 use Rattle.bt_lines.specs.model.Lines.{value_of, pieces}
 use Rattle.bt_seq.specs.model.Masked.{masked_byte, Block, Owned, block_decides, block_with, blocks_by, items_if_last, left_by, own_records, owned, owned_from}
 use Rattle.bt_seq.specs.inside.Window.{has_position, masked_in}
 use Rattle.bt_seq.specs.declared.mask.mask_how.MaskHow.{MaskHow}
 use Rattle.bt_seq.specs.declared.sam.extent.Extent.{Extent}
 use Rattle.bt_lines.specs.declared.fault.Kind.{Kind}
-use Rattle.bt_lines.specs.declared.fault.Kind.TheVariants.{TooFewColumns}
 use Rattle.bt_seq.proofs.lemmas.definitions.KnowsLemmas.{is_last, leave}
 
 -- The blocks of an alignment, as they are found in one pass over its operations.
@@ -28,9 +27,6 @@ abbrev pub open_in : ℕ → ℕ → Option (List Operation) → List Span
 open_in start stop None = []
 open_in start stop (Some operations) = open_blocks start stop operations
 
-no_bases : (n m : ℕ) → n ≡ m → with_bases n m ≡ []
-no_bases n m e = let none : nat_lt n m ≡ false = grind (arith, nat_tests) in rw none refl
-
 begins_push : (before : List Operation) (operation : Operation) → begins_block (before ++ operation ∷ []) ≡ is_skip operation
 begins_push [] operation = refl
 begins_push (x ∷ []) operation = refl
@@ -43,9 +39,6 @@ length_push before operation = sum_by_push covered_by before operation
 pub skip_covers : (operation : Operation) → is_skip operation ≡ true → covered_by operation ≡ operation.length
 skip_covers operation e = grind arith
 
-up_by : (b : Bool) (operation : Operation) (rest : List Operation) → reference_length (cond (not b) (operation ∷ rest) []) ≡ cond b 0 (covered_by operation + reference_length rest)
-up_by b operation rest = grind (arith, common_steps)
-
 -- how far the operations up to the next N go
 up_length : (operation : Operation) (operations : List Operation) → reference_length (up_to_skip (operation ∷ operations)) ≡ cond (is_skip operation) 0 (covered_by operation + reference_length (up_to_skip operations))
 up_length operation operations = grind (arith, common_steps)
@@ -53,19 +46,6 @@ up_length operation operations = grind (arith, common_steps)
 -- the block that is open, if none begins here
 abbrev still_open : Bool → ℕ → ℕ → List Operation → List Span
 still_open b start at operations = cond b [] (with_bases start (at + reference_length (up_to_skip operations)))
-
--- the block that is open, or the one that begins here
-one_open : (b : Bool) (s start at : ℕ) (before operations : List Operation) → at ≡ s + reference_length before → begins_block before ≡ b → (b ≡ true → start ≡ at)
-    → still_open b start at operations ++ block_at s (record { before = before; behind = operations }) ≡ with_bases start (at + reference_length (up_to_skip operations))
-one_open b s start at before operations e begins same = grind arith
-
--- one more operation
-open_more : (operation : Operation) (operations : List Operation) (start at : ℕ) (found : List Span) (k : Bool) → is_skip operation ≡ k
-    → (is_skip operation ≡ true → found ≡ open_blocks (at + operation.length) (at + operation.length) operations)
-    → (is_skip operation ≡ false → with_bases start (at + covered_by operation + reference_length (up_to_skip operations)) ++ found ≡ open_blocks start (at + covered_by operation) operations)
-    → with_bases start (at + cond k 0 (covered_by operation + reference_length (up_to_skip operations))) ++ found
-    ≡ cond k (with_bases start at ++ open_blocks (at + operation.length) (at + operation.length) operations) (open_blocks start (at + covered_by operation) operations)
-open_more operation operations start at found k e skipped more = grind arith
 
 module _ (s : ℕ) where
   found_open : (operations before : List Operation) (b : Bool) (start at : ℕ) → at ≡ s + reference_length before → begins_block before ≡ b → (b ≡ true → start ≡ at)
@@ -127,9 +107,6 @@ onto_front (byte ∷ bytes) parts = onto_part byte (onto_front bytes parts)
 abbrev pub no_letters : List ℕ → Bool
 no_letters bytes = list_all (λ byte. cond (is_letter byte) false true) bytes
 
-flipped : (b : Bool) → cond b false true ≡ true → b ≡ false
-flipped b e = grind arith
-
 parts_behind : (front rest : List ℕ) → no_letters front ≡ true → parts_of (front ++ rest) ≡ onto_front front (parts_of rest)
 parts_behind [] rest e = refl
 parts_behind (byte ∷ bytes) rest e =
@@ -166,9 +143,6 @@ pub first_operation_is : (digits : List ℕ) (letter : ℕ) (rest : List ℕ) �
     → operations_in (digits ++ letter ∷ rest) ≡ with_operation (operation_of (record { digits = digits; letter = letter })) (operations_in rest)
 unfolding operations_in
 first_operation_is digits letter rest e is = grind (arith, parts_behind, onto_none, onto_some, append-nil)
-
-none_left_some : (text : List ℕ) → 0 < length text → none_left text ≡ None
-none_left_some text some = grind arith
 
 -- digits aren't letters
 pub digits_no_letters : (bytes : List ℕ) → list_all is_ascii_digit bytes ≡ true → no_letters bytes ≡ true
@@ -306,9 +280,6 @@ module _ (how : MaskHow) (s : Extent) where
 
 -- What is wrong with a line of a SAM file.
 
-same_kind : {T : Type 0} (was : Result T Kind) (a kind : Kind) → was ≡ Err a → was ≡ Err kind → is_sam_kind a ≡ true → is_sam_kind kind ≡ true
-same_kind was a kind p q placed = let is : a ≡ kind = cc in subst (λ k. is_sam_kind k ≡ true) is placed
-
 of_columns : (f : Fields) (flag : Option ℕ) (chrom : List ℕ) (p q s : Option ℕ) (kind : Kind) → columns_say f flag chrom p q s ≡ Err kind → is_sam_kind kind ≡ true
 of_columns f flag chrom p q s kind e = grind arith
 
@@ -366,13 +337,6 @@ module _ {A : Type 0} (chrom : A → List ℕ) where
   abbrev blocks_tags : Option (List (List ℕ)) → Option (List ℕ) → List (Block A) → List (Tagged A)
   blocks_tags left last [] = []
   blocks_tags left last (b ∷ bs) = cond (is_last last b.chrom) (tag_items left b.items ++ spread (owned_from left bs)) (spread (owned_from left (b ∷ bs)))
-
-  abbrev tag_at : Option (List (List ℕ)) → A → Bool → Tagged A
-  tag_at left x s = record { item = x; left = cond s left (left_by left (chrom x)) }
-
-  alone : (left : Option (List (List ℕ))) (last : Option (List ℕ)) (x : A) (s : Bool) → is_last last (chrom x) ≡ s
-      → tag_at left x s ∷ [] ≡ blocks_tags left last (block_with (chrom x) x [])
-  alone left last x s e = grind arith
 
   with_first : (left : Option (List (List ℕ))) (last : Option (List ℕ)) (x : A) (b : Block A) (bs : List (Block A)) (t : Bool) → bytes_eq (chrom x) b.chrom ≡ t
       → record { item = x; left = next_left left last x } ∷ cond t (tag_items (next_left left last x) b.items ++ spread (owned_from (next_left left last x) bs)) (spread (owned_from (next_left left last x) (b ∷ bs)))

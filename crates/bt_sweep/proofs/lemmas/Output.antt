@@ -1,6 +1,6 @@
 -- Lemmas on what is written of a record.
 use Rattle.std.proofs.lemmas.Grind.{common_steps}
-use Rattle.bt_lines.proofs.Std.{◌≡◌, ℕ, ◌+◌, ◌<◌, ◌≤◌, Bool, true, false, ◌||◌, List, [], ◌∷◌, zero, suc, add-one, arith, drop, length, nat_le, leb-true, option_to_list, take, AllByRecursion, list_any, slice_get, leb-false, or_parts, All-from_recursion, cond, ◌++◌, Option, Err, refl, sym, ap, ◌∙◌, subst, append_assoc, filter, flat_map, length-append, or_left, or_right, or_from, take-append-drop, filter-append, list_any-append, ◌-◌, not, ltb, min, max, All, and_from, lt-ltb, length-take-le, All-take, recursion_from_All, Result, Ok, ◌⊎◌, inl, inr, bytes_eq, decimal}
+use Rattle.bt_lines.proofs.Std.{◌≡◌, ℕ, ◌+◌, ◌<◌, ◌≤◌, Bool, true, false, ◌||◌, List, [], ◌∷◌, zero, suc, add-one, arith, drop, length, nat_le, leb-true, option_to_list, take, AllByRecursion, list_any, slice_get, leb-false, or_parts, All-from_recursion, cond, ◌++◌, Err, refl, sym, ap, ◌∙◌, subst, append_assoc, filter, flat_map, length-append, or_left, or_right, or_from, take-append-drop, filter-append, list_any-append, ◌-◌, not, ltb, min, max, All, length-take-le, All-take, recursion_from_All, Result, ◌⊎◌, inl, inr, bytes_eq, decimal}
 use Rattle.bt_bed.specs.model.Feature.{Feature, is_strand}
 use Rattle.bt_bed.specs.model.BedLine.{bed_text}
 use Rattle.bt_sweep.specs.calls.Held.{AreRising, AreRisingFrom, StartBefore, StartFrom, AreOn, CanHit}
@@ -112,12 +112,6 @@ module _ {X : Type 0} where
     -- none passes so far
     pub none_next : (xs : List X) (i : ℕ) → list_any p (take i xs) ≡ false → list_any p (option_to_list (slice_get xs i)) ≡ false → list_any p (take (i + 1) xs) ≡ false
     none_next xs i e f = ap (list_any p) (take_next xs i) ∙ list_any-append p (take i xs) (option_to_list (slice_get xs i)) ∙ or_from (list_any p (take i xs)) (list_any p (option_to_list (slice_get xs i))) e f
-
-    one_at : (x : X) (c b : Bool) → p x ≡ c → (c || false) ≡ b → length (cond c (x ∷ []) []) ≡ cond b 1 0
-    one_at x c b h e = grind arith
-
-    one_counts : (o : Option X) (b : Bool) → list_any p (option_to_list o) ≡ b → length (filter p (option_to_list o)) ≡ cond b 1 0
-    one_counts o b e = grind arith
 
     -- how many pass so far
     pub count_next : (xs : List X) (i n : ℕ) (b : Bool) → n ≡ length (filter p (take i xs)) → list_any p (option_to_list (slice_get xs i)) ≡ b → n + cond b 1 0 ≡ length (filter p (take (i + 1) xs))

@@ -1,5 +1,5 @@
 -- Lemmas on the plain program.
-use Rattle.bt_lines.proofs.Std.{◌≡◌, ◌⊎◌, ℕ, List, [], ◌∷◌, ◌++◌, refl, sym, ap, ◌∙◌, subst, arith, append_assoc, decimal, flat_map, length, ◌+◌, ◌-◌, ◌<◌, ◌≤◌, le-leb, suc, Bool, not, ◌&&◌, ◌||◌, cond, ap₂, add-one, map, list_any, ne_eqb, eq-eqb, cond-true, cond-false, reverse-append}
+use Rattle.bt_lines.proofs.Std.{◌≡◌, ◌⊎◌, ℕ, List, [], ◌∷◌, ◌++◌, refl, sym, ap, ◌∙◌, arith, append_assoc, decimal, flat_map, length, ◌+◌, ◌-◌, ◌<◌, ◌≤◌, le-leb, suc, Bool, not, ◌&&◌, ◌||◌, cond, map, list_any, reverse-append}
 use Rattle.bt_bed.specs.model.Feature.{Feature, Span}
 use Rattle.bt_bed.specs.model.Positions.{stretches_from, with_position}
 use Rattle.bt_bed.specs.model.BedLine.{bed_text}
@@ -22,18 +22,6 @@ once_of a found e = grind arith
 
 once_by : (a : Feature) (found : List Feature) → (length found ≡ 0 → ⊥) → lines_of Once a found ≡ line_with (bed_text a ∷ [])
 once_by a found e = grind arith
-
-missing_of : (a : Feature) (found : List Feature) → length found ≡ 0 → lines_of Missing a found ≡ line_with (bed_text a ∷ [])
-missing_of a found e = grind arith
-
-missing_by : (a : Feature) (found : List Feature) → (length found ≡ 0 → ⊥) → lines_of Missing a found ≡ []
-missing_by a found e = grind arith
-
-whole_of : (a : Feature) (found : List Feature) → length found ≡ 0 → lines_of Whole a found ≡ line_with (bed_text a ∷ [])
-whole_of a found e = grind arith
-
-whole_by : (a : Feature) (found : List Feature) → (length found ≡ 0 → ⊥) → lines_of Whole a found ≡ []
-whole_by a found e = grind arith
 
 module _ (a : Feature) (bs : List Feature) (shape : Shape) (rule : HitRule) where
   at_shape : (s : Shape) (l : List ℕ) → shape ≡ s → lines_for s rule a bs ≡ l → lines_for shape rule a bs ≡ l
@@ -63,9 +51,6 @@ module _ (a : Feature) (bs : List Feature) (shape : Shape) (rule : HitRule) wher
   pub all_pieces : shape ≡ Pieces → lines_for shape rule a bs ≡ flat_map (piece_line a) (pieces a (hits_among rule a bs))
   unfolding lines_for
   all_pieces is = at_shape Pieces (flat_map (piece_line a) (pieces a (hits_among rule a bs))) is refl
-
-  one_each : (s : Shape) → shape ≡ s → lines_for s rule a bs ≡ flat_map (hit_line s a) (hits_among rule a bs) → lines_for shape rule a bs ≡ flat_map (hit_line shape a) (hits_among rule a bs)
-  one_each s is e = subst (λ (t : Shape). lines_for t rule a bs ≡ flat_map (hit_line t a) (hits_among rule a bs)) (sym is) e
 
   -- a line for each hit
   pub each_hit : (shape ≡ Cut) ⊎ ((shape ≡ OrigA) ⊎ ((shape ≡ CutAndB) ⊎ ((shape ≡ OrigBoth) ⊎ (shape ≡ Overlap)))) → lines_for shape rule a bs ≡ flat_map (hit_line shape a) (hits_among rule a bs)

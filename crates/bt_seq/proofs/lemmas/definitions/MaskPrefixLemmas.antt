@@ -1,13 +1,13 @@
 -- Lemmas on lines that are decided early.
-use Rattle.bt_lines.proofs.Std.{rules, ◌≡◌, ℕ, suc, ◌+◌, ◌<◌, ◌≤◌, Bool, true, false, cond, ◌&&◌, ◌||◌, nat_le, nat_lt, length, List, [], ◌∷◌, ◌++◌, filter, Option, Some, None, refl, sym, ap, ◌∙◌, subst, append-nil, bytes_eq, arith, ⊤, bytes_decides, AllByRecursion, list_any, nat_tests, flat_map-append, filter-append, list_any-append, map, is_none, is_some, option_and_then}
+use Rattle.bt_lines.proofs.Std.{rules, ◌≡◌, ℕ, suc, ◌+◌, ◌<◌, ◌≤◌, Bool, true, false, cond, ◌&&◌, ◌||◌, nat_lt, length, List, [], ◌∷◌, ◌++◌, filter, Option, Some, None, refl, sym, ap, ◌∙◌, append-nil, bytes_eq, arith, ⊤, AllByRecursion, list_any, flat_map-append, filter-append, list_any-append, map, is_none, is_some, option_and_then}
 use Rattle.bt_bed.specs.model.Feature.{Feature}
 use Rattle.bt_bed.specs.model.BedLine.{fault_at_line}
 use Rattle.bt_bed.specs.model.Good.{locus_at, AreInBlocks, IsBlockUpTo, Member}
 use Rattle.bt_lines.specs.model.Lines.{end_bytes}
 use Rattle.bt_seq.proofs.lemmas.definitions.KnowsLemmas.{is_last, leave, leave_all}
-use Rattle.bt_seq.proofs.lemmas.Sam.{Tagged, decided_tagged, last_from, next_left, own_in, own_tagged, tag_decides, tags, tags_append, tags_of, AllHaveOne, HasOne, blocks_have_one, spread, tag_items, tags_all}
+use Rattle.bt_seq.proofs.lemmas.Sam.{Tagged, decided_tagged, last_from, next_left, own_in, own_tagged, tag_decides, tags, tags_append, tags_of, AllHaveOne, blocks_have_one, spread, tag_items, tags_all}
 use Rattle.bt_seq.specs.calls.MaskStage.{decided_lines_stay, masked_lines_are_before, masked_lines_stay, first_unowned_is_told, owned_lack_none, held_mask_alone, extent_of}
-use Rattle.bt_seq.specs.model.Masked.{covers, decided, held_for, is_unnamed, masked_from, masked_text, masked_byte, block_decides, items_if_last, left_by, own_records, SequenceLine, bases_in, bases_up_to, is_header, no_sequence, told_at_first, Block, Owned, blocks_by, owned_from}
+use Rattle.bt_seq.specs.model.Masked.{covers, decided, held_for, is_unnamed, masked_from, masked_text, block_decides, items_if_last, left_by, own_records, SequenceLine, bases_in, bases_up_to, is_header, no_sequence, told_at_first, Block, Owned, blocks_by, owned_from}
 use Rattle.bt_seq.specs.declared.mask.mask_how.MaskHow.{MaskHow}
 use Rattle.std.specs.Prelude.{find}
 use Rattle.bt_lines.specs.model.Fault.{FaultValue}
@@ -24,19 +24,12 @@ pub decided_by_tags : (line : SequenceLine) (records : List Feature)
     → decided line records ≡ (is_unnamed line.names || list_any (tag_decides (bases_up_to line)) (tags_of line.names records))
 decided_by_tags line records = ap (λ b. is_unnamed line.names || b) (decided_tagged (bases_up_to line) line.names records)
 
-stays_by : (a : Bool) (b c : Bool) → (a || b) ≡ true → (a || (b || c)) ≡ true
-stays_by a b c e = grind arith
-
 pub decided_stays : decided_lines_stay
 decided_stays line records more e = grind (arith, (decided_by_tags line (records ++ more)), (tags_append (Some line.names) None records more), list_any-append, (decided_by_tags line records))
 
 -- records that start after these bases
 abbrev pub AreBehind : ℕ → List Feature → Type 0
 AreBehind bases rs = AllByRecursion (λ (r : Feature). bases ≤ r.start) rs
-
-behind_both : (bases : ℕ) (rs more : List Feature) → AreBehind bases rs → AreBehind bases more → AreBehind bases (rs ++ more)
-behind_both bases [] more h k = k
-behind_both bases (r ∷ rs) more h k = (h.0, behind_both bases rs more h.1 k)
 
 behind_rest : (bases : ℕ) (rs more : List Feature) → AreBehind bases (rs ++ more) → AreBehind bases more
 behind_rest bases [] more h = h
@@ -61,9 +54,6 @@ module _ (bases : ℕ) where
   IsPast (Some []) r = bases ≤ r.start
   IsPast (Some (name ∷ names)) r = ⊥
 
-  past_own : (left : Option (List (List ℕ))) (r : Feature) → IsPast left r → AreBehind bases (items_if_last left (r ∷ []))
-  past_own left r h = grind arith
-
   past_next : (left : Option (List (List ℕ))) (r s : Feature) (t : Bool) → bytes_eq r.chrom s.chrom ≡ t → IsBlockUpTo (locus_at r) (locus_at s) → IsPast left r
       → IsPast (cond t left (left_by left s.chrom)) s
   past_next left r s t e up h = search rules
@@ -74,9 +64,6 @@ module _ (bases : ℕ) where
   past_all left r (s ∷ ss) h placed =
       let now = past_next left r s (bytes_eq r.chrom s.chrom) refl placed.0 h in
       grind (arith, (past_all (next_left chrom_of left (Some r.chrom) s) s ss now placed.1))
-
-  le_true : (a b : ℕ) → (nat_le a b || false) ≡ true → a ≤ b
-  le_true a b e = grind arith
 
   decides_past : (left : Option (List (List ℕ))) (r : Feature) → block_decides bases left (r ∷ []) ≡ true → IsPast left r
   decides_past left r e = grind arith

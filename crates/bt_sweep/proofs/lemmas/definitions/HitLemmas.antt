@@ -1,17 +1,16 @@
 -- Lemmas on the rule of what hits a record.
-use Rattle.bt_lines.proofs.Std.{◌≡◌, ℕ, ◌-◌, ◌*◌, ◌<◌, Bool, true, false, not, ◌&&◌, ◌||◌, le-leb, cond, refl, ap, ◌∙◌, ltb, arith, max, min, bytes_eq, false≢true, and_from, and_parts, ltb-true, or_right, ◌≤◌, ◌⊎◌, inl, inr, List, [], ◌∷◌, ◌++◌, sym, subst, IsTrue, list_all, ltb-false, le-ltb, or_from, list_any-append, list_all-append, ordering_reverse, filter, append-nil, take, drop, AllByRecursion, list_any, take-append-drop, filter-append, recursion_from_All, Some, map-append, suc, Option, None, append_assoc, length, length-append, map, IfSome, if◌then◌else◌, nat_lt, find, ap₂}
-use Rattle.bt_bed.specs.model.Feature.{Feature, interval_of, length_of, intervals_of, Interval, last_from}
+use Rattle.bt_lines.proofs.Std.{◌≡◌, ℕ, ◌-◌, ◌*◌, ◌<◌, Bool, true, false, not, ◌&&◌, ◌||◌, le-leb, cond, refl, ap, ◌∙◌, ltb, arith, max, min, bytes_eq, false≢true, and_from, and_parts, ◌≤◌, ◌⊎◌, List, [], ◌∷◌, ◌++◌, sym, subst, IsTrue, list_all, le-ltb, or_from, list_any-append, list_all-append, filter, append-nil, take, drop, AllByRecursion, list_any, take-append-drop, filter-append, recursion_from_All, Some, map-append, suc, Option, None, append_assoc, length, length-append, map, IfSome, if◌then◌else◌, nat_lt, find}
+use Rattle.bt_bed.specs.model.Feature.{Feature, interval_of, length_of, intervals_of, last_from}
 use Rattle.bt_bed.specs.model.BedLine.{fault_at_line}
 use Rattle.bt_sweep.specs.model.Hits.{has_fraction, hits, is_enough, shared_bases, strands_agree, decides, decided, hits_among, are_too_many, cut_behind, first_open, held_for, is_held}
 use Rattle.bt_sweep.specs.declared.hits.hit_rule.HitRule.{HitRule}
-use Rattle.std.specs.declared.cmp.Ordering.{Ordering}
-use Rattle.std.specs.declared.cmp.Ordering.TheVariants.{Less, Equal, Greater}
+use Rattle.std.specs.declared.cmp.Ordering.TheVariants.{Greater}
 use Rattle.bt_bed.specs.model.Order.{Order, IsTotal}
 use Rattle.bt_bed.specs.model.Good.{locus_at, Good, Member}
-use Rattle.bt_bed.specs.model.Sorted.{is_below_at, IsUpTo, ArePlaced, has_records}
+use Rattle.bt_bed.specs.model.Sorted.{IsUpTo, ArePlaced, has_records}
 use Rattle.bt_bed.proofs.lemmas.parse.NameLemmas.{same_name}
 use Rattle.bt_sweep.specs.calls.Held.{StartFrom}
-use Rattle.bt_sweep.specs.model.Lines.{lines_of, lines_for, lines_stay, lines_are_before, intersect, left_are_lines, left_lines, subtract, subtract_is_met, subtract_shape, faultless_are_all, sweep_rule}
+use Rattle.bt_sweep.specs.model.Lines.{lines_of, lines_for, lines_stay, lines_are_before, intersect, left_are_lines, subtract, subtract_is_met, subtract_shape, faultless_are_all, sweep_rule}
 use Rattle.bt_sweep.specs.declared.output.shape.Shape.{Shape}
 use Rattle.bt_bed.proofs.lemmas.order.OrderLemmas.{has_records-last, next_place, placed_prefix, placed_contiguous}
 use Rattle.bt_sweep.specs.calls.Sweeping.{last_after, last_given, has_room}
@@ -19,8 +18,7 @@ use Rattle.bt_lines.specs.model.Fault.{FaultValue}
 use Rattle.bt_lines.specs.declared.fault.Input.TheVariants.{Second}
 use Rattle.bt_lines.specs.declared.fault.Kind.TheVariants.{TooManyHeld}
 use Rattle.bt_sweep.specs.inside.Joining.{are_on, held_with}
-use Rattle.bt_bed.proofs.lemmas.Definitions.{all_written, met_lines}
-use Rattle.bt_sweep.specs.declared.output.shape.Shape.TheVariants.{Whole}
+use Rattle.bt_bed.proofs.lemmas.Definitions.{all_written}
 
 -- what hits a record shares a base with it
 pub hit_overlaps : (rule : HitRule) (a b : Feature) → hits rule a b ≡ true → ltb 0 (shared_bases a b) ≡ true
@@ -54,24 +52,11 @@ enough_of_nothing rule bases a b e = grind (arith, none_asked)
 abbrev pub IsPast : Order → Feature → Feature → Type 0
 IsPast order a b = (order.compare b.chrom a.chrom ≡ Greater) ⊎ ((b.chrom ≡ a.chrom) × (a.stop ≤ b.start))
 
-past_at : (c : Ordering) (start stop : ℕ) → not (is_below_at c start stop) ≡ true → (c ≡ Greater) ⊎ ((c ≡ Equal) × (stop ≤ start))
-past_at c start stop e = grind arith
-
 pub past_from : (order : Order) (a b : Feature) → IsTotal order → IsTrue (order.knows a.chrom) → IsTrue (order.knows b.chrom) → decides order a b ≡ true → IsPast order a b
 past_from order a b total ka kb e = grind arith
 
-here_at : (c : Ordering) (start stop : ℕ) → c ≡ Equal → stop ≤ start → not (is_below_at c start stop) ≡ true
-here_at c start stop e h = grind arith
-
-pub later_at : (c : Ordering) (start stop : ℕ) → c ≡ Greater → not (is_below_at c start stop) ≡ true
-later_at c start stop e = grind arith
-
 pub decides_from : (order : Order) (a b : Feature) → IsTotal order → IsTrue (order.knows a.chrom) → IsPast order a b → decides order a b ≡ true
 decides_from order a b total ka past = grind arith
-
--- what comes later in the order is later still
-further : (order : Order) (a b m : List ℕ) → IsTotal order → IsTrue (order.knows a) → IsTrue (order.knows b) → IsTrue (order.knows m) → order.compare b a ≡ Greater → order.compare b m ≡ Less → order.compare m a ≡ Greater
-further order a b m total ka kb km later next = grind arith
 
 pub past_moves : (order : Order) (a b m : Feature) → IsTotal order → IsTrue (order.knows a.chrom) → IsTrue (order.knows b.chrom) → IsTrue (order.knows m.chrom) → IsUpTo order (locus_at b) (locus_at m) → IsPast order a b → IsPast order a m
 past_moves order a b m total ka kb km up past = grind arith
@@ -112,9 +97,6 @@ none_before order a bs b total ka placed e =
     none_by order a bs b e (decided order a bs) refl (λ some. false≢true (sym e ∙ (and_parts (decides order a b) true (later_decide order a bs (b ∷ []) total ka placed some)).0))
 
 -- Lemmas on hits: what decides a record doesn't hit it.
-
-nothing_shared : (c : Bool) (n : ℕ) → (c ≡ true → n ≡ 0) → ltb 0 (cond c n 0) ≡ false
-nothing_shared c n h = grind arith
 
 -- what is past a doesn't hit it
 past_misses : (order : Order) (rule : HitRule) (a b : Feature) → IsTotal order → IsTrue (order.knows b.chrom) → IsPast order a b → hits rule a b ≡ false
@@ -328,9 +310,6 @@ all_decided order shape rule (a ∷ first) second = all_decided order shape rule
 pub faultless_all : faultless_are_all
 faultless_all order shape rule first second fault =
     grind (arith, (all_written (sweep_rule order shape rule second None) first (all_decided order shape rule first second)))
-
-whole_left : (a : Feature) (found : List Feature) → lines_of Whole a found ≡ left_lines true a found
-whole_left a found = grind arith
 
 pub left_at : left_are_lines
 unfolding lines_for

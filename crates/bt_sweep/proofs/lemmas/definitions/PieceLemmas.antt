@@ -1,22 +1,19 @@
 -- Lemmas on records whose starts don't fall.
 use Rattle.bt_lines.proofs.Std.{rules}
-use Rattle.std.proofs.lemmas.Grind.{common_steps}
-use Rattle.bt_lines.proofs.Std.{◌≡◌, ℕ, ◌≤◌, inl, inr, Bool, true, false, cond, List, [], ◌∷◌, refl, sym, ◌∙◌, ltb, arith, filter, bytes_eq, IsTrue, and_parts, ◌+◌, ◌<◌, ◌&&◌, ◌++◌, ap, append_assoc, append-nil, flat_map, max, Decides, nat_le, nat_lt, leb-true, le-leb, list_any, cases_lt, false≢true, ltb-true, ltb-false, Decides-and, Decides-or, Decides-ltb, Decides-not}
+use Rattle.bt_lines.proofs.Std.{◌≡◌, ℕ, ◌≤◌, inl, inr, Bool, true, cond, List, [], ◌∷◌, refl, sym, ◌∙◌, ltb, arith, filter, bytes_eq, and_parts, ◌+◌, ◌<◌, ◌++◌, ap, append_assoc, flat_map, max, Decides, list_any, false≢true}
 use Rattle.bt_bed.specs.model.Feature.{Feature, intervals_of, Span}
 use Rattle.bt_bed.specs.model.Positions.{AreApartFrom, IsCovered}
-use Rattle.bt_bed.specs.model.Good.{locus_at}
-use Rattle.bt_bed.specs.model.Sorted.{ArePlaced, IsUpTo}
+use Rattle.bt_bed.specs.model.Sorted.{ArePlaced}
 use Rattle.bt_bed.specs.model.Order.{Order, IsTotal}
 use Rattle.bt_bed.proofs.lemmas.parse.NameLemmas.{same_name}
 use Rattle.bt_sweep.specs.calls.Held.{AreRising, AreRisingFrom}
 use Rattle.bt_sweep.specs.calls.Sweeping.{is_held}
-use Rattle.bt_sweep.proofs.lemmas.sweep.HoldLemmas.{up_trans}
 use Rattle.bt_bed.proofs.lemmas.Definitions.{stretches_are_same, scan_finds}
 use Rattle.bt_sweep.specs.model.Hits.{hits, hits_among}
 use Rattle.bt_sweep.specs.model.Lines.{piece_line, IsLeft, has_position, is_left, pieces, pieces_are, pieces_only, spans_of}
 use Rattle.bt_sweep.specs.inside.Pieces.{free_after, gap_lines, lines_before}
 use Rattle.bt_sweep.specs.declared.hits.hit_rule.HitRule.{HitRule}
-use Rattle.bt_sweep.proofs.lemmas.definitions.HitLemmas.{hit_overlaps, overlap_parts}
+use Rattle.bt_sweep.proofs.lemmas.definitions.HitLemmas.{hit_overlaps}
 
 -- they rise from any position up to the first of them
 rising_from : (low high : ℕ) (bs : List Feature) → low ≤ high → AreRisingFrom high bs → AreRisingFrom low bs
@@ -33,9 +30,6 @@ module _ (p : Feature → Bool) where
   rising_filter low (b ∷ bs) rises = filter_at low b bs (p b) rises.0 (rising_filter b.start bs rises.1)
 
 module _ (order : Order) (total : IsTotal order) (p : Feature → Bool) (name : List ℕ) (on : (b : Feature) → p b ≡ true → b.chrom ≡ name) where
-  up_start : (x y : Feature) → IsTrue (order.knows x.chrom) → x.chrom ≡ name → y.chrom ≡ name → IsUpTo order (locus_at x) (locus_at y) → x.start ≤ y.start
-  up_start x y known ex ey up = grind (arith)
-
   skip_second : (x y : Feature) (zs : List Feature) → ArePlaced order (intervals_of (x ∷ y ∷ zs)) → ArePlaced order (intervals_of (x ∷ zs))
   skip_second x y zs placed = grind arith
 
@@ -62,9 +56,6 @@ rising_held order a taken total placed =
 -- The pieces of a record are the stretches of the positions that are left of it, and the only list that
 -- is. A walk over those that hit it by their starts meets them in order.
 
-Decides-le : (a b : ℕ) → Decides (nat_le a b) (a ≤ b)
-Decides-le a b = (leb-true a b, le-leb a b)
-
 covers-Decides : (others : List Feature) (p : ℕ) → Decides (list_any (has_position p) others) (IsCovered (spans_of others) p)
 covers-Decides [] p = (λ e. false≢true e, λ c. absurd c)
 covers-Decides (b ∷ others) p = grind (arith, (covers-Decides others p))
@@ -84,9 +75,6 @@ gap start stop = cond (ltb start stop) (record { start = start; stop = stop } �
 abbrev walk : ℕ → ℕ → List Feature → List Span
 walk free stop [] = gap free stop
 walk free stop (b ∷ bs) = gap free b.start ++ walk (max free b.stop) stop bs
-
-flat_map-append : (f : Span → List ℕ) (xs ys : List Span) → flat_map f (xs ++ ys) ≡ flat_map f xs ++ flat_map f ys
-flat_map-append f xs ys = grind (arith, common_steps)
 
 gap_at : (a : Feature) (start stop : ℕ) (c : Bool) → flat_map (piece_line a) (cond c (record { start = start; stop = stop } ∷ []) []) ≡ cond c (piece_line a (record { start = start; stop = stop })) []
 gap_at a start stop c = search rules
@@ -129,17 +117,8 @@ apart_down low high [] h apart = tt
 apart_down low high (s ∷ ss) h apart = (omega (arith, apart.0), apart.1, apart.2)
 
 module _ (free stop : ℕ) (b : Feature) (bs : List Feature) (spans : List Span) (some : b.start < b.stop) (within : b.start < stop) (rises : AreRisingFrom b.start bs) (rest : IsWalk (max free b.stop) stop bs spans) where
-  past_b : (p : ℕ) → IsCovered spans p → (free ≤ p) × (b.stop ≤ p)
-  past_b p c = let up = rest.from_free p c in (omega (arith, up), omega (arith, up))
-
-  bare_rest : (p : ℕ) → IsCovered spans p → IsCovered (spans_of (b ∷ bs)) p → ⊥
-  bare_rest p c w = grind arith
-
   bare_gap : (p : ℕ) → p < b.start → IsCovered (spans_of (b ∷ bs)) p → ⊥
   bare_gap p low w = grind (arith, none_below)
-
-  whole_rest : (p : ℕ) → free ≤ p → b.start ≤ p → p < stop → (IsCovered (spans_of (b ∷ bs)) p → ⊥) → IsCovered spans p
-  whole_rest p low start high bare = grind arith
 
   next_walks : (c : Bool) → ltb free b.start ≡ c → IsWalk free stop (b ∷ bs) (cond c (record { start = free; stop = b.start } ∷ []) [] ++ spans)
   next_walks c e = grind (arith, apart_down, bare_gap)

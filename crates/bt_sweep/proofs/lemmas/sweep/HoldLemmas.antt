@@ -1,14 +1,12 @@
 -- Lemmas on what is held.
-use Rattle.bt_lines.proofs.Std.{rules, ◌≡◌, ℕ, ◌≤◌, inl, inr, Bool, true, false, not, ◌&&◌, ◌||◌, cond, List, [], ◌∷◌, ◌++◌, Option, None, Some, refl, sym, ap, ◌∙◌, subst, ltb, arith, filter, bytes_eq, IsTrue, list_all, ordering_reverse, false≢true, and_from, and_parts, or_parts, or_left, or_right, cases_Bool, filter-append, list_any-append, list_all-append}
-use Rattle.std.specs.declared.cmp.Ordering.{Ordering}
-use Rattle.std.specs.declared.cmp.Ordering.TheVariants.{Greater}
+use Rattle.bt_lines.proofs.Std.{rules, ◌≡◌, ◌≤◌, inl, inr, Bool, true, false, not, ◌&&◌, ◌||◌, cond, List, [], ◌∷◌, ◌++◌, Option, None, Some, refl, sym, ap, ◌∙◌, ltb, arith, filter, bytes_eq, IsTrue, list_all, false≢true, and_parts, or_parts, cases_Bool, filter-append, list_any-append, list_all-append}
 use Rattle.bt_bed.specs.model.Feature.{Feature, intervals_of}
 use Rattle.bt_bed.specs.model.Order.{Order, IsTotal}
 use Rattle.bt_bed.specs.model.Good.{locus_at}
-use Rattle.bt_bed.specs.model.Sorted.{is_below_at, IsUpTo, ArePlaced, has_records}
-use Rattle.bt_bed.proofs.lemmas.parse.NameLemmas.{name_eq, name_ne, other_name, same_name}
+use Rattle.bt_bed.specs.model.Sorted.{IsUpTo, ArePlaced, has_records}
+use Rattle.bt_bed.proofs.lemmas.parse.NameLemmas.{name_eq, name_ne, other_name}
 use Rattle.bt_sweep.specs.model.Hits.{decides}
-use Rattle.bt_sweep.specs.calls.Sweeping.{is_held, last_after, last_given, leaves_some, HoldsFor}
+use Rattle.bt_sweep.specs.calls.Sweeping.{is_held, last_given, leaves_some, HoldsFor}
 use Rattle.bt_sweep.specs.inside.Joining.{held_with}
 use Rattle.bt_sweep.proofs.lemmas.Active.{filter-both}
 use Rattle.bt_sweep.proofs.lemmas.definitions.HitLemmas.{last_given-push, last_is_there, next_lies}
@@ -29,9 +27,6 @@ last_known order (x ∷ xs) y placed = last_known order xs y placed.2
 up_to_last : (order : Order) (x : Feature) (xs : List Feature) (y : Feature) → IsTotal order → ArePlaced order (intervals_of (x ∷ xs ++ y ∷ [])) → IsUpTo order (locus_at x) (locus_at y)
 up_to_last order x [] y total placed = placed.1
 up_to_last order x (h ∷ hs) y total placed = up_trans order x h y total placed.0 placed.2.0 (last_known order hs y placed.2.2) placed.1 (up_to_last order h hs y total placed.2)
-
-below_not_greater : (c : Ordering) (start stop : ℕ) → not (not (is_below_at c start stop)) ≡ true → c ≡ Greater → ⊥
-below_not_greater c start stop e f = grind arith
 
 -- a record on a chromosome that comes anew decides all that was given before
 left_at : (order : Order) (a b g : Feature) → IsTotal order → IsTrue (order.knows a.chrom) → IsTrue (order.knows g.chrom) → a.chrom ≡ b.chrom → (a.chrom ≡ g.chrom → ⊥) → IsUpTo order (locus_at g) (locus_at a) → not (decides order g b) ≡ true → ⊥
@@ -56,15 +51,9 @@ none_new order a gs (b ∷ taken) total placed none reached =
     let parts = and_parts (leaves_some order gs b) (list_all (leaves_some order gs) taken) reached in
     skips_at a b taken (name_ne a.chrom b.chrom (λ e. leaves_none order a b gs total placed none e parts.0)) (none_new order a gs taken total placed none parts.1)
 
-narrow_at : (c : Bool) (l a : ℕ) (stop : ℕ) → l ≤ a → (c && ltb a stop) ≡ ((c && ltb l stop) && ltb a stop)
-narrow_at c l a stop h = grind arith
-
 -- on the same chromosome what is held becomes less
 same_held : (l a : Feature) (taken : List Feature) → a.chrom ≡ l.chrom → l.start ≤ a.start → filter (λ b. ltb a.start b.stop) (filter (is_held l) taken) ≡ filter (is_held a) taken
 same_held l a taken same up = grind (arith, filter-both)
-
-held_on : (l a : Feature) (held : List Feature) (c : Bool) → bytes_eq l.chrom a.chrom ≡ c → held_behind (Some l) held a ≡ cond c (filter (λ b. ltb a.start b.stop) held) []
-held_on l a held c e = ap (λ b. cond b (filter (λ b. ltb a.start b.stop) held) []) e
 
 -- what is held once a is given
 pub held_next : (order : Order) (gs taken held : List Feature) (a : Feature) → IsTotal order → ArePlaced order (intervals_of (gs ++ a ∷ [])) → HoldsFor order gs taken held → held_behind (last_given gs) held a ≡ filter (is_held a) taken
@@ -96,9 +85,6 @@ first_at l x b xs more c held rest e = search rules
 first_on : (l : Feature) (taken : List Feature) (b : Feature) (more : List Feature) → filter (is_held l) taken ≡ b ∷ more → b.chrom ≡ l.chrom
 first_on l [] b more e = absurd (let apart : [] ≡ b ∷ more = e in cc)
 first_on l (x ∷ xs) b more e = first_at l x b xs more (is_held l x) refl (first_on l xs b more) e
-
-none_either : (c : Bool) → cond {A = List Feature} c [] [] ≡ []
-none_either c = grind arith
 
 pub held_is_behind : (order : Order) (gs taken held : List Feature) (a : Feature) → HoldsFor order gs taken held → held_with held a ≡ held_behind (last_given gs) held a
 held_is_behind order gs taken held a holds = grind (arith, first_on)

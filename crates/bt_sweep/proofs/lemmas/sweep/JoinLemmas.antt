@@ -1,6 +1,6 @@
 -- Lemmas on records of both inputs that are joined.
 use Rattle.std.proofs.lemmas.Grind.{common_steps}
-use Rattle.bt_lines.proofs.Std.{◌≡◌, ◌<◌, ◌⊎◌, inl, inr, ℕ, true, false, List, [], ◌∷◌, ◌++◌, Option, Some, None, Ok, Err, Result, refl, sym, ap, ◌∙◌, subst, append-nil, append_assoc, option_to_list, bytes_eq, length, ltb, arith, All, list_all, and_from, and_parts, ltb-true, or_left, or_right, list_any-append}
+use Rattle.bt_lines.proofs.Std.{◌≡◌, ◌<◌, ◌⊎◌, inl, inr, ℕ, true, false, List, [], ◌∷◌, ◌++◌, Option, Some, None, Ok, Err, Result, refl, sym, ap, ◌∙◌, subst, append-nil, append_assoc, option_to_list, bytes_eq, length, ltb, arith, All, and_parts, ltb-true, list_any-append}
 use Rattle.bt_lines.specs.model.Fault.{FaultValue}
 use Rattle.bt_lines.specs.calls.Names.{fault_value}
 use Rattle.bt_lines.specs.calls.Output.{Output, FailsToAdd, Grown}
@@ -8,13 +8,13 @@ use Rattle.bt_lines.specs.declared.fault.Fault.{Fault}
 use Rattle.bt_bed.specs.model.Feature.{Feature}
 use Rattle.bt_bed.specs.declared.read.cursor.Cursor.{Ghosts as Cursor}
 use Rattle.bt_bed.specs.model.Order.{Order, IsTotal}
-use Rattle.bt_sweep.specs.model.Hits.{decided, decides}
+use Rattle.bt_sweep.specs.model.Hits.{decides}
 use Rattle.bt_sweep.specs.calls.Held.{CanHit}
 use Rattle.bt_sweep.specs.model.Lines.{intersect}
-use Rattle.bt_sweep.specs.calls.Sweeping.{AreDecided, CannotBeHeld, CannotHold, GivesKnown, LeavesLast, TakenEach, TakenFor, has_room, held_for, is_held, last_given, Sweeping}
+use Rattle.bt_sweep.specs.calls.Sweeping.{AreDecided, CannotBeHeld, CannotHold, GivesKnown, LeavesLast, TakenEach, TakenFor, has_room, held_for, is_held, Sweeping}
 use Rattle.bt_sweep.specs.inside.Joining.{AreDecidedOn, Behind, Breaks, CutsOff, EndUpTo, Holds, Joins, JoinsSo, Keeps, LeavesOn, LieOn, Proceeded, WaitsOn, WritesSo, has_room_in, holding}
-use Rattle.bt_sweep.proofs.lemmas.definitions.HitLemmas.{placed_back, front_placed, last_given-push}
-use Rattle.bt_sweep.proofs.lemmas.sweep.KeepLemmas.{cut_both, decided_before, decided_behind, decided_both, decides_beside, keeps_held, keeps_taken, lines_both, lines_stay_so, undecided_beside, fails_again, with_none, with_rest, with_rest_cut, fewer_firsts, fewer_seconds, goes_none, same_as, same_rules, split_last, split_more, writes_first}
+use Rattle.bt_sweep.proofs.lemmas.definitions.HitLemmas.{placed_back, front_placed}
+use Rattle.bt_sweep.proofs.lemmas.sweep.KeepLemmas.{cut_both, decided_before, decided_behind, decided_both, keeps_held, keeps_taken, lines_both, lines_stay_so, undecided_beside, fails_again, with_none, with_rest, with_rest_cut, fewer_firsts, fewer_seconds, goes_none, same_as, same_rules, split_last, split_more, writes_first}
 
 -- the chromosome of the next record is known
 pub known_head : {B R : Type 0} (order : Order) (cursor : Cursor B R) (from : B) (b : Feature) (after : B) (name : List ℕ) → GivesKnown cursor order from → cursor.gives from (b ∷ []) after → b.chrom ≡ name → order.knows name ≡ true
@@ -32,9 +32,6 @@ no_last (x ∷ before) b e = cc
 
 pub leaves_none : (order : Order) (seconds : List Feature) (a : Feature) → seconds ≡ [] → LeavesLast order seconds a
 leaves_none order seconds a none before b e = absurd (no_last before b (sym none ∙ e))
-
-same_some : (a b : Feature) → Some a ≡ Some b → a ≡ b
-same_some a b e = cc
 
 leaves_push : (seconds : List Feature) (b a : Feature) → b.chrom ≡ a.chrom → b.start < a.stop → LeavesOn (seconds ++ b ∷ []) a
 leaves_push seconds b a on before_end = grind (arith, common_steps)

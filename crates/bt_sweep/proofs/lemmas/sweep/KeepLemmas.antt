@@ -1,15 +1,15 @@
 -- What is held is all that the lines of a record come from.
 use Rattle.std.proofs.lemmas.Grind.{common_steps}
-use Rattle.bt_lines.proofs.Std.{◌≡◌, true, List, ap, ltb, arith, filter, bytes_eq, lt-ltb, and_from, ◌<◌, ℕ, Bool, cond, [], ◌∷◌, length, Option, Some, None, refl, sym, ◌∙◌, All, IfSome, slice_index_or, AllByRecursion, false≢true, All-filter, All-from_recursion, recursion_from_All, ◌⊎◌, inl, inr, false, ◌++◌, Ok, Err, Result, subst, append-nil, append_assoc, decimal, OnOk, is_ok, decimal_digit, ◌≤◌, not, IsTrue, list_all, and_parts, or_left, or_right, flat_map-append, list_any-append, list_all-append, ◌&&◌}
+use Rattle.bt_lines.proofs.Std.{◌≡◌, true, List, ap, ltb, arith, filter, and_from, ◌<◌, ℕ, Bool, cond, [], ◌∷◌, length, Option, Some, None, refl, sym, ◌∙◌, All, IfSome, slice_index_or, AllByRecursion, false≢true, All-filter, All-from_recursion, recursion_from_All, ◌⊎◌, false, ◌++◌, Ok, Err, Result, subst, append-nil, append_assoc, decimal, OnOk, is_ok, decimal_digit, ◌≤◌, not, IsTrue, list_all, and_parts, flat_map-append, list_any-append, list_all-append, ◌&&◌}
 use Rattle.bt_bed.specs.model.Feature.{Feature, intervals_of}
 use Rattle.bt_bed.specs.model.BedLine.{bed_text}
 use Rattle.bt_sweep.specs.model.Hits.{hits, decided, decides}
-use Rattle.bt_sweep.specs.model.Lines.{lines_of, lines_for, line_with, piece_line, intersect}
+use Rattle.bt_sweep.specs.model.Lines.{lines_of, lines_for, line_with, intersect}
 use Rattle.bt_sweep.specs.calls.Sweeping.{is_held, Sweeping, AreDecided, HoldsFor, SameConfig, held_for, last_given, GivesKnown}
 use Rattle.bt_sweep.specs.declared.hits.hit_rule.HitRule.{HitRule}
 use Rattle.bt_sweep.specs.declared.output.shape.Shape.{Shape}
 use Rattle.bt_sweep.proofs.lemmas.Active.{filter-wider}
-use Rattle.bt_sweep.proofs.lemmas.definitions.HitLemmas.{hit_overlaps, overlap_parts, decides_from, before_lines, stay_lines, filter_less, held_less, within_less, within_more, last_given-push, front_placed}
+use Rattle.bt_sweep.proofs.lemmas.definitions.HitLemmas.{hit_overlaps, before_lines, stay_lines, filter_less, held_less, within_less, within_more, last_given-push, front_placed}
 use Rattle.bt_bed.proofs.lemmas.parse.NameLemmas.{same_name, name_eq}
 use Rattle.bt_sweep.specs.calls.Held.{AreReady, AreOnOne, CanHit, CanHitAt, AreRising}
 use Rattle.bt_sweep.specs.inside.Joining.{are_on, GrownWith, PutsOr, NeedsHit, Behind, GoesToFor, Holds, has_room_in, held_with, holding, CutsOff, EndUpTo, WritesFor, WritesSo}
@@ -167,9 +167,6 @@ module _ (shape : Shape) (rule : HitRule) (a : Feature) (held : List Feature) (p
   pub left_with : (line raw : List ℕ) → left ≡ pending ++ line → line ≡ raw → raw ≡ bed_text a ++ 10 ∷ [] → lines_of shape a [] ≡ line_with (bed_text a ∷ []) → length held ≡ 0 → GrownWith pending out (lines_for shape rule a held) left out
   left_with line raw is on canonical alone empty = grind (arith, (none_against shape rule a held empty), (grown_none out))
 
-  pub all_with : (lines : List ℕ) (now : Output) → lines ≡ pending → left ≡ [] → Grown out (lines ++ lines_for shape rule a held) now → GrownWith pending out (lines_for shape rule a held) left now
-  all_with lines now is same puts = grind (arith, append-nil)
-
 module _ (inside now : Sweeping) (same : inside ≡ now) (a : Feature) (pending left : List ℕ) (out : Output) where
   pub nothing_in : (NeedsHit now.shape → pending ≡ []) → left ≡ [] → NeedsHit inside.shape → length inside.held ≡ 0 → GrownWith pending out (lines_for now.shape now.rule a now.held) left out
   nothing_in quiet none needs empty = grind (arith, common_steps, none_against)
@@ -223,9 +220,6 @@ same_as s held = record { shape_is = refl; rule_is = refl; limit_is = refl }
 -- ---- what decides a record on one chromosome
 
 module _ (order : Order) (total : IsTotal order) (a b : Feature) (known : order.knows a.chrom ≡ true) (same : b.chrom ≡ a.chrom) where
-  pub decides_beside : a.stop ≤ b.start → decides order a b ≡ true
-  decides_beside behind = decides_from order a b total known (inr (same, behind))
-
   pub undecided_beside : b.start < a.stop → decides order a b ≡ false
   undecided_beside before = grind arith
 

@@ -1,5 +1,5 @@
 -- Lemmas on records of the second input on one chromosome beside those of the first on one.
-use Rattle.bt_lines.proofs.Std.{◌≡◌, inl, inr, ℕ, Bool, true, false, not, ◌&&◌, cond, List, [], ◌∷◌, ◌++◌, Option, Some, None, Ok, Err, Result, refl, sym, ap, ◌∙◌, subst, append-nil, append_assoc, arith, filter, ltb, option_map, option_to_list, All, IfSome, list_all, and_from, or_left}
+use Rattle.bt_lines.proofs.Std.{◌≡◌, inl, inr, ℕ, Bool, true, false, not, ◌&&◌, cond, List, [], ◌∷◌, ◌++◌, Option, Some, None, Ok, Err, Result, refl, sym, ap, ◌∙◌, subst, append-nil, append_assoc, arith, filter, ltb, option_map, option_to_list, All, IfSome}
 use Rattle.std.specs.declared.cmp.Ordering.{Ordering}
 use Rattle.std.specs.declared.cmp.Ordering.TheVariants.{Less, Greater}
 use Rattle.bt_lines.specs.model.Lines.{max_number}
@@ -11,12 +11,11 @@ use Rattle.bt_bed.specs.model.Sorted.{is_below_at}
 use Rattle.bt_bed.specs.model.Order.{Order, IsTotal}
 use Rattle.bt_bed.proofs.lemmas.parse.NameLemmas.{name_ne}
 use Rattle.bt_sweep.specs.calls.Sweeping.{IsThis, Settles, AreDecided, ComesNext, LeavesLast, TakenEach, HoldsFor, is_held, Sweeping}
-use Rattle.bt_sweep.specs.model.Hits.{decided, decides}
+use Rattle.bt_sweep.specs.model.Hits.{decides}
 use Rattle.bt_sweep.specs.calls.Held.{CanHit}
 use Rattle.bt_sweep.specs.inside.Joining.{AreDecidedOn, Behind, EndUpTo, Holds, Joins, Keeps, LeavesOn, LieOn, Proceeded, StopsAt, WaitsOn, SkipsAll, WritesUpTo, Compares, Relates, going_on}
 use Rattle.bt_sweep.specs.declared.sweep.phase.Phase.TheVariants.{First}
 use Rattle.bt_sweep.specs.declared.sweep.relation.Relation.TheVariants.{After}
-use Rattle.bt_sweep.proofs.lemmas.definitions.HitLemmas.{decides_from}
 use Rattle.bt_sweep.proofs.lemmas.sweep.HoldLemmas.{holds_b}
 use Rattle.bt_sweep.proofs.lemmas.sweep.JoinLemmas.{joins_first, leaves_none}
 use Rattle.bt_sweep.proofs.lemmas.sweep.KeepLemmas.{keeps_held, same_as, with_none}

@@ -1,7 +1,7 @@
 -- Lemmas on calls with one record: they are calls with cursors over one record, or over none.
 use Rattle.bt_lines.proofs.Std.{rules}
 use Rattle.std.proofs.lemmas.Grind.{common_steps}
-use Rattle.bt_lines.proofs.Std.{◌≡◌, ◌⊎◌, inl, inr, ℕ, Bool, true, false, cond, ◌&&◌, ◌||◌, List, [], ◌∷◌, ◌++◌, Option, Some, None, Ok, Err, Result, refl, sym, ap, ◌∙◌, subst, append-nil, option_to_list, bytes_eq, ltb, ◌<◌, arith, OnErr, is_some, and_from, false≢true, lt-ltb}
+use Rattle.bt_lines.proofs.Std.{◌≡◌, ◌⊎◌, inl, inr, ℕ, Bool, true, false, cond, List, [], ◌∷◌, ◌++◌, Option, Some, None, Ok, Err, Result, refl, sym, ap, ◌∙◌, subst, append-nil, option_to_list, bytes_eq, ltb, ◌<◌, arith, OnErr, and_from, false≢true, lt-ltb}
 use Rattle.bt_lines.specs.model.Fault.{FaultValue}
 use Rattle.bt_lines.specs.calls.Names.{fault_value}
 use Rattle.bt_lines.specs.calls.Output.{Output, FailsToAdd, Grown}
@@ -9,22 +9,21 @@ use Rattle.bt_lines.specs.declared.fault.Fault.{Fault}
 use Rattle.bt_bed.specs.model.Feature.{Feature, intervals_of}
 use Rattle.bt_bed.specs.model.Sorted.{ArePlaced}
 use Rattle.bt_bed.specs.model.Order.{Order, IsTotal}
-use Rattle.bt_bed.specs.calls.Bed.{HasNone, single_left, single_line}
+use Rattle.bt_bed.specs.calls.Bed.{single_left, single_line}
 use Rattle.bt_bed.specs.calls.CursorOf.{single_cursor}
 use Rattle.bt_bed.specs.declared.read.cursor.Single.{Single}
 use Rattle.bt_bed.proofs.lemmas.parse.NameLemmas.{name_eq}
-use Rattle.bt_sweep.specs.calls.Sweeping.{AdvancesOn, AdvancesSo, FailsAt, HasWritten, IsThis, Settles, StopsFor, Proceeded, TakesB, WritesA, stage_after, AreDecided, ComesNext, HoldsFor, SameConfig, IsInOrder, MovesTo, Stage, StandsAt, given, phase_of, with_a, with_b, with_b_ended, EndsB, FailsToHold, FailsToKeepA, FailsToWriteA, GivesA, Sweeping, want_in}
+use Rattle.bt_sweep.specs.calls.Sweeping.{AdvancesOn, AdvancesSo, FailsAt, HasWritten, IsThis, Settles, StopsFor, Proceeded, TakesB, WritesA, stage_after, SameConfig, IsInOrder, MovesTo, Stage, StandsAt, given, with_a, with_b, EndsB, FailsToHold, FailsToKeepA, FailsToWriteA, GivesA, Sweeping, want_in}
 use Rattle.bt_sweep.specs.model.Hits.{decides}
 use Rattle.bt_sweep.specs.model.Lines.{intersect, lines_for}
 use Rattle.bt_sweep.specs.inside.Joining.{Behind, Breaks, Holds, JoinsSo, StopsAt, going_on}
 use Rattle.bt_sweep.specs.declared.hits.hit_rule.HitRule.{HitRule}
-use Rattle.bt_sweep.specs.declared.sweep.phase.Phase.{Phase}
-use Rattle.bt_sweep.specs.declared.sweep.phase.Phase.TheVariants.{Both, First, Over}
+use Rattle.bt_sweep.specs.declared.sweep.phase.Phase.TheVariants.{First}
 use Rattle.bt_sweep.specs.declared.output.shape.Shape.{Shape}
 use Rattle.bt_sweep.specs.declared.sweep.want.Want.TheVariants.{A as WantA, Nothing}
 use Rattle.bt_sweep.proofs.lemmas.definitions.HitLemmas.{before_lines, front_placed}
-use Rattle.bt_sweep.proofs.lemmas.sweep.KeepLemmas.{same_rules, undecided_beside, with_no_pending}
-use Rattle.bt_sweep.proofs.lemmas.sweep.StandLemmas.{none_waits, not_over, single_none, want_a, want_b}
+use Rattle.bt_sweep.proofs.lemmas.sweep.KeepLemmas.{undecided_beside, with_no_pending}
+use Rattle.bt_sweep.proofs.lemmas.sweep.StandLemmas.{none_waits, single_none}
 
 -- ---- what such a cursor gives
 
@@ -50,41 +49,9 @@ one_written newly o a e = grind (arith, one_of)
 pub same_some : (a b : Feature) → Some a ≡ Some b → a ≡ b
 same_some a b e = cc
 
--- none comes of a cursor that is empty
-none_next : (to : Single) → single_left to ≡ [] → (next : Option Feature) → ComesNext single_cursor to next → next ≡ None
-none_next to empty x2 comes = grind arith
-
--- and only its record of one that isn't
-next_one : (to : Single) (b : Feature) → single_left to ≡ b ∷ [] → (next : Option Feature) → ComesNext single_cursor to next → (next ≡ None) ⊎ (next ≡ Some b)
-next_one to b one next comes = grind arith
-
 -- ---- what decides one record
 
-undecided_by_none : (order : Order) (a : Feature) → AreDecided order (a ∷ []) [] → ⊥
-undecided_by_none order a e = false≢true e
-
-one_true : (d : Bool) → ((d || false) && true) ≡ true → d ≡ true
-one_true d e = grind arith
-
-decides_one : (order : Order) (a b : Feature) → AreDecided order (a ∷ []) (b ∷ []) → decides order a b ≡ true
-decides_one order a b e = one_true (decides order a b) e
-
 -- ---- by the stage that a sweep is at
-
-over_or_not : (a b : Bool) (phase : Phase) → phase ≡ phase_of a b → (phase ≡ Over → ⊥) → a ≡ false
-over_or_not a b phase e going = grind arith
-
-ended_by : (a b : Bool) (phase : Phase) → phase ≡ phase_of a b → a ≡ false → phase ≡ First → b ≡ true
-ended_by a b phase e going first = grind arith
-
-goes_by : (a b : Bool) (phase : Phase) → phase ≡ phase_of a b → a ≡ false → phase ≡ Both → b ≡ false
-goes_by a b phase e going both = grind arith
-
-not_over_by : (a b : Bool) (phase : Phase) → phase ≡ phase_of a b → a ≡ false → phase ≡ Over → ⊥
-not_over_by a b phase e going over = grind arith
-
-not_first_by : (a b : Bool) (phase : Phase) → phase ≡ phase_of a b → b ≡ false → phase ≡ First → ⊥
-not_first_by a b phase e none first = grind arith
 
 -- the lines of one record
 module _ (shape : Shape) (rule : HitRule) (a : Feature) where
@@ -109,12 +76,6 @@ module _ {order : Order} {stage : Stage} {old : Sweeping} (st : StandsAt order s
     none : old.current ≡ None
     none = none_waits old wants
 
-    not_waiting : stage.waiting ≡ None
-    not_waiting = sym st.current_is ∙ none
-
-    goes : stage.a_ended ≡ false
-    goes = over_or_not stage.a_ended stage.b_ended old.phase st.phase_is (not_over old wants)
-
     abbrev at : Bool → Stage
     at b = cond b (record stage { written = stage.written ++ a ∷ [] }) (record stage { waiting = Some a })
 
@@ -126,9 +87,6 @@ module _ {order : Order} {stage : Stage} {old : Sweeping} (st : StandsAt order s
 
     placed : ArePlaced order (intervals_of (stage.written ++ a ∷ []))
     placed = rw (given_at stage.b_ended) at ordered.first
-
-    given_is : given stage ≡ stage.written
-    given_is = ap (λ (o : Option Feature). stage.written ++ option_to_list o) not_waiting ∙ append-nil stage.written
 
     -- the lines that are written once it is given
     abbrev lines : List ℕ

@@ -1,7 +1,7 @@
 -- Lemmas on where a sweep is once records of both inputs were given and taken.
 use Rattle.bt_lines.proofs.Std.{rules}
 use Rattle.std.proofs.lemmas.Grind.{common_steps}
-use Rattle.bt_lines.proofs.Std.{◌≡◌, inl, inr, Bool, true, false, List, [], ◌∷◌, ◌++◌, Option, Some, None, Ok, Err, Result, refl, sym, ap, ◌∙◌, subst, append-nil, append_assoc, option_to_list, arith, IfSome, is_some, ◌⊎◌}
+use Rattle.bt_lines.proofs.Std.{◌≡◌, inl, inr, Bool, true, false, List, [], ◌∷◌, ◌++◌, Option, Some, None, Ok, Err, Result, refl, sym, ap, ◌∙◌, subst, append-nil, append_assoc, option_to_list, arith, IfSome, is_some}
 use Rattle.bt_lines.specs.model.Fault.{FaultValue}
 use Rattle.bt_lines.specs.declared.fault.Fault.{Fault}
 use Rattle.bt_lines.specs.calls.Output.{Output}
@@ -19,7 +19,7 @@ use Rattle.bt_sweep.specs.declared.sweep.phase.Phase.{Phase}
 use Rattle.bt_sweep.specs.declared.sweep.phase.Phase.TheVariants.{Both, First, Over}
 use Rattle.bt_sweep.specs.declared.sweep.want.Want.TheVariants.{A as WantA, B as WantB}
 use Rattle.bt_sweep.proofs.lemmas.sweep.JoinLemmas.{leaves_none}
-use Rattle.bt_sweep.proofs.lemmas.sweep.KeepLemmas.{keeps_first, same_as, same_rules, with_no_pending}
+use Rattle.bt_sweep.proofs.lemmas.sweep.KeepLemmas.{keeps_first, same_as, with_no_pending}
 use Rattle.bt_sweep.proofs.lemmas.definitions.HitLemmas.{front_placed}
 
 pub holds_of : {order : Order} {stage : Stage} {s : Sweeping} → StandsAt order stage s → Holds order (given stage) stage.taken s
@@ -208,13 +208,6 @@ no_more (f ∷ fs) left e = absurd (let apart : [] ≡ f ∷ (fs ++ left) = e in
 pub single_none : (old new : Single) (fs : List Feature) → single_left old ≡ [] → GivesSingle old fs new → fs ≡ []
 single_none old new fs none gives = no_more fs (single_left new) (sym none ∙ gives.left)
 
-same_heads : (a b : Feature) (xs ys : List Feature) → a ∷ xs ≡ b ∷ ys → (a ≡ b) × (xs ≡ ys)
-same_heads a b xs ys e = (let same : a ≡ b = cc in same, let rest : xs ≡ ys = cc in rest)
-
-some_more : (newly : List Feature) (w : Feature) → [] ≡ newly ++ w ∷ [] → ⊥
-some_more [] w e = cc
-some_more (x ∷ newly) w e = cc
-
 pub only_first : (first w : Feature) (newly : List Feature) → first ∷ [] ≡ newly ++ w ∷ [] → first ≡ w
 only_first first w newly e = grind (arith, common_steps)
 
@@ -234,11 +227,6 @@ module _ {A B R S : Type 0} (cursor_a : Cursor A R) (cursor_b : Cursor B S) (ord
     settles = p.settles;
     each = p.each;
   }
-
-  -- it still waits, and there is none of the second input, or none waits
-  stops_so : (current : Option Feature) (over : Bool) → StopsFor no_cursor cursor_b (want_of (is_some current) over) tt to_v
-      → StopsFor cursor_a cursor_b (want_of (is_some current) over) from_a to_v ⊎ (current ≡ None)
-  stops_so current over stops = grind arith
 
   pub lifts_current : {T : Type 0} (result : Result T Fault) (new : Sweeping) → is_some old.current ≡ true → AdvancesOn no_cursor cursor_b order old tt from_v out result new tt to_v grown
       → AdvancesOn cursor_a cursor_b order old from_a from_v out result new from_a to_v grown

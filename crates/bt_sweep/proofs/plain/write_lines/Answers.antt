@@ -1,8 +1,5 @@
-use Rattle.bt_lines.proofs.Std.{arith, ℕ, List, [], ◌∷◌, ◌++◌, ap, sym, ◌∙◌, append-nil, on_ok_weaker}
-use Rattle.bt_bed.specs.model.Feature.{Feature}
-use Rattle.bt_bed.specs.model.BedLine.{bed_text}
-use Rattle.bt_sweep.specs.model.Lines.{line_with}
-use Rattle.bt_sweep.proofs.lemmas.Plain.{missing_none, missing_some, once_none, once_some}
+use Rattle.bt_lines.proofs.Std.{ℕ, List, ◌++◌, ap, sym, ◌∙◌, append-nil}
+use Rattle.bt_sweep.proofs.lemmas.Plain.{missing_some, once_none}
 use Rattle.bt_sweep.proofs.plain.write_lines.Goals as goal
 
 pub returns-in-Once : goal.returns-in-Once

@@ -1,4 +1,4 @@
-use Rattle.bt_lines.proofs.Std.{◌≡◌, ◌∙◌, ◌∷◌, [], ap, arith, drop, drop-set, drop_all, length-set, set}
+use Rattle.bt_lines.proofs.Std.{arith, drop-set, drop_all, length-set}
 use Rattle.bt_seq.proofs.bamtobed.bed_line.write_cigar.Goals as goal
 
 pub returns-then-not-with_cigar-clause-written : goal.returns-then-not-with_cigar-clause-written

@@ -1,5 +1,5 @@
 use Rattle.std.proofs.lemmas.Grind.{common_steps}
-use Rattle.bt_lines.proofs.Std.{◌≡◌, ◌-◌, ◌∙◌, ◌∷◌, [], ap, append_assoc, arith, drop, sym, decimal, drop-set, length-set, set}
+use Rattle.bt_lines.proofs.Std.{◌-◌, append_assoc, arith, drop-set, length-set}
 use Rattle.bt_seq.proofs.bamtobed.bed_line.write_quality.Goals as goal
 
 pub returns-clause-written : goal.returns-clause-written

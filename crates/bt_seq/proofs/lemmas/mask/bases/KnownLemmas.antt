@@ -1,15 +1,15 @@
 -- Lemmas on what is known of blocks, from call to call.
 use Rattle.std.proofs.lemmas.Grind.{common_steps}
-use Rattle.bt_lines.proofs.Std.{◌≡◌, ℕ, ◌⊎◌, Bool, true, false, cond, List, [], ◌∷◌, ◌++◌, Option, Some, None, refl, sym, ap, ◌∙◌, subst, inl, inr, bytes_eq, arith, cases_Bool, bytes_decides, is_some, option_map}
+use Rattle.bt_lines.proofs.Std.{◌≡◌, ℕ, ◌⊎◌, Bool, true, false, cond, List, [], ◌∷◌, ◌++◌, Option, Some, None, refl, sym, ap, ◌∙◌, inl, inr, bytes_eq, arith, bytes_decides, is_some, option_map}
 use Rattle.std.specs.List.{last_or}
 use Rattle.bt_bed.specs.model.Feature.{Feature}
 use Rattle.bt_seq.proofs.lemmas.definitions.KnowsLemmas.{last_goes_on, owners_found, goes_on_or_begins}
 use Rattle.bt_seq.proofs.lemmas.mask.steps.CopyLemmas.{left_grows, last_more}
 use Rattle.bt_seq.specs.calls.MaskStage.{IsNext}
-use Rattle.bt_seq.specs.calls.MaskState.{Knows, KnowsEarlier, last_chrom, owner_by, Matched, begins_own, is_it, matched_with, named, owner_of}
+use Rattle.bt_seq.specs.calls.MaskState.{Knows, KnowsEarlier, last_chrom, owner_by, Matched, is_it, matched_with, named, owner_of}
 use Rattle.bt_seq.specs.inside.Masking.{KnowsAhead, KnowsLast, KnowsNext, KnowsNone}
 use Rattle.bt_seq.specs.model.Masked.{is_unnamed, goes_on, left_after, left_by, names_behind}
-use Rattle.bt_seq.specs.declared.mask.matching.Owner.TheVariants.{Own, Nobody}
+use Rattle.bt_seq.specs.declared.mask.matching.Owner.TheVariants.{Nobody}
 
 pub never : false ≡ true → ⊥
 never e = absurd (let apart : false ≡ true = e in cc)
@@ -35,24 +35,6 @@ snoc_front (a ∷ []) [] x y e = absurd (let apart : a ∷ x ∷ [] ≡ y ∷ []
 snoc_front (a ∷ c ∷ xs) [] x y e = absurd (let apart : a ∷ c ∷ (xs ++ x ∷ []) ≡ y ∷ [] = e in cc)
 snoc_front (a ∷ xs) (b ∷ ys) x y e = grind (arith, (snoc_front xs ys x y (cc)))
 
-no_snoc : (xs : List (List ℕ)) (x : List ℕ) → Some [] ≡ Some (xs ++ x ∷ []) → ⊥
-no_snoc [] x e = absurd (let apart : Some [] ≡ Some (x ∷ []) = e in cc)
-no_snoc (a ∷ xs) x e = absurd (let apart : Some [] ≡ Some (a ∷ (xs ++ x ∷ [])) = e in cc)
-
--- what is left of a block whose owner is known
-own_left : (left : Option (List (List ℕ))) → Own ≡ owner_by left → left ≡ Some []
-own_left left e = grind arith
-
-pub nobody_left : (left : Option (List (List ℕ))) → Nobody ≡ owner_by left → left ≡ None
-nobody_left left e = grind arith
-
--- what shows that a block begins, or that it belongs to none
-begun_by : (m : Matched) (chrom : List ℕ) → (owner_of m chrom ≡ Nobody → ⊥) → is_it m.last chrom ≡ false → (begins_own m chrom ≡ true) × (is_it m.name chrom ≡ true) × (owner_of m chrom ≡ Own)
-begun_by m chrom some it = grind arith
-
-none_by : (m : Matched) (chrom : List ℕ) → owner_of m chrom ≡ Nobody → (is_it m.last chrom ≡ false) × (begins_own m chrom ≡ false)
-none_by m chrom nobody = grind arith
-
 module _ (names : List (List ℕ)) (taken : List Feature) (r : Feature) (m : Matched) where
   next_left : left_after names (taken ++ r ∷ []) ≡ cond (goes_on taken r) (left_after names taken) (left_by (left_after names taken) r.chrom)
   next_left = goes_on_or_begins names taken r
@@ -68,9 +50,6 @@ module _ (names : List (List ℕ)) (taken : List Feature) (r : Feature) (m : Mat
 
   pub may_last : KnowsLast names taken m → MayTake
   may_last k = record { knows = k.knows; none = λ begins e. ap (names_behind r.chrom) (k.near e); near = λ goes e. k.near e }
-
-  pub may_ahead : KnowsAhead names taken r m → MayTake
-  may_ahead k = record { knows = k.knows; none = λ begins e. k.none e; near = λ goes e. absurd (never (sym k.begins ∙ goes)) }
 
   pub owner_may : MayTake → owner_of m r.chrom ≡ owner_by (left_after names (taken ++ r ∷ []))
   owner_may k = owners_found names taken m r k.knows k.none
@@ -118,9 +97,6 @@ module _ (names : List (List ℕ)) (taken : List Feature) (r : Feature) (m : Mat
   -- the sequence of its block is found
   pub owner_next : KnowsNone names taken m ⊎ (MayTake ⊎ KnowsLast names (taken ++ r ∷ []) m) → m.name ≡ last_or None names → owner_of m r.chrom ≡ owner_by (left_after names (taken ++ r ∷ []))
   owner_next can name = grind (arith, owner_may, owner_known)
-
-  known_left : KnowsLast names (taken ++ r ∷ []) m → left_after names (taken ++ r ∷ []) ≡ None → ⊥
-  known_left k e = grind arith
 
   not_nobody : (left : Option (List (List ℕ))) → is_some left ≡ true → owner_by left ≡ Nobody → ⊥
   not_nobody left e o = grind arith

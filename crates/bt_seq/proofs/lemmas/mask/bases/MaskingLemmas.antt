@@ -1,16 +1,13 @@
 -- Lemmas on the steps of a masking engine.
 use Rattle.std.proofs.lemmas.Grind.{common_steps}
-use Rattle.bt_lines.proofs.Std.{rules, ◌≡◌, ℕ, nat_eq, Bool, true, false, cond, not, ◌||◌, ◌&&◌, filter, if◌then◌else◌, is_none, is_some, nat_le, Option, nat_lt, length, List, [], ◌∷◌, ◌++◌, arith, Some, None, Result, Ok, Err, refl, sym, ap, ◌∙◌, subst, inl, inr, nat_tests, IsErr, IsOk, ◌+◌, ◌<◌, zero, suc, map, take, drop, slice_index_or, slice_set, ◌-◌, ◌≤◌, eqb, Fits, w8, ap₂, append-nil, append_assoc, length-append, Each1, chunk, put_chunk, sel_l, top, agree_below, agree_below_at, eqb_yes, T, drop-drop, drop_all, drop_at, length-drop, length-map, length-take-le, map-append, take-append-drop, take_at, take_rest, put_chunk_is, take-add, ◌==◌, take_while, take_all, All-head, All-tail, All-take, take_while-cons}
+use Rattle.bt_lines.proofs.Std.{rules, ◌≡◌, ℕ, nat_eq, Bool, true, false, cond, not, nat_lt, length, List, [], ◌∷◌, ◌++◌, arith, Some, None, Result, Ok, Err, refl, sym, ap, ◌∙◌, subst, inl, nat_tests, IsErr, IsOk, ◌+◌, ◌<◌, zero, suc, map, take, drop, slice_index_or, slice_set, ◌-◌, ◌≤◌, eqb, Fits, w8, ap₂, append-nil, append_assoc, length-append, Each1, chunk, put_chunk, sel_l, top, agree_below, agree_below_at, eqb_yes, T, drop-drop, drop_all, drop_at, length-drop, length-map, length-take-le, map-append, take-append-drop, take_at, take_rest, put_chunk_is, take-add, ◌==◌, take_while, take_all, All-head, All-tail, All-take, take_while-cons}
 use Rattle.bt_bed.specs.model.Feature.{Feature}
-use Rattle.bt_lines.specs.calls.Names.{fault_value}
-use Rattle.bt_lines.specs.calls.Output.{Output, Adds, FailsToAdd, Grown}
-use Rattle.bt_lines.proofs.lemmas.Writer.{grown_none}
+use Rattle.bt_lines.specs.calls.Output.{Output, Adds, Grown}
 use Rattle.bt_lines.specs.model.Lines.{end_bytes}
 use Rattle.bt_lines.specs.declared.fault.Fault.{Fault}
 use Rattle.bt_seq.proofs.lemmas.Sam.{none_masked}
-use Rattle.bt_seq.specs.calls.MaskState.{Keeps, Masking, TakesLine, Waiting, Writes, WritesGiven, decides, decides_by, decides_up_to, is_stray, line_bytes, moved_to, passed, stays_as_given, with_owner, writes_at_once, Matched, matched_with, named, owner_of}
-use Rattle.bt_seq.specs.model.Masked.{is_header, name_in, ends_name}
-use Rattle.bt_seq.specs.inside.Window.{gone_on, no_bases}
+use Rattle.bt_seq.specs.calls.MaskState.{Keeps, Masking, TakesLine, Waiting, Writes, WritesGiven, decides, decides_by, decides_up_to, is_stray, line_bytes, moved_to, passed, stays_as_given, with_owner, writes_at_once, Matched, matched_with, owner_of}
+use Rattle.bt_seq.specs.model.Masked.{ends_name}
 use Rattle.bt_seq.specs.declared.mask.mask_want.MaskWant.TheVariants.{Line, Bed, Nothing}
 use Rattle.bt_seq.specs.declared.mask.matching.Owner.{Owner}
 use Rattle.bt_seq.specs.declared.sam.extent.Extent.{Extent}
@@ -37,38 +34,17 @@ wrote_kept {A} r old kept new line out grown is writes = grind (arith, kept_by)
     kept_by (Ok done) w = w
     kept_by (Err fault) w = (w.0, inl w.1)
 
-or_middle : (a b c : Bool) → b ≡ false → (a || (not b || c)) ≡ true
-or_middle a b c e = grind arith
-
 -- a line was written as soon as it was given
 pub writes_line : {A : Type 0} (r : Result A Fault) (old moved new : Masking) (number : ℕ) (line : Waiting) (out grown : Output)
     → (moved ≡ moved_to old line.text) × (is_stray old line.text ≡ false) → writes_at_once moved line.text ≡ true
     → WritesGiven moved line out r new grown → TakesLine old number line out r new grown
 writes_line r old moved new number line out grown m now writes = grind arith
 
-waits_now : {A : Type 0} (r : Result A Fault) (old new : Masking) (number : ℕ) (line : Waiting) (out : Output)
-    → is_stray old line.text ≡ false → writes_at_once (moved_to old line.text) line.text ≡ false
-    → Keeps (moved_to old line.text) line r new → TakesLine old number line out r new out
-waits_now r old new number line out fine later k = search rules
-
 -- a line was kept until it is decided
 pub keeps_line : {A : Type 0} (r : Result A Fault) (old moved new : Masking) (number : ℕ) (line : Waiting) (out : Output)
     → (moved ≡ moved_to old line.text) × (is_stray old line.text ≡ false) → writes_at_once moved line.text ≡ false
     → Keeps moved line r new → TakesLine old number line out r new out
 keeps_line r old moved new number line out m later keeps = search rules
-
-ahead_parts : (h n e d : Bool) → (not h && (n && (e && d))) ≡ true
-    → (h ≡ false) × (n ≡ true) × (e ≡ true) × (d ≡ true)
-ahead_parts h n e d is = grind arith
-
-named_not_stray : (name : Option (List ℕ)) (h text : Bool) → is_some name ≡ true → (not h && (is_none name && text)) ≡ false
-named_not_stray name h text e = grind arith
-
-decided_now : (ended none h within : Bool) → h ≡ false → (ended || within) ≡ true → (ended || (none || (not h && within))) ≡ true
-decided_now ended none h within e is = grind arith
-
-none_held_on : (held : List Extent) (place : ℕ) → held ≡ [] → filter (λ (s : Extent). nat_lt place s.stop) held ≡ []
-none_held_on held place none = ap (λ ss. filter (λ (s : Extent). nat_lt place s.stop) ss) none
 
 -- a line that stays as it was given was written
 pub passes_line : {A : Type 0} (done : A) (old new : Masking) (number : ℕ) (line : Waiting) (out grown : Output)

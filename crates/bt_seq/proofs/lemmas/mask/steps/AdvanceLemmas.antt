@@ -1,6 +1,6 @@
 -- Lemmas on lines and records that are given to a masking engine together.
 use Rattle.std.proofs.lemmas.Grind.{common_steps}
-use Rattle.bt_lines.proofs.Std.{rules, ◌≡◌, ◌⊎◌, inl, inr, ℕ, ◌<◌, ◌≤◌, Bool, true, false, cond, List, [], ◌∷◌, ◌++◌, length, append-nil, append_assoc, Option, None, Some, Result, Ok, Err, refl, sym, ap, ◌∙◌, arith, flat_map, false≢true}
+use Rattle.bt_lines.proofs.Std.{rules, ◌≡◌, ◌⊎◌, inl, inr, ℕ, ◌<◌, ◌≤◌, Bool, true, false, cond, List, [], ◌∷◌, ◌++◌, length, append_assoc, Option, None, Some, Result, Ok, Err, refl, sym, ap, ◌∙◌, arith, flat_map}
 use Rattle.bt_bed.specs.model.Feature.{Feature}
 use Rattle.bt_bed.specs.declared.read.cursor.Cursor.{Ghosts as Cursor}
 use Rattle.bt_bed.specs.declared.record.taken.Taken.{Taken}
@@ -12,7 +12,7 @@ use Rattle.bt_lines.specs.calls.Names.{fault_value}
 use Rattle.bt_lines.specs.calls.Output.{Output, Grown}
 use Rattle.bt_lines.specs.declared.reader.buffered_lines.BufferedLines.{BufferedLines}
 use Rattle.bt_lines.specs.declared.fault.Fault.{Fault}
-use Rattle.bt_seq.proofs.lemmas.mask.steps.CopyLemmas.{none_pass, pass_more, pass_one, stays_at, wants_bed, wants_line}
+use Rattle.bt_seq.proofs.lemmas.mask.steps.CopyLemmas.{none_pass, pass_more, pass_one, stays_at, wants_line}
 use Rattle.bt_seq.proofs.lemmas.mask.steps.LineStepLemmas.{gives_line}
 use Rattle.bt_seq.proofs.lemmas.mask.bases.MaskingLemmas.{passes_line}
 use Rattle.bt_seq.proofs.lemmas.mask.steps.BedStepLemmas.{decided_goes, goes_more, goes_nowhere, line_goes, record_goes}

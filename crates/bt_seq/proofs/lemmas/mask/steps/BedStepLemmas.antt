@@ -1,25 +1,25 @@
 -- Lemmas on a masking engine that is given a record, or the end of the records.
 use Rattle.std.proofs.lemmas.Grind.{common_steps}
-use Rattle.bt_lines.proofs.Std.{rules, ◌≡◌, ℕ, ◌≤◌, ◌<◌, min, Bool, true, false, cond, ◌&&◌, ◌||◌, nat_lt, List, [], ◌∷◌, ◌++◌, map, filter, Option, Some, None, Result, Ok, Err, refl, sym, ap, ◌∙◌, subst, append-nil, inl, inr, ◌⊎◌, arith, is_some, option_map, option_to_list, nat_tests, map-append, filter-append, not, append_assoc, flat_map, list_all, and_from, and_parts, false≢true, or_left, flat_map-append, list_all-append}
+use Rattle.bt_lines.proofs.Std.{rules, ◌≡◌, ℕ, ◌≤◌, ◌<◌, min, Bool, true, false, cond, ◌&&◌, ◌||◌, nat_lt, List, [], ◌∷◌, ◌++◌, map, filter, Option, Some, None, Result, Ok, Err, refl, sym, ap, ◌∙◌, subst, append-nil, inl, inr, ◌⊎◌, arith, is_some, option_map, option_to_list, nat_tests, map-append, filter-append, append_assoc, false≢true, flat_map-append, list_all-append}
 use Rattle.std.specs.List.{last_or}
 use Rattle.bt_bed.specs.model.Feature.{Feature}
 use Rattle.bt_bed.specs.model.BedLine.{fault_at_line}
 use Rattle.bt_bed.specs.model.Good.{AreInBlocks}
 use Rattle.bt_lines.specs.calls.Names.{fault_value}
 use Rattle.bt_lines.specs.model.Lines.{max_number, TextLine}
-use Rattle.bt_lines.specs.calls.Output.{Output, FailsToAdd, Grown}
+use Rattle.bt_lines.specs.calls.Output.{Output, Grown}
 use Rattle.bt_lines.specs.declared.fault.Fault.{Fault}
 use Rattle.bt_lines.specs.declared.fault.Input.TheVariants.{Second}
 use Rattle.bt_lines.specs.declared.fault.Kind.TheVariants.{NoSequence}
 use Rattle.bt_seq.proofs.lemmas.mask.steps.LineStepLemmas.{range_more, line_masked, open_undecided}
-use Rattle.bt_seq.proofs.lemmas.mask.bases.KnownLemmas.{MayTake, never, next_can_be, nobody_left, none_ahead, own_ahead, owner_next, take_next}
+use Rattle.bt_seq.proofs.lemmas.mask.bases.KnownLemmas.{MayTake, never, next_can_be, none_ahead, own_ahead, owner_next, take_next}
 use Rattle.bt_seq.proofs.lemmas.definitions.MaskPrefixLemmas.{blocks_front, decided_stays, held_before, masked_before, masked_stay}
 use Rattle.bt_seq.proofs.lemmas.mask.steps.CopyLemmas.{decided_more, own_more, last_waits, stands_at, wants_bed, last_more}
-use Rattle.bt_seq.specs.calls.MaskStage.{extent_of, IsNext, MaskStage, given, held_by, reached, want_of, with_bed_ended, with_decided, with_record, SayEach, GoesOn, MayFollow, SettlesLines, is_written_ahead, is_written_at_once, reached_by, with_line}
+use Rattle.bt_seq.specs.calls.MaskStage.{extent_of, IsNext, MaskStage, given, held_by, reached, want_of, with_decided, with_record, SayEach, GoesOn, MayFollow, SettlesLines, is_written_ahead, is_written_at_once, reached_by, with_line}
 use Rattle.bt_seq.specs.calls.MaskState.{owner_by, Matched, matched_with, owner_of, Masking, TakesBed, Writes, decides, decides_up_to, holding, holds, holds_by, line_bytes, with_owner, with_extent}
 use Rattle.bt_seq.specs.inside.Masking.{Counts, IsDecided, KnowsLast, KnowsNone, decided_up_to}
 use Rattle.bt_seq.specs.calls.MaskSteps.{MaskMovesTo, IsAtStage, Waits, kept_line, ChecksRecord, EndsRecords, GivesBed, LacksSequence, WritesLine, bytes_with}
-use Rattle.bt_seq.specs.model.Masked.{decided, held_for, masked_line, block_decides, items_if_last, left_after, own_records, SequenceLine, bases_up_to, is_unnamed, Reached, is_header, line_says}
+use Rattle.bt_seq.specs.model.Masked.{decided, held_for, masked_line, block_decides, items_if_last, left_after, own_records, SequenceLine, bases_up_to, is_unnamed, Reached, line_says}
 use Rattle.bt_seq.specs.inside.Window.{Bounds, limit}
 use Rattle.bt_seq.specs.declared.mask.mask_how.MaskHow.{MaskHow}
 use Rattle.bt_seq.specs.declared.mask.mask_want.MaskWant.TheVariants.{Line, Bed}
@@ -52,9 +52,6 @@ module _ (line : SequenceLine) (r : Feature) (range : r.stop ≤ max_number) whe
 
 left_some : (bases : ℕ) (left : Option (List (List ℕ))) (r : Feature) → block_decides bases left (r ∷ []) ≡ false → is_some left ≡ true
 left_some bases left r e = grind arith
-
-owner_some : (left : Option (List (List ℕ))) → (owner_by left ≡ Nobody → ⊥) → is_some left ≡ true
-owner_some left h = grind arith
 
 -- how far a record decides lines
 up_to_by : (left : Option (List (List ℕ))) (r : Feature) → decides_up_to (owner_by left) r.start ≡ decided_up_to left r
@@ -292,22 +289,6 @@ goes_more first rest = grind (arith, reached_more, say_more, append_assoc, settl
 module _ (how : MaskHow) (full : Bool) where
   pub goes_nowhere : (stage : MaskStage) → GoesOn how full stage [] [] stage []
   goes_nowhere stage = search rules
-
-  -- a line before the first header is decided, whatever comes
-  unnamed_decided : (line : SequenceLine) (records : List Feature) → is_unnamed line.names ≡ true → decided line records ≡ true
-  unnamed_decided line records e = or_left (is_unnamed line.names) _ e
-
-  -- the record ahead and those after it follow
-  follow_ahead : (stage : MaskStage) (r : Feature) (records : List Feature) → stage.bed_ended ≡ false → stage.ahead ≡ Some r → (f : MayFollow stage records)
-      → records ≡ (stage.taken ++ r ∷ []) ++ f.more
-  follow_ahead stage r records going is f = grind arith
-
-  -- after their end no others do
-  follow_none : (stage : MaskStage) (records : List Feature) → stage.bed_ended ≡ true → MayFollow stage records → records ≡ stage.taken
-  follow_none stage records over f = grind (arith, append-nil)
-
-  follow_taken : (stage : MaskStage) (records : List Feature) → MayFollow stage records → (more : List Feature) × (records ≡ stage.taken ++ more)
-  follow_taken stage records f = grind (arith, append_assoc)
 
   -- a line that is written at once is settled
   module _ (stage : MaskStage) (line : SequenceLine) where

@@ -1,12 +1,10 @@
 -- Lemmas on lines of bases that are copied through.
 use Rattle.std.proofs.lemmas.Grind.{common_steps}
-use Rattle.bt_lines.proofs.Std.{◌≡◌, ℕ, suc, ◌+◌, ◌-◌, ◌≤◌, min, Bool, true, false, ◌||◌, nat_eq, nat_le, nat_lt, if◌then◌else◌, List, [], ◌∷◌, ◌++◌, length, take, drop, length-append, append_assoc, append-nil, None, Result, Ok, Err, is_some, slice_range, refl, sym, ap, ◌∙◌, subst, arith, IsErr, IsOk, flat_map, nat_tests, take-append_seam, cond, Option, Some, bytes_eq, list_any, flat_map-append, list_any-append, or_parts, or_from, is_none, option_to_list}
-use Rattle.bt_lines.proofs.lemmas.reader.lines.TextLemmas.{spelled-fed}
-use Rattle.bt_lines.proofs.lemmas.Writer.{adds_some}
-use Rattle.bt_lines.specs.calls.Reader.{PassesLine, line_of, lines_in, rest_in}
-use Rattle.bt_lines.specs.calls.Line.{Cut, Shown, ending_at}
-use Rattle.bt_lines.specs.model.Lines.{TextLine, end_bytes, spelled}
-use Rattle.bt_lines.specs.calls.Output.{Output, Adds, Puts}
+use Rattle.bt_lines.proofs.Std.{◌≡◌, ℕ, ◌+◌, ◌-◌, ◌≤◌, min, Bool, true, false, ◌||◌, nat_eq, nat_le, if◌then◌else◌, List, [], ◌∷◌, ◌++◌, length, drop, length-append, append_assoc, append-nil, None, Result, is_some, slice_range, refl, sym, ap, ◌∙◌, subst, arith, IsErr, IsOk, flat_map, cond, Option, Some, bytes_eq, list_any, flat_map-append, list_any-append, or_parts, or_from, is_none, option_to_list}
+use Rattle.bt_lines.specs.calls.Reader.{PassesLine, line_of, rest_in}
+use Rattle.bt_lines.specs.calls.Line.{Cut, Shown}
+use Rattle.bt_lines.specs.model.Lines.{TextLine, spelled}
+use Rattle.bt_lines.specs.calls.Output.{Output, Puts}
 use Rattle.bt_lines.specs.declared.reader.buffered_lines.BufferedLines.{BufferedLines}
 use Rattle.bt_lines.specs.declared.fault.Fault.{Fault}
 use Rattle.bt_seq.specs.inside.Masking.{CopiesLine, CopiesLines, CopiesThrough, StayEach, WritesAll, bounds_of, passed_all}
@@ -17,17 +15,12 @@ use Rattle.bt_seq.specs.inside.Window.{Bounds, gone_on, limit}
 use Rattle.bt_seq.specs.declared.mask.copy_through.CopyThrough.{CopyThrough}
 use Rattle.bt_seq.specs.declared.mask.mask_want.MaskWant.TheVariants.{Line, Nothing, Bed}
 use Rattle.bt_bed.specs.model.Feature.{Feature}
-use Rattle.bt_seq.proofs.lemmas.definitions.KnowsLemmas.{is_last, leave, leave_all, one_leaves}
+use Rattle.bt_seq.proofs.lemmas.definitions.KnowsLemmas.{leave, leave_all, one_leaves}
 use Rattle.bt_seq.proofs.lemmas.definitions.MaskPrefixLemmas.{chrom_of, decided_by_tags, none_leaves}
 use Rattle.bt_seq.proofs.lemmas.Sam.{Tagged, own_in, own_tagged, tag_decides, tags, tags_more, tags_of}
 use Rattle.std.specs.List.{last_or}
 use Rattle.bt_seq.specs.calls.MaskSteps.{MaskMovesTo, MaskStandsAt, IsAtStage}
 use Rattle.bt_seq.specs.declared.mask.mask_how.MaskHow.{MaskHow}
-
--- the bytes of a line that has its line feed
-spelled_cut : (n : ℕ) (is_open : Bool) (bytes : List ℕ) (line : Shown) (cut : Cut bytes line) → is_open ≡ false
-    → line.text ++ end_bytes (ending_at is_open (nat_lt (length line.text + 1) line.size)) ≡ cut.piece ++ 10 ∷ []
-spelled_cut n is_open bytes line cut closed = rw (closed, cut.returned, cut.stripped) (spelled-fed n cut.piece)
 
 pub copied_line : (to : ℕ) (old new : CopyThrough) (line : Shown) (cut : Cut (rest_in old.lines) line) → old.lines.is_open ≡ false
     → PassesLine old.lines (line_of old.lines line) new.lines
@@ -143,9 +136,6 @@ own_more names rs r =
     ∙ ap (λ (l : List Feature). own_in (tags_of names rs) ++ l) (append-nil (items_if_last (leave (Some names) None (rs ++ r ∷ [])) (r ∷ [])))
     ∙ ap (λ (l : List Feature). l ++ items_if_last (leave (Some names) None (rs ++ r ∷ [])) (r ∷ [])) (sym (own_tagged names rs))
     ∙ ap (λ left. own_records names rs ++ items_if_last left (r ∷ [])) (leave_all (Some names) (rs ++ r ∷ []))
-
-or_last : (a b c : Bool) → (a || (b || (c || false))) ≡ ((a || b) || c)
-or_last a b c = grind arith
 
 -- whether one more record decides a line
 pub decided_more : (line : SequenceLine) (rs : List Feature) (r : Feature) → decided line (rs ++ r ∷ []) ≡ (decided line rs || block_decides (bases_up_to line) (left_after line.names (rs ++ r ∷ [])) (r ∷ []))

@@ -1,6 +1,5 @@
-use Rattle.bt_lines.proofs.Std.{arith, ◌≡◌, ◌∙◌, Bool, Ok, Result, ap, true, false, err_from_is_err_and}
+use Rattle.bt_lines.proofs.Std.{arith, ◌≡◌, Bool, Ok, Result, true, false, err_from_is_err_and}
 use Rattle.bt_lines.specs.declared.fault.Fault.{Fault}
-use Rattle.bt_seq.specs.calls.MaskState.{Masking}
 use Rattle.bt_seq.proofs.lemmas.mask.steps.AdvanceLemmas.{both_fail, both_more}
 use Rattle.bt_seq.proofs.mask.Mask.advance.Goals as goal
 

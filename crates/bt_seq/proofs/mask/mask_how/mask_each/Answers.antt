@@ -1,4 +1,4 @@
-use Rattle.bt_lines.proofs.Std.{arith, ◌∙◌, ap, slice_set, slice_index_or}
+use Rattle.bt_lines.proofs.Std.{arith}
 use Rattle.bt_seq.specs.model.Masked.{masked_byte}
 use Rattle.bt_seq.proofs.lemmas.mask.bases.MaskingLemmas.{one_mapped}
 use Rattle.bt_seq.proofs.mask.mask_how.mask_each.Goals as goal

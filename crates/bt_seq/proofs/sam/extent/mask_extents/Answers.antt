@@ -1,8 +1,6 @@
 use Rattle.bt_lines.proofs.Std.{arith}
 use Rattle.std.proofs.lemmas.Grind.{common_steps}
-use Rattle.bt_lines.proofs.Std.{◌∙◌, [], ◌∷◌, get_or, ap, sym, take, take_more}
-use Rattle.bt_seq.specs.inside.Window.{masked_in}
-use Rattle.bt_seq.specs.declared.sam.extent.Extent.{Extent}
+use Rattle.bt_lines.proofs.Std.{take_more}
 use Rattle.bt_seq.proofs.lemmas.Sam.{one_behind}
 use Rattle.bt_seq.proofs.sam.extent.mask_extents.Goals as goal
 

@@ -1,4 +1,4 @@
-use Rattle.bt_lines.proofs.Std.{◌≡◌, ◌∙◌, ◌<◌, ◌≤◌, List, ℕ, Option, Some, None, arith, cond, eqb, length, refl, count_by, is_some, nat_le, nat_tests, length-slice_split, get_or-le-sum_by}
+use Rattle.bt_lines.proofs.Std.{◌≡◌, ◌∙◌, List, ℕ, Option, arith, length, is_some, nat_le, nat_tests, length-slice_split, get_or-le-sum_by}
 use Rattle.bt_lines.proofs.lemmas.reader.lines.TextLemmas.{pieces_whole}
 use Rattle.bt_lines.specs.model.Lines.{pieces}
 use Rattle.memchr.specs.Find.{IsLastByte, is_byte}

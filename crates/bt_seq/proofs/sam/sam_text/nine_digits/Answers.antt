@@ -1,4 +1,4 @@
-use Rattle.bt_lines.proofs.Std.{inl, inr, ◌∙◌, ◌≡◌, ◌+◌, ◌-◌, ◌*◌, ◌^◌, ◌<◌, ◌&&◌, ap, arith, false, get_or, leb, length, length-take, List, ltb, None, Some, subst, sym, take, true, ℕ, cases_Bool, take_all, list_all_more, is_ascii_digit, list_all, digits_value}
+use Rattle.bt_lines.proofs.Std.{inl, inr, ◌∙◌, ◌≡◌, ◌+◌, ◌-◌, ◌*◌, ◌^◌, ◌<◌, arith, false, get_or, length, length-take, List, None, sym, take, true, ℕ, cases_Bool, take_all, list_all_more, is_ascii_digit, list_all, digits_value}
 use Rattle.bt_bed.proofs.lemmas.read.ColumnLemmas.{digit_bound}
 use Rattle.bt_lines.proofs.lemmas.numbers.NumberLemmas.{digit_small, digits_below, digits_denoting, digits_more, refused_second, value_below, value_more, value_of_digits, value_of_other, value_of_whole, value_short}
 use Rattle.bt_lines.specs.model.Lines.{value_of}

@@ -1,6 +1,5 @@
 use Rattle.std.proofs.lemmas.Grind.{common_steps}
-use Rattle.bt_lines.proofs.Std.{◌∙◌, ◌≡◌, ◌+◌, ◌-◌, ◌<◌, ap, arith, length, nat_le, option_to_list, sym, list_any}
-use Rattle.bt_bed.specs.model.Feature.{Feature}
+use Rattle.bt_lines.proofs.Std.{◌-◌, arith}
 use Rattle.bt_sweep.proofs.lemmas.Output.{start_ahead}
 use Rattle.bt_sweep.proofs.hits.started.count_started.Goals as goal
 

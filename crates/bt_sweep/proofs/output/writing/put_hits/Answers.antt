@@ -1,5 +1,5 @@
-use Rattle.bt_lines.proofs.Std.{List, Ok, Err, Option, arith, ap, subst, flat_map, option_to_list, sym, take, ◌∙◌, err_from_is_err_and}
-use Rattle.bt_lines.specs.calls.Output.{Adds, Grown}
+use Rattle.bt_lines.proofs.Std.{List, Ok, Err, Option, arith, subst, flat_map, option_to_list, sym, take, ◌∙◌, err_from_is_err_and}
+use Rattle.bt_lines.specs.calls.Output.{Adds}
 use Rattle.bt_bed.specs.calls.Bed.{feature_lent}
 use Rattle.bt_bed.specs.model.Feature.{Feature}
 use Rattle.bt_sweep.specs.model.Hits.{hits, hits_among}

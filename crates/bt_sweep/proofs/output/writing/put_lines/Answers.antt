@@ -1,4 +1,4 @@
-use Rattle.bt_lines.proofs.Std.{arith, ap, not, take}
+use Rattle.bt_lines.proofs.Std.{arith, take}
 use Rattle.bt_bed.specs.calls.Bed.{feature_lent}
 use Rattle.bt_sweep.proofs.lemmas.definitions.HitLemmas.{took_lines}
 use Rattle.bt_sweep.proofs.lemmas.Output.{count_adds, hits_adds, once_adds, pieces_add, unmatched_adds}

@@ -1,6 +1,5 @@
-use Rattle.bt_lines.proofs.Std.{arith, ◌∙◌}
+use Rattle.bt_lines.proofs.Std.{arith}
 use Rattle.bt_bed.specs.calls.Bed.{feature_lent}
-use Rattle.bt_sweep.specs.model.Hits.{hits_among}
 use Rattle.bt_sweep.proofs.lemmas.Plain.{any_hit_has, left_by}
 use Rattle.bt_sweep.proofs.plain.plain_pieces.is_left.Goals as goal
 

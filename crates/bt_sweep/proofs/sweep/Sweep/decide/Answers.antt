@@ -1,6 +1,4 @@
-use Rattle.bt_lines.proofs.Std.{arith, ap}
-use Rattle.bt_bed.specs.model.Feature.{Feature}
-use Rattle.bt_sweep.specs.calls.SweepView.{order_of, state_of}
+use Rattle.bt_lines.proofs.Std.{arith}
 use Rattle.bt_sweep.proofs.lemmas.sweep.RelateLemmas.{decides_after, decides_before, decides_beside}
 use Rattle.bt_sweep.proofs.sweep.Sweep.decide.Goals as goal
 

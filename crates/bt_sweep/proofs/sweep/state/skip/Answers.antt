@@ -1,4 +1,4 @@
-use Rattle.bt_lines.proofs.Std.{arith, [], ◌∷◌, ◌++◌, refl, ◌∙◌}
+use Rattle.bt_lines.proofs.Std.{arith, [], refl, ◌∙◌}
 use Rattle.bt_sweep.proofs.lemmas.sweep.JoinLemmas.{lie_more}
 use Rattle.bt_sweep.proofs.sweep.state.skip.Goals as goal
 

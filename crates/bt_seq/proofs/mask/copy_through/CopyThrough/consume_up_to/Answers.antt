@@ -1,4 +1,4 @@
-use Rattle.bt_lines.proofs.Std.{arith, [], ◌∷◌, ◌++◌, ◌∙◌}
+use Rattle.bt_lines.proofs.Std.{arith}
 use Rattle.bt_seq.proofs.lemmas.mask.steps.CopyLemmas.{copied_behind}
 use Rattle.bt_seq.proofs.mask.copy_through.CopyThrough.consume_up_to.Goals as goal
 

@@ -1,4 +1,4 @@
-use Rattle.bt_lines.proofs.Std.{arith, [], err_from_is_err_and}
+use Rattle.bt_lines.proofs.Std.{arith, err_from_is_err_and}
 use Rattle.bt_sweep.proofs.lemmas.sweep.JoinLemmas.{joins_cut, joins_rest}
 use Rattle.bt_sweep.proofs.sweep.state.State.join.Goals as goal
 

@@ -1,4 +1,4 @@
-use Rattle.bt_lines.proofs.Std.{arith, [], ◌<◌, ◌∷◌, ℕ, ap, inl, inr, refl, subst, ◌∙◌, err_from_is_err_and}
+use Rattle.bt_lines.proofs.Std.{arith, [], ◌<◌, ◌∷◌, ℕ, ap, refl, subst, ◌∙◌, err_from_is_err_and}
 use Rattle.bt_lines.specs.calls.Names.{fault_value}
 use Rattle.bt_sweep.specs.inside.Joining.{LeavesOn, pending_in, NeedsHit, has_room_in}
 use Rattle.bt_sweep.specs.calls.Sweeping.{CannotHold, Sweeping}
