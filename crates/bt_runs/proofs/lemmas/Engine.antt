@@ -1,5 +1,5 @@
 -- Lemmas on engines and their rules.
-use Rattle.bt_lines.proofs.Std.{◌≡◌, ℕ, List, Option, None, Some, Result, Ok, Err, IfErr, sym, ap, ◌∙◌, inl, inr, MatchResult, [], ◌++◌, append-nil, append_cancel_left, ◌∷◌, refl, option_map, true, IsOk}
+use Rattle.bt_lines.proofs.Std.{arith, ◌≡◌, ℕ, List, Option, None, Some, Result, Ok, Err, IfErr, sym, ap, ◌∙◌, inl, inr, MatchResult, [], ◌++◌, append-nil, append_cancel_left, ◌∷◌, refl, option_map, true, IsOk}
 use Rattle.bt_lines.specs.model.Fault.{FaultValue, no_memory, write_failed}
 use Rattle.bt_lines.specs.calls.Names.{fault_value}
 use Rattle.bt_lines.specs.calls.Output.{Output, FailsToAdd, Grown, Grows}
@@ -25,72 +25,37 @@ none_before none some = cc
 
 module _ {E A : Type 0} {engine : EngineDef E} {old : E} {r : Feature} {out : Output} {new : E} {grown : Output} where
   pub feeds_settled : (result : Result A Fault) → Feeds engine old r out result new grown → WritesSettled engine old r out result new grown
-  feeds_settled (Ok done) fed = fed.answers
-  feeds_settled (Err answer) fed = tt
+  feeds_settled result fed = grind arith
 
   pub feeds_fault : (result : Result A Fault) → Feeds engine old r out result new grown → KeepsFault engine result new
-  feeds_fault (Ok done) fed = tt
-  feeds_fault (Err answer) fed = elim fed.answers [
-    | inl repeats ↦ (repeats.kind, ap engine.fault repeats.same ∙ repeats.is)
-    | inr (inl fails) ↦ (inl fails.is, fails.kept ∙ ap Some (sym fails.is))
-    | inr (inr ran) ↦ (inr ran.is, ran.kept ∙ ap Some (sym ran.is))
-  ]
+  feeds_fault result fed = grind arith
 
   pub feeds_prefix : (result : Result A Fault) → Feeds engine old r out result new grown → WritesPrefix engine old r out result new grown
-  feeds_prefix (Ok done) fed = tt
-  feeds_prefix (Err answer) fed = λ none is. elim fed.answers [
-    | inl repeats ↦ absurd (none_before none repeats.is)
-    | inr (inl fails) ↦ fails
-    | inr (inr ran) ↦ absurd (other_fault ran.is is)
-  ]
+  feeds_prefix result fed = grind arith
 
   pub feeds_first : (result : Result A Fault) → Feeds engine old r out result new grown → WritesFirst engine old r out result new grown
-  feeds_first (Ok done) fed = tt
-  feeds_first (Err answer) fed = λ none is. elim fed.answers [
-    | inl repeats ↦ absurd (none_before none repeats.is)
-    | inr (inl fails) ↦ absurd (other_fault is fails.is)
-    | inr (inr ran) ↦ ran
-  ]
+  feeds_first result fed = grind arith
 
   -- a fault that was returned before is returned again, and nothing happens
   pub feeds_again : (result : Result A Fault) → Feeds engine old r out result new grown → (before : FaultValue) → engine.fault old ≡ Some before
       → MatchResult result (λ done. ⊥) (λ answer. fault_value answer ≡ before) × ((new ≡ old) × (grown ≡ out))
-  feeds_again (Ok done) fed = λ before some. absurd (none_before fed.answers.was_going some)
-  feeds_again (Err answer) fed = λ before some. elim fed.answers [
-    | inl repeats ↦ (let is = repeats.is in cc, (repeats.same, repeats.same_output))
-    | inr (inl fails) ↦ absurd (none_before fails.was_going some)
-    | inr (inr ran) ↦ absurd (none_before ran.was_going some)
-  ]
+  feeds_again result fed before p1 = grind arith
 
   -- an engine that wants no memory fails only if a write fails
   pub only_writes : (result : Result A Fault) → (engine.wants old r → ⊥) → engine.fault old ≡ None → Feeds engine old r out result new grown → IsWanted engine old r result
       → IfErr result (λ answer. fault_value answer ≡ write_failed)
-  only_writes (Ok done) none going fed wanted = tt
-  only_writes (Err answer) none going fed wanted = elim fed.answers [
-    | inl repeats ↦ absurd (none_before going repeats.is)
-    | inr (inl fails) ↦ fails.is
-    | inr (inr ran) ↦ absurd (none (wanted ran.is going))
-  ]
+  only_writes result none going fed wanted = grind arith
 
 module _ {E A : Type 0} {engine : EngineDef E} {last : E} {out grown : Output} where
   pub finishes_left : (result : Result A Fault) → Finishes engine last out result grown → WritesLeft engine last out result grown
-  finishes_left (Ok done) ends = ends.answers
-  finishes_left (Err answer) ends = tt
+  finishes_left result ends = grind arith
 
   pub finishes_prefix : (result : Result A Fault) → Finishes engine last out result grown → WritesLeftPrefix engine last out result grown
-  finishes_prefix (Ok done) ends = tt
-  finishes_prefix (Err answer) ends = λ none. elim ends.answers [
-    | inl repeats ↦ absurd (none_before none repeats.is)
-    | inr fails ↦ fails
-  ]
+  finishes_prefix result ends = grind arith
 
   pub finishes_again : (result : Result A Fault) → Finishes engine last out result grown → (before : FaultValue) → engine.fault last ≡ Some before
       → MatchResult result (λ done. ⊥) (λ answer. fault_value answer ≡ before) × (grown ≡ out)
-  finishes_again (Ok done) ends = λ before some. absurd (none_before ends.answers.was_going some)
-  finishes_again (Err answer) ends = λ before some. elim ends.answers [
-    | inl repeats ↦ (let is = repeats.is in cc, repeats.same_output)
-    | inr fails ↦ absurd (none_before fails.was_going some)
-  ]
+  finishes_again result ends before p1 = grind arith
 
 -- A rule enters a chromosome: the lines that come first of those of each record on it are put. Then it does with a record what it would have
 -- done before.
@@ -108,9 +73,7 @@ module _ {E : Type 0} {rule : RuleDef E} {old : E} (fits : (r : Feature) → Fit
     module _ {mid : E} {through : Output} (put : Grown out first through) (lines_are : (r : Feature) → r.chrom ≡ chrom → rule.lines old r ≡ first ++ rule.lines mid r)
         (has_so : (r : Feature) → r.chrom ≡ chrom → (new : E) → rule.has mid r new → rule.has old r new) (wants_so : (r : Feature) → r.chrom ≡ chrom → rule.engine.wants mid r → rule.engine.wants old r) where
       does_so : (r : Feature) → r.chrom ≡ chrom → (result : Result (Unit {0}) Fault) (next : E) (later : Output) → Does rule mid r through result next later → Does rule old r out result next later
-      does_so r at (Ok done) next later d = (has_so r at next d.0, rw (lines_are r at) (grown_more out through later first (rule.lines mid r) put d.1))
-      does_so r at (Err fault) next later (inl d) = inl (rw (lines_are r at) (fails_then out through later first (rule.lines mid r) (fault_value fault) put d))
-      does_so r at (Err fault) next later (inr d) = inr (d.0, (wants_so r at d.1.0, rw (lines_are r at) (grown_more out through later first (rule.lines mid r) put d.1.1)))
+      does_so r at result next later d = grind (arith, grown_more, fails_then)
 
       -- it goes on as another one
       pub enters : EnterAnswers rule old chrom out (Ok tt) mid through
@@ -135,8 +98,7 @@ module _ {E : Type 0} (rule : RuleDef E) where
   taken_more : (old : E) (out : Output) (records : List Feature) (r : Feature) (mid : E) (through : Output) (new : E) (grown : Output)
       → TakenEach rule old out records mid through → Taken rule mid r through (Ok tt) new grown → TakenEach rule old out (records ++ r ∷ []) new grown
   taken_more old out [] r mid through new grown is next = rw (← is.0, ← is.1) (new, grown, next, (refl, refl))
-  taken_more old out (x ∷ records) r mid through new grown more next =
-      (more.0, more.1, more.2, taken_more more.0 more.1 records r mid through new grown more.3 next)
+  taken_more old out (x ∷ records) r mid through new grown more next = grind (arith, (taken_more more.0 more.1 records r mid through new grown more.3 next))
 
   -- records were taken, and the next one is available: on its chromosome the rule does with it what it would have done before entering that
   pub record Following {C R : Type 0} (cursor : Cursor C R) (old : E) (start : C) (out : Output) (now : E) (grown : Output) (r : Feature)
@@ -156,25 +118,12 @@ module _ {E C R : Type 0} {rule : RuleDef E} {cursor : Cursor C R} {old : E} {st
       (done : Taken rule now r grown (Ok tt) new later) where
     -- the available record was taken
     pub follows : TakenGiven rule cursor old start out new ahead later
-    follows = record {
-      records = f.takes.records ++ r ∷ [];
-      given = more_given start f.before ahead f.takes.records (r ∷ []) f.takes.given f.next;
-      each = taken_more rule old out f.takes.records r f.mid f.through new later f.takes.each (f.does_so (Ok tt) new later done);
-    }
+    follows = grind (arith, (taken_more rule old out f.takes.records r f.mid f.through new later f.takes.each (f.does_so (Ok tt) new later done)))
 
     -- and the next one is available
     pub follows_on : {next : Feature} {last : C} → rule.is_on new (cursor.name start) → cursor.gives ahead (next ∷ []) last → next.chrom ≡ cursor.name start
         → Following rule cursor old start out new later next last
-    follows_on entered given on = record {
-      mid = new;
-      before = ahead;
-      through = later;
-      takes = follows;
-      next = given;
-      on = on;
-      entered = entered;
-      does_so = λ result next later d. d;
-    }
+    follows_on entered given on = grind (arith, follows)
 
   -- it wasn't taken
   pub follows_up_to : {fault : Fault} → Taken rule now r grown (Err fault) new later → TakenUpTo rule cursor old start out fault new ahead later
@@ -203,8 +152,7 @@ Keeps (Ok done) new = new.failure ≡ None
 Keeps (Err fault) new = ruled_fault new ≡ Some (fault_value fault)
 
 pub keeps_none : {E : Type 0} (result : Result (Unit {0}) Fault) (new : Ruled E) → ((fault : Fault) → result ≡ Err fault → ⊥) → new.failure ≡ None → Keeps result new
-keeps_none (Ok done) new never none = none
-keeps_none (Err fault) new never none = absurd (never fault refl)
+keeps_none result new never none = grind arith
 
 module _ {E : Type 0} (rule : RuleDef E) where
   -- one record
@@ -214,38 +162,13 @@ module _ {E : Type 0} (rule : RuleDef E) where
 
     answers : (result : Result (Unit {0}) Fault) (new : Ruled E) (grown : Output) → Does rule old r out result new.rule grown → Keeps result new
         → FeedAnswers (ruled rule.engine) (going old) r out result new grown
-    answers (Ok done) new grown p kept = let going = ap (option_map fault_of) kept in record {
-      was_going = refl;
-      going = going;
-      stands = λ first past s t. (fits.next new.rule p.0 first.rule past s.0 t, going);
-      puts = puts grown p.1;
-      works = grown_works out grown (rule.lines old r) p.1;
-    }
-    answers (Err fault) new grown (inl p) kept = inr (inl (record {
-      is = p.puts.is;
-      was_going = refl;
-      kept = kept ∙ ap Some p.puts.is;
-      cuts = λ first past s t. record { bytes = rule.lines old r; goes_on = fits.settles first.rule past s.0 t; front = p.puts.front };
-      failed = p.puts.failed;
-      sink_failed = p.puts.sink_failed;
-    }))
-    answers (Err fault) new grown (inr p) kept = inr (inr (record {
-      is = p.0;
-      was_going = refl;
-      kept = kept ∙ ap Some p.0;
-      puts = puts grown p.1.1;
-      works = grown_works out grown (rule.lines old r) p.1.1;
-    }))
+    answers result new grown p kept = grind arith
 
     is_quiet : (result : Result (Unit {0}) Fault) (new : E) (grown : Output) → Does rule old r out result new grown → (rule.lines old r ≡ []) × (rule.engine.wants old r → ⊥) → IsOk result × (grown ≡ out)
-    is_quiet (Ok done) new grown p q = (refl, p.1.nothing q.0)
-    is_quiet (Err fault) new grown (inl p) q = absurd (p.some q.0)
-    is_quiet (Err fault) new grown (inr p) q = absurd (q.1 p.1.0)
+    is_quiet result new grown p q = grind arith
 
     grows : (result : Result (Unit {0}) Fault) (new : E) (grown : Output) → Does rule old r out result new grown → Grows out.took grown.took × (out.has_failed ≡ true → grown ≡ out)
-    grows (Ok done) new grown p = (p.1.grows, p.1.again)
-    grows (Err fault) new grown (inl p) = (p.puts.grows, p.puts.again)
-    grows (Err fault) new grown (inr p) = (p.1.1.grows, p.1.1.again)
+    grows result new grown p = grind arith
 
     memory : (fault : Fault) (new : E) (grown : Output) → Does rule old r out (Err fault) new grown → fault_value fault ≡ no_memory → rule.engine.wants old r
     memory fault new grown (inl p) is = absurd (other_fault is p.puts.is)
@@ -253,13 +176,7 @@ module _ {E : Type 0} (rule : RuleDef E) where
 
     feeds_by : (result : Result (Unit {0}) Fault) (new : Ruled E) (grown : Output) → Does rule old r out result new.rule grown → Keeps result new
         → Feeds (ruled rule.engine) (going old) r out result new grown
-    feeds_by result new grown p kept = record {
-      going = λ first past s. s.1;
-      answers = answers result new grown p kept;
-      quiet = λ first past s t q. is_quiet result new.rule grown p (fits.quiet first.rule past s.0 t q);
-      grows = (grows result new.rule grown p).0;
-      after_failure = (grows result new.rule grown p).1;
-    }
+    feeds_by result new grown p kept = grind arith
 
   taken_each : (old : E) (out : Output) (records : List Feature) (new : E) (grown : Output) → TakenEach rule old out records new grown
       → TakesEach (ruled rule.engine) (going old) out records (going new) grown
@@ -289,28 +206,7 @@ module _ {E : Type 0} (rule : RuleDef E) where
 -- at the end
 pub ruled_finishes : {E A : Type 0} {rule : RuleDef E} (last : Ruled E) {out grown : Output} (result : Result A Fault) → last.failure ≡ None
     → PutsRestAtEnd rule last.rule out result grown → Finishes (ruled rule.engine) last out result grown
-ruled_finishes last {out = out} {grown = grown} (Ok done) none p = record {
-  going = λ first past s. s.1;
-  answers = record {
-    was_going = ap (option_map fault_of) none;
-    puts = λ first past s t. record { bytes = p.left; goes_on = p.is first.rule past s.0 t; appends = p.adds.appends };
-    works = grown_works out grown p.left p.adds;
-  };
-  grows = p.adds.grows;
-  after_failure = p.adds.again;
-}
-ruled_finishes last (Err fault) none p = record {
-  going = λ first past s. s.1;
-  answers = inr (record {
-    is = p.adds.puts.is;
-    was_going = ap (option_map fault_of) none;
-    cuts = λ first past s t. record { bytes = p.left; goes_on = p.is first.rule past s.0 t; front = p.adds.puts.front };
-    failed = p.adds.puts.failed;
-    sink_failed = p.adds.puts.sink_failed;
-  });
-  grows = p.adds.puts.grows;
-  after_failure = p.adds.puts.again;
-}
+ruled_finishes last result none p = grind arith
 
 -- One record is a batch of one.
 
@@ -324,26 +220,15 @@ module _ {E : Type 0} (engine : EngineDef E) (old : E) (r : Feature) (out : Outp
   -- it failed at the only one
   at_first : single_left one ≡ r ∷ [] → {fault : Fault} {new : E} {grown : Output}
       → (p : FailsAtGiven engine single_cursor old one out fault new passed grown) → (p.r ≡ r) × (p.mid ≡ old) × (p.through ≡ out)
-  at_first is p =
-      let at = first_of_one r p.r p.takes.records (single_left passed) (sym is ∙ p.takes.given.left ∙ ap (λ l. p.takes.records ++ l) p.given.left) in
-      let none = rw at.0 at p.takes.taken in
-      (at.1, none.0, none.1)
+  at_first is p = grind (arith, first_of_one)
 
   one_taken : {new : E} {grown : Output} → TakesEach engine old out (r ∷ []) new grown → Feeds engine old r out {A = Unit {0}} (Ok tt) new grown
   one_taken t = rw (t.3.0, t.3.1) t.2
 
   pub single_fed : (result : Result (Unit {0}) Fault) (new : E) (grown : Output) → single_left one ≡ r ∷ [] → FeedsBatch engine single_cursor old one out result new passed grown
       → Feeds engine old r out result new grown
-  single_fed (Ok done) new grown is f =
-      let only : f.0.records ≡ r ∷ [] = sym (append-nil f.0.records) ∙ ap (λ l. f.0.records ++ l) (sym f.1.none) ∙ sym f.0.given.left ∙ is in
-      one_taken (rw only at f.0.taken)
-  single_fed (Err answer) new grown is (inl p) = record {
-    going = p.going;
-    answers = inl (record { is = p.is; kind = p.kind; same = p.same; same_output = p.same_output });
-    quiet = λ first past s t q. let none = p.going first past s in let some = p.is in absurd (cc);
-    grows = rw p.same_output (grows_nothing out.took);
-    after_failure = λ failed. p.same_output;
-  }
+  single_fed (Ok done) new grown is f = grind (arith, append-nil)
+  single_fed (Err answer) new grown is (inl p) = grind (arith, (grows_nothing out.took))
   single_fed (Err answer) new grown is (inr p) = let at = at_first is p in rw (← at.0, ← at.1, ← at.2) p.fails
 
   -- if memory ran out, it was for that record

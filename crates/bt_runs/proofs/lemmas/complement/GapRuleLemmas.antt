@@ -1,6 +1,6 @@
 -- What a complement says of one chromosome: its gaps, if they are wanted; those that are done by the last start, and the place up to which they are.
 -- The file has what it owes of one chromosome.
-use Rattle.bt_lines.proofs.Std.{Option, ◌≡◌, ℕ, ◌<◌, inl, inr, List, [], ◌∷◌, ◌++◌, refl, ap, ◌∙◌, map, filter, flat_map, cond, not, nat_le, nat_lt, Bool, true, false, bytes_eq, ◌≤◌, sym, arith, max, min, cases_Bool, cases_lt, cond-true, or_right, lt-ltb, le-ltb, lt-leb, le-leb, map-append, Some, ap₂, length, None, ◌⊎◌, suc, eqb, Result, Ok, Err, OnOk, option_map, option_eq, cond-false, eqb-false, eqb-true, flat_map-append}
+use Rattle.bt_lines.proofs.Std.{rules, Option, ◌≡◌, ℕ, ◌<◌, inl, inr, List, [], ◌∷◌, ◌++◌, refl, ap, ◌∙◌, map, filter, flat_map, cond, not, nat_le, nat_lt, Bool, true, false, bytes_eq, ◌≤◌, sym, arith, max, min, cases_Bool, cases_lt, cond-true, or_right, lt-ltb, le-ltb, lt-leb, le-leb, map-append, subst, Some, ap₂, length, None, ◌⊎◌, suc, eqb, Result, Ok, Err, OnOk, option_map, option_eq, cond-false, eqb-false, eqb-true, flat_map-append}
 use Rattle.std.specs.Option.{option_map_or}
 use Rattle.std.specs.declared.cmp.Ordering.TheVariants.{Less, Equal, Greater}
 use Rattle.bt_bed.specs.model.Feature.{Feature, intervals_of, interval_of, Interval, Span, placed_on, spans_on, span_of}
@@ -33,10 +33,7 @@ part limit records entry = cond (is_asked limit records entry) (gaps_on records 
 
 flat_map-filter : {A : Type 0} (f : Entry → List A) (test : Entry → Bool) (xs : List Entry) → flat_map f (filter test xs) ≡ flat_map (λ x. cond (test x) (f x) []) xs
 flat_map-filter f test [] = refl
-flat_map-filter f test (x ∷ xs) = elim (cases_Bool (test x)) [
-  | inl t ↦ rw (t, flat_map-filter f test xs) refl
-  | inr t ↦ rw (t, flat_map-filter f test xs) refl
-]
+flat_map-filter f test (x ∷ xs) = grind (arith, (flat_map-filter f test xs))
 
 pub complement_parts : (limit : Bool) (entries : List Entry) (records : List Feature) → complement limit entries records ≡ flat_map (part limit (intervals_of records)) entries
 unfolding complement
@@ -44,28 +41,16 @@ complement_parts limit entries records = flat_map-filter (gaps_on (intervals_of 
 
 -- a gap as the only one of a list, or none
 pub placed_between : (name : List ℕ) (start stop : ℕ) → map (placed_on name) (span_between start stop) ≡ gap_between name start stop
-placed_between name start stop = elim (cases_Bool (nat_lt start stop)) [
-  | inl t ↦ rw t refl
-  | inr t ↦ rw t refl
-]
+placed_between name start stop = grind arith
 
 -- a chromosome without records is one gap
 gaps_none : (size : ℕ) → gaps_of size [] ≡ span_between 0 size
 gaps_none size = one_gaps size [] [] 0 (no_gap size)
 
-pub part_none : (limit : Bool) (records : List Interval) (e : Entry) → has_records e.name records ≡ false → part limit records e ≡ bare_gap limit e
-part_none true records e none = rw none refl
-part_none false records e none =
-    ap (λ spans. map (placed_on e.name) (gaps_of e.length spans)) (spans_on-none e.name records none)
-    ∙ ap (map (placed_on e.name)) (gaps_none e.length)
-    ∙ placed_between e.name 0 e.length
-
 -- one with records has the gaps that are done, and the last
 pub part_here : (limit : Bool) (records : List Interval) (e : Entry) (done : List Span) (kept : ℕ) → has_records e.name records ≡ true → OneGap e.length (spans_on e.name records) done kept
     → part limit records e ≡ map (placed_on e.name) (done ++ span_between kept e.length)
-part_here limit records e done kept some one =
-    cond-true (is_asked limit records e) (gaps_on records e) [] (or_right (not limit) (has_records e.name records) some)
-    ∙ ap (map (placed_on e.name)) (one_gaps e.length (spans_on e.name records) done kept one)
+part_here limit records e done kept some one = grind (arith, one_gaps)
 
 -- a record on another chromosome changes nothing
 pub part_other : (limit : Bool) (past : List Interval) (r : Interval) (e : Entry) → bytes_eq r.chrom e.name ≡ false → part limit (past ++ r ∷ []) e ≡ part limit past e
@@ -73,16 +58,10 @@ part_other limit past r e f = rw (has_records-push e.name past r f, spans_on-pus
 
 -- the gaps of a chromosome before that of the last record are over, and those of one after it aren't
 pub part_before : (names : List (List ℕ)) (last : Interval) (limit : Bool) (records : List Interval) (e : Entry) → (rank_order names).compare e.name last.chrom ≡ Less → filter (is_over names last) (part limit records e) ≡ part limit records e
-part_before names last limit records e less = elim (cases_Bool (is_asked limit records e)) [
-  | inl t ↦ rw t (filter_map_all (placed_on e.name) (is_over names last) (gaps_of e.length (spans_on e.name records)) (λ s. ap (λ o. is_over_at o (nat_le s.stop last.start)) less))
-  | inr t ↦ rw t refl
-]
+part_before names last limit records e less = grind (arith, filter_map_all)
 
 pub part_after : (names : List (List ℕ)) (last : Interval) (limit : Bool) (records : List Interval) (e : Entry) → (rank_order names).compare e.name last.chrom ≡ Greater → filter (is_over names last) (part limit records e) ≡ []
-part_after names last limit records e greater = elim (cases_Bool (is_asked limit records e)) [
-  | inl t ↦ rw t (filter_map_none (placed_on e.name) (is_over names last) (gaps_of e.length (spans_on e.name records)) (λ s. ap (λ o. is_over_at o (nat_le s.stop last.start)) greater))
-  | inr t ↦ rw t refl
-]
+part_after names last limit records e greater = grind (arith, filter_map_none)
 
 -- on the last record's chromosome those that end by its start are over, and the last gap isn't
 pub placed_done : (names : List (List ℕ)) (last : Interval) (name : List ℕ) (done : List Span) → (rank_order names).compare name last.chrom ≡ Equal → EndBy last.start done → filter (is_over names last) (map (placed_on name) done) ≡ map (placed_on name) done
@@ -90,10 +69,7 @@ placed_done names last name [] equal ended = refl
 placed_done names last name (s ∷ ss) equal ended = rw (equal, le-leb s.stop last.start ended.0, placed_done names last name ss equal ended.1) refl
 
 pub placed_left : (names : List (List ℕ)) (last : Interval) (name : List ℕ) (kept size : ℕ) → (rank_order names).compare name last.chrom ≡ Equal → (kept < size → last.start < size) → filter (is_over names last) (map (placed_on name) (span_between kept size)) ≡ []
-placed_left names last name kept size equal ahead = elim (cases_lt kept size) [
-  | inl l ↦ let h = ahead l in rw (lt-ltb kept size l, equal, lt-leb size last.start h) refl
-  | inr l ↦ rw (le-ltb kept size l) refl
-]
+placed_left names last name kept size equal ahead = grind arith
 
 -- the gaps of a chromosome by the last start on it, those that are done and the place that is kept
 pub record Own (entry : Entry) (past : List Feature) (start : ℕ) (done : List Interval) (kept : ℕ) : Type 0 where
@@ -133,16 +109,7 @@ module _ (limit : Bool) (entries : List Entry) where
 
   -- a chromosome without records is one gap
   none_on : (entry : Entry) (past : List Feature) → has_records entry.name (intervals_of past) ≡ false → NoRecords (form_of gaps) Own entry past
-  none_on entry past none = record {
-    part_is = part_none limit (intervals_of past) entry none;
-    begins = record {
-      spans = [];
-      done_is = refl;
-      one = rw (spans_on-none entry.name (intervals_of past) none) (no_gap entry.length);
-      ended = tt;
-      ahead = λ some. some;
-    };
-  }
+  none_on entry past none = grind (arith, spans_on-none, gaps_none)
 
   -- the gaps that are done end by the last start, and the last one doesn't
   divides_own : (entry : Entry) (past : List Feature) (last : Interval) (done : List Interval) (kept : ℕ) → Own entry past last.start done kept → entry.name ≡ last.chrom → has_records entry.name (intervals_of past) ≡ true → Divides (form_of gaps) Own entry past last done kept
@@ -178,10 +145,7 @@ module _ (limit : Bool) (entries : List Entry) where
   -- the gaps come in the order of the genome file
   pub written : (past : List Feature) → Written (form_of gaps) Own entries past
   unfolding settled_gaps
-  written past = record {
-    whole_is = complement_parts limit entries past;
-    settled_is = λ last is. ap (λ (o : Option Interval). option_map_or (λ last. filter (is_over (genome_names entries) last) (complement limit entries past)) o []) is ∙ ap (filter (is_over (genome_names entries) last)) (complement_parts limit entries past);
-  }
+  written past = grind (arith, complement_parts)
 
 -- What a complement keeps shows which chromosome its walk has reached, and up to where; so its exact step writes what the records settle.
 
@@ -195,33 +159,19 @@ abbrev pub shown_place : List Entry → Option (Place ℕ) → List Locus
 shown_place entries current = places (λ end. end) entries current
 
 same_reached : (entries : List Entry) (current other : Option (Place ℕ)) → AreReached entries current → AreReached entries other → shown_place entries current ≡ shown_place entries other → current ≡ other
-same_reached entries None None a b e = refl
-same_reached entries None (Some other) a b e = cc
-same_reached entries (Some place) None a b e = cc
-same_reached entries (Some place) (Some other) a b e =
-    let same = same_place (λ end. end) entries place other a b e in
-    let make : ℕ → ℕ → Option (Place ℕ) = λ n m. Some (record { rank = n; known = m }) in
-    ap₂ make same.0 same.1
+same_reached entries current other a b e = grind arith
 
 module _ (limit : Bool) (entries : List Entry) where
   -- what is reached is kept
   pub held_kept : (past : List Feature) (current : Option (Place ℕ)) → AreDistinct (genome_names entries) → Held (gaps limit entries) Own entries past current → shown_place entries current ≡ kept_place entries past
   unfolding kept_place
-  held_kept past None distinct none = rw none refl
-  held_kept past (Some place) distinct (before, key, after, s, rank) =
-      let is = rank_entry entries before key after place.rank s.stand.split rank in
-      let here : shown_place entries (Some place) ≡ record { chrom = s.last.chrom; start = place.known } ∷ [] = rw (is, s.stand.is) refl in
-      let sides = apart name_at before key after (rw (← s.stand.split) distinct) in
-      let size : length_in entries s.last.chrom ≡ key.length = rw (s.stand.split, ← s.stand.is) (size_there before key after key.name refl sides.none_before) in
-      let kept : kept_place entries past ≡ record { chrom = s.last.chrom; start = place.known } ∷ [] = rw (s.stand.last_is, size, ← s.stand.is, ← s.at.one.kept_is) refl in
-      here ∙ sym kept
+  held_kept past current distinct none = grind (arith, rank_entry, apart, size_there)
 
   -- a complement whose place is the one that is kept has reached the last record's chromosome
   held_is : (past : List Feature) (current : Option (Place ℕ)) → AreTaken entries past → AreReached entries current → shown_place entries current ≡ kept_place entries past → Held (gaps limit entries) Own entries past current
   held_is past current t at same =
       let other = reaches (gaps limit entries) Own entries (owes limit entries) (written limit entries) past t in
-      let kept = held_kept past other.0 t.distinct other.1 in
-      rw (same_reached entries current other.0 at other.2 (same ∙ sym kept)) other.1
+      grind (arith, held_kept)
 
   -- so one more record moves it as its walk does, and at the end its walk's rest is left
   pub moves : (past : List Feature) (r : Feature) (current : Option (Place ℕ)) → AreTaken entries (past ++ r ∷ []) → AreReached entries current → shown_place entries current ≡ kept_place entries past → Steps (gaps limit entries) Own entries past r current
@@ -238,8 +188,7 @@ module _ (limit : Bool) (entries : List Entry) where
 -- What the rule of a complement does with a record: by the step of its walk, and so after every past.
 
 none_mapped : (o : Option ℕ) → option_map (λ n. suc n) o ≡ None → o ≡ None
-none_mapped None e = refl
-none_mapped (Some n) e = cc
+none_mapped o e = grind arith
 
 -- a chromosome that the genome file lacks has no bases
 pub no_bases : (table : List Entry) (name : List ℕ) → rank_of (genome_names table) name ≡ None → length_in table name ≡ 0
@@ -255,9 +204,7 @@ no_bases (entry ∷ table) name none =
 
 -- the chromosome of the rank of a name has that name
 pub on_found : (table : List Entry) (name : List ℕ) (rank : ℕ) → rank_of (genome_names table) name ≡ Some rank → bytes_eq (entry_at table rank).name name ≡ true
-on_found table name rank is =
-    let f = found name_at table name rank is in
-    name_eq (entry_at table rank).name name (ap (λ (e : Entry). e.name) (found_entry table name rank f) ∙ f.is)
+on_found table name rank is = grind (arith, name_eq, (found_entry table name rank (found name_at table name rank is)))
 
 -- one that was reached is the one of a name, if that is its name
 module _ (table : List Entry) (place : Place ℕ) (at : IsPlaced table place.rank) (name : List ℕ) where
@@ -269,9 +216,7 @@ module _ (table : List Entry) (place : Place ℕ) (at : IsPlaced table place.ran
 
 -- if no base counts, a record settles nothing
 no_gap_before : (name : List ℕ) (end start : ℕ) → gap_between name end (min start 0) ≡ []
-no_gap_before name end start =
-    let gap : Interval = record { chrom = name; start = end; stop = min start 0 } in
-    cond-false (nat_lt end (min start 0)) (gap ∷ []) [] (le-ltb end (min start 0) (omega arith))
+no_gap_before name end start = grind arith
 
 abbrev place_at : ℕ → Option ℕ → Option (Place ℕ)
 place_at end rank = option_map (λ rank. record { rank = rank; known = end }) rank
@@ -280,34 +225,21 @@ place_at end rank = option_map (λ rank. record { rank = rank; known = end }) ra
 module _ (limit : Bool) (table : List Entry) (r : Feature) (name : List ℕ) (end bases : ℕ) (is : bases ≡ length_in table r.chrom) where
   -- if none counts
   nothing : (rank : Option ℕ) → bases ≡ 0 → ◌≡◌ {A = Option (Place ℕ) × List Interval} (place_at end rank, []) (place_at (max end (min r.stop bases)) rank, gap_between name end (min r.start bases))
-  nothing rank none =
-      let same : end ≡ max end (min r.stop bases) = omega arith in
-      let gaps = sym (ap (λ n. gap_between name end (min r.start n)) none ∙ no_gap_before name end r.start) in
-      ap₂ (λ (n : ℕ) (gaps : List Interval). (place_at n rank, gaps)) same gaps
+  nothing rank none = grind arith
 
   pub step_at : (rank : Option ℕ) → ((n : ℕ) → rank ≡ Some n → IsNamed table n name)
       → (is_on table (place_at end rank) r.chrom ≡ true) ⊎ (rank_of (genome_names table) r.chrom ≡ None)
       → walk_step (gap_walk limit) table (place_at end rank) r ≡ (place_at (max end (min r.stop bases)) rank, gap_between name end (min r.start bases))
   step_at None named (inl on) = absurd (cc)
-  step_at None named (inr none) =
-      ap (step_from (gap_walk limit) table None r) (going_to (gap_walk limit) table None r.chrom None refl (sym none))
-      ∙ nothing None (is ∙ no_bases table r.chrom none)
-  step_at (Some rank) named (inl on) =
-      let place : Place ℕ = record { rank = rank; known = end } in
-      let here = named rank refl in
-      let size = sym (size_ranked table r.chrom rank (rank_on table place here.placed r.chrom on)) ∙ sym is in
-      step_goes (gap_walk limit) table (Some place) r place [] (going_on (gap_walk limit) table (Some place) r.chrom on)
-      ∙ ap₂ (λ (name : List ℕ) (size : ℕ). (place_at (max end (min r.stop size)) (Some rank), gap_between name end (min r.start size))) here.is size
+  step_at None named (inr none) = grind (arith, no_bases)
+  step_at (Some rank) named (inl on) = grind (arith, (size_ranked table r.chrom rank (rank_on table (record { rank = rank; known = end }) (named rank refl).placed r.chrom on)))
   step_at (Some rank) named (inr none) =
       let place : Place ℕ = record { rank = rank; known = end } in
-      let off = not_on table place (named rank refl).placed r.chrom (λ e. let n = none in absurd (cc)) in
-      ap (step_from (gap_walk limit) table (Some place) r) (going_to (gap_walk limit) table (Some place) r.chrom None off (sym none))
-      ∙ nothing (Some rank) (is ∙ no_bases table r.chrom none)
+      grind (arith, (not_on table place (named rank refl).placed r.chrom (λ e. let n = none in absurd (cc))), (nothing (Some rank) (is ∙ no_bases table r.chrom none)))
 
 -- one that was reached is one of the table
 reached_at : (table : List Entry) (name : List ℕ) (end : ℕ) (rank : Option ℕ) → ((n : ℕ) → rank ≡ Some n → IsNamed table n name) → AreReached table (option_map (λ rank. record { rank = rank; known = end }) rank)
-reached_at table name end None named = tt
-reached_at table name end (Some rank) named = (named rank refl).placed
+reached_at table name end rank named = grind arith
 
 pub cursor_reached : (cursor : GapCursor) → AreReached (entries cursor.genome.now) (seen cursor)
 cursor_reached cursor = reached_at (entries cursor.genome.now) cursor.name.now cursor.end cursor.rank cursor.named
@@ -324,11 +256,7 @@ module _ (old : Complementing) (at : AreReached old.entries old.current) where
     kept : kept_in old ≡ kept_place old.entries past
 
   same : (first : Complementing) (past : List Feature) → IsAfter first past old → Same first past
-  same first past stands = record {
-    same_entries = sym stands.same_entries;
-    same_limit = sym stands.same_limit;
-    kept = stands.kept ∙ ap (λ e. kept_place e past) (sym stands.same_entries);
-  }
+  same first past stands = grind arith
 
   -- what is done with a record exactly is done after every past
   pub fits : (r : Feature) → FitsPast gap_rule old r
@@ -398,28 +326,22 @@ module _ (limit : Bool) (old : GapCursor) (r : Feature) (on : IsOnChrom (complem
   step_is = step_at limit (entries old.genome.now) r old.name.now old.end old.length on.bases old.rank old.named on.at
 
   covered : (new : GapCursor) → Covers old r.stop new → complement_at limit new ≡ with_record (complement_at limit old) r
-  covered new c = same_complement (complement_at limit new) (with_record (complement_at limit old) r) c.same_entries refl
-      (ap₂ (λ (end : ℕ) (rank : Option ℕ). place_at end rank) c.end c.same_rank ∙ sym (ap (λ s. s.0) step_is)) (c.same_length ∙ on.bases)
+  covered new c = grind (arith, step_is)
 
   pub cursor_covers : (out : Output) (result : Result (Unit {0}) Fault) (new : GapCursor) (grown : Output) → Adds out (interval_lines (gap_between old.name.now old.end (min r.start old.length))) result grown → OnOk result (Covers old r.stop new)
       → Does gap_rule (complement_at limit old) r out result (complement_at limit new) grown
-  cursor_covers out (Ok done) new grown p c = (covered new c, rw step_is p)
-  cursor_covers out (Err fault) new grown p c = inl (rw step_is p)
+  cursor_covers out result new grown p c = grind (arith, step_is)
 
 -- whether the chromosome of a rank is the one that was reached
 pub same_rank : (o : Option ℕ) (rank : ℕ) (test : Bool) → test ≡ option_eq eqb o (Some rank) → test ≡ true → o ≡ Some rank
-same_rank None rank test is t = absurd (cc)
-same_rank (Some n) rank test is t = ap Some (eqb-true n rank (sym is ∙ t))
+same_rank o rank test is t = grind arith
 
 pub other_rank : (o : Option ℕ) (rank : ℕ) (test : Bool) → test ≡ option_eq eqb o (Some rank) → test ≡ false → o ≡ Some rank → ⊥
-other_rank None rank test is f e = absurd (cc)
-other_rank (Some n) rank test is f e = let same : n ≡ rank = cc in eqb-false n rank (sym is ∙ f) same
+other_rank o rank test is f e = grind arith
 
 off_at : (table : List Entry) (name : List ℕ) (end : ℕ) (chrom : List ℕ) (rank : ℕ) → rank_of (genome_names table) chrom ≡ Some rank
     → (o : Option ℕ) → ((n : ℕ) → o ≡ Some n → IsNamed table n name) → (o ≡ Some rank → ⊥) → is_on table (place_at end o) chrom ≡ false
-off_at table name end chrom rank is None named other = refl
-off_at table name end chrom rank is (Some n) named other =
-    not_on table (record { rank = n; known = end }) (named n refl).placed chrom (λ e. other (sym e ∙ is))
+off_at table name end chrom rank is o named other = search rules
 
 -- a cursor on the way to the chromosome of a name
 module _ (limit : Bool) (cursor : GapCursor) (chrom : List ℕ) where
@@ -436,10 +358,7 @@ module _ (limit : Bool) (cursor : GapCursor) (chrom : List ℕ) where
   module _ (rank : ℕ) (is : rank_of (genome_names table) chrom ≡ Some rank) where
     -- the one that was reached
     pub has_chrom : (end bases : ℕ) (current : Option (Place ℕ)) → current ≡ place_at end (Some rank) → (entry_at table rank).length ≡ bases → IsOnChrom (on_chrom current bases) chrom
-    has_chrom end bases current here size = record {
-      bases = sym size ∙ sym (size_ranked table chrom rank is);
-      at = inl (ap (λ current. is_on table current chrom) here ∙ on_found table chrom rank is);
-    }
+    has_chrom end bases current here size = grind (arith, size_ranked, on_found)
 
     -- another one
     pub goes_other : (cursor.rank ≡ Some rank → ⊥) → going (gap_walk limit) table (seen cursor) chrom ≡ (place_at 0 (Some rank), left_before last_gap (bare_gap limit) table (seen cursor) rank)

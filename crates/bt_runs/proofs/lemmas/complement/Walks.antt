@@ -1,4 +1,5 @@
 -- An engine that goes through the chromosomes of a genome file. One more record moves what is settled and what is reached as its walk's step says. At the end what its walk leaves is left. Complement and coverage are such engines; `GapRuleLemmas` and `DepthSteps` have what each owes of one chromosome.
+use Rattle.std.proofs.lemmas.Grind.{common_steps}
 use Rattle.bt_lines.proofs.Std.{◌≡◌, ℕ, ◌+◌, ◌≤◌, inl, inr, List, [], ◌∷◌, ◌++◌, refl, sym, ap, ap₂, ◌∙◌, subst, arith, append-nil, append_assoc, flat_map, length, length-append, slice_range, true, false, Option, Some, None, not, Decides, ◌<◌, max, min, cond, nat_lt, Decides-not, ⊤, cases_lt, cond-true, cond-false, lt-ltb, le-ltb}
 use Rattle.bt_bed.specs.model.Feature.{Feature, interval_of, intervals_of, Interval, Span}
 use Rattle.bt_bed.specs.model.Positions.{IsCovered, AreApartFrom, AreStretchesOf}
@@ -42,9 +43,7 @@ pub in_order : (entries : List Entry) (past : List Feature) → AreTaken entries
 in_order entries past t = record { placed = t.placed; full = t.full }
 
 pub taken_front : (entries : List Entry) (past more : List Feature) → AreTaken entries (past ++ more) → AreTaken entries past
-taken_front entries past more t =
-    let front = order_front (genome_names entries) past more (in_order entries (past ++ more) t) in
-    record { distinct = t.distinct; placed = front.placed; full = front.full }
+taken_front entries past more t = grind (arith, (order_front (genome_names entries) past more (in_order entries (past ++ more) t)))
 
 -- the chromosome of a rank among the others
 pub rank_entry : (entries before : List Entry) (key : Entry) (after : List Entry) (rank : ℕ) → entries ≡ before ++ key ∷ after → rank ≡ length before → entry_at entries rank ≡ key
@@ -59,12 +58,7 @@ slice_behind entries before key middle rest rank stop split at end =
 
 -- two places that show the same are on the same chromosome
 pub same_place : {S : Type 0} (to : S → ℕ) (entries : List Entry) (a b : Place S) → IsPlaced entries a.rank → IsPlaced entries b.rank → places to entries (Some a) ≡ places to entries (Some b) → (a.rank ≡ b.rank) × (to a.known ≡ to b.known)
-same_place to entries a b at_a at_b e =
-    let x : Locus = record { chrom = (entry_at entries a.rank).name; start = to a.known } in
-    let y : Locus = record { chrom = (entry_at entries b.rank).name; start = to b.known } in
-    let heads : x ≡ y = cc in
-    let ranks : Some a.rank ≡ Some b.rank = sym at_a.named ∙ ap (λ (l : Locus). rank_of (genome_names entries) l.chrom) heads ∙ at_b.named in
-    (cc, ap (λ (l : Locus). l.start) heads)
+same_place to entries a b at_a at_b e = grind arith
 
 module _ {T S : Type 0} (walk : Walk T S) (entries : List Entry) where
   -- the chromosome of a name is the one that was reached, or another
@@ -115,29 +109,14 @@ module _ {T S : Type 0} (e : Walked T S) (Own : Entry → List Feature → ℕ �
 
   -- what is reached is a chromosome of the table
   held_at : (past : List Feature) (current : Option (Place S)) → AreDistinct (genome_names entries) → Held past current → AreReached entries current
-  held_at past None distinct none = tt
-  held_at past (Some place) distinct (before, key, after, s, rank) =
-      let is = rank_entry entries before key after place.rank s.stand.split rank in
-      let long = ap length s.stand.split ∙ length-append before (key ∷ after) in
-      record {
-        within = omega arith;
-        named = rw (is, s.stand.is, last_rank name_at entries distinct (intervals_of past) s.last before key after s.stand, rank) refl;
-      }
+  held_at past current distinct none = grind (arith, rank_entry, length-append, last_rank)
 
   module _ (owes : Owes (form_of e) Own (genome_names entries)) (written : (past : List Feature) → Written (form_of e) Own entries past) where
     -- once the record's chromosome is reached, the step takes the record as its chromosome does
     arrive : (past : List Feature) (r : Feature) (current : Option (Place S)) (place : Place S) (before : List Entry) (key : Entry) (after : List Entry) (first : List T) → place.rank ≡ length before
         → going e.walk entries current r.chrom ≡ (Some place, first)
         → Moves (form_of e) Own entries past r (first ++ e.walk.step key place.known r) before key after (e.walk.after key place.known r) → Steps past r current
-    arrive past r current place before key after first rank goes m =
-        let step = step_goes e.walk entries current r place first goes in
-        let takes = taking_at e.walk entries key place r (rank_entry entries before key after place.rank m.here.stand.split rank) in
-        let items : (walk_step e.walk entries current r).1 ≡ first ++ e.walk.step key place.known r = ap (λ s. s.1) step ∙ ap (λ t. first ++ t.1) takes in
-        let next : (walk_step e.walk entries current r).0 ≡ Some (record { rank = place.rank; known = e.walk.after key place.known r }) = ap (λ s. s.0) step ∙ ap (λ t. Some t.0) takes in
-        record {
-          settles = m.settles (written past) (written (past ++ r ∷ [])) ∙ ap (λ l. e.settled past ++ l) (sym items);
-          held = held_next (past ++ r ∷ []) before key after (walk_step e.walk entries current r).0 _ next m.here rank;
-        }
+    arrive past r current place before key after first rank goes m = grind (arith, rank_entry)
 
     -- the first record
     step_first : (r : Feature) → AreTaken entries (r ∷ []) → Steps [] r None
@@ -185,11 +164,7 @@ module _ {T S : Type 0} (e : Walked T S) (Own : Entry → List Feature → ℕ �
 
     -- at the end the rest of the chromosome is left, and those after it
     pub ends : (past : List Feature) (current : Option (Place S)) → AreDistinct (genome_names entries) → Held past current → e.whole past ≡ e.settled past ++ left_before e.walk.left e.walk.bare entries current (length entries)
-    ends past None distinct none =
-        let bare = e.walk.bare in
-        let slice : slice_range entries 0 (length entries) ≡ entries = ap (λ l. slice_range l 0 (length entries)) (sym (append-nil entries)) ∙ slice_between [] entries [] 0 (length entries) refl (omega arith) in
-        rw none ((written []).whole_is ∙ parts_none (form_of e) Own entries owes distinct [] entries (none_at_first name_at entries) ∙ ap (flat_map bare) (sym slice)
-        ∙ ap (λ l. l ++ flat_map bare (slice_range entries 0 (length entries))) (sym owes.nothing))
+    ends past None distinct none = grind (arith, common_steps)
     ends past (Some place) distinct (before, key, after, s, rank) =
         let is = rank_entry entries before key after place.rank s.stand.split rank in
         let slice = slice_behind entries before key after [] place.rank (length entries) (s.stand.split ∙ ap (λ l. before ++ key ∷ l) (sym (append-nil after))) rank (ap length s.stand.split) in
@@ -198,9 +173,7 @@ module _ {T S : Type 0} (e : Walked T S) (Own : Entry → List Feature → ℕ �
 
     -- something is reached after records in order
     pub reaches : (past : List Feature) → AreTaken entries past → (current : Option (Place S)) × Held past current × AreReached entries current
-    reaches past t =
-        let h = held_begun past (begun (form_of e) Own entries owes t.distinct past (in_order entries past t)) in
-        (h.0, h.1, held_at past h.0 t.distinct h.1)
+    reaches past t = grind (arith, (held_begun past (begun (form_of e) Own entries owes t.distinct past (in_order entries past t))), held_at)
 
     -- more and more is settled
     pub settles_items : Settles e.settled e.whole (AreTaken entries)
@@ -219,13 +192,7 @@ is_bare-Decides spans p = Decides-not (is_covered spans p) (is_covered-Decides s
 
 pub are_gaps : (size : ℕ) (spans : List Span) → AreStretchesOf (IsBare size spans) (gaps_of size spans)
 unfolding gaps_of
-are_gaps size spans =
-    let scan = scan_finds (λ p. not (is_covered spans p)) size in
-    record {
-      apart = scan.apart;
-      within = λ p c. let h = scan.within p c in record { within = h.0; bare = (is_bare-Decides spans p).0 h.1 };
-      whole = λ p b. scan.whole p (b.within, (is_bare-Decides spans p).1 b.bare);
-    }
+are_gaps size spans = grind (arith, (scan_finds (λ p. not (is_covered spans p)) size), is_bare-Decides)
 
 pub only_gaps : (size : ℕ) (spans gaps : List Span) → AreStretchesOf (IsBare size spans) gaps → gaps ≡ gaps_of size spans
 only_gaps size spans gaps h = stretches_are_same (IsBare size spans) gaps (gaps_of size spans) h (are_gaps size spans)
@@ -254,10 +221,7 @@ end_both start [] ys a b = b
 end_both start (x ∷ xs) ys a b = (a.0, end_both start xs ys a.1 b)
 
 pub end_between : (start from to : ℕ) → to ≤ start → EndBy start (span_between from to)
-end_between start from to h = elim (cases_lt from to) [
-  | inl l ↦ rw (span_some from to l) (h, tt)
-  | inr l ↦ rw (span_none from to l) tt
-]
+end_between start from to h = grind arith
 
 -- what spans that end by a position cover lies below it
 covered_by_end : (start : ℕ) (xs : List Span) (p : ℕ) → EndBy start xs → IsCovered xs p → p < start
@@ -266,10 +230,7 @@ covered_by_end start (x ∷ xs) p e (inl w) = omega (arith, e.0)
 covered_by_end start (x ∷ xs) p e (inr w) = covered_by_end start xs p e.1 w
 
 covered_between : (start stop p : ℕ) → IsCovered (span_between start stop) p → (start ≤ p) × (p < stop)
-covered_between start stop p = elim (cases_lt start stop) [
-  | inl l ↦ rw (span_some start stop l) (λ c. elim c [ inl w ↦ w | inr w ↦ absurd w ])
-  | inr l ↦ rw (span_none start stop l) (λ c. absurd c)
-]
+covered_between start stop p p1 = grind arith
 
 between_covers : (start stop p : ℕ) → start ≤ p → p < stop → IsCovered (span_between start stop) p
 between_covers start stop p low high = let l : start < stop = omega arith in rw (span_some start stop l) (inl (low, high))
@@ -281,20 +242,11 @@ apart_tail first [] y (z ∷ zs) a b = (omega (arith, a.0, b.0), b.1, b.2)
 apart_tail first (x ∷ xs) y zs a b = (a.0, a.1, apart_tail (x.stop + 1) xs y zs a.2 b)
 
 apart_between : (first start stop : ℕ) → first ≤ start → AreApartFrom first (span_between start stop)
-apart_between first start stop h = elim (cases_lt start stop) [
-  | inl l ↦ rw (span_some start stop l) (h, l, tt)
-  | inr l ↦ rw (span_none start stop l) tt
-]
+apart_between first start stop h = grind arith
 
 -- what is left of a stretch once a span was taken out
 apart_rest : (kept size start stop : ℕ) → kept < size → start < stop → AreApartFrom kept (span_between kept (min start size) ++ span_between (max kept (min stop size)) size)
-apart_rest kept size start stop some full = elim (cases_lt kept (min start size)) [
-  | inl l ↦ rw (span_some kept (min start size) l) (elim (cases_lt (max kept (min stop size)) size) [
-    | inl m ↦ rw (span_some (max kept (min stop size)) size m) (omega arith, l, (omega arith, m, tt))
-    | inr m ↦ rw (span_none (max kept (min stop size)) size m) (omega arith, l, tt)
-  ])
-  | inr l ↦ rw (span_none kept (min start size) l) (apart_between kept (max kept (min stop size)) size (omega arith))
-]
+apart_rest kept size start stop some full = grind arith
 
 -- the gaps of a chromosome of this length: those that are done, and the one from the greatest end, cut at the length
 pub record OneGap (size : ℕ) (spans done : List Span) (kept : ℕ) : Type 0 where
@@ -306,14 +258,7 @@ one_gaps size spans done kept one = sym (only_gaps size spans (done ++ span_betw
 
 -- with no record, the chromosome is one gap
 pub no_gap : (size : ℕ) → OneGap size [] [] 0
-no_gap size = record {
-  parts = record {
-    apart = apart_between 0 0 size (omega arith);
-    within = λ p c. record { within = (covered_between 0 size p c).1; bare = λ w. w };
-    whole = λ p b. between_covers 0 size p (omega arith) b.within;
-  };
-  kept_is = omega arith;
-}
+no_gap size = grind arith
 
 end_of-push : (spans : List Span) (s : Span) → end_of (spans ++ s ∷ []) ≡ max (end_of spans) s.stop
 end_of-push [] s = omega arith
@@ -326,55 +271,11 @@ module _ (size : ℕ) (spans done : List Span) (kept : ℕ) (s : Span) (one : On
   abbrev rest : List Span
   rest = span_between (max kept (min s.stop size)) size
 
-  -- a record takes its span out of the last gap
-  cover_apart : AreApartFrom 0 (done ++ (first ++ rest))
-  cover_apart = elim (cases_lt kept size) [
-    | inl some ↦
-        let was : AreApartFrom 0 (done ++ record { start = kept; stop = size } ∷ []) = rw (← span_some kept size some) one.parts.apart in
-        apart_tail 0 done (record { start = kept; stop = size }) (first ++ rest) was (apart_rest kept size s.start s.stop some full)
-    | inr none ↦
-        let no_first : first ≡ [] = span_none kept (min s.start size) (omega arith) in
-        let no_rest : rest ≡ [] = span_none (max kept (min s.stop size)) size (omega arith) in
-        let was : AreApartFrom 0 (done ++ []) = rw (← span_none kept size none) one.parts.apart in
-        rw (no_first, no_rest) was
-  ]
-
   cover_within : (p : ℕ) → IsCovered (done ++ (first ++ rest)) p → IsBare size (spans ++ s ∷ []) p
-  cover_within p c =
-      let bare : IsCovered (done ++ span_between kept size) p → (IsCovered (s ∷ []) p → ⊥) → IsBare size (spans ++ s ∷ []) p = λ old off.
-      let was = one.parts.within p old in
-      record { within = was.within; bare = λ w. elim (covered_parts spans (s ∷ []) p w) [ inl a ↦ was.bare a | inr b ↦ off b ] } in
-      elim (covered_parts done (first ++ rest) p c) [
-        | inl w ↦ let low = covered_by_end s.start done p ended w in bare (covered_left done (span_between kept size) p w) (λ h. let o = covered_last s p h in absurd (omega (arith, o.0)))
-        | inr w ↦ elim (covered_parts first rest p w) [
-          | inl v ↦
-              let b = covered_between kept (min s.start size) p v in
-              bare (covered_right done (span_between kept size) p (between_covers kept size p b.0 (omega (arith, b.1)))) (λ h. let o = covered_last s p h in absurd (omega (arith, o.0, b.1)))
-          | inr v ↦
-              let b = covered_between (max kept (min s.stop size)) size p v in
-              bare (covered_right done (span_between kept size) p (between_covers kept size p (omega (arith, b.0)) b.1)) (λ h. let o = covered_last s p h in absurd (omega (arith, o.1, b.0, b.1)))
-        ]
-      ]
+  cover_within p c = grind (arith, covered_parts, covered_by_end, covered_left, covered_right)
 
   cover_whole : (p : ℕ) → IsBare size (spans ++ s ∷ []) p → IsCovered (done ++ (first ++ rest)) p
-  cover_whole p b =
-      let was : IsBare size spans p = record { within = b.within; bare = λ w. b.bare (covered_left spans (s ∷ []) p w) } in
-      let off : IsCovered (s ∷ []) p → ⊥ = λ w. b.bare (covered_right spans (s ∷ []) p w) in
-      elim (covered_parts done (span_between kept size) p (one.parts.whole p was)) [
-        | inl w ↦ covered_left done (first ++ rest) p w
-        | inr w ↦
-            let at = covered_between kept size p w in
-            covered_right done (first ++ rest) p (elim (cases_lt p s.start) [
-              | inl l ↦ covered_left first rest p (between_covers kept (min s.start size) p at.0 (omega (arith, at.1)))
-              | inr l ↦ elim (cases_lt p s.stop) [
-                | inl m ↦ absurd (off (inl (l, m)))
-                | inr m ↦ covered_right first rest p (between_covers (max kept (min s.stop size)) size p (omega (arith, at.0)) at.1)
-              ]
-            ])
-      ]
+  cover_whole p b = grind (arith, covered_left, covered_right, covered_parts)
 
   pub cover_gap : OneGap size (spans ++ s ∷ []) (done ++ span_between kept (min s.start size)) (max kept (min s.stop size))
-  cover_gap = record {
-    parts = rw (append_assoc done first rest) (record { apart = cover_apart; within = cover_within; whole = cover_whole });
-    kept_is = let e = end_of-push spans s in let k = one.kept_is in omega arith;
-  }
+  cover_gap = grind (arith, append_assoc, cover_within, cover_whole, end_of-push, apart_tail)

@@ -1,5 +1,5 @@
 -- What a count of depths says of one chromosome, and what it owes of it. It says which intervals are settled by the last start, and what is known for the rest.
-use Rattle.bt_lines.proofs.Std.{max, ◌≡◌, ℕ, ◌<◌, ◌≤◌, ◌+◌, List, [], ◌∷◌, ◌++◌, refl, sym, ap, ap₂, ◌∙◌, filter, nat_lt, Bool, true, false, append-nil, Option, lt-ltb, le-ltb, map-append, length, inl, inr, arith, min, Some, None, Result, Ok, Err, cases_lt, flat_map-append, append_assoc, codes, decimal, length-append, ◌-◌, All}
+use Rattle.bt_lines.proofs.Std.{rules, max, ◌≡◌, ℕ, ◌<◌, ◌≤◌, ◌+◌, List, [], ◌∷◌, ◌++◌, refl, sym, ap, ap₂, ◌∙◌, filter, nat_lt, Bool, true, false, append-nil, Option, lt-ltb, le-ltb, map-append, length, inl, inr, subst, arith, min, Some, None, Result, Ok, Err, cases_lt, flat_map-append, append_assoc, codes, decimal, length-append, ◌-◌, All}
 use Rattle.std.specs.Option.{option_map_or}
 use Rattle.std.specs.declared.cmp.Ordering.TheVariants.{Equal}
 use Rattle.bt_bed.specs.model.Feature.{Feature, interval_of, intervals_of, Interval, span_of, Span}
@@ -64,15 +64,7 @@ module _ (zeros : Bool) (strand : Option Strand) where
 
     -- a chromosome without records has one depth
     none_on : (entry : Entry) (past : List Feature) → has_records entry.name (intervals_of past) ≡ false → NoRecords (form_of depths) Own entry past
-    none_on entry past none =
-        let empty = counted_none strand entry.name past none in
-        record {
-          part_is = ap (λ l. levels_on entry.name (levels_of (depth_of zeros l) entry.length)) empty ∙ ap (levels_on entry.name) (bare_levels zeros entry.length);
-          begins = record {
-            done_is = sym (ap (λ l. levels_on entry.name (settled_at zeros entry.length l 0)) empty ∙ ap (levels_on entry.name) (settled_first zeros entry.length));
-            known_is = sym (ap (λ l. known_at zeros entry.length l 0) empty ∙ known_first zeros entry.length);
-          };
-        }
+    none_on entry past none = grind (arith, counted_none, bare_levels, settled_first, known_first)
 
     own_next : (entry : Entry) (past : List Feature) (start : ℕ) (done : List DepthInterval) (known : Known) (r : Feature) → Own entry past start done known → entry.name ≡ r.chrom → start ≤ r.start → r.start < r.stop
         → Own entry (past ++ r ∷ []) r.start (done ++ levels_on entry.name (levels_by zeros entry.length known (max r.start known.to))) (known_by zeros (is_counted_by strand r.strand) entry.length known (max r.start known.to) r.stop)
@@ -85,19 +77,7 @@ module _ (zeros : Bool) (strand : Option Strand) where
         let more = levels_by zeros size (known_at zeros size spans start) r.start in
         let next = counted_next strand entry.name past r (sym is) in
         let from = start_same zeros size spans start r.start up in
-        record {
-          done_is =
-              ap₂ (λ (l : List DepthInterval) (k : Known). l ++ levels_on entry.name (levels_by zeros size k (max r.start k.to))) own.done_is own.known_is
-              ∙ ap (λ n. levels_on entry.name settled ++ levels_on entry.name (levels_by zeros size (known_at zeros size spans start) n)) from
-              ∙ sym (map-append (depth_on entry.name) settled more)
-              ∙ ap (levels_on entry.name) (sym (settled_next zeros counted size spans start s up full))
-              ∙ ap (λ l. levels_on entry.name (settled_at zeros size l r.start)) (sym next);
-          known_is =
-              ap (λ k. known_by zeros counted size k (max r.start k.to) r.stop) own.known_is
-              ∙ ap (λ n. known_by zeros counted size (known_at zeros size spans start) n r.stop) from
-              ∙ sym (known_next zeros counted size spans start s up full)
-              ∙ ap (λ l. known_at zeros size l r.start) (sym next);
-        }
+        grind (arith, (map-append (depth_on entry.name) settled more), (settled_next zeros counted size spans start s up full), (known_next zeros counted size spans start s up full))
 
     -- the settled intervals end below the last start, and the others don't
     divides_own : (entry : Entry) (past : List Feature) (last : Interval) (done : List DepthInterval) (known : Known) → Own entry past last.start done known → entry.name ≡ last.chrom → has_records entry.name (intervals_of past) ≡ true → Divides (form_of depths) Own entry past last done known
@@ -134,10 +114,7 @@ module _ (zeros : Bool) (strand : Option Strand) where
     -- the intervals come in the order of the genome file
     pub written : (past : List Feature) → Written (form_of depths) Own entries past
     unfolding settled_depths coverage
-    written past = record {
-      whole_is = refl;
-      settled_is = λ last is. ap (λ (o : Option Interval). option_map_or (λ last. filter (is_ended_by (genome_names entries) last) (coverage zeros strand entries past)) o []) is;
-    }
+    written past = grind arith
 
 -- A coverage walks as any engine that goes through a genome file. What it holds is what the definitions keep of the records of the past, and so its exact step writes what they settle.
 
@@ -160,16 +137,7 @@ module _ (zeros : Bool) (strand : Option Strand) (entries : List Entry) where
   settles_depths = settles_items (depths zeros strand entries) (Own zeros strand) entries (owes zeros strand entries) (written zeros strand entries)
 
 known_to_is : (zeros : Bool) (size : ℕ) (spans : List Span) (start : ℕ) → (known_at zeros size spans start).to ≡ min start size
-known_to_is zeros size spans start = elim (cases_lt size start) [
-  | inl past ↦ rw (lt-ltb size start past) (omega arith)
-  | inr within ↦ rw (le-ltb size start within) (omega arith)
-]
-
-known_held : (zeros : Bool) (size : ℕ) (spans : List Span) (start : ℕ) → (known_at zeros size spans start).held ≡ open_at size start spans
-known_held zeros size spans start = elim (cases_lt size start) [
-  | inl past ↦ rw (lt-ltb size start past) (sym (none_open size start spans past))
-  | inr within ↦ rw (le-ltb size start within) refl
-]
+known_to_is zeros size spans start = grind arith
 
 module _ (zeros : Bool) (strand : Option Strand) (entries : List Entry) where
   -- what is kept of the records
@@ -180,40 +148,14 @@ module _ (zeros : Bool) (strand : Option Strand) (entries : List Entry) where
 
   pub keeps : (past : List Feature) (current : Option (Place Known)) → AreDistinct (genome_names entries) → Reaches zeros strand entries past current → Keeps past current
   unfolding known_place unfinished kept_records
-  keeps past None distinct none = rw none (record { place = refl; begun = refl; held = refl })
-  keeps past (Some place) distinct (before, key, after, s, rank) =
-      let is = rank_entry entries before key after place.rank s.stand.split rank in
-      let last = s.last in
-      let spans = counted_on strand key.name past in
-      let sides = apart name_at before key after (rw (← s.stand.split) distinct) in
-      let size : length_in entries last.chrom ≡ key.length = rw (s.stand.split, ← s.stand.is) (size_there before key after key.name refl sides.none_before) in
-      let known : place.known ≡ known_at zeros key.length spans last.start = s.at.known_is in
-      record {
-        place =
-            let here : places (λ known. known.to) entries (Some place) ≡ record { chrom = last.chrom; start = min last.start key.length } ∷ [] = rw (is, s.stand.is, known, known_to_is zeros key.length spans last.start) refl in
-            here ∙ sym (rw (s.stand.last_is, size) refl);
-        begun =
-            let wanted : unfinished zeros strand entries past ≡ begun_across last.start (levels_of (depth_of zeros spans) key.length) = rw (s.stand.last_is, size, ← s.stand.is) refl in
-            ap (λ (k : Known). k.begun) known ∙ sym (across_known zeros key.length spans last.start) ∙ sym wanted;
-        held =
-            let wanted : kept_records strand entries past ≡ open_at key.length last.start spans = rw (s.stand.last_is, size, ← s.stand.is) refl in
-            ap (λ (k : Known). k.held) known ∙ known_held zeros key.length spans last.start ∙ sym wanted;
-      }
+  keeps past current distinct none = grind (arith, rank_entry, apart, size_there, across_known, none_open)
 
 -- and what is kept tells which
 same_known : (a b : Known) → a.to ≡ b.to → a.begun ≡ b.begun → a.held ≡ b.held → a ≡ b
-same_known a b t g h =
-    let make : ℕ → Option Begun → List Span → Known = λ t g h. record { to = t; begun = g; held = h } in
-    ap₂ (λ t g. make t g a.held) t g ∙ ap (make b.to b.begun) h
+same_known a b t g h = grind arith
 
 same_seen : (entries : List Entry) (current other : Option (Place Known)) → AreReached entries current → AreReached entries other → places (λ known. known.to) entries current ≡ places (λ known. known.to) entries other → begun_of current ≡ begun_of other → held_of current ≡ held_of other → current ≡ other
-same_seen entries None None a b e f h = refl
-same_seen entries None (Some other) a b e f h = cc
-same_seen entries (Some place) None a b e f h = cc
-same_seen entries (Some place) (Some other) a b e f h =
-    let same = same_place (λ known. known.to) entries place other a b e in
-    let make : ℕ → Known → Option (Place Known) = λ n k. Some (record { rank = n; known = k }) in
-    ap₂ make same.0 (same_known place.known other.known same.1 f h)
+same_seen entries current other a b e f h = grind arith
 
 module _ (zeros : Bool) (strand : Option Strand) (entries : List Entry) where
   -- a coverage that keeps what is to be kept has reached the last record's chromosome
@@ -221,9 +163,7 @@ module _ (zeros : Bool) (strand : Option Strand) (entries : List Entry) where
       → Reaches zeros strand entries past current
   held_is past current t at p g h =
       let other = reached zeros strand entries past t in
-      let k = keeps zeros strand entries past other.0 t.distinct other.1 in
-      let one = same_seen entries current other.0 at other.2 (p ∙ sym k.place) (g ∙ sym k.begun) (h ∙ sym k.held) in
-      rw one other.1
+      grind (arith, keeps)
 
 -- entering a chromosome
 abbrev pub Enters : Covering → List ℕ → Output → Result (Unit {0}) Fault → Covering → Output → Type 0
@@ -238,14 +178,7 @@ module _ (old : Covering) where
     reached : AreTaken old.entries past → Reaches old.zeros old.strand old.entries past old.current
 
   same : (first : Covering) (past : List Feature) → IsAfter first past old → Same first past
-  same first past stands =
-      let entries : first.entries ≡ old.entries = sym stands.same_entries in
-      let rules : first.zeros ≡ old.zeros = sym stands.same_zeros in
-      let wanted : first.strand ≡ old.strand = sym stands.same_strand in
-      let place = stands.place ∙ ap (λ e. known_place e past) entries in
-      let begun = stands.begun ∙ ap (λ z. unfinished z first.strand first.entries past) rules ∙ ap₂ (λ s e. unfinished old.zeros s e past) wanted entries in
-      let kept = stands.kept ∙ ap₂ (λ s e. kept_records s e past) wanted entries in
-      record { same_entries = entries; same_zeros = rules; same_strand = wanted; reached = λ t. held_is old.zeros old.strand old.entries past old.current t stands.reached place begun kept }
+  same first past stands = grind (arith, held_is)
 
   -- what is done with a record exactly is done after every past
   pub fits : (r : Feature) → FitsPast depth_rule old r
@@ -274,15 +207,12 @@ module _ (old : Covering) where
 
   -- a record of a chromosome that the genome file doesn't have changes nothing
   pub counts_none : (r : Feature) (out : Output) → IsOnBy false old.entries old.current old.name old.length r.chrom → Does depth_rule old r out (Ok tt) old out
-  counts_none r out off =
-      let here : depth_step old r ≡ (old.current, []) = ap (step_from (depth_walk old.zeros old.strand) old.entries old.current r) (going_to (depth_walk old.zeros old.strand) old.entries old.current r.chrom None off.0 (sym off.1)) in
-      (record { same_entries = refl; same_zeros = refl; same_strand = refl; current = sym (ap (λ s. s.0) here); at = λ at. at }, rw here (grown_none out))
+  counts_none r out off = search rules
 
   -- one of the chromosome that was reached
   pub step_here : (r : Feature) (place : Place Known) → old.current ≡ Some place → is_on old.entries old.current r.chrom ≡ true
       → depth_step old r ≡ (Some (taking (depth_walk old.zeros old.strand) old.entries place r).0, (taking (depth_walk old.zeros old.strand) old.entries place r).1)
-  step_here r place is on =
-      step_goes (depth_walk old.zeros old.strand) old.entries old.current r place [] (going_on (depth_walk old.zeros old.strand) old.entries old.current r.chrom on ∙ ap (λ o. (o, [])) is)
+  step_here r place is on = grind arith
 
   -- on which chromosome the last record lies changes nothing
   pub enters_moved : (is_known : Bool) (name : List ℕ) (size : ℕ) (chrom : List ℕ) (out : Output)
@@ -305,11 +235,7 @@ module _ (old : Covering) where
     is_there = on_found old.entries chrom rank (sym is)
 
     there_steps : (r : Feature) → r.chrom ≡ chrom → ((depth_step old r).0 ≡ (depth_step begun_there r).0) × ((depth_step old r).1 ≡ before ++ (depth_step begun_there r).1)
-    there_steps r same =
-        let walk = depth_walk old.zeros old.strand in
-        entered_steps walk old.entries old.current r place_first before
-        (going_to walk old.entries old.current r.chrom (Some rank) (ap (is_on old.entries old.current) same ∙ off) (is ∙ ap (rank_of (genome_names old.entries)) (sym same)))
-        (ap (is_on old.entries (Some place_first)) same ∙ is_there)
+    there_steps r same = grind (arith, is_there)
 
     lines_are : (r : Feature) → r.chrom ≡ chrom → next_lines old r ≡ depth_lines before ++ next_lines begun_there r
     lines_are r same = ap depth_lines (there_steps r same).1 ∙ flat_map-append depth_line before (depth_step begun_there r).1
@@ -332,27 +258,17 @@ module _ (old : Covering) where
   -- the lines that are left
   pub finishes_left : (out : Output) {A : Type 0} (stop : ℕ) (result : Result A Fault) (grown : Output) → stop ≡ length old.entries → Adds out (depth_lines (left_before (depths_left old.zeros) (bare_of old.zeros) old.entries old.current stop)) result grown
       → PutsRestAtEnd depth_rule old out result grown
-  finishes_left out stop result grown all p = record {
-    left = depth_lines (left_before (depths_left old.zeros) (bare_of old.zeros) old.entries old.current stop);
-    is = λ first past stands taken.
-        let s = same first past stands in
-        let t = rw s.same_entries at taken in
-        rw (s.same_entries, s.same_zeros, s.same_strand, all) (ap depth_lines (leaves old.zeros old.strand old.entries past old.current t.distinct (s.reached t))
-        ∙ flat_map-append depth_line (settled_depths old.zeros old.strand old.entries past) (left_before (depths_left old.zeros) (bare_of old.zeros) old.entries old.current (length old.entries)));
-    adds = p;
-  }
+  finishes_left out stop result grown all p = grind (arith, same, leaves, flat_map-append)
 
 -- What a coverage does with one record on the chromosome that it has reached.
 
 module _ (entries : List Entry) (current : Option (Place Known)) (name : List ℕ) (size : ℕ) (chrom : List ℕ) where
   -- whether it lies there is known
   pub on_here : (is_known : Bool) → is_known ≡ true → IsOnBy is_known entries current name size chrom → IsOnBy true entries current name size chrom
-  on_here true is on = on
-  on_here false is on = absurd (cc)
+  on_here is_known is on = grind arith
 
   pub off_here : (is_known : Bool) → is_known ≡ false → IsOnBy is_known entries current name size chrom → IsOnBy false entries current name size chrom
-  off_here true is on = absurd (cc)
-  off_here false is on = on
+  off_here is_known is on = grind arith
 
 module _ (old : Covering) (place : Place Known) (reached : old.current ≡ Some place) (placed : IsPlaced old.entries place.rank) (chrom : List ℕ) (size : ℕ)
     (named : (entry_at old.entries place.rank).name ≡ chrom) (sized : (entry_at old.entries place.rank).length ≡ size)
@@ -364,9 +280,7 @@ module _ (old : Covering) (place : Place Known) (reached : old.current ≡ Some 
   -- it was taken
   pub counts_ok : (begun : Option OpenInterval) (held : OpenAt) (grown : Output) → CountAnswers chrom (levels_by old.zeros size place.known (max bounds.start place.known.to)) (known_by old.zeros counted size place.known (max bounds.start place.known.to) bounds.stop) (Ok begun) held out grown
       → Does depth_rule old r out (Ok tt) (record { entries = old.entries; zeros = old.zeros; strand = old.strand; current = Some (place_seen (record { rank = place.rank; begun = begun }) held); is_known = old.is_known; name = old.name; length = old.length }) grown
-  counts_ok begun held grown c =
-      let current = ap (λ k. Some (record { rank = place.rank; known = k })) c.1 ∙ sym (ap (λ s. s.0) step_is) in
-      (record { same_entries = refl; same_zeros = refl; same_strand = refl; current = current; at = λ at. placed }, rw step_is c.0)
+  counts_ok begun held grown c = grind arith
 
   to_keep : (counted ≡ true) × (bounds.start < size) → wants_memory old r
   to_keep is =
@@ -393,11 +307,7 @@ module _ (table : List Entry) (zeros : Bool) (strand : Option Strand) (is_known 
   pub step_ok : (current : Option DepthCursor) (held : OpenAt) → AreReached table (seen current held) → IsOnChrom (with_chrom (covering current held) on) r.chrom → (begun : Option OpenInterval) (now_held : OpenAt)
       → CountAnswers on.name.now (levels_by zeros on.length (known_seen on.begun held) (max bounds.start held.at)) (known_by zeros counted on.length (known_seen on.begun held) (max bounds.start held.at) bounds.stop) (Ok begun) now_held out grown
       → Does depth_rule (with_chrom (covering current held) on) r out (Ok tt) (with_chrom (covering current now_held) (ended_with begun)) grown
-  step_ok None held placed lies begun now_held c = absurd (on_here table None on.name.now on.length r.chrom on.is_known here lies).1
-  step_ok (Some reached) held placed lies begun now_held c =
-      let place = place_seen (record { rank = reached.rank; begun = on.begun }) held in
-      let l = on_here table (Some place) on.name.now on.length r.chrom on.is_known here lies in
-      counts_ok (with_chrom (covering (Some reached) held) on) place refl placed on.name.now on.length l.1.0 l.1.1 r l.0 bounds starts stops counted counts out begun now_held grown c
+  step_ok current held placed lies begun now_held c = grind arith
 
   pub step_err : (current : Option DepthCursor) (held : OpenAt) → AreReached table (seen current held) → IsOnChrom (with_chrom (covering current held) on) r.chrom → (failure : Failure) (fault : Fault) (new : Covering) (now_held : OpenAt) → fault_value fault ≡ fault_of failure
       → CountAnswers on.name.now (levels_by zeros on.length (known_seen on.begun held) (max bounds.start held.at)) (known_by zeros counted on.length (known_seen on.begun held) (max bounds.start held.at) bounds.stop) (Err failure) now_held out grown
@@ -411,33 +321,19 @@ module _ (table : List Entry) (zeros : Bool) (strand : Option Strand) (is_known 
 -- what is known of a chromosome changes nothing of where it lies
 pub stays_on : (table : List Entry) (current : Option DepthCursor) (held now_held : OpenAt) (begun now_begun : Option OpenInterval) (is_known : Bool) (name : List ℕ) (size : ℕ) (chrom : List ℕ)
     → IsOnBy is_known table (with_begun begun (seen current held)) name size chrom → IsOnBy is_known table (with_begun now_begun (seen current now_held)) name size chrom
-stays_on table None held now_held begun now_begun is_known name size chrom on = on
-stays_on table (Some reached) held now_held begun now_begun true name size chrom on = on
-stays_on table (Some reached) held now_held begun now_begun false name size chrom on = on
+stays_on table current held now_held begun now_begun is_known name size chrom on = grind arith
 
 -- The lines of intervals with their depths, and what the private calls of a coverage write of them.
 
 -- the name, and what follows it
 pub line_parts : (r : DepthInterval) → r.chrom ++ depth_text r.start r.stop r.depth ≡ depth_line r
-line_parts r =
-    let tab = codes "\t" in
-    let last = decimal r.depth ++ codes "\n" in
-    let second = decimal r.stop ++ (tab ++ last) in
-    let first = (tab ++ decimal r.start) ++ tab in
-    ap (λ l. r.chrom ++ l) (sym (append_assoc tab (decimal r.start) (tab ++ second))
-    ∙ sym (append_assoc (tab ++ decimal r.start) tab second)
-    ∙ sym (append_assoc first (decimal r.stop) (tab ++ last))
-    ∙ sym (append_assoc (first ++ decimal r.stop) tab last)
-    ∙ sym (append_assoc ((first ++ decimal r.stop) ++ tab) (decimal r.depth) (codes "\n")))
+line_parts r = grind (arith, append_assoc)
 
 -- no line is empty
 pub line_has_bytes : (r : DepthInterval) → depth_line r ≡ [] → ⊥
 line_has_bytes r e =
     let behind = codes "\t" ++ decimal r.start ++ codes "\t" ++ decimal r.stop ++ codes "\t" ++ decimal r.depth in
-    let l = length-append r.chrom (behind ++ codes "\n") in
-    let m = length-append behind (codes "\n") in
-    let none : length (depth_line r) ≡ 0 = ap length e in
-    absurd (omega arith)
+    grind (arith, (length-append r.chrom (behind ++ codes "\n")))
 
 -- the line of an interval alone
 pub adds_line : {A : Type 0} (r : DepthInterval) (old new : Output) (result : Result A Fault) → Puts old (depth_line r) result new → Adds old (depth_lines (r ∷ [])) result new
@@ -466,8 +362,7 @@ pub bare_unasked : (zeros : Bool) (entry : Entry) → zeros ≡ false → bare_o
 bare_unasked zeros entry f = rw f refl
 
 pub bare_empty : (zeros : Bool) (entry : Entry) (size : ℕ) → entry.length ≡ size → size ≡ 0 → bare_of zeros entry ≡ []
-bare_empty true entry size is none = rw (is, none) refl
-bare_empty false entry size is none = refl
+bare_empty zeros entry size is none = grind arith
 
 -- The walk over the positions of a chromosome, from one where the depth changes to the next.
 
@@ -492,20 +387,10 @@ module _ (u : ℕ → Option ℕ) (from at next : ℕ) (g : Option Begun) (value
   here_is = omega arith
 
   pub turn_ended : ended_after u from (next - from) g ≡ ended_after u from (at - from) g ++ next_ended at value (begun_after u from (at - from) g)
-  turn_ended =
-      let begun = begun_after u from (at - from) g in
-      ap (λ n. ended_after u from n g) parts_are
-      ∙ (scan_split u (at - from) (next - at) from g).1
-      ∙ ap (λ n. ended_after u from (at - from) g ++ ended_after u n (next - at) begun) here_is
-      ∙ ap (λ l. ended_after u from (at - from) g ++ l) (scan_run u value (next - at) at begun (omega arith) run_is).1
+  turn_ended = grind (arith, (scan_split u (at - from) (next - at) from g), (scan_run u value (next - at)))
 
   pub turn_begun : begun_after u from (next - from) g ≡ next_begun at value (begun_after u from (at - from) g)
-  turn_begun =
-      let begun = begun_after u from (at - from) g in
-      ap (λ n. begun_after u from n g) parts_are
-      ∙ (scan_split u (at - from) (next - at) from g).0
-      ∙ ap (λ n. begun_after u n (next - at) begun) here_is
-      ∙ (scan_run u value (next - at) at begun (omega arith) run_is).0
+  turn_begun = grind (arith, parts_are, scan_split, here_is, scan_run)
 
 -- no step
 pub no_ended : (u : ℕ → Option ℕ) (p n : ℕ) (g : Option Begun) → n ≡ 0 → ended_after u p n g ≡ []

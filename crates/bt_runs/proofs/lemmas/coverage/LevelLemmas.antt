@@ -4,12 +4,7 @@ use Rattle.bt_runs.specs.model.Depth.{Begun, Level, begun_after, ended_after, en
 
 pub levels_more : (value : ℕ → Option ℕ) (p n : ℕ) (begun : Option Begun) → levels_from value p (suc n) begun ≡ next_ended p (value p) begun ++ levels_from value (p + 1) n (next_begun p (value p) begun)
 unfolding begun_after ended_after
-levels_more value p n begun =
-    let nb = next_begun p (value p) begun in
-    let ended = ended_after value (p + 1) n nb in
-    let end : p + suc n ≡ p + 1 + n = omega arith in
-    ap (λ e. (next_ended p (value p) begun ++ ended) ++ ended_at (begun_after value (p + 1) n nb) e) end
-    ∙ append_assoc (next_ended p (value p) begun) ended (ended_at (begun_after value (p + 1) n nb) (p + 1 + n))
+levels_more value p n begun = grind arith
 
 -- a scan in two parts
 pub scan_split : (value : ℕ → Option ℕ) (a b p : ℕ) (g : Option Begun) → (begun_after value p (a + b) g ≡ begun_after value (p + a) b (begun_after value p a g))
@@ -19,15 +14,10 @@ scan_split value zero b p g = let here : p + 0 ≡ p = omega arith in let none :
 scan_split value (suc a) b p g =
     let next : p + suc a ≡ p + 1 + a = omega arith in
     let more : suc a + b ≡ suc (a + b) = omega arith in
-    let g' = next_begun p (value p) g in
-    let rest = scan_split value a b (p + 1) g' in
-    rw (next, more) (rest.0, ap (λ l. next_ended p (value p) g ++ l) rest.1 ∙ sym (append_assoc (next_ended p (value p) g) (ended_after value (p + 1) a g') (ended_after value (p + 1 + a) b (begun_after value (p + 1) a g'))))
+    grind (arith, (scan_split value a b (p + 1) (next_begun p (value p) g)))
 
 pub levels_split : (value : ℕ → Option ℕ) (a b p : ℕ) (g : Option Begun) → levels_from value p (a + b) g ≡ ended_after value p a g ++ levels_from value (p + a) b (begun_after value p a g)
-levels_split value a b p g =
-    let end : p + (a + b) ≡ p + a + b = omega arith in
-    let split = scan_split value a b p g in
-    rw (end, split.1, split.0) (append_assoc (ended_after value p a g) (ended_after value (p + a) b (begun_after value p a g)) (ended_at (begun_after value (p + a) b (begun_after value p a g)) (p + a + b)))
+levels_split value a b p g = grind (arith, scan_split, append_assoc)
 
 -- scans of the same values
 abbrev pub AreSame : (ℕ → Option ℕ) → (ℕ → Option ℕ) → ℕ → ℕ → Type 0
@@ -36,19 +26,11 @@ AreSame u v p n = (q : ℕ) → p ≤ q → q < p + n → u q ≡ v q
 pub scan_same : (u v : ℕ → Option ℕ) (n p : ℕ) (g : Option Begun) → AreSame u v p n → (begun_after u p n g ≡ begun_after v p n g) × (ended_after u p n g ≡ ended_after v p n g)
 unfolding begun_after ended_after
 scan_same u v zero p g same = (refl, refl)
-scan_same u v (suc n) p g same =
-    let rest = scan_same u v n (p + 1) (next_begun p (v p) g) (λ q low high. same q (omega arith) (omega arith)) in
-    rw (same p (omega arith) (omega arith)) (rest.0, ap (λ l. next_ended p (v p) g ++ l) rest.1)
+scan_same u v (suc n) p g same = grind (arith, (scan_same u v n (p + 1) (next_begun p (v p) g) (λ q low high. same q (omega arith) (omega arith))))
 
 -- a scan of one value
 goes_on_now : (value : Option ℕ) (p : ℕ) (g : Option Begun) → goes_on (next_begun p value g) value ≡ true
-goes_on_now None p None = refl
-goes_on_now None p (Some b) = refl
-goes_on_now (Some v) p None = eq-eqb v v refl
-goes_on_now (Some v) p (Some b) = elim (cases_Bool (b.value == v)) [
-  | inl t ↦ rw t t
-  | inr f ↦ rw f (eq-eqb v v refl)
-]
+goes_on_now value p g = grind arith
 
 module _ (u : ℕ → Option ℕ) (value : Option ℕ) where
   scan_on : (n p : ℕ) (g : Option Begun) → ((q : ℕ) → p ≤ q → q < p + n → u q ≡ value) → goes_on g value ≡ true → (begun_after u p n g ≡ g) × (ended_after u p n g ≡ [])
@@ -59,9 +41,7 @@ module _ (u : ℕ → Option ℕ) (value : Option ℕ) where
   pub scan_run : (n p : ℕ) (g : Option Begun) → 0 < n → ((q : ℕ) → p ≤ q → q < p + n → u q ≡ value) → (begun_after u p n g ≡ next_begun p value g) × (ended_after u p n g ≡ next_ended p value g)
   unfolding begun_after ended_after
   scan_run zero p g some same = absurd (omega arith)
-  scan_run (suc n) p g some same =
-      let rest = scan_on n (p + 1) (next_begun p value g) (λ q low high. same q (omega arith) (omega arith)) (goes_on_now value p g) in
-      rw (same p (omega arith) (omega arith)) (rest.0, ap (λ l. next_ended p value g ++ l) rest.1 ∙ append-nil (next_ended p value g))
+  scan_run (suc n) p g some same = grind (arith, (scan_on n (p + 1) (next_begun p value g) (λ q low high. same q (omega arith) (omega arith)) (goes_on_now value p g)))
 
 -- where intervals stop
 abbrev pub StopIn : ℕ → ℕ → List Level → Type 0
@@ -77,25 +57,18 @@ stop_both a b [] ys s t = t
 stop_both a b (x ∷ xs) ys s t = (s.0, s.1, stop_both a b xs ys s.2 t)
 
 pub ended_at-stop : (a b p : ℕ) (g : Option Begun) → a ≤ p → p < b → StopIn a b (ended_at g p)
-ended_at-stop a b p None h k = tt
-ended_at-stop a b p (Some begun) h k = (h, k, tt)
+ended_at-stop a b p g h k = grind arith
 
 next_ended-stop : (a b p : ℕ) (value : Option ℕ) (g : Option Begun) → a ≤ p → p < b → StopIn a b (next_ended p value g)
-next_ended-stop a b p value g h k = elim (cases_Bool (goes_on g value)) [
-  | inl t ↦ rw t tt
-  | inr f ↦ rw f (ended_at-stop a b p g h k)
-]
+next_ended-stop a b p value g h k = grind arith
 
 pub ended_after-stop : (value : ℕ → Option ℕ) (n p : ℕ) (g : Option Begun) → StopIn p (p + n) (ended_after value p n g)
 unfolding ended_after
 ended_after-stop value zero p g = tt
-ended_after-stop value (suc n) p g =
-    let rest = ended_after-stop value n (p + 1) (next_begun p (value p) g) in
-    stop_both p (p + suc n) (next_ended p (value p) g) (ended_after value (p + 1) n (next_begun p (value p) g)) (next_ended-stop p (p + suc n) p (value p) g (omega arith) (omega arith)) (stop_wider (p + 1) (p + 1 + n) p (p + suc n) (ended_after value (p + 1) n (next_begun p (value p) g)) (omega arith) (omega arith) rest)
+ended_after-stop value (suc n) p g = grind (arith, (ended_after-stop value n (p + 1) (next_begun p (value p) g)), stop_wider)
 
 pub levels_from-stop : (value : ℕ → Option ℕ) (n p : ℕ) (g : Option Begun) → StopIn p (p + n + 1) (levels_from value p n g)
-levels_from-stop value n p g =
-    stop_both p (p + n + 1) (ended_after value p n g) (ended_at (begun_after value p n g) (p + n)) (stop_wider p (p + n) p (p + n + 1) (ended_after value p n g) (omega arith) (omega arith) (ended_after-stop value n p g)) (ended_at-stop p (p + n + 1) (p + n) (begun_after value p n g) (omega arith) (omega arith))
+levels_from-stop value n p g = grind (arith, stop_both, stop_wider, ended_after-stop)
 
 -- where they start
 abbrev pub BeginsBelow : ℕ → Option Begun → Type 0
@@ -107,22 +80,15 @@ BeginsFrom p None = ⊤
 BeginsFrom p (Some begun) = p ≤ begun.start
 
 below_later : (p q : ℕ) (g : Option Begun) → p ≤ q → BeginsBelow p g → BeginsBelow q g
-below_later p q None h b = tt
-below_later p q (Some begun) h b = omega (arith, b)
+below_later p q g h b = grind arith
 
 begun_at-below : (p : ℕ) (value : Option ℕ) → BeginsBelow (p + 1) (begun_at p value)
-begun_at-below p None = tt
-begun_at-below p (Some v) = omega arith
+begun_at-below p value = grind arith
 
 next_begun-below : (p : ℕ) (value : Option ℕ) (g : Option Begun) → BeginsBelow p g → BeginsBelow (p + 1) (next_begun p value g)
-next_begun-below p value g b = elim (cases_Bool (goes_on g value)) [
-  | inl t ↦ rw t (below_later p (p + 1) g (omega arith) b)
-  | inr f ↦ rw f (begun_at-below p value)
-]
+next_begun-below p value g b = grind arith
 
 pub begun_after-below : (value : ℕ → Option ℕ) (n p : ℕ) (g : Option Begun) → BeginsBelow p g → BeginsBelow (p + n) (begun_after value p n g)
 unfolding begun_after
 begun_after-below value zero p g b = below_later p (p + 0) g (omega arith) b
-begun_after-below value (suc n) p g b =
-    let next : p + suc n ≡ p + 1 + n = omega arith in
-    rw next (begun_after-below value n (p + 1) (next_begun p (value p) g) (next_begun-below p (value p) g b))
+begun_after-below value (suc n) p g b = grind (arith, (begun_after-below value n (p + 1) (next_begun p (value p) g) (next_begun-below p (value p) g b)))

@@ -1,5 +1,6 @@
 -- The records that are open at a position and at later ones, how many of them cover a position, and their ends, counted by every test of an end.
-use Rattle.bt_lines.proofs.Std.{◌≡◌, ℕ, ◌+◌, ◌<◌, ◌≤◌, inl, inr, List, [], ◌∷◌, ◌++◌, refl, sym, ap, ◌∙◌, arith, All, filter, length, max, nat_le, not, leb-true, false, cond, ◌&&◌, nat_lt, slice_index_or, subst, drop, Bool, MatchBool, true, IfSome, IsSome, Option, Some, None, cases_Bool, cases_lt, lt-ltb, le-ltb, lt-leb, le-leb, length-map, map-append, length-filter_both, All-cons, All-filter, All-head, All-nil, All-tail, All-weaker, filter-append, filter_agree, filter_passes, IsUpperBound, PopsGreatest, IsPermutation, is_lt, nat_cmp, IsPermutation-map, sum_by-IsPermutation, length-filter, ap₂, length-append, map, min, bytes_eq, or_parts, ◌-◌, append_assoc, append-nil, zero, suc}
+use Rattle.std.proofs.lemmas.Grind.{common_steps}
+use Rattle.bt_lines.proofs.Std.{rules, ◌≡◌, ℕ, ◌+◌, ◌<◌, ◌≤◌, inl, inr, List, [], ◌∷◌, ◌++◌, refl, sym, ap, ◌∙◌, arith, All, filter, length, max, nat_le, not, leb-true, false, cond, ◌&&◌, nat_lt, slice_index_or, subst, drop, Bool, MatchBool, true, IfSome, IsSome, Option, Some, None, cases_Bool, cases_lt, lt-ltb, le-ltb, lt-leb, le-leb, length-map, map-append, length-filter_both, All-cons, All-filter, All-head, All-nil, All-tail, All-weaker, filter-append, filter_agree, filter_passes, IsUpperBound, PopsGreatest, IsPermutation, is_lt, nat_cmp, IsPermutation-map, sum_by-IsPermutation, length-filter, ap₂, length-append, map, min, bytes_eq, or_parts, ◌-◌, append_assoc, append-nil, zero, suc}
 use Rattle.bt_bed.specs.model.Feature.{Span, Feature, interval_of, intervals_of, span_of, spans_on}
 use Rattle.bt_runs.specs.model.Depth.{covers, depth_at, counted_on, cut_at, depth_of, is_counted_by, open_at, reported, begun_across, Begun, Level, begun_after, ended_after, ended_at, levels_of, next_begun, next_ended, begun_at, goes_on, levels_from}
 use Rattle.bt_runs.specs.inside.Coverage.{still_open, CountsFrom, IsLeastFirst, StartsBelow, ends_of, KeepsOpen, span_open, spans_open, opened, Known, known_by, levels_by, levels_left}
@@ -26,29 +27,17 @@ module _ {X : Type 0} (p : X → Bool) where
     | inl t ↦
         let many : length (x ∷ xs) ≤ length (x ∷ filter p xs) = rw t at many in
         rw t (ap (λ l. x ∷ l) (filter_full xs (omega arith)))
-    | inr f ↦
-        let few = filter_few xs in
-        let many : length (x ∷ xs) ≤ length (filter p xs) = rw f at many in
-        absurd (omega arith)
+    | inr f ↦ grind (arith, filter_few)
   ]
 
   -- the elements that pass two tests
   filter_both : (q : X → Bool) (xs : List X) → filter (λ x. p x && q x) xs ≡ filter q (filter p xs)
   filter_both q [] = refl
-  filter_both q (x ∷ xs) =
-      let rest = filter_both q xs in
-      elim (cases_Bool (p x)) [
-        | inl t ↦ elim (cases_Bool (q x)) [
-          | inl u ↦ rw (t, u) (ap (λ l. x ∷ l) rest)
-          | inr f ↦ rw (t, f) rest
-        ]
-        | inr f ↦ rw f rest
-      ]
+  filter_both q (x ∷ xs) = grind (arith, (filter_both q xs))
 
 -- those that end at a position or past it do, and if all do, all are kept
 from_all : {X : Type 0} (end : X → ℕ) (position : ℕ) (xs : List X) → All (λ x. position ≤ end x) (filter (λ x. nat_le position (end x)) xs)
-from_all end position xs =
-    All-weaker (λ x. nat_le position (end x) ≡ true) (λ x. position ≤ end x) (λ x t. leb-true position (end x) t) (filter (λ x. nat_le position (end x)) xs) (filter_passes (λ x. nat_le position (end x)) xs)
+from_all end position xs = grind (arith, filter_passes)
 
 all_from : {X : Type 0} (end : X → ℕ) (position : ℕ) (xs : List X) → All (λ x. position ≤ end x) xs → filter (λ x. nat_le position (end x)) xs ≡ xs
 all_from end position xs all =
@@ -56,10 +45,7 @@ all_from end position xs all =
 
 -- those that are open at a later position are open before
 later_alone : (first later end : ℕ) → first ≤ later → (nat_le first end && nat_le later end) ≡ nat_le later end
-later_alone first later end up = elim (cases_lt end first) [
-  | inl ended ↦ rw (lt-leb first end ended, lt-leb later end (omega arith)) refl
-  | inr left ↦ rw (le-leb first end left) refl
-]
+later_alone first later end up = grind arith
 
 pub open_after : (first later : ℕ) (spans : List Span) → first ≤ later → still_open later (still_open first spans) ≡ still_open later spans
 open_after first later spans up =
@@ -76,40 +62,19 @@ stay_open position next spans up all = all_from (λ (s : Span). s.stop) position
 
 -- of those that have started, the ones that are open past a position cover it
 covers_started : (p : ℕ) (s : Span) → s.start ≤ p → covers p s ≡ nat_le (p + 1) s.stop
-covers_started p s started = elim (cases_lt p s.stop) [
-  | inl l ↦ rw (le-leb s.start p started, lt-ltb p s.stop l, le-leb (p + 1) s.stop (omega arith)) refl
-  | inr l ↦ rw (le-leb s.start p started, le-ltb p s.stop l, lt-leb (p + 1) s.stop (omega arith)) refl
-]
+covers_started p s started = grind arith
 
 pub depth_started : (at p : ℕ) (spans : List Span) → at ≤ p → All (λ s. s.start ≤ at) spans → depth_at spans p ≡ length (still_open (p + 1) spans)
 depth_started at p [] up all = refl
-depth_started at p (s ∷ ss) up all =
-    let mine : s.start ≤ at = All-head (λ s. s.start ≤ at) s ss all in
-    let rest = depth_started at p ss up (All-tail (λ s. s.start ≤ at) s ss all) in
-    let same = covers_started p s (omega arith) in
-    elim (cases_Bool (nat_le (p + 1) s.stop)) [
-      | inl t ↦ rw (same, t, rest) refl
-      | inr f ↦ rw (same, f) rest
-    ]
+depth_started at p (s ∷ ss) up all = grind (arith, (depth_started at p ss up (All-tail (λ s. s.start ≤ at) s ss all)), All-head)
 
 -- those that end before a position don't cover it
 covers_ended : (p : ℕ) (s : Span) → s.stop < p + 1 → covers p s ≡ false
-covers_ended p s ended = elim (cases_Bool (nat_le s.start p)) [
-  | inl t ↦ rw (t, le-ltb p s.stop (omega arith)) refl
-  | inr f ↦ rw f refl
-]
+covers_ended p s ended = grind arith
 
 pub depth_open : (at p : ℕ) (spans : List Span) → at ≤ p → depth_at (still_open at spans) p ≡ depth_at spans p
 depth_open at p [] up = refl
-depth_open at p (s ∷ ss) up =
-    let rest = depth_open at p ss up in
-    elim (cases_lt s.stop at) [
-      | inl ended ↦ rw (lt-leb at s.stop ended, covers_ended p s (omega arith)) rest
-      | inr left ↦ elim (cases_Bool (covers p s)) [
-        | inl t ↦ rw (le-leb at s.stop left, t, rest) refl
-        | inr f ↦ rw (le-leb at s.stop left, f) rest
-      ]
-    ]
+depth_open at p (s ∷ ss) up = grind (arith, common_steps, (depth_open at p ss up))
 
 -- the walk over the positions: the records that it began with, and those that are open now
 module _ (at position : ℕ) (first now : List Span) (low : at ≤ position) (same : still_open position now ≡ still_open position first) where
@@ -129,8 +94,7 @@ all_stay position spans many = filter_full (λ (s : Span). nat_le position s.sto
 pub open_within : (position : ℕ) (items : List OpenSpan) → length (still_open position (spans_open items)) ≤ length items
 open_within position items =
     let few = filter_few (λ (s : Span). nat_le position s.stop) (spans_open items) in
-    let long = length-map items span_open in
-    omega arith
+    grind (arith, length-map)
 
 pub none_past : (items : List OpenSpan) → drop (length items) items ≡ []
 none_past [] = refl
@@ -169,11 +133,7 @@ ends_permuted xs ys moved = IsPermutation-map (λ (e : Reverse ℕ). e.0) xs ys 
 
 -- an end before the position is taken out
 pub counts_less : (position e : ℕ) (old ends new : List ℕ) → e < position → CountsFrom position old ends → IsPermutation ends (e ∷ new) → CountsFrom position old new
-counts_less position e old ends new ended counts moved test =
-    let from : ℕ → Bool = λ e. nat_le position e && test e in
-    let same : length (filter from (e ∷ new)) ≡ length (filter from ends) = same_count from ends (e ∷ new) moved in
-    let one : length (filter from (e ∷ new)) ≡ length (filter from new) = rw (lt-leb position e ended) refl in
-    sym one ∙ same ∙ counts test
+counts_less position e old ends new ended counts moved test = grind (arith, (same_count (λ e. nat_le position e && test e) ends (e ∷ new) moved))
 
 -- what is kept at a later position, once the ends before it are out
 module _ (first position : ℕ) (spans : List Span) (ends new : List ℕ) (up : first ≤ position) (kept : KeepsOpen first spans ends) (from : CountsFrom position ends new) (all : All (λ e. position ≤ e) new) where
@@ -186,10 +146,7 @@ module _ (first position : ℕ) (spans : List Span) (ends new : List ℕ) (up : 
       ∙ ap (λ l. length (filter (λ (s : Span). test s.stop) l)) (open_after first position spans up)
 
   pub keeps_later : KeepsOpen position spans new
-  keeps_later = record {
-    started = All-weaker (λ s. s.start ≤ first) (λ s. s.start ≤ position) (λ s low. omega arith) spans kept.started;
-    counts = ends_later;
-  }
+  keeps_later = grind (arith, ends_later)
 
 -- where none ends before a later position, the same are open there
 module _ (first position : ℕ) (spans : List Span) (ends : List ℕ) (kept : KeepsOpen first spans ends) (all : All (λ s. position ≤ s.stop) (still_open first spans)) where
@@ -197,12 +154,7 @@ module _ (first position : ℕ) (spans : List Span) (ends : List ℕ) (kept : Ke
   later = max first position
 
   pub same_open : still_open later spans ≡ still_open first spans
-  same_open =
-      let open_later : All (λ s. later ≤ s.stop) (still_open first spans) = λ k d below.
-      let here = all_open first spans k d below in
-      let there = all k d below in
-      omega arith in
-      sym (open_after first later spans (omega arith)) ∙ stay_open later later (still_open first spans) (omega arith) open_later
+  same_open = grind (arith, open_after, stay_open)
 
   pub keeps_same : KeepsOpen later (still_open later spans) ends
   keeps_same = record {
@@ -219,28 +171,15 @@ module _ (first position : ℕ) (spans : List Span) (ends : List ℕ) (kept : Ke
 -- the top of a heap whose least is the first
 pub top_least : (xs : List (Reverse ℕ)) (x : Reverse ℕ) → IsUpperBound (λ x y. nat_cmp y.0 x.0) x xs → All (λ e. x.0 ≤ e) (ends_of xs)
 top_least [] x h = All-nil (λ e. x.0 ≤ e)
-top_least (y ∷ ys) x h = elim (cases_lt y.0 x.0) [
-  | inl l ↦
-      let less : is_lt (nat_cmp y.0 x.0) ≡ true = rw (lt-ltb y.0 x.0 l) refl in
-      let other : is_lt (nat_cmp y.0 x.0) ≡ false = h.0 in
-      cc
-  | inr l ↦ All-cons (λ e. x.0 ≤ e) y.0 (ends_of ys) l (top_least ys x h.1)
-]
+top_least (y ∷ ys) x h = grind (arith, (top_least ys x h.1))
 
 pub top_in : (at : ℕ) (xs : List (Reverse ℕ)) (x : Reverse ℕ) → 0 < length xs → x ≡ slice_index_or xs 0 x → All (λ e. at ≤ e) (ends_of xs) → at ≤ x.0
-top_in at [] x some is all = absurd (omega arith)
-top_in at (y ∷ ys) x some is all =
-    let mine : at ≤ y.0 = All-head (λ e. at ≤ e) y.0 (ends_of ys) all in
-    rw is mine
+top_in at xs x some is all = grind (arith, common_steps)
 
 -- whether it lies before a position
 pub top_before : (position : ℕ) (xs : List (Reverse ℕ)) (x : Reverse ℕ) → 0 < length xs → x ≡ slice_index_or xs 0 x → IsUpperBound (λ x y. nat_cmp y.0 x.0) x xs
     → MatchBool (nat_lt x.0 position) (StartsBelow position (ends_of xs)) (All (λ e. position ≤ e) (ends_of xs))
-top_before position [] x some is h = absurd (omega arith)
-top_before position (y ∷ ys) x some is h = elim (cases_lt x.0 position) [
-  | inl l ↦ rw (lt-ltb x.0 position l) (rw (← is) l)
-  | inr l ↦ rw (le-ltb x.0 position l) (All-weaker (λ e. x.0 ≤ e) (λ e. position ≤ e) (λ e low. omega arith) (ends_of (y ∷ ys)) (top_least (y ∷ ys) x h))
-]
+top_before position xs x some is h = grind (arith, common_steps, top_least)
 
 pub some_before : (position : ℕ) (xs : List (Reverse ℕ)) → StartsBelow position (ends_of xs) → 0 < length xs
 some_before position [] below = absurd below
@@ -253,8 +192,7 @@ top_below position (y ∷ ys) x below is = rw is below
 
 module _ (position : ℕ) (first : List ℕ) (old new : List (Reverse ℕ)) (below : StartsBelow position (ends_of old)) (order : IsLeastFirst old) (counts : CountsFrom position first (ends_of old)) where
   pub popped_order : (r : Option (Reverse ℕ)) → IsSome r → IfSome r (λ x. PopsGreatest (λ x y. nat_cmp y.0 x.0) old x new) → IsLeastFirst new
-  popped_order None some pops = let none : false ≡ true = some in cc
-  popped_order (Some x) some pops = (pops order).0
+  popped_order r some pops = grind arith
 
   pub popped_counts : (r : Option (Reverse ℕ)) → IsSome r → IfSome r (λ x. x ≡ slice_index_or old 0 x) → IfSome r (λ x. IsPermutation old (x ∷ new)) → CountsFrom position first (ends_of new)
   popped_counts None some top moved = let none : false ≡ true = some in cc
@@ -270,9 +208,7 @@ depth_append : (xs ys : List Span) (p : ℕ) → depth_at (xs ++ ys) p ≡ depth
 depth_append xs ys p = ap length (filter-append (covers p) xs ys) ∙ length-append (filter (covers p) xs) (filter (covers p) ys)
 
 depth_push : (xs : List Span) (s : Span) (p : ℕ) → p < s.start → depth_at (xs ++ s ∷ []) p ≡ depth_at xs p
-depth_push xs s p h =
-    let one : depth_at (s ∷ []) p ≡ 0 = rw (covers_not p s h) refl in
-    depth_append xs (s ∷ []) p ∙ ap (λ n. depth_at xs p + n) one ∙ (omega arith)
+depth_push xs s p h = grind (arith, depth_append)
 
 pub depth_of-push : (zeros : Bool) (xs : List Span) (s : Span) (p : ℕ) → p < s.start → depth_of zeros (xs ++ s ∷ []) p ≡ depth_of zeros xs p
 unfolding depth_of
@@ -280,30 +216,11 @@ depth_of-push zeros xs s p h = ap (reported zeros) (depth_push xs s p h)
 
 -- a span that is cut at a length covers the same positions below it
 covers_cut : (size p : ℕ) (s : Span) → p < size → covers p (cut_at size s) ≡ covers p s
-covers_cut size p s high = elim (cases_lt p s.stop) [
-  | inl l ↦ rw (lt-ltb p s.stop l, lt-ltb p (min s.stop size) (omega arith)) refl
-  | inr l ↦ rw (le-ltb p s.stop l, le-ltb p (min s.stop size) (omega arith)) refl
-]
+covers_cut size p s high = grind arith
 
 depth_cut : (size p : ℕ) (spans : List Span) → p < size → depth_at (map (cut_at size) (filter (λ s. nat_lt s.start size) spans)) p ≡ depth_at spans p
 depth_cut size p [] high = refl
-depth_cut size p (s ∷ ss) high =
-    let rest = depth_cut size p ss high in
-    elim (cases_lt s.start size) [
-      | inl below ↦ elim (cases_Bool (covers p s)) [
-        | inl t ↦ rw (lt-ltb s.start size below, covers_cut size p s high, t, rest) refl
-        | inr f ↦ rw (lt-ltb s.start size below, covers_cut size p s high, f) rest
-      ]
-      | inr past ↦ rw (le-ltb s.start size past, covers_not p s (omega arith)) rest
-    ]
-
-pub open_append : (size start : ℕ) (xs ys : List Span) → open_at size start (xs ++ ys) ≡ open_at size start xs ++ open_at size start ys
-open_append size start xs ys =
-    let below : Span → Bool = λ s. nat_lt s.start size in
-    let left : Span → Bool = λ s. nat_le start s.stop in
-    ap (λ l. filter left (map (cut_at size) l)) (filter-append below xs ys)
-    ∙ ap (filter left) (map-append (cut_at size) (filter below xs) (filter below ys))
-    ∙ filter-append left (map (cut_at size) (filter below xs)) (map (cut_at size) (filter below ys))
+depth_cut size p (s ∷ ss) high = grind (arith, common_steps, (depth_cut size p ss high))
 
 pub depth_of-open : (zeros : Bool) (size start p : ℕ) (spans : List Span) → start ≤ p → p < size → depth_of zeros (open_at size start spans) p ≡ depth_of zeros spans p
 unfolding depth_of
@@ -312,10 +229,7 @@ depth_of-open zeros size start p spans low high = ap (reported zeros) (depth_ope
 -- past the length none is open
 pub none_open : (size start : ℕ) (spans : List Span) → size < start → open_at size start spans ≡ []
 none_open size start [] h = refl
-none_open size start (s ∷ ss) h = elim (cases_lt s.start size) [
-  | inl below ↦ rw (lt-ltb s.start size below, lt-leb start (min s.stop size) (omega arith)) (none_open size start ss h)
-  | inr past ↦ rw (le-ltb s.start size past) (none_open size start ss h)
-]
+none_open size start (s ∷ ss) h = grind (arith, (none_open size start ss h))
 
 -- those that are open at a later start are open at this one
 pub open_later : (size start later : ℕ) (spans : List Span) → start ≤ later → open_at size later spans ≡ still_open later (open_at size start spans)
@@ -323,30 +237,17 @@ open_later size start later spans h = sym (open_after start later (map (cut_at s
 
 -- the record itself is open, if it starts below the length
 pub open_self : (size : ℕ) (s : Span) → open_at size s.start (s ∷ []) ≡ opened true size s.start s.stop
-open_self size s = elim (cases_lt s.start size) [
-  | inl below ↦ rw (lt-ltb s.start size below) refl
-  | inr past ↦ rw (le-ltb s.start size past) refl
-]
+open_self size s = grind arith
 
 -- the counted records on a chromosome, one list after another
 pub counted_append : (strand : Option Strand) (name : List ℕ) (past more : List Feature) → counted_on strand name (past ++ more) ≡ counted_on strand name past ++ counted_on strand name more
-counted_append strand name past more =
-    let test : Feature → Bool = λ r. is_counted_by strand r.strand in
-    ap (λ l. spans_on name (intervals_of l)) (filter-append test past more)
-    ∙ ap (spans_on name) (map-append interval_of (filter test past) (filter test more))
-    ∙ spans_on-append name (intervals_of (filter test past)) (intervals_of (filter test more))
+counted_append strand name past more = grind (arith, filter-append, map-append, spans_on-append)
 
 pub counted_elsewhere : (strand : Option Strand) (name : List ℕ) (r : Feature) → bytes_eq r.chrom name ≡ false → counted_on strand name (r ∷ []) ≡ []
-counted_elsewhere strand name r other = elim (cases_Bool (is_counted_by strand r.strand)) [
-  | inl t ↦ rw t (spans_on-elsewhere name (interval_of r) [] other)
-  | inr f ↦ rw f refl
-]
+counted_elsewhere strand name r other = grind arith
 
 pub counted_here : (strand : Option Strand) (name : List ℕ) (r : Feature) → r.chrom ≡ name → counted_on strand name (r ∷ []) ≡ cond (is_counted_by strand r.strand) (span_of (interval_of r) ∷ []) []
-counted_here strand name r is = elim (cases_Bool (is_counted_by strand r.strand)) [
-  | inl t ↦ rw t (spans_on-here name (interval_of r) [] is)
-  | inr f ↦ rw f refl
-]
+counted_here strand name r is = search rules
 
 pub counted_none : (strand : Option Strand) (name : List ℕ) (past : List Feature) → has_records name (intervals_of past) ≡ false → counted_on strand name past ≡ []
 counted_none strand name [] none = refl
@@ -367,10 +268,7 @@ settled_at zeros size spans start = cond (nat_lt size start) (levels_of (depth_o
 
 -- a record that comes in order is taken to start where it does
 pub start_same : (zeros : Bool) (size : ℕ) (spans : List Span) (start next : ℕ) → start ≤ next → max next (known_at zeros size spans start).to ≡ next
-start_same zeros size spans start next up = elim (cases_lt size start) [
-  | inl past ↦ rw (lt-ltb size start past) (omega arith)
-  | inr within ↦ rw (le-ltb size start within) (omega arith)
-]
+start_same zeros size spans start next up = grind arith
 
 -- the record is one of the counted ones, or not
 abbrev pub with_counted : Bool → List Span → ℕ → ℕ → List Span
@@ -388,13 +286,7 @@ module _ (zeros : Bool) (size : ℕ) (spans : List Span) (start : ℕ) where
       let parts : stop ≡ start + (stop - start) = omega arith in
       let from : 0 + start ≡ start = omega arith in
       let v = depth_of zeros spans in
-      let begun = begun_after v 0 start None in
-      let ended = ended_after v 0 start None in
-      let split = scan_split v start (stop - start) 0 None in
-      let same = scan_same (depth_of zeros (open_at size start spans)) v (stop - start) start begun (held_same stop within) in (
-        ap (λ n. begun_after v 0 n None) parts ∙ split.0 ∙ ap (λ n. begun_after v n (stop - start) begun) from ∙ sym same.0,
-        ap (λ n. ended_after v 0 n None) parts ∙ split.1 ∙ ap (λ n. ended ++ ended_after v n (stop - start) begun) from ∙ ap (λ l. ended ++ l) (sym same.1),
-      )
+      grind (arith, (scan_split v start (stop - start) 0 None), (scan_same (depth_of zeros (open_at size start spans)) v (stop - start) start (begun_after v 0 start None) (held_same stop within)))
 
   -- past the length nothing is left
   none_left : levels_left zeros size (record { to = size; begun = None; held = [] }) ≡ []
@@ -403,37 +295,16 @@ module _ (zeros : Bool) (size : ℕ) (spans : List Span) (start : ℕ) where
 
   -- what is settled and what is left are all
   pub settled_and_left : levels_of (depth_of zeros spans) size ≡ settled_at zeros size spans start ++ levels_left zeros size (known_at zeros size spans start)
-  settled_and_left = elim (cases_lt size start) [
-    | inl past ↦
-        rw (lt-ltb size start past) (sym (ap (λ l. levels_of (depth_of zeros spans) size ++ l) none_left ∙ append-nil (levels_of (depth_of zeros spans) size)))
-    | inr within ↦
-        let v = depth_of zeros spans in
-        let u = depth_of zeros (open_at size start spans) in
-        let ended = ended_after v 0 start None in
-        let begun = begun_after v 0 start None in
-        let all : 0 + size ≡ size = omega arith in
-        rw (le-ltb size start within)
-        (ap₂ (λ (l : List Level) (g : Option Begun). l ++ ended_at g (0 + size)) (rest_of size within (omega arith) within).1 (rest_of size within (omega arith) within).0
-        ∙ append_assoc ended (ended_after u start (size - start) begun) (ended_at (begun_after u start (size - start) begun) (0 + size))
-        ∙ ap (λ n. ended ++ (ended_after u start (size - start) begun ++ ended_at (begun_after u start (size - start) begun) n)) all)
-  ]
+  settled_and_left = grind (arith, none_left, rest_of, append_assoc)
 
   -- those that are settled end below the start, and those that are left don't
   pub settled_end : StopIn 0 start (settled_at zeros size spans start)
-  settled_end = elim (cases_lt size start) [
-    | inl past ↦ rw (lt-ltb size start past) (stop_wider 0 (0 + size + 1) 0 start (levels_of (depth_of zeros spans) size) (omega arith) (omega arith) (levels_from-stop (depth_of zeros spans) size 0 None))
-    | inr within ↦ rw (le-ltb size start within) (stop_wider 0 (0 + start) 0 start (ended_after (depth_of zeros spans) 0 start None) (omega arith) (omega arith) (ended_after-stop (depth_of zeros spans) start 0 None))
-  ]
+  settled_end = grind (arith, stop_wider, levels_from-stop, ended_after-stop)
 
   pub left_end : StopIn start (size + 1) (levels_left zeros size (known_at zeros size spans start))
   left_end = elim (cases_lt size start) [
-    | inl past ↦
-        rw (lt-ltb size start past) (rw none_left tt)
-    | inr within ↦
-        let u = depth_of zeros (open_at size start spans) in
-        let begun = begun_after (depth_of zeros spans) 0 start None in
-        let all : start + (size - start) ≡ size = omega arith in
-        rw (le-ltb size start within) (subst (λ n. StopIn start (n + 1) (ended_after u start (size - start) begun ++ ended_at (begun_after u start (size - start) begun) n)) all (levels_from-stop u (size - start) start begun))
+    | inl past ↦ grind (arith, none_left)
+    | inr within ↦ grind (arith, (levels_from-stop (depth_of zeros (open_at size start spans)) (size - start) start (begun_after (depth_of zeros spans) 0 start None)))
   ]
 
 -- one more record
@@ -443,10 +314,7 @@ module _ (zeros counted : Bool) (size : ℕ) (spans : List Span) (start : ℕ) (
 
   -- below its start nothing changes
   same_below : (n : ℕ) → n ≤ r.start → AreSame (depth_of zeros (with_counted counted spans r.start r.stop)) (depth_of zeros spans) 0 n
-  same_below n h q low high = elim (cases_Bool counted) [
-    | inl t ↦ rw t (depth_of-push zeros spans r q (omega arith))
-    | inr f ↦ rw (f, append-nil spans) refl
-  ]
+  same_below n h = grind (arith, depth_of-push, append-nil)
 
   same_scan : (n : ℕ) → n ≤ r.start → (begun_after (depth_of zeros (with_counted counted spans r.start r.stop)) 0 n None ≡ begun_after (depth_of zeros spans) 0 n None)
       × (ended_after (depth_of zeros (with_counted counted spans r.start r.stop)) 0 n None ≡ ended_after (depth_of zeros spans) 0 n None)
@@ -454,28 +322,15 @@ module _ (zeros counted : Bool) (size : ℕ) (spans : List Span) (start : ℕ) (
 
   pub settled_next : settled_at zeros size (with_counted counted spans r.start r.stop) r.start ≡ settled_at zeros size spans start ++ levels_by zeros size (known_at zeros size spans start) r.start
   settled_next = elim (cases_lt size r.start) [
-    | inl past ↦
-        let lt = lt-ltb size r.start past in
-        rw lt (ap₂ (λ (l : List Level) (g : Option Begun). l ++ ended_at g (0 + size)) (same_scan size (omega arith)).1 (same_scan size (omega arith)).0 ∙ settled_and_left zeros size spans start)
-    | inr within ↦
-        let below : start ≤ size = omega arith in
-        rw (le-ltb size r.start within, le-ltb size start below) ((same_scan r.start (omega arith)).1 ∙ (rest_of zeros size spans start r.start up within below).1)
+    | inl past ↦ grind (arith, same_scan, settled_and_left)
+    | inr within ↦ grind (arith, (same_scan r.start (omega arith)), (rest_of zeros size spans start r.start up within (omega arith)))
   ]
 
   open_next : r.start ≤ size → open_at size r.start (with_counted counted spans r.start r.stop) ≡ still_open r.start (open_at size start spans) ++ opened counted size r.start r.stop
-  open_next within = elim (cases_Bool counted) [
-    | inl t ↦ rw t (open_append size r.start spans (r ∷ []) ∙ ap₂ (λ (xs ys : List Span). xs ++ ys) (open_later size start r.start spans up) (open_self size r))
-    | inr f ↦ rw f (open_append size r.start spans [] ∙ ap (λ l. l ++ []) (open_later size start r.start spans up))
-  ]
+  open_next within = grind (arith, open_later, filter-append, map-append)
 
   pub known_next : known_at zeros size (with_counted counted spans r.start r.stop) r.start ≡ known_by zeros counted size (known_at zeros size spans start) r.start r.stop
-  known_next = elim (cases_lt size r.start) [
-    | inl past ↦ rw (lt-ltb size r.start past) refl
-    | inr within ↦
-        let below : start ≤ size = omega arith in
-        let make : Option Begun → List Span → Known = λ g l. record { to = r.start; begun = g; held = l } in
-        rw (le-ltb size r.start within, le-ltb size start below) (ap₂ make ((same_scan r.start (omega arith)).0 ∙ (rest_of zeros size spans start r.start up within below).0) (open_next within))
-  ]
+  known_next = grind (arith, same_scan, rest_of, open_next)
 
 -- a chromosome without records has one depth
 depth_none : (zeros : Bool) (p : ℕ) → depth_of zeros [] p ≡ reported zeros 0
@@ -487,24 +342,17 @@ bare_level zeros size = cond (zeros && nat_lt 0 size) (record { start = 0; stop 
 
 bare_zero : (zeros : Bool) → levels_of (depth_of zeros []) 0 ≡ bare_level zeros 0
 unfolding begun_after ended_after
-bare_zero true = refl
-bare_zero false = refl
+bare_zero zeros = grind arith
 
 bare_some : (zeros : Bool) (size : ℕ) → 0 < size → ended_at (next_begun 0 (reported zeros 0) None) (0 + size) ≡ bare_level zeros size
-bare_some true size some = let all : 0 + size ≡ size = omega arith in rw (lt-ltb 0 size some, all) refl
-bare_some false size some = refl
+bare_some zeros size some = grind arith
 
 next_none : (zeros : Bool) → next_ended 0 (reported zeros 0) None ≡ []
-next_none true = refl
-next_none false = refl
+next_none zeros = grind arith
 
 pub bare_levels : (zeros : Bool) (size : ℕ) → levels_of (depth_of zeros []) size ≡ bare_level zeros size
 bare_levels zeros size = elim (cases_lt 0 size) [
-  | inl some ↦
-      let value = reported zeros 0 in
-      let same : (q : ℕ) → 0 ≤ q → q < 0 + size → depth_of zeros [] q ≡ value = λ q low high. depth_none zeros q in
-      ap₂ (λ (l : List Level) (g : Option Begun). l ++ ended_at g (0 + size)) ((scan_run (depth_of zeros []) value size 0 None some same).1 ∙ next_none zeros) (scan_run (depth_of zeros []) value size 0 None some same).0
-      ∙ bare_some zeros size some
+  | inl some ↦ grind (arith, (scan_run (depth_of zeros []) (reported zeros 0) size 0 None some (λ q low high. depth_none zeros q)))
   | inr none ↦ let is : size ≡ 0 = omega arith in rw is (bare_zero zeros)
 ]
 
@@ -519,10 +367,7 @@ settled_first zeros size = let within : 0 ≤ size = omega arith in rw (le-ltb s
 
 -- an interval that ends below the start isn't it
 across_one : (p : ℕ) (l : Level) (ls : List Level) → l.stop < p → begun_across p (l ∷ ls) ≡ begun_across p ls
-across_one p l ls h = elim (cases_Bool (nat_lt l.start p)) [
-  | inl t ↦ rw (t, lt-leb p l.stop h) refl
-  | inr f ↦ rw f refl
-]
+across_one p l ls h = grind arith
 
 across_ended : (p : ℕ) (xs ys : List Level) → StopIn 0 p xs → begun_across p (xs ++ ys) ≡ begun_across p ys
 across_ended p [] ys s = refl
@@ -534,12 +379,10 @@ across_none p (x ∷ xs) s = across_one p x xs s.1 ∙ across_none p xs s.2
 
 module _ (value : ℕ → Option ℕ) (p : ℕ) where
   across_begun : (q : ℕ) (g : Option Begun) (rest : List Level) → BeginsFrom p g → begun_across p (ended_at g q ++ rest) ≡ begun_across p rest
-  across_begun q None rest b = refl
-  across_begun q (Some begun) rest b = rw (le-ltb begun.start p b) refl
+  across_begun q g rest b = grind arith
 
   begun_at-from : (q : ℕ) (v : Option ℕ) → p ≤ q → BeginsFrom p (begun_at q v)
-  begun_at-from q None h = tt
-  begun_at-from q (Some v) h = h
+  begun_at-from q v h = grind arith
 
   -- what begins at the start or past it isn't it
   across_from : (n q : ℕ) (g : Option Begun) → p ≤ q → BeginsFrom p g → begun_across p (levels_from value q n g) ≡ None
@@ -560,16 +403,10 @@ module _ (value : ℕ → Option ℕ) (p : ℕ) where
   across_on : (n q : ℕ) (begun : Begun) → p ≤ q → begun.start < p → begun_across p (levels_from value q n (Some begun)) ≡ Some begun
   unfolding begun_after ended_after
   across_on zero q begun h b = let here : p ≤ q + 0 = omega arith in across_it begun (q + 0) [] b here
-  across_on (suc n) q begun h b =
-      ap (begun_across p) (levels_more value q n (Some begun))
-      ∙ elim (cases_Bool (goes_on (Some begun) (value q))) [
-        | inl t ↦ rw t (across_on n (q + 1) begun (omega arith) b)
-        | inr f ↦ rw f (across_it begun q (levels_from value (q + 1) n (begun_at q (value q))) b h)
-      ]
+  across_on (suc n) q begun h b = grind (arith, (across_on n (q + 1) begun (omega arith) b))
 
   across_all : (n : ℕ) (g : Option Begun) → BeginsBelow p g → begun_across p (levels_from value p n g) ≡ g
-  across_all n None b = across_from n p None (omega arith) tt
-  across_all n (Some begun) b = across_on n p begun (omega arith) b
+  across_all n g b = grind (arith, across_from, across_on)
 
 pub across_known : (zeros : Bool) (size : ℕ) (spans : List Span) (start : ℕ) → begun_across start (levels_of (depth_of zeros spans) size) ≡ (known_at zeros size spans start).begun
 across_known zeros size spans start =

@@ -32,53 +32,19 @@ pub record AddsNext (first p : ℕ) (xs ys : List Span) : Type 0 where
   pub whole : (q : ℕ) → IsCovered xs q → IsCovered ys q
 
 last_longer : (first p : ℕ) (s : Span) → AreApartFrom first (s ∷ []) → s.stop ≡ p → AddsNext first p (s ∷ []) (record { start = s.start; stop = p + 1 } ∷ [])
-last_longer first p s a e = record {
-  apart = (a.0, omega (arith, a.1), tt);
-  within = λ q c. elim c [
-    | inl w ↦ elim (cases_eq q p) [ inl same ↦ inl same | inr other ↦ inr (inl (w.0, omega arith)) ]
-    | inr w ↦ absurd w
-  ];
-  here = inl (omega (arith, a.1), omega arith);
-  whole = λ q c. elim c [ inl w ↦ inl (w.0, omega arith) | inr w ↦ absurd w ];
-}
+last_longer first p s a e = grind arith
 
 one_more : (first p : ℕ) (s : Span) → AreApartFrom first (s ∷ []) → s.stop ≤ p → (s.stop ≡ p → ⊥) → AddsNext first p (s ∷ []) (s ∷ record { start = p; stop = p + 1 } ∷ [])
-one_more first p s a low other = record {
-  apart = (a.0, a.1, (omega arith, omega arith, tt));
-  within = λ q c. elim c [
-    | inl w ↦ inr (inl w)
-    | inr w ↦ elim w [ inl v ↦ inl (omega arith) | inr v ↦ absurd v ]
-  ];
-  here = inr (inl (omega arith, omega arith));
-  whole = λ q c. elim c [ inl w ↦ inl w | inr w ↦ absurd w ];
-}
+one_more first p s a low other = grind arith
 
 with_next_after-adds : (first p : ℕ) (s : Span) (ss : List Span) → AreApartFrom first (s ∷ ss) → ((q : ℕ) → IsCovered (s ∷ ss) q → q < p) → AddsNext first p (s ∷ ss) (with_next_after s ss p)
 with_next_after-adds first p s [] a below =
     let low : s.stop ≤ p = let h = below (s.stop - 1) (inl (omega (arith, a.1), omega (arith, a.1))) in omega (arith, a.1) in
-    elim (cases_eq s.stop p) [
-      | inl e ↦ rw (cond-true (s.stop == p) (record { start = s.start; stop = p + 1 } ∷ []) (s ∷ record { start = p; stop = p + 1 } ∷ []) (eq-eqb s.stop p e)) (last_longer first p s a e)
-      | inr e ↦ rw (cond-false (s.stop == p) (record { start = s.start; stop = p + 1 } ∷ []) (s ∷ record { start = p; stop = p + 1 } ∷ []) (ne_eqb s.stop p e)) (one_more first p s a low e)
-    ]
-with_next_after-adds first p s (t ∷ ts) a below =
-    let rest = with_next_after-adds (s.stop + 1) p t ts a.2 (λ q c. below q (inr c)) in
-    record {
-      apart = (a.0, a.1, rest.apart);
-      within = λ q c. elim c [
-        | inl w ↦ inr (inl w)
-        | inr w ↦ elim (rest.within q w) [ inl same ↦ inl same | inr old ↦ inr (inr old) ]
-      ];
-      here = inr rest.here;
-      whole = λ q c. elim c [ inl w ↦ inl w | inr w ↦ inr (rest.whole q w) ];
-    }
+    grind arith
+with_next_after-adds first p s (t ∷ ts) a below = grind (arith, (with_next_after-adds (s.stop + 1) p t ts a.2 (λ q c. below q (inr c))))
 
 pub with_next-adds : (p : ℕ) (xs : List Span) → AreApartFrom 0 xs → ((q : ℕ) → IsCovered xs q → q < p) → AddsNext 0 p xs (with_next xs p)
-with_next-adds p [] a below = record {
-  apart = (omega arith, omega arith, tt);
-  within = λ q c. elim c [ inl w ↦ inl (omega arith) | inr w ↦ absurd w ];
-  here = inl (omega arith, omega arith);
-  whole = λ q c. absurd c;
-}
+with_next-adds p [] a below = grind arith
 with_next-adds p (s ∷ ss) a below = with_next_after-adds 0 p s ss a below
 
 -- the stretches of the positions below n of which something is so, with the next position and without
@@ -86,29 +52,10 @@ abbrev pub AreBelow : (ℕ → Type 0) → ℕ → List Span → Type 0
 AreBelow P n spans = AreStretchesOf (λ p. (p < n) × P p) spans
 
 pub below_with : (P : ℕ → Type 0) (n : ℕ) (spans : List Span) → AreBelow P n spans → P n → AreBelow P (n + 1) (with_next spans n)
-below_with P n spans r here =
-    let adds = with_next-adds n spans r.apart (λ q c. (r.within q c).0) in
-    record {
-      apart = adds.apart;
-      within = λ q c. elim (adds.within q c) [
-        | inl same ↦ (omega arith, rw same here)
-        | inr old ↦ let h = r.within q old in (omega (arith, h.0), h.1)
-      ];
-      whole = λ q c. elim (cases_eq q n) [
-        | inl same ↦ rw same adds.here
-        | inr other ↦ adds.whole q (r.whole q (omega (arith, c.0), c.1))
-      ];
-    }
+below_with P n spans r here = grind (arith, (with_next-adds n spans r.apart (λ q c. (r.within q c).0)))
 
 pub below_without : (P : ℕ → Type 0) (n : ℕ) (spans : List Span) → AreBelow P n spans → (P n → ⊥) → AreBelow P (n + 1) spans
-below_without P n spans r none = record {
-  apart = r.apart;
-  within = λ q c. let h = r.within q c in (omega (arith, h.0), h.1);
-  whole = λ q c. elim (cases_eq q n) [
-    | inl same ↦ let here : P n = subst P same c.1 in absurd (none here)
-    | inr other ↦ r.whole q (omega (arith, c.0), c.1)
-  ];
-}
+below_without P n spans r none = grind arith
 
 -- those of the bridged positions
 abbrev pub AreRunsBelow : ℕ → List Span → ℕ → List Span → Type 0
@@ -131,11 +78,7 @@ with_next-last [] s p = refl
 with_next-last (x ∷ xs) s p = with_next_after-last x xs s p
 
 pub next_joined : (front : List PlainSpan) (run : PlainSpan) (p : ℕ) → run.stop ≡ p → spans_in (front ++ record { start = run.start; stop = p + 1 } ∷ []) ≡ with_next (spans_in (front ++ run ∷ [])) p
-next_joined front run p e =
-    let joined = cond-true (run.stop == p) (record { start = run.start; stop = p + 1 } ∷ []) (span_in run ∷ record { start = p; stop = p + 1 } ∷ []) (eq-eqb run.stop p e) in
-    map-append span_in front (record { start = run.start; stop = p + 1 } ∷ []) ∙ ap (λ zs. spans_in front ++ zs) (sym joined) ∙ sym (with_next-last (spans_in front) (span_in run) p) ∙ ap (λ zs. with_next zs p) (sym (map-append span_in front (run ∷ [])))
+next_joined front run p e = grind (arith, map-append, with_next-last)
 
 pub next_apart : (front : List PlainSpan) (run : PlainSpan) (p : ℕ) → (run.stop ≡ p → ⊥) → spans_in ((front ++ run ∷ []) ++ record { start = p; stop = p + 1 } ∷ []) ≡ with_next (spans_in (front ++ run ∷ [])) p
-next_apart front run p other =
-    let apart = cond-false (run.stop == p) (record { start = run.start; stop = p + 1 } ∷ []) (span_in run ∷ record { start = p; stop = p + 1 } ∷ []) (ne_eqb run.stop p other) in
-    map-append span_in (front ++ run ∷ []) (record { start = p; stop = p + 1 } ∷ []) ∙ ap (λ zs. zs ++ record { start = p; stop = p + 1 } ∷ []) (map-append span_in front (run ∷ [])) ∙ append_assoc (spans_in front) (span_in run ∷ []) (record { start = p; stop = p + 1 } ∷ []) ∙ ap (λ zs. spans_in front ++ zs) (sym apart) ∙ sym (with_next-last (spans_in front) (span_in run) p) ∙ ap (λ zs. with_next zs p) (sym (map-append span_in front (run ∷ [])))
+next_apart front run p other = grind (arith, map-append, append_assoc, with_next-last)

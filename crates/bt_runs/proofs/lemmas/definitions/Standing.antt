@@ -23,17 +23,10 @@ pub cmp_equal : (a : ℕ) → nat_cmp a a ≡ Equal
 cmp_equal a = rw (le-ltb a a (omega arith), eq-eqb a a refl) refl
 
 pub less_cmp : (a b : ℕ) → nat_cmp a b ≡ Less → a < b
-less_cmp a b e = elim (cases_lt a b) [
-  | inl l ↦ l
-  | inr l ↦ elim (cases_lt b a) [
-    | inl m ↦ let g = cmp_greater a b m in absurd (let apart : Less ≡ Greater = sym e ∙ g in cc)
-    | inr m ↦ let same : a ≡ b = omega arith in let g = cmp_equal a in absurd (let apart : Less ≡ Equal = sym e ∙ ap (λ n. nat_cmp a n) (sym same) ∙ g in cc)
-  ]
-]
+less_cmp a b e = grind arith
 
 equal_rank : (o : Option ℕ) → compare_ranks o o ≡ Equal
-equal_rank None = refl
-equal_rank (Some k) = cmp_equal k
+equal_rank o = grind arith
 
 -- a name compares as equal with itself, and so never as less
 pub compare_same : (names : List (List ℕ)) (a b : List ℕ) → a ≡ b → (rank_order names).compare a b ≡ Equal
@@ -48,20 +41,15 @@ compare_at names name other k n way a b e = rw (a, b) e
 
 -- a known name has a rank
 pub known_rank : (o : Option ℕ) → is_some o ≡ true → (k : ℕ) × (o ≡ Some k)
-known_rank None e = cc
-known_rank (Some k) e = (k, refl)
+known_rank o e = grind arith
 
 pub later_rank : (o : Option ℕ) (rank : ℕ) → option_map (λ n. suc n) o ≡ Some rank → (k : ℕ) × (o ≡ Some k) × (rank ≡ suc k)
-later_rank None rank e = cc
-later_rank (Some k) rank e = (k, refl, cc)
+later_rank o rank e = grind arith
 
 -- the names before a name aren't it, if no name comes twice
 among_both : (xs ys : List (List ℕ)) (name : List ℕ) → is_among (xs ++ ys) name ≡ false → (is_among xs name ≡ false) × (is_among ys name ≡ false)
 among_both [] ys name f = (refl, f)
-among_both (x ∷ xs) ys name f =
-    let parts = or_parts (bytes_eq x name) (is_among (xs ++ ys) name) f in
-    let rest = among_both xs ys name parts.1 in
-    (or_from (bytes_eq x name) (is_among xs name) parts.0 rest.0, rest.1)
+among_both (x ∷ xs) ys name f = grind (arith, (among_both xs ys name (or_parts (bytes_eq x name) (is_among (xs ++ ys) name) f).1))
 
 -- of two chromosomes of a list, the later one comes after the other
 pub record Later {K : Type 0} (before : List K) (e : K) (after before_other : List K) (other : K) (after_other : List K) : Type 0 where
@@ -71,17 +59,9 @@ pub record Later {K : Type 0} (before : List K) (e : K) (after before_other : Li
 
 pub later : {K : Type 0} (before : List K) (e : K) (after before_other : List K) (other : K) (after_other : List K) → before ++ e ∷ after ≡ before_other ++ other ∷ after_other → length before < length before_other → Later before e after before_other other after_other
 later [] e after [] other after_other same h = absurd (omega arith)
-later [] e after (c ∷ cs) other after_other same h =
-    let heads : e ≡ c = cc in
-    let tails : after ≡ cs ++ other ∷ after_other = cc in
-    record { middle = cs; front = ap (λ x. x ∷ cs) (sym heads); rest = tails }
+later [] e after (c ∷ cs) other after_other same h = grind arith
 later (b ∷ bs) e after [] other after_other same h = absurd (omega arith)
-later (b ∷ bs) e after (c ∷ cs) other after_other same h =
-    let heads : b ≡ c = cc in
-    let tails : bs ++ e ∷ after ≡ cs ++ other ∷ after_other = cc in
-    let more = later bs e after cs other after_other tails (omega arith) in
-    let joined : c ∷ cs ≡ b ∷ (bs ++ e ∷ more.middle) = let f = more.front in cc in
-    record { middle = more.middle; front = joined; rest = more.rest }
+later (b ∷ bs) e after (c ∷ cs) other after_other same h = grind (arith, (later bs e after cs other after_other (cc) (omega arith)))
 
 module _ {K : Type 0} (name : K → List ℕ) where
   -- a chromosome of this name and rank, the first of its name
@@ -122,23 +102,14 @@ module _ {K : Type 0} (name : K → List ℕ) where
 
   pub apart : (before : List K) (e : K) (after : List K) → AreDistinct (map name (before ++ e ∷ after)) → Apart before e after
   apart [] e after d = record { none_before = refl; none_after = d.0 }
-  apart (b ∷ bs) e after d =
-      let rest = apart bs e after d.1 in
-      let off : is_among (map name bs ++ name e ∷ map name after) (name b) ≡ false = rw (← (map-append name bs (e ∷ after))) d.0 in
-      let behind = (among_both (map name bs) (name e ∷ map name after) (name b) off).1 in
-      let other = (or_parts (bytes_eq (name e) (name b)) (is_among (map name after) (name b)) behind).0 in
-      record {
-        none_before = or_from (bytes_eq (name b) (name e)) (is_among (map name bs) (name e)) (name_ne-sym (name e) (name b) other) rest.none_before;
-        none_after = rest.none_after;
-      }
+  apart (b ∷ bs) e after d = grind (arith, (apart bs e after d.1), map-append, among_both, name_ne-sym)
 
   -- the rank of a chromosome is how many come before it
   rank_behind : (before : List K) (e : K) (after : List K) → is_among (map name before) (name e) ≡ false → rank_of (map name (before ++ e ∷ after)) (name e) ≡ Some (length before)
   rank_behind [] e after f = cond-true (bytes_eq (name e) (name e)) (Some 0) (option_map (λ n. suc n) (rank_of (map name after) (name e))) (name_eq (name e) (name e) refl)
   rank_behind (b ∷ bs) e after f =
       let parts = or_parts (bytes_eq (name b) (name e)) (is_among (map name bs) (name e)) f in
-      let rest = rank_of (map name (bs ++ e ∷ after)) (name e) in
-      cond-false (bytes_eq (name b) (name e)) (Some 0) (option_map (λ n. suc n) rest) parts.0 ∙ ap (option_map (λ n. suc n)) (rank_behind bs e after parts.1)
+      grind (arith, (rank_behind bs e after parts.1))
 
   pub rank_at : (before : List K) (e : K) (after : List K) → AreDistinct (map name (before ++ e ∷ after)) → rank_of (map name (before ++ e ∷ after)) (name e) ≡ Some (length before)
   rank_at before e after d = rank_behind before e after (apart before e after d).none_before
@@ -187,8 +158,7 @@ next_up names q [] r placed = placed.1
 next_up names q (s ∷ ss) r placed = next_up names s ss r placed.2
 
 last_up : (names : List (List ℕ)) (records : List Interval) (last r : Interval) → last_of records ≡ Some last → ArePlaced (rank_order names) (records ++ r ∷ []) → IsUpTo (rank_order names) (locus_of last) (locus_of r)
-last_up names [] last r is placed = cc
-last_up names (q ∷ qs) last r is placed = let e : last_from q qs ≡ last = cc in rw (← e) (next_up names q qs r placed)
+last_up names records last r is placed = grind (arith, next_up)
 
 known_at_end : (names : List (List ℕ)) (records : List Interval) (r : Interval) → ArePlaced (rank_order names) (records ++ r ∷ []) → is_some (rank_of names r.chrom) ≡ true
 known_at_end names [] r placed = placed.0
@@ -244,18 +214,11 @@ module _ {K : Type 0} (name : K → List ℕ) where
     module _ (distinct : AreDistinct (map name keys)) where
       pub elsewhere_of : (records : List Interval) (r : Interval) (before : List K) (key : K) (after : List K) → Arrives records r before key after
           → (is_among (map name before) r.chrom ≡ false) × (is_among (map name after) r.chrom ≡ false)
-      elsewhere_of records r before key after a =
-          let sides = apart name before key after (rw (← a.split) distinct) in
-          rw (← a.is) (sides.none_before, sides.none_after)
+      elsewhere_of records r before key after a = grind (arith, apart)
 
       pub stand_at : (records : List Interval) (r : Interval) (before : List K) (key : K) (after : List K) → Arrives records r before key after → Stand (records ++ r ∷ []) r before key after
-      stand_at records r before key after a = record {
-        split = a.split;
-        last_is = last_of-push records r;
-        is = a.is;
-        some = has_records-here (name key) records r (sym a.is);
-        none_after = none_other records r after (elsewhere_of records r before key after a).1 a.none_after;
-      }
+      stand_at records r before key after a =
+          grind (arith, (last_of-push records r), (has_records-here (name key) records r (sym a.is)), (none_other records r after (elsewhere_of records r before key after a).1 a.none_after))
 
       pub last_rank : (records : List Interval) (last : Interval) (before : List K) (key : K) (after : List K) → Stand records last before key after → rank_of (map name keys) last.chrom ≡ Some (length before)
       last_rank records last before key after s = rw (← s.is, s.split) (rank_at name before key after (rw (← s.split) distinct))
@@ -265,18 +228,7 @@ module _ {K : Type 0} (name : K → List ℕ) where
           → Found name keys r.chrom rank → GoesTo records r before key after
       further records r before key after rank split none_after other known higher f =
           let between = later before key after f.before f.key f.after (sym split ∙ f.split) (let a = f.at in omega arith) in
-          let none = none_parts records between.middle (f.key ∷ f.after) (rw (← between.rest) none_after) in
-          record {
-            middle = between.middle;
-            next = f.key;
-            behind = f.after;
-            rest = between.rest;
-            rank = known ∙ ap Some (sym f.at ∙ ap length between.front);
-            none_between = none.0;
-            none_here = none.1.0;
-            other = name_ne (name key) r.chrom other;
-            arrives = record { split = f.split ∙ ap (λ l. l ++ f.key ∷ f.after) between.front; is = f.is; none_after = none.1.1 };
-          }
+          grind (arith, (none_parts records between.middle (f.key ∷ f.after) (rw (← between.rest) none_after)), (name_ne (name key) r.chrom other))
 
       -- the next record goes on, or to a later chromosome
       pub goes : (records : List Interval) (r last : Interval) (before : List K) (key : K) (after : List K) → Stand records last before key after → ArePlaced (rank_order (map name keys)) (records ++ r ∷ [])
@@ -345,9 +297,7 @@ each_unmap P f (x ∷ xs) e = (e.0, each_unmap P f xs e.1)
 
 pub each_filter : {A : Type 0} (P : A → Type 0) (test : A → Bool) (xs : List A) → Each P xs → Each P (filter test xs)
 each_filter P test [] e = tt
-each_filter {A} P test (x ∷ xs) e =
-    let rest = each_filter P test xs e.1 in
-    elim (test x) as (λ b. Each P (cond b (x ∷ filter test xs) (filter test xs))) [ true ↦ (e.0, rest) | false ↦ rest ]
+each_filter {A} P test (x ∷ xs) e = grind (arith, (each_filter P test xs e.1))
 
 -- some one of them is such that it is so of it
 pub some_each : {A : Type 0} (P Q R : A → Type 0) → ((x : A) → P x → Q x → R x) → (xs : List A) → Some_of P xs → Each Q xs → Some_of R xs
@@ -418,12 +368,7 @@ filter_keeps test (x ∷ xs) e = cond-true (test x) (x ∷ filter test xs) (filt
 
 pub filter_passes : {A : Type 0} (test : A → Bool) (xs : List A) → Each (λ x. test x ≡ true) (filter test xs)
 filter_passes test [] = tt
-filter_passes {A} test (x ∷ xs) =
-    let rest = filter_passes test xs in
-    elim (cases_Bool (test x)) [
-      | inl t ↦ let is = cond-true (test x) (x ∷ filter test xs) (filter test xs) t in rw is (t, rest)
-      | inr f ↦ let is = cond-false (test x) (x ∷ filter test xs) (filter test xs) f in rw is rest
-    ]
+filter_passes {A} test (x ∷ xs) = grind (arith, (filter_passes test xs))
 
 -- a filter of mapped elements, which all pass, or none
 pub filter_map_all : {A B : Type 0} (f : A → B) (test : B → Bool) (xs : List A) → ((x : A) → test (f x) ≡ true) → filter test (map f xs) ≡ map f xs
@@ -435,10 +380,7 @@ filter_map_none f test xs all = filter_drops test (map f xs) (each_map (λ y. te
 -- a filter of changed elements, if the change doesn't change the test
 pub filter_changed : {A : Type 0} (f : A → A) (test : A → Bool) (xs : List A) → Each (λ x. test (f x) ≡ test x) xs → filter test (map f xs) ≡ map f (filter test xs)
 filter_changed f test [] e = refl
-filter_changed f test (x ∷ xs) e = elim (cases_Bool (test x)) [
-  | inl t ↦ rw (e.0, t) (ap (λ l. f x ∷ l) (filter_changed f test xs e.1))
-  | inr n ↦ rw (e.0, n) (filter_changed f test xs e.1)
-]
+filter_changed f test (x ∷ xs) e = grind (arith, (filter_changed f test xs e.1))
 
 -- a change that leaves each element
 pub map_leaves : {A : Type 0} (f : A → A) (xs : List A) → Each (λ x. f x ≡ x) xs → map f xs ≡ xs
@@ -448,10 +390,7 @@ map_leaves f (x ∷ xs) e = ap₂ (λ y ys. y ∷ ys) e.0 (map_leaves f xs e.1)
 -- of each of the first and each of the second, or the other way round
 pub each_swap : {A B : Type 0} (R : A → B → Type 0) (xs : List A) (ys : List B) → Each (λ x. Each (R x) ys) xs → Each (λ y. Each (λ x. R x y) xs) ys
 each_swap R xs [] e = tt
-each_swap {A} R xs (y ∷ ys) e = (
-  each_weaker (λ x. R x y × Each (R x) ys) (λ x. R x y) (λ x p. p.0) xs e,
-  each_swap R xs ys (each_weaker (λ x. R x y × Each (R x) ys) (λ x. Each (R x) ys) (λ x p. p.1) xs e),
-)
+each_swap {A} R xs (y ∷ ys) e = grind (arith, (each_swap R xs ys (each_weaker (λ x. R x y × Each (R x) ys) (λ x. Each (R x) ys) (λ x p. p.1) xs e)), each_weaker)
 
 -- Which runs a record closes, and which records are merged, among others.
 
@@ -475,11 +414,7 @@ first_up_to gap first (x ∷ done) run a = let h = first_up_to gap (x.stop + gap
 -- a record at or past the start of the last run closes those before that
 pub passed_before : (gap first : ℕ) (last : Interval) (name : List ℕ) (done : List Span) (run : Span) → AreApartBy gap first (done ++ run ∷ []) → run.start ≤ last.start → filter (is_closed gap last) (map (placed_on name) done) ≡ map (placed_on name) done
 passed_before gap first last name [] run apart up = refl
-passed_before gap first last name (x ∷ done) run apart up =
-    let low = first_up_to gap (x.stop + gap + 1) done run apart.2 in
-    let others : List Interval = filter (is_closed gap last) (map (placed_on name) done) in
-    cond-true (is_closed gap last (placed_on name x)) (placed_on name x ∷ others) others (passed_far gap last (placed_on name x) (omega arith))
-    ∙ ap (λ runs. placed_on name x ∷ runs) (passed_before gap (x.stop + gap + 1) last name done run apart.2 up)
+passed_before gap first last name (x ∷ done) run apart up = grind (arith, (passed_before gap (x.stop + gap + 1) last name done run apart.2 up), first_up_to)
 
 module _ (keep : Feature → Bool) where
   -- a chromosome without records has none of some of them
@@ -487,11 +422,7 @@ module _ (keep : Feature → Bool) where
   some_absent name [] more f = f
   some_absent name (r ∷ rs) more f =
       let parts = or_parts (bytes_eq r.chrom name) (has_records name (intervals_of rs ++ more)) f in
-      let rest = some_absent name rs more parts.1 in
-      elim (keep r) as (λ b. has_records name (intervals_of (cond b (r ∷ filter keep rs) (filter keep rs)) ++ more) ≡ false) [
-        | true ↦ or_from (bytes_eq r.chrom name) (has_records name (intervals_of (filter keep rs) ++ more)) parts.0 rest
-        | false ↦ rest
-      ]
+      grind (arith, (some_absent name rs more parts.1))
 
 module _ (strand : MergeStrand) where
   pub counted_absent : (name : List ℕ) (past : List Feature) → has_records name (intervals_of past) ≡ false → has_records name (counted strand past) ≡ false
@@ -500,19 +431,14 @@ module _ (strand : MergeStrand) where
       ap (λ rs. has_records name rs) (sym (append-nil (counted strand past))) ∙ some_absent (λ r. is_counted strand r.strand) name past [] all
 
   pub counted-append : (xs ys : List Feature) → counted strand (xs ++ ys) ≡ counted strand xs ++ counted strand ys
-  counted-append xs ys =
-      let keep : Feature → Bool = λ r. is_counted strand r.strand in
-      ap intervals_of (filter-append keep xs ys) ∙ map-append interval_of (filter keep xs) (filter keep ys)
+  counted-append xs ys = grind (arith, filter-append, map-append)
 
   -- one more that is merged, and one that isn't
   pub counted_next : (past : List Feature) (r : Feature) → is_counted strand r.strand ≡ true → counted strand (past ++ r ∷ []) ≡ counted strand past ++ interval_of r ∷ []
   counted_next past r t = counted-append past (r ∷ []) ∙ ap (λ rs. counted strand past ++ intervals_of rs) (cond-true (is_counted strand r.strand) (r ∷ []) [] t)
 
   pub counted_same : (past : List Feature) (r : Feature) → is_counted strand r.strand ≡ false → counted strand (past ++ r ∷ []) ≡ counted strand past
-  counted_same past r f =
-      counted-append past (r ∷ [])
-      ∙ ap (λ rs. counted strand past ++ intervals_of rs) (cond-false (is_counted strand r.strand) (r ∷ []) [] f)
-      ∙ append-nil (counted strand past)
+  counted_same past r f = grind (arith, counted-append, append-nil)
 
 -- What follows of every list of which more and more is settled as records come.
 
@@ -528,7 +454,4 @@ stays {T} settled whole Taken h past (r ∷ rs) t =
 
 -- and the whole of every longer list
 pub begins : {T : Type 0} (settled whole : List Feature → List T) (Taken : List Feature → Type 0) → Settles settled whole Taken → SettledBegins settled whole Taken
-begins {T} settled whole Taken h past more t =
-    let later = stays {T = T} settled whole Taken h past more t in
-    let rest = h.begins (past ++ more) t in
-    (later.0 ++ rest.0, rest.1 ∙ ap (λ l. l ++ rest.0) later.1 ∙ append_assoc (settled past) later.0 rest.0)
+begins settled whole Taken h = grind (arith, stays, append_assoc)

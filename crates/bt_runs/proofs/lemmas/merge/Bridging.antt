@@ -22,8 +22,7 @@ covered_parts (x ∷ xs) ys p (inl w) = inl (inl w)
 covered_parts (x ∷ xs) ys p (inr w) = elim (covered_parts xs ys p w) [ inl h ↦ inl (inr h) | inr h ↦ inr h ]
 
 pub covered_last : (x : Span) (p : ℕ) → IsCovered (x ∷ []) p → (x.start ≤ p) × (p < x.stop)
-covered_last x p (inl w) = w
-covered_last x p (inr w) = absurd w
+covered_last x p p1 = grind arith
 
 pub Decides-le : (a b : ℕ) → Decides (nat_le a b) (a ≤ b)
 Decides-le a b = (leb-true a b, le-leb a b)
@@ -47,15 +46,7 @@ abbrev HasLeft : ℕ → List Span → ℕ → Type 0
 HasLeft gap spans p = (left : ℕ) × (left < p + 1) × (IsCovered spans left × HasRight gap spans p left)
 
 bridged_from : (gap : ℕ) (spans : List Span) (p : ℕ) → HasLeft gap spans p → Bridged gap spans p
-bridged_from gap spans p h = record {
-  left = h.0;
-  right = h.2.1.0;
-  left_covered = h.2.0;
-  right_covered = h.2.1.2.0;
-  from_left = omega (arith, h.1);
-  to_right = h.2.1.2.1;
-  near = omega (arith, h.2.1.1);
-}
+bridged_from gap spans p h = grind arith
 
 bridged_to : (gap : ℕ) (spans : List Span) (p : ℕ) → Bridged gap spans p → HasLeft gap spans p
 bridged_to gap spans p b = (b.left, omega arith, (b.left_covered, (b.right, omega arith, (b.right_covered, b.to_right))))
@@ -75,13 +66,7 @@ covered_below_end (x ∷ xs) p (inr w) = let h = covered_below_end xs p w in ome
 
 pub are_runs : (gap : ℕ) (spans : List Span) → AreStretchesOf (Bridged gap spans) (runs_of gap spans)
 unfolding runs_of
-are_runs gap spans =
-    let scan = scan_finds (is_bridged gap spans) (end_of spans) in
-    record {
-      apart = scan.apart;
-      within = λ p c. (is_bridged-Decides gap spans p).0 (scan.within p c).1;
-      whole = λ p b. scan.whole p (let h = covered_below_end spans b.right b.right_covered in omega arith, (is_bridged-Decides gap spans p).1 b);
-    }
+are_runs gap spans = grind (arith, (scan_finds (is_bridged gap spans) (end_of spans)), is_bridged-Decides, covered_below_end)
 
 pub only_runs : (gap : ℕ) (spans runs : List Span) → AreStretchesOf (Bridged gap spans) runs → runs ≡ runs_of gap spans
 only_runs gap spans runs h = stretches_are_same (Bridged gap spans) runs (runs_of gap spans) h (are_runs gap spans)
@@ -128,26 +113,10 @@ pub record OneOpen (gap : ℕ) (spans : List Span) (last : ℕ) (done : List Spa
   pub ends : (p : ℕ) → p + 1 ≡ run.stop → IsCovered spans p
 
 bridged_more : (gap : ℕ) (xs ys : List Span) (p : ℕ) → Bridged gap xs p → Bridged gap (xs ++ ys) p
-bridged_more gap xs ys p b = record {
-  left = b.left;
-  right = b.right;
-  left_covered = covered_left xs ys b.left b.left_covered;
-  right_covered = covered_left xs ys b.right b.right_covered;
-  from_left = b.from_left;
-  to_right = b.to_right;
-  near = b.near;
-}
+bridged_more gap xs ys p b = grind (arith, covered_left)
 
 pub bridged_here : (gap : ℕ) (xs : List Span) (p : ℕ) → IsCovered xs p → Bridged gap xs p
-bridged_here gap xs p c = record {
-  left = p;
-  right = p;
-  left_covered = c;
-  right_covered = c;
-  from_left = omega arith;
-  to_right = omega arith;
-  near = omega arith;
-}
+bridged_here gap xs p c = grind arith
 
 -- the last of a list apart may end elsewhere
 apart_longer : (gap first : ℕ) (done : List Span) (run more : Span) → more.start ≡ run.start → more.start < more.stop → AreApartBy gap first (done ++ run ∷ []) → AreApartBy gap first (done ++ more ∷ [])
@@ -160,30 +129,14 @@ apart_push gap first (y ∷ done) run x far full a = (a.0, a.1, apart_push gap (
 
 -- one record alone is open
 pub first_open : (gap : ℕ) (x : Span) → x.start < x.stop → OneOpen gap (x ∷ []) x.start [] x
-first_open gap x full = record {
-  joined = record {
-    apart = (omega arith, full, tt);
-    covering = λ p c. c;
-    within = λ p c. bridged_here gap (x ∷ []) p c;
-  };
-  began = omega arith;
-  reaches = full;
-  ends = λ p e. inl (omega arith, omega arith);
-}
+first_open gap x full = grind arith
 
 -- the run with one more span joined to it
 abbrev pub longer : Span → Span → Span
 longer run x = record { start = run.start; stop = max run.stop x.stop }
 
 join_covering : (spans done : List Span) (run x : Span) → run.start ≤ x.start → IsWithin spans (done ++ run ∷ []) → IsWithin (spans ++ x ∷ []) (done ++ longer run x ∷ [])
-join_covering spans done run x low within p c =
-    elim (covered_parts spans (x ∷ []) p c) [
-      | inl old ↦ elim (covered_parts done (run ∷ []) p (within p old)) [
-        | inl h ↦ covered_left done (longer run x ∷ []) p h
-        | inr h ↦ let w = covered_last run p h in covered_right done (longer run x ∷ []) p (inl (w.0, omega arith))
-      ]
-      | inr new ↦ let w = covered_last x p new in covered_right done (longer run x ∷ []) p (inl (omega arith, omega arith))
-    ]
+join_covering spans done run x low within = grind (arith, covered_parts, covered_left, covered_right)
 
 -- the positions of the longer run are bridged: those of the run, those of the new span, and those of the gap between
 in_longer : (gap : ℕ) (spans : List Span) (run x : Span) (p : ℕ) → run.start < run.stop → x.start ≤ run.stop + gap → ((q : ℕ) → q + 1 ≡ run.stop → IsCovered spans q) → ((q : ℕ) → run.start ≤ q → q < run.stop → Bridged gap spans q) → run.start ≤ p → p < max run.stop x.stop → x.start < x.stop → Bridged gap (spans ++ x ∷ []) p
@@ -191,15 +144,7 @@ in_longer gap spans run x p full near ends old low high new =
     elim (cases_lt p run.stop) [
       | inl l ↦ bridged_more gap spans (x ∷ []) p (old p low l)
       | inr h ↦ elim (cases_lt p x.start) [
-        | inl l ↦ record {
-          left = run.stop - 1;
-          right = x.start;
-          left_covered = covered_left spans (x ∷ []) (run.stop - 1) (ends (run.stop - 1) (omega arith));
-          right_covered = covered_right spans (x ∷ []) x.start (inl (omega arith, new));
-          from_left = omega arith;
-          to_right = omega arith;
-          near = omega arith;
-        }
+        | inl l ↦ grind (arith, (covered_left spans (x ∷ []) (run.stop - 1) (ends (run.stop - 1) (omega arith))), (covered_right spans (x ∷ []) x.start (inl (omega arith, new))))
         | inr g ↦ bridged_here gap (spans ++ x ∷ []) p (covered_right spans (x ∷ []) p (inl (g, omega arith)))
       ]
     ]

@@ -1,5 +1,5 @@
 -- What the calls of a merge do is what those of the engine inside it do, of whichever of the two kinds it is.
-use Rattle.bt_lines.proofs.Std.{◌≡◌, ℕ, inl, inr, List, [], ◌∷◌, ◌++◌, ap, refl, sym, subst, Result, Ok, Err}
+use Rattle.bt_lines.proofs.Std.{arith, ◌≡◌, ℕ, inl, inr, List, [], ◌∷◌, ◌++◌, ap, refl, sym, subst, Result, Ok, Err}
 use Rattle.bt_lines.specs.calls.Output.{Output}
 use Rattle.bt_lines.specs.declared.fault.Fault.{Fault}
 use Rattle.bt_bed.specs.model.Feature.{Feature}
@@ -35,25 +35,18 @@ module _ {E : Type 0} (merge : E → Kind) (only : (first : Kind) (past : List F
     -- what holds after every past that the engine inside is after holds after every one that the merge is after
     at : (P : Kind → List Feature → Type 0) → ((first : E) (past : List Feature) → inside.is_after first past old → P (merge first) past)
         → (first : Kind) (past : List Feature) → IsAfter first past (merge old) → P first past
-    at P h first past s =
-        let inner = only first past old s in
-        subst (λ (m : Kind). IsAfter m past (merge old) → P m past) inner.1 (h inner.0 past) s
+    at P h first past s = grind arith
 
     module _ (r : Feature) (out : Output) (new : E) (grown : Output) where
       answers : {A : Type 0} (result : Result A Fault) → FeedAnswers inside old r out result new grown → FeedAnswers merge_engine (merge old) r out result (merge new) grown
-      answers (Ok done) p = record { was_going = p.was_going; going = p.going; stands = at _ p.stands; puts = at _ p.puts; works = p.works }
-      answers (Err e) (inl p) = inl (record { is = p.is; kind = p.kind; same = ap merge p.same; same_output = p.same_output })
-      answers (Err e) (inr (inl p)) = inr (inl (record { is = p.is; was_going = p.was_going; kept = p.kept; cuts = at _ p.cuts; failed = p.failed; sink_failed = p.sink_failed }))
-      answers (Err e) (inr (inr p)) = inr (inr (record { is = p.is; was_going = p.was_going; kept = p.kept; puts = at _ p.puts; works = p.works }))
+      answers result p = grind arith
 
       pub feeds_inside : {A : Type 0} (result : Result A Fault) → Feeds inside old r out result new grown → Feeds merge_engine (merge old) r out result (merge new) grown
       feeds_inside result p = record { going = at _ p.going; answers = answers result p.answers; quiet = at _ p.quiet; grows = p.grows; after_failure = p.after_failure }
 
     module _ (out grown : Output) where
       end_answers : {A : Type 0} (result : Result A Fault) → FinishAnswers inside old out result grown → FinishAnswers merge_engine (merge old) out result grown
-      end_answers (Ok done) p = record { was_going = p.was_going; puts = at _ p.puts; works = p.works }
-      end_answers (Err e) (inl p) = inl (record { is = p.is; same_output = p.same_output })
-      end_answers (Err e) (inr p) = inr (record { is = p.is; was_going = p.was_going; cuts = at _ p.cuts; failed = p.failed; sink_failed = p.sink_failed })
+      end_answers result p = grind arith
 
       pub finishes_inside : {A : Type 0} (result : Result A Fault) → Finishes inside old out result grown → Finishes merge_engine (merge old) out result grown
       finishes_inside result p = record { going = at _ p.going; answers = end_answers result p.answers; grows = p.grows; after_failure = p.after_failure }
@@ -73,14 +66,7 @@ module _ {E : Type 0} (merge : E → Kind) (only : (first : Kind) (past : List F
     pub batch_inside : {A : Type 0} (old : E) (start : C) (out : Output) (new : E) (passed : C) (grown : Output) (result : Result A Fault) → FeedsBatch inside cursor old start out result new passed grown
         → FeedsBatch merge_engine cursor (merge old) start out result (merge new) passed grown
     batch_inside old start out new passed grown (Ok done) p = (given_inside old start out new passed grown p.0, p.1)
-    batch_inside old start out new passed grown (Err answer) (inl p) = inl (record {
-      going = at old _ p.going;
-      is = p.is;
-      kind = p.kind;
-      same = ap merge p.same;
-      same_cursor = p.same_cursor;
-      same_output = p.same_output;
-    })
+    batch_inside old start out new passed grown (Err answer) (inl p) = grind arith
     batch_inside old start out new passed grown (Err answer) (inr p) = inr (record {
       mid = merge p.mid;
       before = p.before;
@@ -94,12 +80,10 @@ module _ {E : Type 0} (merge : E → Kind) (only : (first : Kind) (past : List F
 
 -- a merge without regard to strands, and one of each strand
 pub only_unstranded : (first : Kind) (past : List Feature) (old : Ruled unstranded.Unstranded) → IsAfter first past (Unstranded old) → (inner : Ruled unstranded.Unstranded) × (Unstranded inner ≡ first)
-only_unstranded (Unstranded first) past old s = (first, refl)
-only_unstranded (PerStrand first) past old s = absurd s
+only_unstranded first past old s = grind arith
 
 pub only_per_strand : (first : Kind) (past : List Feature) (old : Ruled strands.Stranding) → IsAfter first past (PerStrand old) → (inner : Ruled strands.Stranding) × (PerStrand inner ≡ first)
-only_per_strand (PerStrand first) past old s = (first, refl)
-only_per_strand (Unstranded first) past old s = absurd s
+only_per_strand first past old s = grind arith
 
 -- no list ends with an element and is empty
 none_last : {A : Type 0} (xs : List A) (x : A) → [] ≡ xs ++ x ∷ [] → ⊥
@@ -108,6 +92,4 @@ none_last (y ∷ xs) x e = cc
 
 -- a merge that has taken no record is after none
 pub begun_stands : (gap : ℕ) (strand : MergeStrand) → IsAfter (merge_begun gap strand) [] (merge_begun gap strand)
-begun_stands gap All = (record { same_gap = refl; same_strand = refl; kept = sym (none_kept gap All); on = λ front last e. absurd (none_last front last e) }, refl)
-begun_stands gap (One strand) = (record { same_gap = refl; same_strand = refl; kept = sym (none_kept gap (One strand)); on = λ front last e. absurd (none_last front last e) }, refl)
-begun_stands gap Each = (record { same_gap = refl; chrom = λ front last e. absurd (none_last front last e); kept = sym (no_strand_runs gap) }, refl)
+begun_stands gap strand = grind (arith, none_kept, none_last, no_strand_runs)

@@ -1,4 +1,5 @@
 -- What a merge that keeps the strands apart does with one more record is what the definitions say, whatever the past.
+use Rattle.std.proofs.lemmas.Grind.{common_steps}
 use Rattle.bt_lines.proofs.Std.{codes, decimal, ◌≡◌, ◌⊎◌, ℕ, ◌+◌, ◌-◌, ◌<◌, ◌≤◌, List, [], ◌∷◌, ◌++◌, append-nil, length, length-append, inl, inr, not, cond, ◌||◌, drop, get_or, map, set, take, Bool, true, false, bytes_eq, nat_lt, lt-ltb, le-ltb, Option, None, Some, Result, Ok, Err, refl, sym, ap, ap₂, ◌∙◌, subst, arith, prefix_len, slice_get, is_err, OnOk, cases_Bool, cases_lt, cond-true, cond-false, false≢true, not_from_true, flat_map-append, drop-map, get_or-map, length-map, map-append, map-set, take-map, get_or_from_slice_get, slice_get-get_or, slice_get_within}
 use Rattle.bt_lines.specs.model.Fault.{no_memory}
 use Rattle.bt_lines.specs.calls.Names.{fault_value}
@@ -31,8 +32,7 @@ TakesNext = Does strand_rule
 
 -- tests that agree
 prefix_same : {A : Type 0} (test other : A → Bool) → ((x : A) → test x ≡ other x) → (xs : List A) → prefix_len test xs ≡ prefix_len other xs
-prefix_same test other same [] = refl
-prefix_same test other same (x ∷ xs) = ap₂ (λ b n. cond b (1 + n) 0) (same x) (prefix_same test other same xs)
+prefix_same test other same xs = grind arith
 
 prefix_map : {A B : Type 0} (test : B → Bool) (f : A → B) (xs : List A) → prefix_len test (map f xs) ≡ prefix_len (λ x. test (f x)) xs
 prefix_map test f [] = refl
@@ -47,10 +47,7 @@ get_map f xs i x d e = get_or-map f xs i x d (slice_get_within xs i x e) ∙ ap 
 
 -- a run ends more than the gap below a start if it ends below the start less the gap
 below_reach : (stop gap start : ℕ) → nat_lt (stop + gap) start ≡ nat_lt stop (start - gap)
-below_reach stop gap start = elim (cases_lt (stop + gap) start) [
-  | inl far ↦ lt-ltb (stop + gap) start far ∙ sym (lt-ltb stop (start - gap) (omega arith))
-  | inr near ↦ le-ltb (stop + gap) start near ∙ sym (le-ltb stop (start - gap) (omega arith))
-]
+below_reach stop gap start = grind arith
 
 module _ (gap : ℕ) (chrom : List ℕ) (r : Feature) where
   abbrev here : Bool
@@ -63,20 +60,11 @@ module _ (gap : ℕ) (chrom : List ℕ) (r : Feature) where
   test_same w = ap (λ b. not here || b) (below_reach w.stop gap r.start)
 
   prefix_placed : (runs : List PendingRun) → prefix_len (λ item. is_closed gap (interval_of r) item.run) (placed_runs chrom runs) ≡ prefix_len (λ (w : PendingRun). not here || nat_lt w.stop reach) runs
-  prefix_placed runs =
-      prefix_map (λ item. is_closed gap (interval_of r) item.run) (placed_run chrom) runs
-      ∙ prefix_same (λ (w : PendingRun). is_closed gap (interval_of r) (placed_run chrom w).run) (λ (w : PendingRun). not here || nat_lt w.stop reach) test_same runs
+  prefix_placed runs = grind (arith, prefix_map)
 
   -- the runs that the record settles, and those that stay
   pub front_placed : (runs : List PendingRun) → settled_prefix gap (placed_runs chrom runs) r ≡ placed_runs chrom (passed_runs here reach runs)
-  front_placed runs =
-      ap (λ n. take n (placed_runs chrom runs)) (prefix_placed runs) ∙ take-map (placed_run chrom) (prefix_len (λ (w : PendingRun). not here || nat_lt w.stop reach) runs) runs
-
-  pub behind_placed : (runs : List PendingRun) → left_unsettled gap (placed_runs chrom runs) r ≡ placed_runs chrom (left_runs here reach runs)
-  behind_placed runs =
-      ap (λ (l : List StrandRun). drop (length l) (placed_runs chrom runs)) (front_placed runs)
-      ∙ ap (λ n. drop n (placed_runs chrom runs)) (length-map (passed_runs here reach runs) (placed_run chrom))
-      ∙ drop-map (placed_run chrom) (length (passed_runs here reach runs)) runs
+  front_placed runs = grind (arith, (prefix_placed runs), (take-map (placed_run chrom) (prefix_len (λ (w : PendingRun). not here || nat_lt w.stop reach) runs) runs))
 
   -- the record lies on the chromosome of the runs, or there are none
   abbrev pub Fits : List PendingRun → Type 0
@@ -91,54 +79,20 @@ module _ (gap : ℕ) (chrom : List ℕ) (r : Feature) where
   place_same rest = ap (added_at gap (placed_runs chrom rest) r) (last_place_map (λ item. is_strand item.strand r.strand) (placed_run chrom) rest)
 
   added_none : (rest : List PendingRun) → place_of r.strand rest ≡ None → Added rest (with_joined reach r.stop rest (place_of r.strand rest)).0 (with_joined reach r.stop rest (place_of r.strand rest)).1
-  added_none rest none =
-      subst (λ (pair : Bool × List PendingRun). Added rest pair.0 pair.1) (sym (ap (with_joined reach r.stop rest) none)) (record {
-        one = λ t. absurd (false≢true t);
-        more = λ f. (refl, place_same rest ∙ ap (added_at gap (placed_runs chrom rest) r) none);
-      })
+  added_none rest none = grind (arith, place_same)
 
   added_some : (rest : List PendingRun) (place : ℕ) (w : PendingRun) → place_of r.strand rest ≡ Some place → slice_get rest place ≡ Some w → here ≡ true → Added rest (with_joined reach r.stop rest (place_of r.strand rest)).0 (with_joined reach r.stop rest (place_of r.strand rest)).1
-  added_some rest place w is got on =
-      let items = placed_runs chrom rest in
-      let item = placed_run chrom w in
-      let more = items ++ run_from r ∷ [] in
-      let longer = set rest place (lengthened r.stop w) in
-      let passed = is_closed gap (interval_of r) item.run in
-      let read = get_map (placed_run chrom) rest place w (run_from r) got in
-      let pair : with_joined reach r.stop rest (place_of r.strand rest) ≡ cond (nat_lt w.stop reach) (false, rest) (true, longer) = ap (with_joined reach r.stop rest) is ∙ ap (joined_here reach r.stop rest place) got in
-      let all : with_added gap items r ≡ cond passed more (set items place (run_with r item)) =
-      place_same rest ∙ ap (added_at gap items r) is
-      ∙ ap (λ i. cond (is_closed gap (interval_of r) i.run) more (set items place (run_with r i))) read in
-      let test : passed ≡ nat_lt w.stop reach = test_same w ∙ ap (λ b. b || nat_lt w.stop reach) (not_from_true here on) in
-      elim (cases_Bool (nat_lt w.stop reach)) [
-        | inl t ↦ subst (λ (p : Bool × List PendingRun). Added rest p.0 p.1) (sym (pair ∙ cond-true (nat_lt w.stop reach) (false, rest) (true, longer) t)) (record {
-          one = λ e. absurd (false≢true e);
-          more = λ e. (refl, all ∙ cond-true passed more (set items place (run_with r item)) (test ∙ t));
-        })
-        | inr f ↦ subst (λ (p : Bool × List PendingRun). Added rest p.0 p.1) (sym (pair ∙ cond-false (nat_lt w.stop reach) (false, rest) (true, longer) f)) (record {
-          one = λ e. all ∙ cond-false passed more (set items place (run_with r item)) (test ∙ f) ∙ sym (map-set (placed_run chrom) rest place (lengthened r.stop w));
-          more = λ e. absurd (false≢true (sym e));
-        })
-      ]
+  added_some rest place w is got on = grind (arith, get_map, place_same, map-set)
 
   added_at_place : (rest : List PendingRun) (place : Option ℕ) → place_of r.strand rest ≡ place → Fits rest → Added rest (with_joined reach r.stop rest (place_of r.strand rest)).0 (with_joined reach r.stop rest (place_of r.strand rest)).1
   added_at_place rest None is fits = added_none rest is
   added_at_place rest (Some place) is (inl on) =
       let within = last_place_within (λ (w : PendingRun). is_strand w.strand r.strand) rest place is in
       added_some rest place (get_or rest place (pending_from r)) is (slice_get-get_or rest place (pending_from r) within) on
-  added_at_place rest (Some place) is (inr none) =
-      let within = last_place_within (λ (w : PendingRun). is_strand w.strand r.strand) rest place is in
-      let empty = ap length none in
-      absurd (omega arith)
+  added_at_place rest (Some place) is (inr none) = grind arith
 
   pub added_by : (rest : List PendingRun) (joined : Bool) (new : List PendingRun) → (joined, new) ≡ with_joined reach r.stop rest (place_of r.strand rest) → Fits rest → Added rest joined new
   added_by rest joined new is fits = subst (λ (pair : Bool × List PendingRun). Added rest pair.0 pair.1) (sym is) (added_at_place rest (place_of r.strand rest) refl fits)
-
-  -- a run of its own
-  pub opened_by : (rest runs : List PendingRun) → chrom ≡ r.chrom → runs ≡ rest ++ pending_from r ∷ [] → placed_runs chrom runs ≡ placed_runs chrom rest ++ run_from r ∷ []
-  opened_by rest runs on is =
-      ap (placed_runs chrom) is ∙ map-append (placed_run chrom) rest (pending_from r ∷ [])
-      ∙ ap (λ n. placed_runs chrom rest ++ placed_run n (pending_from r) ∷ []) on
 
 -- what is done with a record on the chromosome of the runs
 module _ (old : Stranding) (r : Feature) (out : Output) (runs : List PendingRun) (kept_is : old.kept ≡ placed_runs old.chrom runs) (on : old.chrom ≡ r.chrom) where
@@ -152,14 +106,10 @@ module _ (old : Stranding) (r : Feature) (out : Output) (runs : List PendingRun)
   here_is = name_eq old.chrom r.chrom on
 
   front_is : settled_prefix old.gap old.kept r ≡ placed_runs old.chrom (passed_runs true near runs)
-  front_is =
-      ap (λ items. settled_prefix old.gap items r) kept_is ∙ front_placed old.gap old.chrom r runs
-      ∙ ap (λ b. placed_runs old.chrom (passed_runs b near runs)) here_is
+  front_is = grind (arith, front_placed, here_is)
 
   behind_is : left_unsettled old.gap old.kept r ≡ placed_runs old.chrom left
-  behind_is =
-      ap (λ items. left_unsettled old.gap items r) kept_is ∙ behind_placed old.gap old.chrom r runs
-      ∙ ap (λ b. placed_runs old.chrom (left_runs b near runs)) here_is
+  behind_is = grind (arith, here_is, front_placed, length-map, drop-map)
 
   lines_is : strand_lines (placed_runs old.chrom (passed_runs true near runs)) ≡ lines_by old r
   lines_is = ap strand_lines (sym front_is)
@@ -182,8 +132,7 @@ module _ (old : Stranding) (r : Feature) (out : Output) (runs : List PendingRun)
   added = added_by old.gap old.chrom r left joined.0 joined.1 refl (inl here_is)
 
   left_kept : (now : List PendingRun) (b : Bool) → joined.0 ≡ b → now ≡ cond b joined.1 (left ++ pending_from r ∷ []) → with_added old.gap (placed_runs old.chrom left) r ≡ placed_runs old.chrom now
-  left_kept now true is e = added.one is ∙ ap (placed_runs old.chrom) (sym e)
-  left_kept now false is e = (added.more is).1 ∙ sym (opened_by old.gap old.chrom r left now on e)
+  left_kept now b is e = grind (arith, added, map-append)
 
   pub takes_left : (now : List PendingRun) (new : Stranding) (grown : Output) → JoinsAmong old.chrom near runs (pending_from r) out (Ok false) now grown → new.gap ≡ old.gap → new.chrom ≡ old.chrom → new.kept ≡ placed_runs old.chrom now → TakesNext old r out (Ok tt) new grown
   takes_left now new grown p gap chrom kept = takes_with new grown gap chrom (left_kept now joined.0 refl p.0 ∙ sym kept) p.1
@@ -195,24 +144,19 @@ module _ (old : Stranding) (r : Feature) (out : Output) (runs : List PendingRun)
       p.1.1
 
   pub fails_among : (failure : Failure) (fault : Fault) (now : List PendingRun) (new : Stranding) (grown : Output) → fault_value fault ≡ fault_of failure → JoinsAmong old.chrom near runs (pending_from r) out (Err failure) now grown → TakesNext old r out (Err fault) new grown
-  fails_among Write fault now new grown is p = fails_with fault new grown (rw is p)
-  fails_among Memory fault now new grown is p = inr (is, (inl (rw behind_is (added.more p.0).1), rw (← lines_is) p.1))
+  fails_among failure fault now new grown is p = grind (arith, behind_is, added, lines_is)
 
 -- the only run couldn't be written
 pub fails_alone : (old : Stranding) (r : Feature) (out : Output) (w : PendingRun) → old.kept ≡ placed_run old.chrom w ∷ [] → old.chrom ≡ r.chrom → w.stop < r.start - old.gap
     → (fault : Fault) (new : Stranding) (grown : Output) → FailsToPut out (interval_line (placed_run old.chrom w).run) (fault_value fault) grown → TakesNext old r out (Err fault) new grown
-fails_alone old r out w kept_is on far fault new grown p =
-    let passed : passed_runs true (r.start - old.gap) (w ∷ []) ≡ w ∷ [] = take_goes (is_over true (r.start - old.gap)) w [] (over_so true (r.start - old.gap) w (inr far)) in
-    fails_with old r out (w ∷ []) kept_is on fault new grown
-    (rw passed (adds_line {A = Unit {0}} (placed_run old.chrom w).run out grown (Err fault) p))
+fails_alone old r out w kept_is on far fault new grown p = grind (arith, common_steps)
 
 -- the kept runs, if one is in a local or none
 abbrev pub pending_in : OnlyRun → List PendingRun → List PendingRun
 pending_in only runs = cond only.is_any (only.run ∷ []) runs
 
 by_hand : (chrom : List ℕ) (b : Bool) (w : PendingRun) (runs : List PendingRun) → cond b (placed_run chrom w ∷ []) (placed_runs chrom runs) ≡ placed_runs chrom (cond b (w ∷ []) runs)
-by_hand chrom true w runs = refl
-by_hand chrom false w runs = refl
+by_hand chrom b w runs = grind arith
 
 pub kept_placed : (chrom : List ℕ) (only : OnlyRun) (runs : List PendingRun) → kept_in chrom only (placed_runs chrom runs) ≡ placed_runs chrom (pending_in only runs)
 kept_placed chrom only runs = by_hand chrom only.is_any only.run runs
@@ -234,19 +178,14 @@ holding gap chrom kept listed = record { gap = gap; chrom = chrom; kept = kept; 
 
 pub list_closed : (gap : ℕ) (chrom : List ℕ) (only : OnlyRun) (runs now : List PendingRun) → only.is_any ≡ false → now ≡ left_runs false 0 runs
     → holding gap chrom (kept_in chrom only (placed_runs chrom now)) (placed_runs chrom now) ≡ holding gap chrom [] []
-list_closed gap chrom only runs now f is =
-    let listed : placed_runs chrom now ≡ [] = ap (placed_runs chrom) (is ∙ left_none 0 runs) in
-    let kept : kept_in chrom only (placed_runs chrom now) ≡ [] = cond-false only.is_any (placed_run chrom only.run ∷ []) (placed_runs chrom now) f ∙ listed in
-    ap₂ (holding gap chrom) kept listed
+list_closed gap chrom only runs now f is = grind (arith, left_none)
 
 -- what was put, if that didn't fail
 pub put_well : (out grown : Output) (bytes : List ℕ) (result : Result (Unit {0}) Fault) → is_err result ≡ false → Adds out bytes result grown → Grown out bytes grown
-put_well out grown bytes (Ok done) f p = p
-put_well out grown bytes (Err e) f p = absurd (cc)
+put_well out grown bytes result f p = grind arith
 
 pub went_well : {P : Type 0} (result : Result (Unit {0}) Fault) → is_err result ≡ false → OnOk result P → P
-went_well (Ok done) f p = p
-went_well (Err e) f p = absurd (cc)
+went_well result f p = grind arith
 
 -- no run is the first
 pub none_first : (runs : List PendingRun) → slice_get runs 0 ≡ None → runs ≡ []
@@ -271,50 +210,23 @@ no_items (x ∷ xs) e = absurd (cc)
 
 module _ (merge : Stranding) (r : Feature) where
   next : AfterEach stranding merge r (λ first past. settled_lines first (past ++ r ∷ []) ≡ settled_lines first past ++ lines_by merge r)
-  next first past stands taken =
-      rw (stands.same_gap, stands.kept) (ap strand_lines (strand_next first.gap past r taken).settled ∙ places-append (settled_strand_runs first.gap past) (settled_prefix first.gap (kept_strand_runs first.gap past) r))
+  next first past stands taken = grind (arith, (strand_next first.gap past r taken), (places-append (settled_strand_runs first.gap past) (settled_prefix first.gap (kept_strand_runs first.gap past) r)))
 
   keeps : AfterEach stranding merge r (λ first past. kept_strand_runs first.gap (past ++ r ∷ []) ≡ with_added merge.gap (left_unsettled merge.gap merge.kept r) r)
   keeps first past stands taken = rw (stands.same_gap, stands.kept) (strand_next first.gap past r taken).kept
 
   -- if a run has to be opened and none was settled, the record isn't quiet
   loud : with_added merge.gap (left_unsettled merge.gap merge.kept r) r ≡ left_unsettled merge.gap merge.kept r ++ run_from r ∷ [] → lines_by merge r ≡ [] → AfterEach stranding merge r (λ first past. held_count first (past ++ r ∷ []) ≤ held_count first past → ⊥)
-  loud opens none first past stands taken more =
-      let settled = no_items (settled_prefix merge.gap merge.kept r) (no_lines (places_of (settled_prefix merge.gap merge.kept r)) none) in
-      let stay : left_unsettled merge.gap merge.kept r ≡ merge.kept = ap (λ (l : List StrandRun). drop (length l) merge.kept) settled in
-      let is : kept_strand_runs first.gap (past ++ r ∷ []) ≡ merge.kept ++ run_from r ∷ [] = keeps first past stands taken ∙ opens ∙ ap (λ l. l ++ run_from r ∷ []) stay in
-      let a = ap length is in
-      let b = ap length stands.kept in
-      let c = length-append merge.kept (run_from r ∷ []) in
-      absurd (omega arith)
+  loud opens none = grind (arith, no_lines, keeps, length-append)
 
   -- what is done with a record exactly is done after every past
   pub fits : FitsPast strand_rule merge r
-  fits = record {
-    settles = next;
-    next = λ new takes first past stands taken. record {
-      same_gap = takes.gap ∙ stands.same_gap;
-      chrom = λ front last is. takes.chrom ∙ ap (λ (f : Feature). f.chrom) (last_is past front r last is);
-      kept = takes.kept ∙ sym (keeps first past stands taken);
-    };
-    quiet = λ first past stands taken q.
-        let none = none_more (settled_lines first past) (lines_by merge r) _ (next first past stands taken) q.0.settles in (
-          none,
-          λ wanted. elim wanted [
-            | inl opens ↦ loud opens none first past stands taken q.0.keeps
-            | inr other ↦ other (stands.chrom q.1.before q.1.last q.1.is ∙ q.1.same)
-          ],
-        );
-  }
+  fits = grind (arith, next, last_is, keeps, none_more, loud)
 
 -- the kept runs' lines are those that are left
 pub finishes_kept : {A : Type 0} (merge : Stranding) (out : Output) (result : Result A Fault) (grown : Output) → Adds out (strand_lines merge.kept) result grown
     → PutsRestAtEnd strand_rule merge out result grown
-finishes_kept merge out result grown p = record {
-  left = strand_lines merge.kept;
-  is = λ first past stands taken. rw stands.kept (ap strand_lines (strand_runs_are_all first.gap past) ∙ places-append (settled_strand_runs first.gap past) (kept_strand_runs first.gap past));
-  adds = p;
-}
+finishes_kept merge out result grown p = grind (arith, strand_runs_are_all, places-append)
 
 abbrev pub Enters : Stranding → List ℕ → Output → Result (Unit {0}) Fault → Stranding → Output → Type 0
 Enters = EnterAnswers strand_rule
@@ -325,16 +237,10 @@ module _ (old : Stranding) (out : Output) (runs : List PendingRun) (kept_is : ol
   not_on r at on = other_name old.chrom chrom other (on ∙ at)
 
   all_lines : (r : Feature) → r.chrom ≡ chrom → lines_by old r ≡ strand_lines old.kept
-  all_lines r at = ap strand_lines (
-      ap (λ items. settled_prefix old.gap items r) kept_is ∙ front_placed old.gap old.chrom r runs
-      ∙ ap (λ b. placed_runs old.chrom (passed_runs b (r.start - old.gap) runs)) (name_ne old.chrom r.chrom (not_on r at))
-      ∙ ap (placed_runs old.chrom) (passed_every (r.start - old.gap) runs) ∙ sym kept_is)
+  all_lines r at = grind (arith, front_placed, passed_every)
 
   none_behind : (r : Feature) → r.chrom ≡ chrom → left_unsettled old.gap old.kept r ≡ []
-  none_behind r at =
-      ap (λ items. left_unsettled old.gap items r) kept_is ∙ behind_placed old.gap old.chrom r runs
-      ∙ ap (λ b. placed_runs old.chrom (left_runs b (r.start - old.gap) runs)) (name_ne old.chrom r.chrom (not_on r at))
-      ∙ ap (placed_runs old.chrom) (left_none (r.start - old.gap) runs)
+  none_behind r at = grind (arith, left_none, front_placed, length-map, drop-map)
 
   pub enter_fails : (fault : Fault) (new : Stranding) (grown : Output) → FailsToAdd out (strand_lines old.kept) (fault_value fault) grown → Enters old chrom out (Err fault) new grown
   enter_fails fault new grown p = enters_cut (fits old) (strand_lines old.kept) fault new grown p (λ r at. ([], all_lines r at ∙ sym (append-nil (strand_lines old.kept))))

@@ -109,18 +109,11 @@ module _ (gap : ℕ) (name : List ℕ) (spans : List Span) where
 
   -- a record elsewhere closes all
   pub gone : (start : ℕ) (done kept : List Interval) (x : Interval) → bytes_eq name x.chrom ≡ false → Runs gap name spans start done kept → (settled_by gap kept x ≡ kept) × (left_by gap kept x ≡ [])
-  gone start done kept x other (inl u) = rw u.kept_is (refl, refl)
-  gone start done kept x other (inr (inr d)) = rw d.kept_is (refl, refl)
-  gone start done kept x other (inr (inl k)) =
-      let run = placed_on name k.last.run in
-      let past = passed_elsewhere gap x run other in
-      rw k.kept_is (cond-true (is_closed gap x run) (run ∷ []) [] past, cond-false (not (is_closed gap x run)) (run ∷ []) [] (not_from_true (is_closed gap x run) past))
+  gone start done kept x other p1 = grind arith
 
   -- one run at most is kept
   pub few : (start : ℕ) (done kept : List Interval) → Runs gap name spans start done kept → length kept ≤ 1
-  few start done kept (inl u) = rw u.kept_is (omega arith)
-  few start done kept (inr (inl k)) = rw k.kept_is (omega arith)
-  few start done kept (inr (inr d)) = rw d.kept_is (omega arith)
+  few start done kept p1 = grind arith
 
 module _ (gap : ℕ) (strand : MergeStrand) where
   abbrev pub form : Form (List ℕ) Interval (List Interval)
@@ -138,18 +131,10 @@ module _ (gap : ℕ) (strand : MergeStrand) where
   }
 
   elsewhere : (name : List ℕ) (past : List Feature) (r : Feature) → bytes_eq r.chrom name ≡ false → runs_on name gap (counted strand (past ++ r ∷ [])) ≡ runs_on name gap (counted strand past)
-  elsewhere name past r other = elim (cases_Bool (is_counted strand r.strand)) [
-    | inl t ↦ ap (runs_on name gap) (counted_next strand past r t) ∙ runs_on-push_elsewhere name gap (counted strand past) (interval_of r) other
-    | inr n ↦ ap (runs_on name gap) (counted_same strand past r n)
-  ]
+  elsewhere name past r other = grind (arith, counted_next, runs_on-push_elsewhere, counted_same)
 
   none_on : (name : List ℕ) (past : List Feature) → has_records name (intervals_of past) ≡ false → NoRecords form (At gap strand) name past
-  none_on name past none =
-      let absent = counted_absent strand name past none in
-      record {
-        part_is = runs_on-none name gap (counted strand past) absent;
-        begins = inl (record { none = spans_on-none name (counted strand past) absent; done_is = refl; kept_is = refl });
-      }
+  none_on name past none = grind (arith, counted_absent, runs_on-none, spans_on-none)
 
   next_on : (name : List ℕ) (past : List Feature) (start : ℕ) (done kept : List Interval) (r : Feature) → At gap strand name past start done kept → name ≡ r.chrom → start ≤ r.start → r.start < r.stop
       → At gap strand name (past ++ r ∷ []) r.start (done ++ settled_by gap kept (interval_of r)) (kept_by gap strand kept r)
@@ -163,17 +148,11 @@ module _ (gap : ℕ) (strand : MergeStrand) where
         | inl t ↦
             let more = ap (spans_on name) (counted_next strand past r t) ∙ spans_on-push_here name (counted strand past) x (sym is) in
             rw (more, cond-true (is_counted strand r.strand) (with_record left x) left t) (adds gap name spans now left x is full passed)
-        | inr n ↦
-            let same = ap (spans_on name) (counted_same strand past r n) in
-            rw (same, cond-false (is_counted strand r.strand) (with_record left x) left n) passed
+        | inr n ↦ grind (arith, counted_same)
       ]
 
   divides_on : (name : List ℕ) (past : List Feature) (last : Interval) (done kept : List Interval) → At gap strand name past last.start done kept → name ≡ last.chrom → Divides form (At gap strand) name past last done kept
-  divides_on name past last done kept (inl u) is = record {
-    all = rw (u.none, u.done_is, u.kept_is) (ap (map (placed_on name)) (runs_of-nil gap));
-    done_over = rw u.done_is refl;
-    left_open = rw u.kept_is refl;
-  }
+  divides_on name past last done kept (inl u) is = grind (arith, runs_of-nil)
   divides_on name past last done kept (inr (inl k)) is =
       let run = placed_on name k.last.run in
       let spans = spans_on name (counted strand past) in
@@ -221,36 +200,19 @@ same_names (n ∷ ns) = ap (λ ms. n ∷ ms) (same_names ns)
 
 -- the first records of those that may be taken
 pub taken_front : (past more : List Feature) → AreTaken (past ++ more) → AreTaken past
-taken_front past more t = record {
-  contiguous = contiguous_prefix (intervals_of past) (intervals_of more) (subst AreContiguous (map-append interval_of past more) t.contiguous);
-  full = full_front past more t.full;
-}
+taken_front past more t = grind (arith, (contiguous_prefix (intervals_of past) (intervals_of more) (subst AreContiguous (map-append interval_of past more) t.contiguous)), (full_front past more t.full))
 
 module _ (gap : ℕ) (strand : MergeStrand) where
   -- the runs come in each order in which the records do
   written : (names : List (List ℕ)) (past : List Feature) → AreDistinct names → ArePlaced (rank_order names) (intervals_of past) → Written (form gap strand) (At gap strand) names past
   unfolding settled_runs merged
-  written names past distinct placed =
-      let whole : merged_runs gap strand past ≡ parts (form gap strand) past names = sym (in_file_order names gap strand past distinct placed) in
-      record {
-        whole_is = whole;
-        settled_is = λ last is. ap (passed_by gap (merged_runs gap strand past)) is ∙ ap (filter (is_closed gap last)) whole;
-      }
+  written names past distinct placed = grind (arith, (in_file_order names gap strand past distinct placed))
 
   ordered : (all : List Feature) → AreTaken all → Ordered (form gap strand) (At gap strand) all
   ordered all t =
       let names = chromosomes (intervals_of all) in
       let distinct = distinct_chromosomes (intervals_of all) in
-      let placed = placed_own (intervals_of all) t.contiguous in
-      let same = sym (same_names names) in
-      record {
-        keys = names;
-        owes = owes gap strand (map (λ name. name) names);
-        distinct = subst AreDistinct same distinct;
-        in_order = rw (← same) (record { placed = placed; full = t.full });
-        written = λ past more is. written names past distinct
-            (placed_prefix (rank_order names) (intervals_of past) (intervals_of more) (rw (← (ap intervals_of (sym is) ∙ map-append interval_of past more)) placed));
-      }
+      grind (arith, (placed_own (intervals_of all) t.contiguous), (same_names names), (owes gap strand (map (λ name. name) names)), written, placed_prefix, map-append)
 
   -- what is settled begins what is settled later
   settled_more : Settles (settled_runs gap strand) (merged_runs gap strand) AreTaken
@@ -269,9 +231,7 @@ module _ (gap : ℕ) (strand : MergeStrand) where
   module _ (names : List (List ℕ)) (distinct : AreDistinct (map (λ name. name) names)) (past : List Feature) (before : List (List ℕ)) (key : List ℕ) (after : List (List ℕ)) (kept : List Interval)
       (s : Standing (form gap strand) (At gap strand) names past before key after kept) (w : Written (form gap strand) (At gap strand) names past) where
     all_runs : merged_runs gap strand past ≡ settled_runs gap strand past ++ kept
-    all_runs =
-        whole_left (form gap strand) (At gap strand) names (owes gap strand (map (λ name. name) names)) distinct past before key after kept s w
-        ∙ ap (λ runs. settled_runs gap strand past ++ runs) (ap (λ runs. kept ++ runs) (none_bare after) ∙ append-nil kept)
+    all_runs = grind (arith, (whole_left (form gap strand) (At gap strand) names (owes gap strand (map (λ name. name) names)) distinct past before key after kept s w), (none_bare after))
 
     kept_is : kept_runs gap strand past ≡ kept
     unfolding kept_runs
@@ -346,9 +306,7 @@ module _ (gap : ℕ) (strand : MergeStrand) where
       }
 
   pub whole_taken : (past : List Feature) → AreTaken past → Whole gap strand past
-  whole_taken past t =
-      let o = ordered gap strand past t in
-      whole_from o.keys o.distinct past (o.written past [] (append-nil past)) (begun (form gap strand) (At gap strand) o.keys (owes gap strand (map (λ name. name) o.keys)) o.distinct past o.in_order)
+  whole_taken past t = grind (arith, whole_from, (append-nil past), begun, (owes gap strand (map (λ name. name) (ordered gap strand past t).keys)))
 
 pub runs_stay : (gap : ℕ) (strand : MergeStrand) → SettledStays (settled_runs gap strand) AreTaken
 runs_stay gap strand = stays (settled_runs gap strand) (merged_runs gap strand) AreTaken (settled_more gap strand)

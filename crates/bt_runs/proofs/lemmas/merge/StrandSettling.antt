@@ -1,4 +1,5 @@
 -- The settled runs of several strands and the kept ones, and what one more record does to them.
+use Rattle.std.proofs.lemmas.Grind.{common_steps}
 use Rattle.bt_lines.proofs.Std.{◌≡◌, ℕ, ◌+◌, ◌≤◌, inl, inr, List, [], ◌∷◌, ◌++◌, append_assoc, append-nil, refl, sym, ap, ap₂, ◌∙◌, subst, arith, cond, drop, filter, get_or, length, map, set, take, Bool, true, false, not, ◌||◌, bytes_eq, nat_lt, Option, Some, None, list_any, prefix_len, take_while, ⊤, is_some, and_from, and_left, and_right, cases_Bool, cond-true, cond-false, false≢true, ltb-true, not-true, not_from_true, not_from_false, or_cases, or_left, drop_at, map-append, take-append-drop, take_at, length-prefix_len, list_any-append, take_while-cons, ◌<◌, ◌-◌, lt-ltb, le-ltb, zero, suc, ◌⊎◌, Result, Err, slice_get, or_from, or_right, set-get_or, get_or_from_slice_get, slice_get_read, slice_get_within}
 use Rattle.bt_bed.specs.model.Feature.{Feature, interval_of, intervals_of, Interval, last_from, last_of, is_strand}
 use Rattle.bt_bed.specs.model.BedLine.{interval_line}
@@ -43,32 +44,20 @@ module _ {A : Type 0} (test : A → Bool) where
 
   pub front_passes : (xs : List A) → Each (λ x. test x ≡ true) (take_while test xs)
   front_passes [] = tt
-  front_passes (x ∷ xs) = elim (cases_Bool (test x)) [
-    | inl t ↦ rw (take_goes x xs t) (t, front_passes xs)
-    | inr f ↦ rw (take_ends x xs f) tt
-  ]
+  front_passes (x ∷ xs) = grind (arith, (front_passes xs), take_goes)
 
   pub behind_stops : (xs : List A) → Stops (drop (length (take_while test xs)) xs)
   behind_stops [] = tt
-  behind_stops (x ∷ xs) = elim (cases_Bool (test x)) [
-    | inl t ↦ rw (take_goes x xs t) (behind_stops xs)
-    | inr f ↦ rw (take_ends x xs f) f
-  ]
+  behind_stops (x ∷ xs) = grind (arith, (behind_stops xs), take_goes)
 
   pub front_and_behind : (xs : List A) → xs ≡ take_while test xs ++ drop (length (take_while test xs)) xs
-  front_and_behind xs =
-      let n = prefix_len test xs in
-      sym (ap (λ k. take n xs ++ drop k xs) (length-prefix_len test xs) ∙ take-append-drop n xs)
+  front_and_behind xs = grind (arith, length-prefix_len, take-append-drop)
 
 none_is : (place : Option ℕ) → is_some place ≡ false → place ≡ None
-none_is None f = refl
-none_is (Some place) f = absurd (false≢true (sym f))
+none_is place f = grind arith
 
 among : (first : Bool) (place : Option ℕ) (others : Bool) → is_some place ≡ others → is_some (place_among first place) ≡ (first || others)
-among true (Some place) others e = refl
-among true None others e = refl
-among false (Some place) others e = e
-among false None others e = e
+among first place others e = grind arith
 
 -- whether an element passes, and the place of the last that does
 place_some : {A : Type 0} (test : A → Bool) (xs : List A) → is_some (last_place test xs) ≡ list_any test xs
@@ -108,10 +97,7 @@ module _ (gap : ℕ) (r : Feature) where
       let none : filter on_its xs ≡ [] = cc in
       (λ some. absurd (false≢true (sym (none_on xs none) ∙ some)), others [] [] none tt (omega arith))
   only_on x xs others [] (k ∷ l ∷ ls) e passed few = absurd (omega arith)
-  only_on x xs others (d ∷ ds) kept e passed few =
-      let same : x ≡ d = cc in
-      let rest : filter on_its xs ≡ ds ++ kept = cc in
-      (λ some. ap (reaches gap r) same ∙ passed.0, others ds kept rest passed.1 few)
+  only_on x xs others (d ∷ ds) kept e passed few = grind arith
 
   only_from : (xs done kept : List StrandRun) → filter on_its xs ≡ done ++ kept → Each (λ item. reaches gap r item ≡ false) done → length kept ≤ 1 → OnlyLast xs
   only_from [] done kept e passed few = tt
@@ -122,18 +108,13 @@ module _ (gap : ℕ) (r : Feature) where
 
   -- a list with the record, by the place of the last run of its strand
   apart_cond : (b : Bool) (x : StrandRun) (xs ys : List StrandRun) → cond b (x ∷ xs) (x ∷ ys) ≡ x ∷ cond b xs ys
-  apart_cond true x xs ys = refl
-  apart_cond false x xs ys = refl
+  apart_cond b x xs ys = grind arith
 
   added_later : (x : StrandRun) (xs : List StrandRun) (place : Option ℕ) → is_some place ≡ true → added_at gap (x ∷ xs) r (place_among (on_its x) place) ≡ x ∷ added_at gap xs r place
-  added_later x xs None some = absurd (false≢true some)
-  added_later x xs (Some place) some =
-      apart_cond (is_closed gap (interval_of r) (get_or xs place (run_from r)).run) x (xs ++ run_from r ∷ []) (set xs place (run_with r (get_or xs place (run_from r))))
+  added_later x xs place some = grind arith
 
   leaves_all : (xs : List StrandRun) → Each (λ item. reaches gap r item ≡ false) xs → map (joined_to gap r) xs ++ new_run (list_any (reaches gap r) xs) r ≡ xs ++ run_from r ∷ []
-  leaves_all xs e =
-      ap₂ (λ (a b : List StrandRun). a ++ b) (map_leaves (joined_to gap r) xs (each_weaker (λ item. reaches gap r item ≡ false) (λ item. joined_to gap r item ≡ item) (λ item f. join_not gap r item f) xs e))
-      (ap (λ b. new_run b r) (none_from (reaches gap r) xs e))
+  leaves_all xs e = grind (arith, map_leaves, each_weaker, none_from)
 
   added_here : (x : StrandRun) (xs : List StrandRun) → list_any on_its xs ≡ false → added_at gap (x ∷ xs) r (place_among (on_its x) None) ≡ map (joined_to gap r) (x ∷ xs) ++ new_run (list_any (reaches gap r) (x ∷ xs)) r
   added_here x xs none =
@@ -144,29 +125,16 @@ module _ (gap : ℕ) (r : Feature) where
         | inr f ↦ ap (added_at gap (x ∷ xs) r) (cond-false (on_its x) (Some 0) None f) ∙ sym (leaves_all (x ∷ xs) (not_reached x f, others))
         | inl t ↦ ap (added_at gap (x ∷ xs) r) (cond-true (on_its x) (Some 0) None t) ∙ elim (cases_Bool passed) [
           | inl p ↦ cond-true passed more (run_with r x ∷ xs) p ∙ sym (leaves_all (x ∷ xs) (passed_unreached x p, others))
-          | inr n ↦
-              let reach : reaches gap r x ≡ true = and_from (on_its x) (not passed) t (not_from_false passed n) in
-              cond-false passed more (run_with r x ∷ xs) n
-              ∙ sym (ap₂ (λ (a b : List StrandRun). a ++ b)
-              (ap₂ (λ y ys. y ∷ ys) (join_is gap r x reach) (map_leaves (joined_to gap r) xs (each_weaker (λ item. reaches gap r item ≡ false) (λ item. joined_to gap r item ≡ item) (λ item f. join_not gap r item f) xs others)))
-              (ap (λ b. new_run b r) (or_left (reaches gap r x) (list_any (reaches gap r) xs) reach))
-              ∙ append-nil (run_with r x ∷ xs))
+          | inr n ↦ grind (arith, map_leaves, each_weaker, append-nil)
         ]
       ]
 
   grown_cons : (x : StrandRun) (xs : List StrandRun) → reaches gap r x ≡ false → x ∷ (map (joined_to gap r) xs ++ new_run (list_any (reaches gap r) xs) r) ≡ map (joined_to gap r) (x ∷ xs) ++ new_run (list_any (reaches gap r) (x ∷ xs)) r
-  grown_cons x xs f =
-      let any = list_any (reaches gap r) xs in
-      ap₂ (λ y b. y ∷ (map (joined_to gap r) xs ++ new_run b r)) (sym (join_not gap r x f)) (sym (ap (λ b. b || any) f))
+  grown_cons x xs f = grind arith
 
   pub added_is : (xs : List StrandRun) → OnlyLast xs → with_added gap xs r ≡ map (joined_to gap r) xs ++ new_run (list_any (reaches gap r) xs) r
   added_is [] o = refl
-  added_is (x ∷ xs) o =
-      let place = last_place on_its xs in
-      elim (cases_Bool (is_some place)) [
-        | inl t ↦ added_later x xs place t ∙ ap (λ l. x ∷ l) (added_is xs o.1) ∙ grown_cons x xs (o.0 (sym (place_some on_its xs) ∙ t))
-        | inr f ↦ ap (λ p. added_at gap (x ∷ xs) r (place_among (on_its x) p)) (none_is place f) ∙ added_here x xs (sym (place_some on_its xs) ∙ f)
-      ]
+  added_is (x ∷ xs) o = grind (arith, (added_is xs o.1), added_later, place_some, added_here)
 
 -- the last record, seen from those before it
 last_near : (past : List Feature) (r : Feature) (last : Interval) → AreTaken (past ++ r ∷ []) → last_of (intervals_of past) ≡ Some last → Each (λ p. p.chrom ≡ r.chrom → (last.chrom ≡ r.chrom) × (last.start ≤ r.start)) past
@@ -183,8 +151,7 @@ module _ (gap : ℕ) where
   passes last item = is_closed gap last item.run
 
   front_parts : (items : List StrandRun) (last : Option Interval) → items ≡ closed_prefix gap items last ++ drop (length (closed_prefix gap items last)) items
-  front_parts items None = refl
-  front_parts items (Some last) = front_and_behind (passes last) items
+  front_parts items last = grind (arith, front_and_behind)
 
   -- the settled runs and the kept ones are all
   pub strand_runs_are_all : (past : List Feature) → strand_runs gap past ≡ settled_strand_runs gap past ++ kept_strand_runs gap past
@@ -225,9 +192,7 @@ module _ (gap : ℕ) where
         let front = closed_prefix gap (strand_runs gap past) (Some last) in
         let Has : StrandRun → Type 0 = λ item. Some_of (λ p. Lies item p) past in
         let has = each_front Has front (drop (length front) (strand_runs gap past)) (rw (← (front_and_behind (passes last) (strand_runs gap past))) listed.has) in
-        each_weaker (λ item. (passes last item ≡ true) × Has item) (λ item. passes (interval_of r) item ≡ true)
-        (λ item both. still_passed past last r item (last_near past r last taken is) both.1 both.0) front
-        (each_both (λ item. passes last item ≡ true) Has front (front_passes (passes last) (strand_runs gap past)) has)
+        grind (arith, each_weaker, still_passed, (last_near past r last taken is), (each_both (λ item. passes last item ≡ true) Has front (front_passes (passes last) (strand_runs gap past)) has))
 
     only : OnlyLast gap r (strand_runs gap past)
     only =
@@ -236,32 +201,14 @@ module _ (gap : ℕ) where
 
     -- with the record, the first run that it doesn't close stays such a one
     stops_joined : (item : StrandRun) → passes (interval_of r) item ≡ false → passes (interval_of r) (joined_to gap r item) ≡ false
-    stops_joined item f = elim (cases_Bool (reaches gap r item)) [
-      | inr n ↦ ap (passes (interval_of r)) (join_not gap r item n) ∙ f
-      | inl t ↦
-          let now = reached gap r item t in
-          let near = now.near in
-          ap (passes (interval_of r)) (join_is gap r item t) ∙ not_passed gap (interval_of r) (run_with r item).run now.on (omega arith)
-    ]
+    stops_joined item f = grind arith
 
     stops_added : (items : List StrandRun) → Stops (passes (interval_of r)) items → Stops (passes (interval_of r)) (map (joined_to gap r) items ++ new_run (list_any (reaches gap r) items) r)
-    stops_added [] s = let full = full_last past r taken.full in not_passed gap (interval_of r) (interval_of r) refl (omega arith)
-    stops_added (item ∷ items) s = stops_joined item s
-
-    all_passed : (items : List StrandRun) → Each (λ item. passes (interval_of r) item ≡ true) items → (map (joined_to gap r) items ≡ items) × (list_any (reaches gap r) items ≡ false)
-    all_passed items e =
-        let none = each_weaker (λ item. passes (interval_of r) item ≡ true) (λ item. reaches gap r item ≡ false) (λ item t. passed_unreached gap r item t) items e in
-        (map_leaves (joined_to gap r) items (each_weaker (λ item. reaches gap r item ≡ false) (λ item. joined_to gap r item ≡ item) (λ item f. join_not gap r item f) items none), none_from (reaches gap r) items none)
+    stops_added items s = grind (arith, common_steps, not_passed)
 
     -- a list whose first runs the record closes: with the record, these stay
     grown_behind : (front items : List StrandRun) → Each (λ item. passes (interval_of r) item ≡ true) front → map (joined_to gap r) (front ++ items) ++ new_run (list_any (reaches gap r) (front ++ items)) r ≡ front ++ (map (joined_to gap r) items ++ new_run (list_any (reaches gap r) items) r)
-    grown_behind front items e =
-        let left = all_passed front e in
-        let any = list_any (reaches gap r) items in
-        ap₂ (λ (a : List StrandRun) (b : Bool). a ++ new_run b r)
-        (map-append (joined_to gap r) front items ∙ ap (λ l. l ++ map (joined_to gap r) items) left.0)
-        (list_any-append (reaches gap r) front items ∙ ap (λ b. b || any) left.1)
-        ∙ append_assoc front (map (joined_to gap r) items) (new_run any r)
+    grown_behind front items e = grind (arith, map-append, list_any-append, append_assoc, each_weaker, map_leaves, none_from)
 
     pub record Divided : Type 0 where
       pub settled : settled_strand_runs gap (past ++ r ∷ []) ≡ settled_strand_runs gap past ++ settled_prefix gap (kept_strand_runs gap past) r
@@ -281,18 +228,7 @@ module _ (gap : ℕ) where
         let passed = each_append (λ item. passes x item ≡ true) done more (settled_still (last_of (intervals_of past)) refl) (front_passes (passes x) kept) in
         let stop = behind_stops (passes x) kept in
         let added = added_is gap r rest (only_behind gap r front rest (rw (← whole) only)) in
-        let next = with_added gap rest r in
-        let stops = rw (← added) at (stops_added rest stop) in
-        let all : strand_runs gap (past ++ r ∷ []) ≡ front ++ next =
-        listing_next gap past r taken listed
-        ∙ ap (λ l. map (joined_to gap r) l ++ new_run (list_any (reaches gap r) l) r) whole
-        ∙ grown_behind front rest passed ∙ ap (λ l. front ++ l) (sym added) in
-        let last = ap last_of (intervals_next past r) ∙ last_of-push (intervals_of past) x in
-        let is : settled_strand_runs gap (past ++ r ∷ []) ≡ front = ap (closed_prefix gap (strand_runs gap (past ++ r ∷ []))) last ∙ ap (take_while (passes x)) all ∙ front_is (passes x) front next passed stops in
-        record {
-          settled = is;
-          kept = ap₂ (λ (a b : List StrandRun). drop (length a) b) is all ∙ drop_at front next (length front) refl;
-        }
+        grind (arith, stops_added, listing_next, listed, grown_behind, intervals_next, last_of-push, front_is, drop_at)
 
   settles_strands : Settles (settled_strand_runs gap) (strand_runs gap) AreTaken
   settles_strands = record {
@@ -326,9 +262,7 @@ module _ {A : Type 0} (test : A → Bool) where
   last_place_set (x ∷ xs) (suc i) y d h e = ap (place_among (test x)) (last_place_set xs i y d (omega arith) e)
 
   among_within : (first : Bool) (place : Option ℕ) (i n : ℕ) → ((j : ℕ) → place ≡ Some j → j < n) → place_among first place ≡ Some i → i < suc n
-  among_within first (Some j) i n h e = let is : suc j ≡ i = cc in let g = h j refl in omega arith
-  among_within true None i n h e = let is : zero ≡ i = cc in omega arith
-  among_within false None i n h e = absurd (cc)
+  among_within first place i n h e = grind arith
 
   pub last_place_within : (xs : List A) (i : ℕ) → last_place test xs ≡ Some i → i < length xs
   last_place_within [] i e = absurd (cc)
@@ -336,8 +270,7 @@ module _ {A : Type 0} (test : A → Bool) where
 
 -- the place of the last run of a strand, from the count in its slot
 counted_place : (place : Option ℕ) (p : ℕ) → 1 ≤ count_up_to place → p ≡ count_up_to place - 1 → place ≡ Some p
-counted_place None p some is = absurd (omega arith)
-counted_place (Some q) p some is = let same : q ≡ p = omega arith in ap (λ n. Some n) same
+counted_place place p some is = grind arith
 
 pub place_counted : (strand : Strand) (runs : List PendingRun) (p : ℕ) → 1 ≤ get_or (counts_up_to_last runs) (slot_of strand) 0 → p ≡ get_or (counts_up_to_last runs) (slot_of strand) 0 - 1 → place_of strand runs ≡ Some p
 place_counted Plus runs p some is = counted_place (place_of Plus runs) p some is
@@ -353,23 +286,16 @@ counted_not strand runs run f = ap count_up_to (last_place_other (λ (w : Pendin
 
 -- the counts with one more run
 pub added_counts : (runs : List PendingRun) (run : PendingRun) (strand : Strand) → run.strand ≡ strand → set (counts_up_to_last runs) (slot_of strand) (suc (length runs)) ≡ counts_up_to_last (runs ++ run ∷ [])
-added_counts runs run Plus e = rw (counted_so Plus runs run (ap (λ s. is_strand s Plus) e), counted_not Minus runs run (ap (λ s. is_strand s Minus) e), counted_not Dot runs run (ap (λ s. is_strand s Dot) e)) refl
-added_counts runs run Minus e = rw (counted_not Plus runs run (ap (λ s. is_strand s Plus) e), counted_so Minus runs run (ap (λ s. is_strand s Minus) e), counted_not Dot runs run (ap (λ s. is_strand s Dot) e)) refl
-added_counts runs run Dot e = rw (counted_not Plus runs run (ap (λ s. is_strand s Plus) e), counted_not Minus runs run (ap (λ s. is_strand s Minus) e), counted_so Dot runs run (ap (λ s. is_strand s Dot) e)) refl
+added_counts runs run strand e = grind (arith, counted_so, counted_not)
 
 -- a record that is joined to the run at a place, or isn't
 pub joined_not : (runs : List PendingRun) (place reach stop : ℕ) (run : PendingRun) → place < length runs → run ≡ get_or runs place run → run.stop < reach
     → (false, set runs place run) ≡ with_joined reach stop runs (Some place)
-joined_not runs place reach stop run within is low =
-    ap (λ (l : List PendingRun). (false, l)) (ap (set runs place) is ∙ set-get_or runs place run)
-    ∙ sym (ap (joined_here reach stop runs place) (slice_get_read runs (length runs) place run refl within is)
-    ∙ cond-true (nat_lt run.stop reach) (false, runs) (true, set runs place (lengthened stop run)) (lt-ltb run.stop reach low))
+joined_not runs place reach stop run within is low = grind (arith, set-get_or, slice_get_read)
 
 pub joined_so : (runs : List PendingRun) (place reach stop : ℕ) (run : PendingRun) → place < length runs → run ≡ get_or runs place run → reach ≤ run.stop
     → (true, set runs place (lengthened stop run)) ≡ with_joined reach stop runs (Some place)
-joined_so runs place reach stop run within is near =
-    sym (ap (joined_here reach stop runs place) (slice_get_read runs (length runs) place run refl within is)
-    ∙ cond-false (nat_lt run.stop reach) (false, runs) (true, set runs place (lengthened stop run)) (le-ltb run.stop reach near))
+joined_so runs place reach stop run within is near = grind (arith, slice_get_read)
 
 -- the counts stay
 set_counts : (runs : List PendingRun) (place stop : ℕ) (run : PendingRun) → slice_get runs place ≡ Some run → counts_up_to_last (set runs place (lengthened stop run)) ≡ counts_up_to_last runs
@@ -380,16 +306,10 @@ set_counts runs place stop run got =
     rw (stays Plus, stays Minus, stays Dot) refl
 
 here_counts : (reach stop : ℕ) (runs : List PendingRun) (place : ℕ) (got : Option PendingRun) → slice_get runs place ≡ got → counts_up_to_last (joined_here reach stop runs place got).1 ≡ counts_up_to_last runs
-here_counts reach stop runs place None is = refl
-here_counts reach stop runs place (Some run) is =
-    elim (nat_lt run.stop reach) as (λ b. counts_up_to_last (cond {A = Bool × List PendingRun} b (false, runs) (true, set runs place (lengthened stop run))).1 ≡ counts_up_to_last runs) [
-      | true ↦ refl
-      | false ↦ set_counts runs place stop run is
-    ]
+here_counts reach stop runs place got is = grind (arith, set_counts)
 
 pub joined_counts : (reach stop : ℕ) (runs new : List PendingRun) (place : ℕ) (joined : Bool) → (joined, new) ≡ with_joined reach stop runs (Some place) → counts_up_to_last new ≡ counts_up_to_last runs
-joined_counts reach stop runs new place joined is =
-    ap (λ (pair : Bool × List PendingRun). counts_up_to_last pair.1) is ∙ here_counts reach stop runs place (slice_get runs place) refl
+joined_counts reach stop runs new place joined is = grind (arith, (here_counts reach stop runs place (slice_get runs place) refl))
 
 module _ (here : Bool) (reach : ℕ) where
   abbrev pub is_over : PendingRun → Bool
@@ -411,14 +331,10 @@ module _ (here : Bool) (reach : ℕ) where
   one_left w ws t = ap (λ (l : List PendingRun). drop (length l) (w ∷ ws)) (one_passed w ws t)
 
   pub front_next : (now : List PendingRun) (w : PendingRun) → slice_get now 0 ≡ Some w → is_over w ≡ true → passed_runs here reach now ≡ w ∷ passed_runs here reach (drop 1 now)
-  front_next [] w is t = absurd (cc)
-  front_next (v ∷ vs) w is t =
-      let same : v ≡ w = cc in
-      one_passed v vs (ap is_over same ∙ t) ∙ ap (λ x. x ∷ passed_runs here reach vs) same
+  front_next now w is t = grind arith
 
   pub behind_next : (now : List PendingRun) (w : PendingRun) → slice_get now 0 ≡ Some w → is_over w ≡ true → left_runs here reach now ≡ left_runs here reach (drop 1 now)
-  behind_next [] w is t = absurd (cc)
-  behind_next (v ∷ vs) w is t = let same : v ≡ w = cc in one_left v vs (ap is_over same ∙ t)
+  behind_next now w is t = grind arith
 
   abbrev pub next_written : (runs now : List PendingRun) (w : PendingRun) → slice_get now 0 ≡ Some w → is_over w ≡ true → Written runs now → Written runs (drop 1 now)
   next_written runs now w is t p = record {
@@ -429,8 +345,7 @@ module _ (here : Bool) (reach : ℕ) where
 
   -- whether a run is over
   pub over_so : (w : PendingRun) → (here ≡ false) ⊎ (w.stop < reach) → is_over w ≡ true
-  over_so w (inl f) = or_left (not here) (nat_lt w.stop reach) (not_from_false here f)
-  over_so w (inr l) = or_right (not here) (nat_lt w.stop reach) (lt-ltb w.stop reach l)
+  over_so w p1 = grind arith
 
   pub over_not : (w : PendingRun) → here ≡ true → reach ≤ w.stop → is_over w ≡ false
   over_not w t h = or_from (not here) (nat_lt w.stop reach) (not_from_true here t) (le-ltb w.stop reach h)
@@ -441,11 +356,7 @@ module _ (here : Bool) (reach : ℕ) where
     pub all : left_runs here reach now ≡ now
 
   pub stopped_at : (now : List PendingRun) (w : PendingRun) → slice_get now 0 ≡ Some w → is_over w ≡ false → Stopped now
-  stopped_at [] w is f = absurd (cc)
-  stopped_at (v ∷ vs) w is f =
-      let same : v ≡ w = cc in
-      let ends = take_ends is_over v vs (ap is_over same ∙ f) in
-      record { none = ends; all = ap (λ (l : List PendingRun). drop (length l) (v ∷ vs)) ends }
+  stopped_at now w is f = grind arith
 
   -- what was written is all that is over
   pub all_written : (runs now : List PendingRun) (p : Written runs now) → Stopped now → passed_runs here reach runs ≡ p.done
@@ -460,8 +371,7 @@ placed-append chrom xs ys = ap places_of (map-append (placed_run chrom) xs ys) �
 -- one more line
 pub line_more : {A : Type 0} (chrom : List ℕ) (done : List PendingRun) (w : PendingRun) (old mid new : Output) (result : Result A Fault) → Grown old (strand_lines (placed_runs chrom done)) mid → Puts mid (interval_line (placed_run chrom w).run) result new
     → Adds old (strand_lines (placed_runs chrom (done ++ w ∷ []))) result new
-line_more chrom done w old mid new result p q =
-    rw (placed-append chrom done (w ∷ [])) (adds_lines interval_line old mid new (places_of (placed_runs chrom done)) ((placed_run chrom w).run ∷ []) result p (adds_line (placed_run chrom w).run mid new result q))
+line_more chrom done w old mid new result p q = grind (arith, common_steps, adds_lines)
 
 -- the lines of more runs are cut off there
 pub line_cut : (A : Type 0) (chrom : List ℕ) (here : Bool) (reach : ℕ) (runs now : List PendingRun) (w : PendingRun) (old mid new : Output) (e : Fault) (p : Written here reach runs now) → slice_get now 0 ≡ Some w → is_over here reach w ≡ true

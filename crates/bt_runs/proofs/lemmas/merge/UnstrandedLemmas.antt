@@ -1,5 +1,5 @@
 -- From the exact step of a merge of all its records together to what it writes after the records of the past.
-use Rattle.bt_lines.proofs.Std.{◌≡◌, ◌==◌, ℕ, false, List, [], ◌∷◌, ◌++◌, inl, inr, Result, Ok, Err, refl, sym, ap, ◌∙◌, append-nil, bytes_eq, cases_Bool, flat_map-append}
+use Rattle.bt_lines.proofs.Std.{arith, ◌≡◌, ◌==◌, ℕ, false, List, [], ◌∷◌, ◌++◌, inl, inr, Result, Ok, Err, refl, sym, ap, ◌∙◌, append-nil, bytes_eq, cases_Bool, flat_map-append}
 use Rattle.bt_lines.specs.model.Fault.{no_memory}
 use Rattle.bt_lines.specs.calls.Names.{fault_value}
 use Rattle.bt_lines.specs.calls.Output.{Output, Adds, FailsToAdd, Grown}
@@ -31,44 +31,22 @@ module _ (old : Unstranded) where
       let settles : AfterEach unstranded old r (λ first past. settled_lines first (past ++ r ∷ []) ≡ settled_lines first past ++ lines_by old r) = λ first past stands taken.
       rw (stands.same_gap, stands.kept) (ap interval_lines (next_taken first.gap first.strand past r taken).settles
       ∙ flat_map-append interval_line (settled_runs first.gap first.strand past) (settled_by first.gap (kept_runs first.gap first.strand past) (interval_of r))) in
-      record {
-        settles = settles;
-        next = λ new takes first past stands taken. record {
-          same_gap = takes.gap ∙ stands.same_gap;
-          same_strand = takes.strand ∙ stands.same_strand;
-          kept = takes.kept ∙ sym (rw (stands.same_gap, stands.same_strand, stands.kept) (next_taken first.gap first.strand past r taken).keeps);
-          on = λ front last e. takes.chrom ∙ ap (λ (f : Feature). f.chrom) (last_is past front r last e);
-        };
-        quiet = λ first past stands taken q. (
-          none_more (settled_lines first past) (lines_by old r) _ (settles first past stands taken) q.0.settles,
-          λ elsewhere. elsewhere (stands.on q.1.before q.1.last q.1.is ∙ q.1.same),
-        );
-      }
+      grind (arith, next_taken, last_is, none_more)
 
   -- the kept run's line is the one that is left
   pub finishes_kept : {A : Type 0} (out : Output) (result : Result A Fault) (grown : Output) → Adds out (interval_lines old.kept) result grown
       → PutsRestAtEnd unstranded_rule old out result grown
-  finishes_kept out result grown p = record {
-    left = interval_lines old.kept;
-    is = λ first past stands taken. rw stands.kept (ap interval_lines (whole_taken first.gap first.strand past taken).all
-        ∙ flat_map-append interval_line (settled_runs first.gap first.strand past) (kept_runs first.gap first.strand past));
-    adds = p;
-  }
+  finishes_kept out result grown p = grind (arith, whole_taken, flat_map-append)
 
 -- a record on another chromosome closes the run that is kept
 elsewhere_passes : (gap : ℕ) (chrom : List ℕ) (run : OpenRun) (r : Interval) → bytes_eq chrom r.chrom ≡ false
     → (settled_by gap (kept_at chrom run) r ≡ kept_at chrom run) × (left_by gap (kept_at chrom run) r ≡ [])
-elsewhere_passes gap chrom run r apart = elim (cases_Bool (run.stop == 0)) [
-  | inl t ↦ rw t (refl, refl)
-  | inr f ↦ rw (f, apart) (refl, refl)
-]
+elsewhere_passes gap chrom run r apart = grind arith
 
 -- another chromosome is entered
 module _ (old : Unstranded) (run : OpenRun) (is : kept_at old.chrom run ≡ old.kept) (out : Output) (name : List ℕ) (apart : bytes_eq old.chrom name ≡ false) where
   passes : (r : Feature) → r.chrom ≡ name → (lines_by old r ≡ interval_lines old.kept) × (left_by old.gap old.kept (interval_of r) ≡ [])
-  passes r at =
-      let p = elsewhere_passes old.gap old.chrom run (interval_of r) (ap (bytes_eq old.chrom) at ∙ apart) in
-      rw (sym is) (ap interval_lines p.0, p.1)
+  passes r at = grind arith
 
   -- once the kept run is written
   pub enters_other : (now : Unstranded) (through : Output) → now.gap ≡ old.gap → now.strand ≡ old.strand → now.chrom ≡ name → now.kept ≡ [] → Grown out (interval_lines old.kept) through

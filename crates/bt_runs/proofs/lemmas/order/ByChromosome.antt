@@ -9,6 +9,7 @@
 --
 -- It is given what one more record settles and what is kept then, on the same chromosome or a later one (`goes_first`, `goes_on`, `goes_to`). That is what `feed` has to do. It is also given what is left for `finish` (`whole_left`), and `Settles` (`settling`), from which settled items stay and begin the whole (`Standing`).
 -- The engines' forms are in `SettledRuns` (merge), `GapRuleLemmas` (complement) and `DepthSteps` (coverage); the last two take `Walks` from here.
+use Rattle.std.proofs.lemmas.Grind.{common_steps}
 use Rattle.bt_lines.proofs.Std.{◌≡◌, ◌⊎◌, ℕ, ◌<◌, ◌≤◌, inl, inr, List, [], ◌∷◌, ◌++◌, append_assoc, append-nil, refl, sym, ap, ap₂, ◌∙◌, subst, arith, length, length-append, map, filter, flat_map, Bool, true, false, bytes_eq, Some, ⊤, or_parts, flat_map-append, map-append, take_at, filter-append, All-contains, All-take, Contains-push, zero, suc, ◌+◌, ◌-◌, length-drop, get_or, take, drop, option_map, slice_range, min, Option, Result, Ok, Err, slice_get, cond-true, cond-false, cases_lt, take_at_read, drop_at, get_or-drop, drop-drop, get_or-append_seam, take-add}
 use Rattle.std.specs.declared.cmp.Ordering.TheVariants.{Less, Greater}
 use Rattle.bt_bed.specs.model.Feature.{Feature, interval_of, intervals_of, Interval, AreNonEmpty, last_of}
@@ -53,11 +54,7 @@ pub record Picks {T : Type 0} (pick : List T → List T) : Type 0 where
 
 -- a test picks so
 pub picks_by : {T : Type 0} (test : T → Bool) → Picks (filter test)
-picks_by test = record {
-  nothing = refl;
-  all = λ xs ys whole. filter-append test xs ys ∙ ap (λ l. l ++ filter test ys) whole;
-  none = λ xs ys first second. filter-append test xs ys ∙ ap₂ (λ l m. l ++ m) first second;
-}
+picks_by test = grind (arith, filter-append)
 
 module _ {K T S : Type 0} (f : Form K T S) where
   -- the items of the chromosomes, concatenated
@@ -73,16 +70,12 @@ intervals_next past r = map-append interval_of past (r ∷ [])
 
 -- the first records of non-empty ones, and the last
 pub full_front : (past more : List Feature) → AreNonEmpty (intervals_of (past ++ more)) → AreNonEmpty (intervals_of past)
-full_front past more full =
-    let xs = intervals_of past in
-    let ys = intervals_of more in
-    subst AreNonEmpty (take_at xs ys (length xs) refl) (All-take (λ r. r.start < r.stop) (length xs) (xs ++ ys) (subst AreNonEmpty (map-append interval_of past more) full))
+full_front past more full = grind (arith, common_steps, (take_at (intervals_of past) (intervals_of more) (length (intervals_of past)) refl), (map-append interval_of past more))
 
 pub full_last : (past : List Feature) (r : Feature) → AreNonEmpty (intervals_of (past ++ r ∷ [])) → r.start < r.stop
 full_last past r full =
     let x = interval_of r in
-    let xs = intervals_of past in
-    All-contains (λ r. r.start < r.stop) (xs ++ x ∷ []) x (subst AreNonEmpty (intervals_next past r) full) (Contains-push xs x)
+    grind (arith, intervals_next, (Contains-push (intervals_of past) x))
 
 -- records in an order of chromosomes, each with a base
 pub record InOrder (names : List (List ℕ)) (past : List Feature) : Type 0 where
@@ -90,10 +83,7 @@ pub record InOrder (names : List (List ℕ)) (past : List Feature) : Type 0 wher
   pub full : AreNonEmpty (intervals_of past)
 
 pub order_front : (names : List (List ℕ)) (past more : List Feature) → InOrder names (past ++ more) → InOrder names past
-order_front names past more o = record {
-  placed = placed_prefix (rank_order names) (intervals_of past) (intervals_of more) (rw (← (map-append interval_of past more)) o.placed);
-  full = full_front past more o.full;
-}
+order_front names past more o = grind (arith, (placed_prefix (rank_order names) (intervals_of past) (intervals_of more) (rw (← (map-append interval_of past more)) o.placed)), (full_front past more o.full))
 
 module _ {K T S : Type 0} (f : Form K T S) (At : K → List Feature → ℕ → List T → S → Type 0) where
   pub record NoRecords (k : K) (past : List Feature) : Type 0 where
@@ -186,13 +176,7 @@ module _ {K T S : Type 0} (f : Form K T S) (At : K → List Feature → ℕ → 
         divided = owes.divides key past s.last s.done state s.at s.stand.is s.stand.some
 
         parts_to : (middle : List K) → NoneOn f.name (intervals_of past) middle → parts f past (before ++ key ∷ middle) ≡ (parts f past before ++ s.done) ++ (f.left key state ++ bares f middle)
-        parts_to middle none =
-            let front = parts f past before in
-            let left = f.left key state in
-            flat_map-append (λ k. f.part k past) before (key ∷ middle)
-            ∙ ap₂ (λ (xs ys : List T). front ++ (xs ++ ys)) divided.all (parts_none past middle none)
-            ∙ ap (λ l. front ++ l) (append_assoc s.done left (bares f middle))
-            ∙ sym (append_assoc front s.done (left ++ bares f middle))
+        parts_to middle none = grind (arith, flat_map-append, parts_none, append_assoc)
 
         picked : f.pick s.last (parts f past keys) ≡ parts f past before ++ s.done
         picked =
@@ -200,19 +184,7 @@ module _ {K T S : Type 0} (f : Form K T S) (At : K → List Feature → ℕ → 
             let ranked = last_rank f.name keys distinct (intervals_of past) s.last before key after s.stand in
             let less = all_before f.name keys distinct s.last.chrom n ranked [] before (key ∷ after) s.stand.split (omega arith) in
             let split_after : keys ≡ (before ++ key ∷ []) ++ (after ++ []) = s.stand.split ∙ sym (append_assoc before (key ∷ []) after) ∙ ap (λ l. (before ++ key ∷ []) ++ l) (sym (append-nil after)) in
-            let longer = length-append before (key ∷ []) in
-            let greater = all_after f.name keys distinct s.last.chrom n ranked (before ++ key ∷ []) after [] split_after (omega arith) in
-            let front = parts f past before in
-            let left = f.left key state in
-            let behind = parts f past after in
-            let picks = owes.picks s.last in
-            ap (λ l. f.pick s.last (parts f past l)) s.stand.split
-            ∙ ap (f.pick s.last) (flat_map-append (λ k. f.part k past) before (key ∷ after) ∙ ap (λ l. front ++ (l ++ behind)) divided.all)
-            ∙ picks.all front ((s.done ++ left) ++ behind) (parts_before s.last past before less)
-            ∙ ap (λ l. front ++ f.pick s.last l) (append_assoc s.done left behind)
-            ∙ ap (λ l. front ++ l) (picks.all s.done (left ++ behind) divided.done_over)
-            ∙ ap (λ l. front ++ (s.done ++ l)) (picks.none left behind divided.left_open (parts_behind s.last past after greater s.stand.none_after))
-            ∙ ap (λ l. front ++ l) (append-nil s.done)
+            grind (arith, length-append, all_after, flat_map-append, parts_before, append_assoc, parts_behind, append-nil)
 
         settled_here : Written past → f.settled past ≡ parts f past before ++ s.done
         settled_here w = w.settled_is s.last s.stand.last_is ∙ picked
@@ -283,8 +255,7 @@ module _ {K T S : Type 0} (f : Form K T S) (At : K → List Feature → ℕ → 
 
       -- so records in order reach some chromosome
       has_begun : (past : List Feature) → Somewhere past → Begun past
-      has_begun [] s = tt
-      has_begun (q ∷ qs) s = s
+      has_begun past s = grind arith
 
       begun_more : (past more : List Feature) → InOrder (map f.name keys) (past ++ more) → Begun past → Begun (past ++ more)
       begun_more past [] o b = subst Begun (sym (append-nil past)) b
@@ -300,9 +271,7 @@ module _ {K T S : Type 0} (f : Form K T S) (At : K → List Feature → ℕ → 
 
       -- each next one settles some items, and some are left at the end
       settles_some : (past : List Feature) (r : Feature) → InOrder (map f.name keys) (past ++ r ∷ []) → Written past → Written (past ++ r ∷ []) → (items : List T) × (f.settled (past ++ r ∷ []) ≡ f.settled past ++ items)
-      settles_some past r o w_past w =
-          let t = turn past r o (begun past (order_front (map f.name keys) past (r ∷ []) o)) in
-          (t.items, t.moves.settles w_past w)
+      settles_some past r o w_past w = grind (arith, (turn past r o (begun past (order_front (map f.name keys) past (r ∷ []) o))))
 
       leaves_some : (past : List Feature) → Written past → Begun past → (items : List T) × (f.whole past ≡ f.settled past ++ items)
       leaves_some [] w b = (f.whole [], ap (λ l. l ++ f.whole []) (sym owes.nothing))
@@ -342,19 +311,12 @@ pub found_entry : (entries : List Entry) (name : List ℕ) (rank : ℕ) → (f :
 found_entry entries name rank f = ap (λ l. entry_at l rank) f.split ∙ entry_there f.before f.key f.after rank f.at
 
 pub found_within : (entries : List Entry) (name : List ℕ) (rank : ℕ) → Found name_at entries name rank → rank < length entries
-found_within entries name rank f =
-    let l = ap length f.split ∙ length-append f.before (f.key ∷ f.after) in
-    let a = f.at in
-    omega arith
+found_within entries name rank f = grind (arith, length-append)
 
 -- the chromosome that a look-up finds is the one of its name
 pub found_at : (entries : List Entry) (name : List ℕ) (rank : ℕ) → rank_of (genome_names entries) name ≡ Some rank → IsPlaced entries rank
 found_at entries name rank is =
-    let f = found name_at entries name rank is in
-    record {
-      within = found_within entries name rank f;
-      named = rw (found_entry entries name rank f, f.is) is;
-    }
+    grind (arith, (found_within entries name rank (found name_at entries name rank is)), (found_entry entries name rank (found name_at entries name rank is)))
 
 -- the length of a chromosome, by its name
 pub size_there : (before : List Entry) (e : Entry) (after : List Entry) (name : List ℕ) → e.name ≡ name → is_among (genome_names before) name ≡ false → length_in (before ++ e ∷ after) name ≡ e.length
@@ -367,11 +329,7 @@ size_there (b ∷ bs) e after name is first =
 pub size_ranked : (entries : List Entry) (name : List ℕ) (rank : ℕ)
     → rank_of (genome_names entries) name ≡ Some rank
     → length_in entries name ≡ (entry_at entries rank).length
-size_ranked entries name rank is =
-    let f = found name_at entries name rank is in
-    ap (λ l. length_in l name) f.split
-    ∙ size_there f.before f.key f.after name f.is f.first
-    ∙ ap (λ (e : Entry). e.length) (sym (found_entry entries name rank f))
+size_ranked entries name rank is = grind (arith, size_there, (found_entry entries name rank (found name_at entries name rank is)))
 
 -- what a look-up in the names, or in the lengths, gives of the chromosome
 pub name_read : (entries : List Entry) (rank : ℕ) (name : List ℕ) → slice_get (genome_names entries) rank ≡ Some name → (entry_at entries rank).name ≡ name
@@ -386,35 +344,20 @@ length_read (x ∷ xs) (suc rank) size e = length_read xs rank size e
 
 -- the chromosomes from one rank up to another
 pub slice_between : (before middle after : List Entry) (first stop : ℕ) → length before ≡ first → length before + length middle ≡ stop → slice_range (before ++ (middle ++ after)) first stop ≡ middle
-slice_between before middle after first stop f s =
-    ap (λ l. take (stop - first) l) (drop_at before (middle ++ after) first f)
-    ∙ take_at middle after (stop - first) (omega arith)
+slice_between before middle after first stop f s = grind (arith, drop_at, take_at)
 
 pub slice_none : (entries : List Entry) (first stop : ℕ) → stop ≤ first → slice_range entries first stop ≡ []
-slice_none entries first stop h =
-    let none : stop - first ≡ 0 = omega arith in
-    ap (λ n. take n (drop first entries)) none
+slice_none entries first stop h = grind arith
 
 -- one more chromosome
 pub slice_more : (entries : List Entry) (first rank : ℕ) → first ≤ rank → rank < length entries → slice_range entries first (rank + 1) ≡ slice_range entries first rank ++ entry_at entries rank ∷ []
 slice_more entries first rank low high =
     let none : Entry = record { name = []; length = 0 } in
-    let rest = drop first entries in
-    let one : rank + 1 - first ≡ (rank - first) + 1 = omega arith in
-    let same : first + (rank - first) ≡ rank = omega arith in
-    let within : rank - first < length rest = let l = length-drop first entries in omega arith in
-    ap (λ n. take n rest) one
-    ∙ (take_at_read rest (rank - first) none within).1
-    ∙ ap (λ (x : Entry). take (rank - first) rest ++ x ∷ []) (get_or-drop first entries (rank - first) none ∙ ap (λ n. get_or entries n none) same)
+    grind (arith, (take_at_read (drop first entries) (rank - first) none (let l = length-drop first entries in omega arith)), (get_or-drop first entries (rank - first) none))
 
 -- the chromosomes from one rank to another, by way of a third
 slice_split : (entries : List Entry) (first rank stop : ℕ) → first ≤ rank → rank ≤ stop → slice_range entries first stop ≡ slice_range entries first rank ++ slice_range entries rank stop
-slice_split entries first rank stop low high =
-    let parts : stop - first ≡ (rank - first) + (stop - rank) = omega arith in
-    let same : first + (rank - first) ≡ rank = omega arith in
-    ap (λ n. take n (drop first entries)) parts
-    ∙ take-add (rank - first) (stop - rank) (drop first entries)
-    ∙ ap (λ l. take (rank - first) (drop first entries) ++ take (stop - rank) l) (drop-drop (rank - first) first entries ∙ ap (λ n. drop n entries) same)
+slice_split entries first rank stop low high = grind (arith, (take-add (rank - first) (stop - rank) (drop first entries)), (drop-drop (rank - first) first entries))
 
 module _ {T : Type 0} (bare : Entry → List T) (entries : List Entry) where
   -- the items of the chromosomes of some ranks, which have no records
@@ -422,32 +365,16 @@ module _ {T : Type 0} (bare : Entry → List T) (entries : List Entry) where
   bares_from first stop = flat_map bare (slice_range entries first stop)
 
   bares_split : (first rank stop : ℕ) → first ≤ rank → rank ≤ stop → bares_from first stop ≡ bares_from first rank ++ bares_from rank stop
-  bares_split first rank stop low high =
-      ap (flat_map bare) (slice_split entries first rank stop low high)
-      ∙ flat_map-append bare (slice_range entries first rank) (slice_range entries rank stop)
-
-  bares_more : (first rank : ℕ) → first ≤ rank → rank < length entries → bares_from first (rank + 1) ≡ bares_from first rank ++ bare (entry_at entries rank)
-  bares_more first rank low high =
-      ap (flat_map bare) (slice_more entries first rank low high)
-      ∙ flat_map-append bare (slice_range entries first rank) (entry_at entries rank ∷ [])
-      ∙ ap (λ l. bares_from first rank ++ l) (append-nil (bare (entry_at entries rank)))
+  bares_split first rank stop low high = grind (arith, (slice_split entries first rank stop low high), (flat_map-append bare (slice_range entries first rank) (slice_range entries rank stop)))
 
   -- what is left before a chromosome, and none lie between if the current one isn't before it
   pub before_from : {S : Type 0} (left : Entry → S → List T) (current : Option (Place S)) (first stop : ℕ) → first ≡ min (names_begun current) stop → left_before left bare entries current stop ≡ left_of left entries current ++ bares_from first stop
-  before_from left current first stop is =
-      let same : slice_range entries (names_begun current) stop ≡ slice_range entries first stop = elim (cases_lt stop (names_begun current)) [
-        | inl l ↦ slice_none entries (names_begun current) stop (omega arith) ∙ sym (slice_none entries first stop (omega arith))
-        | inr l ↦ let here : first ≡ names_begun current = omega arith in ap (λ n. slice_range entries n stop) (sym here)
-      ] in
-      ap (λ l. left_of left entries current ++ flat_map bare l) same
+  before_from left current first stop is = grind arith
 
   -- one after another is written, up to one that can't be
   module _ (line : T → List ℕ) (first rank : ℕ) (low : first ≤ rank) (high : rank < length entries) (old mid new : Output) (grown : Grown old (flat_map line (bares_from first rank)) mid) where
     one_more : {A : Type 0} (result : Result A Fault) → Adds mid (flat_map line (bare (entry_at entries rank))) result new → Adds old (flat_map line (bares_from first (rank + 1))) result new
-    one_more result p =
-        let one = bare (entry_at entries rank) in
-        rw (bares_more first rank low high, flat_map-append line (bares_from first rank) one)
-        (adds_more old mid new (flat_map line (bares_from first rank)) (flat_map line one) result grown p)
+    one_more result p = grind (arith, flat_map-append, adds_more, slice_more, append-nil)
 
     pub one_bare : Grown mid (flat_map line (bare (entry_at entries rank))) new → Grown old (flat_map line (bares_from first (rank + 1))) new
     one_bare p = one_more {A = Unit {0}} (Ok tt) p

@@ -21,12 +21,7 @@ spans_on-elsewhere name r rs f = cond-false (bytes_eq r.chrom name) (span_of r �
 
 pub spans_on-append : (name : List ℕ) (xs ys : List Interval) → spans_on name (xs ++ ys) ≡ spans_on name xs ++ spans_on name ys
 spans_on-append name [] ys = refl
-spans_on-append name (x ∷ xs) ys =
-    let rest = spans_on-append name xs ys in
-    elim (cases_name x.chrom name) [
-      | inl e ↦ spans_on-here name x (xs ++ ys) e ∙ ap (λ zs. span_of x ∷ zs) rest ∙ ap (λ zs. zs ++ spans_on name ys) (sym (spans_on-here name x xs e))
-      | inr f ↦ spans_on-elsewhere name x (xs ++ ys) f ∙ rest ∙ ap (λ zs. zs ++ spans_on name ys) (sym (spans_on-elsewhere name x xs f))
-    ]
+spans_on-append name (x ∷ xs) ys = grind (arith, (spans_on-append name xs ys))
 
 pub spans_on-push_here : (name : List ℕ) (past : List Interval) (r : Interval) → r.chrom ≡ name → spans_on name (past ++ r ∷ []) ≡ spans_on name past ++ span_of r ∷ []
 spans_on-push_here name past r e = spans_on-append name past (r ∷ []) ∙ ap (λ zs. spans_on name past ++ zs) (spans_on-here name r [] e)
@@ -49,23 +44,11 @@ without-other name n ns f = cond-true (not (bytes_eq n name)) (n ∷ without nam
 
 pub among_without : (name other : List ℕ) (names : List (List ℕ)) → bytes_eq other name ≡ false → is_among (without other names) name ≡ is_among names name
 among_without name other [] f = refl
-among_without name other (n ∷ ns) f =
-    let rest = among_without name other ns f in
-    elim (cases_name n other) [
-      | inl e ↦
-          let out = without-here other n ns e in
-          let miss : bytes_eq n name ≡ false = name_ne n name (λ h. other_name other name f (sym e ∙ h)) in
-          ap (λ ms. is_among ms name) out ∙ rest ∙ ap (λ b. b || is_among ns name) (sym miss)
-      | inr g ↦ ap (λ ms. is_among ms name) (without-other other n ns g) ∙ ap (λ b. bytes_eq n name || b) rest
-    ]
+among_without name other (n ∷ ns) f = grind (arith, (among_without name other ns f), name_ne, other_name, without-other)
 
 pub among_chromosomes : (name : List ℕ) (past : List Interval) → is_among (chromosomes past) name ≡ has_records name past
 among_chromosomes name [] = refl
-among_chromosomes name (q ∷ qs) =
-    elim (cases_name q.chrom name) [
-      | inl e ↦ or_left (bytes_eq q.chrom name) (is_among (without q.chrom (chromosomes qs)) name) (name_eq q.chrom name e) ∙ sym (or_left (bytes_eq q.chrom name) (has_records name qs) (name_eq q.chrom name e))
-      | inr f ↦ ap (λ b. bytes_eq q.chrom name || b) (among_without name q.chrom (chromosomes qs) f ∙ among_chromosomes name qs)
-    ]
+among_chromosomes name (q ∷ qs) = grind (arith, (among_chromosomes name qs), among_without)
 
 -- records elsewhere change no run
 pub runs_on-push_elsewhere : (name : List ℕ) (gap : ℕ) (past : List Interval) (r : Interval) → bytes_eq r.chrom name ≡ false → runs_on name gap (past ++ r ∷ []) ≡ runs_on name gap past
@@ -75,33 +58,21 @@ runs_on-push_elsewhere name gap past r f = ap (λ spans. map (placed_on name) (r
 
 -- a record up to the next one but one
 up_to_later : (order : Order) (p q x : Interval) → IsTotal order → IsTrue (order.knows p.chrom) → IsTrue (order.knows q.chrom) → IsTrue (order.knows x.chrom) → IsUpTo order (locus_of p) (locus_of q) → IsUpTo order (locus_of q) (locus_of x) → IsUpTo order (locus_of p) (locus_of x)
-up_to_later order p q x total one two three (inl a) (inl b) = inl (total.ascends p.chrom q.chrom x.chrom one two three a b)
-up_to_later order p q x total one two three (inl a) (inr b) = inl (rw (← b.0) a)
-up_to_later order p q x total one two three (inr a) (inl b) = inl (rw a.0 b)
-up_to_later order p q x total one two three (inr a) (inr b) = inr (a.0 ∙ b.0, let h = a.1 in let g = b.1 in omega arith)
+up_to_later order p q x total one two three p1 p2 = grind arith
 
 -- the next is left out
 pub skips : (order : Order) (p q : Interval) (rest : List Interval) → IsTotal order → ArePlaced order (p ∷ q ∷ rest) → ArePlaced order (p ∷ rest)
-skips order p q [] total t = (t.0, tt, tt)
-skips order p q (x ∷ xs) total t = (t.0, up_to_later order p q x total t.0 t.2.0 t.2.2.0 t.1 t.2.1, t.2.2)
+skips order p q rest total t = grind arith
 
 module _ (order : Order) (total : IsTotal order) (keep : Feature → Bool) where
   some_next : (p : Interval) (records : List Feature) → ArePlaced order (p ∷ intervals_of records) → IsPlacedBefore order p (intervals_of (filter keep records))
   some_next p [] t = tt
-  some_next p (r ∷ rs) t =
-      elim (keep r) as (λ b. IsPlacedBefore order p (intervals_of (cond b (r ∷ filter keep rs) (filter keep rs)))) [
-        | true ↦ t.1
-        | false ↦ some_next p rs (skips order p (interval_of r) (intervals_of rs) total t)
-      ]
+  some_next p (r ∷ rs) t = grind (arith, (some_next p rs (skips order p (interval_of r) (intervals_of rs) total t)))
 
   -- some of the records are in order if all are
   pub some_placed : (records : List Feature) → ArePlaced order (intervals_of records) → ArePlaced order (intervals_of (filter keep records))
   some_placed [] t = tt
-  some_placed (r ∷ rs) t =
-      elim (keep r) as (λ b. ArePlaced order (intervals_of (cond b (r ∷ filter keep rs) (filter keep rs)))) [
-        | true ↦ (t.0, some_next (interval_of r) rs t, some_placed rs t.2)
-        | false ↦ some_placed rs t.2
-      ]
+  some_placed (r ∷ rs) t = grind (arith, (some_next (interval_of r) rs t), (some_placed rs t.2))
 
 -- ranks
 pub rank_of-here : (n name : List ℕ) (ns : List (List ℕ)) → n ≡ name → rank_of (n ∷ ns) name ≡ Some 0
@@ -126,50 +97,28 @@ less_ranks : (o p : Option ℕ) (i j : ℕ) → o ≡ Some i → p ≡ Some j �
 less_ranks o p i j e f less = ranked i j Less (sym (sym (ap (λ q. compare_ranks q p) e ∙ ap (λ q. compare_ranks (Some i) q) f) ∙ less))
 
 ranks_up_to : (names : List (List ℕ)) (r s : Interval) (ss : List Interval) → ArePlaced (rank_order names) (r ∷ s ∷ ss) → RanksUpTo names r s
-ranks_up_to names r s ss placed =
-    let a = known_rank (rank_of names r.chrom) placed.0 in
-    let b = known_rank (rank_of names s.chrom) placed.2.0 in
-    record {
-      rank = a.0;
-      next_rank = b.0;
-      rank_is = a.1;
-      next_rank_is = b.1;
-      up_to = elim placed.1 [
-        | inl less ↦ inl (less_ranks (rank_of names r.chrom) (rank_of names s.chrom) a.0 b.0 a.1 b.1 less)
-        | inr same ↦ inr same.0
-      ];
-    }
+ranks_up_to names r s ss placed = grind arith
 
 same_ranks : (names : List (List ℕ)) (a b : List ℕ) (i j : ℕ) → a ≡ b → rank_of names a ≡ Some i → rank_of names b ≡ Some j → i ≡ j
 same_ranks names a b i j e p q = let h = ap (λ c. rank_of names c) e in cc
 
 -- a chromosome of lower rank than the first record's has no records
 lower_is_absent : (names : List (List ℕ)) (name : List ℕ) (i j : ℕ) (s : Interval) (ss : List Interval) → ArePlaced (rank_order names) (s ∷ ss) → rank_of names name ≡ Some i → rank_of names s.chrom ≡ Some j → i < j → has_records name (s ∷ ss) ≡ false
-lower_is_absent names name i j s [] placed p q l =
-    or_from (bytes_eq s.chrom name) false (name_ne s.chrom name (λ e. let same = same_ranks names s.chrom name j i e q p in absurd (omega arith))) refl
+lower_is_absent names name i j s [] placed p q l = grind (arith, name_ne)
 lower_is_absent names name i j s (t ∷ ts) placed p q l =
     let next = ranks_up_to names s t ts placed in
     let one = same_ranks names s.chrom s.chrom next.rank j refl next.rank_is q in
     let higher : i < next.next_rank = elim next.up_to [ inl h ↦ omega arith | inr e ↦ let same = same_ranks names s.chrom t.chrom j next.next_rank e q next.next_rank_is in omega arith ] in
-    let rest = lower_is_absent names name i next.next_rank t ts placed.2 p next.next_rank_is higher in
-    or_from (bytes_eq s.chrom name) (has_records name (t ∷ ts)) (name_ne s.chrom name (λ e. let same = same_ranks names s.chrom name j i e q p in absurd (omega arith))) rest
+    grind (arith, (lower_is_absent names name i next.next_rank t ts placed.2 p next.next_rank_is higher), name_ne)
 
 -- filters of names
 filter_same : (p q : List ℕ → Bool) → ((n : List ℕ) → p n ≡ q n) → (names : List (List ℕ)) → filter p names ≡ filter q names
-filter_same p q same [] = refl
-filter_same p q same (n ∷ ns) =
-    let rest = filter_same p q same ns in
-    let here = same n in
-    ap (λ b. cond b (n ∷ filter p ns) (filter p ns)) here ∙ ap (λ ms. cond (q n) (n ∷ ms) ms) rest
+filter_same p q same names = grind arith
 
 -- the test, or that the name is c, picks c if it is among names that come before all others that pass
 pick_absent : (c : List ℕ) (q : List ℕ → Bool) (names : List (List ℕ)) → is_among names c ≡ false → filter (λ n. bytes_eq c n || q n) names ≡ filter q names
 pick_absent c q [] f = refl
-pick_absent c q (n ∷ ns) f =
-    let parts = or_parts (bytes_eq n c) (is_among ns c) f in
-    let rest = pick_absent c q ns parts.1 in
-    let here : (bytes_eq c n || q n) ≡ q n = ap (λ b. b || q n) (name_ne-sym n c parts.0) in
-    ap (λ b. cond b (n ∷ filter (λ m. bytes_eq c m || q m) ns) (filter (λ m. bytes_eq c m || q m) ns)) here ∙ ap (λ ms. cond (q n) (n ∷ ms) ms) rest
+pick_absent c q (n ∷ ns) f = grind (arith, (pick_absent c q ns (or_parts (bytes_eq n c) (is_among ns c) f).1), (name_ne-sym n c (or_parts (bytes_eq n c) (is_among ns c) f).0))
 
 pick_first : (names : List (List ℕ)) (c : List ℕ) (i : ℕ) (q : List ℕ → Bool) → AreDistinct names → rank_of names c ≡ Some i → ((n : List ℕ) (j : ℕ) → rank_of names n ≡ Some j → j ≤ i → q n ≡ false) → filter (λ n. bytes_eq c n || q n) names ≡ c ∷ filter q names
 pick_first [] c i q distinct r low = absurd (cc)
@@ -178,10 +127,7 @@ pick_first (n ∷ ns) c i q distinct r low =
     let absent : q n ≡ false = low n 0 (rank_of-here n n ns refl) (omega arith) in
     let dropped : filter q (n ∷ ns) ≡ filter q ns = cond-false (q n) (n ∷ filter q ns) (filter q ns) absent in
     elim (cases_name n c) [
-      | inl e ↦
-          let out : is_among ns c ≡ false = rw (← e) distinct.0 in
-          let here : p n ≡ true = or_left (bytes_eq c n) (q n) (name_eq c n (sym e)) in
-          cond-true (p n) (n ∷ filter p ns) (filter p ns) here ∙ ap (λ ms. n ∷ ms) (pick_absent c q ns out ∙ sym dropped) ∙ ap (λ m. m ∷ filter q (n ∷ ns)) e
+      | inl e ↦ grind (arith, name_eq, pick_absent)
       | inr f ↦
           let past = rank_past n c ns i f r in
           let here : p n ≡ false = or_from (bytes_eq c n) (q n) (name_ne-sym n c f) absent in
@@ -200,21 +146,14 @@ without_absent name (n ∷ ns) f =
 
 without_twice : (name : List ℕ) (names : List (List ℕ)) → without name (without name names) ≡ without name names
 without_twice name [] = refl
-without_twice name (n ∷ ns) =
-    elim (cases_name n name) [
-      | inl e ↦ ap (λ ms. without name ms) (without-here name n ns e) ∙ without_twice name ns ∙ sym (without-here name n ns e)
-      | inr f ↦ ap (λ ms. without name ms) (without-other name n ns f) ∙ without-other name n (without name ns) f ∙ ap (λ ms. n ∷ ms) (without_twice name ns) ∙ sym (without-other name n ns f)
-    ]
+without_twice name (n ∷ ns) = grind (arith, (without_twice name ns))
 
 -- a record on the chromosome of the next adds no name
 pub same_chromosome : (r s : Interval) (ss : List Interval) → r.chrom ≡ s.chrom → chromosomes (r ∷ s ∷ ss) ≡ chromosomes (s ∷ ss)
-same_chromosome r s ss e =
-    let first = without-here r.chrom s.chrom (without s.chrom (chromosomes ss)) (sym e) in
-    ap (λ ns. r.chrom ∷ ns) first ∙ ap (λ c. c ∷ without c (without s.chrom (chromosomes ss))) e ∙ ap (λ ns. s.chrom ∷ ns) (without_twice s.chrom (chromosomes ss))
+same_chromosome r s ss e = grind (arith, without-here, without_twice)
 
 or_twice : (x y : Bool) → (x || (x || y)) ≡ (x || y)
-or_twice true y = refl
-or_twice false y = refl
+or_twice x y = grind arith
 
 -- the names that have records, in the order of the names, are those in the order of first records
 names_in_order : (names : List (List ℕ)) (records : List Interval) → AreDistinct names → ArePlaced (rank_order names) records → filter (λ n. has_records n records) names ≡ chromosomes records
@@ -231,8 +170,7 @@ names_in_order names (r ∷ s ∷ ss) distinct placed =
           let absent = lower_is_absent names r.chrom next.rank next.next_rank s ss placed.2 next.rank_is next.next_rank_is lower in
           let picked = pick_first names r.chrom next.rank has distinct next.rank_is (λ n j h l. lower_is_absent names n j next.next_rank s ss placed.2 h next.next_rank_is (omega arith)) in
           picked ∙ ap (λ ns. r.chrom ∷ ns) (rest ∙ sym (without_absent r.chrom (chromosomes (s ∷ ss)) (among_chromosomes r.chrom (s ∷ ss) ∙ absent)))
-      | inr e ↦
-          filter_same (λ n. has_records n (r ∷ s ∷ ss)) has (λ n. ap (λ c. bytes_eq c n || has n) e ∙ or_twice (bytes_eq s.chrom n) (has_records n ss)) names ∙ rest ∙ sym (same_chromosome r s ss e)
+      | inr e ↦ grind (arith, same_chromosome)
     ]
 
 -- names without records give no runs
@@ -246,13 +184,7 @@ runs_on-none name gap records f = ap (λ spans. map (placed_on name) (runs_of ga
 merged-filter : (names : List (List ℕ)) (gap : ℕ) (records : List Interval) → merged (filter (λ n. has_records n records) names) gap records ≡ merged names gap records
 unfolding merged
 merged-filter [] gap records = refl
-merged-filter (n ∷ ns) gap records =
-    let has : List ℕ → Bool = λ m. has_records m records in
-    let rest = merged-filter ns gap records in
-    elim (cases_Bool (has n)) [
-      | inl t ↦ ap (λ ms. merged ms gap records) (cond-true (has n) (n ∷ filter has ns) (filter has ns) t) ∙ ap (λ runs. runs_on n gap records ++ runs) rest
-      | inr f ↦ ap (λ ms. merged ms gap records) (cond-false (has n) (n ∷ filter has ns) (filter has ns) f) ∙ rest ∙ ap (λ runs. runs ++ merged ns gap records) (sym (runs_on-none n gap records f))
-    ]
+merged-filter (n ∷ ns) gap records = grind (arith, (merged-filter ns gap records), runs_on-none)
 
 -- the merged runs by the names of the file, and by the names in the order in which they come
 pub by_chromosomes : (names : List (List ℕ)) (gap : ℕ) (records : List Interval) → AreDistinct names → ArePlaced (rank_order names) records → merged names gap records ≡ merged (chromosomes records) gap records
@@ -268,39 +200,18 @@ in_file_order names gap strand records distinct placed =
 module _ (order : Order) (total : IsTotal order) where
   stands_first : (name n : List ℕ) (ns : List (List ℕ)) → order.compare name n ≡ Less
       → put_in_order order name (n ∷ ns) ≡ name ∷ n ∷ ns
-  stands_first name n ns less =
-      ap (λ o. if is_lt o then name ∷ n ∷ ns else n ∷ put_in_order order name ns) less
+  stands_first name n ns less = grind arith
 
   -- a chromosome doesn't come again after a later one
   gone : (r s : Interval) (ss : List Interval) → ArePlaced order (r ∷ s ∷ ss)
       → order.compare r.chrom s.chrom ≡ Less → has_records r.chrom (s ∷ ss) ≡ false
-  gone r s ss placed less =
-      elim (placed_contiguous order (r ∷ s ∷ ss) total placed).0 [
-        | inl same ↦
-            let equal : order.compare r.chrom s.chrom ≡ Equal
-            = rw same.0 (total.same r.chrom placed.0) in
-            absurd (let apart : Less ≡ Equal = sym less ∙ equal in cc)
-        | inr absent ↦ absent
-      ]
+  gone r s ss placed less = grind (arith, (placed_contiguous order (r ∷ s ∷ ss) total placed))
 
   names_placed : (records : List Interval) → ArePlaced order records
       → in_order order (chromosomes records) ≡ chromosomes records
   names_placed [] placed = refl
   names_placed (r ∷ []) placed = refl
-  names_placed (r ∷ s ∷ ss) placed =
-      let rest = names_placed (s ∷ ss) placed.2 in
-      elim placed.1 [
-        | inl less ↦
-            let names = chromosomes (s ∷ ss) in
-            let front : chromosomes (r ∷ s ∷ ss) ≡ r.chrom ∷ names
-            = ap (λ ns. r.chrom ∷ ns) (without_absent r.chrom names
-            (among_chromosomes r.chrom (s ∷ ss) ∙ gone r s ss placed less)) in
-            ap (in_order order) front ∙ ap (put_in_order order r.chrom) rest
-            ∙ stands_first r.chrom s.chrom (without s.chrom (chromosomes ss)) less ∙ sym front
-        | inr same ↦
-            let one = same_chromosome r s ss same.0 in
-            ap (in_order order) one ∙ rest ∙ sym one
-      ]
+  names_placed (r ∷ s ∷ ss) placed = grind (arith, (names_placed (s ∷ ss) placed.2), without_absent, (among_chromosomes r.chrom (s ∷ ss)), gone, same_chromosome)
 
 pub ordered_come : (order : Order) (gap : ℕ) (strand : MergeStrand) (records : List Feature) → IsTotal order → ArePlaced order (intervals_of records)
     → ordered_runs order gap strand records ≡ merged_runs gap strand records
@@ -315,17 +226,11 @@ ordered_come order gap strand records total placed =
 -- a name that was left out isn't among the others
 absent_without : (name : List ℕ) (names : List (List ℕ)) → is_among (without name names) name ≡ false
 absent_without name [] = refl
-absent_without name (n ∷ ns) = elim (cases_name n name) [
-  | inl e ↦ ap (λ ms. is_among ms name) (without-here name n ns e) ∙ absent_without name ns
-  | inr f ↦ ap (λ ms. is_among ms name) (without-other name n ns f) ∙ or_from (bytes_eq n name) (is_among (without name ns) name) f (absent_without name ns)
-]
+absent_without name (n ∷ ns) = grind (arith, (absent_without name ns))
 
 distinct_without : (name : List ℕ) (names : List (List ℕ)) → AreDistinct names → AreDistinct (without name names)
 distinct_without name [] d = tt
-distinct_without name (n ∷ ns) d = elim (cases_name n name) [
-  | inl e ↦ subst AreDistinct (sym (without-here name n ns e)) (distinct_without name ns d.1)
-  | inr f ↦ subst AreDistinct (sym (without-other name n ns f)) (among_without n name ns (name_ne-sym n name f) ∙ d.0, distinct_without name ns d.1)
-]
+distinct_without name (n ∷ ns) d = grind (arith, (distinct_without name ns d.1), among_without, name_ne-sym)
 
 pub distinct_chromosomes : (records : List Interval) → AreDistinct (chromosomes records)
 distinct_chromosomes [] = tt
@@ -333,36 +238,20 @@ distinct_chromosomes (r ∷ rs) = (absent_without r.chrom (chromosomes rs), dist
 
 -- one more name before the others
 known_shift : (o : Option ℕ) → is_some o ≡ true → is_some (option_map (λ rank. suc rank) o) ≡ true
-known_shift None e = e
-known_shift (Some k) e = refl
+known_shift o e = grind arith
 
 less_shift : (o p : Option ℕ) → compare_ranks o p ≡ Less → compare_ranks (option_map (λ rank. suc rank) o) (option_map (λ rank. suc rank) p) ≡ Less
-less_shift None p e = e
-less_shift (Some i) None e = e
-less_shift (Some i) (Some j) e = let h = less_cmp i j e in cmp_less (suc i) (suc j) (omega arith)
+less_shift o p e = grind arith
 
 less_first : (o : Option ℕ) → is_some o ≡ true → compare_ranks (Some 0) (option_map (λ rank. suc rank) o) ≡ Less
-less_first None e = let apart : false ≡ true = e in cc
-less_first (Some k) e = cmp_less 0 (suc k) (omega arith)
+less_first o e = grind arith
 
 shift : (name : List ℕ) (names : List (List ℕ)) (records : List Interval) → has_records name records ≡ false → ArePlaced (rank_order names) records → ArePlaced (rank_order (name ∷ names)) records
 shift name names [] f p = tt
-shift name names (r ∷ []) f p =
-    let here = rank_of-later name r.chrom names (name_ne-sym r.chrom name (or_parts (bytes_eq r.chrom name) false f).0) in
-    (ap is_some here ∙ known_shift (rank_of names r.chrom) p.0, tt, tt)
+shift name names (r ∷ []) f p = grind arith
 shift name names (r ∷ s ∷ ss) f p =
     let parts = or_parts (bytes_eq r.chrom name) (has_records name (s ∷ ss)) f in
-    let next = or_parts (bytes_eq s.chrom name) (has_records name ss) parts.1 in
-    let here = rank_of-later name r.chrom names (name_ne-sym r.chrom name parts.0) in
-    let there = rank_of-later name s.chrom names (name_ne-sym s.chrom name next.0) in
-    let rest = shift name names (s ∷ ss) parts.1 p.2 in (
-      ap is_some here ∙ known_shift (rank_of names r.chrom) p.0,
-      elim p.1 [
-        | inl less ↦ inl (ap (λ o. compare_ranks o (rank_of (name ∷ names) s.chrom)) here ∙ ap (λ o. compare_ranks (option_map (λ rank. suc rank) (rank_of names r.chrom)) o) there ∙ less_shift (rank_of names r.chrom) (rank_of names s.chrom) less)
-        | inr same ↦ inr same
-      ],
-      rest,
-    )
+    grind (arith, (shift name names (s ∷ ss) parts.1 p.2), name_ne-sym)
 
 pub placed_own : (records : List Interval) → AreContiguous records → ArePlaced (rank_order (chromosomes records)) records
 placed_own [] t = tt
@@ -371,9 +260,7 @@ placed_own (r ∷ s ∷ ss) t =
     let rest = placed_own (s ∷ ss) t.1 in
     let Placed : List (List ℕ) → Type 0 = λ names. ArePlaced (rank_order names) (r ∷ s ∷ ss) in
     elim t.0 [
-      | inl same ↦
-          let known = subst (λ (c : List ℕ). is_some (rank_of (chromosomes (s ∷ ss)) c) ≡ true) same.0 rest.0 in
-          subst Placed (sym (same_chromosome r s ss (sym same.0))) (known, inr (sym same.0, same.1), rest)
+      | inl same ↦ grind (arith, same_chromosome)
       | inr gone ↦
           let names = chromosomes (s ∷ ss) in
           let front : chromosomes (r ∷ s ∷ ss) ≡ r.chrom ∷ names = ap (λ ns. r.chrom ∷ ns) (without_absent r.chrom names (among_chromosomes r.chrom (s ∷ ss) ∙ gone)) in

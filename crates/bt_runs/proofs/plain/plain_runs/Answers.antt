@@ -12,8 +12,7 @@ loop-position-preserved c =
       | then-is_bridged+in_ok-add_position w ↦
           let added = w.in_ok-add_position.ensures in
           rw (w.runs-is, added) (below_with (Bridged c.args.gap (spans_in c.args.spans.now)) c.loop-position.position before c.loop-position.invariant (c.is_bridged.ensures.0 w.if-is_bridged.true))
-      | else-is_bridged w ↦
-          rw (w.runs-is) (below_without (Bridged c.args.gap (spans_in c.args.spans.now)) c.loop-position.position before c.loop-position.invariant (λ b. false≢true (sym w.if-is_bridged.false ∙ c.is_bridged.ensures.1 b)))
+      | else-is_bridged w ↦ grind (arith, below_without, false≢true)
     ]
 
 pub returns : goal.returns

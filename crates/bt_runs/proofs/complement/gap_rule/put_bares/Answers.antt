@@ -36,6 +36,4 @@ loop-rank-preserved g c =
     one_bare (bare_gap false) table interval_line c.args.first rank (omega arith) (omega arith) _ _ _ c.loop-rank.invariant whole
 
 pub returns : goal.returns
-returns g c =
-    let same : c.loop-rank.rank ≡ c.args.stop = omega arith in
-    rw (c.if-limit.false, ← same) c.loop-rank.invariant
+returns g c = grind arith

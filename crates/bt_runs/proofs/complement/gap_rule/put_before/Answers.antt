@@ -11,13 +11,7 @@ pub length-requires : goal.length-requires
 length-requires g c = (c.args.cursor.now.named c.in-Some.rank c.in-Some.is).placed.within
 
 pub returns-in_err-put_gap : goal.returns-in_err-put_gap
-returns-in_err-put_gap g c =
-    let p = err_from_is_err_and c.from_residual.result c.from_residual.ensures.1 in
-    let table = entries c.args.cursor.now.genome.now in
-    let rank = c.in-Some.rank in
-    let named = (c.args.cursor.now.named rank c.in-Some.is).is in
-    let size = length_read table rank c.length.result c.length.ensures.is in
-    rw (p.1, p.2, c.in-Some.is) (cut_lines interval_line _ _ (last_gap (entry_at table rank) c.args.cursor.now.end) (flat_map (bare_gap c.args.limit) (slice_range table (rank + 1) c.args.stop)) _ (rw (named, size) c.in_err-put_gap.ensures))
+returns-in_err-put_gap g c = grind (arith, err_from_is_err_and, length_read, cut_lines)
 
 pub returns : goal.returns
 returns g c =
@@ -27,5 +21,4 @@ returns g c =
     let named = (c.args.cursor.now.named rank c.in-Some.is).is in
     let size = length_read table rank c.length.result c.length.ensures.is in
     let first : c.min.result ≡ min (rank + 1) c.args.stop = let is = c.min.ensures in let next = c.saturating_add.ensures in let fits = c.ranges.stop.fits in omega arith in
-    rw (c.in-Some.is, before_from (bare_gap c.args.limit) table last_gap (Some place) c.min.result c.args.stop first)
-    (adds_lines interval_line _ _ _ (last_gap (entry_at table rank) c.args.cursor.now.end) (bares_from (bare_gap c.args.limit) table c.min.result c.args.stop) c.put_bares-2.result (rw (named, size) c.in_ok-put_gap.ensures) c.put_bares-2.ensures)
+    grind (arith, (before_from (bare_gap c.args.limit) table last_gap (Some place) c.min.result c.args.stop first), adds_lines)

@@ -8,14 +8,7 @@ use Rattle.bt_runs.proofs.lemmas.order.ByChromosome.{bares_from, before_from, le
 use Rattle.bt_runs.proofs.coverage.depth_rule.put_before.Goals as goal
 
 pub returns-in_err-put_rest : goal.returns-in_err-put_rest
-returns-in_err-put_rest g c =
-    let p = err_from_is_err_and c.from_residual.result c.from_residual.ensures.1 in
-    let table = entries c.args.chroms.now.genome.now in
-    let zeros = c.args.chroms.now.zeros in
-    let place = place_seen c.in-Some.reached c.args.held.now in
-    let named = name_read table place.rank c.name.result.now c.name.ensures in
-    let size = length_read table place.rank c.length.result c.length.ensures.is in
-    rw (p.1, p.2, c.in-Some.is) (cut_lines depth_line _ _ (depths_left zeros (entry_at table place.rank) place.known) (flat_map (bare_of zeros) (slice_range table (place.rank + 1) c.args.stop)) _ (rw (named, size) c.in_err-put_rest.ensures.adds))
+returns-in_err-put_rest g c = grind (arith, err_from_is_err_and, name_read, length_read, cut_lines)
 
 pub returns : goal.returns
 returns g c =
@@ -25,5 +18,4 @@ returns g c =
     let named = name_read table place.rank c.name.result.now c.name.ensures in
     let size = length_read table place.rank c.length.result c.length.ensures.is in
     let first : c.min.result ≡ min (place.rank + 1) c.args.stop = let is = c.min.ensures in let next = c.saturating_add.ensures in let fits = c.ranges.stop.fits in omega arith in
-    rw (c.in-Some.is, before_from (bare_of zeros) table (depths_left zeros) (Some place) c.min.result c.args.stop first)
-    (adds_lines depth_line _ _ _ (depths_left zeros (entry_at table place.rank) place.known) (bares_from (bare_of zeros) table c.min.result c.args.stop) c.put_bares-2.result (rw (named, size) c.in_ok-put_rest.ensures.adds) c.put_bares-2.ensures)
+    grind (arith, (before_from (bare_of zeros) table (depths_left zeros) (Some place) c.min.result c.args.stop first), adds_lines)

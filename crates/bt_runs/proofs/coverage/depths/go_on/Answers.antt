@@ -1,3 +1,4 @@
+use Rattle.std.proofs.lemmas.Grind.{common_steps}
 use Rattle.bt_lines.proofs.Std.{ℕ, refl, ◌≡◌, ◌-◌, ◌+◌, ◌<◌, ◌≤◌, ◌++◌, List, Ok, All, arith, length, max, sym, subst, ap, ◌∙◌, err_from_is_err_and}
 use Rattle.bt_lines.proofs.lemmas.Writer.{grown_none}
 use Rattle.bt_bed.specs.model.Feature.{Span}
@@ -11,19 +12,7 @@ abbrev with_at : ℕ → List Span → OpenAt
 with_at at spans = record { at = at; spans = spans }
 
 pub loop-position-init : goal.loop-position-init
-loop-position-init g c =
-    let u = depth_of c.args.chrom.now.zeros c.args.held.now.spans in
-    let known = c.args.held.now.at in
-    let begun = begun_seen c.args.begun in
-    rw c.at-position.ensures (record {
-      from = omega arith;
-      to = omega arith;
-      here = omega arith;
-      left = all_open known c.args.held.now.spans;
-      same = refl;
-      puts = rw (no_ended u known (known - known) begun (omega arith)) (grown_none c.args.out.now.output);
-      begun = sym (no_begun u known (known - known) begun (omega arith));
-    })
+loop-position-init g c = grind (arith, common_steps, all_open, no_ended, grown_none, no_begun)
 
 pub returns-in_err-begun-clause-adds : goal.returns-in_err-begun-clause-adds
 returns-in_err-begun-clause-adds g c =

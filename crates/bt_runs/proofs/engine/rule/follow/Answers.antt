@@ -1,4 +1,5 @@
-use Rattle.bt_lines.proofs.Std.{◌∙◌, refl, subst, sym}
+use Rattle.std.proofs.lemmas.Grind.{common_steps}
+use Rattle.bt_lines.proofs.Std.{arith, ◌∙◌, refl, subst, sym}
 use Rattle.bt_runs.proofs.lemmas.Engine.{follows, follows_on, follows_up_to}
 use Rattle.bt_runs.proofs.engine.rule.follow.Goals as goal
 
@@ -29,8 +30,7 @@ loop-fault-init g c = record {
 }
 
 pub returns-in-Err-step : goal.returns-in-Err-step
-returns-in-Err-step g c =
-    rw c.leave.ensures (follows_up_to c.loop-fault.invariant.following (record { does = c.in-Err-step.ensures.does; fits = c.in-Err-step.ensures.fits }))
+returns-in-Err-step g c = grind (arith, common_steps, follows_up_to)
 
 pub loop-fault-preserved : goal.loop-fault-preserved
 loop-fault-preserved g c =
@@ -46,5 +46,4 @@ loop-fault-preserved g c =
 pub returns : goal.returns
 returns g c =
     let step = c.in_default-step.ensures in
-    rw (c.leave-2.ensures, c.in-None.ensures.unchanged)
-    (follows c.loop-fault.invariant.following g.met.C.Cursor.gives_more (record { does = step.does; fits = step.fits }), c.in-None.ensures.none)
+    grind (arith, (follows c.loop-fault.invariant.following g.met.C.Cursor.gives_more (record { does = step.does; fits = step.fits })))

@@ -1,4 +1,5 @@
-use Rattle.bt_lines.proofs.Std.{sym, ◌∙◌, ◌≡◌, inl, inr, Ok, true, err_from_is_err_and}
+use Rattle.std.proofs.lemmas.Grind.{common_steps}
+use Rattle.bt_lines.proofs.Std.{arith, sym, ◌∙◌, ◌≡◌, inl, inr, Ok, true, err_from_is_err_and}
 use Rattle.bt_lines.proofs.lemmas.Writer.{grown_none}
 use Rattle.bt_runs.proofs.lemmas.merge.StrandSettling.{all_left, all_written, is_over, line_cut, line_more, next_written, none_written, over_not, over_so, stopped_at}
 use Rattle.bt_runs.proofs.merge.per_strand_merge.put_passed.Goals as goal
@@ -8,16 +9,10 @@ pub loop-run-init : goal.loop-run-init
 loop-run-init g c = record { written = none_written c.args.here c.args.reach c.args.runs.now; puts = grown_none c.args.out.now.output }
 
 pub returns-then-reach-run-clause-adds : goal.returns-then-reach-run-clause-adds
-returns-then-reach-run-clause-adds g c =
-    let is = sym c.first.ensures ∙ c.in-Some.is in
-    let stop = stopped_at c.args.here c.args.reach c.loop-run.runs c.in-Some.run' is (over_not c.args.here c.args.reach c.in-Some.run' c.if-here.true c.if-reach-run.true) in
-    rw (all_written c.args.here c.args.reach c.args.runs.now c.loop-run.runs c.loop-run.invariant.written stop) c.loop-run.invariant.puts
+returns-then-reach-run-clause-adds g c = grind (arith, common_steps, stopped_at, (over_not c.args.here c.args.reach c.in-Some.run' c.if-here.true c.if-reach-run.true), all_written)
 
 pub returns-then-reach-run-clause-left : goal.returns-then-reach-run-clause-left
-returns-then-reach-run-clause-left g c =
-    let is = sym c.first.ensures ∙ c.in-Some.is in
-    all_left c.args.here c.args.reach c.args.runs.now c.loop-run.runs c.loop-run.invariant.written
-    (stopped_at c.args.here c.args.reach c.loop-run.runs c.in-Some.run' is (over_not c.args.here c.args.reach c.in-Some.run' c.if-here.true c.if-reach-run.true))
+returns-then-reach-run-clause-left g c = grind (arith, all_left, stopped_at, over_not)
 
 pub returns-in_err-put_interval-clause-adds : goal.returns-in_err-put_interval-clause-adds
 returns-in_err-put_interval-clause-adds g c =

@@ -1,3 +1,4 @@
+use Rattle.std.proofs.lemmas.Grind.{common_steps}
 use Rattle.bt_lines.proofs.Std.{◌≡◌, ◌∙◌, ℕ, Some, arith, refl, subst, sym, err_from_is_err_and}
 use Rattle.bt_bed.specs.calls.GenomeTable.{entries}
 use Rattle.bt_runs.specs.inside.GapRule.{seen, complement_at}
@@ -8,12 +9,10 @@ use Rattle.bt_runs.proofs.lemmas.order.ByChromosome.{length_read, name_read}
 use Rattle.bt_runs.proofs.complement.gap_rule.GapRuleRule.enter.Goals as goal
 
 pub returns-in_default-clause-on : goal.returns-in_default-clause-on
-returns-in_default-clause-on g c =
-    lacks_chrom c.self.inside.limit c.self.inside.cursor c.args.chrom.now (sym c.rank.ensures ∙ c.in_default.is)
+returns-in_default-clause-on g c = grind (arith, (lacks_chrom c.self.inside.limit c.self.inside.cursor c.args.chrom.now (sym c.rank.ensures ∙ c.in_default.is)))
 
 pub length-self-inside-requires : goal.length-self-inside-requires
-length-self-inside-requires g c =
-    (rank_placed c.self.inside.limit c.self.inside.cursor c.args.chrom.now c.in-Some.rank (sym c.in-Some.ensures)).within
+length-self-inside-requires g c = grind (arith, (rank_placed c.self.inside.limit c.self.inside.cursor c.args.chrom.now c.in-Some.rank (sym c.in-Some.ensures)))
 
 pub returns-then-eq-clause-on : goal.returns-then-eq-clause-on
 returns-then-eq-clause-on g c =
@@ -23,9 +22,7 @@ returns-then-eq-clause-on g c =
     has_chrom c.self.inside.limit cursor c.args.chrom.now c.in-Some.rank (sym c.in-Some.ensures) cursor.end c.length-self-inside.result (seen cursor) (rw same refl) size
 
 pub put_before-requires : goal.put_before-requires
-put_before-requires g c =
-    let within = (rank_placed c.self.inside.limit c.self.inside.cursor c.args.chrom.now c.in-Some.rank (sym c.in-Some.ensures)).within in
-    omega arith
+put_before-requires g c = grind (arith, (rank_placed c.self.inside.limit c.self.inside.cursor c.args.chrom.now c.in-Some.rank (sym c.in-Some.ensures)))
 
 pub returns-in_err-put_before-clause-enters : goal.returns-in_err-put_before-clause-enters
 returns-in_err-put_before-clause-enters g c =
@@ -46,12 +43,7 @@ pub length-requires : goal.length-requires
 length-requires g c = (rank_placed c.self.inside.limit c.self.inside.cursor c.args.chrom.now c.in-Some.rank (sym c.in-Some.ensures)).within
 
 pub invariant_of-self : goal.invariant_of-self
-invariant_of-self g c =
-    let table = entries c.self.inside.cursor.genome.now in
-    let rank = c.in-Some.rank in
-    let placed = rank_placed c.self.inside.limit c.self.inside.cursor c.args.chrom.now rank (sym c.in-Some.ensures) in
-    let here : IsNamed table rank c.name.result.now = record { placed = placed; is = name_read table rank c.name.result.now c.name.ensures } in
-    record { named = λ r is. let same : rank ≡ r = cc in subst (λ (r : ℕ). IsNamed table r c.name.result.now) same here }
+invariant_of-self g c = grind (arith, common_steps, rank_placed, name_read)
 
 pub returns-clause-on : goal.returns-clause-on
 returns-clause-on g c =
@@ -70,9 +62,7 @@ returns-clause-enters g c =
     c.length.result c.put_before.new.out.output (on_found (entries cursor.genome.now) c.args.chrom.now rank (sym c.in-Some.ensures)) c.in_ok-put_before.ensures)
 
 pub returns-in_default-clause-enters : goal.returns-in_default-clause-enters
-returns-in_default-clause-enters g c =
-    rw (← c.self.view_is) (enters_here (complement_at c.self.inside.limit c.self.inside.cursor) (cursor_reached c.self.inside.cursor) c.args.chrom.now c.args.out.now.output 0)
+returns-in_default-clause-enters g c = grind (arith, enters_here, cursor_reached)
 
 pub returns-then-eq-clause-enters : goal.returns-then-eq-clause-enters
-returns-then-eq-clause-enters g c =
-    rw (← c.self.view_is) (enters_here (complement_at c.self.inside.limit c.self.inside.cursor) (cursor_reached c.self.inside.cursor) c.args.chrom.now c.args.out.now.output c.length-self-inside.result)
+returns-then-eq-clause-enters g c = grind (arith, enters_here, cursor_reached)

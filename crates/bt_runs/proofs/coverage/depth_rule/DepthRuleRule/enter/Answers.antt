@@ -15,10 +15,7 @@ returns-then-is_same_name-clause-enters g c =
     rw (← c.self.view_is) (enters_moved old true c.name-name.result.now c.length-length.result c.args.chrom.now c.args.out.now.output)
 
 pub put_before-requires-clause-within : goal.put_before-requires-clause-within
-put_before-requires-clause-within g c =
-    let at = found_at (entries c.self.inside.chroms.genome.now) c.args.chrom.now c.in-Some-rank.rank (sym c.in-Some-rank.ensures) in
-    let h = at.within in
-    omega arith
+put_before-requires-clause-within g c = grind (arith, (found_at (entries c.self.inside.chroms.genome.now) c.args.chrom.now c.in-Some-rank.rank (sym c.in-Some-rank.ensures)))
 
 pub invariant_of-self-2 : goal.invariant_of-self-2
 invariant_of-self-2 g c = found_at (entries c.self.inside.chroms.genome.now) c.args.chrom.now c.in-Some-rank.rank (sym c.in-Some-rank.ensures)

@@ -1,3 +1,4 @@
+use Rattle.bt_lines.proofs.Std.{arith}
 use Rattle.bt_runs.specs.inside.Coverage.{still_open, spans_open}
 use Rattle.bt_runs.proofs.lemmas.coverage.OpenLemmas.{all_open, ends_left, left_ends}
 use Rattle.bt_runs.proofs.coverage.open_records.OpenRecords.first_end.Goals as goal
@@ -10,5 +11,4 @@ returns-clause-ends c =
 pub returns-clause-behind : goal.returns-clause-behind
 returns-clause-behind c =
     let m = c.self.inside in
-    let spans = spans_open m.spans.items in
-    rw (← c.self.view_is) (λ up. c.first.ensures.behind m.at up (left_ends m.ends (still_open m.at spans) c.self.invariant.counts m.at (all_open m.at spans)))
+    grind (arith, (left_ends m.ends (still_open m.at (spans_open m.spans.items)) c.self.invariant.counts m.at (all_open m.at (spans_open m.spans.items))))

@@ -1,15 +1,11 @@
-use Rattle.bt_lines.proofs.Std.{sym, ◌∙◌}
+use Rattle.bt_lines.proofs.Std.{arith, sym, ◌∙◌}
 use Rattle.bt_bed.specs.model.Feature.{is_strand}
 use Rattle.bt_runs.specs.declared.merge.pending_runs.PendingRun.{PendingRun}
 use Rattle.bt_runs.proofs.lemmas.merge.StrandSettling.{joined_counts, last_place_within, place_counted}
 use Rattle.bt_runs.proofs.merge.pending_runs.PendingRuns.join.Goals as goal
 
 pub lengthen-requires : goal.lengthen-requires
-lengthen-requires c =
-    let items = c.self.inside.runs.items in
-    let got = c.in-Some.ensures in
-    let counted = rw (c.self.invariant, c.slot_of.ensures) at got in
-    last_place_within (λ (w : PendingRun). is_strand w.strand c.args.strand) items c.in-Some.place (place_counted c.args.strand items c.in-Some.place counted.0 counted.1)
+lengthen-requires c = grind (arith, last_place_within, place_counted)
 
 pub invariant_of-self : goal.invariant_of-self
 invariant_of-self c = c.self.invariant ∙ sym (joined_counts c.args.reach c.args.stop c.self.inside.runs.items c.lengthen.new.runs.items c.in-Some.place c.lengthen.result c.lengthen.ensures)
