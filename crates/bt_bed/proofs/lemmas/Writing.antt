@@ -14,14 +14,6 @@ use Rattle.bt_bed.specs.model.BedLine.{interval_line, interval_lines, bounds_tex
 pub line_parts : (r : Interval) → r.chrom ++ span_text r.start r.stop 10 ≡ interval_line r
 line_parts r = grind (arith, append_assoc)
 
--- no line is empty
-pub line_has_bytes : (r : Interval) → interval_line r ≡ [] → ⊥
-line_has_bytes r e = grind (arith, common_steps)
-
--- the line of an interval alone
-pub adds_line : {A : Type 0} (r : Interval) (old new : Output) (result : Result A Fault) → Puts old (interval_line r) result new → Adds old (interval_lines (r ∷ [])) result new
-adds_line r old new result p = line_alone interval_line r old new result (line_has_bytes r) p
-
 -- by whether a call could put the bytes
 pub was_put : {A : Type 0} (old new : Output) (bytes : List ℕ) (result : Result A Fault) → Puts old bytes result new → is_ok result ≡ true → PutsAll old bytes new
 was_put old new bytes result p e = grind arith

@@ -1,4 +1,4 @@
--- The cursors of this crate, each as the record of its trait.
+-- The ghost members of each `impl Cursor` of this crate, as one record.
 use Rattle.std.specs.Prelude.{[], length}
 use Rattle.bt_bed.specs.calls.Batch.{HasEnded, Passes, batch_room, chrom_in, consumed_in, line_in}
 use Rattle.bt_bed.specs.calls.Bed.{GivesSingle, HasNone, single_left, single_line, single_name}

@@ -1,13 +1,13 @@
 -- Lemmas on engines and their rules.
-use Rattle.bt_lines.proofs.Std.{arith, ◌≡◌, ℕ, List, Option, None, Some, Result, Ok, Err, IfErr, sym, ap, ◌∙◌, inl, inr, MatchResult, [], ◌++◌, append-nil, append_cancel_left, ◌∷◌, refl, option_map, true, IsOk}
+use Rattle.bt_lines.proofs.Std.{arith, ◌≡◌, ℕ, List, Option, None, Some, Result, Ok, Err, IfErr, sym, ap, ◌∙◌, inl, inr, MatchResult, [], ◌++◌, append-nil, append_cancel_left, ◌∷◌, refl}
 use Rattle.bt_lines.specs.model.Fault.{FaultValue, no_memory, write_failed}
 use Rattle.bt_lines.specs.calls.Names.{fault_value}
-use Rattle.bt_lines.specs.calls.Output.{Output, FailsToAdd, Grown, Grows}
+use Rattle.bt_lines.specs.calls.Output.{Output, FailsToAdd, Grown}
 use Rattle.bt_lines.specs.declared.fault.Fault.{Fault}
 use Rattle.bt_bed.specs.model.Feature.{Feature}
-use Rattle.bt_runs.specs.calls.Engine.{EngineDef, FailsAtGiven, KeepsFault, PutsSettled, TakesGiven, WritesFirst, WritesLeft, WritesLeftPrefix, WritesPrefix, WritesSettled, Feeds, Finishes, IsWanted, FeedAnswers, FeedsBatch, TakesEach, fault_of, ruled, ruled_fault}
-use Rattle.bt_lines.proofs.lemmas.Writer.{cut_off, fails_then, grown_more, grown_works, grows_nothing}
-use Rattle.bt_runs.specs.inside.Walk.{Does, EnterAnswers, FitsPast, Follows, PutsRestAtEnd, RuleDef, Taken, TakenEach, TakenGiven, TakenUpTo}
+use Rattle.bt_runs.specs.calls.Engine.{EngineDef, FailsAtGiven, KeepsFault, TakesGiven, WritesFirst, WritesLeft, WritesLeftPrefix, WritesPrefix, WritesSettled, Feeds, Finishes, IsWanted, FeedsBatch, TakesEach, ruled, ruled_fault}
+use Rattle.bt_lines.proofs.lemmas.Writer.{cut_off, fails_then, grown_more, grows_nothing}
+use Rattle.bt_runs.specs.inside.Walk.{Does, EnterAnswers, FitsPast, Follows, PutsRestAtEnd, RuleDef, Taken, StepsEach, StepsGiven, StepsUpTo}
 use Rattle.bt_runs.specs.declared.engine.failure.Failure.{Failure}
 use Rattle.bt_runs.specs.declared.engine.rule.Ruled.{Ruled}
 use Rattle.bt_bed.specs.calls.Bed.{single_left}
@@ -19,9 +19,6 @@ use Rattle.bt_bed.specs.declared.read.cursor.Single.{Single}
 
 pub other_fault : {answer : FaultValue} → answer ≡ no_memory → answer ≡ write_failed → ⊥
 other_fault memory write = let apart : no_memory.kind ≡ write_failed.kind = ap (λ (t : FaultValue). t.kind) (sym memory ∙ write) in cc
-
-none_before : {A : Type 0} {o : Option A} {x : A} → o ≡ None → o ≡ Some x → ⊥
-none_before none some = cc
 
 module _ {E A : Type 0} {engine : EngineDef E} {old : E} {r : Feature} {out : Output} {new : E} {grown : Output} where
   pub feeds_settled : (result : Result A Fault) → Feeds engine old r out result new grown → WritesSettled engine old r out result new grown
@@ -96,7 +93,7 @@ module _ {E : Type 0} {rule : RuleDef E} {old : E} (fits : (r : Feature) → Fit
 module _ {E : Type 0} (rule : RuleDef E) where
   -- one more record
   taken_more : (old : E) (out : Output) (records : List Feature) (r : Feature) (mid : E) (through : Output) (new : E) (grown : Output)
-      → TakenEach rule old out records mid through → Taken rule mid r through (Ok tt) new grown → TakenEach rule old out (records ++ r ∷ []) new grown
+      → StepsEach rule old out records mid through → Taken rule mid r through (Ok tt) new grown → StepsEach rule old out (records ++ r ∷ []) new grown
   taken_more old out [] r mid through new grown is next = rw (← is.0, ← is.1) (new, grown, next, (refl, refl))
   taken_more old out (x ∷ records) r mid through new grown more next = grind (arith, (taken_more more.0 more.1 records r mid through new grown more.3 next))
 
@@ -106,7 +103,7 @@ module _ {E : Type 0} (rule : RuleDef E) where
     pub mid : E
     pub before : C
     pub through : Output
-    pub takes : TakenGiven rule cursor old start out mid before through
+    pub takes : StepsGiven rule cursor old start out mid before through
     pub next : cursor.gives before (r ∷ []) ahead
     pub on : r.chrom ≡ cursor.name start
     pub entered : rule.is_on now (cursor.name start)
@@ -117,7 +114,7 @@ module _ {E C R : Type 0} {rule : RuleDef E} {cursor : Cursor C R} {old : E} {st
   module _ (more_given : (first mid last : C) (xs ys : List Feature) → cursor.gives first xs mid → cursor.gives mid ys last → cursor.gives first (xs ++ ys) last)
       (done : Taken rule now r grown (Ok tt) new later) where
     -- the available record was taken
-    pub follows : TakenGiven rule cursor old start out new ahead later
+    pub follows : StepsGiven rule cursor old start out new ahead later
     follows = grind (arith, (taken_more rule old out f.takes.records r f.mid f.through new later f.takes.each (f.does_so (Ok tt) new later done)))
 
     -- and the next one is available
@@ -126,7 +123,7 @@ module _ {E C R : Type 0} {rule : RuleDef E} {cursor : Cursor C R} {old : E} {st
     follows_on entered given on = grind (arith, follows)
 
   -- it wasn't taken
-  pub follows_up_to : {fault : Fault} → Taken rule now r grown (Err fault) new later → TakenUpTo rule cursor old start out fault new ahead later
+  pub follows_up_to : {fault : Fault} → Taken rule now r grown (Err fault) new later → StepsUpTo rule cursor old start out fault new ahead later
   follows_up_to {fault} fails = record {
     mid = f.mid;
     before = f.before;
@@ -157,19 +154,6 @@ keeps_none result new never none = grind arith
 module _ {E : Type 0} (rule : RuleDef E) where
   -- one record
   module _ (old : E) (r : Feature) (out : Output) (fits : FitsPast rule old r) where
-    puts : (grown : Output) → Grown out (rule.lines old r) grown → PutsSettled (ruled rule.engine) (going old) r out grown
-    puts grown p first past s t = record { bytes = rule.lines old r; goes_on = fits.settles first.rule past s.0 t; appends = p.appends }
-
-    answers : (result : Result (Unit {0}) Fault) (new : Ruled E) (grown : Output) → Does rule old r out result new.rule grown → Keeps result new
-        → FeedAnswers (ruled rule.engine) (going old) r out result new grown
-    answers result new grown p kept = grind arith
-
-    is_quiet : (result : Result (Unit {0}) Fault) (new : E) (grown : Output) → Does rule old r out result new grown → (rule.lines old r ≡ []) × (rule.engine.wants old r → ⊥) → IsOk result × (grown ≡ out)
-    is_quiet result new grown p q = grind arith
-
-    grows : (result : Result (Unit {0}) Fault) (new : E) (grown : Output) → Does rule old r out result new grown → Grows out.took grown.took × (out.has_failed ≡ true → grown ≡ out)
-    grows result new grown p = grind arith
-
     memory : (fault : Fault) (new : E) (grown : Output) → Does rule old r out (Err fault) new grown → fault_value fault ≡ no_memory → rule.engine.wants old r
     memory fault new grown (inl p) is = absurd (other_fault is p.puts.is)
     memory fault new grown (inr p) is = p.1.0
@@ -178,14 +162,14 @@ module _ {E : Type 0} (rule : RuleDef E) where
         → Feeds (ruled rule.engine) (going old) r out result new grown
     feeds_by result new grown p kept = grind arith
 
-  taken_each : (old : E) (out : Output) (records : List Feature) (new : E) (grown : Output) → TakenEach rule old out records new grown
+  taken_each : (old : E) (out : Output) (records : List Feature) (new : E) (grown : Output) → StepsEach rule old out records new grown
       → TakesEach (ruled rule.engine) (going old) out records (going new) grown
   taken_each old out [] new grown each = (ap going each.0, each.1)
   taken_each old out (r ∷ records) new grown each =
       (going each.0, each.1, feeds_by old r out each.2.fits (Ok tt) (going each.0) each.1 each.2.does refl, taken_each each.0 each.1 records new grown each.3)
 
   module _ {C R : Type 0} (cursor : Cursor C R) (start : C) (out : Output) where
-    taken_given : (old new : E) (passed : C) (grown : Output) → TakenGiven rule cursor old start out new passed grown → TakesGiven (ruled rule.engine) cursor (going old) start out (going new) passed grown
+    taken_given : (old new : E) (passed : C) (grown : Output) → StepsGiven rule cursor old start out new passed grown → TakesGiven (ruled rule.engine) cursor (going old) start out (going new) passed grown
     taken_given old new passed grown t = record { records = t.records; given = t.given; taken = taken_each old out t.records new grown t.each }
 
     -- an engine that hasn't failed takes the records of a cursor
@@ -221,9 +205,6 @@ module _ {E : Type 0} (engine : EngineDef E) (old : E) (r : Feature) (out : Outp
   at_first : single_left one ≡ r ∷ [] → {fault : Fault} {new : E} {grown : Output}
       → (p : FailsAtGiven engine single_cursor old one out fault new passed grown) → (p.r ≡ r) × (p.mid ≡ old) × (p.through ≡ out)
   at_first is p = grind (arith, first_of_one)
-
-  one_taken : {new : E} {grown : Output} → TakesEach engine old out (r ∷ []) new grown → Feeds engine old r out {A = Unit {0}} (Ok tt) new grown
-  one_taken t = rw (t.3.0, t.3.1) t.2
 
   pub single_fed : (result : Result (Unit {0}) Fault) (new : E) (grown : Output) → single_left one ≡ r ∷ [] → FeedsBatch engine single_cursor old one out result new passed grown
       → Feeds engine old r out result new grown

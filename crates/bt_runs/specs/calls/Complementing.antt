@@ -35,7 +35,7 @@ settled_lines first past = interval_lines (settled_gaps first.limit first.entrie
 abbrev pub held_count : Complementing → List Feature → ℕ
 held_count first past = length (kept_place first.entries past)
 
--- what is said of a complement, until it has failed
+-- what a complement takes, writes and keeps, until it has failed
 abbrev pub complementing : EngineDef Complementing
 complementing = record {
   takes = λ first past. AreTaken first.entries past;

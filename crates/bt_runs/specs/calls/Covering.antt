@@ -51,7 +51,7 @@ pub record IsAfter (first : Covering) (past : List Feature) (now : Covering) : T
 abbrev pub wants_memory : Covering → Feature → Type 0
 wants_memory old r = (is_counted_by old.strand r.strand ≡ true) × (r.start < length_in old.entries r.chrom)
 
--- what is said of a coverage, until it has failed
+-- what a coverage takes, writes and keeps, until it has failed
 abbrev pub covering : EngineDef Covering
 covering = record {
   takes = λ first past. AreTaken first.entries past;
@@ -62,7 +62,7 @@ covering = record {
   held = λ first past. length (kept_records first.strand first.entries past);
   is_after = IsAfter;
   fault = λ now. None;
-  -- no record is said to be taken quietly: `wants_memory` says when memory may be needed
+  -- no record is taken quietly: `wants_memory` says when memory may be needed
   quiet = λ first past r. ⊥;
   wants = wants_memory;
 }

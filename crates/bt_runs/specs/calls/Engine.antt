@@ -10,7 +10,7 @@ use Rattle.bt_runs.specs.declared.engine.failure.Failure.{Failure}
 use Rattle.bt_runs.specs.declared.engine.failure.Failure.TheVariants.{Write, Memory}
 use Rattle.bt_runs.specs.declared.engine.rule.Ruled.{Ruled}
 
--- what is said of an engine, by what it began as and by the records that it has taken
+-- what an engine takes, writes and keeps, by what it began as and by the records that it has taken
 pub record EngineDef (E : Type 0) : Type 1 where
   -- the records that an engine that began like this may be fed, one after another
   pub takes : E → List Feature → Type 0
@@ -43,8 +43,7 @@ pub record IsOnLast (past : List Feature) (r : Feature) : Type 0 where
   pub is : past ≡ before ++ last ∷ []
   pub same : last.chrom ≡ r.chrom
 
--- What the calls of an engine do: what they write and what the engine has become, after every list
--- of records that it has taken.
+-- What the calls do, after every list of records that the engine has taken.
 
 module _ {E : Type 0} (engine : EngineDef E) (old : E) where
   -- for every past that the engine is after, if it may take the record next
@@ -264,7 +263,7 @@ fault_of Memory = no_memory
 abbrev pub ruled_fault : {E : Type 0} → Ruled E → Option FaultValue
 ruled_fault ruled = option_map fault_of ruled.failure
 
--- what is said of the rule is said of the engine, and it is after records without a failure
+-- an engine does what its rule does, until it has failed
 abbrev pub ruled : {E : Type 0} → EngineDef E → EngineDef (Ruled E)
 ruled rule = record {
   takes = λ first past. rule.takes first.rule past;

@@ -30,7 +30,7 @@ IsAfter (PerStrand first) past (PerStrand now) = (ruled stranding).is_after firs
 IsAfter (Unstranded first) past (PerStrand now) = ⊥
 IsAfter (PerStrand first) past (Unstranded now) = ⊥
 
--- what is said of the engine inside, of whichever kind it is
+-- a member of the engine inside, of whichever kind that is
 abbrev pub of_kind {ℓ} : {A : Type ℓ} → ((E : Type 0) → EngineDef E → E → A) → Kind → A
 of_kind said (Unstranded merge) = said _ (ruled unstranded) merge
 of_kind said (PerStrand merge) = said _ (ruled stranding) merge

@@ -30,7 +30,7 @@ settled_lines first past = interval_lines (settled_runs first.gap first.strand p
 abbrev pub held_count : Unstranded → List Feature → ℕ
 held_count first past = length (kept_runs first.gap first.strand past)
 
--- what is said of it, until it has failed
+-- what it takes, writes and keeps, until it has failed
 abbrev pub unstranded : EngineDef Unstranded
 unstranded = record {
   takes = λ first past. AreTaken past;

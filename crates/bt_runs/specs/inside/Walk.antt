@@ -111,9 +111,9 @@ module _ {T S : Type 0} (walk : Walk T S) (entries : List Entry) where
 
 -- What the rule of an engine does: one record after another, and the chromosomes between them.
 
--- what is said of a rule
+-- what a rule does
 pub record RuleDef (E : Type 0) : Type 1 where
-  -- what is said of it as of an engine, which returns no fault
+  -- its records, its lines and what it keeps; its `fault` is None, since `Ruled` keeps the fault
   pub engine : EngineDef E
   -- the lines that a record settles
   pub lines : E → Feature → List ℕ
@@ -162,30 +162,30 @@ module _ {E : Type 0} (rule : RuleDef E) where
     pub adds : Adds out left result grown
 
   -- records were taken one after another
-  abbrev pub TakenEach : E → Output → List Feature → E → Output → Type 0
-  TakenEach old out [] new grown = (new ≡ old) × (grown ≡ out)
-  TakenEach old out (r ∷ records) new grown =
+  abbrev pub StepsEach : E → Output → List Feature → E → Output → Type 0
+  StepsEach old out [] new grown = (new ≡ old) × (grown ≡ out)
+  StepsEach old out (r ∷ records) new grown =
       (mid : E) × (through : Output) × Taken old r out (Ok tt) mid through
-      × TakenEach mid through records new grown
+      × StepsEach mid through records new grown
 
   module _ {C R : Type 0} (cursor : Cursor C R) (old : E) (start : C) (out : Output) where
     -- records were given, and each of them was taken
-    pub record TakenGiven (new : E) (passed : C) (grown : Output) : Type 0 where
+    pub record StepsGiven (new : E) (passed : C) (grown : Output) : Type 0 where
       pub records : List Feature
       pub given : cursor.gives start records passed
-      pub each : TakenEach old out records new grown
+      pub each : StepsEach old out records new grown
 
     -- those before the last one that was given were taken, and that one wasn't
-    pub record TakenUpTo (fault : Fault) (new : E) (passed : C) (grown : Output) : Type 0 where
+    pub record StepsUpTo (fault : Fault) (new : E) (passed : C) (grown : Output) : Type 0 where
       pub mid : E
       pub before : C
       pub through : Output
-      pub takes : TakenGiven mid before through
+      pub takes : StepsGiven mid before through
       pub r : Feature
       pub given : cursor.gives before (r ∷ []) passed
       pub fails : Taken mid r through (Err fault) new grown
 
     -- what the loop over a cursor does: it takes all records that the cursor gives
     abbrev pub Follows : Result (Unit {0}) Fault → E → C → Output → Type 0
-    Follows (Ok done) new passed grown = TakenGiven new passed grown × cursor.has_ended passed
-    Follows (Err fault) new passed grown = TakenUpTo fault new passed grown
+    Follows (Ok done) new passed grown = StepsGiven new passed grown × cursor.has_ended passed
+    Follows (Err fault) new passed grown = StepsUpTo fault new passed grown

@@ -12,7 +12,7 @@ pub(crate) trait Rule {
     // What it keeps of the chromosome that it is on, in a local while it takes a batch.
     type OnChrom;
 
-    // What it does, by what it began as and by the records that it has taken.
+    // What it does with all records, and with one more.
     ghost definition: { RuleDef Self };
 
     // What it becomes when it keeps what was in the local.

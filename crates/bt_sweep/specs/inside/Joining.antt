@@ -31,7 +31,7 @@ pub record Holds (order : Order) (as_given taken : List Feature) (sweep : Sweepi
   pub holds : HoldsFor order as_given taken sweep.held
   pub within : IfSome sweep.limit (λ most. length sweep.held ≤ most)
 
--- so it does, and goes by the rules that it went by
+-- it holds what it has to, and goes by the rules that it went by
 pub record Keeps (order : Order) (as_given taken : List Feature) (old new : Sweeping) : Type 0 where
   pub same : SameConfig old new
   pub holds : Holds order as_given taken new
@@ -47,9 +47,9 @@ abbrev pub AddsWith : {T : Type 0} → List ℕ → Output → List ℕ → Resu
 AddsWith pending out lines (Ok done) left grown = GrownWith pending out lines left grown
 AddsWith pending out lines (Err fault) left grown = FailsToAdd out (pending ++ lines) (fault_value fault) grown
 
--- Where a sweep is with `first` given last, in such an order: what was given before it, and taken. These come in
--- order after them.
-pub record Behind (For : Order → Type 0) (first : Feature) (firsts seconds : List Feature) (old : Sweeping)
+-- A sweep was given `first` last, in an order for which `For` holds. `firsts` and `seconds` come in order after what
+-- was given and taken before.
+pub record GivenLast (For : Order → Type 0) (first : Feature) (firsts seconds : List Feature) (old : Sweeping)
     : Type 0 where
   pub order : Order
   pub before : List Feature
@@ -64,25 +64,25 @@ module _ (For : Order → Type 0) (first : Feature) (firsts seconds : List Featu
   -- it keeps what it has to
   abbrev pub GoesToFor : Sweeping → Type 0
   GoesToFor new =
-      (at : Behind For first firsts seconds old)
+      (at : GivenLast For first firsts seconds old)
       → Keeps at.order (at.before ++ first ∷ firsts) (at.taken ++ seconds) old new
 
   -- the lines of these were written after those that were pending, except the ones that are left pending
   abbrev pub WritesFor : List Feature → List ℕ → Output → List ℕ → Output → Type 0
   WritesFor newly pending out left grown =
-      (at : Behind For first firsts seconds old)
+      (at : GivenLast For first firsts seconds old)
       → GrownWith pending out (intersect old.shape old.rule newly (at.taken ++ seconds)) left grown
 
   -- they couldn't all be
   abbrev pub CutsFor : List Feature → List ℕ → Output → FaultValue → Output → Type 0
   CutsFor newly pending out fault grown =
-      (at : Behind For first firsts seconds old)
+      (at : GivenLast For first firsts seconds old)
       → FailsToAdd out (pending ++ intersect old.shape old.rule newly (at.taken ++ seconds)) fault grown
 
   -- each of the second was taken for one that those taken leave undecided
   abbrev pub TakesEachFor : Type 0
   TakesEachFor =
-      (at : Behind For first firsts seconds old) → TakenEach at.order old.limit (first ∷ firsts) at.taken seconds
+      (at : GivenLast For first firsts seconds old) → TakenEach at.order old.limit (first ∷ firsts) at.taken seconds
 
 -- each lies on the chromosome
 abbrev pub LieOn : List ℕ → List Feature → Type 0
@@ -170,7 +170,7 @@ module _ {A B R S : Type 0} (cursor_a : Cursor A R) (cursor_b : Cursor B S) (For
         (fault : FaultValue) (left : List ℕ) (grown : Output) : Type 0 where
       pub shares : SharesBase cursor_b.gives waiting to_b
       pub writes : WritesFor For first firsts seconds old newly pending out left grown
-      pub lacks : (at : Behind For first firsts seconds old)
+      pub lacks : (at : GivenLast For first firsts seconds old)
           → CannotBeHeld old.limit shares.last (at.taken ++ seconds) (cursor_b.line shares.after) fault
 
     -- it failed once these lines of the first were settled
@@ -295,6 +295,6 @@ module _ {B S : Type 0} (cursor : Cursor B S) (order : Order) (phase : Phase) (c
   Relates Beside = Compares Equal
   Relates After = (phase ≡ First) ⊎ LiesAfter
 
--- the same cursor, whose end says too that its input goes on
+-- the same cursor; its end also says that the second input hasn't ended
 abbrev pub going_on : {B S : Type 0} → Phase → Cursor B S → Cursor B S
 going_on phase cursor = record cursor { has_ended = λ to. cursor.has_ended to × (phase ≡ First → ⊥) }

@@ -172,8 +172,6 @@ module _ (how : MaskHow) (full : Bool) where
             whole_output first second (lost_sound first second);
       }
 
--- ---- one part at fault
-
 -- ---- written lines
 
 module _ (mine yours : Rule SequenceLine ℕ FaultValue) (move : SequenceLine → SequenceLine) where

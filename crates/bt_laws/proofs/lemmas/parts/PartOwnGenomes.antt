@@ -194,8 +194,6 @@ intersect_genome_parts shape rule = own_parts (Intersect shape rule None) shape 
 pub subtract_genome_parts : subtract_genomes_divide
 subtract_genome_parts whole rule = own_parts (Subtract whole rule None) (subtract_shape whole) rule (λ genome chromosomes has. subtract_is genome chromosomes has whole rule) (subtract_parts whole rule)
 
--- ---- runs without a fault suffice
-
 -- ---- records without a fault lie on known chromosomes
 
 module _ (order : Order) (input : Input) where

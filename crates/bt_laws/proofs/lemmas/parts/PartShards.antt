@@ -160,8 +160,6 @@ module _ {T : Type 0} (chrom : T → List ℕ) (ends : Interval → T → Bool) 
       begin = begin_by ones twos in_one in_two begins;
     }
 
--- ---- complement, genomecov and merge
-
 -- ---- gaps
 
 flat_filter : {A B : Type 0} (g : A → List B) (t : A → Bool) (xs : List A) → flat_map g (filter t xs) ≡ flat_map (λ x. cond (t x) (g x) []) xs

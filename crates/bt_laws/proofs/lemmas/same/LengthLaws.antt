@@ -150,8 +150,6 @@ complements_twice inputs entries well plain =
           ∙ ap (λ rs. record { output = interval_lines rs; fault = None }) (complement_twice entries known.1 records (placed_good First order inputs.first (order_total (Some entries))) plain)),
     )
 
--- ---- intervals of depths above 0 cover what the records cover
-
 -- ---- where levels lie
 
 abbrev level_span : Level → Span

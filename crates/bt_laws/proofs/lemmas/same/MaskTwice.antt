@@ -302,8 +302,6 @@ goes_on how next full inputs other chromosomes keeps one two =
           ∙ ap (λ t. met_report (mask_met next (sequence_good full First (whole_text t)) (bed_of other))) (output_there how full inputs chromosomes one)) ∙ none;
     }
 
--- ---- a merged BED
-
 -- ---- records in an order, read in blocks
 
 -- the same records, and no fault

@@ -123,8 +123,6 @@ counts_all rule held inputs chromosomes well =
       },
     )
 
--- ---- what they see of the second input, if any common base is a hit
-
 -- ---- a common base is a hit
 
 one_base_lines : (both : Bool) (shape : Shape) (first bs : List Feature) → intersect shape (one_base both) first bs ≡ intersect shape any_overlap first bs

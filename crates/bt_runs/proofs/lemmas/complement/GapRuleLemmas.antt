@@ -1,19 +1,18 @@
 -- What a complement says of one chromosome: its gaps, if they are wanted; those that are done by the last start, and the place up to which they are.
 -- The file has what it owes of one chromosome.
-use Rattle.bt_lines.proofs.Std.{rules, Option, ◌≡◌, ℕ, ◌<◌, inl, inr, List, [], ◌∷◌, ◌++◌, refl, ap, ◌∙◌, map, filter, flat_map, cond, not, nat_le, nat_lt, Bool, true, false, bytes_eq, ◌≤◌, sym, arith, max, min, cases_Bool, cases_lt, cond-true, or_right, lt-ltb, le-ltb, lt-leb, le-leb, map-append, subst, Some, ap₂, length, None, ◌⊎◌, suc, eqb, Result, Ok, Err, OnOk, option_map, option_eq, cond-false, eqb-false, eqb-true, flat_map-append}
-use Rattle.std.specs.Option.{option_map_or}
+use Rattle.bt_lines.proofs.Std.{rules, Option, ◌≡◌, ℕ, ◌<◌, inl, inr, List, [], ◌∷◌, ◌++◌, refl, ap, ◌∙◌, map, filter, flat_map, cond, Bool, true, false, bytes_eq, ◌≤◌, sym, arith, max, min, cases_Bool, cond-true, le-leb, map-append, Some, length, None, ◌⊎◌, suc, eqb, Result, Ok, Err, OnOk, option_map, option_eq, cond-false, flat_map-append}
 use Rattle.std.specs.declared.cmp.Ordering.TheVariants.{Less, Equal, Greater}
 use Rattle.bt_bed.specs.model.Feature.{Feature, intervals_of, interval_of, Interval, Span, placed_on, spans_on, span_of}
 use Rattle.bt_bed.specs.model.BedLine.{interval_line, interval_lines}
 use Rattle.bt_bed.specs.model.Genome.{Entry, genome_names}
 use Rattle.bt_bed.specs.model.Order.{rank_order, AreDistinct, rank_of}
 use Rattle.bt_bed.specs.model.Sorted.{has_records, Locus}
-use Rattle.bt_runs.specs.model.Gaps.{gaps_of, gaps_on, is_asked, is_over, is_over_at, complement, settled_gaps, AreTaken, kept_place, length_in}
-use Rattle.bt_runs.specs.inside.Walk.{AreReached, Place, left_before, places, Does, EnterAnswers, FitsPast, PutsRestAtEnd, IsNamed, IsPlaced, entry_at, going, is_on, step_from, walk_step}
+use Rattle.bt_runs.specs.model.Gaps.{gaps_of, gaps_on, is_asked, is_over, complement, settled_gaps, AreTaken, kept_place, length_in}
+use Rattle.bt_runs.specs.inside.Walk.{AreReached, Place, left_before, places, Does, EnterAnswers, FitsPast, PutsRestAtEnd, IsNamed, IsPlaced, entry_at, going, is_on, walk_step}
 use Rattle.bt_runs.specs.inside.GapStep.{bare_gap, gap_between, gap_walk, last_gap}
 use Rattle.bt_runs.proofs.lemmas.definitions.Standing.{filter_map_all, filter_map_none, has_records-push, compare_same, apart, found}
 use Rattle.bt_runs.proofs.lemmas.order.FileOrder.{spans_on-push_elsewhere, spans_on-none, spans_on-push_here}
-use Rattle.bt_runs.proofs.lemmas.complement.Walks.{OneGap, no_gap, one_gaps, span_between, EndBy, cover_gap, end_between, end_both, end_later, Walked, form_of, Held, Steps, ends, rank_entry, reaches, same_place, settles_items, steps, taken_front, entered_steps, going_on, going_to, step_goes, step_starts}
+use Rattle.bt_runs.proofs.lemmas.complement.Walks.{OneGap, no_gap, one_gaps, span_between, EndBy, cover_gap, end_between, end_both, end_later, Walked, form_of, Held, Steps, ends, rank_entry, reaches, settles_items, steps, taken_front, entered_steps, going_to, step_starts}
 use Rattle.bt_runs.proofs.lemmas.order.ByChromosome.{Divides, NoRecords, Owes, Written, intervals_next, picks_by, name_at, size_there, found_at, found_entry, size_ranked}
 use Rattle.bt_runs.specs.calls.Engine.{Settles, AfterEach}
 use Rattle.bt_lines.specs.calls.Names.{fault_value}
@@ -23,7 +22,7 @@ use Rattle.bt_lines.proofs.lemmas.Writer.{grown_none}
 use Rattle.bt_bed.specs.calls.GenomeTable.{entries}
 use Rattle.bt_bed.proofs.lemmas.parse.NameLemmas.{name_eq, name_ne, same_name}
 use Rattle.bt_runs.specs.calls.Complementing.{Complementing, IsAfter, complementing, kept_in, settled_lines}
-use Rattle.bt_runs.specs.inside.GapRule.{Covers, seen, IsOnChrom, complement_at, gap_rule, next_lines, with_record}
+use Rattle.bt_runs.specs.inside.GapRule.{Covers, seen, IsOnChrom, complement_at, gap_rule, next_lines}
 use Rattle.bt_runs.specs.declared.complement.gap_cursor.GapCursor.{GapCursor}
 use Rattle.bt_runs.proofs.lemmas.Engine.{enters, enters_cut, none_more}
 
@@ -158,9 +157,6 @@ no_bares (entry ∷ entries) = no_bares entries
 abbrev pub shown_place : List Entry → Option (Place ℕ) → List Locus
 shown_place entries current = places (λ end. end) entries current
 
-same_reached : (entries : List Entry) (current other : Option (Place ℕ)) → AreReached entries current → AreReached entries other → shown_place entries current ≡ shown_place entries other → current ≡ other
-same_reached entries current other a b e = grind arith
-
 module _ (limit : Bool) (entries : List Entry) where
   -- what is reached is kept
   pub held_kept : (past : List Feature) (current : Option (Place ℕ)) → AreDistinct (genome_names entries) → Held (gaps limit entries) Own entries past current → shown_place entries current ≡ kept_place entries past
@@ -214,10 +210,6 @@ module _ (table : List Entry) (place : Place ℕ) (at : IsPlaced table place.ran
   pub not_on : (rank_of (genome_names table) name ≡ Some place.rank → ⊥) → is_on table (Some place) name ≡ false
   not_on other = name_ne (entry_at table place.rank).name name (λ e. other (ap (rank_of (genome_names table)) (sym e) ∙ at.named))
 
--- if no base counts, a record settles nothing
-no_gap_before : (name : List ℕ) (end start : ℕ) → gap_between name end (min start 0) ≡ []
-no_gap_before name end start = grind arith
-
 abbrev place_at : ℕ → Option ℕ → Option (Place ℕ)
 place_at end rank = option_map (λ rank. record { rank = rank; known = end }) rank
 
@@ -243,9 +235,6 @@ reached_at table name end rank named = grind arith
 
 pub cursor_reached : (cursor : GapCursor) → AreReached (entries cursor.genome.now) (seen cursor)
 cursor_reached cursor = reached_at (entries cursor.genome.now) cursor.name.now cursor.end cursor.rank cursor.named
-
-same_complement : (a b : Complementing) → a.entries ≡ b.entries → a.limit ≡ b.limit → a.current ≡ b.current → a.bases ≡ b.bases → a ≡ b
-same_complement a b e l c n = rw (e, l, c, n) refl
 
 -- a rule of gaps
 module _ (old : Complementing) (at : AreReached old.entries old.current) where
@@ -324,9 +313,6 @@ module _ (old : Complementing) (at : AreReached old.entries old.current) where
 module _ (limit : Bool) (old : GapCursor) (r : Feature) (on : IsOnChrom (complement_at limit old) r.chrom) where
   step_is : walk_step (gap_walk limit) (entries old.genome.now) (seen old) r ≡ (place_at (max old.end (min r.stop old.length)) old.rank, gap_between old.name.now old.end (min r.start old.length))
   step_is = step_at limit (entries old.genome.now) r old.name.now old.end old.length on.bases old.rank old.named on.at
-
-  covered : (new : GapCursor) → Covers old r.stop new → complement_at limit new ≡ with_record (complement_at limit old) r
-  covered new c = grind (arith, step_is)
 
   pub cursor_covers : (out : Output) (result : Result (Unit {0}) Fault) (new : GapCursor) (grown : Output) → Adds out (interval_lines (gap_between old.name.now old.end (min r.start old.length))) result grown → OnOk result (Covers old r.stop new)
       → Does gap_rule (complement_at limit old) r out result (complement_at limit new) grown

@@ -1,20 +1,19 @@
 -- An engine that goes through the chromosomes of a genome file. One more record moves what is settled and what is reached as its walk's step says. At the end what its walk leaves is left. Complement and coverage are such engines; `GapRuleLemmas` and `DepthSteps` have what each owes of one chromosome.
 use Rattle.std.proofs.lemmas.Grind.{common_steps}
-use Rattle.bt_lines.proofs.Std.{◌≡◌, ℕ, ◌+◌, ◌≤◌, inl, inr, List, [], ◌∷◌, ◌++◌, refl, sym, ap, ap₂, ◌∙◌, subst, arith, append-nil, append_assoc, flat_map, length, length-append, slice_range, true, false, Option, Some, None, not, Decides, ◌<◌, max, min, cond, nat_lt, Decides-not, ⊤, cases_lt, cond-true, cond-false, lt-ltb, le-ltb}
+use Rattle.bt_lines.proofs.Std.{◌≡◌, ℕ, ◌+◌, ◌≤◌, inl, inr, List, [], ◌∷◌, ◌++◌, refl, sym, ap, ap₂, ◌∙◌, subst, arith, append-nil, append_assoc, flat_map, length, length-append, slice_range, true, false, Option, Some, None, not, Decides, ◌<◌, max, min, cond, nat_lt, Decides-not, ⊤}
 use Rattle.bt_bed.specs.model.Feature.{Feature, interval_of, intervals_of, Interval, Span}
 use Rattle.bt_bed.specs.model.Positions.{IsCovered, AreApartFrom, AreStretchesOf}
 use Rattle.bt_bed.specs.model.Genome.{Entry, genome_names}
-use Rattle.bt_bed.specs.model.Sorted.{Locus}
 use Rattle.bt_bed.specs.model.Order.{AreDistinct, rank_of}
 use Rattle.bt_bed.proofs.lemmas.parse.NameLemmas.{name_eq}
 use Rattle.bt_runs.specs.model.Gaps.{AreTaken, IsBare, gaps_of}
 use Rattle.bt_runs.specs.calls.Engine.{Settles}
-use Rattle.bt_runs.specs.inside.Walk.{AreReached, IsPlaced, Place, Walk, entry_at, going, going_at, is_on, left_before, places, step_from, taking, walk_step}
-use Rattle.bt_runs.proofs.lemmas.order.ByChromosome.{Begun, Form, InOrder, Moves, Owes, Standing, Written, begun, full_last, goes_first, goes_next, goes_on, goes_to, order_front, parts_none, settling, whole_left, entry_there, name_at, slice_between}
-use Rattle.bt_runs.proofs.lemmas.definitions.Standing.{GoesTo, begins_at, last_rank, none_at_first}
+use Rattle.bt_runs.specs.inside.Walk.{AreReached, Place, Walk, entry_at, going, going_at, is_on, left_before, step_from, taking, walk_step}
+use Rattle.bt_runs.proofs.lemmas.order.ByChromosome.{Begun, Form, InOrder, Moves, Owes, Standing, Written, begun, full_last, goes_first, goes_next, goes_on, goes_to, order_front, settling, whole_left, entry_there, name_at, slice_between}
+use Rattle.bt_runs.proofs.lemmas.definitions.Standing.{GoesTo, begins_at, last_rank}
 use Rattle.bt_runs.specs.model.Merged.{is_covered, end_of}
 use Rattle.bt_bed.proofs.lemmas.Definitions.{stretches_are_same, scan_finds}
-use Rattle.bt_runs.proofs.lemmas.merge.Bridging.{is_covered-Decides, covered_last, covered_left, covered_parts, covered_right}
+use Rattle.bt_runs.proofs.lemmas.merge.Bridging.{is_covered-Decides, covered_left, covered_parts, covered_right}
 
 -- what such an engine says of its items: how it walks, and what else its `Form` has
 pub record Walked (T S : Type 0) : Type 0 where
@@ -56,10 +55,6 @@ slice_behind entries before key middle rest rank stop split at end =
     let long = length-append before (key ∷ middle) in
     ap (λ l. slice_range l (rank + 1) stop) (split ∙ sym (append_assoc before (key ∷ []) (middle ++ rest))) ∙ slice_between (before ++ key ∷ []) middle rest (rank + 1) stop (omega arith) (omega arith)
 
--- two places that show the same are on the same chromosome
-pub same_place : {S : Type 0} (to : S → ℕ) (entries : List Entry) (a b : Place S) → IsPlaced entries a.rank → IsPlaced entries b.rank → places to entries (Some a) ≡ places to entries (Some b) → (a.rank ≡ b.rank) × (to a.known ≡ to b.known)
-same_place to entries a b at_a at_b e = grind arith
-
 module _ {T S : Type 0} (walk : Walk T S) (entries : List Entry) where
   -- the chromosome of a name is the one that was reached, or another
   pub going_on : (current : Option (Place S)) (name : List ℕ) → is_on entries current name ≡ true → going walk entries current name ≡ (current, [])
@@ -85,9 +80,6 @@ module _ {T S : Type 0} (walk : Walk T S) (entries : List Entry) where
       → ((walk_step walk entries current r).0 ≡ (walk_step walk entries (Some place) r).0) × ((walk_step walk entries current r).1 ≡ items ++ (walk_step walk entries (Some place) r).1)
   entered_steps current r place items goes on = rw (step_goes current r place items goes, step_goes (Some place) r place [] (going_on (Some place) r.chrom on)) (refl, refl)
 
-  taking_at : (key : Entry) (place : Place S) (r : Feature) → entry_at entries place.rank ≡ key → taking walk entries place r ≡ (record { rank = place.rank; known = walk.after key place.known r }, walk.step key place.known r)
-  taking_at key place r is = rw is refl
-
 module _ {T S : Type 0} (e : Walked T S) (Own : Entry → List Feature → ℕ → List T → S → Type 0) (entries : List Entry) where
   -- what was reached after the records: their last chromosome, if there is a record
   abbrev pub Held : List Feature → Option (Place S) → Type 0
@@ -98,9 +90,6 @@ module _ {T S : Type 0} (e : Walked T S) (Own : Entry → List Feature → ℕ �
   pub record Steps (past : List Feature) (r : Feature) (current : Option (Place S)) : Type 0 where
     pub settles : e.settled (past ++ r ∷ []) ≡ e.settled past ++ (walk_step e.walk entries current r).1
     pub held : Held (past ++ r ∷ []) (walk_step e.walk entries current r).0
-
-  held_next : (past : List Feature) (before : List Entry) (key : Entry) (after : List Entry) (o : Option (Place S)) (next : Place S) → o ≡ Some next → Standing (form_of e) Own entries past before key after next.known → next.rank ≡ length before → Held past o
-  held_next past before key after o next is s rank = rw is (before, key, after, s, rank)
 
   -- some are reached
   held_begun : (past : List Feature) → Begun (form_of e) Own entries past → (current : Option (Place S)) × Held past current
@@ -201,12 +190,6 @@ only_gaps size spans gaps h = stretches_are_same (IsBare size spans) gaps (gaps_
 abbrev pub span_between : ℕ → ℕ → List Span
 span_between start stop = cond (nat_lt start stop) (record { start = start; stop = stop } ∷ []) []
 
-pub span_some : (start stop : ℕ) → start < stop → span_between start stop ≡ record { start = start; stop = stop } ∷ []
-span_some start stop h = cond-true (nat_lt start stop) (record { start = start; stop = stop } ∷ []) [] (lt-ltb start stop h)
-
-pub span_none : (start stop : ℕ) → stop ≤ start → span_between start stop ≡ []
-span_none start stop h = cond-false (nat_lt start stop) (record { start = start; stop = stop } ∷ []) [] (le-ltb start stop h)
-
 -- each of the spans ends by a position
 abbrev pub EndBy : ℕ → List Span → Type 0
 EndBy start [] = ⊤
@@ -229,24 +212,11 @@ covered_by_end start [] p e c = absurd c
 covered_by_end start (x ∷ xs) p e (inl w) = omega (arith, e.0)
 covered_by_end start (x ∷ xs) p e (inr w) = covered_by_end start xs p e.1 w
 
-covered_between : (start stop p : ℕ) → IsCovered (span_between start stop) p → (start ≤ p) × (p < stop)
-covered_between start stop p p1 = grind arith
-
-between_covers : (start stop p : ℕ) → start ≤ p → p < stop → IsCovered (span_between start stop) p
-between_covers start stop p low high = let l : start < stop = omega arith in rw (span_some start stop l) (inl (low, high))
-
 -- the spans after a first part may be others that begin no earlier
 apart_tail : (first : ℕ) (xs : List Span) (y : Span) (zs : List Span) → AreApartFrom first (xs ++ y ∷ []) → AreApartFrom y.start zs → AreApartFrom first (xs ++ zs)
 apart_tail first [] y [] a b = tt
 apart_tail first [] y (z ∷ zs) a b = (omega (arith, a.0, b.0), b.1, b.2)
 apart_tail first (x ∷ xs) y zs a b = (a.0, a.1, apart_tail (x.stop + 1) xs y zs a.2 b)
-
-apart_between : (first start stop : ℕ) → first ≤ start → AreApartFrom first (span_between start stop)
-apart_between first start stop h = grind arith
-
--- what is left of a stretch once a span was taken out
-apart_rest : (kept size start stop : ℕ) → kept < size → start < stop → AreApartFrom kept (span_between kept (min start size) ++ span_between (max kept (min stop size)) size)
-apart_rest kept size start stop some full = grind arith
 
 -- the gaps of a chromosome of this length: those that are done, and the one from the greatest end, cut at the length
 pub record OneGap (size : ℕ) (spans done : List Span) (kept : ℕ) : Type 0 where

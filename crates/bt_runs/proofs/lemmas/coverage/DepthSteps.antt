@@ -1,22 +1,21 @@
 -- What a count of depths says of one chromosome, and what it owes of it. It says which intervals are settled by the last start, and what is known for the rest.
-use Rattle.bt_lines.proofs.Std.{rules, max, ◌≡◌, ℕ, ◌<◌, ◌≤◌, ◌+◌, List, [], ◌∷◌, ◌++◌, refl, sym, ap, ap₂, ◌∙◌, filter, nat_lt, Bool, true, false, append-nil, Option, lt-ltb, le-ltb, map-append, length, inl, inr, subst, arith, min, Some, None, Result, Ok, Err, cases_lt, flat_map-append, append_assoc, codes, decimal, length-append, ◌-◌, All}
-use Rattle.std.specs.Option.{option_map_or}
+use Rattle.bt_lines.proofs.Std.{rules, max, ◌≡◌, ℕ, ◌<◌, ◌≤◌, ◌+◌, List, [], ◌∷◌, ◌++◌, refl, sym, ap, ap₂, ◌∙◌, filter, nat_lt, Bool, true, false, append-nil, Option, lt-ltb, le-ltb, map-append, length, inl, inr, arith, Some, None, Result, Ok, Err, flat_map-append, append_assoc, codes, decimal, length-append, ◌-◌, All}
 use Rattle.std.specs.declared.cmp.Ordering.TheVariants.{Equal}
 use Rattle.bt_bed.specs.model.Feature.{Feature, interval_of, intervals_of, Interval, span_of, Span}
 use Rattle.bt_bed.specs.model.Genome.{Entry, genome_names}
 use Rattle.bt_bed.specs.model.Order.{rank_order, AreDistinct, rank_of}
 use Rattle.bt_bed.specs.model.Sorted.{has_records}
 use Rattle.bt_bed.specs.declared.record.strand.Strand.{Strand}
-use Rattle.bt_runs.specs.model.Depth.{DepthInterval, counted_on, coverage, depth_of, depth_on, depths_on, is_counted_by, is_ended_by, settled_depths, Level, levels_of, begun_across, depth_lines, kept_records, known_place, open_at, unfinished, depth_line, Begun, reported, begun_after, ended_after, next_begun, next_ended}
+use Rattle.bt_runs.specs.model.Depth.{DepthInterval, counted_on, coverage, depth_of, depth_on, depths_on, is_counted_by, is_ended_by, settled_depths, Level, levels_of, depth_lines, kept_records, known_place, unfinished, depth_line, Begun, reported, begun_after, ended_after, next_begun, next_ended}
 use Rattle.bt_runs.specs.inside.Coverage.{Known, depth_walk, known_by, levels_by, levels_left, levels_on, bare_of, depths_left, known_seen, place_seen, seen, CountAnswers, OpenAt, depth_text, still_open}
-use Rattle.bt_runs.proofs.lemmas.order.ByChromosome.{Divides, NoRecords, Owes, Written, picks_by, found_at, name_at, size_there, size_ranked}
+use Rattle.bt_runs.proofs.lemmas.order.ByChromosome.{Divides, NoRecords, Owes, Written, picks_by, found_at, size_there, size_ranked}
 use Rattle.bt_runs.proofs.lemmas.coverage.OpenLemmas.{counted_elsewhere, counted_here, counted_append, counted_none, bare_levels, known_at, known_first, known_next, left_end, settled_and_left, settled_at, settled_end, settled_first, settled_next, start_same, with_counted, across_known, none_open, all_open, walk_depth}
-use Rattle.bt_runs.specs.model.Gaps.{is_over_at, AreTaken, length_in}
+use Rattle.bt_runs.specs.model.Gaps.{is_over_at, AreTaken}
 use Rattle.bt_runs.proofs.lemmas.definitions.Standing.{filter_map_all, filter_map_none, compare_same, apart}
 use Rattle.bt_runs.proofs.lemmas.coverage.LevelLemmas.{StopIn, scan_run, scan_split}
-use Rattle.bt_runs.proofs.lemmas.complement.Walks.{Walked, form_of, Held, Steps, ends, entered_steps, going_on, going_to, reaches, settles_items, step_goes, steps, rank_entry, same_place, taken_front}
+use Rattle.bt_runs.proofs.lemmas.complement.Walks.{Walked, form_of, Held, Steps, ends, reaches, settles_items, steps, rank_entry, taken_front}
 use Rattle.bt_runs.specs.calls.Engine.{Settles, fault_of}
-use Rattle.bt_runs.specs.inside.Walk.{AreReached, Place, is_on, left_before, places, step_from, taking, Does, EnterAnswers, FitsPast, PutsRestAtEnd, IsPlaced, entry_at}
+use Rattle.bt_runs.specs.inside.Walk.{AreReached, Place, is_on, left_before, places, taking, Does, EnterAnswers, FitsPast, PutsRestAtEnd, IsPlaced, entry_at}
 use Rattle.bt_lines.proofs.lemmas.Writer.{grown_none, line_alone, adds_lines, cut_lines}
 use Rattle.bt_lines.specs.calls.Output.{Output, Adds, FailsToAdd, Grown, Puts}
 use Rattle.bt_lines.specs.calls.Names.{fault_value}
@@ -136,9 +135,6 @@ module _ (zeros : Bool) (strand : Option Strand) (entries : List Entry) where
   pub settles_depths : Settles (settled_depths zeros strand entries) (coverage zeros strand entries) (AreTaken entries)
   settles_depths = settles_items (depths zeros strand entries) (Own zeros strand) entries (owes zeros strand entries) (written zeros strand entries)
 
-known_to_is : (zeros : Bool) (size : ℕ) (spans : List Span) (start : ℕ) → (known_at zeros size spans start).to ≡ min start size
-known_to_is zeros size spans start = grind arith
-
 module _ (zeros : Bool) (strand : Option Strand) (entries : List Entry) where
   -- what is kept of the records
   pub record Keeps (past : List Feature) (current : Option (Place Known)) : Type 0 where
@@ -149,13 +145,6 @@ module _ (zeros : Bool) (strand : Option Strand) (entries : List Entry) where
   pub keeps : (past : List Feature) (current : Option (Place Known)) → AreDistinct (genome_names entries) → Reaches zeros strand entries past current → Keeps past current
   unfolding known_place unfinished kept_records
   keeps past current distinct none = grind (arith, rank_entry, apart, size_there, across_known, none_open)
-
--- and what is kept tells which
-same_known : (a b : Known) → a.to ≡ b.to → a.begun ≡ b.begun → a.held ≡ b.held → a ≡ b
-same_known a b t g h = grind arith
-
-same_seen : (entries : List Entry) (current other : Option (Place Known)) → AreReached entries current → AreReached entries other → places (λ known. known.to) entries current ≡ places (λ known. known.to) entries other → begun_of current ≡ begun_of other → held_of current ≡ held_of other → current ≡ other
-same_seen entries current other a b e f h = grind arith
 
 module _ (zeros : Bool) (strand : Option Strand) (entries : List Entry) where
   -- a coverage that keeps what is to be kept has reached the last record's chromosome
@@ -277,11 +266,6 @@ module _ (old : Covering) (place : Place Known) (reached : old.current ≡ Some 
   step_is : depth_step old r ≡ (Some (record { rank = place.rank; known = known_by old.zeros counted size place.known (max bounds.start place.known.to) bounds.stop }), levels_on chrom (levels_by old.zeros size place.known (max bounds.start place.known.to)))
   step_is = step_here old r place reached on ∙ rw (named, sized, counts, starts, stops) refl
 
-  -- it was taken
-  pub counts_ok : (begun : Option OpenInterval) (held : OpenAt) (grown : Output) → CountAnswers chrom (levels_by old.zeros size place.known (max bounds.start place.known.to)) (known_by old.zeros counted size place.known (max bounds.start place.known.to) bounds.stop) (Ok begun) held out grown
-      → Does depth_rule old r out (Ok tt) (record { entries = old.entries; zeros = old.zeros; strand = old.strand; current = Some (place_seen (record { rank = place.rank; begun = begun }) held); is_known = old.is_known; name = old.name; length = old.length }) grown
-  counts_ok begun held grown c = grind arith
-
   to_keep : (counted ≡ true) × (bounds.start < size) → wants_memory old r
   to_keep is =
       let here = rw reached at on in
@@ -377,9 +361,6 @@ module _ (zeros : Bool) (at position : ℕ) (first now : List Span) (low : at �
 
 -- one step of the walk
 module _ (u : ℕ → Option ℕ) (from at next : ℕ) (g : Option Begun) (value : Option ℕ) (low : from ≤ at) (up : at < next) (run : (q : ℕ) → at ≤ q → q < next → u q ≡ value) where
-  run_is : (q : ℕ) → at ≤ q → q < at + (next - at) → u q ≡ value
-  run_is q lower higher = run q lower (omega arith)
-
   parts_are : next - from ≡ (at - from) + (next - at)
   parts_are = omega arith
 

@@ -1,6 +1,6 @@
 -- A scan of the positions finds the intervals of equal value, and no other list has them; scans in parts, and scans that see the same values.
-use Rattle.bt_lines.proofs.Std.{◌≡◌, ℕ, zero, suc, ◌+◌, ◌<◌, ◌≤◌, inl, inr, List, [], ◌∷◌, ◌++◌, refl, sym, ap, ◌∙◌, arith, append_assoc, true, ◌==◌, Option, Some, None, append-nil, cases_Bool, eq-eqb, ⊤}
-use Rattle.bt_runs.specs.model.Depth.{Begun, Level, begun_after, ended_after, ended_at, levels_from, next_begun, next_ended, begun_at, goes_on}
+use Rattle.bt_lines.proofs.Std.{◌≡◌, ℕ, zero, suc, ◌+◌, ◌<◌, ◌≤◌, List, [], ◌∷◌, ◌++◌, refl, arith, append_assoc, true, Option, Some, None, ⊤}
+use Rattle.bt_runs.specs.model.Depth.{Begun, Level, begun_after, ended_after, levels_from, next_begun, next_ended, goes_on}
 
 pub levels_more : (value : ℕ → Option ℕ) (p n : ℕ) (begun : Option Begun) → levels_from value p (suc n) begun ≡ next_ended p (value p) begun ++ levels_from value (p + 1) n (next_begun p (value p) begun)
 unfolding begun_after ended_after
@@ -56,12 +56,6 @@ pub stop_both : (a b : ℕ) (xs ys : List Level) → StopIn a b xs → StopIn a 
 stop_both a b [] ys s t = t
 stop_both a b (x ∷ xs) ys s t = (s.0, s.1, stop_both a b xs ys s.2 t)
 
-pub ended_at-stop : (a b p : ℕ) (g : Option Begun) → a ≤ p → p < b → StopIn a b (ended_at g p)
-ended_at-stop a b p g h k = grind arith
-
-next_ended-stop : (a b p : ℕ) (value : Option ℕ) (g : Option Begun) → a ≤ p → p < b → StopIn a b (next_ended p value g)
-next_ended-stop a b p value g h k = grind arith
-
 pub ended_after-stop : (value : ℕ → Option ℕ) (n p : ℕ) (g : Option Begun) → StopIn p (p + n) (ended_after value p n g)
 unfolding ended_after
 ended_after-stop value zero p g = tt
@@ -81,9 +75,6 @@ BeginsFrom p (Some begun) = p ≤ begun.start
 
 below_later : (p q : ℕ) (g : Option Begun) → p ≤ q → BeginsBelow p g → BeginsBelow q g
 below_later p q g h b = grind arith
-
-begun_at-below : (p : ℕ) (value : Option ℕ) → BeginsBelow (p + 1) (begun_at p value)
-begun_at-below p value = grind arith
 
 next_begun-below : (p : ℕ) (value : Option ℕ) (g : Option Begun) → BeginsBelow p g → BeginsBelow (p + 1) (next_begun p value g)
 next_begun-below p value g b = grind arith

@@ -1,14 +1,14 @@
 -- The records that are open at a position and at later ones, how many of them cover a position, and their ends, counted by every test of an end.
 use Rattle.std.proofs.lemmas.Grind.{common_steps}
-use Rattle.bt_lines.proofs.Std.{rules, ◌≡◌, ℕ, ◌+◌, ◌<◌, ◌≤◌, inl, inr, List, [], ◌∷◌, ◌++◌, refl, sym, ap, ◌∙◌, arith, All, filter, length, max, nat_le, not, leb-true, false, cond, ◌&&◌, nat_lt, slice_index_or, subst, drop, Bool, MatchBool, true, IfSome, IsSome, Option, Some, None, cases_Bool, cases_lt, lt-ltb, le-ltb, lt-leb, le-leb, length-map, map-append, length-filter_both, All-cons, All-filter, All-head, All-nil, All-tail, All-weaker, filter-append, filter_agree, filter_passes, IsUpperBound, PopsGreatest, IsPermutation, is_lt, nat_cmp, IsPermutation-map, sum_by-IsPermutation, length-filter, ap₂, length-append, map, min, bytes_eq, or_parts, ◌-◌, append_assoc, append-nil, zero, suc}
-use Rattle.bt_bed.specs.model.Feature.{Span, Feature, interval_of, intervals_of, span_of, spans_on}
-use Rattle.bt_runs.specs.model.Depth.{covers, depth_at, counted_on, cut_at, depth_of, is_counted_by, open_at, reported, begun_across, Begun, Level, begun_after, ended_after, ended_at, levels_of, next_begun, next_ended, begun_at, goes_on, levels_from}
+use Rattle.bt_lines.proofs.Std.{rules, ◌≡◌, ℕ, ◌+◌, ◌<◌, ◌≤◌, inl, inr, List, [], ◌∷◌, ◌++◌, refl, sym, ap, ◌∙◌, arith, All, filter, length, max, nat_le, not, false, cond, ◌&&◌, nat_lt, slice_index_or, subst, drop, Bool, MatchBool, true, IfSome, IsSome, Option, Some, None, cases_Bool, cases_lt, lt-ltb, le-ltb, le-leb, length-map, map-append, length-filter_both, All-filter, All-head, All-nil, All-tail, All-weaker, filter-append, filter_agree, filter_passes, IsUpperBound, PopsGreatest, IsPermutation, nat_cmp, IsPermutation-map, sum_by-IsPermutation, length-filter, ap₂, length-append, map, bytes_eq, or_parts, ◌-◌, append_assoc, append-nil, zero, suc}
+use Rattle.bt_bed.specs.model.Feature.{Span, Feature, interval_of, intervals_of, span_of}
+use Rattle.bt_runs.specs.model.Depth.{covers, depth_at, counted_on, cut_at, depth_of, is_counted_by, open_at, reported, begun_across, Begun, Level, begun_after, ended_after, ended_at, levels_of, begun_at, goes_on, levels_from}
 use Rattle.bt_runs.specs.inside.Coverage.{still_open, CountsFrom, IsLeastFirst, StartsBelow, ends_of, KeepsOpen, span_open, spans_open, opened, Known, known_by, levels_by, levels_left}
 use Rattle.bt_runs.specs.declared.coverage.open_records.OpenSpan.{OpenSpan}
 use Rattle.std.specs.declared.cmp.Reverse.{Reverse}
 use Rattle.bt_bed.specs.model.Sorted.{has_records}
 use Rattle.bt_bed.specs.declared.record.strand.Strand.{Strand}
-use Rattle.bt_runs.proofs.lemmas.order.FileOrder.{spans_on-append, spans_on-here, spans_on-elsewhere}
+use Rattle.bt_runs.proofs.lemmas.order.FileOrder.{spans_on-append}
 use Rattle.bt_runs.proofs.lemmas.coverage.LevelLemmas.{AreSame, StopIn, scan_run, scan_same, scan_split, ended_after-stop, levels_from-stop, stop_wider, BeginsBelow, BeginsFrom, begun_after-below, levels_split, levels_more}
 
 -- what a filter keeps
@@ -60,17 +60,9 @@ all_open position spans = from_all (λ (s : Span). s.stop) position spans
 pub stay_open : (position next : ℕ) (spans : List Span) → position ≤ next → All (λ s. next ≤ s.stop) spans → still_open position spans ≡ spans
 stay_open position next spans up all = all_from (λ (s : Span). s.stop) position spans (All-weaker (λ s. next ≤ s.stop) (λ s. position ≤ s.stop) (λ s low. omega arith) spans all)
 
--- of those that have started, the ones that are open past a position cover it
-covers_started : (p : ℕ) (s : Span) → s.start ≤ p → covers p s ≡ nat_le (p + 1) s.stop
-covers_started p s started = grind arith
-
 pub depth_started : (at p : ℕ) (spans : List Span) → at ≤ p → All (λ s. s.start ≤ at) spans → depth_at spans p ≡ length (still_open (p + 1) spans)
 depth_started at p [] up all = refl
 depth_started at p (s ∷ ss) up all = grind (arith, (depth_started at p ss up (All-tail (λ s. s.start ≤ at) s ss all)), All-head)
-
--- those that end before a position don't cover it
-covers_ended : (p : ℕ) (s : Span) → s.stop < p + 1 → covers p s ≡ false
-covers_ended p s ended = grind arith
 
 pub depth_open : (at p : ℕ) (spans : List Span) → at ≤ p → depth_at (still_open at spans) p ≡ depth_at spans p
 depth_open at p [] up = refl
@@ -200,10 +192,6 @@ module _ (position : ℕ) (first : List ℕ) (old new : List (Reverse ℕ)) (bel
 
 -- The depth of the positions past the last start: that of the records that are open there.
 
--- a span that starts past a position doesn't cover it
-covers_not : (p : ℕ) (s : Span) → p < s.start → covers p s ≡ false
-covers_not p s h = rw (lt-leb s.start p h) refl
-
 depth_append : (xs ys : List Span) (p : ℕ) → depth_at (xs ++ ys) p ≡ depth_at xs p + depth_at ys p
 depth_append xs ys p = ap length (filter-append (covers p) xs ys) ∙ length-append (filter (covers p) xs) (filter (covers p) ys)
 
@@ -213,10 +201,6 @@ depth_push xs s p h = grind (arith, depth_append)
 pub depth_of-push : (zeros : Bool) (xs : List Span) (s : Span) (p : ℕ) → p < s.start → depth_of zeros (xs ++ s ∷ []) p ≡ depth_of zeros xs p
 unfolding depth_of
 depth_of-push zeros xs s p h = ap (reported zeros) (depth_push xs s p h)
-
--- a span that is cut at a length covers the same positions below it
-covers_cut : (size p : ℕ) (s : Span) → p < size → covers p (cut_at size s) ≡ covers p s
-covers_cut size p s high = grind arith
 
 depth_cut : (size p : ℕ) (spans : List Span) → p < size → depth_at (map (cut_at size) (filter (λ s. nat_lt s.start size) spans)) p ≡ depth_at spans p
 depth_cut size p [] high = refl
@@ -234,10 +218,6 @@ none_open size start (s ∷ ss) h = grind (arith, (none_open size start ss h))
 -- those that are open at a later start are open at this one
 pub open_later : (size start later : ℕ) (spans : List Span) → start ≤ later → open_at size later spans ≡ still_open later (open_at size start spans)
 open_later size start later spans h = sym (open_after start later (map (cut_at size) (filter (λ s. nat_lt s.start size) spans)) h)
-
--- the record itself is open, if it starts below the length
-pub open_self : (size : ℕ) (s : Span) → open_at size s.start (s ∷ []) ≡ opened true size s.start s.stop
-open_self size s = grind arith
 
 -- the counted records on a chromosome, one list after another
 pub counted_append : (strand : Option Strand) (name : List ℕ) (past more : List Feature) → counted_on strand name (past ++ more) ≡ counted_on strand name past ++ counted_on strand name more
@@ -343,12 +323,6 @@ bare_level zeros size = cond (zeros && nat_lt 0 size) (record { start = 0; stop 
 bare_zero : (zeros : Bool) → levels_of (depth_of zeros []) 0 ≡ bare_level zeros 0
 unfolding begun_after ended_after
 bare_zero zeros = grind arith
-
-bare_some : (zeros : Bool) (size : ℕ) → 0 < size → ended_at (next_begun 0 (reported zeros 0) None) (0 + size) ≡ bare_level zeros size
-bare_some zeros size some = grind arith
-
-next_none : (zeros : Bool) → next_ended 0 (reported zeros 0) None ≡ []
-next_none zeros = grind arith
 
 pub bare_levels : (zeros : Bool) (size : ℕ) → levels_of (depth_of zeros []) size ≡ bare_level zeros size
 bare_levels zeros size = elim (cases_lt 0 size) [

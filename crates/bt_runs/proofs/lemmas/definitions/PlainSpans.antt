@@ -1,10 +1,10 @@
 -- What the plain programs ask of their spans, and the scans of a chromosome's positions, against the definitions of runs and gaps.
-use Rattle.bt_lines.proofs.Std.{◌≡◌, ℕ, ◌+◌, ◌-◌, ◌<◌, ◌≤◌, ◌⊎◌, inl, inr, List, [], ◌∷◌, ◌++◌, append_assoc, refl, sym, ap, ◌∙◌, subst, arith, Bool, true, false, ◌&&◌, Decides, nat_le, nat_lt, All, ◌==◌, list_any, cases_eq, false≢true, cond-true, cond-false, eq-eqb, ne_eqb, Decides-and, Decides-or, Decides-ltb, map-append, All-head, All-tail}
+use Rattle.bt_lines.proofs.Std.{◌≡◌, ℕ, ◌+◌, ◌-◌, ◌<◌, ◌≤◌, ◌⊎◌, inl, inr, List, [], ◌∷◌, ◌++◌, append_assoc, refl, sym, ap, ◌∙◌, arith, Bool, true, false, ◌&&◌, Decides, nat_le, nat_lt, All, list_any, false≢true, Decides-and, Decides-or, Decides-ltb, map-append, All-head, All-tail}
 use Rattle.bt_runs.specs.declared.plain.PlainSpan.{PlainSpan}
 use Rattle.bt_bed.specs.model.Feature.{Span}
 use Rattle.bt_bed.specs.model.Positions.{IsCovered, AreApartFrom, AreStretchesOf}
 use Rattle.bt_runs.specs.model.Merged.{Bridged, runs_of}
-use Rattle.bt_runs.specs.inside.PlainRuns.{span_in, spans_in, with_next_after, with_next}
+use Rattle.bt_runs.specs.inside.PlainRuns.{spans_in, with_next_after, with_next}
 use Rattle.bt_runs.proofs.lemmas.merge.Bridging.{Decides-le, only_runs}
 
 -- the program's test of a covered position
@@ -30,12 +30,6 @@ pub record AddsNext (first p : ℕ) (xs ys : List Span) : Type 0 where
   pub within : (q : ℕ) → IsCovered ys q → (q ≡ p) ⊎ IsCovered xs q
   pub here : IsCovered ys p
   pub whole : (q : ℕ) → IsCovered xs q → IsCovered ys q
-
-last_longer : (first p : ℕ) (s : Span) → AreApartFrom first (s ∷ []) → s.stop ≡ p → AddsNext first p (s ∷ []) (record { start = s.start; stop = p + 1 } ∷ [])
-last_longer first p s a e = grind arith
-
-one_more : (first p : ℕ) (s : Span) → AreApartFrom first (s ∷ []) → s.stop ≤ p → (s.stop ≡ p → ⊥) → AddsNext first p (s ∷ []) (s ∷ record { start = p; stop = p + 1 } ∷ [])
-one_more first p s a low other = grind arith
 
 with_next_after-adds : (first p : ℕ) (s : Span) (ss : List Span) → AreApartFrom first (s ∷ ss) → ((q : ℕ) → IsCovered (s ∷ ss) q → q < p) → AddsNext first p (s ∷ ss) (with_next_after s ss p)
 with_next_after-adds first p s [] a below =

@@ -1,5 +1,5 @@
 -- Chromosomes in an order, each once, and where a name is found among them. Records in that order have reached the chromosome of the last record, with none on any after it. The next record goes on there, or to a later chromosome.
-use Rattle.bt_lines.proofs.Std.{◌≡◌, ℕ, suc, ◌+◌, ◌<◌, ◌≤◌, inl, inr, List, [], ◌∷◌, ◌++◌, append_assoc, refl, sym, ap, ◌∙◌, subst, arith, length, length-append, map, true, false, bytes_eq, Option, Some, None, option_map, ◌⊎◌, ◌||◌, ⊤, is_some, nat_cmp, cases_Bool, cases_lt, cond-true, cond-false, lt-ltb, le-ltb, eq-eqb, ne_eqb, or_parts, or_from, or_left, or_right, map-append, ap₂, filter, cond, Bool, AllByRecursion, list_any, or_cases, not, nat_lt, append-nil, not_from_true, not_from_false, filter-append}
+use Rattle.bt_lines.proofs.Std.{◌≡◌, ℕ, suc, ◌+◌, ◌<◌, ◌≤◌, inl, inr, List, [], ◌∷◌, ◌++◌, append_assoc, refl, sym, ap, ◌∙◌, subst, arith, length, length-append, map, true, false, bytes_eq, Option, Some, option_map, ◌⊎◌, ◌||◌, ⊤, is_some, nat_cmp, cases_Bool, cond-true, cond-false, lt-ltb, le-ltb, ne_eqb, or_parts, or_from, or_left, or_right, map-append, ap₂, filter, Bool, AllByRecursion, list_any, or_cases, not, nat_lt, append-nil, not_from_true, not_from_false, filter-append}
 use Rattle.std.specs.declared.cmp.Ordering.{Ordering}
 use Rattle.std.specs.declared.cmp.Ordering.TheVariants.{Less, Equal, Greater}
 use Rattle.bt_bed.specs.model.Order.{is_among, AreDistinct, compare_ranks, rank_of, rank_order}
@@ -18,9 +18,6 @@ cmp_less a b h = rw (lt-ltb a b h) refl
 
 pub cmp_greater : (a b : ℕ) → b < a → nat_cmp a b ≡ Greater
 cmp_greater a b h = rw (le-ltb a b (omega arith), ne_eqb a b (λ e. absurd (omega arith))) refl
-
-pub cmp_equal : (a : ℕ) → nat_cmp a a ≡ Equal
-cmp_equal a = rw (le-ltb a a (omega arith), eq-eqb a a refl) refl
 
 pub less_cmp : (a b : ℕ) → nat_cmp a b ≡ Less → a < b
 less_cmp a b e = grind arith

@@ -1,5 +1,5 @@
 -- What the calls of a merge do is what those of the engine inside it do, of whichever of the two kinds it is.
-use Rattle.bt_lines.proofs.Std.{arith, ◌≡◌, ℕ, inl, inr, List, [], ◌∷◌, ◌++◌, ap, refl, sym, subst, Result, Ok, Err}
+use Rattle.bt_lines.proofs.Std.{arith, ◌≡◌, ℕ, inl, inr, List, [], ◌∷◌, ◌++◌, ap, Result, Ok, Err}
 use Rattle.bt_lines.specs.calls.Output.{Output}
 use Rattle.bt_lines.specs.declared.fault.Fault.{Fault}
 use Rattle.bt_bed.specs.model.Feature.{Feature}
@@ -10,7 +10,6 @@ use Rattle.bt_runs.specs.calls.Merging.{IsAfter, merge_begun, merge_engine}
 use Rattle.bt_bed.specs.declared.read.cursor.Cursor.{Ghosts as Cursor}
 use Rattle.bt_runs.specs.calls.Unstranded as unstranded
 use Rattle.bt_runs.specs.declared.merge.merge_strand.MergeStrand.{MergeStrand}
-use Rattle.bt_runs.specs.declared.merge.merge_strand.MergeStrand.TheVariants.{All, Each, One}
 use Rattle.bt_runs.proofs.lemmas.merge.SettledRuns.{none_kept}
 use Rattle.bt_runs.proofs.lemmas.merge.StrandSettling.{no_strand_runs}
 use Rattle.bt_runs.specs.calls.Stranding as strands

@@ -1,24 +1,22 @@
 -- What a merge that keeps the strands apart does with one more record is what the definitions say, whatever the past.
 use Rattle.std.proofs.lemmas.Grind.{common_steps}
-use Rattle.bt_lines.proofs.Std.{codes, decimal, ◌≡◌, ◌⊎◌, ℕ, ◌+◌, ◌-◌, ◌<◌, ◌≤◌, List, [], ◌∷◌, ◌++◌, append-nil, length, length-append, inl, inr, not, cond, ◌||◌, drop, get_or, map, set, take, Bool, true, false, bytes_eq, nat_lt, lt-ltb, le-ltb, Option, None, Some, Result, Ok, Err, refl, sym, ap, ap₂, ◌∙◌, subst, arith, prefix_len, slice_get, is_err, OnOk, cases_Bool, cases_lt, cond-true, cond-false, false≢true, not_from_true, flat_map-append, drop-map, get_or-map, length-map, map-append, map-set, take-map, get_or_from_slice_get, slice_get-get_or, slice_get_within}
+use Rattle.bt_lines.proofs.Std.{codes, decimal, ◌≡◌, ◌⊎◌, ℕ, ◌+◌, ◌-◌, ◌<◌, ◌≤◌, List, [], ◌∷◌, ◌++◌, append-nil, length-append, inl, inr, not, cond, ◌||◌, get_or, map, Bool, true, false, bytes_eq, nat_lt, Option, None, Some, Result, Ok, Err, refl, sym, ap, ◌∙◌, subst, arith, prefix_len, slice_get, is_err, OnOk, cond-false, flat_map-append, drop-map, get_or-map, length-map, map-append, map-set, take-map, get_or_from_slice_get, slice_get-get_or, slice_get_within}
 use Rattle.bt_lines.specs.model.Fault.{no_memory}
 use Rattle.bt_lines.specs.calls.Names.{fault_value}
 use Rattle.bt_lines.specs.calls.Output.{Output, Adds, FailsToAdd, FailsToPut, Grown}
 use Rattle.bt_lines.specs.declared.fault.Fault.{Fault}
 use Rattle.bt_bed.specs.model.Feature.{Feature, interval_of, Interval, is_strand}
 use Rattle.bt_bed.specs.model.BedLine.{interval_line, interval_lines}
-use Rattle.bt_bed.proofs.lemmas.Writing.{adds_line}
-use Rattle.bt_bed.proofs.lemmas.parse.NameLemmas.{name_eq, name_ne, other_name}
+use Rattle.bt_bed.proofs.lemmas.parse.NameLemmas.{name_eq, other_name}
 use Rattle.bt_runs.specs.calls.Engine.{AfterEach, fault_of}
 use Rattle.bt_runs.specs.model.Merged.{is_closed, StrandRun, kept_strand_runs, places_of, settled_strand_runs}
-use Rattle.bt_runs.specs.inside.merge.StrandStep.{joined_here, left_runs, lengthened, passed_runs, place_of, placed_run, placed_runs, with_joined, kept_in, added_at, left_unsettled, settled_prefix, last_place, place_among, run_from, run_with, with_added, JoinsAmong, joined_among, lines_by, strand_rule, stranding}
+use Rattle.bt_runs.specs.inside.merge.StrandStep.{left_runs, passed_runs, place_of, placed_run, placed_runs, with_joined, kept_in, added_at, left_unsettled, settled_prefix, last_place, place_among, run_from, with_added, JoinsAmong, joined_among, lines_by, strand_rule, stranding}
 use Rattle.bt_runs.specs.inside.Walk.{Does, EnterAnswers, FitsPast, PutsRestAtEnd}
 use Rattle.bt_runs.specs.calls.Stranding.{Stranding, held_count, settled_lines, strand_lines}
 use Rattle.bt_runs.specs.declared.engine.failure.Failure.{Failure}
-use Rattle.bt_runs.specs.declared.engine.failure.Failure.TheVariants.{Write, Memory}
 use Rattle.bt_runs.specs.declared.merge.pending_runs.PendingRun.{PendingRun}
 use Rattle.bt_runs.specs.declared.merge.per_strand_merge.OnlyRun.{OnlyRun}
-use Rattle.bt_runs.proofs.lemmas.merge.StrandSettling.{is_over, last_place_within, left_none, over_so, passed_every, strand_next, strand_runs_are_all, take_goes}
+use Rattle.bt_runs.proofs.lemmas.merge.StrandSettling.{last_place_within, left_none, passed_every, strand_next, strand_runs_are_all}
 use Rattle.bt_runs.proofs.lemmas.Engine.{enters, enters_cut, enters_short, none_more}
 use Rattle.bt_runs.proofs.lemmas.merge.UnstrandedLemmas.{last_is}
 
@@ -29,10 +27,6 @@ pending_from r = record { strand = r.strand; start = r.start; stop = r.stop }
 -- what is done with a record
 abbrev pub TakesNext : Stranding → Feature → Output → Result (Unit {0}) Fault → Stranding → Output → Type 0
 TakesNext = Does strand_rule
-
--- tests that agree
-prefix_same : {A : Type 0} (test other : A → Bool) → ((x : A) → test x ≡ other x) → (xs : List A) → prefix_len test xs ≡ prefix_len other xs
-prefix_same test other same xs = grind arith
 
 prefix_map : {A B : Type 0} (test : B → Bool) (f : A → B) (xs : List A) → prefix_len test (map f xs) ≡ prefix_len (λ x. test (f x)) xs
 prefix_map test f [] = refl
@@ -45,19 +39,12 @@ last_place_map test f (x ∷ xs) = ap (place_among (test (f x))) (last_place_map
 get_map : {A B : Type 0} (f : A → B) (xs : List A) (i : ℕ) (x : A) (d : B) → slice_get xs i ≡ Some x → get_or (map f xs) i d ≡ f x
 get_map f xs i x d e = get_or-map f xs i x d (slice_get_within xs i x e) ∙ ap f (get_or_from_slice_get xs i x x e)
 
--- a run ends more than the gap below a start if it ends below the start less the gap
-below_reach : (stop gap start : ℕ) → nat_lt (stop + gap) start ≡ nat_lt stop (start - gap)
-below_reach stop gap start = grind arith
-
 module _ (gap : ℕ) (chrom : List ℕ) (r : Feature) where
   abbrev here : Bool
   here = bytes_eq chrom r.chrom
 
   abbrev reach : ℕ
   reach = r.start - gap
-
-  test_same : (w : PendingRun) → is_closed gap (interval_of r) (placed_run chrom w).run ≡ (not here || nat_lt w.stop reach)
-  test_same w = ap (λ b. not here || b) (below_reach w.stop gap r.start)
 
   prefix_placed : (runs : List PendingRun) → prefix_len (λ item. is_closed gap (interval_of r) item.run) (placed_runs chrom runs) ≡ prefix_len (λ (w : PendingRun). not here || nat_lt w.stop reach) runs
   prefix_placed runs = grind (arith, prefix_map)
@@ -120,9 +107,6 @@ module _ (old : Stranding) (r : Feature) (out : Output) (runs : List PendingRun)
   takes_with : (new : Stranding) (grown : Output) → new.gap ≡ old.gap → new.chrom ≡ old.chrom → with_added old.gap (placed_runs old.chrom left) r ≡ new.kept
       → Grown out (strand_lines (placed_runs old.chrom (passed_runs true near runs))) grown → TakesNext old r out (Ok tt) new grown
   takes_with new grown gap chrom kept puts = (record { gap = gap; chrom = chrom ∙ on; kept = sym (kept_is_with new.kept kept) }, rw (← lines_is) puts)
-
-  fails_with : (fault : Fault) (new : Stranding) (grown : Output) → FailsToAdd out (strand_lines (placed_runs old.chrom (passed_runs true near runs))) (fault_value fault) grown → TakesNext old r out (Err fault) new grown
-  fails_with fault new grown p = inl (rw (← lines_is) p)
 
   -- among the runs that are left
   abbrev joined : Bool × List PendingRun
@@ -203,10 +187,6 @@ pushed_some (x ∷ xs) y ys e = absurd (cc)
 no_lines : (runs : List Interval) → interval_lines runs ≡ [] → runs ≡ []
 no_lines [] e = refl
 no_lines (run ∷ runs) e = absurd (pushed_some (run.chrom ++ codes "\t" ++ decimal run.start ++ codes "\t" ++ decimal run.stop) 10 (interval_lines runs) e)
-
-no_items : (items : List StrandRun) → places_of items ≡ [] → items ≡ []
-no_items [] e = refl
-no_items (x ∷ xs) e = absurd (cc)
 
 module _ (merge : Stranding) (r : Feature) where
   next : AfterEach stranding merge r (λ first past. settled_lines first (past ++ r ∷ []) ≡ settled_lines first past ++ lines_by merge r)

@@ -3,12 +3,12 @@ use Rattle.bt_lines.proofs.Std.{◌≡◌, ℕ, ◌+◌, ◌<◌, ◌≤◌, ◌
 use Rattle.bt_bed.specs.model.Feature.{Feature, interval_of, intervals_of, Interval, Span, placed_on, span_of, spans_on}
 use Rattle.bt_bed.specs.model.Sorted.{has_records, ArePlaced, AreContiguous}
 use Rattle.bt_bed.proofs.lemmas.parse.NameLemmas.{name_ne}
-use Rattle.bt_runs.specs.model.Merged.{is_counted, counted, runs_of, runs_on, is_closed, merged_runs, settled_runs, chromosomes, merged, passed_by, kept_runs, AreTaken}
+use Rattle.bt_runs.specs.model.Merged.{is_counted, counted, runs_of, runs_on, is_closed, merged_runs, settled_runs, chromosomes, merged, kept_runs, AreTaken}
 use Rattle.bt_runs.specs.inside.merge.UnstrandedStep.{kept_by, left_by, settled_by, with_record}
 use Rattle.bt_runs.specs.declared.merge.merge_strand.MergeStrand.{MergeStrand}
-use Rattle.bt_runs.proofs.lemmas.order.ByChromosome.{Divides, Form, NoRecords, Owes, picks_by, Begun, InOrder, Moves, Ordered, Standing, Written, bares, begun, full_front, full_last, goes_first, goes_next, goes_on, goes_to, order_front, parts, settling, whole_left}
+use Rattle.bt_runs.proofs.lemmas.order.ByChromosome.{Divides, Form, NoRecords, Owes, picks_by, Begun, InOrder, Moves, Ordered, Standing, Written, bares, begun, full_front, full_last, goes_first, goes_next, goes_on, goes_to, order_front, settling, whole_left}
 use Rattle.bt_runs.proofs.lemmas.order.FileOrder.{runs_on-push_elsewhere, spans_on-none, spans_on-push_here, runs_of-nil, runs_on-none, in_file_order, distinct_chromosomes, placed_own}
-use Rattle.bt_runs.proofs.lemmas.definitions.Standing.{counted_absent, counted_next, counted_same, not_passed, passed_before, passed_elsewhere, passed_far, placed_elsewhere, not_less, stays, begins, begins_at}
+use Rattle.bt_runs.proofs.lemmas.definitions.Standing.{counted_absent, counted_next, counted_same, not_passed, passed_before, passed_far, placed_elsewhere, not_less, stays, begins, begins_at}
 use Rattle.bt_runs.proofs.lemmas.merge.Bridging.{OneOpen, first_open, join_open, longer, next_open, open_runs}
 use Rattle.bt_bed.specs.model.Order.{AreDistinct, rank_order}
 use Rattle.bt_bed.proofs.lemmas.order.OrderLemmas.{placed_prefix, contiguous_prefix}

@@ -1,18 +1,16 @@
 -- The runs of several strands, listed by their first records: what one more record does to the list.
-use Rattle.bt_lines.proofs.Std.{rules, ◌≡◌, ℕ, ◌≤◌, inl, inr, List, [], ◌∷◌, ◌++◌, append-nil, refl, sym, ap, ap₂, ◌∙◌, subst, arith, cond, filter, length, map, Bool, true, false, not, ◌&&◌, ◌||◌, list_any, cases_Bool, cond-true, cond-false, false≢true, not_from_true, not_from_false, length-map, map-append, ◌+◌, ◌<◌, ◌⊎◌, append_assoc, bytes_eq, nat_le, nat_lt, le-leb, leb-true, and_parts, and_from, and_left, and_right, cases_lt, false_from_ne_true, ltb-false, not-true, not-false, or_parts, filter-append, recursion_from_All, any-filter_same}
+use Rattle.bt_lines.proofs.Std.{rules, ◌≡◌, ℕ, ◌≤◌, inl, inr, List, [], ◌∷◌, ◌++◌, append-nil, refl, sym, ap, ap₂, ◌∙◌, subst, arith, cond, filter, length, map, Bool, true, false, not, ◌&&◌, ◌||◌, list_any, cases_Bool, cond-true, cond-false, false≢true, not_from_true, not_from_false, length-map, map-append, ◌+◌, ◌<◌, ◌⊎◌, append_assoc, and_parts, false_from_ne_true, filter-append, recursion_from_All, any-filter_same}
 use Rattle.bt_bed.specs.model.Feature.{Feature, interval_of, intervals_of, Interval, last_from, last_of, is_strand}
 use Rattle.bt_bed.specs.model.Sorted.{has_records, AreContiguous}
 use Rattle.bt_bed.specs.declared.record.strand.Strand.{Strand}
-use Rattle.bt_bed.specs.declared.record.strand.Strand.TheVariants.{Plus, Minus, Dot}
 use Rattle.bt_bed.proofs.lemmas.order.OrderLemmas.{last_of-push}
-use Rattle.bt_runs.specs.model.Merged.{is_counted, chromosomes, merged, AreTaken, is_closed, kept_runs, merged_runs, passed_by, settled_runs, StrandRun, runs_of_strand, begun_by, is_in, listed_behind, strand_runs}
+use Rattle.bt_runs.specs.model.Merged.{merged, AreTaken, is_closed, merged_runs, settled_runs, StrandRun, runs_of_strand, begun_by, is_in, listed_behind, strand_runs}
 use Rattle.bt_runs.specs.inside.merge.UnstrandedStep.{joined_run, left_by, settled_by, with_record}
 use Rattle.bt_runs.specs.inside.merge.StrandStep.{run_from, run_with}
 use Rattle.bt_runs.specs.declared.merge.merge_strand.MergeStrand.TheVariants.{One}
 use Rattle.bt_runs.proofs.lemmas.order.ByChromosome.{intervals_next, full_front, full_last}
-use Rattle.bt_runs.proofs.lemmas.definitions.Standing.{counted_same, Each, any_from, each_append, each_front, each_map, each_weaker, filter_passes, map_leaves, none_from, some_right, has_records-here, Some_of, any_same, any_some, each_all, each_both, each_filter, each_swap, each_unmap, filter_changed, filter_drops, none_each, some_each, some_left, some_map, some_out, some_weaker, not_passed}
+use Rattle.bt_runs.proofs.lemmas.definitions.Standing.{counted_same, Each, any_from, each_append, each_front, each_map, each_weaker, filter_passes, map_leaves, none_from, some_right, has_records-here, Some_of, any_same, any_some, each_all, each_both, each_filter, each_swap, each_unmap, filter_changed, filter_drops, none_each, some_each, some_left, some_map, some_out, some_weaker}
 use Rattle.bt_runs.proofs.lemmas.merge.SettledRuns.{next_taken, taken_front, whole_taken}
-use Rattle.bt_bed.proofs.lemmas.parse.NameLemmas.{name_eq, same_name}
 
 -- strands that are one
 pub strand_self : (s : Strand) → is_strand s s ≡ true
@@ -100,9 +98,6 @@ reaches_any : (gap : ℕ) (r : Feature) (runs : List Interval) → list_any (rea
 reaches_any gap r [] = refl
 reaches_any gap r (run ∷ runs) = ap₂ (λ (a b : Bool). a || b) (reaches_open gap r run) (reaches_any gap r runs)
 
-new_on : (b : Bool) (r : Feature) → map (on_strand r.strand) (cond b [] (interval_of r ∷ [])) ≡ new_run b r
-new_on b r = grind arith
-
 -- the merged runs of one strand: those that the record closes, and one more at most
 pub record Parted (gap : ℕ) (r : Feature) (runs : List StrandRun) : Type 0 where
   pub done : List StrandRun
@@ -112,9 +107,6 @@ pub record Parted (gap : ℕ) (r : Feature) (runs : List StrandRun) : Type 0 whe
   pub few : length kept ≤ 1
 
 module _ (gap : ℕ) (past : List Feature) (r : Feature) (taken : AreTaken (past ++ r ∷ [])) where
-  one : List Interval
-  one = merged_runs gap (One r.strand) past
-
   -- what is settled of a strand's runs is closed by the record
   settled_passed : Each (IsPassed gap (interval_of r)) (settled_runs gap (One r.strand) past)
   unfolding settled_runs
@@ -124,9 +116,6 @@ module _ (gap : ℕ) (past : List Feature) (r : Feature) (taken : AreTaken (past
       let last = ap last_of (intervals_next past r) ∙ last_of-push (intervals_of past) x in
       grind (arith, each_front, (next_taken gap strand past r taken), (filter_passes (is_closed gap x) (merged_runs gap strand (past ++ r ∷ []))))
 
-  all_one : merged_runs gap (One r.strand) past ≡ settled_runs gap (One r.strand) past ++ kept_runs gap (One r.strand) past
-  all_one = (whole_taken gap (One r.strand) past (taken_front past (r ∷ []) taken)).all
-
   -- so one more record is joined to a run of its strand, or is a new one after them
   pub same_next : runs_of_strand gap (past ++ r ∷ []) r.strand ≡ map (joined_to gap r) (runs_of_strand gap past r.strand) ++ new_run (list_any (reaches gap r) (runs_of_strand gap past r.strand)) r
   same_next = grind (arith, map-append, joined_all, reaches_any, next_taken, whole_taken, grown_runs, settled_passed, taken_front)
@@ -135,10 +124,6 @@ module _ (gap : ℕ) (past : List Feature) (r : Feature) (taken : AreTaken (past
   parted = grind (arith, map-append, settled_passed, whole_taken, taken_front, length-map, each_map, each_weaker)
 
 -- The runs of several strands, listed by their first records: what one more record does to the list.
-
--- whether a record lies in a run
-abbrev lies_in : Interval → Interval → Bool
-lies_in run r = bytes_eq run.chrom r.chrom && (nat_le run.start r.start && nat_le r.stop run.stop)
 
 -- a record of a run
 pub record Lies (item : StrandRun) (p : Feature) : Type 0 where
@@ -168,12 +153,6 @@ pub listed_append : (runs : Strand → List StrandRun) (before xs ys : List Feat
 listed_append runs before [] ys = ap (λ l. listed_behind runs l ys) (sym (append-nil before))
 listed_append runs before (x ∷ xs) ys = grind (arith, (listed_append runs (before ++ x ∷ []) xs ys), append_assoc)
 
-strand_either : (a b : Strand) → is_strand a b ≡ is_strand b a
-strand_either a b = grind arith
-
-same_either : (b : Bool) (none : List StrandRun) → cond b none none ≡ none
-same_either b none = grind arith
-
 module _ (gap : ℕ) (r : Feature) where
   -- a run that the record reaches, and one that it doesn't
   pub record Reached (item : StrandRun) : Type 0 where
@@ -193,14 +172,8 @@ module _ (gap : ℕ) (r : Feature) where
   pub join_not : (item : StrandRun) → reaches gap r item ≡ false → joined_to gap r item ≡ item
   join_not item f = cond-false (reaches gap r item) (run_with r item) item f
 
-  lies_longer : (item : StrandRun) (p : Feature) → Lies item p → Lies (run_with r item) p
-  lies_longer item p l = record { same = l.same; on = l.on; from = l.from; to = let h = l.to in omega arith }
-
   lies_joined : (item : StrandRun) (p : Feature) → Lies item p → Lies (joined_to gap r item) p
   lies_joined item p l = grind arith
-
-  strand_joined : (item : StrandRun) → (joined_to gap r item).strand ≡ item.strand
-  strand_joined item = grind arith
 
   -- no record of before comes to lie in a run that the record makes longer
   pub same_in : (item : StrandRun) (p : Feature) → IsWithinOrFar gap item p → (p.chrom ≡ r.chrom → p.start ≤ r.start) → is_in (joined_to gap r item) p ≡ is_in item p

@@ -1,6 +1,6 @@
 -- The settled runs of several strands and the kept ones, and what one more record does to them.
 use Rattle.std.proofs.lemmas.Grind.{common_steps}
-use Rattle.bt_lines.proofs.Std.{◌≡◌, ℕ, ◌+◌, ◌≤◌, inl, inr, List, [], ◌∷◌, ◌++◌, append_assoc, append-nil, refl, sym, ap, ap₂, ◌∙◌, subst, arith, cond, drop, filter, get_or, length, map, set, take, Bool, true, false, not, ◌||◌, bytes_eq, nat_lt, Option, Some, None, list_any, prefix_len, take_while, ⊤, is_some, and_from, and_left, and_right, cases_Bool, cond-true, cond-false, false≢true, ltb-true, not-true, not_from_true, not_from_false, or_cases, or_left, drop_at, map-append, take-append-drop, take_at, length-prefix_len, list_any-append, take_while-cons, ◌<◌, ◌-◌, lt-ltb, le-ltb, zero, suc, ◌⊎◌, Result, Err, slice_get, or_from, or_right, set-get_or, get_or_from_slice_get, slice_get_read, slice_get_within}
+use Rattle.bt_lines.proofs.Std.{◌≡◌, ℕ, ◌+◌, ◌≤◌, inl, inr, List, [], ◌∷◌, ◌++◌, append_assoc, append-nil, refl, sym, ap, ◌∙◌, subst, arith, drop, filter, get_or, length, map, set, take, Bool, true, false, not, ◌||◌, bytes_eq, nat_lt, Option, Some, None, list_any, prefix_len, take_while, ⊤, is_some, and_left, and_right, cases_Bool, cond-true, cond-false, false≢true, ltb-true, not-true, not_from_true, or_cases, drop_at, map-append, take-append-drop, take_at, length-prefix_len, list_any-append, take_while-cons, ◌<◌, ◌-◌, le-ltb, zero, suc, ◌⊎◌, Result, Err, slice_get, or_from, set-get_or, get_or_from_slice_get, slice_get_read, slice_get_within}
 use Rattle.bt_bed.specs.model.Feature.{Feature, interval_of, intervals_of, Interval, last_from, last_of, is_strand}
 use Rattle.bt_bed.specs.model.BedLine.{interval_line}
 use Rattle.bt_bed.specs.model.Sorted.{AreContiguous}
@@ -9,9 +9,9 @@ use Rattle.bt_bed.proofs.lemmas.order.OrderLemmas.{last_of-push}
 use Rattle.bt_runs.specs.model.Merged.{AreTaken, is_closed, StrandRun, kept_strand_runs, closed_prefix, settled_strand_runs, strand_runs, places_of}
 use Rattle.bt_runs.specs.calls.Engine.{SettledBegins, SettledStays, Settles}
 use Rattle.bt_runs.specs.inside.merge.StrandStep.{added_at, left_unsettled, settled_prefix, last_place, place_among, run_from, run_with, with_added, count_up_to, counts_up_to_last, place_of, slot_of, joined_here, lengthened, with_joined, left_runs, passed_runs, placed_run, placed_runs}
-use Rattle.bt_runs.proofs.lemmas.order.ByChromosome.{full_last, intervals_next}
+use Rattle.bt_runs.proofs.lemmas.order.ByChromosome.{intervals_next}
 use Rattle.bt_runs.proofs.lemmas.definitions.Standing.{Each, Some_of, each_append, each_both, each_front, each_unmap, each_weaker, map_leaves, none_each, none_from, some_each, some_out, not_passed, passed_elsewhere, passed_far, begins, stays}
-use Rattle.bt_runs.proofs.lemmas.merge.StrandListing.{joined_to, last_there, new_run, parted, reaches, Lies, Listed, are_listed, join_is, join_not, listing_next, reached}
+use Rattle.bt_runs.proofs.lemmas.merge.StrandListing.{joined_to, last_there, new_run, parted, reaches, Lies, Listed, are_listed, listing_next}
 use Rattle.bt_runs.proofs.lemmas.merge.SettledRuns.{taken_front}
 use Rattle.bt_lines.proofs.lemmas.Writer.{adds_lines, cut_lines}
 use Rattle.bt_bed.specs.declared.record.strand.Strand.{Strand}
@@ -19,7 +19,6 @@ use Rattle.bt_bed.specs.declared.record.strand.Strand.TheVariants.{Plus, Minus, 
 use Rattle.bt_runs.specs.declared.merge.pending_runs.PendingRun.{PendingRun}
 use Rattle.bt_lines.specs.calls.Output.{Output, Adds, Grown, Puts}
 use Rattle.bt_lines.specs.declared.fault.Fault.{Fault}
-use Rattle.bt_bed.proofs.lemmas.Writing.{adds_line}
 use Rattle.bt_runs.specs.calls.Stranding.{strand_lines}
 
 -- the longest prefix that passes a test
@@ -39,9 +38,6 @@ module _ {A : Type 0} (test : A → Bool) where
   pub take_goes : (x : A) (xs : List A) → test x ≡ true → take_while test (x ∷ xs) ≡ x ∷ take_while test xs
   take_goes x xs t = take_while-cons test x xs ∙ cond-true (test x) (x ∷ take_while test xs) [] t
 
-  pub take_ends : (x : A) (xs : List A) → test x ≡ false → take_while test (x ∷ xs) ≡ []
-  take_ends x xs f = take_while-cons test x xs ∙ cond-false (test x) (x ∷ take_while test xs) [] f
-
   pub front_passes : (xs : List A) → Each (λ x. test x ≡ true) (take_while test xs)
   front_passes [] = tt
   front_passes (x ∷ xs) = grind (arith, (front_passes xs), take_goes)
@@ -52,9 +48,6 @@ module _ {A : Type 0} (test : A → Bool) where
 
   pub front_and_behind : (xs : List A) → xs ≡ take_while test xs ++ drop (length (take_while test xs)) xs
   front_and_behind xs = grind (arith, length-prefix_len, take-append-drop)
-
-none_is : (place : Option ℕ) → is_some place ≡ false → place ≡ None
-none_is place f = grind arith
 
 among : (first : Bool) (place : Option ℕ) (others : Bool) → is_some place ≡ others → is_some (place_among first place) ≡ (first || others)
 among first place others e = grind arith
@@ -106,10 +99,6 @@ module _ (gap : ℕ) (r : Feature) where
     | inl t ↦ only_on x xs (λ a b e p f. only_from xs a b e p f) done kept (sym (cond-true (on_its x) (x ∷ filter on_its xs) (filter on_its xs) t) ∙ e) passed few
   ]
 
-  -- a list with the record, by the place of the last run of its strand
-  apart_cond : (b : Bool) (x : StrandRun) (xs ys : List StrandRun) → cond b (x ∷ xs) (x ∷ ys) ≡ x ∷ cond b xs ys
-  apart_cond b x xs ys = grind arith
-
   added_later : (x : StrandRun) (xs : List StrandRun) (place : Option ℕ) → is_some place ≡ true → added_at gap (x ∷ xs) r (place_among (on_its x) place) ≡ x ∷ added_at gap xs r place
   added_later x xs place some = grind arith
 
@@ -128,9 +117,6 @@ module _ (gap : ℕ) (r : Feature) where
           | inr n ↦ grind (arith, map_leaves, each_weaker, append-nil)
         ]
       ]
-
-  grown_cons : (x : StrandRun) (xs : List StrandRun) → reaches gap r x ≡ false → x ∷ (map (joined_to gap r) xs ++ new_run (list_any (reaches gap r) xs) r) ≡ map (joined_to gap r) (x ∷ xs) ++ new_run (list_any (reaches gap r) (x ∷ xs)) r
-  grown_cons x xs f = grind arith
 
   pub added_is : (xs : List StrandRun) → OnlyLast xs → with_added gap xs r ≡ map (joined_to gap r) xs ++ new_run (list_any (reaches gap r) xs) r
   added_is [] o = refl
@@ -198,10 +184,6 @@ module _ (gap : ℕ) where
     only =
         let p = parted gap past r taken in
         only_from gap r (strand_runs gap past) p.done p.kept (listed.split r.strand ∙ p.all) p.passed p.few
-
-    -- with the record, the first run that it doesn't close stays such a one
-    stops_joined : (item : StrandRun) → passes (interval_of r) item ≡ false → passes (interval_of r) (joined_to gap r item) ≡ false
-    stops_joined item f = grind arith
 
     stops_added : (items : List StrandRun) → Stops (passes (interval_of r)) items → Stops (passes (interval_of r)) (map (joined_to gap r) items ++ new_run (list_any (reaches gap r) items) r)
     stops_added items s = grind (arith, common_steps, not_passed)

@@ -1,10 +1,10 @@
 -- From the exact step of a merge of all its records together to what it writes after the records of the past.
-use Rattle.bt_lines.proofs.Std.{arith, ◌≡◌, ◌==◌, ℕ, false, List, [], ◌∷◌, ◌++◌, inl, inr, Result, Ok, Err, refl, sym, ap, ◌∙◌, append-nil, bytes_eq, cases_Bool, flat_map-append}
+use Rattle.bt_lines.proofs.Std.{arith, ◌≡◌, ℕ, false, List, [], ◌∷◌, ◌++◌, Result, Ok, Err, refl, sym, ap, ◌∙◌, append-nil, bytes_eq, flat_map-append}
 use Rattle.bt_lines.specs.model.Fault.{no_memory}
 use Rattle.bt_lines.specs.calls.Names.{fault_value}
 use Rattle.bt_lines.specs.calls.Output.{Output, Adds, FailsToAdd, Grown}
 use Rattle.bt_lines.specs.declared.fault.Fault.{Fault}
-use Rattle.bt_bed.specs.model.Feature.{Feature, interval_of, Interval}
+use Rattle.bt_bed.specs.model.Feature.{Feature, interval_of}
 use Rattle.bt_bed.specs.model.BedLine.{interval_line, interval_lines}
 use Rattle.bt_runs.specs.calls.Engine.{AfterEach}
 use Rattle.bt_runs.specs.model.Merged.{kept_runs, settled_runs}
@@ -37,11 +37,6 @@ module _ (old : Unstranded) where
   pub finishes_kept : {A : Type 0} (out : Output) (result : Result A Fault) (grown : Output) → Adds out (interval_lines old.kept) result grown
       → PutsRestAtEnd unstranded_rule old out result grown
   finishes_kept out result grown p = grind (arith, whole_taken, flat_map-append)
-
--- a record on another chromosome closes the run that is kept
-elsewhere_passes : (gap : ℕ) (chrom : List ℕ) (run : OpenRun) (r : Interval) → bytes_eq chrom r.chrom ≡ false
-    → (settled_by gap (kept_at chrom run) r ≡ kept_at chrom run) × (left_by gap (kept_at chrom run) r ≡ [])
-elsewhere_passes gap chrom run r apart = grind arith
 
 -- another chromosome is entered
 module _ (old : Unstranded) (run : OpenRun) (is : kept_at old.chrom run ≡ old.kept) (out : Output) (name : List ℕ) (apart : bytes_eq old.chrom name ≡ false) where

@@ -10,7 +10,7 @@
 -- It is given what one more record settles and what is kept then, on the same chromosome or a later one (`goes_first`, `goes_on`, `goes_to`). That is what `feed` has to do. It is also given what is left for `finish` (`whole_left`), and `Settles` (`settling`), from which settled items stay and begin the whole (`Standing`).
 -- The engines' forms are in `SettledRuns` (merge), `GapRuleLemmas` (complement) and `DepthSteps` (coverage); the last two take `Walks` from here.
 use Rattle.std.proofs.lemmas.Grind.{common_steps}
-use Rattle.bt_lines.proofs.Std.{◌≡◌, ◌⊎◌, ℕ, ◌<◌, ◌≤◌, inl, inr, List, [], ◌∷◌, ◌++◌, append_assoc, append-nil, refl, sym, ap, ap₂, ◌∙◌, subst, arith, length, length-append, map, filter, flat_map, Bool, true, false, bytes_eq, Some, ⊤, or_parts, flat_map-append, map-append, take_at, filter-append, All-contains, All-take, Contains-push, zero, suc, ◌+◌, ◌-◌, length-drop, get_or, take, drop, option_map, slice_range, min, Option, Result, Ok, Err, slice_get, cond-true, cond-false, cases_lt, take_at_read, drop_at, get_or-drop, drop-drop, get_or-append_seam, take-add}
+use Rattle.bt_lines.proofs.Std.{◌≡◌, ◌⊎◌, ℕ, ◌<◌, ◌≤◌, inl, inr, List, [], ◌∷◌, ◌++◌, append_assoc, append-nil, refl, sym, ap, ap₂, ◌∙◌, subst, arith, length, length-append, map, filter, flat_map, Bool, true, false, bytes_eq, Some, ⊤, or_parts, flat_map-append, map-append, take_at, filter-append, Contains-push, zero, suc, ◌+◌, ◌-◌, length-drop, drop, option_map, slice_range, min, Option, Result, Ok, Err, slice_get, cond-true, cond-false, take_at_read, drop_at, get_or-drop, drop-drop, get_or-append_seam, take-add}
 use Rattle.std.specs.declared.cmp.Ordering.TheVariants.{Less, Greater}
 use Rattle.bt_bed.specs.model.Feature.{Feature, interval_of, intervals_of, Interval, AreNonEmpty, last_of}
 use Rattle.bt_bed.specs.model.Sorted.{ArePlaced, has_records}
@@ -172,9 +172,6 @@ module _ {K T S : Type 0} (f : Form K T S) (At : K → List Feature → ℕ → 
 
       -- the items fall into three: those of the chromosomes before and those done, those left, and those of the chromosomes after
       module _ (past : List Feature) (before : List K) (key : K) (after : List K) (state : S) (s : Standing past before key after state) where
-        divided : Divides key past s.last s.done state
-        divided = owes.divides key past s.last s.done state s.at s.stand.is s.stand.some
-
         parts_to : (middle : List K) → NoneOn f.name (intervals_of past) middle → parts f past (before ++ key ∷ middle) ≡ (parts f past before ++ s.done) ++ (f.left key state ++ bares f middle)
         parts_to middle none = grind (arith, flat_map-append, parts_none, append_assoc)
 
@@ -345,9 +342,6 @@ length_read (x ∷ xs) (suc rank) size e = length_read xs rank size e
 -- the chromosomes from one rank up to another
 pub slice_between : (before middle after : List Entry) (first stop : ℕ) → length before ≡ first → length before + length middle ≡ stop → slice_range (before ++ (middle ++ after)) first stop ≡ middle
 slice_between before middle after first stop f s = grind (arith, drop_at, take_at)
-
-pub slice_none : (entries : List Entry) (first stop : ℕ) → stop ≤ first → slice_range entries first stop ≡ []
-slice_none entries first stop h = grind arith
 
 -- one more chromosome
 pub slice_more : (entries : List Entry) (first rank : ℕ) → first ≤ rank → rank < length entries → slice_range entries first (rank + 1) ≡ slice_range entries first rank ++ entry_at entries rank ∷ []

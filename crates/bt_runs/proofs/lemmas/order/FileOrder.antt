@@ -1,15 +1,15 @@
 -- The records of one chromosome, and the names of the chromosomes that have some, in a past that grows at its end.
-use Rattle.bt_lines.proofs.Std.{◌≡◌, ℕ, inl, inr, List, [], ◌∷◌, ◌++◌, append-nil, refl, sym, ap, ◌∙◌, map, false, not, ◌||◌, bytes_eq, cond-true, cond-false, or_parts, or_left, not_from_true, not_from_false, suc, ◌<◌, ◌≤◌, ◌⊎◌, subst, arith, filter, cond, Bool, true, Option, Some, option_map, IsTrue, ranked, cases_Bool, or_from, if◌then◌else◌, is_lt, None, is_some}
+use Rattle.bt_lines.proofs.Std.{◌≡◌, ℕ, inl, inr, List, [], ◌∷◌, ◌++◌, append-nil, refl, sym, ap, ◌∙◌, map, false, not, ◌||◌, bytes_eq, cond-true, cond-false, or_parts, not_from_true, not_from_false, suc, ◌<◌, ◌≤◌, ◌⊎◌, subst, arith, filter, Bool, true, Option, Some, option_map, or_from, is_some}
 use Rattle.bt_bed.specs.model.Feature.{Interval, span_of, placed_on, spans_on, Feature, interval_of, intervals_of}
 use Rattle.bt_bed.specs.model.Positions.{stretches_from}
 use Rattle.bt_bed.specs.model.Order.{is_among, Order, IsTotal, AreDistinct, rank_of, compare_ranks, rank_order}
-use Rattle.bt_bed.specs.model.Sorted.{has_records, locus_of, IsUpTo, IsPlacedBefore, ArePlaced, AreContiguous}
+use Rattle.bt_bed.specs.model.Sorted.{has_records, IsPlacedBefore, ArePlaced, AreContiguous}
 use Rattle.bt_bed.proofs.lemmas.parse.NameLemmas.{name_eq, name_ne, other_name, cases_name, name_ne-sym}
-use Rattle.bt_runs.specs.model.Merged.{runs_of, runs_on, without, chromosomes, is_counted, counted, merged, merged_runs, in_order, ordered_runs, put_in_order}
-use Rattle.std.specs.declared.cmp.Ordering.TheVariants.{Less, Equal}
+use Rattle.bt_runs.specs.model.Merged.{runs_of, runs_on, without, chromosomes, is_counted, counted, merged, merged_runs, in_order, ordered_runs}
+use Rattle.std.specs.declared.cmp.Ordering.TheVariants.{Less}
 use Rattle.bt_bed.specs.inside.RankTotal.{ranks_total}
 use Rattle.bt_runs.specs.declared.merge.merge_strand.MergeStrand.{MergeStrand}
-use Rattle.bt_runs.proofs.lemmas.definitions.Standing.{each_all, filter_drops, known_rank, later_rank, cmp_less, less_cmp}
+use Rattle.bt_runs.proofs.lemmas.definitions.Standing.{each_all, filter_drops, known_rank, later_rank}
 use Rattle.bt_bed.proofs.lemmas.order.OrderLemmas.{placed_contiguous}
 
 -- the records of one chromosome
@@ -56,10 +56,6 @@ runs_on-push_elsewhere name gap past r f = ap (λ spans. map (placed_on name) (r
 
 -- Records in the order of a genome file: their chromosomes come in that order, each once.
 
--- a record up to the next one but one
-up_to_later : (order : Order) (p q x : Interval) → IsTotal order → IsTrue (order.knows p.chrom) → IsTrue (order.knows q.chrom) → IsTrue (order.knows x.chrom) → IsUpTo order (locus_of p) (locus_of q) → IsUpTo order (locus_of q) (locus_of x) → IsUpTo order (locus_of p) (locus_of x)
-up_to_later order p q x total one two three p1 p2 = grind arith
-
 -- the next is left out
 pub skips : (order : Order) (p q : Interval) (rest : List Interval) → IsTotal order → ArePlaced order (p ∷ q ∷ rest) → ArePlaced order (p ∷ rest)
 skips order p q rest total t = grind arith
@@ -93,9 +89,6 @@ record RanksUpTo (names : List (List ℕ)) (r s : Interval) : Type 0 where
   next_rank_is : rank_of names s.chrom ≡ Some next_rank
   up_to : (rank < next_rank) ⊎ (r.chrom ≡ s.chrom)
 
-less_ranks : (o p : Option ℕ) (i j : ℕ) → o ≡ Some i → p ≡ Some j → compare_ranks o p ≡ Less → i < j
-less_ranks o p i j e f less = ranked i j Less (sym (sym (ap (λ q. compare_ranks q p) e ∙ ap (λ q. compare_ranks (Some i) q) f) ∙ less))
-
 ranks_up_to : (names : List (List ℕ)) (r s : Interval) (ss : List Interval) → ArePlaced (rank_order names) (r ∷ s ∷ ss) → RanksUpTo names r s
 ranks_up_to names r s ss placed = grind arith
 
@@ -110,10 +103,6 @@ lower_is_absent names name i j s (t ∷ ts) placed p q l =
     let one = same_ranks names s.chrom s.chrom next.rank j refl next.rank_is q in
     let higher : i < next.next_rank = elim next.up_to [ inl h ↦ omega arith | inr e ↦ let same = same_ranks names s.chrom t.chrom j next.next_rank e q next.next_rank_is in omega arith ] in
     grind (arith, (lower_is_absent names name i next.next_rank t ts placed.2 p next.next_rank_is higher), name_ne)
-
--- filters of names
-filter_same : (p q : List ℕ → Bool) → ((n : List ℕ) → p n ≡ q n) → (names : List (List ℕ)) → filter p names ≡ filter q names
-filter_same p q same names = grind arith
 
 -- the test, or that the name is c, picks c if it is among names that come before all others that pass
 pick_absent : (c : List ℕ) (q : List ℕ → Bool) (names : List (List ℕ)) → is_among names c ≡ false → filter (λ n. bytes_eq c n || q n) names ≡ filter q names
@@ -151,9 +140,6 @@ without_twice name (n ∷ ns) = grind (arith, (without_twice name ns))
 -- a record on the chromosome of the next adds no name
 pub same_chromosome : (r s : Interval) (ss : List Interval) → r.chrom ≡ s.chrom → chromosomes (r ∷ s ∷ ss) ≡ chromosomes (s ∷ ss)
 same_chromosome r s ss e = grind (arith, without-here, without_twice)
-
-or_twice : (x y : Bool) → (x || (x || y)) ≡ (x || y)
-or_twice x y = grind arith
 
 -- the names that have records, in the order of the names, are those in the order of first records
 names_in_order : (names : List (List ℕ)) (records : List Interval) → AreDistinct names → ArePlaced (rank_order names) records → filter (λ n. has_records n records) names ≡ chromosomes records
@@ -198,10 +184,6 @@ in_file_order names gap strand records distinct placed =
 -- Records in a total order: the names of their chromosomes come in that order.
 
 module _ (order : Order) (total : IsTotal order) where
-  stands_first : (name n : List ℕ) (ns : List (List ℕ)) → order.compare name n ≡ Less
-      → put_in_order order name (n ∷ ns) ≡ name ∷ n ∷ ns
-  stands_first name n ns less = grind arith
-
   -- a chromosome doesn't come again after a later one
   gone : (r s : Interval) (ss : List Interval) → ArePlaced order (r ∷ s ∷ ss)
       → order.compare r.chrom s.chrom ≡ Less → has_records r.chrom (s ∷ ss) ≡ false
@@ -235,13 +217,6 @@ distinct_without name (n ∷ ns) d = grind (arith, (distinct_without name ns d.1
 pub distinct_chromosomes : (records : List Interval) → AreDistinct (chromosomes records)
 distinct_chromosomes [] = tt
 distinct_chromosomes (r ∷ rs) = (absent_without r.chrom (chromosomes rs), distinct_without r.chrom (chromosomes rs) (distinct_chromosomes rs))
-
--- one more name before the others
-known_shift : (o : Option ℕ) → is_some o ≡ true → is_some (option_map (λ rank. suc rank) o) ≡ true
-known_shift o e = grind arith
-
-less_shift : (o p : Option ℕ) → compare_ranks o p ≡ Less → compare_ranks (option_map (λ rank. suc rank) o) (option_map (λ rank. suc rank) p) ≡ Less
-less_shift o p e = grind arith
 
 less_first : (o : Option ℕ) → is_some o ≡ true → compare_ranks (Some 0) (option_map (λ rank. suc rank) o) ≡ Less
 less_first o e = grind arith

@@ -1,4 +1,4 @@
-use Rattle.bt_lines.proofs.Std.{arith, sym, ◌∙◌, false≢true}
+use Rattle.bt_lines.proofs.Std.{arith, false≢true}
 use Rattle.bt_runs.specs.model.Merged.{Bridged}
 use Rattle.bt_runs.specs.inside.PlainRuns.{spans_in}
 use Rattle.bt_runs.proofs.lemmas.definitions.PlainSpans.{below_with, below_without, runs_below-all}

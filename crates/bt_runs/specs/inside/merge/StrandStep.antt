@@ -4,13 +4,13 @@ use Rattle.std.specs.List.{slice_get, take_while}
 use Rattle.bt_bed.specs.model.Feature.{Feature, interval_of, is_strand}
 use Rattle.bt_bed.specs.declared.record.strand.Strand.{Strand}
 use Rattle.bt_bed.specs.declared.record.strand.Strand.TheVariants.{Plus, Minus, Dot}
-use Rattle.bt_runs.specs.model.Merged.{is_closed, AreTaken, StrandRun, closed_prefix, strand_runs}
+use Rattle.bt_runs.specs.model.Merged.{is_closed, StrandRun, closed_prefix}
 use Rattle.bt_runs.specs.inside.merge.UnstrandedStep.{joined_run}
 use Rattle.bt_runs.specs.declared.merge.pending_runs.PendingRun.{PendingRun}
 use Rattle.bt_lines.specs.model.Fault.{write_failed}
 use Rattle.bt_lines.specs.calls.Output.{Output, FailsToAdd, Grown}
-use Rattle.bt_runs.specs.calls.Engine.{EngineDef, IsOnLast, IsQuiet}
-use Rattle.bt_runs.specs.calls.Stranding.{IsAfter, Stranding, held_count, settled_lines, strand_lines}
+use Rattle.bt_runs.specs.calls.Engine.{EngineDef}
+use Rattle.bt_runs.specs.calls.Stranding.{Stranding, strand_lines, stranding_with}
 use Rattle.bt_runs.specs.inside.Walk.{RuleDef}
 use Rattle.bt_runs.specs.declared.engine.failure.Failure.{Failure}
 use Rattle.bt_runs.specs.declared.engine.failure.Failure.TheVariants.{Write, Memory}
@@ -142,20 +142,9 @@ pub record Takes (old : Stranding) (r : Feature) (new : Stranding) : Type 0 wher
   pub chrom : new.chrom ≡ r.chrom
   pub kept : new.kept ≡ with_added old.gap (left_unsettled old.gap old.kept r) r
 
--- what is said of it, until it has failed
+-- what it takes, writes and keeps, until it has failed
 abbrev pub stranding : EngineDef Stranding
-stranding = record {
-  takes = λ first past. AreTaken past;
-  settled = settled_lines;
-  -- the lines of all runs
-  output = λ first past. strand_lines (strand_runs first.gap past);
-  held = held_count;
-  is_after = IsAfter;
-  fault = λ now. None;
-  -- a record on the chromosome of the one before it that settles no run, with which no more are kept
-  quiet = λ first past r. IsQuiet (settled_lines first) (held_count first) past r × IsOnLast past r;
-  wants = wants_memory;
-}
+stranding = stranding_with wants_memory
 
 -- the rule
 abbrev pub strand_rule : RuleDef Stranding

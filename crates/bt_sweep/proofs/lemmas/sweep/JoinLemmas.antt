@@ -12,7 +12,7 @@ use Rattle.bt_sweep.specs.model.Hits.{decides}
 use Rattle.bt_sweep.specs.calls.Held.{CanHit}
 use Rattle.bt_sweep.specs.model.Lines.{intersect}
 use Rattle.bt_sweep.specs.calls.Sweeping.{AreDecided, CannotBeHeld, CannotHold, GivesKnown, LeavesLast, TakenEach, TakenFor, has_room, held_for, is_held, Sweeping}
-use Rattle.bt_sweep.specs.inside.Joining.{AreDecidedOn, Behind, Breaks, CutsOff, EndUpTo, Holds, Joins, JoinsSo, Keeps, LeavesOn, LieOn, Proceeded, WaitsOn, WritesSo, has_room_in, holding}
+use Rattle.bt_sweep.specs.inside.Joining.{AreDecidedOn, GivenLast, Breaks, CutsOff, EndUpTo, Holds, Joins, JoinsSo, Keeps, LeavesOn, LieOn, Proceeded, WaitsOn, WritesSo, has_room_in, holding}
 use Rattle.bt_sweep.proofs.lemmas.definitions.HitLemmas.{placed_back, front_placed}
 use Rattle.bt_sweep.proofs.lemmas.sweep.KeepLemmas.{cut_both, decided_before, decided_behind, decided_both, keeps_held, keeps_taken, lines_both, lines_stay_so, undecided_beside, fails_again, with_none, with_rest, with_rest_cut, fewer_firsts, fewer_seconds, goes_none, same_as, same_rules, split_last, split_more, writes_first}
 
@@ -117,7 +117,7 @@ module _ {A B R S : Type 0} {cursor_a : Cursor A R} {cursor_b : Cursor B S} {old
 
   module _ {cur : Feature} {s : Sweeping} {to_a : A} {to_b : B} {left : List ℕ} {grown : Output} (j : JoinsSo cursor_a cursor_b IsTotal (AreDecidedOn first.chrom) old first from_a from_b pending out (Some cur) s to_a to_b left grown) {b : Feature} {after : B} (gives_b : cursor_b.gives to_b (b ∷ []) after) (on : b.chrom ≡ first.chrom) where
     -- where it is once the records before the one that waits were given and taken
-    holds_so : (at : Behind IsTotal first j.proceeds.firsts j.proceeds.seconds old) → Holds at.order ((at.before ++ j.proceeds.newly) ++ cur ∷ []) (at.taken ++ j.proceeds.seconds) s
+    holds_so : (at : GivenLast IsTotal first j.proceeds.firsts j.proceeds.seconds old) → Holds at.order ((at.before ++ j.proceeds.newly) ++ cur ∷ []) (at.taken ++ j.proceeds.seconds) s
     holds_so at = rw (← split_last at.before j.proceeds.newly cur j.proceeds.are) (j.goes at).holds
 
     module _ (a_more : (old mid new : A) (xs ys : List Feature) → cursor_a.gives old xs mid → cursor_a.gives mid ys new → cursor_a.gives old (xs ++ ys) new) (front : j.proceeds.next ≡ None) where
@@ -131,11 +131,11 @@ module _ {A B R S : Type 0} {cursor_a : Cursor A R} {cursor_b : Cursor B S} {old
       waits_on held waiting is = grind arith
 
       -- the same place, and that of the one that waits
-      module _ (firsts2 : List Feature) (at : Behind IsTotal first (j.proceeds.firsts ++ firsts2) j.proceeds.seconds old) where
-        abbrev here : Behind IsTotal first j.proceeds.firsts j.proceeds.seconds old
+      module _ (firsts2 : List Feature) (at : GivenLast IsTotal first (j.proceeds.firsts ++ firsts2) j.proceeds.seconds old) where
+        abbrev here : GivenLast IsTotal first j.proceeds.firsts j.proceeds.seconds old
         here = fewer_firsts j.proceeds.firsts firsts2 at
 
-        abbrev there : Behind IsTotal cur firsts2 [] s
+        abbrev there : GivenLast IsTotal cur firsts2 [] s
         there = record {
           order = at.order;
           before = at.before ++ j.proceeds.newly;
@@ -202,8 +202,8 @@ module _ {A B R S : Type 0} {cursor_a : Cursor A R} {cursor_b : Cursor B S} {old
       settled_by : AreDecidedOn first.chrom j.proceeds.newly (j.proceeds.seconds ++ b ∷ [])
       settled_by = rw next at j.proceeds.settles
 
-      module _ (new : Sweeping) (is : new ≡ holding s cur b) (room : is_held cur b ≡ true → has_room_in s ≡ true) (at : Behind IsTotal first j.proceeds.firsts (j.proceeds.seconds ++ b ∷ []) old) where
-        abbrev fewer : Behind IsTotal first j.proceeds.firsts j.proceeds.seconds old
+      module _ (new : Sweeping) (is : new ≡ holding s cur b) (room : is_held cur b ≡ true → has_room_in s ≡ true) (at : GivenLast IsTotal first j.proceeds.firsts (j.proceeds.seconds ++ b ∷ []) old) where
+        abbrev fewer : GivenLast IsTotal first j.proceeds.firsts j.proceeds.seconds old
         fewer = fewer_seconds j.proceeds.seconds (b ∷ []) at
 
         both : at.taken ++ (j.proceeds.seconds ++ b ∷ []) ≡ (at.taken ++ j.proceeds.seconds) ++ b ∷ []

@@ -12,7 +12,7 @@ use Rattle.bt_sweep.proofs.lemmas.Active.{filter-wider}
 use Rattle.bt_sweep.proofs.lemmas.definitions.HitLemmas.{hit_overlaps, before_lines, stay_lines, filter_less, held_less, within_less, within_more, last_given-push, front_placed}
 use Rattle.bt_bed.proofs.lemmas.parse.NameLemmas.{same_name, name_eq}
 use Rattle.bt_sweep.specs.calls.Held.{AreReady, AreOnOne, CanHit, CanHitAt, AreRising}
-use Rattle.bt_sweep.specs.inside.Joining.{are_on, GrownWith, PutsOr, NeedsHit, Behind, GoesToFor, Holds, has_room_in, held_with, holding, CutsOff, EndUpTo, WritesFor, WritesSo}
+use Rattle.bt_sweep.specs.inside.Joining.{are_on, GrownWith, PutsOr, NeedsHit, GivenLast, GoesToFor, Holds, has_room_in, held_with, holding, CutsOff, EndUpTo, WritesFor, WritesSo}
 use Rattle.bt_lines.specs.model.Fault.{FaultValue, write_failed}
 use Rattle.bt_lines.specs.calls.Names.{fault_value}
 use Rattle.bt_lines.specs.calls.Output.{Output, Adds, FailsToAdd, Grown, Puts}
@@ -266,7 +266,7 @@ module _ (shape : Shape) (rule : HitRule) (taken xs : List Feature) {pending lef
 -- ---- where a sweep is, with fewer records that come
 
 module _ {For : Order → Type 0} {first : Feature} {old : Sweeping} where
-  abbrev pub fewer_firsts : (firsts more : List Feature) {seconds : List Feature} → Behind For first (firsts ++ more) seconds old → Behind For first firsts seconds old
+  abbrev pub fewer_firsts : (firsts more : List Feature) {seconds : List Feature} → GivenLast For first (firsts ++ more) seconds old → GivenLast For first firsts seconds old
   fewer_firsts firsts more at = record {
     order = at.order;
     before = at.before;
@@ -277,7 +277,7 @@ module _ {For : Order → Type 0} {first : Feature} {old : Sweeping} where
     placed_taken = at.placed_taken;
   }
 
-  abbrev pub fewer_seconds : {firsts : List Feature} (seconds more : List Feature) → Behind For first firsts (seconds ++ more) old → Behind For first firsts seconds old
+  abbrev pub fewer_seconds : {firsts : List Feature} (seconds more : List Feature) → GivenLast For first firsts (seconds ++ more) old → GivenLast For first firsts seconds old
   fewer_seconds seconds more at = record {
     order = at.order;
     before = at.before;
@@ -337,7 +337,7 @@ module _ {A R : Type 0} {cursor : Cursor A R} {place : ℕ} {old : Sweeping} {fi
 
   module _ {cur : Feature} {s : Sweeping} {to : A} {left : List ℕ} {grown : Output} (so : WritesSo cursor place old first from pending out (Some cur) s to left grown) where
     -- what is kept, by the one that waits
-    holds_so : (at : Behind IsTotal first so.firsts [] old) → Holds at.order ((at.before ++ so.newly) ++ cur ∷ []) (at.taken ++ []) s
+    holds_so : (at : GivenLast IsTotal first so.firsts [] old) → Holds at.order ((at.before ++ so.newly) ++ cur ∷ []) (at.taken ++ []) s
     holds_so at = rw (← split_last at.before so.newly cur so.are) (so.goes at).holds
 
     module _ {rest : List ℕ} {now : Output} (adds : AreRising s.held → GrownWith left grown (lines_for s.shape s.rule cur s.held) rest now) where

@@ -13,7 +13,7 @@ use Rattle.bt_bed.proofs.lemmas.parse.NameLemmas.{name_ne}
 use Rattle.bt_sweep.specs.calls.Sweeping.{IsThis, Settles, AreDecided, ComesNext, LeavesLast, TakenEach, HoldsFor, is_held, Sweeping}
 use Rattle.bt_sweep.specs.model.Hits.{decides}
 use Rattle.bt_sweep.specs.calls.Held.{CanHit}
-use Rattle.bt_sweep.specs.inside.Joining.{AreDecidedOn, Behind, EndUpTo, Holds, Joins, Keeps, LeavesOn, LieOn, Proceeded, StopsAt, WaitsOn, SkipsAll, WritesUpTo, Compares, Relates, going_on}
+use Rattle.bt_sweep.specs.inside.Joining.{AreDecidedOn, GivenLast, EndUpTo, Holds, Joins, Keeps, LeavesOn, LieOn, Proceeded, StopsAt, WaitsOn, SkipsAll, WritesUpTo, Compares, Relates, going_on}
 use Rattle.bt_sweep.specs.declared.sweep.phase.Phase.TheVariants.{First}
 use Rattle.bt_sweep.specs.declared.sweep.relation.Relation.TheVariants.{After}
 use Rattle.bt_sweep.proofs.lemmas.sweep.HoldLemmas.{holds_b}
@@ -61,7 +61,7 @@ after_decided order b name (a ∷ newly) place total known compared end = grind 
 
 -- ---- in this order, which is total
 
-abbrev to_total : {order : Order} {first : Feature} {firsts seconds : List Feature} {old : Sweeping} → IsTotal order → Behind (IsThis order) first firsts seconds old → Behind IsTotal first firsts seconds old
+abbrev to_total : {order : Order} {first : Feature} {firsts seconds : List Feature} {old : Sweeping} → IsTotal order → GivenLast (IsThis order) first firsts seconds old → GivenLast IsTotal first firsts seconds old
 to_total total at = record { order = at.order; before = at.before; taken = at.taken; is_for = rw at.is_for total; holds = at.holds; placed = at.placed; placed_taken = at.placed_taken }
 
 module _ {A B R S : Type 0} (cursor_a : Cursor A R) (cursor_b : Cursor B S) (feature : R → Feature) (order : Order) (total : IsTotal order) (old : Sweeping) (r : R) (from_a : A) (from_b : B) (out : Output)
@@ -76,7 +76,7 @@ module _ {A B R S : Type 0} (cursor_a : Cursor A R) (cursor_b : Cursor B S) (fea
   pub decides_none : ((x : A) → cursor_a.gives x [] x) → ((x : B) → cursor_b.gives x [] x) → cursor_b.has_ended from_b × (old.phase ≡ First → ⊥) → Decides (Ok (Some r)) old from_a from_b out
   decides_none a_none b_none ended = let j = joins_first {cursor_b = going_on old.phase cursor_b} a_none b_none (LeavesLast order) (inr refl) (leaves_none order [] first refl) hits in (j.0, ended, j.2)
 
-  module _ (name : List ℕ) (compared : order.compare name first.chrom ≡ Less) (seconds : List Feature) (on : LieOn name seconds) (at : Behind (IsThis order) first [] seconds old) where
+  module _ (name : List ℕ) (compared : order.compare name first.chrom ≡ Less) (seconds : List Feature) (on : LieOn name seconds) (at : GivenLast (IsThis order) first [] seconds old) where
     each_at : TakenEach at.order old.limit (first ∷ []) at.taken seconds
     each_at = each_before at.order (rw at.is_for total) first (rw at.is_for known) name (rw at.is_for compared) at.before seconds on at.holds
 

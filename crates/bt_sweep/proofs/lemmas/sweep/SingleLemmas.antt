@@ -16,7 +16,7 @@ use Rattle.bt_bed.proofs.lemmas.parse.NameLemmas.{name_eq}
 use Rattle.bt_sweep.specs.calls.Sweeping.{AdvancesOn, AdvancesSo, FailsAt, HasWritten, IsThis, Settles, StopsFor, Proceeded, TakesB, WritesA, stage_after, SameConfig, IsInOrder, MovesTo, Stage, StandsAt, given, with_a, with_b, EndsB, FailsToHold, FailsToKeepA, FailsToWriteA, GivesA, Sweeping, want_in}
 use Rattle.bt_sweep.specs.model.Hits.{decides}
 use Rattle.bt_sweep.specs.model.Lines.{intersect, lines_for}
-use Rattle.bt_sweep.specs.inside.Joining.{Behind, Breaks, Holds, JoinsSo, StopsAt, going_on}
+use Rattle.bt_sweep.specs.inside.Joining.{GivenLast, Breaks, Holds, JoinsSo, StopsAt, going_on}
 use Rattle.bt_sweep.specs.declared.hits.hit_rule.HitRule.{HitRule}
 use Rattle.bt_sweep.specs.declared.sweep.phase.Phase.TheVariants.{First}
 use Rattle.bt_sweep.specs.declared.output.shape.Shape.{Shape}
@@ -48,8 +48,6 @@ one_written newly o a e = grind (arith, one_of)
 
 pub same_some : (a b : Feature) → Some a ≡ Some b → a ≡ b
 same_some a b e = cc
-
--- ---- what decides one record
 
 -- ---- by the stage that a sweep is at
 
@@ -111,7 +109,7 @@ module _ {order : Order} {stage : Stage} {old : Sweeping} (st : StandsAt order s
       all_are : p.firsts ≡ p.newly ++ option_to_list waiting
       all_are = rw none at p.are
 
-      -- what is written before the second input has ended is decided by one of its records
+      -- it is written only if the second input has ended
       ended : p.newly ≡ a ∷ [] → stage.b_ended ≡ true
       ended n = grind (arith, none_taken)
 
@@ -295,7 +293,7 @@ module _ (order : Order) (stage : Stage) (a : Feature) (old : Sweeping) (st : St
   written_is newly firsts waiting e w are = sym (append-nil newly) ∙ ap (λ (o : Option Feature). newly ++ option_to_list o) (sym w) ∙ sym are ∙ ap (λ (l : List Feature). a ∷ l) e
 
   -- where it is, if nothing more is given or taken
-  abbrev place : (firsts seconds : List Feature) → firsts ≡ [] → seconds ≡ [] → Behind (IsThis order) a firsts seconds mid
+  abbrev place : (firsts seconds : List Feature) → firsts ≡ [] → seconds ≡ [] → GivenLast (IsThis order) a firsts seconds mid
   place firsts seconds none none_taken = record {
     order = order;
     before = stage.written;

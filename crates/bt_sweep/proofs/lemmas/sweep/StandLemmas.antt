@@ -14,7 +14,7 @@ use Rattle.bt_bed.specs.declared.read.cursor.Cursor.{Ghosts as Cursor}
 use Rattle.bt_bed.specs.declared.read.cursor.Single.{Single}
 use Rattle.bt_sweep.specs.calls.Sweeping.{AdvancesOn, AdvancesSo, AtEach, FailsAt, IsThis, Proceeded, PutsEach, Settles, StopsFor, stage_after, LeavesLast, SameConfig, MovesTo, Stage, StandsAt, given, phase_of, Sweeping, is_over, want_in, want_of, no_cursor}
 use Rattle.bt_sweep.specs.model.Lines.{intersect}
-use Rattle.bt_sweep.specs.inside.Joining.{Behind, Breaks, Holds, JoinsSo, Keeps, Proceeded as Joined, WritesFor, KeepsOne, going_on, held_with}
+use Rattle.bt_sweep.specs.inside.Joining.{GivenLast, Breaks, Holds, JoinsSo, Keeps, Proceeded as Joined, WritesFor, KeepsOne, going_on, held_with}
 use Rattle.bt_sweep.specs.declared.sweep.phase.Phase.{Phase}
 use Rattle.bt_sweep.specs.declared.sweep.phase.Phase.TheVariants.{Both, First, Over}
 use Rattle.bt_sweep.specs.declared.sweep.want.Want.TheVariants.{A as WantA, B as WantB}
@@ -97,7 +97,7 @@ module _ {order : Order} {old mid : Sweeping} {first : Feature} {pre : List Feat
   each_given : (firsts : List Feature) → option_to_list old.current ++ (pre ++ firsts) ≡ first ∷ firsts
   each_given firsts = sym (append_assoc (option_to_list old.current) pre firsts) ∙ ap (λ (l : List Feature). l ++ firsts) start.pre_is
 
-  abbrev place_at : (firsts seconds : List Feature) → AtEach order old (pre ++ firsts) seconds (λ stage. Behind (IsThis order) first firsts seconds mid)
+  abbrev place_at : (firsts seconds : List Feature) → AtEach order old (pre ++ firsts) seconds (λ stage. GivenLast (IsThis order) first firsts seconds mid)
   place_at firsts seconds stage st pg pt =
       let placed = rw (given_more stage st firsts) at pg in
       let front = front_placed order (stage.written ++ first ∷ []) firsts (rw (append_assoc stage.written (first ∷ []) firsts) placed) in

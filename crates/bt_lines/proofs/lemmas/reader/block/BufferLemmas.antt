@@ -185,9 +185,7 @@ not_found bytes whole searched end w s clear nowhere =
     (All-append (λ b. eqb b 10 ≡ false) (slice_range bytes whole searched) (slice_range bytes searched end) clear.clear
     (λ k d h. rw (get_or_default (slice_range bytes searched end) k d 0 h) (false_from_ne_true _ (nowhere k (omega arith) h))))
 
--- ---- a range that was moved to the start
-
--- ---- a line feed that was added
+-- ---- a line feed that was added, and a range that was moved to the start
 
 pub end_added : (bytes : List ℕ) (whole end : ℕ) → whole ≤ end → end < length bytes → slice_range (set bytes end 10) whole (end + 1) ≡ slice_range bytes whole end ++ 10 ∷ []
 end_added bytes whole end h k = grind (arith, range_drop, take_more_set, drop-append-le, length-take-le)

@@ -113,8 +113,6 @@ pub is_prefix : {S : Type 0} (left : S → Option (List ℕ)) (reader : LineRead
 unfolding bytes_left held end_told lines_given source_of buffered_bytes is_open
 is_prefix left reader = prefix_by (told_at reader.state) (open_at reader.state) reader.lines (complete reader.buffer) (unread reader.buffer) (left reader.source) (open_told reader.state)
 
--- ---- what is held then
-
 -- ---- an open line
 
 last_few : (number : ℕ) (piece : List ℕ) → length (last_line number piece) ≤ 1

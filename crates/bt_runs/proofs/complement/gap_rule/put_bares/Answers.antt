@@ -1,4 +1,4 @@
-use Rattle.bt_lines.proofs.Std.{false, ◌≡◌, ℕ, Err, List, arith, slice_range, subst, sym, err_from_is_err_and}
+use Rattle.bt_lines.proofs.Std.{false, ℕ, Err, List, arith, slice_range, subst, sym, err_from_is_err_and}
 use Rattle.bt_bed.specs.calls.GenomeTable.{entries}
 use Rattle.bt_bed.specs.model.BedLine.{interval_line, interval_lines}
 use Rattle.bt_lines.specs.calls.Output.{Adds, Grown}

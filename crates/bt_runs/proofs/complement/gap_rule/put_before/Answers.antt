@@ -1,10 +1,9 @@
-use Rattle.bt_lines.proofs.Std.{◌≡◌, ◌+◌, ℕ, Some, arith, flat_map, min, slice_range, err_from_is_err_and}
+use Rattle.bt_lines.proofs.Std.{◌≡◌, ◌+◌, ℕ, Some, arith, min, err_from_is_err_and}
 use Rattle.bt_lines.proofs.lemmas.Writer.{adds_lines, cut_lines}
 use Rattle.bt_bed.specs.calls.GenomeTable.{entries}
-use Rattle.bt_bed.specs.model.BedLine.{interval_line}
-use Rattle.bt_runs.specs.inside.Walk.{Place, entry_at}
+use Rattle.bt_runs.specs.inside.Walk.{Place}
 use Rattle.bt_runs.specs.inside.GapStep.{bare_gap, last_gap}
-use Rattle.bt_runs.proofs.lemmas.order.ByChromosome.{bares_from, before_from, length_read}
+use Rattle.bt_runs.proofs.lemmas.order.ByChromosome.{before_from, length_read}
 use Rattle.bt_runs.proofs.complement.gap_rule.put_before.Goals as goal
 
 pub length-requires : goal.length-requires

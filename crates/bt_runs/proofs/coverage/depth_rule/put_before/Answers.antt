@@ -1,10 +1,8 @@
-use Rattle.bt_lines.proofs.Std.{◌≡◌, ◌+◌, Some, arith, flat_map, min, slice_range, err_from_is_err_and}
-use Rattle.bt_runs.specs.model.Depth.{depth_line}
+use Rattle.bt_lines.proofs.Std.{◌≡◌, ◌+◌, Some, arith, min, err_from_is_err_and}
 use Rattle.bt_lines.proofs.lemmas.Writer.{adds_lines, cut_lines}
 use Rattle.bt_bed.specs.calls.GenomeTable.{entries}
 use Rattle.bt_runs.specs.inside.Coverage.{place_seen, bare_of, depths_left}
-use Rattle.bt_runs.specs.inside.Walk.{entry_at}
-use Rattle.bt_runs.proofs.lemmas.order.ByChromosome.{bares_from, before_from, length_read, name_read}
+use Rattle.bt_runs.proofs.lemmas.order.ByChromosome.{before_from, length_read, name_read}
 use Rattle.bt_runs.proofs.coverage.depth_rule.put_before.Goals as goal
 
 pub returns-in_err-put_rest : goal.returns-in_err-put_rest

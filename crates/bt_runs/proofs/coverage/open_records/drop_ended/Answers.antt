@@ -1,5 +1,4 @@
-use Rattle.bt_lines.proofs.Std.{◌∙◌, arith, ap, length, sym, length-map}
-use Rattle.bt_runs.specs.inside.Coverage.{span_open, spans_open}
+use Rattle.bt_lines.proofs.Std.{arith, length-map}
 use Rattle.bt_runs.proofs.lemmas.coverage.OpenLemmas.{all_stay}
 use Rattle.bt_runs.proofs.coverage.open_records.drop_ended.Goals as goal
 

@@ -1,6 +1,5 @@
 use Rattle.std.proofs.lemmas.Grind.{common_steps}
-use Rattle.bt_lines.proofs.Std.{◌≡◌, ◌∙◌, [], arith, drop, length, take, sym, ap, append-nil, length-map, length-take-le, take-append-drop}
-use Rattle.bt_runs.specs.inside.Coverage.{still_open, span_open, spans_open}
+use Rattle.bt_lines.proofs.Std.{arith, drop, take, append-nil, length-map, length-take-le, take-append-drop}
 use Rattle.bt_runs.proofs.lemmas.coverage.OpenLemmas.{all_stay, none_past, open_both}
 use Rattle.bt_runs.proofs.coverage.open_records.drop_from.Goals as goal
 

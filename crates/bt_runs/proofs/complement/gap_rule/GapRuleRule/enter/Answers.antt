@@ -1,8 +1,8 @@
 use Rattle.std.proofs.lemmas.Grind.{common_steps}
-use Rattle.bt_lines.proofs.Std.{◌≡◌, ◌∙◌, ℕ, Some, arith, refl, subst, sym, err_from_is_err_and}
+use Rattle.bt_lines.proofs.Std.{◌∙◌, Some, arith, refl, sym, err_from_is_err_and}
 use Rattle.bt_bed.specs.calls.GenomeTable.{entries}
 use Rattle.bt_runs.specs.inside.GapRule.{seen, complement_at}
-use Rattle.bt_runs.specs.inside.Walk.{IsNamed, left_before}
+use Rattle.bt_runs.specs.inside.Walk.{left_before}
 use Rattle.bt_runs.specs.inside.GapStep.{bare_gap, last_gap}
 use Rattle.bt_runs.proofs.lemmas.complement.GapRuleLemmas.{cursor_reached, enters_failing, enters_here, enters_next, goes_other, has_chrom, lacks_chrom, on_found, other_rank, rank_placed, same_rank}
 use Rattle.bt_runs.proofs.lemmas.order.ByChromosome.{length_read, name_read}

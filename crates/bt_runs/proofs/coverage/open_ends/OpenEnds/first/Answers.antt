@@ -1,5 +1,4 @@
-use Rattle.bt_lines.proofs.Std.{◌≤◌, arith, All-weaker, heap_items}
-use Rattle.bt_runs.specs.inside.Coverage.{ends_of}
+use Rattle.bt_lines.proofs.Std.{arith, All-weaker, heap_items}
 use Rattle.bt_runs.proofs.lemmas.coverage.OpenLemmas.{top_least}
 use Rattle.bt_runs.proofs.coverage.open_ends.OpenEnds.first.Goals as goal
 

@@ -1,6 +1,5 @@
-use Rattle.bt_lines.proofs.Std.{◌≡◌, List, arith, length, sym, ap, subst, length-map}
-use Rattle.bt_bed.specs.model.Feature.{Span}
-use Rattle.bt_runs.specs.inside.Coverage.{still_open, KeepsOpen, OpenAt, span_open, spans_open}
+use Rattle.bt_lines.proofs.Std.{◌≡◌, arith, length-map}
+use Rattle.bt_runs.specs.inside.Coverage.{still_open, spans_open}
 use Rattle.bt_runs.proofs.lemmas.coverage.OpenLemmas.{all_stay, keeps_same, open_count}
 use Rattle.bt_runs.proofs.coverage.open_records.OpenRecords.settle.Goals as goal
 

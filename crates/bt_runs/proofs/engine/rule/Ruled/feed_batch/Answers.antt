@@ -1,4 +1,4 @@
-use Rattle.bt_lines.proofs.Std.{arith, ap, sym, Some}
+use Rattle.bt_lines.proofs.Std.{arith}
 use Rattle.bt_runs.proofs.lemmas.Engine.{batch_fed, keeps_none}
 use Rattle.bt_runs.proofs.engine.rule.Ruled.feed_batch.Goals as goal
 

@@ -1,6 +1,4 @@
 use Rattle.bt_lines.proofs.Std.{arith, sym, ◌∙◌}
-use Rattle.bt_bed.specs.model.Feature.{is_strand}
-use Rattle.bt_runs.specs.declared.merge.pending_runs.PendingRun.{PendingRun}
 use Rattle.bt_runs.proofs.lemmas.merge.StrandSettling.{joined_counts, last_place_within, place_counted}
 use Rattle.bt_runs.proofs.merge.pending_runs.PendingRuns.join.Goals as goal
 
