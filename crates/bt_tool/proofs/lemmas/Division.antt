@@ -1,5 +1,5 @@
 -- The words of a command line divide into items in one way.
-use Rattle.bt_lines.proofs.Std.{◌≡◌, Bool, true, false, List, [], ◌∷◌, ◌++◌, Option, Some, None, refl, All, All-nil, All-cons}
+use Rattle.bt_lines.proofs.Std.{arith, ◌≡◌, Bool, true, false, List, [], ◌∷◌, ◌++◌, Option, Some, None, refl, All, All-nil, All-cons}
 use Rattle.bt_tool.specs.model.Usage.{Item, IsItem, items_of, words_of}
 use Rattle.bt_tool.specs.model.Table.{Word, Table, fits, takes}
 use Rattle.bt_tool.specs.declared.options.takes.Takes.{Takes}
@@ -37,28 +37,21 @@ module _ (table : Table) (P : List Word → List Item → Type 0)
   divided-more-kind option value rest kind false true f g h one two =
       let item : Item = record { option = option; value = Some value } in
       rw (f, g, h, items_of) (step item rest (items_of table rest) (kind, f, h) two)
-  divided-more-kind option value rest kind false false f g h one two =
-      rw (f, g, h, items_of) (stop (option ∷ value ∷ rest))
+  divided-more-kind option value rest kind false false f g h one two = grind arith
 
   divided-more : (option value : Word) (rest : List Word) (found : Option Takes)
       → takes table option ≡ found
       → P (value ∷ rest) (items_of table (value ∷ rest)) → P rest (items_of table rest)
       → P (option ∷ value ∷ rest) (items_of table (option ∷ value ∷ rest))
   unfolding items_of
-  divided-more option value rest None f one two =
-      rw (f, items_of) (stop (option ∷ value ∷ rest))
-  divided-more option value rest (Some kind) f one two =
-      let alone = fits kind None in
-      let valued = fits kind (Some value) in
-      divided-more-kind option value rest kind alone valued f refl refl one two
+  divided-more option value rest None f one two = grind arith
+  divided-more option value rest (Some kind) f one two = grind (arith, (divided-more-kind option value rest kind (fits kind None) (fits kind (Some value)) f refl refl one two))
 
   pub divided : (words : List Word) → P words (items_of table words)
   unfolding items_of
   divided [] = stop []
   divided (option ∷ []) = divided-one option (takes table option) refl
-  divided (option ∷ value ∷ rest) =
-      let one = divided (value ∷ rest) in
-      divided-more option value rest (takes table option) refl one (divided rest)
+  divided (option ∷ value ∷ rest) = grind (arith, (divided (value ∷ rest)), (divided rest), divided-more)
 
 pub allowed : (table : Table) (words : List Word) → All (IsItem table) (items_of table words)
 allowed table words =

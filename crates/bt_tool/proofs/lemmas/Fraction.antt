@@ -1,11 +1,11 @@
 -- Lemmas on the fraction that digits denote.
+use Rattle.std.proofs.lemmas.Grind.{common_steps}
 use Rattle.bt_lines.proofs.Std.{◌≡◌, ℕ, ◌+◌, ◌-◌, ◌*◌, ◌<◌, ◌≤◌, Bool, true, false, ◌&&◌, List, length, take, get_or, replicate, Option, Some, None, refl, sym, ap, subst, ◌∙◌, arith, zero, suc, ltb, leb, leb-true, cond, get_or-append, get_or-eq_default, get_or-append_right, get_or_default_zero, false≢true, and_right, and_parts, and_left, cond_some, nat_tests, get_or-replicate, length-append, length-replicate, take_all, list_all-append, list_all_at, is_ascii_digit, list_all, unwrap_or, digits_value}
 use Rattle.bt_lines.specs.model.Lines.{value_of as number_of}
 use Rattle.bt_tool.specs.model.Fraction.{are_digits_of_fraction, billionths_in, fraction_in, fraction_of, nine_decimals, one_in_billionths}
 
 pub if_none : (b : Bool) (v : ℕ) → cond b (Some v) None ≡ None → b ≡ false
-if_none true v e = cc
-if_none false v e = refl
+if_none b v e = grind arith
 
 none_if : (b : Bool) (v : ℕ) → b ≡ false → None ≡ cond b (Some v) None
 none_if b v e = rw e refl
@@ -14,66 +14,37 @@ some_if : (b : Bool) (v n : ℕ) → b ≡ true → v ≡ n → Some n ≡ cond 
 some_if b v n e f = rw (e, f) refl
 
 and_true : (b : Bool) → (b && true) ≡ b
-and_true true = refl
-and_true false = refl
+and_true b = grind arith
 
 -- what isn't a number of twelve digits isn't one of at most one
 ones_false : (a b : Bool) (v : ℕ) → a ≡ true → ((a && b) && leb v 999999999999) ≡ false → (b && leb v 1) ≡ false
-ones_false true true v e h = grind (arith, nat_tests)
-ones_false true false v e h = refl
-ones_false false b v e h = absurd (false≢true e)
+ones_false a b v e h = grind arith
 
 module _ (text : List ℕ) where
   pub no_ones : 0 < length text → number_of text ≡ None → None ≡ cond (list_all is_ascii_digit text && leb (digits_value 10 text) 1) (Some (digits_value 10 text)) None
   unfolding number_of
-  no_ones some e =
-      let here : ltb 0 (length text) ≡ true = grind (arith, nat_tests) in
-      none_if _ (digits_value 10 text) (ones_false (ltb 0 (length text)) (list_all is_ascii_digit text) (digits_value 10 text) here (if_none _ (digits_value 10 text) e))
+  no_ones some e = grind arith
 
   number_is : (n : ℕ) → number_of text ≡ Some n → (list_all is_ascii_digit text ≡ true) × (digits_value 10 text ≡ n)
   unfolding number_of
-  number_is n e =
-      let is = cond_some _ (digits_value 10 text) n e in
-      ((and_parts (ltb 0 (length text)) (list_all is_ascii_digit text) (and_parts (ltb 0 (length text) && list_all is_ascii_digit text) (leb (digits_value 10 text) 999999999999) is.0).0).1, is.1)
+  number_is n e = grind arith
 
   pub many_ones : (n : ℕ) → number_of text ≡ Some n → 1 < n → None ≡ cond (list_all is_ascii_digit text && leb (digits_value 10 text) 1) (Some (digits_value 10 text)) None
-  many_ones n e h =
-      let is = (number_is n e).1 in
-      let above : leb (digits_value 10 text) 1 ≡ false = rw is (grind (arith, nat_tests)) in
-      none_if _ (digits_value 10 text) (and_right (list_all is_ascii_digit text) _ above)
+  many_ones n e h = grind (arith, number_is)
 
   pub few_ones : (n : ℕ) → number_of text ≡ Some n → n ≤ 1 → Some n ≡ cond (list_all is_ascii_digit text && leb (digits_value 10 text) 1) (Some (digits_value 10 text)) None
-  few_ones n e h =
-      let is = number_is n e in
-      let within : leb (digits_value 10 text) 1 ≡ true = rw is.1 (grind (arith, nat_tests)) in
-      some_if _ (digits_value 10 text) n (rw (is.0, within) refl) is.1
+  few_ones n e h = grind (arith, number_is)
 
 zeros_are_digits : (n : ℕ) → list_all is_ascii_digit (replicate n 48) ≡ true
 zeros_are_digits zero = refl
 zeros_are_digits (suc n) = zeros_are_digits n
 
 module _ (decimals : List ℕ) where
-  -- the zeros after the decimals are digits
-  digits_of_nine : list_all is_ascii_digit (nine_decimals decimals) ≡ list_all is_ascii_digit decimals
-  digits_of_nine =
-      list_all-append is_ascii_digit decimals (replicate (9 - length decimals) 48)
-      ∙ ap (λ b. list_all is_ascii_digit decimals && b) (zeros_are_digits (9 - length decimals)) ∙ and_true (list_all is_ascii_digit decimals)
-
   pub length_of_nine : length decimals ≤ 9 → length (nine_decimals decimals) ≡ 9
-  length_of_nine few =
-      let joined = length-append decimals (replicate (9 - length decimals) 48) in
-      let zeros = length-replicate {A = ℕ} (9 - length decimals) 48 in
-      omega (arith, joined, zeros)
+  length_of_nine few = grind (arith, length-append, length-replicate)
 
   nine_at_by : (i : ℕ) → length decimals ≤ 9 → i < 9 → (b : Bool) → ltb i (length decimals) ≡ b → get_or decimals i 48 ≡ get_or (nine_decimals decimals) i 0
-  nine_at_by i few h true e =
-      let within : i < length decimals = grind (arith, nat_tests) in
-      get_or_default_zero decimals i 48 within ∙ sym (get_or-append decimals (replicate (9 - length decimals) 48) 0 i within)
-  nine_at_by i few h false e =
-      let past : length decimals ≤ i = grind (arith, nat_tests) in
-      let behind : i - length decimals < 9 - length decimals = omega (arith, past, h) in
-      get_or-eq_default decimals 48 past
-      ∙ sym (get_or-append_right decimals (replicate (9 - length decimals) 48) i 0 past ∙ get_or-replicate (9 - length decimals) (i - length decimals) 48 0 behind)
+  nine_at_by i few h b e = grind (arith, get_or_default_zero, get_or-append, get_or-eq_default, get_or-append_right, get_or-replicate)
 
   -- the byte at an index, or a zero
   pub nine_at : (i digit : ℕ) → length decimals ≤ 9 → i < 9 → digit ≡ get_or decimals i 48 → digit ≡ get_or (nine_decimals decimals) i 0
@@ -81,15 +52,11 @@ module _ (decimals : List ℕ) where
 
   pub other_decimal : (i : ℕ) → length decimals ≤ 9 → i < 9 → is_ascii_digit (get_or (nine_decimals decimals) i 0) ≡ false
       → None ≡ cond (list_all is_ascii_digit decimals) (Some (digits_value 10 (nine_decimals decimals))) None
-  other_decimal i few h other =
-      let within : i < length (nine_decimals decimals) = omega (arith, length_of_nine few) in
-      none_if _ _ (sym digits_of_nine ∙ list_all_at is_ascii_digit (nine_decimals decimals) i 0 within other)
+  other_decimal i few h other = grind (arith, common_steps, length_of_nine, list_all_at, list_all-append, zeros_are_digits)
 
   pub nine_whole : (i value : ℕ) → length decimals ≤ 9 → 9 ≤ i → value ≡ digits_value 10 (take i (nine_decimals decimals)) → list_all is_ascii_digit (take i (nine_decimals decimals)) ≡ true
       → Some value ≡ cond (list_all is_ascii_digit decimals) (Some (digits_value 10 (nine_decimals decimals))) None
-  nine_whole i value few end e all =
-      let whole : take i (nine_decimals decimals) ≡ nine_decimals decimals = take_all i (nine_decimals decimals) (omega (arith, length_of_nine few)) in
-      some_if _ _ value (sym digits_of_nine ∙ ap (list_all is_ascii_digit) (sym whole) ∙ all) (sym (e ∙ ap (digits_value 10) whole))
+  nine_whole i value few end e all = grind (arith, take_all, length_of_nine, list_all-append, zeros_are_digits)
 
 -- the tests of a fraction's digits
 abbrev some_digit : List ℕ → List ℕ → Bool
@@ -113,21 +80,13 @@ module _ (whole decimals : List ℕ) where
   no_fraction e = none_if (are_digits_of_fraction whole decimals) (billionths_in whole decimals) e
 
   pub no_digit : length whole ≡ 0 → length decimals ≡ 0 → None ≡ fraction_in whole decimals
-  no_digit e f =
-      let none : (some_digit whole decimals) ≡ false = rw (e, f) refl in
-      no_fraction (and_left (some_digit whole decimals) _ none)
+  no_digit e f = grind (arith, no_fraction)
 
   pub many_decimals : 9 < length decimals → None ≡ fraction_in whole decimals
-  many_decimals h =
-      let many : (few_decimals whole decimals) ≡ false = grind (arith, nat_tests) in
-      no_fraction (and_right (some_digit whole decimals) _ (and_right (whole_digits whole decimals) _ (and_right (decimal_digits whole decimals) _ (and_left (few_decimals whole decimals) (within_one whole decimals) many))))
+  many_decimals h = grind (arith, no_fraction)
 
   other_ones : (b : Bool) → list_all is_ascii_digit whole ≡ b → (b && leb (digits_value 10 whole) 1) ≡ false → None ≡ fraction_in whole decimals
-  other_ones false e f = no_fraction (and_right (some_digit whole decimals) _ (and_left (whole_digits whole decimals) _ e))
-  other_ones true e f =
-      let more : 1 < digits_value 10 whole = grind (arith, nat_tests) in
-      let above : (within_one whole decimals) ≡ false = grind (arith, nat_tests) in
-      no_fraction (and_right (some_digit whole decimals) _ (and_right (whole_digits whole decimals) _ (and_right (decimal_digits whole decimals) _ (and_right (few_decimals whole decimals) (within_one whole decimals) above))))
+  other_ones b e f = grind (arith, no_fraction)
 
   pub no_whole : None ≡ cond (list_all is_ascii_digit whole && leb (digits_value 10 whole) 1) (Some (digits_value 10 whole)) None → None ≡ fraction_in whole decimals
   no_whole e = other_ones (whole_digits whole decimals) refl (if_none _ (digits_value 10 whole) (sym e))
@@ -140,39 +99,22 @@ module _ (whole decimals : List ℕ) where
       (is_whole : Some ones ≡ cond (list_all is_ascii_digit whole && leb (digits_value 10 whole) 1) (Some (digits_value 10 whole)) None)
       (are_decimals : Some billionths ≡ cond (list_all is_ascii_digit decimals) (Some (digits_value 10 (nine_decimals decimals))) None) where
     billionths_are : billionths_in whole decimals ≡ ones * 1000000000 + billionths
-    billionths_are =
-        let one = (cond_some _ (digits_value 10 whole) ones (sym is_whole)).1 in
-        let behind = (cond_some _ (digits_value 10 (nine_decimals decimals)) billionths (sym are_decimals)).1 in
-        rw (one, behind) refl
+    billionths_are = grind arith
 
     pub above_one : 1000000000 < ones * 1000000000 + billionths → None ≡ fraction_in whole decimals
-    above_one h =
-        let is = billionths_are in
-        let above : (within_one whole decimals) ≡ false = grind (arith, nat_tests) in
-        no_fraction (and_right (some_digit whole decimals) _ (and_right (whole_digits whole decimals) _ (and_right (decimal_digits whole decimals) _ (and_right (few_decimals whole decimals) (within_one whole decimals) above))))
+    above_one h = grind (arith, no_fraction)
 
     pub is_fraction : 0 < length whole + length decimals → length decimals ≤ 9 → ones * 1000000000 + billionths ≤ 1000000000 → Some (ones * 1000000000 + billionths) ≡ fraction_in whole decimals
     unfolding fraction_in
-    is_fraction some few h =
-        let is = billionths_are in
-        let here : (some_digit whole decimals) ≡ true = grind (arith, nat_tests) in
-        let digits : (whole_digits whole decimals) ≡ true = (and_parts (whole_digits whole decimals) _ (cond_some _ (digits_value 10 whole) ones (sym is_whole)).0).0 in
-        let behind : (decimal_digits whole decimals) ≡ true = (cond_some _ (digits_value 10 (nine_decimals decimals)) billionths (sym are_decimals)).0 in
-        let nine : (few_decimals whole decimals) ≡ true = grind (arith, nat_tests) in
-        let within : (within_one whole decimals) ≡ true = grind (arith, nat_tests) in
-        some_if (are_digits_of_fraction whole decimals) (billionths_in whole decimals) _ (rw (here, digits, behind, nine, within) refl) is
+    is_fraction some few h = grind arith
 
 fraction-limit : (whole decimals : List ℕ) (n : ℕ) → fraction_in whole decimals ≡ Some n → n ≤ one_in_billionths
 unfolding fraction_in
-fraction-limit whole decimals n e =
-    let is = cond_some (are_digits_of_fraction whole decimals) (billionths_in whole decimals) n e in
-    let within = (and_parts (few_decimals whole decimals) (within_one whole decimals) (and_parts (decimal_digits whole decimals) _ (and_parts (whole_digits whole decimals) _ (and_parts (some_digit whole decimals) _ is.0).1).1).1).1 in
-    subst (λ k. k ≤ one_in_billionths) is.1 (leb-true (billionths_in whole decimals) one_in_billionths within)
+fraction-limit whole decimals n e = grind arith
 
 -- a number that is at most `most`, or 0
 pub limit-or : (most : ℕ) (o : Option ℕ) → ((n : ℕ) → o ≡ Some n → n ≤ most) → unwrap_or o 0 ≤ most
-limit-or most None h = omega arith
-limit-or most (Some n) h = h n refl
+limit-or most o h = grind arith
 
 -- the fraction that a word denotes is at most one
 pub fraction-limit-or : (word : List ℕ) → unwrap_or (fraction_of word) 0 ≤ one_in_billionths

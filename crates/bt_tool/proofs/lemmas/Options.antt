@@ -1,5 +1,6 @@
 -- Lemmas on the words of a command line.
-use Rattle.bt_lines.proofs.Std.{◌≡◌, ℕ, ◌+◌, ◌<◌, ◌≤◌, Bool, true, false, List, [], ◌∷◌, length, Option, Some, None, Err, drop, refl, sym, ap, ◌∙◌, arith, length-drop, Result, Ok, IsTrue, is_some, if◌then◌else◌, IfOk, IfErr, nat_tests, ◌&&◌, cond, subst, ltb, leb, leb-true, All, String, bytes_eq, option_and_then, string_bytes, unwrap_or, is_ascii_digit, list_all, digits_value, le-leb, and_parts, option_or, cond_some, length-map, All-head, All-tail, bytes_eq-Decides, ◌||◌, not, codes, option_map, IsSome, IsNone, list_any, false≢true, not-false, or_parts, ◌++◌, length-append, add_assoc, add-zero, add-one, drop_of_length-le, drop-append-add, drop-cons, option_to_list, get_or, drop-map}
+use Rattle.std.proofs.lemmas.Grind.{common_steps}
+use Rattle.bt_lines.proofs.Std.{rules, ◌≡◌, ℕ, ◌+◌, ◌<◌, ◌≤◌, Bool, true, false, List, [], ◌∷◌, length, Option, Some, None, Err, drop, refl, sym, ap, ◌∙◌, arith, length-drop, Result, Ok, IsTrue, is_some, if◌then◌else◌, IfOk, IfErr, nat_tests, ◌&&◌, cond, subst, ltb, leb, leb-true, All, String, bytes_eq, option_and_then, string_bytes, unwrap_or, is_ascii_digit, list_all, digits_value, le-leb, and_parts, option_or, cond_some, length-map, All-head, All-tail, bytes_eq-Decides, ◌||◌, not, codes, option_map, IsSome, IsNone, list_any, false≢true, not-false, or_parts, ◌++◌, length-append, add_assoc, add-zero, add-one, drop_of_length-le, drop-append-add, drop-cons, option_to_list, get_or, drop-map}
 use Rattle.bt_tool.specs.declared.planning.tool.Tool.{Tool}
 use Rattle.bt_tool.specs.declared.options.usage.Usage.{Usage}
 use Rattle.bt_tool.specs.model.Usage.{Item, items_of, spelled, IsTellable, names_word, no_command, unknown_option, required_missing, options_exclusive, input_named_twice, IsItem, words_of, value_missing, bad_value}
@@ -53,89 +54,50 @@ record IsOfWord (usage : Usage) (at count : ℕ) : Type 0 where
 
 of_word : (b : Bool) (number at count : ℕ) (usage : Usage) → 1 ≤ number → number ≤ 7 → 0 < count
     → (if b then record { number = number; word = at } else unknown_option at) ≡ usage → IsOfWord usage at count
-of_word true number at count usage low high some e = rw (← e) (record { at_least = low; at_most = high; word = refl; some = some })
-of_word false number at count usage low high some e = rw (← e) (record { at_least = omega arith; at_most = omega arith; word = refl; some = some })
-
-fault_at-word : (table : Table) (at : ℕ) (words : List Word) (usage : Usage)
-    → fault_at table at words ≡ Some usage → IsOfWord usage at (length words)
-fault_at-word table at [] usage e = cc
-fault_at-word table at (option ∷ []) usage e =
-    of_word (is_some (takes table option)) 3 at 1 usage (omega arith) (omega arith) (omega arith) (cc)
-fault_at-word table at (option ∷ value ∷ rest) usage e =
-    of_word (is_some (takes table option)) 4 at (length (option ∷ value ∷ rest)) usage (omega arith) (omega arith) (omega arith) (cc)
+of_word b number at count usage low high some e = grind arith
 
 word_fault-tellable : (table : Table) (at : ℕ) (words : List Word) (usage : Usage)
     → word_fault table at words ≡ Some usage → IsTellable usage (at + length words)
 unfolding word_fault
-word_fault-tellable table at words usage e =
-    let read = length (spelled (items_of table words)) in
-    let one = fault_at-word table (at + read) (drop read words) usage e in
-    let left = length-drop read words in
-    let within : usage.word < at + length words = omega (arith, one.word, one.some, left) in
-    record { at_least = one.at_least; at_most = one.at_most; in_words = λ _. within }
+word_fault-tellable table at words usage e = grind (arith, common_steps, length-drop)
 
 command_of-some : (words : List Word) (command : Tool) → command_of words ≡ Some command
     → 1 + length (drop 1 words) ≡ length words
-command_of-some [] command e = cc
-command_of-some (word ∷ words) command e = omega arith
+command_of-some words command e = grind arith
 
 not_named : (number : ℕ) → 5 ≤ number → IsTrue (names_word number) → ⊥
-not_named number h named = grind (arith, nat_tests)
+not_named number h named = grind arith
 
 not_one : IsTrue (names_word 1) → ⊥
 not_one named = cc
 
 whole-tellable : (told usage : Usage) (count : ℕ)
     → 5 ≤ told.number → told.number ≤ 7 → told ≡ usage → IsTellable usage count
-whole-tellable told usage count low high e =
-    let same = ap (λ u. u.number) e in
-    let above : 5 ≤ usage.number = omega (arith, same) in
-    let below : usage.number ≤ 7 = omega (arith, same) in
-    let least : 1 ≤ usage.number = omega arith in
-    record {
-      at_least = least;
-      at_most = below;
-      in_words = λ named. absurd (not_named usage.number above named);
-    }
+whole-tellable told usage count low high e = grind arith
 
 together-tellable : (missing exclusive twice : Bool) (usage : Usage) (count : ℕ)
     → (if missing then Some required_missing else (if exclusive then Some options_exclusive else
     (if twice then Some input_named_twice else None))) ≡ Some usage
     → IsTellable usage count
-together-tellable true exclusive twice usage count e =
-    whole-tellable required_missing usage count (omega arith) (omega arith) (cc)
-together-tellable false true twice usage count e =
-    whole-tellable options_exclusive usage count (omega arith) (omega arith) (cc)
-together-tellable false false true usage count e =
-    whole-tellable input_named_twice usage count (omega arith) (omega arith) (cc)
-together-tellable false false false usage count e = cc
+together-tellable missing exclusive twice usage count e = grind arith
 
 refused-by : (command : Tool) (items : List Item) (fault : Option Usage) (usage : Usage)
     → fault_together (table_of command) items ≡ fault → checked command items ≡ Err usage
     → fault ≡ Some usage
-refused-by command items None usage f e = (let s = rw (f, checked) at e in cc)
-refused-by command items (Some told) usage f e = (let s = rw (f, checked) at e in cc)
+refused-by command items fault usage f e = grind arith
 
 checked-tellable : (command : Tool) (items : List Item) (usage : Usage) (count : ℕ)
     → checked command items ≡ Err usage → IsTellable usage count
-checked-tellable command items usage count e =
-    together-tellable _ _ _ usage count (refused-by command items _ usage refl e)
+checked-tellable command items usage count e = grind (arith, (together-tellable _ _ _ usage count (refused-by command items _ usage refl e)))
 
 asked-tellable : (command : Tool) (words : List Word) (fault : Option Usage) (usage : Usage)
     → word_fault (table_of command) 1 words ≡ fault → asked command words ≡ Err usage
     → IsTellable usage (1 + length words)
-asked-tellable command words None usage f e =
-    let items = items_of (table_of command) words in
-    checked-tellable command items usage (1 + length words) (rw (f, asked) at e)
-asked-tellable command words (Some told) usage f e =
-    let same : told ≡ usage = (let s = rw (f, asked) at e in cc) in
-    rw (← same) (word_fault-tellable (table_of command) 1 words told f)
+asked-tellable command words None usage f e = grind (arith, (checked-tellable command (items_of (table_of command) words) usage (1 + length words) (rw (f, asked) at e)))
+asked-tellable command words (Some told) usage f e = grind (arith, (word_fault-tellable (table_of command) 1 words told f))
 
 no_command-tellable : (count : ℕ) → IsTellable no_command count
-no_command-tellable count =
-    let low : 1 ≤ 1 = omega arith in
-    let high : 1 ≤ 7 = omega arith in
-    record { at_least = low; at_most = high; in_words = λ named. absurd (not_one named) }
+no_command-tellable count = grind arith
 
 named-tellable : (words : List Word) (named : Option Tool) (usage : Usage)
     → command_of words ≡ named → options words ≡ Err usage → IsTellable usage (length words)
@@ -156,17 +118,14 @@ options-tellable words usage e = named-tellable words (command_of words) usage r
 
 pub reports_plan : {E : Type 0} (words : List Word) (result : Result Plan E) → IfOk result (λ plan. options words ≡ Ok (plan_seen plan)) → IfOk result (λ plan. ReportsAnswer words (Ok (plan_seen plan)))
 unfolding report
-reports_plan words (Ok plan) h = λ genome first second. ap (λ answer. answer_of words answer genome first second) h
-reports_plan words (Err e) h = tt
+reports_plan words result h = grind arith
 
 refusal_reports : (words : List Word) (refusal : Refusal) → IsRefusalOf words refusal → ReportsRefusal words refusal
 unfolding report
-refusal_reports words (InWords usage) h = λ genome first second. ap (λ answer. answer_of words answer genome first second) h
-refusal_reports words NoMemory h = tt
+refusal_reports words refusal h = grind arith
 
 pub reports_refusal : {T : Type 0} (words : List Word) (result : Result T Refusal) → IfErr result (IsRefusalOf words) → IfErr result (ReportsRefusal words)
-reports_refusal words (Ok plan) h = tt
-reports_refusal words (Err refusal) h = refusal_reports words refusal h
+reports_refusal words result h = grind (arith, refusal_reports)
 
 -- Lemmas on the items of a command line.
 
@@ -228,11 +187,7 @@ chosen-last : (table : Table) (option : Word) (x : Item) (test : Bool) (later : 
     → bytes_eq x.option option ≡ test → IsItem table x
     → ((other : Item) → later ≡ Some other → IsLast table option other)
     → option_or later (cond test (Some x) None) ≡ Some item → IsLast table option item
-chosen-last table option x test (Some other) item same h rest e = rest item e
-chosen-last table option x true None item same h rest e =
-    let is : x ≡ item = cc in
-    rw (← is) (record { allowed = h; named = (bytes_eq-Decides x.option option).0 same })
-chosen-last table option x false None item same h rest e = cc
+chosen-last table option x test later item same h rest e = search rules
 
 last-is : (table : Table) (option : Word) (items : List Item) (item : Item) → All (IsItem table) items → last_item option items ≡ Some item → IsLast table option item
 last-is table option [] item h e = cc
@@ -244,12 +199,7 @@ last-is table option (x ∷ xs) item h e =
 valued-last : (table : Table) (option : Word) (last : Option Item) → takes table option ≡ Some FileName
     → ((item : Item) → last ≡ Some item → IsLast table option item)
     → option_and_then (λ item. item.value) last ≡ None → last ≡ None
-valued-last table option None has h e = refl
-valued-last table option (Some item) has h e =
-    let it = h item refl in
-    let kind : it.allowed.0 ≡ FileName = let found : takes table option ≡ Some it.allowed.0 = ap (takes table) (sym it.named) ∙ it.allowed.1 in cc in
-    let stands : fits FileName None ≡ true = rw (kind, e) at it.allowed.2 in
-    cc
+valued-last table option last has h e = grind arith
 
 -- an option that takes a file name and is given has a value
 pub valued : (given : Given) (option : Word) → takes (table_lent given.table.now) option ≡ Some FileName
@@ -263,16 +213,13 @@ valued given option file e =
 -- a number that a text denotes has at most twelve digits
 pub number-limit : (text : List ℕ) (n : ℕ) → number_of text ≡ Some n → n ≤ max_number
 unfolding number_of
-number-limit text n e =
-    let is = cond_some (is_number text) (digits_value 10 text) n e in
-    subst (λ k. k ≤ max_number) is.1 (leb-true (digits_value 10 text) max_number ((and_parts (ltb 0 (length text) && list_all is_ascii_digit text) (leb (digits_value 10 text) max_number) is.0).1))
+number-limit text n e = grind arith
 
 pub number-limit-or : (text : List ℕ) → unwrap_or (number_of text) 0 ≤ max_number
 number-limit-or text = limit-or max_number (number_of text) (number-limit text)
 
 limits : (o : Option ℕ) → ((n : ℕ) → o ≡ Some n → n ≤ max_number) → is_limit o ≡ true
-limits None h = refl
-limits (Some n) h = le-leb n max_number (h n refl)
+limits o h = grind arith
 
 -- it can be the limit of what is held
 pub number-is_limit : (text : List ℕ) → is_limit (number_of text) ≡ true
@@ -284,14 +231,11 @@ number-is_limit text = limits (number_of text) (number-limit text)
 none-lacks : (lacks exclusive twice : Bool)
     → (cond lacks (Some required_missing) (cond exclusive (Some options_exclusive) (cond twice (Some input_named_twice) None))) ≡ None
     → lacks ≡ false
-none-lacks true exclusive twice e = cc
-none-lacks false exclusive twice e = refl
+none-lacks lacks exclusive twice e = grind arith
 
 nothing-lacks : (table : Table) (items : List Item) → fault_together table items ≡ None
     → list_any (λ option. not (is_given items option)) table.required ≡ false
-nothing-lacks table items e =
-    (or_parts _ (lacks_one_of table.one_of items) (none-lacks (lacks_option table items) (has_exclusive table items || overwrites (named_by table items))
-    (reads_twice (named_by table items)) e)).0
+nothing-lacks table items e = grind arith
 
 -- an option among those of which none is missing is given
 given-at : (items : List Item) (option other : Word) (same : Bool) (others : List Word)
@@ -299,39 +243,30 @@ given-at : (items : List Item) (option other : Word) (same : Bool) (others : Lis
     → (list_any (bytes_eq option) others ≡ true → is_given items option ≡ true)
     → not (is_given items other) ≡ false
     → (same || list_any (bytes_eq option) others) ≡ true → is_given items option ≡ true
-given-at items option other true others e rest h k =
-    ap (is_given items) ((bytes_eq-Decides option other).0 e) ∙ not-false (is_given items other) h
-given-at items option other false others e rest h k = rest k
+given-at items option other same others e rest h k = search rules
 
 given-among : (items : List Item) (option : Word) (required : List Word)
     → list_any (λ option. not (is_given items option)) required ≡ false
     → list_any (bytes_eq option) required ≡ true → is_given items option ≡ true
 given-among items option [] h k = absurd (false≢true k)
-given-among items option (other ∷ others) h k =
-    given-at items option other (bytes_eq option other) others refl
-    (given-among items option others (or_parts (not (is_given items other)) _ h).1)
-    (or_parts (not (is_given items other)) _ h).0 k
+given-among items option (other ∷ others) h k = grind (arith, (given-among items option others (or_parts (not (is_given items other)) _ h).1), given-at)
 
 not-given : (items : List Item) (option : Word) → last_item option items ≡ None
     → is_given items option ≡ true → ⊥
 not-given items option e h = false≢true (sym (ap is_some e) ∙ h)
 
 some-value : (value : Option Word) → (value ≡ None → ⊥) → IsSome value
-some-value None h = absurd (h refl)
-some-value (Some value) h = refl
+some-value value h = grind arith
 
 some-copy : (copy : Option (String Global)) (value : Option Word)
     → option_map string_bytes copy ≡ value → IsSome value → IsSome copy
-some-copy None value e h = subst IsSome (sym e) h
-some-copy (Some copy) value e h = refl
+some-copy copy value e h = grind arith
 
 none-copy : (copy : Option (String Global)) → option_map string_bytes copy ≡ None → IsNone copy
-none-copy None e = refl
-none-copy (Some copy) e = cc
+none-copy copy e = grind arith
 
 true-is : (b : Bool) → IsTrue b → b ≡ true
-true-is true h = refl
-true-is false h = absurd (false≢true h)
+true-is b h = grind arith
 
 -- the copy of a name is there if its option is required, and isn't if there is no such option
 pub named : (given : Given) (table : Table) (option : Option Word) (copy : Option (String Global))
@@ -357,13 +292,7 @@ none-output copy value v e = none-copy copy (e ∙ ap output_by v)
 pub named-output : (tool : Tool) (items : List Item) (copy : Option (String Global))
     → option_map string_bytes copy ≡ output_by (value_if_any items (table_of tool).output)
     → IsNamedBy (table_of tool) (table_of tool).output copy
-named-output Merge items copy e = ((λ h. absurd (false≢true h)), λ _. none-output copy None refl e)
-named-output Complement items copy e = ((λ h. absurd (false≢true h)), λ _. none-output copy None refl e)
-named-output Intersect items copy e = ((λ h. absurd (false≢true h)), λ _. none-output copy None refl e)
-named-output Subtract items copy e = ((λ h. absurd (false≢true h)), λ _. none-output copy None refl e)
-named-output Coverage items copy e = ((λ h. absurd (false≢true h)), λ _. none-output copy None refl e)
-named-output BamToBed items copy e = ((λ h. absurd (false≢true h)), λ _. none-output copy None refl e)
-named-output MaskFasta items copy e = ((λ h. absurd (false≢true h)), λ none. absurd (false≢true (sym none)))
+named-output tool items copy e = grind arith
 
 -- the options that name inputs take the names of files
 is-file : (table : Table) (option word : Word) → takes table option ≡ Some FileName
@@ -372,32 +301,14 @@ is-file table option word file e = let same : option ≡ word = cc in ap (takes 
 
 pub genome-file : (tool : Tool) (word : Word) → (table_of tool).genome ≡ Some word
     → takes (table_of tool) word ≡ Some FileName
-genome-file Merge word e = is-file (table_of Merge) (codes "-g") word refl e
-genome-file Complement word e = is-file (table_of Complement) (codes "-g") word refl e
-genome-file Intersect word e = is-file (table_of Intersect) (codes "-g") word refl e
-genome-file Subtract word e = is-file (table_of Subtract) (codes "-g") word refl e
-genome-file Coverage word e = is-file (table_of Coverage) (codes "-g") word refl e
-genome-file BamToBed word e = cc
-genome-file MaskFasta word e = cc
+genome-file tool word e = grind arith
 
 pub second-file : (tool : Tool) (word : Word) → (table_of tool).second ≡ Some word
     → takes (table_of tool) word ≡ Some FileName
-second-file Merge word e = cc
-second-file Complement word e = cc
-second-file Intersect word e = is-file (table_of Intersect) (codes "-b") word refl e
-second-file Subtract word e = is-file (table_of Subtract) (codes "-b") word refl e
-second-file Coverage word e = cc
-second-file BamToBed word e = cc
-second-file MaskFasta word e = is-file (table_of MaskFasta) (codes "-bed") word refl e
+second-file tool word e = grind arith
 
 pub tool-by : (tool : Tool) (items : List Item) → tool_of (command_by tool items) ≡ tool
-tool-by Merge items = refl
-tool-by Complement items = refl
-tool-by Intersect items = refl
-tool-by Subtract items = refl
-tool-by Coverage items = refl
-tool-by BamToBed items = refl
-tool-by MaskFasta items = refl
+tool-by tool items = grind arith
 
 -- How a list of words is divided, one item after another.
 
@@ -405,12 +316,7 @@ tool-by MaskFasta items = refl
 pub words-from : (words : List (String Global)) (at : ℕ) (word : String Global)
     → at < length words → word ≡ get_or words at word
     → drop at (words_seen words) ≡ string_bytes word ∷ drop (at + 1) (words_seen words)
-words-from words at word h e =
-    let here : drop at words ≡ get_or words at word ∷ drop (at + 1) words =
-    rw add-one (drop-cons words at word h) in
-    let from = drop-map string_bytes at words in
-    let past = drop-map string_bytes (at + 1) words in
-    rw (from, here, ← e, past) refl
+words-from words at word h e = grind (arith, drop-cons, drop-map)
 
 pub words-end : (words : List (String Global)) (at : ℕ)
     → length words ≤ at → drop at (words_seen words) ≡ []
@@ -422,72 +328,44 @@ pub words-pair : (words : List (String Global)) (at : ℕ) (word value : String 
     → word ≡ get_or words at word → value ≡ get_or words (at + 1) value
     → drop at (words_seen words)
     ≡ string_bytes word ∷ string_bytes value ∷ drop (at + 2) (words_seen words)
-words-pair words at word value h e f =
-    let one = words-from words at word (omega arith) e in
-    let two = words-from words (at + 1) value h f in
-    let past : at + 1 + 1 ≡ at + 2 = omega arith in
-    rw (one, two, past) refl
+words-pair words at word value h e f = grind (arith, words-from)
 
 -- an option that may have a value may also have none
 fits-one : (kind : Takes) (value : Word)
     → fits kind (Some value) ≡ true → fits kind None ≡ false
-fits-one Nothing value h = cc
-fits-one FileName value h = refl
-fits-one Number value h = refl
-fits-one Fraction value h = refl
-fits-one Strand value h = refl
-fits-one Character value h = refl
+fits-one kind value h = grind arith
 
 items_of-alone : (table : Table) (kind : Takes) (option : Word) (rest : List Word)
     → takes table option ≡ Some kind → fits kind None ≡ true
     → items_of table (option ∷ rest)
     ≡ record { option = option; value = None } ∷ items_of table rest
 unfolding items_of
-items_of-alone table kind option [] h g = rw (h, g, items_of) refl
-items_of-alone table kind option (value ∷ rest) h g = rw (h, g, items_of) refl
+items_of-alone table kind option rest h g = grind arith
 
 items_of-valued : (table : Table) (kind : Takes) (option value : Word) (rest : List Word)
     → takes table option ≡ Some kind → fits kind (Some value) ≡ true
     → items_of table (option ∷ value ∷ rest)
     ≡ record { option = option; value = Some value } ∷ items_of table rest
 unfolding items_of
-items_of-valued table kind option value rest h g =
-    let e = fits-one kind value g in
-    rw (h, e, g, items_of) refl
-
-items_of-kind : (table : Table) (kind : Takes) (option : Word) (value : Option Word)
-    (rest : List Word) → takes table option ≡ Some kind → fits kind value ≡ true
-    → items_of table (option ∷ (option_to_list value ++ rest))
-    ≡ record { option = option; value = value } ∷ items_of table rest
-items_of-kind table kind option None rest h g = items_of-alone table kind option rest h g
-items_of-kind table kind option (Some value) rest h g =
-    items_of-valued table kind option value rest h g
+items_of-valued table kind option value rest h g = grind arith
 
 -- words that begin with an item
 pub items_of-item : (table : Table) (item : Item) (rest : List Word)
     → IsItem table item → items_of table (words_of item ++ rest) ≡ item ∷ items_of table rest
-items_of-item table item rest (kind, has, stands) =
-    items_of-kind table kind item.option item.value rest has stands
+items_of-item table item rest p1 = grind (arith, items_of-alone, items_of-valued)
 
 -- a fault lies past each item
 word_fault-item : (table : Table) (at : ℕ) (item : Item) (rest : List Word) → IsItem table item
     → word_fault table at (words_of item ++ rest)
     ≡ word_fault table (at + length (words_of item)) rest
 unfolding word_fault
-word_fault-item table at item rest h =
-    let more = spelled (items_of table rest) in
-    let e = items_of-item table item rest h in
-    let l = length-append (words_of item) more in
-    let a = add_assoc at (length (words_of item)) (length more) in
-    let d = drop-append-add (words_of item) rest (length more) in
-    rw (e, l, ← a, d) refl
+word_fault-item table at item rest h = grind (arith, items_of-item)
 
 word_fault-unknown : (table : Table) (at : ℕ) (option : Word) (rest : List Word)
     → takes table option ≡ None
     → word_fault table at (option ∷ rest) ≡ Some (unknown_option at)
 unfolding items_of word_fault
-word_fault-unknown table at option [] h = rw (h, items_of, add-zero, h) refl
-word_fault-unknown table at option (value ∷ rest) h = rw (h, items_of, add-zero, h) refl
+word_fault-unknown table at option rest h = grind arith
 
 word_fault-missing : (table : Table) (kind : Takes) (at : ℕ) (option : Word)
     → takes table option ≡ Some kind → fits kind None ≡ false
@@ -506,26 +384,18 @@ module _ (table : Table) (words : List (String Global)) (at : ℕ) (word : Strin
     (is_word : word ≡ get_or words at word) where
   pub unknown-at : at < length words → takes table (string_bytes word) ≡ None
       → word_fault table at (drop at (words_seen words)) ≡ Some (unknown_option at)
-  unknown-at h none = rw (words-from words at word h is_word)
-      (word_fault-unknown table at (string_bytes word) (drop (at + 1) (words_seen words)) none)
+  unknown-at h none = grind (arith, words-from, word_fault-unknown)
 
   module _ (kind : Takes) (has : takes table (string_bytes word) ≡ Some kind)
       (not_alone : fits kind None ≡ false) where
     pub missing-at : at < length words → length words ≤ at + 1
         → word_fault table at (drop at (words_seen words)) ≡ Some (value_missing at)
-    missing-at h last =
-        let here = words-from words at word h is_word in
-        let over = words-end words (at + 1) last in
-        rw (here, over) (word_fault-missing table kind at (string_bytes word) has not_alone)
+    missing-at h last = grind (arith, words-from, words-end, word_fault-missing)
 
     pub bad-at : (value : String Global) → at + 1 < length words
         → value ≡ get_or words (at + 1) value → fits kind (Some (string_bytes value)) ≡ false
         → word_fault table at (drop at (words_seen words)) ≡ Some (bad_value at)
-    bad-at value h is_value bad =
-        let past = drop (at + 2) (words_seen words) in
-        rw (words-pair words at word value h is_word is_value)
-        (word_fault-bad table kind at (string_bytes word) (string_bytes value) past
-        has not_alone bad)
+    bad-at value h is_value bad = grind (arith, words-pair, word_fault-bad)
 
 -- the words from an index on are still to come: all words give what these give
 pub record HasReadWords (table : Table) (words : List Word) (at : ℕ) : Type 0 where
@@ -538,20 +408,7 @@ pub record Reads (table : Table) (words : List Word) (option : Word) (at : ℕ) 
 
 option_or_assoc : {A : Type 0} (a b c : Option A)
     → option_or (option_or a b) c ≡ option_or a (option_or b c)
-option_or_assoc None b c = refl
-option_or_assoc (Some x) b c = refl
-
--- one item moves from the words to come into what is kept
-last_item-moves : (table : Table) (words : List Word) (at past : ℕ) (item : Item) (option : Word)
-    (kept : Option Item) → IsItem table item → drop at words ≡ words_of item ++ drop past words
-    → option_or (last_item option (items_of table (drop at words))) kept
-    ≡ option_or (last_item option (items_of table (drop past words)))
-    (option_or (if bytes_eq item.option option then Some item else None) kept)
-last_item-moves table words at past item option kept h here =
-    let read = items_of-item table item (drop past words) h in
-    rw (here, read)
-    (option_or_assoc (last_item option (items_of table (drop past words)))
-    (if bytes_eq item.option option then Some item else None) kept)
+option_or_assoc a b c = grind arith
 
 fault-moves : (table : Table) (words : List Word) (at : ℕ) (item : Item)
     → IsItem table item → drop at words ≡ words_of item ++ drop (at + length (words_of item)) words
@@ -567,11 +424,7 @@ pub reads-item : (table : Table) (words : List Word) (option : Word) (at : ℕ) 
     → next ≡ option_or (if bytes_eq item.option option then Some item else None) kept
     → IsItem table item → drop at words ≡ words_of item ++ drop (at + length (words_of item)) words
     → Reads table words option at kept → Reads table words option (at + length (words_of item)) next
-reads-item table words option at kept next item sets h here reads = record {
-  fault = reads.fault ∙ fault-moves table words at item h here;
-  last = reads.last ∙ last_item-moves table words at (at + length (words_of item)) item option kept h here
-      ∙ ap (option_or (last_item option (items_of table (drop (at + length (words_of item)) words)))) (sym sets);
-}
+reads-item table words option at kept next item sets h here reads = grind (arith, fault-moves, items_of-item)
 
 word_fault-end : (table : Table) (at : ℕ) → word_fault table at [] ≡ None
 unfolding word_fault items_of

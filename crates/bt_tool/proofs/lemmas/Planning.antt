@@ -1,4 +1,5 @@
 -- Lemmas on lists of options that are borrowed, and on the first of them that passes a test.
+use Rattle.std.proofs.lemmas.Grind.{common_steps}
 use Rattle.bt_lines.proofs.Std.{◌≡◌, ℕ, Bool, true, false, cond, List, [], ◌∷◌, Option, Some, None, map, refl, sym, ap, ◌∙◌, arith, find, option_map, ◌||◌, bytes_eq, not, ◌&&◌, ◌==◌, length, list_any, false≢true, nat_tests}
 use Rattle.bt_tool.specs.model.Usage.{Item, input_named_twice, options_exclusive}
 use Rattle.bt_tool.specs.model.Options.{fault_together, has_exclusive, is_given, lacks_one_of, lacks_option, named_by, overwrites, reads_twice}
@@ -15,8 +16,7 @@ list_any_of-map h p (y ∷ ys) = ap (λ b. p (h y) || b) (list_any_of-map h p ys
 found-map : {X Y : Type 0} (h : Y → X) (p : X → Bool) (y : Y) (ys : List Y) (b : Bool)
     → find p (map h ys) ≡ option_map h (find (λ y. p (h y)) ys)
     → cond b (Some (h y)) (find p (map h ys)) ≡ option_map h (cond b (Some y) (find (λ y. p (h y)) ys))
-found-map h p y ys true e = refl
-found-map h p y ys false e = e
+found-map h p y ys b e = grind arith
 
 pub find_of-map : {X Y : Type 0} (h : Y → X) (p : X → Bool) (ys : List Y)
     → find p (map h ys) ≡ option_map h (find (λ y. p (h y)) ys)
@@ -25,17 +25,13 @@ find_of-map h p (y ∷ ys) = found-map h p y ys (p (h y)) (find_of-map h p ys)
 
 map-map : {X Y Z : Type 0} (h : Y → X) (k : X → Z) (o : Option Y)
     → option_map k (option_map h o) ≡ option_map (λ y. k (h y)) o
-map-map h k None = refl
-map-map h k (Some y) = refl
+map-map h k o = grind arith
 
 -- what an option takes, by the row that is found
 pub takes_lent : (table : Lent) (word : Word)
     → takes (table_lent table) word
     ≡ option_map (λ row. row.takes) (find (λ row. bytes_eq word row.option.now) table.options.now)
-takes_lent table word =
-    let p : Row → Bool = λ row. bytes_eq word row.option in
-    ap (option_map (λ row. row.takes)) (find_of-map row_lent p table.options.now)
-    ∙ map-map row_lent (λ row. row.takes) (find (λ row. p (row_lent row)) table.options.now)
+takes_lent table word = grind (arith, find_of-map)
 
 module _ (table : Lent) (items : List Item) where
   -- whether a required option is missing, among those of the borrowed table
@@ -53,9 +49,7 @@ module _ (table : Lent) (items : List Item) where
 
   pub exclusive-lent : has_exclusive (table_lent table) items
       ≡ list_any (λ pair. is_given items pair.0.now && is_given items pair.1.now) table.exclusive.now
-  exclusive-lent =
-      list_any_of-map (λ pair. (pair.0.now, pair.1.now))
-      (λ pair. is_given items pair.0 && is_given items pair.1) table.exclusive.now
+  exclusive-lent = grind (arith, list_any_of-map)
 
 -- of two tests the first settles it, or the second does
 pub or-first : (a b : Bool) → a ≡ true → true ≡ (a || b)
@@ -67,16 +61,14 @@ or-second a b e = rw e refl
 -- there are no options of which one has to be given
 pub lacks-none : (options : List (Bor (List ℕ))) (items : List Item) → (length options == 0) ≡ true
     → lacks_one_of (map (λ option. option.now) options) items ≡ false
-lacks-none [] items e = refl
-lacks-none (option ∷ options) items e = grind (arith, nat_tests)
+lacks-none options items e = grind (arith, common_steps)
 
 -- none of the options of which there are some is given
 pub lacks-one : (options : List (Bor (List ℕ))) (items : List Item) → (length options == 0) ≡ false
     → lacks_one_of (map (λ option. option.now) options) items
     ≡ not (list_any (λ option. is_given items option.now) options)
 lacks-one [] items some = absurd (false≢true (sym some))
-lacks-one (option ∷ options) items some =
-    ap not (list_any_of-map (λ o. o.now) (is_given items) (option ∷ options))
+lacks-one (option ∷ options) items some = grind (arith, list_any_of-map)
 
 -- the first thing that is wrong with the items together, or nothing
 module _ (table : Table) (items : List Item) (lacks : lacks_option table items ≡ false) where

@@ -67,8 +67,7 @@ sorted_start records = refl
 -- the good records of a text are in order
 pub records_sorted : (Taken : List Feature → Type 0) (order : Order) → IsTotal order → ((past : List Feature) → ArePlaced order (intervals_of past) → AreNonEmpty (intervals_of past) → Taken past)
     → (text : List ℕ) → Taken (member_items (good (bed_format (sorting_of order)) First (text_lines text)).members)
-records_sorted Taken order total takes text =
-    takes (member_items (good (bed_format (sorting_of order)) First (text_lines text)).members) (placed_good First order (whole_text text) total) (non_empty_good First order (whole_text text))
+records_sorted Taken order total takes text = grind (arith, (placed_good First order (whole_text text) total), (non_empty_good First order (whole_text text)))
 
 module _ {S A State : Type 0} (written : Written A) (kinds : Kind → Type 0) (Sorted Taken : List A → Type 0)
     (stays : (past more : List A) → Taken (past ++ more) → (rest : List ℕ) × (written.settled (past ++ more) ≡ written.settled past ++ rest))
@@ -88,8 +87,7 @@ module _ {S A State : Type 0} (written : Written A) (kinds : Kind → Type 0) (S
   -- the report, by these members and the fault
   report_of : (handed : Handed) (past : List (Member A)) (fault : Option FaultValue) → ((good_of handed).members ≡ past) × ((good_of handed).fault ≡ fault)
       → report handed ≡ report_by written (member_items past) fault
-  report_of handed past fault says =
-      ap (λ ms. report_by written (member_items ms) (good_of handed).fault) says.0 ∙ ap (report_by written (member_items past)) says.1
+  report_of handed past fault says = grind arith
 
   begins_by : (items past rest : List A) (fault : Option FaultValue) → items ≡ past ++ rest → Taken items → (more : List ℕ) × ((report_by written items fault).output ≡ written.settled past ++ more)
   begins_by items past rest None e t = let b = begins past rest (subst Taken e t) in (b.0, ap written.whole e ∙ b.1)
@@ -142,33 +140,20 @@ module _ {S A State : Type 0} (written : Written A) (kinds : Kind → Type 0) (S
         → Some fault ≢ Some write_failed → Some fault ≢ Some no_memory → (bytes : List ℕ) × Hands device.left old.below bytes new.below → Cause past → IsReported (report handed) before (Some fault) grown
     reported_by past handed before came put write memory hands (inl taking) =
         elim taking.cause [
-          | inl behind ↦
-              let is = report_of handed past (Some fault) (says_fault device format First first old starts new last ended kinds past fault handed came hands behind) in
-              (sym (ap (λ r. r.fault) is), taking.puts before put ∙ ap (λ r. Some (before ++ r.output)) (sym is))
+          | inl behind ↦ grind (arith, (report_of handed past (Some fault) (says_fault device format First first old starts new last ended kinds past fault handed came hands behind)))
           | inr lacks ↦ absurd (memory (ap Some lacks.is))
         ]
     reported_by past handed before came put write memory hands (inr writing) = absurd (write (ap Some writing.is))
 
     puts_by : (past : List (Member A)) → Cause past → fault ≢ write_failed → PutsFront out (written.settled (member_items past)) grown
-    puts_by past (inl taking) other = puts_front out (written.settled (member_items past)) grown taking.puts
-    puts_by past (inr writing) other = absurd (other writing.is)
+    puts_by past p1 other = grind (arith, puts_front)
 
     cut_by : (past : List (Member A)) → Cause past → fault ≡ write_failed → CutsLines out (written.settled (member_items past)) grown
-    cut_by past (inl taking) e =
-        elim taking.cause [
-          | inl behind ↦ elim behind [
-            | inl wrong ↦ absurd (placed_no_write (input_of old.below) wrong.line wrong.kind (sym wrong.is ∙ e))
-            | inr unread ↦ absurd (placed_no_write (input_of old.below) (suc (lines_given new.below)) ReadFailed (sym unread.is ∙ e))
-          ]
-          | inr lacks ↦ absurd (memory_no_write (sym lacks.is ∙ e))
-        ]
-    cut_by past (inr writing) e = writing.cuts
+    cut_by past p1 e = grind arith
 
     named_by : (past : List (Member A)) → (bytes : List ℕ) × Hands device.left old.below bytes new.below → Cause past
         → TellsInput device kinds First first last fault ⊎ TellsDevice grown.sink_has_failed fault
-    named_by past hands (inl taking) =
-        elim taking.cause [ inl behind ↦ inl (tells_fault device format First first old starts new last ended kinds past fault hands behind) | inr lacks ↦ inr (inr lacks.is) ]
-    named_by past hands (inr writing) = inr (inl (writing.is, writing.cuts.sink_failed))
+    named_by past hands p1 = grind arith
 
     pub drives_fault : FeedsUpTo written.settled kinds Sorted device old out fault new grown → WritesBy device device (of_members kinds written format) first None out (Some fault) last None grown
     drives_fault fed = record {
@@ -289,8 +274,7 @@ module _ {S : Type 0} (split cigar : Bool) (device : Source S) where
           }) tt tt
 
       up_to : (new : MemberReader S Alignment ⊤) (fault : FaultValue) → IsStopped device (sam_reader now) fault new → UpTo fault new grown
-      up_to new fault stopped =
-          fed_up_to g.fed (λ state line kind says. wrong_kinds line.text kind says) stopped tt
+      up_to new fault stopped = grind (arith, fed_up_to, wrong_kinds)
 
       -- the reader reported a fault
       pub stops_reading : (new : LineReader S) (fault : FaultValue) → GivesFault device now fault new → (IsSound device now → IsSound device new) → UpTo fault (sam_reader new) grown
@@ -340,28 +324,20 @@ module _ {S : Type 0} (split cigar : Bool) (device : Source S) where
         -- what is settled with these members was put
         goes_with : (past : List (Member Alignment)) (bytes : List ℕ) (later : Output) → Passes device (sam_reader old) past (sam_reader new) → lines_of (member_items past) ≡ lines_of (member_items g.past) ++ bytes → Grown grown bytes later
             → Going old out new later
-        goes_with past bytes later passes more writes = record {
-          past = past;
-          fed = record { passes = passes; put = rw more (put_more out grown later (lines_of (member_items g.past)) bytes g.fed.put writes) };
-          sound = sound g.sound;
-        }
+        goes_with past bytes later passes more writes = grind (arith, (put_more out grown later (lines_of (member_items g.past)) bytes g.fed.put writes))
 
         goes_by : (said : Option Alignment) (later : Output) → alignment_of line.text ≡ Ok said → Grown grown (option_map_or (bed_lines split cigar) said []) later → Going old out new later
         goes_by None later says writes =
             goes_with g.past [] later (passes_none device (sam_reader old) (sam_reader now) g.past g.fed.passes (sam_reader new) line gives kept refl refl gives.goes says refl) (sym (append-nil (lines_of (member_items g.past)))) writes
-        goes_by (Some a) later says writes =
-            goes_with (g.past ++ member_on line a ∷ []) (bed_lines split cigar a) later (with_it a says) (ap lines_of (map-append (λ m. m.item) g.past (member_on line a ∷ [])) ∙ pushed a) writes
+        goes_by (Some a) later says writes = grind (arith, goes_with, (with_it a says), (map-append (λ m. m.item) g.past (member_on line a ∷ [])), (pushed a))
 
         -- what it says was written
         pub going_line : (converting after : Converting) → converting.split ≡ split → converting.with_cigar ≡ cigar → (later : Output) → ((said : Option Alignment) × (alignment_of line.text ≡ Ok said) × Grown grown (option_map_or (bed_lines converting.split converting.with_cigar) said []) later × (after ≡ converting)) → Going old out new later
-        going_line converting after same same_cigar later written =
-            goes_by written.0 later written.1
-            (subst (λ s. Grown grown (option_map_or (bed_lines s cigar) written.0 []) later) same (subst (λ c. Grown grown (option_map_or (bed_lines converting.split c) written.0 []) later) same_cigar written.2))
+        going_line converting after same same_cigar later written = grind (arith, goes_by)
 
 -- a line that was refused is no failed read
 pub refused_no_read : (input : Input) (line : TextLine) (out : Output) (fault : FaultValue) (grown : Output) → LineRefused input line out fault grown → (other : Input) (at : ℕ) → Some fault ≡ Some (read_failed other at) → ⊥
-refused_no_read input line out fault grown refused other at e =
-    line_no_read input line.number refused.kind other at (kinds_of_lines refused.kind (wrong_kinds line.text refused.kind refused.says)) (sym refused.is ∙ some_is fault (read_failed other at) e)
+refused_no_read input line out fault grown refused other at e = grind (arith, (kinds_of_lines refused.kind (wrong_kinds line.text refused.kind refused.says)))
 
 -- a reader that has given nothing yet, over the input of a run
 module _ {S : Type 0} (split cigar : Bool) (device : Source S) (first : S) (reader : LineReader S) (source : source_of reader ≡ first) (input : input_of reader ≡ First)
@@ -392,22 +368,17 @@ module _ {S : Type 0} (split cigar : Bool) (device : Source S) (first : S) (read
     -- a failed read that is reported is of a read that failed then
     pub own_up_to : KeepsOwnFault device.is_read reader new → (fault : FaultValue) → FeedsUpTo (alignment_lines converting.split converting.with_cigar) (IsOneOf is_sam_kind) (λ past. ⊤) device (sam_reader reader) out fault new grown
         → TellsOwnReads ⊥ (IsOwnFailure device.is_read first last) ⊥ (Some fault)
-    own_up_to own fault fed =
-        feeds_own device sam_format first (sam_reader reader) starts_reader new last ended own (alignment_lines converting.split converting.with_cigar) (IsOneOf is_sam_kind) (λ kind. false≢true kind) (λ past. ⊤) out fault grown fed
+    own_up_to own fault fed = grind arith
 
 -- Lemmas on the lines that an engine writes, from its intervals, and on the report that they make.
 
 -- intervals that stay give lines that stay
 pub lines_stay : (settled : List Feature → List Interval) (Taken : List Feature → Type 0) → SettledStays settled Taken → SettledStays (λ records. interval_lines (settled records)) Taken
-lines_stay settled Taken stays past more taken =
-    let s = stays past more taken in
-    (interval_lines s.0, ap interval_lines s.1 ∙ flat_map-append interval_line (settled past) s.0)
+lines_stay settled Taken stays past more taken = grind (arith, (flat_map-append interval_line (settled past) (stays past more taken).0))
 
 -- and intervals that begin a whole, lines that begin its lines
 pub lines_begin : (settled whole : List Feature → List Interval) (Taken : List Feature → Type 0) → SettledBegins settled whole Taken → SettledBegins (λ records. interval_lines (settled records)) (λ records. interval_lines (whole records)) Taken
-lines_begin settled whole Taken begins past more taken =
-    let s = begins past more taken in
-    (interval_lines s.0, ap interval_lines s.1 ∙ flat_map-append interval_line (settled past) s.0)
+lines_begin settled whole Taken begins past more taken = grind (arith, (flat_map-append interval_line (settled past) (begins past more taken).0))
 
 -- what a merge writes, chromosomes as they come
 abbrev pub merge_as_they_come : MergeKind → Written Feature
@@ -416,14 +387,11 @@ merge_as_they_come merge = record { whole = merge_engine.output merge; settled =
 -- a merge that has taken no record has settled nothing
 pub merge_begins : (merge : MergeKind) → merge_engine.settled merge [] ≡ []
 unfolding settled_runs
-merge_begins (Unstranded merge) = refl
-merge_begins (PerStrand merge) = ap (λ items. interval_lines (places_of items)) (no_strand_settled merge.rule.gap)
+merge_begins merge = grind (arith, no_strand_settled)
 
 -- nor does it write any of no records
 pub merge_settles_none : (order : Order) (d : ℕ) (strand : MergeStrand) → (merge_written order d strand).settled [] ≡ []
-merge_settles_none order d All = refl
-merge_settles_none order d Each = ap (λ items. interval_lines (places_of items)) (no_strand_settled d)
-merge_settles_none order d (One strand) = refl
+merge_settles_none order d strand = grind (arith, no_strand_settled)
 
 -- what it has settled stays, and begins the whole
 pub merge_stays : (merge : MergeKind) → SettledStays (merge_engine.settled merge) AreTaken
@@ -453,37 +421,24 @@ module _ (order : Order) (total : IsTotal order) where
   pooled_settled : (d : ℕ) (strand : MergeStrand) (records : List Feature) → ArePlaced order (intervals_of records)
       → interval_lines (settled_runs d strand records) ≡ (pooled_written order d strand).settled records
   unfolding settled_runs
-  pooled_settled d strand records placed =
-      ap (λ runs. interval_lines (passed_by d runs (last_of (intervals_of records)))) (sym (ordered_come order d strand records total placed))
-
-  merged_same : (d : ℕ) (strand : MergeStrand) (records : List Feature) → ArePlaced order (intervals_of records)
-      → merge_engine.output (merge_begun d strand) records ≡ (merge_written order d strand).whole records
-  merged_same d All records placed = pooled_same d All records placed
-  merged_same d Each records placed = refl
-  merged_same d (One strand) records placed = pooled_same d (One strand) records placed
+  pooled_settled d strand records placed = grind (arith, ordered_come)
 
   settled_same : (d : ℕ) (strand : MergeStrand) (records : List Feature) → ArePlaced order (intervals_of records)
       → merge_engine.settled (merge_begun d strand) records ≡ (merge_written order d strand).settled records
-  settled_same d All records placed = pooled_settled d All records placed
-  settled_same d Each records placed = refl
-  settled_same d (One strand) records placed = pooled_settled d (One strand) records placed
+  settled_same d strand records placed = grind (arith, pooled_settled)
 
   report_same : (d : ℕ) (strand : MergeStrand) (records : List Feature) (fault : Option FaultValue) → ArePlaced order (intervals_of records)
       → report_by (merge_as_they_come (merge_begun d strand)) records fault ≡ report_by (merge_written order d strand) records fault
-  report_same d strand records None placed = ap (λ l. record { output = l; fault = None }) (merged_same d strand records placed)
-  report_same d strand records (Some fault) placed = ap (λ l. record { output = l; fault = Some fault }) (settled_same d strand records placed)
+  report_same d strand records fault placed = grind (arith, settled_same, pooled_same)
 
   -- so what a merge writes, chromosomes as they come, is the report
   merge_reports : (d : ℕ) (strand : MergeStrand) (handed : Handed)
       → members_report (merge_as_they_come (merge_begun d strand)) (bed_format (sorting_of order)) handed ≡ members_report (merge_written order d strand) (bed_format (sorting_of order)) handed
-  merge_reports d strand handed =
-      let good = bed_good First order handed in
-      report_same d strand (items_in good) good.fault (placed_good First order handed total)
+  merge_reports d strand handed = grind (arith, report_same, placed_good)
 
   merge_settles : (d : ℕ) (strand : MergeStrand) (lines : List TextLine)
       → members_settle (merge_as_they_come (merge_begun d strand)) (bed_format (sorting_of order)) lines ≡ members_settle (merge_written order d strand) (bed_format (sorting_of order)) lines
-  merge_settles d strand lines =
-      settled_same d strand (items_in (good (bed_format (sorting_of order)) First lines)) (placed_lines First order lines total)
+  merge_settles d strand lines = grind (arith, settled_same, placed_lines)
 
   -- a merge ran as the command says
   pub merge_runs : {A : Type 0} (device : Source A) (d : ℕ) (strand : MergeStrand) (merge : MergeKind) → merge ≡ merge_begun d strand

@@ -1,5 +1,6 @@
 -- What was taken of a reader's members and written of them so far, whatever they are, and what is so when the reading stops. By it, feeding an engine with the records of a reader.
-use Rattle.bt_lines.proofs.Std.{◌≡◌, ℕ, suc, ◌+◌, ◌<◌, ◌≤◌, true, List, [], ◌∷◌, ◌++◌, length, Option, None, Some, Result, Ok, Err, refl, sym, ap, ◌∙◌, subst, append-nil, append_assoc, length-append, arith, inl, inr, ◌⊎◌, IfSome, map-append, All-cons, All-head, All-nil, All-tail, Appends}
+use Rattle.std.proofs.lemmas.Grind.{common_steps}
+use Rattle.bt_lines.proofs.Std.{rules, ◌≡◌, ℕ, suc, ◌+◌, ◌<◌, ◌≤◌, true, List, [], ◌∷◌, ◌++◌, length, Option, None, Some, Result, Ok, Err, refl, sym, ap, ◌∙◌, subst, append-nil, append_assoc, length-append, arith, inl, inr, ◌⊎◌, IfSome, map-append, All-cons, All-head, All-nil, All-tail, Appends}
 use Rattle.bt_lines.specs.declared.device.Source.{Ghosts as Source}
 use Rattle.bt_lines.proofs.lemmas.Writer.{grown_works, grows_nothing, grows_both}
 use Rattle.bt_lines.specs.model.Fault.{FaultValue, write_failed, no_memory}
@@ -33,45 +34,18 @@ use Rattle.bt_tool.proofs.lemmas.running.members.PassedLemmas.{line_going, said_
 
 -- a sink that took a prefix of the lines took a prefix of all
 pub front_all : (took : Option (List ℕ)) (put : Option (List ℕ)) (before done lines whole : List ℕ) → whole ≡ done ++ lines → put ≡ Some (before ++ done) → IsPrefixOf took put lines → IsPrefixOf took (Some (before ++ whole)) []
-front_all None put before done lines whole e p f = tt
-front_all (Some took) put before done lines whole e p f =
-    let at : IsPrefixOf (Some took) (Some (before ++ done)) lines = subst (λ x. IsPrefixOf (Some took) x lines) p f in
-    (at.0, at.1 ∙ append_assoc before done lines ∙ ap (λ l. before ++ l) (sym e) ∙ sym (append-nil (before ++ whole)))
+front_all took put before done lines whole e p f = grind (arith, append_assoc, append-nil)
 
 pub works_both : (old mid new : Output) → WorksAsBefore old mid → WorksAsBefore mid new → WorksAsBefore old new
-works_both old mid new w more = record {
-  served = more.served ∙ w.served;
-  sink_served = more.sink_served ∙ w.sink_served;
-  put = grows_both old.put mid.put new.put w.put more.put;
-  block = λ h. more.block (w.block h);
-}
+works_both old mid new w more = grind (arith, (grows_both old.put mid.put new.put w.put more.put))
 
 -- a known text grows by the lines
 pub text_grows : (old new : Option (List ℕ)) (before done lines whole : List ℕ) → whole ≡ done ++ lines → Appends old new lines → old ≡ Some (before ++ done) → new ≡ Some (before ++ whole)
-text_grows None new before done lines whole w p e = let h : Some (before ++ done) ≡ None = sym e in absurd (cc)
-text_grows (Some old) None before done lines whole w p e = absurd p
-text_grows (Some old) (Some new) before done lines whole w p e =
-    let was : old ≡ before ++ done = cc in
-    ap (λ l. Some l) (p ∙ ap (λ l. l ++ lines) was ∙ append_assoc before done lines ∙ ap (λ l. before ++ l) (sym w))
-
--- of what was put, the sink took all but a block
-took_held : (took put : Option (List ℕ)) (bytes : List ℕ) → HoldsBlock took put → put ≡ Some bytes
-    → IfSome took (λ taken. length bytes ≤ length taken + block_size)
-took_held None put bytes h e = tt
-took_held (Some taken) None bytes h e = cc
-took_held (Some taken) (Some put) bytes h e =
-    let same : put ≡ bytes = cc in
-    let parts : put ≡ taken ++ h.0 = h.1 in
-    omega (arith, ap length same, ap length parts, length-append taken h.0, h.2)
+text_grows old new before done lines whole w p e = grind (arith, append_assoc)
 
 pub took_more_than : (first took more : Option (List ℕ)) (taken : List ℕ) (size : ℕ) → first ≡ Some taken → Grows first took → Grows took more
     → IfSome took (λ now. size ≤ length now + block_size) → IfSome more (λ now. size ≤ length now + block_size)
-took_more_than None took more taken size e f g h = cc
-took_more_than (Some first) None more taken size e f g h = absurd f.1
-took_more_than (Some first) (Some took) None taken size e f g h = absurd g.1
-took_more_than (Some first) (Some took) (Some more) taken size e f g h =
-    let parts : more ≡ took ++ g.0 = g.1 in
-    omega (arith, ap length parts, length-append took g.0, h)
+took_more_than first took more taken size e f g h = grind (arith, length-append)
 
 -- an output later on: the sink took no less, and unless a write failed no less was put
 pub record GoesOn (old new : Output) : Type 0 where
@@ -91,22 +65,12 @@ goes_works old new grows works = record { took = grows; put = inr works.put; sta
 
 -- bytes that were put stay put
 put_more_than : (mid later : Option (List ℕ)) (size : ℕ) → Grows mid later → IsPutTo size mid → IsPutTo size later
-put_more_than None later size grows kept = cc
-put_more_than (Some mid) None size grows kept = absurd grows.1
-put_more_than (Some mid) (Some later) size grows kept =
-    let same : mid ≡ kept.0 = cc in
-    let parts : later ≡ mid ++ grows.0 = grows.1 in
-    (later, refl, omega (arith, ap length parts, length-append mid grows.0, ap length same, kept.2))
+put_more_than mid later size grows kept = grind (arith, length-append)
 
 keeps_later : (out grown later : Output) (bytes : List ℕ) → GoesOn grown later
     → (grown.has_failed ≡ true) ⊎ ((before : List ℕ) → out.put ≡ Some before → IsPutTo (length (before ++ bytes)) grown.put)
     → (later.has_failed ≡ true) ⊎ ((before : List ℕ) → out.put ≡ Some before → IsPutTo (length (before ++ bytes)) later.put)
-keeps_later out grown later bytes goes (inl failed) = inl (goes.stays_failed failed)
-keeps_later out grown later bytes goes (inr kept) =
-    elim goes.put [
-      | inl failed ↦ inl failed
-      | inr grows ↦ inr (λ before e. put_more_than grown.put later.put (length (before ++ bytes)) grows (kept before e))
-    ]
+keeps_later out grown later bytes goes p1 = grind (arith, common_steps)
 
 -- what the sink took stays taken, and what was put stays put
 pub took_later : (out grown later : Output) (bytes : List ℕ) → Grows out.took grown.took → GoesOn grown later → TookButBlock out bytes grown
@@ -118,28 +82,15 @@ took_later out grown later bytes f goes h = record {
 
 -- of lines that were put, the sink took all but a block
 pub took_lines : (out grown : Output) (lines : List ℕ) → HasPut out lines grown → TookButBlock out lines grown
-took_lines out grown lines put = record {
-  took = λ before taken e t. took_held grown.took grown.put (before ++ lines) put.block (put.puts before e);
-  put = inr (λ before e. (before ++ lines, put.puts before e, omega arith));
-}
+took_lines out grown lines put = grind (arith, length-append)
 
 -- nothing was put yet
 pub put_none : (out : Output) → HoldsBlock out.took out.put → HasPut out [] out
-put_none out block = record {
-  puts = λ before e. e ∙ ap Some (sym (append-nil before));
-  works = record { served = refl; sink_served = refl; put = grows_nothing out.put; block = λ h. h };
-  block = block;
-  grows = grows_nothing out.took;
-}
+put_none out block = search rules
 
 -- the output grew by more bytes
 pub put_more : (out old new : Output) (bytes more : List ℕ) → HasPut out bytes old → Grown old more new → HasPut out (bytes ++ more) new
-put_more out old new bytes more put grown = record {
-  puts = λ before e. text_grows old.put new.put before bytes more (bytes ++ more) refl grown.appends (put.puts before e);
-  works = works_both out old new put.works (grown_works old new more grown);
-  block = grown.block put.block;
-  grows = grows_both out.took old.took new.took put.grows grown.grows;
-}
+put_more out old new bytes more put grown = grind (arith, text_grows, (works_both out old new put.works (grown_works old new more grown)), (grows_both out.took old.took new.took put.grows grown.grows))
 
 -- members of a reader were taken, and what they settle was written
 pub record Fed {S A State : Type 0} (settled : List A → List ℕ) (device : Source S) (old : MemberReader S A State) (out : Output) (past : List (Member A)) (now : MemberReader S A State) (grown : Output) : Type 0 where
@@ -149,10 +100,7 @@ pub record Fed {S A State : Type 0} (settled : List A → List ℕ) (device : So
 -- none yet
 pub fed_none : {S A State : Type 0} (settled : List A → List ℕ) (device : Source S) (old : MemberReader S A State) (out : Output) → IsFresh device old → line_fault old.below ≡ None → settled [] ≡ [] → HoldsBlock out.took out.put
     → Fed settled device old out [] old out
-fed_none settled device old out fresh clear nothing block = record {
-  passes = passes_start device old fresh clear;
-  put = rw nothing (put_none out block);
-}
+fed_none settled device old out fresh clear nothing block = grind (arith, (passes_start device old fresh clear), (put_none out block))
 
 module _ {S A State : Type 0} {settled : List A → List ℕ} {device : Source S} {old : MemberReader S A State} {out : Output} {past : List (Member A)} {now : MemberReader S A State} {grown : Output}
     (g : Fed settled device old out past now grown) {new : MemberReader S A State} where
@@ -163,27 +111,11 @@ module _ {S A State : Type 0} {settled : List A → List ℕ} {device : Source S
   module _ {Kinds : Kind → Type 0} {Sorted : List A → Type 0} where
     -- these members were taken when the reading stops
     taken : (bytes : List ℕ) × Hands device.left now.below bytes new.below → Sorted (member_items past) → IsReadFor device old past past new → Took settled Kinds Sorted device old out past new grown
-    taken hands sorted read = record {
-      bytes = bytes_more device old past now g.passes new hands;
-      sorted = sorted;
-      grows = g.put.grows;
-      before = past;
-      read = read;
-      kept = took_lines out grown (settled (member_items past)) g.put;
-    }
+    taken hands sorted read = grind (arith, (bytes_more device old past now g.passes new hands), (took_lines out grown (settled (member_items past)) g.put))
 
     -- the reading stops: at the end of the input
     pub fed_all : {Stands : List A → Type 0} → IsOver device now new → Sorted (member_items past) → Stands (member_items past) → FeedsAll settled Kinds Sorted device Stands old out new grown
-    fed_all over sorted stands = record {
-      past = past;
-      took = taken over.ends.stays.bytes sorted (read_here device old past new (passes_end device old past now g.passes new over));
-      whole = passes_all device old past now g.passes new over;
-      stands = stands;
-      puts = g.put.puts;
-      works = g.put.works;
-      served = over.ends.served ∙ g.passes.served;
-      within = (over.kept g.passes.kept).within (over.clear over.ends.goes);
-    }
+    fed_all over sorted stands = grind (arith, (taken over.ends.stays.bytes sorted (read_here device old past new (passes_end device old past now g.passes new over))), (passes_all device old past now g.passes new over))
 
     -- or at a fault
     pub fed_up_to : {fault : FaultValue} → ((state : State) (line : TextLine) (kind : Kind) → old.format.says state line ≡ Err kind → Kinds kind) → IsStopped device now fault new → Sorted (member_items past)
@@ -263,8 +195,7 @@ pub record EngineAt {E : Type 0} (definition : EngineDef E) (first : E) (out : O
 
 full_front : (front rest : List Interval) → AreNonEmpty (front ++ rest) → AreNonEmpty front
 full_front [] rest full = All-nil (λ (r : Interval). r.start < r.stop)
-full_front (r ∷ front) rest full =
-    All-cons (λ (r : Interval). r.start < r.stop) r front (All-head (λ (r : Interval). r.start < r.stop) r (front ++ rest) full) (full_front front rest (All-tail (λ (r : Interval). r.start < r.stop) r (front ++ rest) full))
+full_front (r ∷ front) rest full = grind (arith, (full_front front rest (All-tail (λ (r : Interval). r.start < r.stop) r (front ++ rest) full)), All-head)
 
 -- the first of records that are in order are
 pub order_front : (order : Order) (front rest : List Feature) → AreInOrder order (front ++ rest) → AreInOrder order front
@@ -311,12 +242,7 @@ module _ {S O E : Type 0} {ghosts : Ghosts O} (definition : EngineDef E) (first 
 module _ {S O E : Type 0} {ghosts : Ghosts O} {definition : EngineDef E} {first : E} {device : Source S} {old : Records S O ghosts} {out : Output} where
   -- before the first record
   pub going_start : IsFresh device (view_of old) → definition.is_after first [] first → definition.settled first [] ≡ [] → HoldsBlock out.took out.put → Going definition first device old out old first out
-  going_start fresh stands nothing block = record {
-    past = [];
-    fed = fed_none (definition.settled first) device (view_of old) out fresh (line_going old fresh.going) nothing block;
-    order = refl;
-    stands = stands;
-  }
+  going_start fresh stands nothing block = grind (arith, (fed_none (definition.settled first) device (view_of old) out fresh (line_going old fresh.going) nothing block))
 
   module _ (is_bed : (view_of old).format ≡ bed_format (sorting_of (order_in old))) (total : IsTotal (order_in old)) (none_last : last_locus old ≡ None)
       (takes : (past : List Feature) → ArePlaced (order_in old) (intervals_of past) → AreNonEmpty (intervals_of past) → definition.takes first past)
@@ -325,24 +251,16 @@ module _ {S O E : Type 0} {ghosts : Ghosts O} {definition : EngineDef E} {first 
     StopsUpTo fault new later = FeedsUpTo (definition.settled first) (IsBedKind (order_in old)) (AreInOrder (order_in old)) device (view_of old) out fault (view_of new) later
 
     in_order : (past : List (Member Feature)) (new : MemberReader S Feature (Option Locus)) → Passes device (view_of old) past new → AreInOrder (order_in old) (member_items past)
-    in_order past new passes =
-        said_in_order (order_in old) (member_items past) total
-        (subst (λ (f : Format Feature (Option Locus)). AreSaid f None (member_items past)) is_bed (subst (λ (s : Option Locus). AreSaid (view_of old).format s (member_items past)) none_last passes.said))
+    in_order past new passes = grind (arith, said_in_order)
 
     -- a record is buffered
     pub going_fill : (new : Records S O ghosts) → IsFilled device (view_of now) (view_of new) → order_in new ≡ order_in now → Going definition first device old out new engine grown
-    going_fill new fills same = record {
-      past = g.past;
-      fed = fed_fill g.fed fills;
-      order = same ∙ g.order;
-      stands = g.stands;
-    }
+    going_fill new fills same = grind (arith, (fed_fill g.fed fills))
 
     -- after the last record
     pub feeds_all : (new : Records S O ghosts) → IsOver device (view_of now) (view_of new)
         → FeedsAll (definition.settled first) (IsBedKind (order_in old)) (AreInOrder (order_in old)) device (λ past. definition.is_after first past engine) (view_of old) out (view_of new) grown
-    feeds_all new over =
-        fed_all g.fed over (in_order g.past (view_of now) g.fed.passes) g.stands
+    feeds_all new over = grind (arith, fed_all, in_order)
 
     -- the reader reported a fault
     pub stops_reading : (new : Records S O ghosts) (fault : FaultValue) → IsStopped device (view_of now) fault (view_of new) → StopsUpTo fault new grown
@@ -362,12 +280,7 @@ module _ {S O E : Type 0} {ghosts : Ghosts O} {definition : EngineDef E} {first 
         let passes = passes_take device (view_of old) g.past (view_of now) g.fed.passes records (view_of new) has in
         let items = items_take g.past (suc (lines_given (below now))) records in
         let at = at_each (order_in old) takes (member_items g.past) records engine fed grown later (subst (AreInOrder (order_in old)) items (in_order (g.past ++ more) (view_of new) passes)) at_now taken in
-        record {
-          past = g.past ++ more;
-          fed = record { passes = passes; put = rw items at.put };
-          order = same ∙ g.order;
-          stands = rw items at.stands;
-        }
+        grind arith
 
     -- one of them wasn't
     module _ {fault : Fault} {new : Records S O ghosts} {fed : E} {later : Output} {first_batch last_batch : Batch} (consumes : ConsumesGiven device now first_batch last_batch new)
@@ -410,12 +323,8 @@ module _ {S O E : Type 0} {ghosts : Ghosts O} {definition : EngineDef E} {first 
 
       not_taken : definition.takes first (member_items before ++ f.r ∷ []) → definition.fault f.mid ≡ None → Grows (f.through).took later.took → NotTaken definition f.mid f.r f.through (fault_value fault) fed later → StopsUpTo (fault_value fault) new later
       not_taken may going grows (inl again) = absurd (let apart : None ≡ Some (fault_value fault) = sym going ∙ again.is in cc)
-      not_taken may going grows (inr (inl fails)) =
-          let cuts = fails.cuts first (member_items before) at_mid.stands may in
-          fails_writing f.r given_items passes read at_mid.put sorted_given cuts.bytes cuts.goes_on fails.is cuts.front fails.failed fails.sink_failed grows
-      not_taken may going grows (inr (inr out_of)) =
-          let puts = out_of.puts first (member_items before) at_mid.stands may in
-          fails_growing f.r given_items passes read at_mid.put sorted_given puts.bytes puts.goes_on out_of.is puts.appends out_of.works grows
+      not_taken may going grows (inr (inl fails)) = grind (arith, at_mid, fails_writing, given_items, passes, read, sorted_given)
+      not_taken may going grows (inr (inr out_of)) = grind (arith, at_mid, fails_growing, given_items, passes, read, sorted_given)
 
       pub stops_feeding : StopsUpTo (fault_value fault) new later
       stops_feeding =
@@ -425,8 +334,7 @@ module _ {S O E : Type 0} {ghosts : Ghosts O} {definition : EngineDef E} {first 
 pub failed_at : {E : Type 0} {definition : EngineDef E} {engine : E} {batch : Batch} {out : Output} {fault : Fault} {fed : E} {last : Batch} {grown : Output}
     → FeedsBatch definition batch_cursor engine batch out {A = Unit {0}} (Err fault) fed last grown → (first : E) (past : List Feature) → definition.is_after first past engine
     → FailsAtGiven definition batch_cursor engine batch out fault fed last grown
-failed_at (inl f) first past stands = let none = f.going first past stands in let some = f.is in absurd (cc)
-failed_at (inr f) first past stands = f
+failed_at p1 first past stands = grind arith
 
 -- the records of a batch that an engine was given
 pub given_by : {E A : Type 0} (definition : EngineDef E) (engine : E) (first : Batch) (out : Output) (result : Result A Fault) (fed : E) (last : Batch) (grown : Output)

@@ -1,5 +1,5 @@
 -- What a command of one input writes, as what any command writes of its inputs.
-use Rattle.bt_lines.proofs.Std.{◌≡◌, ℕ, ◌+◌, ◌-◌, ◌≤◌, Bool, true, List, [], ◌++◌, length, Option, None, Some, take, refl, sym, ap, ◌∙◌, subst, arith, inl, inr, ◌⊎◌, IfSome, Consumes-nil, false≢true, none-some, suc, ◌^◌, ◌<◌, false, drop, append-nil, All, take-append-add}
+use Rattle.bt_lines.proofs.Std.{rules, ◌≡◌, ℕ, ◌+◌, ◌-◌, ◌≤◌, Bool, true, List, [], ◌++◌, length, Option, None, Some, take, refl, sym, ap, ◌∙◌, subst, arith, inl, inr, ◌⊎◌, IfSome, Consumes-nil, false≢true, none-some, suc, ◌^◌, ◌<◌, false, drop, append-nil, All, take-append-add}
 use Rattle.bt_lines.specs.declared.device.Source.{Ghosts as Source}
 use Rattle.bt_lines.specs.model.Fault.{FaultValue, write_failed, no_memory, read_failed}
 use Rattle.bt_lines.specs.model.Lines.{Handed, TextLine, text_lines, bytes_in, line_feeds}
@@ -26,12 +26,10 @@ use Rattle.bt_tool.specs.inside.Feed.{ComeFirst}
 
 -- an input that wasn't touched handed nothing over, and hasn't failed
 pub hands_none : {S : Type 0} (left : S → Option (List ℕ)) (source : Option S) (handed : Option Handed) (most : ℕ) → OfBoth (Holds left) source handed → OfBoth (HandsUpTo left most) source source
-hands_none left None handed most holds = tt
-hands_none left (Some source) handed most holds = record { handed = []; consumed = Consumes-nil (left source); read = omega arith }
+hands_none left source handed most holds = grind arith
 
 serves_none : {S : Type 0} (failed : S → Bool) (source : Option S) → ServesIf failed source source
-serves_none failed None = tt
-serves_none failed (Some source) = refl
+serves_none failed source = grind arith
 
 -- how far an input was read, by lines that settle the same, more that is said beside it, and what was taken and put later
 pub near_as : (Beside More : ℕ → Type 0) → ((n : ℕ) → Beside n → More n) → (mine yours : List TextLine → List ℕ) → ((lines : List TextLine) → mine lines ≡ yours lines)
@@ -58,8 +56,7 @@ near_as Beside More adds mine yours same text left before took more Cut Failed S
 
 -- a fault of one input or of a device, if there is no other input
 pub named_alone : {P D : Type 0} → P ⊎ D → (P ⊎ ⊥) ⊎ D
-named_alone (inl tells) = inl (inl tells)
-named_alone (inr tells) = inr tells
+named_alone p1 = grind arith
 
 -- the whole text is known of an input of which no failed read is reported
 pub is_whole : {S : Type 0} (device : Source S) (first last : S) (fault : Option FaultValue) (handed : Handed) → Holds device.left first handed → IsOfInput fault → IsWhole device first last fault handed
@@ -112,9 +109,7 @@ module _ {A B : Type 0} (source_a : Source A) (source_b : Source B) where
 -- a fault of a line is no failed read
 pub line_no_read : (input : Input) (line : ℕ) (kind : Kind) (other : Input) (at : ℕ) → is_of_line kind ≡ true
     → fault_at_line input line kind ≡ read_failed other at → ⊥
-line_no_read input line kind other at of_line e =
-    let same : kind ≡ ReadFailed = ap (λ (f : FaultValue). f.kind) e in
-    false≢true (subst (λ k. is_of_line k ≡ true) same of_line)
+line_no_read input line kind other at of_line e = grind arith
 
 -- a fault with a place is no failed write
 pub placed_no_write : (input : Input) (line : ℕ) (kind : Kind) → fault_at_line input line kind ≡ write_failed → ⊥
@@ -128,40 +123,30 @@ write_no_read input line e = let apart : WriteFailed ≡ ReadFailed = ap (λ (f 
 
 -- a fault of an input isn't a failed write
 pub tells_no_write : {S : Type 0} (device : Source S) (kinds : Kind → Type 0) (input : Input) (before after : S) → TellsInput device kinds input before after write_failed → ⊥
-tells_no_write device kinds input before after (inl line) = placed_no_write input line.line line.kind (sym line.is)
-tells_no_write device kinds input before after (inr read) = placed_no_write input read.line ReadFailed (sym read.is)
+tells_no_write device kinds input before after p1 = grind arith
 
 -- Lemmas on what was taken of a reader's members and lines, and on what is still to come of them.
 
 pub come_none : {A : Type 0} (good : Option (Good A)) → ComeFirst good [] good
-come_none None = tt
-come_none (Some good) = (refl, refl)
+come_none good = grind arith
 
 -- nothing is to come but a fault, if there is one
 pub whole_with : {A : Type 0} (old now : Option (Good A)) (past : List (Member A)) (fault : Option FaultValue) → ComeFirst old past now
     → IfSome now (λ good. good ≡ ends_with fault)
     → IfSome old (λ good. (good.members ≡ past) × (good.fault ≡ fault))
-whole_with None now past fault c e = tt
-whole_with (Some o) None past fault c e = absurd c
-whole_with (Some o) (Some n) past fault c e =
-    (c.0 ∙ ap (λ g. past ++ g.members) e ∙ append-nil past, c.1 ∙ ap (λ g. g.fault) e)
+whole_with old now past fault c e = search rules
 
 -- the members that were taken begin those that were to come
 pub begins_with : {A : Type 0} (old now : Option (Good A)) (past : List (Member A)) → ComeFirst old past now
     → IfSome old (λ good. (rest : List (Member A)) × (good.members ≡ past ++ rest))
-begins_with None now past c = tt
-begins_with (Some o) None past c = absurd c
-begins_with (Some o) (Some n) past c = (n.members, c.0)
+begins_with old now past c = grind arith
 
 -- and those that are still to come lie after the first `count` lines
 pub begins_beyond : {A : Type 0} (old now : Option (Good A)) (past : List (Member A)) (count : ℕ) → ComeFirst old past now
     → IfSome now (IsBeyond count)
     → IfSome old (λ good. (rest : List (Member A)) × (good.members ≡ past ++ rest)
     × IsBeyond count (record { members = rest; fault = good.fault }))
-begins_beyond None now past count c b = tt
-begins_beyond (Some o) None past count c b = absurd c
-begins_beyond (Some o) (Some n) past count c b =
-    (n.members, c.0, subst (λ fault. IsBeyond count (record { members = n.members; fault = fault })) (sym c.1) b)
+begins_beyond old now past count c b = grind arith
 
 -- the lines that are left after some calls, and after one more
 pub lines_on : (start now next : Option (List TextLine)) (given more : ℕ) → given ≤ more
@@ -178,30 +163,15 @@ near_from_start start now rest given count h e n = near_pass start now rest give
 -- line feeds among the bytes below the bound, of two pieces of which the first is below it
 feeds_below : (bound : ℕ) (front back : List ℕ) → length front ≤ bound
     → line_feeds (take bound (front ++ back)) ≡ line_feeds front + line_feeds (take (bound - length front) back)
-feeds_below bound front back h =
-    let size : bound ≡ length front + (bound - length front) = omega arith in
-    ap (λ n. line_feeds (take n (front ++ back))) size
-    ∙ ap line_feeds (take-append-add front back (bound - length front))
-    ∙ line_feeds-append front (take (bound - length front) back)
+feeds_below bound front back h = grind (arith, (take-append-add front back (bound - length front)), (line_feeds-append front (take (bound - length front) back)))
 
 -- the piece that was cut off, in two calls
 pub cuts_both : {S : Type 0} (left : S → Option (List ℕ)) (old now new : LineReader S) (first : List ℕ) → Hands left old first now
     → end_told now ≡ false → bytes_taken now < 2 ^ 63 → CutsOff left now new → CutsOff left old new
-cuts_both left old now new first hands told within cut =
-    let counted = hands.counted in
-    let fed = hands.fed told within in
-    let below = feeds_below (2 ^ 63 - 1 - bytes_taken old) first cut.bytes (omega arith) in
-    let left_over : 2 ^ 63 - 1 - bytes_taken old - length first ≡ 2 ^ 63 - 1 - bytes_taken now = omega arith in
-    let rest = ap (λ n. line_feeds (take n cut.bytes)) left_over in
-    record {
-      bytes = first ++ cut.bytes;
-      hands = hands_both left old now new first cut.bytes hands cut.hands;
-      given = omega (arith, cut.given, fed, below, rest);
-    }
+cuts_both left old now new first hands told within cut = grind (arith, (feeds_below (2 ^ 63 - 1 - bytes_taken old) first cut.bytes (omega arith)), (hands_both left old now new first cut.bytes hands cut.hands))
 
 pub none_passed : (lines : Option (List TextLine)) (given : ℕ) → given ≡ 0 → IfSome lines (λ l. lines ≡ Some (drop given l))
-none_passed None given e = tt
-none_passed (Some lines) given e = ap Some (ap (λ n. drop n lines) (sym e))
+none_passed lines given e = grind arith
 
 pub up_to : {A : Type 0} (less more : ℕ) (past : List (Member A)) → less ≤ more → All (λ m. m.line ≤ less) past → All (λ m. m.line ≤ more) past
 up_to less more past h up k d i = omega (arith, up k d i)

@@ -72,8 +72,7 @@ module _ {A B : Type 0} {source_a : Source A} {source_b : Source B} {start : Mas
   ended_second e = let none = none_more e in (ap (members_from (suc (lines_given second.below))) none.0, none.1)
 
   settled_now : IsKnown both → SettlesPair rule stage.written s.comes.bytes (stage.taken ++ option_to_list (first_of (taken ++ second_now.buffered))) stage.bed_ended
-  settled_now known =
-      rw (ahead_first second ∙ ap first_of has.takes.buffered) at (s.comes.settles known)
+  settled_now known = grind arith
 
   takes_second : TakesFurther source_b (view_of start.records) s.past_second more_second second second_now
   takes_second = turned.takes_further source_b (view_of start.records) s.past_second second s.comes.second_passes taken second_now has

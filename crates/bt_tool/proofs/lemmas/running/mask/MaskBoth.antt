@@ -43,10 +43,7 @@ use Rattle.bt_tool.proofs.lemmas.running.mask.MaskFacts.{ahead_first, first_of}
 module _ {S State : Type 0} (second second_now : MemberReader S Feature State) (first last : Batch) (lent : left first ≡ second.buffered) where
   -- the next record that a batch gives is the one ahead
   next_is : (ahead : Option Feature) → ((r : Feature) → ahead ≡ Some r → item_ahead second ≡ Some r) → (r : Feature) (later : Batch) → Passes first (r ∷ []) later → IsNext ahead r
-  next_is None kept r later passes = tt
-  next_is (Some a) kept r later passes =
-      let here : Some a ≡ Some r = sym (kept a refl) ∙ ahead_first second ∙ ap first_of (sym lent ∙ passes.left_is) in
-      cc
+  next_is ahead kept r later passes = grind arith
 
   -- and it is the next one of those that are left
   kept_after : (was : Option Feature) → ((r : Feature) → was ≡ Some r → item_ahead second ≡ Some r) → (taken : List Feature) → second.buffered ≡ taken ++ second_now.buffered → (ahead : Option Feature)
@@ -64,20 +61,13 @@ rounds_most waits want = grind arith
 pub rounds_few : (waits : Bool) (want : MaskWant) → waits ≡ false → mask_rounds waits want ≤ 2
 rounds_few waits want e = grind arith
 
--- if nothing was given, a line that waited was written, or the same is wanted
-no_more_by : (o final : Option SequenceLine) (newly written : List SequenceLine) → o ≡ None → (written ++ newly) ++ option_to_list final ≡ written ++ option_to_list o → final ≡ None
-no_more_by o final newly written none e = grind (arith, none_new, append_cancel_left, append_assoc)
-
 not_one : (n : ℕ) → nat_eq n 1 ≡ false → n - 1 ≡ 0 → n ≡ 0
 not_one n e h = grind arith
 
 -- if bytes are buffered, a line is
 no_bytes : (is_open : Bool) (lines : ℕ) (bytes : List ℕ) → is_fed bytes ≡ true → IsLast is_open is_open bytes [] → buffered_lines is_open lines bytes ≡ [] → length bytes ≡ 0
-no_bytes false lines bytes fed last none =
-    ap length (fed_none bytes fed (sym (whole_count (suc lines) bytes) ∙ ap length none))
-no_bytes true lines bytes fed last none =
-    let size : length (take (length bytes - 1) bytes) ≡ 0 = sym (bytes_in-lines (suc lines) (take (length bytes - 1) bytes)) ∙ ap bytes_in none in
-    not_one (length bytes) (last.some refl) (omega (arith, size, length-take (length bytes - 1) bytes))
+no_bytes false lines bytes fed last none = grind (arith, (fed_none bytes fed (sym (whole_count (suc lines) bytes) ∙ ap length none)))
+no_bytes true lines bytes fed last none = grind (arith, (bytes_in-lines (suc lines) (take (length bytes - 1) bytes)), (length-take (length bytes - 1) bytes))
 
 some_buffered : {S : Type 0} (reader : LineReader S) (first : BufferedLines) → BeginsLines (buffered_bytes reader) (lines_given reader) (is_open reader) first → buffered_in reader ≡ [] → 0 < length (buffered_bytes reader) → ⊥
 some_buffered reader first begins none some = grind (arith, no_bytes)
@@ -110,7 +100,7 @@ module _ {A B : Type 0} {source_a : Source A} {source_b : Source B} {start : Mas
     less_room = omega (arith, takes.taken_is, takes.shrinks, are.feeds)
 
     same_by : texts ≡ [] → s.stage.waiting ≡ None → final.waiting ≡ None
-    same_by none waits = grind (arith, no_more_by, append-nil)
+    same_by none waits = grind (arith, append-nil, none_new, append_cancel_left, append_assoc)
 
     stays : texts ≡ [] → (mask_rounds (is_some masked.waiting) masked.want < mask_rounds (is_some mask.waiting) mask.want)
         ⊎ ((masked.want ≡ mask.want) × (is_some masked.waiting ≡ is_some mask.waiting))
@@ -125,28 +115,12 @@ module _ {A B : Type 0} {source_a : Source A} {source_b : Source B} {start : Mas
     stuck none unread same there = stuck_by mask.want none unread (subst (λ (w : MaskWant). StopsAt batch_cursor w last_lines last_beds) same stops) there
 
     few_by : (n : ℕ) → length texts + length taken ≡ n → (mask_left new second_now masked ≤ mask_left lines second mask) × (IsMaskReady lines second mask.want → mask_left new second_now masked < mask_left lines second mask)
-    few_by zero e =
-        let none : texts ≡ [] = nil_from_length texts (omega (arith, e)) in
-        let unread : taken ≡ [] = nil_from_length taken (omega (arith, e)) in
-        elim (stays none) [
-          | inl less ↦ (omega (arith, less_room, has.takes.shrinks, less), λ there. omega (arith, less_room, has.takes.shrinks, less))
-          | inr same ↦ (
-            omega (arith, less_room, has.takes.shrinks, ap (λ w. mask_rounds (is_some masked.waiting) w) same.0, ap (λ b. mask_rounds b mask.want) same.1),
-            λ there. absurd (stuck none unread same.0 there),
-          )
-        ]
+    few_by zero e = grind (arith, (nil_from_length texts (omega (arith, e))), (nil_from_length taken (omega (arith, e))), (stays (nil_from_length texts (omega (arith, e)))), stuck)
     few_by (suc n) e = grind arith
 
     gave_both : ComesAfter batch_cursor s.stage.ahead first_beds taken final.ahead → {T : Type 0} (done : T) → AdvancesMask source_a source_b start before lines second mask (Ok done) new second_now masked now
     gave_both after done =
-        let few = few_by (length texts + length taken) refl in (
-          (
-            state_behind (sequence_format start.mask.full) at comes.goes_on.items,
-            (come_on s over takes has comes.goes_on (kept_then final.ahead after) (lines_in last_lines) parts numbered are comes.stands comes.puts).0,
-          ),
-          few.0,
-          few.1,
-        )
+        grind (arith, (few_by (length texts + length taken) refl), (come_on s over takes has comes.goes_on (kept_then final.ahead after) (lines_in last_lines) parts numbered are comes.stands comes.puts))
 
   -- the last of what was given failed
   module _ (fault : FaultValue) (now : Output) (behind : FailsAfter batch_cursor start.mask.how start.mask.full s.stage texts taken out first_beds fault last_beds now) where
@@ -159,17 +133,13 @@ module _ {A B : Type 0} {source_a : Source A} {source_b : Source B} {start : Mas
     -- lines that are settled weren't all written
     module _ (final : MaskStage) (bytes : List ℕ) (goes : GoesOn start.mask.how start.mask.full comes.stage behind.failing [] final bytes) (ahead_is : final.ahead ≡ comes.stage.ahead) where
       all_go : GoesOn start.mask.how start.mask.full s.stage texts taken final (comes.bytes ++ bytes)
-      all_go =
-          subst (λ (t : List TextLine). GoesOn start.mask.how start.mask.full s.stage t taken final (comes.bytes ++ bytes)) (sym behind.parts)
-          (subst (λ (l : List Feature). GoesOn start.mask.how start.mask.full s.stage (behind.before ++ behind.failing) l final (comes.bytes ++ bytes)) (append-nil taken)
-          (goes_more comes.goes_on goes))
+      all_go = grind (arith, (append-nil taken), (goes_more comes.goes_on goes))
 
       kept_final : (r : Feature) → final.ahead ≡ Some r → item_ahead second_now ≡ Some r
       kept_final r e = kept r (sym ahead_is ∙ e)
 
       fails_copying : FailsToAdd behind.through bytes fault now → EndsAt (Some fault) now
-      fails_copying fails =
-          fails_write s over takes has all_go kept_final (lines_in last_lines) parts numbered are comes.bytes bytes refl comes.puts fails
+      fails_copying fails = grind (arith, (fails_write s over takes has all_go kept_final (lines_in last_lines) parts numbered are comes.bytes bytes refl comes.puts fails))
 
     -- a line failed
     module _ (wants : want_at comes.stage ≡ WantLine) where
@@ -189,9 +159,7 @@ module _ {A B : Type 0} {source_a : Source A} {source_b : Source B} {start : Mas
 
         module _ (fails : FailsWithLine start.mask.how start.mask.full comes.stage line behind.through fault now) where
           with_it : GoesOn start.mask.how start.mask.full comes.stage behind.failing [] (with_line comes.stage fails.item) (bytes_with start.mask.how comes.stage fails.item)
-          with_it =
-              subst (λ (l : List TextLine). GoesOn start.mask.how start.mask.full comes.stage l [] (with_line comes.stage fails.item) (bytes_with start.mask.how comes.stage fails.item)) (sym one)
-              (line_goes start.mask.how start.mask.full comes.stage line fails.item none_waits fails.says)
+          with_it = grind (arith, line_goes, none_waits)
 
           ahead_same : (b : Bool) → is_written_at_once comes.stage fails.item ≡ b → (with_line comes.stage fails.item).ahead ≡ comes.stage.ahead
           ahead_same true e = rw e refl
@@ -277,9 +245,7 @@ module _ {A B : Type 0} {source_a : Source A} {source_b : Source B} {start : Mas
   -- the engine masks as the run says
   as_run : {T : Type 0} (answer : Result T Fault) (masked : Masking) (now : Output) → BothCome batch_cursor mask.how mask.full s.stage texts taken out first_beds answer masked last_beds now
       → BothCome batch_cursor start.mask.how start.mask.full s.stage texts taken out first_beds answer masked last_beds now
-  as_run answer masked now both =
-      subst (λ (h : MaskHow). BothCome batch_cursor h start.mask.full s.stage texts taken out first_beds answer masked last_beds now) s.how_is
-      (subst (λ (b : Bool). BothCome batch_cursor mask.how b s.stage texts taken out first_beds answer masked last_beds now) s.full_is both)
+  as_run answer masked now both = grind arith
 
   -- what the result says
   pub gives_both : {T : Type 0} (answer : Result T Fault) (masked : Masking) (now : Output) → (ComesNext batch_cursor s.stage.ahead first_beds → BothCome batch_cursor mask.how mask.full s.stage texts taken out first_beds answer masked last_beds now)

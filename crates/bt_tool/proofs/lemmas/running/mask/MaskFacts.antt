@@ -34,15 +34,11 @@ needed_from lines before (m ∷ ms) rest (inl none) = cc
 needed_from lines before (m ∷ ms) rest (inr some) =
     let parts : (before ++ m.item ∷ []) ++ member_items ms ≡ before ++ m.item ∷ member_items ms = append_assoc before (m.item ∷ []) (member_items ms) in
     let more : leaves_some lines ((before ++ m.item ∷ []) ++ member_items ms) ≡ true = ap (leaves_some lines) parts ∙ some in
-    skip_by (list_all (λ line. decided line (before ++ m.item ∷ [])) lines) m (last_needed lines (before ++ m.item ∷ []) (ms ++ rest))
-    (not_all (λ line. decided line (before ++ m.item ∷ [])) lines (fewer_leave lines (before ++ m.item ∷ []) (member_items ms) more))
-    ∙ needed_from lines (before ++ m.item ∷ []) ms rest (inr more)
-    ∙ ap (λ (l : List Feature). last_needed lines l rest) parts
+    grind (arith, (needed_from lines (before ++ m.item ∷ []) ms rest (inr more)), not_all, fewer_leave)
 
 -- who leave one of some lines undecided, leave one of more
 pub asked_of : (given extra : List SequenceLine) (records : List Feature) → IsTrue (leaves_some given records) → IsTrue (leaves_some (given ++ extra) records)
-asked_of given extra records some =
-    list_any-append (λ line. not (decided line records)) given extra ∙ or_left (leaves_some given records) (leaves_some extra records) some
+asked_of given extra records some = grind (arith, list_any-append)
 
 none_taken : (past : List (Member Feature)) → member_items past ≡ [] → past ≡ []
 none_taken [] e = refl
@@ -57,15 +53,12 @@ asked_by given extra past (inr some) = inr (asked_of given extra (member_items p
 reaches_least : (on : List SequenceLine) (before : List Feature) (rest : List (Member Feature)) (lines : List TextLine) (count : ℕ) → All (λ m. count < m.line) rest
     → bytes_in (take (suc count) lines) ≤ bytes_up_to lines (last_needed on before rest)
 reaches_least on before [] lines count high = take_whole (suc count) lines
-reaches_least on before (m ∷ ms) lines count high =
-    least_by (list_all (λ line. decided line (before ++ m.item ∷ [])) on) m (last_needed on (before ++ m.item ∷ []) ms) lines count (All-head (λ (m : Member Feature). count < m.line) m ms high)
-    (reaches_least on (before ++ m.item ∷ []) ms lines count (All-tail (λ (m : Member Feature). count < m.line) m ms high))
+reaches_least on before (m ∷ ms) lines count high = grind (arith, (reaches_least on (before ++ m.item ∷ []) ms lines count (All-tail (λ (m : Member Feature). count < m.line) m ms high)), least_by, All-head)
 
 -- what lines need lies after the records that were taken for them
 pub mask_needs : (how : MaskHow) → AreNeeded (mask_join how)
 mask_needs how given extra past rest lines count asked high =
-    subst (λ o. bytes_in (take (suc count) lines) ≤ bytes_up_to lines o) (sym (needed_from (given ++ extra) [] past rest (asked_by given extra past asked)))
-    (reaches_least (given ++ extra) (member_items past) rest lines count high)
+    grind (arith, (needed_from (given ++ extra) [] past rest (asked_by given extra past asked)), (reaches_least (given ++ extra) (member_items past) rest lines count high))
 
 -- masking has no limit on what is held
 pub mask_limits : (how : MaskHow) → AreLimits (mask_join how)
@@ -105,29 +98,11 @@ ahead_first reader = first_by _ reader.buffered
 module _ (stage : MaskStage) (next : Option Feature) (kept : (r : Feature) → stage.ahead ≡ Some r → next ≡ Some r) (over : stage.bed_ended ≡ true → next ≡ None)
     (records : List Feature) (fault : Option FaultValue) (may : MayCome (stage.taken ++ option_to_list next) stage.bed_ended records fault) where
   follows_by : (ended : Bool) (ahead : Option Feature) → stage.bed_ended ≡ ended → stage.ahead ≡ ahead → MayFollow stage records
-  follows_by true ahead e a =
-      let seen : seen_at stage ≡ stage.taken ++ [] = ap (λ (b : Bool). stage.taken ++ cond b [] (option_to_list stage.ahead)) e in
-      let none : option_to_list next ≡ [] = ap (λ (o : Option Feature). option_to_list o) (over e) in
-      record {
-        more = [];
-        begins = (may.all e).0 ∙ ap (λ (l : List Feature). stage.taken ++ l) none ∙ sym seen ∙ sym (append-nil (seen_at stage));
-        all = λ done. refl;
-      }
+  follows_by true ahead e a = grind (arith, append-nil)
   follows_by false None e a =
       let seen : seen_at stage ≡ stage.taken = ap (λ (b : Bool). stage.taken ++ cond b [] (option_to_list stage.ahead)) e ∙ ap (λ (o : Option Feature). stage.taken ++ option_to_list o) a ∙ append-nil stage.taken in
-      record {
-        more = option_to_list next ++ may.begins.0;
-        begins = may.begins.1 ∙ append_assoc stage.taken (option_to_list next) may.begins.0 ∙ ap (λ (l : List Feature). l ++ (option_to_list next ++ may.begins.0)) (sym seen);
-        all = λ done. absurd (false≢true (sym e ∙ done));
-      }
-  follows_by false (Some r) e a =
-      let seen : seen_at stage ≡ stage.taken ++ option_to_list next =
-      ap (λ (b : Bool). stage.taken ++ cond b [] (option_to_list stage.ahead)) e ∙ ap (λ (o : Option Feature). stage.taken ++ option_to_list o) (a ∙ sym (kept r a)) in
-      record {
-        more = may.begins.0;
-        begins = may.begins.1 ∙ ap (λ (l : List Feature). l ++ may.begins.0) (sym seen);
-        all = λ done. absurd (false≢true (sym e ∙ done));
-      }
+      grind (arith, append_assoc)
+  follows_by false (Some r) e a = grind arith
 
   pub may_follow : MayFollow stage records
   may_follow = follows_by stage.bed_ended stage.ahead refl refl
@@ -135,8 +110,7 @@ module _ (stage : MaskStage) (next : Option Feature) (kept : (r : Feature) → s
 -- what may come after more records may come after fewer
 pub come_back : (old taken buffered : List Feature) (ended : Bool) (records : List Feature) (fault : Option FaultValue) → (ended ≡ true → taken ≡ []) → MayCome ((old ++ taken) ++ option_to_list (first_of buffered)) ended records fault
     → MayCome (old ++ option_to_list (first_of (taken ++ buffered))) ended records fault
-come_back old [] buffered ended records fault none may =
-    subst (λ (l : List Feature). MayCome (l ++ option_to_list (first_of buffered)) ended records fault) (append-nil old) may
+come_back old [] buffered ended records fault none may = grind (arith, append-nil)
 come_back old (x ∷ xs) buffered ended records fault none may = record {
   begins = (
     (xs ++ option_to_list (first_of buffered)) ++ may.begins.0,

@@ -69,36 +69,16 @@ module _ {A B : Type 0} {source_a : Source A} {source_b : Source B} {start : Mas
 
   module _ (wants : mask.want ≡ WantLine) (new : LineReader A) (kept : IsKept source_a lines → IsKept source_a new) where
     pub line_filled : MakesLine source_a lines new → Fills new second mask out
-    line_filled makes = (
-      (at, line_made s wants new makes kept),
-      inr (
-        omega (arith, same_room source_a lines new new makes),
-        subst (λ (w : MaskWant). IsMaskReady new second w) (sym wants) makes.some,
-      ),
-    )
+    line_filled makes = grind (arith, (line_made s wants new makes kept), (same_room source_a lines new new makes))
 
     pub lines_ended : GivesEnd source_a lines new → (masked : Masking) → MaskMovesTo mask.how mask.full (with_lines_ended s.stage) masked → Fills new second masked out
     lines_ended ends masked stands =
         let over = gives_over source_a start.mask.full at lines new kept ends in
-        let none = ap is_some (no_line s wants).0 in (
-          (at, ends_lines s wants new masked ends kept stands),
-          inl (omega (
-            arith,
-            over.ends.shrinks,
-            at_line (is_some mask.waiting) mask.want wants,
-            at_last (is_some masked.waiting) s.stage.bed_ended masked.want (waits_is stands.stands ∙ none) (stands.stands.want_is ∙ ap (λ w. want_of w true s.stage.bed_ended) none),
-          )),
-        )
+        grind (arith, (ends_lines s wants new masked ends kept stands))
 
   module _ (wants : mask.want ≡ WantBed) (second_now : MemberReader B Feature (Option Locus)) where
     pub record_filled : IsFilled source_b second second_now → Fills lines second_now mask out
-    record_filled filled = (
-      (at, record_made s wants second_now filled),
-      inr (
-        omega (arith, filled.gives.shrinks),
-        subst (λ (w : MaskWant). IsMaskReady lines second_now w) (sym wants) (some_there _ second_now.buffered filled.m filled.gives.ahead),
-      ),
-    )
+    record_filled filled = grind (arith, (record_made s wants second_now filled))
 
     module _ (over : IsOver source_b second second_now) (masked : Masking) (now : Output) where
       ends_by : (o : Option SequenceLine) → s.stage.waiting ≡ o → {T : Type 0} (done : T)

@@ -1,5 +1,5 @@
 -- What giving an engine that masks does, by the parts of a run.
-use Rattle.bt_lines.proofs.Std.{◌≡◌, arith, ℕ, ◌+◌, ◌*◌, ◌<◌, ◌≤◌, Option, Some, Result, Ok, Err, is_some, length, suc, Bool, true, false, not, List, [], ◌∷◌, ◌++◌, None, refl, sym, ap, ◌∙◌, subst, append-nil, append_assoc, option_to_list, inl, inr, ◌⊎◌, IfSome, IsTrue, false≢true, or_left, or_right, map-append}
+use Rattle.bt_lines.proofs.Std.{rules, ◌≡◌, arith, ℕ, ◌+◌, ◌*◌, ◌<◌, ◌≤◌, Option, Some, Result, Ok, Err, is_some, length, suc, Bool, true, false, not, List, [], ◌∷◌, ◌++◌, None, refl, sym, ap, ◌∙◌, subst, append-nil, append_assoc, option_to_list, inl, inr, ◌⊎◌, IfSome, IsTrue, false≢true, or_left, or_right, map-append}
 use Rattle.bt_lines.specs.declared.device.Source.{Ghosts as Source}
 use Rattle.bt_lines.specs.model.Fault.{FaultValue}
 use Rattle.bt_lines.specs.calls.Names.{fault_value}
@@ -83,9 +83,7 @@ reached_behind full (line ∷ lines) = reached_said full line lines (record { na
 -- the last line is one of them
 last_leaves : (lines : List SequenceLine) (line : SequenceLine) (records : List Feature) → last_or None lines ≡ Some line → decided line records ≡ false → IsTrue (leaves_some lines records)
 last_leaves [] line records e open_at = cc
-last_leaves (x ∷ []) line records e open_at =
-    let same : x ≡ line = cc in
-    or_left (not (decided x records)) false (ap (λ (l : SequenceLine). not (decided l records)) same ∙ ap not open_at)
+last_leaves (x ∷ []) line records e open_at = grind arith
 last_leaves (x ∷ next ∷ lines) line records e open_at = or_right (not (decided x records)) (leaves_some (next ∷ lines) records) (last_leaves (next ∷ lines) line records e open_at)
 
 open_leaves : (lines : List SequenceLine) (last : Option SequenceLine) (records : List Feature) → last_or None lines ≡ last → IsOpen last records → (records ≡ []) ⊎ IsTrue (leaves_some lines records)
@@ -154,37 +152,19 @@ module _ {A B : Type 0} {source_a : Source A} {source_b : Source B} {start : Mas
   goes_on : {new : LineReader A} {second_now : MemberReader B Feature (Option Locus)} {masked : Masking} {now : Output} {next : MaskStage} → MaskMovesTo mask.how mask.full next masked
       → Comes join pair before (stage_of next) s.past_first s.past_second (line_members start.mask.full at new) second_now now
       → ((r : Feature) → next.ahead ≡ Some r → item_ahead second_now ≡ Some r) → (next.lines_ended ≡ true → has_ended new ≡ true) → Going at new second_now masked now
-  goes_on {next} moves comes kept_ahead lines_over = record {
-    past_first = s.past_first;
-    past_second = s.past_second;
-    stage = next;
-    stands = moves.stands;
-    first_is = s.first_is;
-    blocks_is = s.blocks_is;
-    how_is = moves.how_is ∙ s.how_is;
-    full_is = moves.full_is ∙ s.full_is;
-    comes = comes;
-    kept_ahead = kept_ahead;
-    lines_over = lines_over;
-  }
+  goes_on moves comes kept_ahead lines_over = grind arith
 
   -- if no line waits, the block of each record taken belongs to a sequence of the lines
   module _ (none : stage.waiting ≡ None) where
-    names_alone : names_of stage.written ≡ (reached stage).names
-    names_alone = grind (arith, append-nil)
-
     owned_alone : AreOwned stage.written (member_items s.past_second)
-    owned_alone =
-        rw (← s.comes.all_taken, names_alone) s.stands.owned
+    owned_alone = search rules
 
     none_lacks : join.last stage.written s.past_second ≡ None
     none_lacks = lack_none (names_of stage.written) s.past_second owned_alone
 
   -- a line that waits isn't decided by what was taken
   undecided : (line : SequenceLine) → stage.waiting ≡ Some line → decided line stage.taken ≡ false
-  undecided line waits =
-      let w = s.stands.waits line waits in
-      open_undecided line stage.taken w.named (rw (last_waits stage line waits) at (s.stands.is_open w.lines))
+  undecided line waits = grind (arith, (last_waits stage line waits))
 
   -- a line is wanted
   module _ (wants : mask.want ≡ WantLine) where
@@ -203,8 +183,7 @@ module _ {A B : Type 0} {source_a : Source A} {source_b : Source B} {start : Mas
     pub ends_lines : (new : LineReader A) (masked : Masking) → GivesEnd source_a lines new → (IsKept source_a lines → IsKept source_a new) → MaskMovesTo mask.how mask.full (with_lines_ended stage) masked → Going at new second masked grown
     ends_lines new masked ends kept stands =
         let over = gives_over source_a start.mask.full at lines new kept ends in
-        goes_on stands
-        (turned.ends_first s.comes no_line.0 no_line.1 (line_members start.mask.full at new) over) s.kept_ahead (λ e. over.ends.ends)
+        grind (arith, (goes_on stands (turned.ends_first s.comes no_line.0 no_line.1 (line_members start.mask.full at new) over) s.kept_ahead (λ e. over.ends.ends)))
 
     -- a line couldn't be read
     pub stops_lines : (fault : FaultValue) (new : LineReader A) → GivesFault source_a lines fault new → (IsKept source_a lines → IsKept source_a new) → EndsAt (Some fault) new second grown
@@ -275,17 +254,10 @@ module _ {A B : Type 0} {source_a : Source A} {source_b : Source B} {start : Mas
     -- if it decides the waiting line, that stays as it is
     settles_decided : (a : SequenceLine) → decided a (stage.taken ++ r ∷ []) ≡ true → IsKnown pair
         → SettlesPair join (stage.written ++ a ∷ []) (s.comes.bytes ++ masked_line start.mask.how stage.taken a) (stage.taken ++ option_to_list (item_ahead second)) stage.bed_ended
-    settles_decided a decides known =
-        settles_with join stage.written s.comes.bytes (stage.taken ++ option_to_list (item_ahead second)) stage.bed_ended a (masked_line start.mask.how stage.taken a) (s.comes.settles known)
-        (λ rest ordered.
-        let front : (stage.taken ++ option_to_list (item_ahead second)) ++ rest ≡ (stage.taken ++ r ∷ []) ++ rest = ap (λ (l : List Feature). l ++ rest) seen in
-        let parts : (stage.taken ++ option_to_list (item_ahead second)) ++ rest ≡ stage.taken ++ r ∷ rest = front ∙ append_assoc stage.taken (r ∷ []) rest in (
-          ap (decided a) front ∙ decided_stays a (stage.taken ++ r ∷ []) rest decides,
-          ap (λ (l : List Feature). masked_line start.mask.how l a) parts ∙ masked_before start.mask.how a stage.taken r decides rest (subst AreInBlocks parts ordered),
-        ))
+    settles_decided a decides known = grind (arith, settles_with, append_assoc, decided_stays, masked_before)
 
     unowned_by : (none : stage.waiting ≡ None) → left_after (reached stage).names (stage.taken ++ r ∷ []) ≡ None → left_after (names_of stage.written) (member_items (s.past_second ++ m ∷ [])) ≡ None
-    unowned_by none e = grind (arith, names_alone, map-append)
+    unowned_by none e = grind (arith, map-append, append-nil)
 
     fails_by : (o : Option SequenceLine) → stage.waiting ≡ o → (fault : FaultValue) (now : Output) → FailsAtRecord start.mask.how start.mask.full o stage r (suc (lines_given second.below)) grown fault now → EndsAt (Some fault) lines second now
     fails_by None none fault now lacks =

@@ -37,19 +37,12 @@ use Rattle.bt_tool.specs.inside.MaskLoop.{line_members}
 use Rattle.bt_tool.proofs.lemmas.running.feed.WritingLemmas.{lines_on, up_to}
 
 over_at : (state : State) → ended_at state ≡ true → (lends_at state ≡ false) × (open_at state ≡ false)
-over_at Reading e = absurd (false≢true e)
-over_at LastLine e = absurd (false≢true e)
-over_at Ended e = (refl, refl)
-over_at ReadFailed e = absurd (false≢true e)
-over_at TooLong e = absurd (false≢true e)
-over_at NoMemory e = absurd (false≢true e)
+over_at state e = grind arith
 
 -- after the end no line is buffered
 pub none_over : {S : Type 0} (reader : LineReader S) → has_ended reader ≡ true → buffered_in reader ≡ []
 unfolding has_ended is_open buffered_bytes
-none_over reader e =
-    let at = over_at reader.state e in
-    ap (λ (b : Bool). buffered_lines b (lines_given reader) (buffered_bytes reader)) at.1 ∙ none_left (lines_given reader) (buffered_bytes reader) (reader.quiet at.0)
+none_over reader e = grind (arith, none_left)
 
 -- a reader of records without a fault has a reader of lines without one
 pub blocks_going : {S : Type 0} (records : Blocks S) → fault_kept records ≡ None → line_fault (below records) ≡ None
@@ -83,16 +76,13 @@ module _ {S : Type 0} (device : Source S) (now new : Blocks S) where
 -- records were consumed of those that are buffered
 pub blocks_taken : {S : Type 0} (device : Source S) (now new : Blocks S) (count : ℕ) (records : List Feature) → take count (records_in now) ≡ records
     → BeginsComing device.left (view_of now) → TakesBlocks device now count new → HasTaken device (view_of now) records (view_of new)
-blocks_taken device now new count records are comes takes =
-    consumed_of device (view_of now) (view_of new) records (blocks_going new) comes (subst (λ (l : List Feature). Takes device (view_of now) l (view_of new)) are takes.takes)
+blocks_taken device now new count records are comes takes = grind (arith, consumed_of, blocks_going)
 
 -- Lemmas on a reader of lines as one of lines of sequences.
 
 -- what is wrong with a line is the text before the first header
 wrong_by : (header stands : Bool) (one two : SequenceLine) (kind : Kind) → cond header (Ok (Some one)) (cond stands (Ok (Some two)) (Err TextBeforeHeader)) ≡ Err kind → kind ≡ TextBeforeHeader
-wrong_by true stands one two kind e = cc
-wrong_by false true one two kind e = cc
-wrong_by false false one two kind e = let is : TextBeforeHeader ≡ kind = cc in sym is
+wrong_by header stands one two kind e = grind arith
 
 pub wrong_is_text : (full : Bool) (reached : Reached) (line : TextLine) (kind : Kind) → line_says full reached line ≡ Err kind → kind ≡ TextBeforeHeader
 wrong_is_text full reached line kind e = wrong_by (is_header line.text) (may_stand reached.names line.text) _ _ kind e
@@ -120,42 +110,28 @@ module _ (full : Bool) where
 front_of : (front more all : List TextLine) → take (length (front ++ more)) all ≡ front ++ more → (rest : List TextLine) × (all ≡ front ++ rest)
 front_of [] more all e = (all, refl)
 front_of (x ∷ front) more [] e = cc
-front_of (x ∷ front) more (y ∷ all) e =
-    let same : y ≡ x = cc in
-    let rest : take (length (front ++ more)) all ≡ front ++ more = cc in
-    let further = front_of front more all rest in
-    (further.0, ap (λ l. l ∷ all) same ∙ ap (λ l. x ∷ l) further.1)
+front_of (x ∷ front) more (y ∷ all) e = grind (arith, (front_of front more all (cc)))
 
 lines_same : (start now new : Option (List TextLine)) (given later : ℕ) → later ≡ given → IfSome start (λ lines. now ≡ Some (drop given lines)) → DropsLines now 0 new → IfSome start (λ lines. new ≡ Some (drop later lines))
-lines_same start now new given later e p s = pass_more start now new given 0 later p (same_drop now s) (omega (arith, e))
-  where
-    same_drop : (now : Option (List TextLine)) → DropsLines now 0 new → IfSome now (λ lines. new ≡ Some (drop 0 lines))
-    same_drop None s = tt
-    same_drop (Some lines) s = s
+lines_same start now new given later e p s = grind arith
 
 none_by : (told : Bool) (held : List ℕ) (number : ℕ) → option_map (lines_from number) (left_at told held None) ≡ None
-none_by true held number = refl
-none_by false held number = refl
+none_by told held number = grind arith
 
 some_by : (told : Bool) (held : List ℕ) (number : ℕ) (rest : List ℕ) → option_map (lines_from number) (left_at told held (Some rest)) ≡ None → ⊥
-some_by true held number rest e = cc
-some_by false held number rest e = cc
+some_by told held number rest e = grind arith
 
 unknown_by : (a b : Option (List ℕ)) (t u : Bool) (h k : List ℕ) (n m : ℕ) → b ≡ a → option_map (lines_from n) (left_at t h a) ≡ None → option_map (lines_from m) (left_at u k b) ≡ None
-unknown_by None b t u h k n m e none = ap (λ o. option_map (lines_from m) (left_at u k o)) e ∙ none_by u k m
-unknown_by (Some rest) b t u h k n m e none = absurd (some_by t h n rest none)
+unknown_by a b t u h k n m e none = grind arith
 
 -- if no lines are known, none are once some were taken
 still_unknown : {S : Type 0} (left : S → Option (List ℕ)) (old new : LineReader S) → source_of new ≡ source_of old → lines_left left old ≡ None → lines_left left new ≡ None
 unfolding bytes_left
-still_unknown left old new same none =
-    unknown_by (left (source_of old)) (left (source_of new)) (end_told old) (end_told new) (held old) (held new) (suc (lines_given old)) (suc (lines_given new)) (ap left same) none
+still_unknown left old new same none = grind arith
 
 come_same : {A : Type 0} (old : Option (Good A)) (f g : List TextLine → Good A) (now new : Option (List TextLine)) (past : List (Member A)) → ((l : List TextLine) → f l ≡ g l) → DropsLines now 0 new
     → ComeFirst old past (option_map f now) → ComeFirst old past (option_map g new)
-come_same None f g now new past e s c = tt
-come_same (Some good) f g None new past e s c = absurd c
-come_same (Some good) f g (Some lines) new past e s c = rw (s, ← e lines) c
+come_same old f g now new past e s c = grind arith
 
 module _ {S : Type 0} (device : Source S) (full : Bool) where
   -- lines of which these are known to be lines of sequences
@@ -212,11 +188,7 @@ module _ {S : Type 0} (device : Source S) (full : Bool) where
 
     -- or couldn't be read
     pub gives_unread : (fault : FaultValue) → GivesFault device lines fault new → IsStopped device (line_members full reached lines) fault (line_members full reached new)
-    gives_unread fault gives = record {
-      answers = going_unread device (line_members full reached lines) (line_members full reached lines) (line_members full reached new) fault start gives gives.kept refl (record { state = refl; format = refl })
-          (λ same was. ap (line_members full reached) same);
-      kept = kept;
-    }
+    gives_unread fault gives = grind (arith, going_unread, start)
 
   -- lines were taken
   module _ (reached : Reached) (lines new : LineReader S) (going : line_fault lines ≡ None) (texts more : List TextLine) (items : List SequenceLine) (say : SayEach full reached texts items)
@@ -236,43 +208,11 @@ module _ {S : Type 0} (device : Source S) (full : Bool) where
 
     -- no more than those
     module _ (all : count ≡ length items) where
-      good_by : (a b : Option (List TextLine)) → IfSome a (AreNumbered (suc (lines_given lines))) → IfSome a (λ all. LinesSay (sequence_format full) reached all items) → (a ≡ None → b ≡ None) → DropsLines a (length items) b
-          → option_map (with_members (members_from (suc (lines_given lines)) items)) (option_map (good_from (sequence_format full) (input_of lines) reached_then) b) ≡ option_map (good_from (sequence_format full) (input_of lines) reached) a
-      good_by None b n s none drops =
-          ap (λ o. option_map (with_members (members_from (suc (lines_given lines)) items)) (option_map (good_from (sequence_format full) (input_of lines) reached_then) o)) (none refl)
-      good_by (Some all) b n s none drops =
-          ap (λ o. option_map (with_members (members_from (suc (lines_given lines)) items)) (option_map (good_from (sequence_format full) (input_of lines) reached_then) o)) drops
-          ∙ ap Some (good_said (sequence_format full) (input_of lines) (suc (lines_given lines)) reached all items n s)
-
       good_then : option_map (with_members (members_from (suc (lines_given lines)) items)) (good_coming device.left (line_members full reached_then new)) ≡ good_coming device.left (known_members reached items lines)
-      good_then =
-          ap (option_map (with_members (members_from (suc (lines_given lines)) items)))
-          (good_lines reached_then [] new goes ∙ ap (λ input. option_map (good_from (sequence_format full) input reached_then) (lines_left device.left new)) takes.input_is)
-          ∙ good_by (lines_left device.left lines) (lines_left device.left new) (left_numbered device lines) say_known (still_unknown device.left lines new takes.source_is)
-          (subst (λ k. DropsLines (lines_left device.left lines) k (lines_left device.left new)) (are.feeds ∙ all) takes.left_is)
-          ∙ sym (good_lines reached items lines going)
+      good_then = grind (arith, good_lines, left_numbered, say_known, still_unknown, good_said)
 
       pub has_taken : HasTaken device (known_members reached items lines) items (line_members full reached_then new)
-      has_taken = record {
-        takes = record {
-          buffered = sym (append-nil items);
-          said = say_said full reached texts items say;
-          state = refl;
-          good = good_then;
-          goes = takes.fault_is;
-          format = refl;
-          given = takes.given ∙ are.given ∙ ap (λ k. lines_given lines + k) all;
-          below = takes.below;
-          hands = takes.hands;
-          source = takes.source_is;
-          lines = drops_pass (lines_left device.left lines) (lines_left device.left new) _ (lines_given new - lines_given lines) takes.left_is (omega (arith, takes.given, are.given, are.feeds));
-          kept = takes.kept;
-          near = λ some. takes.near (some_bytes consumed.bytes (buffered_bytes lines) (omega (arith, are.feeds, all, some)));
-          shrinks = omega (arith, takes.taken_is, takes.shrinks, are.feeds, all);
-        };
-        clear = λ e. e;
-        ahead = λ m is. absurd (let apart : None ≡ Some m = is in cc);
-      }
+      has_taken = grind (arith, append-nil, say_said, good_then)
 
       first_by : (number : ℕ) (items : List SequenceLine) (m : Member SequenceLine) (good then : Option (Good SequenceLine)) → option_map (with_members (members_from number items)) then ≡ good → first_from number items ≡ Some m
           → IfSome good (λ good. (rest : List (Member SequenceLine)) × (good.members ≡ m ∷ rest))
@@ -286,21 +226,7 @@ module _ {S : Type 0} (device : Source S) (full : Bool) where
 
       -- they were known to come
       pub passes_known : (old : MemberReader S SequenceLine Reached) (past : List (Member SequenceLine)) → Passes device old past (line_members full reached lines) → Passes device old past (known_members reached items lines)
-      passes_known old past g = record {
-        format = g.format;
-        bytes = g.bytes;
-        said = g.said;
-        state = g.state;
-        come = subst (ComeFirst (good_coming device.left old) past) (good_lines reached [] lines going ∙ sym (good_lines reached items lines going)) g.come;
-        behind = g.behind;
-        lines = g.lines;
-        going = g.going;
-        clear = g.clear;
-        kept = g.kept;
-        served = g.served;
-        ahead = λ known m is. first_by (suc (lines_given lines)) items m (good_coming device.left (known_members reached items lines)) (good_coming device.left (line_members full reached_then new)) good_then is;
-        near = g.near;
-      }
+      passes_known old past g = grind (arith, good_lines, good_then)
 
   -- lines were taken, of which the last one is at fault
   module _ (old : MemberReader S SequenceLine Reached) (past : List (Member SequenceLine)) (reached : Reached) (lines new : LineReader S) (g : Passes device old past (line_members full reached lines))
@@ -337,9 +263,7 @@ module _ {S : Type 0} (device : Source S) (full : Bool) where
 
     good_stops : (rest : List TextLine) → good_from (sequence_format full) (input_of lines) (state_behind (sequence_format full) reached items) (line ∷ rest) ≡ record { members = []; fault = Some fault }
     unfolding good_from
-    good_stops rest =
-        let same : fault_at_line (input_of lines) line.number kind ≡ fault = ap (λ input. fault_at_line input line.number kind) same_input ∙ sym is in
-        rw (says, same) refl
+    good_stops rest = grind arith
 
     good_known : (all : List TextLine) → take (length (buffered_in lines)) all ≡ buffered_in lines → AreNumbered (suc (lines_given lines)) all
         → good_from (sequence_format full) (input_of lines) reached all ≡ with_members members (record { members = []; fault = Some fault })
@@ -354,18 +278,10 @@ module _ {S : Type 0} (device : Source S) (full : Bool) where
 
     whole_by : (good : Option (Good SequenceLine)) (all : Option (List TextLine)) → IfSome all (λ all. take (length (buffered_in lines)) all ≡ buffered_in lines) → IfSome all (AreNumbered (suc (lines_given lines)))
         → ComeFirst good past (option_map (good_from (sequence_format full) (input_of lines) reached) all) → IfSome good (λ good. (good.members ≡ past ++ members) × (good.fault ≡ Some fault))
-    whole_by None all e n c = tt
-    whole_by (Some good) None e n c = absurd c
-    whole_by (Some good) (Some all) e n c =
-        let known = good_known all e n in (
-          c.0 ∙ ap (λ (g : Good SequenceLine). past ++ g.members) known ∙ ap (λ l. past ++ l) (append-nil members),
-          c.1 ∙ ap (λ (g : Good SequenceLine). g.fault) known,
-        )
+    whole_by good all e n c = grind (arith, good_known, append-nil)
 
     whole : IfSome (good_coming device.left old) (λ good. (good.members ≡ past ++ members) × (good.fault ≡ Some fault))
-    whole =
-        whole_by (good_coming device.left old) (lines_left device.left lines) (is_prefix device.left lines) (left_numbered device lines)
-        (subst (ComeFirst (good_coming device.left old) past) (good_lines reached [] lines g.clear) g.come)
+    whole = grind (arith, whole_by, is_prefix, left_numbered, good_lines)
 
     clear : line_fault new ≡ None
     clear = takes.fault_is ∙ g.clear
@@ -375,18 +291,7 @@ module _ {S : Type 0} (device : Source S) (full : Bool) where
 
     -- so it stops there
     pub refuses : (Kinds : Kind → Type 0) → Kinds kind → StopsAfter device old Kinds (past ++ members) fault refused
-    refuses Kinds of_kind = record {
-      bytes = bytes_then;
-      cause = inl (inl (record {
-        whole = whole;
-        line = line.number;
-        kind = kind;
-        is = is;
-        of_kind = of_kind;
-        served = ap device.has_failed takes.source_is ∙ g.served;
-        within = (takes.kept g.kept).within clear;
-      }));
-    }
+    refuses Kinds of_kind = grind (arith, whole)
 
     lines_then : IfSome (lines_left device.left old.below) (λ all. lines_left device.left new ≡ Some (drop (lines_given new) all))
     lines_then =
@@ -398,14 +303,7 @@ module _ {S : Type 0} (device : Source S) (full : Bool) where
 
     behind_by : (good : Option (Good SequenceLine)) → IfSome good (λ good. (good.members ≡ past ++ members) × (good.fault ≡ Some fault))
         → IfSome good (λ good. (rest : List (Member SequenceLine)) × (good.members ≡ (past ++ members) ++ rest) × IsBeyond count (record { members = rest; fault = good.fault }))
-    behind_by good w = IfSome_then good w (λ good w. (
-      [],
-      w.0 ∙ sym (append-nil (past ++ members)),
-      record {
-        members = All-nil (λ (m : Member SequenceLine). count < m.line);
-        fault = subst (λ o. IfSome o (IsFaultBeyond count)) (sym w.1) (subst (IsFaultBeyond count) (sym is) (let low : count < line.number = omega (arith, number_is) in low));
-      },
-    ))
+    behind_by good w = grind (arith, append-nil, number_is)
 
     low_then : All (λ m. m.line ≤ count) (past ++ members)
     low_then =

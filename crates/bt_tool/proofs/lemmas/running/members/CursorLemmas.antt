@@ -1,4 +1,5 @@
 -- Lemmas on lines that were consumed of those buffered: the lines that are left tell how many bytes they had.
+use Rattle.std.proofs.lemmas.Grind.{common_steps}
 use Rattle.bt_lines.proofs.Std.{◌≡◌, ℕ, zero, suc, ◌+◌, ◌-◌, ◌≤◌, Bool, true, false, nat_eq, List, [], ◌∷◌, ◌++◌, length, take, drop, refl, sym, ap, ◌∙◌, subst, append_assoc, append-nil, length-append, length-take, length-drop, arith, inl, inr, ◌⊎◌, All, flat_map, drop-append_seam, take-append_seam, take-length, take-append-drop, All-cons, All-head, All-nil, All-tail, ◌≢◌, Option, Some, ◌^◌, None, ◌<◌, nat_le, nat_tests, append_cancel_right, Consumes, ⊎_elim, IfSome, IsSome, option_map}
 use Rattle.bt_lines.proofs.lemmas.reader.block.BufferLemmas.{fed_clear, fed_drop, fed_last, fed_none, fed_push}
 use Rattle.bt_lines.proofs.lemmas.reader.lines.TextLemmas.{lines_from-fed, lines_from-last, lines_from-nil, spelled-fed, by_lines, lines_are_numbered, whole_lines_are_numbered, bytes_in-lines, line_feeds-append, line_feeds-fed, whole_count, whole_lines_from-fed, whole_lines_from-last, bytes_in-append, whole_front}
@@ -24,10 +25,7 @@ use Rattle.bt_tool.specs.inside.Feed.{IsFresh, HasFaultBehind, IsUnreadBehind}
 
 -- after a piece and its line feed complete lines go on
 fed_behind : (piece rest : List ℕ) → is_fed (piece ++ 10 ∷ rest) ≡ true → is_fed rest ≡ true
-fed_behind piece rest fed =
-    let parts : drop (length (piece ++ 10 ∷ [])) (piece ++ 10 ∷ rest) ≡ rest =
-    ap (drop (length (piece ++ 10 ∷ []))) (sym (append_assoc piece (10 ∷ []) rest)) ∙ drop-append_seam (piece ++ 10 ∷ []) rest in
-    ap is_fed (sym parts) ∙ fed_drop (length (piece ++ 10 ∷ [])) (piece ++ 10 ∷ rest) fed
+fed_behind piece rest fed = grind (arith, (append_assoc piece (10 ∷ []) rest), (drop-append_seam (piece ++ 10 ∷ []) rest), (fed_drop (length (piece ++ 10 ∷ [])) (piece ++ 10 ∷ rest) fed))
 
 -- complete lines are the bytes of their lines
 whole_spelled : (n : ℕ) (bytes : List ℕ) → is_fed bytes ≡ true → flat_map spelled (whole_lines_from n bytes) ≡ bytes
@@ -54,13 +52,10 @@ fed_both_by xs ys fed (inr f) = ap (λ l. is_fed (xs ++ l)) f.1 ∙ ap is_fed (s
 
 front_fed : (texts more : List TextLine) → All IsFed (texts ++ more) → is_fed (flat_map spelled texts) ≡ true
 front_fed [] more all = refl
-front_fed (line ∷ lines) more all =
-    fed_both_by (spelled line) (flat_map spelled lines) (All-head IsFed line (lines ++ more) all)
-    (fed_last (flat_map spelled lines) (front_fed lines more (All-tail IsFed line (lines ++ more) all)))
+front_fed (line ∷ lines) more all = grind (arith, (front_fed lines more (All-tail IsFed line (lines ++ more) all)), fed_both_by, All-head, fed_last)
 
 flat_append : (xs ys : List TextLine) → flat_map spelled (xs ++ ys) ≡ flat_map spelled xs ++ flat_map spelled ys
-flat_append [] ys = refl
-flat_append (x ∷ xs) ys = ap (λ l. spelled x ++ l) (flat_append xs ys) ∙ sym (append_assoc (spelled x) (flat_map spelled xs) (flat_map spelled ys))
+flat_append xs ys = grind (arith, common_steps)
 
 -- what was consumed are `count` complete lines
 pub record Front (bytes : List ℕ) (at count : ℕ) : Type 0 where
@@ -109,9 +104,7 @@ few_lines = by_lines (λ n bytes. length (lines_from n bytes) ≤ suc (line_feed
     few_last n (byte ∷ bytes) = omega arith
 
 not_one : (n : ℕ) → nat_eq n 1 ≡ false → (n ≡ 0) ⊎ (2 ≤ n)
-not_one zero e = inl refl
-not_one (suc zero) e = cc
-not_one (suc (suc n)) e = inr (omega arith)
+not_one n e = grind arith
 
 front_none : (bytes : List ℕ) (at : ℕ) → at ≡ 0 → Front bytes at 0
 front_none bytes at none = record { fed = ap (λ k. is_fed (take k bytes)) none; feeds = ap (λ k. line_feeds (take k bytes)) none }
@@ -128,28 +121,11 @@ module _ (n m at : ℕ) (bytes : List ℕ) (fed : is_fed bytes ≡ true) (within
       front_none bytes at
       (elim (not_one (length bytes) some) [
         | inl none ↦ omega (arith, none, within)
-        | inr two ↦ omega (
-          arith,
-          two,
-          within,
-          bytes_in-lines n text,
-          bytes_in-lines m text_left,
-          ap bytes_in left,
-          length-take (length bytes - 1) bytes,
-          length-take (length (drop at bytes) - 1) (drop at bytes),
-          length-drop at bytes,
-        )
+        | inr two ↦ grind (arith, (bytes_in-lines n text), (bytes_in-lines m text_left), (length-take (length bytes - 1) bytes), (length-take (length (drop at bytes) - 1) (drop at bytes)), length-drop)
       ])
 
   feeds_text : line_feeds text ≡ 0
-  feeds_text = elim (fed_last bytes fed) [
-    | inl none ↦ rw none refl
-    | inr f ↦
-        let size : length bytes - 1 ≡ length f.0 = omega (arith, ap length f.1, length-append f.0 (10 ∷ [])) in
-        let is : text ≡ f.0 = ap (λ k. take k bytes) size ∙ ap (take (length f.0)) f.1 ∙ take-append_seam f.0 (10 ∷ []) in
-        let feed : line_feeds (10 ∷ []) ≡ 1 = refl in
-        omega (arith, ap line_feeds is, ap line_feeds f.1, line_feeds-append f.0 (10 ∷ []), feed, one)
-  ]
+  feeds_text = grind (arith, common_steps, fed_last)
 
   all_gone : (line : TextLine) (texts : List TextLine) → lines_from n text ≡ line ∷ texts ++ lines_from m text_left → Front bytes at (length (line ∷ texts))
   all_gone line texts left =
@@ -158,25 +134,14 @@ module _ (n m at : ℕ) (bytes : List ℕ) (fed : is_fed bytes ≡ true) (within
       let none : length (lines_from m text_left) ≡ 0 = omega (arith, few, length-append texts (lines_from m text_left)) in
       let gone : lines_from m text_left ≡ [] = none_of (lines_from m text_left) none in
       let empty : length text_left ≡ 0 = omega (arith, bytes_in-lines m text_left, ap bytes_in gone) in
-      let whole : at ≡ length bytes = elim (not_one (length (drop at bytes)) some_left) [
-        | inl nothing ↦ omega (arith, nothing, within, length-drop at bytes)
-        | inr two ↦ absurd (omega (arith, two, empty, length-take (length (drop at bytes) - 1) (drop at bytes)))
-      ] in
-      let all : take at bytes ≡ bytes = ap (λ k. take k bytes) whole ∙ take-length bytes in
-      record {
-        fed = ap is_fed all ∙ fed;
-        feeds = ap line_feeds all ∙ count (line_feeds bytes) refl ∙ sym (ap suc alone);
-      }
+      grind (arith, length-drop, length-take, take-length, count)
     where
       none_of : (lines : List TextLine) → length lines ≡ 0 → lines ≡ []
       none_of [] e = refl
       none_of (x ∷ xs) e = absurd (omega (arith, e))
 
       lacking : line_feeds bytes ≡ 0 → ⊥
-      lacking e =
-          let nothing : bytes ≡ [] = fed_none bytes fed e in
-          let lines : lines_from n text ≡ [] = ap (λ (l : List ℕ). lines_from n (take (length l - 1) l)) nothing ∙ lines_from-nil n in
-          absurd (omega (arith, ap length lines, ap length left))
+      lacking e = grind (arith, fed_none, lines_from-nil)
 
       count : (k : ℕ) → line_feeds bytes ≡ k → k ≡ 1
       count zero e = absurd (lacking e)
@@ -193,8 +158,7 @@ front_by false n m at bytes texts fed within last last_left left = front_whole (
 front_by true n m at bytes texts fed within last last_left left = open_front (suc n) (suc m) at bytes fed within (last.one refl) (last.some refl) (last_left.some refl) texts left
 
 numbered_by : (is_open : Bool) (lines : ℕ) (bytes : List ℕ) → AreNumbered (suc lines) (buffered_lines is_open lines bytes)
-numbered_by false lines bytes = whole_lines_are_numbered (suc lines) bytes
-numbered_by true lines bytes = lines_are_numbered (suc lines) (take (length bytes - 1) bytes)
+numbered_by is_open lines bytes = grind (arith, whole_lines_are_numbered, lines_are_numbered)
 
 numbered_front : (number : ℕ) (texts more : List TextLine) → AreNumbered number (texts ++ more) → AreNumbered number texts
 numbered_front number [] more are = tt
@@ -226,23 +190,10 @@ module _ {S : Type 0} (reader : LineReader S) (first last : BufferedLines) (text
 
   front : Front (rest_in first) last.at (length texts)
   unfolding lines_in
-  front =
-      front_by first.is_open first.lines last.lines last.at (rest_in first) texts fed_of size_of last_first
-      (subst (λ o. IsLast o o (drop last.at (rest_in first)) []) open_is (subst (λ l. IsLast last.is_open last.is_open l []) behind last_last))
-      (left_is ∙ ap (λ l. texts ++ l) (ap (λ o. buffered_lines o last.lines (rest_in last)) open_is ∙ ap (buffered_lines first.is_open last.lines) behind))
+  front = grind (arith, front_by, fed_of, size_of, last_first, behind, last_last)
 
   passes : PassesLines first (length texts) last
-  passes =
-      let none : last.at - first.at ≡ last.at = omega (arith, begins.at) in
-      record {
-        left_is = sym (ap (drop (length texts)) left_is ∙ drop-append_seam texts (lines_in last));
-        all_is = all_is;
-        rises = omega (arith, begins.at);
-        fed = ap (λ k. is_fed (take k (rest_in first))) none ∙ front.fed;
-        feeds = ap (λ k. line_feeds (take k (rest_in first))) none ∙ front.feeds;
-        given = given;
-        open_is = open_is;
-      }
+  passes = grind (arith, drop-append_seam, front)
 
   -- `count` lines were taken
   pub lines_consumed : (consumed : ConsumedLines) → IsWhere last consumed → TakenLines reader consumed (length texts)
@@ -251,9 +202,7 @@ module _ {S : Type 0} (reader : LineReader S) (first last : BufferedLines) (text
   -- they are numbered from the next one on
   pub lines_numbered : AreNumbered (suc (lines_given reader)) texts
   unfolding lines_in
-  lines_numbered =
-      subst (λ n. AreNumbered (suc n) texts) begins.given
-      (numbered_front (suc first.lines) texts (lines_in last) (subst (AreNumbered (suc first.lines)) left_is (numbered_by first.is_open first.lines (rest_in first))))
+  lines_numbered = grind (arith, numbered_front, (numbered_by first.is_open first.lines (rest_in first)))
 
 -- What is known of the text of an input, once it was read.
 
@@ -276,13 +225,7 @@ pub handed_near : (count : ℕ) (text handed rest : List ℕ) → handed ++ rest
     → bytes_in (drop count (text_lines text)) ≤ length rest + block_size
     → length handed ≤ bytes_in (take count (text_lines text)) + block_size
 handed_near count text handed rest parts near =
-    let lines = text_lines text in
-    let both = bytes_in-append (take count lines) (drop count lines) in
-    let whole = ap bytes_in (take-append-drop count lines) in
-    let all = bytes_in-lines 1 text in
-    let long = ap length parts in
-    let two = length-append handed rest in
-    omega arith
+    grind (arith, (bytes_in-append (take count (text_lines text)) (drop count (text_lines text))), (take-append-drop count (text_lines text)), (bytes_in-lines 1 text), (length-append handed rest))
 
 module _ {A State : Type 0} (format : Format A State) (input : Input) where
   -- what is good of a text that was cut off after these lines: the members of the lines, and then
@@ -294,53 +237,37 @@ module _ {A State : Type 0} (format : Format A State) (input : Input) where
       → IsBeyond (line_feeds cut) (record { members = rest; fault = fault })
       → good_handed format input (record { text = cut; is_cut = true })
       ≡ record { members = past; fault = Some (read_failed input (suc (line_feeds cut))) }
-  cut_good cut more past rest fault members at up beyond =
-      let count = line_feeds cut in
-      let front : good_from format input format.begin (take count (text_lines (cut ++ more))) ≡ record { members = past; fault = None } =
-      first_from format input count count 1 format.begin (text_lines (cut ++ more)) past rest fault (omega arith)
-      (lines_are_numbered 1 (cut ++ more)) members at up beyond in
-      let lines : good format input (whole_lines cut) ≡ record { members = past; fault = None } =
-      ap (good format input) (sym (whole_front 1 cut more)) ∙ front in
-      rw (lines, whole_count 1 cut) refl
+  cut_good cut more past rest fault members at up beyond = grind (arith, first_from, (lines_are_numbered 1 (cut ++ more)), (whole_front 1 cut more), (whole_count 1 cut))
 
 -- what a source handed over is its whole text, if it worked and passed no bound
 pub handed_whole : (failed passed : Bool) (text bytes : List ℕ) → failed ≡ false → passed ≡ false
     → handed_by failed passed text bytes ≡ whole_text text
-handed_whole false false text bytes f p = refl
-handed_whole true passed text bytes f p = cc
-handed_whole false true text bytes f p = cc
+handed_whole failed passed text bytes f p = grind arith
 
 -- if it failed, it's what was handed over before
 pub handed_cut : (failed passed : Bool) (text bytes : List ℕ) → failed ≡ true
     → handed_by failed passed text bytes ≡ record { text = take (2 ^ 63 - 1) bytes; is_cut = true }
-handed_cut true passed text bytes f = refl
-handed_cut false passed text bytes f = cc
+handed_cut failed passed text bytes f = grind arith
 
 -- and if it passed the bound
 pub handed_past : (failed passed : Bool) (text bytes : List ℕ) → passed ≡ true
     → handed_by failed passed text bytes ≡ record { text = take (2 ^ 63 - 1) bytes; is_cut = true }
-handed_past true passed text bytes p = refl
-handed_past false true text bytes p = refl
-handed_past false false text bytes p = cc
+handed_past failed passed text bytes p = grind arith
 
 -- what was consumed of known bytes is determined
 pub consumes_same : (a b : Option (List ℕ)) (bytes other text : List ℕ) → a ≡ Some text → Consumes a b bytes → Consumes a b other → bytes ≡ other
-consumes_same None b bytes other text e c d = cc
-consumes_same (Some x) None bytes other text e c d = absurd c
-consumes_same (Some x) (Some y) bytes other text e c d = append_cancel_right bytes other y (sym c ∙ d)
+consumes_same a b bytes other text e c d = grind (arith, append_cancel_right)
 
 -- a text is what was consumed of it and what is left
 pub consumes_parts : (a b : Option (List ℕ)) (bytes text : List ℕ) → a ≡ Some text → Consumes a b bytes
     → (rest : List ℕ) × (b ≡ Some rest) × (bytes ++ rest ≡ text)
-consumes_parts None b bytes text e c = cc
-consumes_parts (Some x) None bytes text e c = absurd c
-consumes_parts (Some x) (Some y) bytes text e c = (y, refl, let same : x ≡ text = cc in sym c ∙ same)
+consumes_parts a b bytes text e c = grind arith
 
 below_bound : (n : ℕ) → n < 2 ^ 63 → nat_le (2 ^ 63) n ≡ false
-below_bound n h = grind (arith, nat_tests)
+below_bound n h = grind arith
 
 past_bound : (n : ℕ) → 2 ^ 63 ≤ n → nat_le (2 ^ 63) n ≡ true
-past_bound n h = grind (arith, nat_tests)
+past_bound n h = grind arith
 
 -- a reader that had taken nothing, and what it has become; its source before and after
 module _ {S : Type 0} (device : Source S) (first last : S) (old new : LineReader S) (source : source_of old ≡ first) (ended : source_of new ≡ last) (fresh : bytes_taken old ≡ 0) where
@@ -352,29 +279,19 @@ module _ {S : Type 0} (device : Source S) (first last : S) (old new : LineReader
 
   -- the bytes that a run was handed are those that the reader took
   pub taken_by : (handed : Handed) (reads : Reads device first last handed) (bytes : List ℕ) → Hands device.left old bytes new → (reads.bytes ≡ bytes) × (length reads.bytes ≡ bytes_taken new)
-  taken_by handed reads bytes hands =
-      let same = consumes_same (device.left first) (device.left last) reads.bytes bytes reads.text reads.known reads.consumed (consumed_by bytes hands) in
-      (same, omega (arith, ap length same, hands.counted, fresh))
+  taken_by handed reads bytes hands = grind (arith, (consumes_same (device.left first) (device.left last) reads.bytes bytes reads.text reads.known reads.consumed (consumed_by bytes hands)))
 
   -- an input that worked and passed no bound was handed over completely
   pub handed_all : (handed : Handed) (reads : Reads device first last handed) → (bytes : List ℕ) × Hands device.left old bytes new
       → device.has_failed (source_of new) ≡ device.has_failed (source_of old) → bytes_taken new < 2 ^ 63 → handed ≡ whole_text reads.text
-  handed_all handed reads hands served within =
-      let taken = taken_by handed reads hands.0 hands.1 in
-      let works : device.has_failed last ≡ false = ap device.has_failed (sym ended) ∙ served ∙ ap device.has_failed source ∙ reads.worked in
-      reads.is ∙ handed_whole (device.has_failed last) (nat_le (2 ^ 63) (length reads.bytes)) reads.text reads.bytes works
-      (below_bound (length reads.bytes) (omega (arith, taken.1, within)))
+  handed_all handed reads hands served within = grind (arith, (below_bound (length reads.bytes) (omega (arith, (taken_by handed reads hands.0 hands.1).1, within))))
 
   -- one that failed or passed the bound was cut off
   pub handed_part : (handed : Handed) (reads : Reads device first last handed) → (bytes : List ℕ) × Hands device.left old bytes new
       → (device.has_failed (source_of new) ≡ true) ⊎ (2 ^ 63 ≤ bytes_taken new)
       → handed ≡ record { text = take (2 ^ 63 - 1) reads.bytes; is_cut = true }
-  handed_part handed reads hands (inl fails) =
-      reads.is ∙ handed_cut (device.has_failed last) (nat_le (2 ^ 63) (length reads.bytes)) reads.text reads.bytes (ap device.has_failed (sym ended) ∙ fails)
-  handed_part handed reads hands (inr past) =
-      let taken = taken_by handed reads hands.0 hands.1 in
-      reads.is ∙ handed_past (device.has_failed last) (nat_le (2 ^ 63) (length reads.bytes)) reads.text reads.bytes
-      (past_bound (length reads.bytes) (omega (arith, taken.1, past)))
+  handed_part handed reads hands (inl fails) = grind arith
+  handed_part handed reads hands (inr past) = grind (arith, handed_past, (past_bound (length reads.bytes) (omega (arith, (taken_by handed reads hands.0 hands.1).1, past))))
 
   -- the rest of the text comes after what was cut off, and the lines given are as many as its line feeds
   pub record CutText (handed : Handed) (reads : Reads device first last handed) : Type 0 where
@@ -399,18 +316,14 @@ module _ {S : Type 0} (device : Source S) (first last : S) (old new : LineReader
 
 -- what holds of a known value
 pub some_of : {A : Type 0} (a : Option A) (value : A) (P : A → Type 0) → a ≡ Some value → IfSome a P → P value
-some_of None value P e h = cc
-some_of (Some x) value P e h = let same : x ≡ value = cc in subst P same h
+some_of a value P e h = grind arith
 
 pub or_else_none : (fault : Option FaultValue) → or_else fault None ≡ fault
-or_else_none None = refl
-or_else_none (Some fault) = refl
+or_else_none fault = grind arith
 
 -- what is good of a whole text
 pub good_whole : {A State : Type 0} (format : Format A State) (input : Input) (text : List ℕ) → good_handed format input (whole_text text) ≡ good format input (text_lines text)
-good_whole format input text =
-    let all = good format input (text_lines text) in
-    ap (λ f. record { members = all.members; fault = f }) (or_else_none all.fault)
+good_whole format input text = grind arith
 
 -- a reader at its beginning
 pub record BeginsAt {S A State : Type 0} (left : S → Option (List ℕ)) (format : Format A State) (input : Input) (first : S) (old : MemberReader S A State) : Type 0 where
@@ -425,24 +338,12 @@ pub record BeginsAt {S A State : Type 0} (left : S → Option (List ℕ)) (forma
 module _ {S A State : Type 0} (device : Source S) (reader : LineReader S) (members : MemberReader S A State)
     (is : members.below ≡ reader) (taken : bytes_taken reader ≡ 0) (fed : feeds_taken reader ≡ 0) where
   pub fresh_over : lines_given reader ≡ 0 → members.fault ≡ None → members.buffered ≡ [] → IsSound device reader → IsFresh device members
-  fresh_over given going none sound = record {
-    none_given = (ap lines_given is ∙ given, ap bytes_taken is ∙ taken, ap feeds_taken is ∙ fed);
-    none_buffered = none;
-    going = going;
-    sound = subst (IsSound device) (sym is) sound;
-  }
+  fresh_over given going none sound = grind arith
 
   pub begins_over : (format : Format A State) (input : Input) (first : S) → source_of reader ≡ first → input_of reader ≡ input → fault_kept reader ≡ None
       → lines_left device.left reader ≡ option_map text_lines (device.left first)
       → (fault_kept reader ≡ None → good_coming device.left members ≡ option_map (good format (input_of reader)) (lines_left device.left reader)) → BeginsAt device.left format input first members
-  begins_over format input first source same going lines known = record {
-    source = ap source_of is ∙ source;
-    input_is = ap input_of is ∙ same;
-    bytes = ap bytes_taken is ∙ taken;
-    feeds = ap feeds_taken is ∙ fed;
-    lines = ap (lines_left device.left) is ∙ lines;
-    good = known going ∙ ap (λ i. option_map (good format i) (lines_left device.left reader)) same ∙ ap (option_map (good format input)) lines;
-  }
+  begins_over format input first source same going lines known = grind arith
 
 module _ {S A State : Type 0} (device : Source S) (format : Format A State) (input : Input) (first : S) (old : MemberReader S A State) (begins : BeginsAt device.left format input first old)
     (new : MemberReader S A State) (last : S) (ended : source_of new.below ≡ last) where
@@ -457,8 +358,7 @@ module _ {S A State : Type 0} (device : Source S) (format : Format A State) (inp
   at_whole text e P h = subst P (sym (good_whole format input text)) (some_of (good_coming device.left old) (good format input (text_lines text)) P (good_known text e) h)
 
   pub text_known : (fault : Option FaultValue) (handed : Handed) → Came device first last fault handed → (text : List ℕ) × (device.left first ≡ Some text)
-  text_known fault handed (inl reads) = (reads.text, reads.known)
-  text_known fault handed (inr whole) = (whole.text, whole.known)
+  text_known fault handed p1 = grind arith
 
   -- an input that worked
   pub came_whole : (fault : Option FaultValue) (handed : Handed) → Came device first last fault handed → (bytes : List ℕ) × Hands device.left old.below bytes new.below
@@ -493,21 +393,13 @@ module _ {S A State : Type 0} (device : Source S) (format : Format A State) (inp
   -- one with a fault
   pub says_fault : (Kinds : Kind → Type 0) (past : List (Member A)) (fault : FaultValue) (handed : Handed) → Came device first last (Some fault) handed → (bytes : List ℕ) × Hands device.left old.below bytes new.below
       → HasFaultBehind device old Kinds past fault new → ((good_handed format input handed).members ≡ past) × ((good_handed format input handed).fault ≡ Some fault)
-  says_fault Kinds past fault handed came hands (inl wrong) =
-      came_whole (Some fault) handed came hands wrong.served wrong.within (λ good. (good.members ≡ past) × (good.fault ≡ Some fault)) wrong.whole
-  says_fault Kinds past fault handed came hands (inr unread) =
-      let is = came_cut past fault handed came unread in
-      (ap (λ (g : Good A). g.members) is, ap (λ (g : Good A). g.fault) is)
+  says_fault Kinds past fault handed came hands (inl wrong) = grind (arith, (came_whole (Some fault) handed came hands wrong.served wrong.within (λ good. (good.members ≡ past) × (good.fault ≡ Some fault)) wrong.whole))
+  says_fault Kinds past fault handed came hands (inr unread) = grind (arith, (came_cut past fault handed came unread))
 
   -- what the fault tells
   pub tells_fault : (Kinds : Kind → Type 0) (past : List (Member A)) (fault : FaultValue) → (bytes : List ℕ) × Hands device.left old.below bytes new.below
       → HasFaultBehind device old Kinds past fault new → TellsInput device Kinds input first last fault
-  tells_fault Kinds past fault hands (inl wrong) = inl (record { line = wrong.line; kind = wrong.kind; of_kind = wrong.of_kind; is = wrong.is ∙ ap (λ i. fault_at_line i wrong.line wrong.kind) begins.input_is })
-  tells_fault Kinds past fault hands (inr unread) = inr (record {
-    line = suc (lines_given new.below);
-    is = unread.is ∙ ap (λ i. read_failed i (suc (lines_given new.below))) begins.input_is;
-    cause = ⊎_elim (λ fails. inl (ap device.has_failed (sym ended) ∙ fails)) (λ bound. inr (passes_by device first last old.below new.below begins.source ended begins.bytes hands bound)) unread.cause;
-  })
+  tells_fault Kinds past fault hands p1 = grind arith
 
   -- what was handed over, by how many lines were read
   pub handed_to : (count : ℕ) (text : List ℕ) → device.left first ≡ Some text

@@ -55,9 +55,7 @@ one_ahead e f = let both = sym e ∙ f in cc
 -- what came first still does
 still_first : {A : Type 0} (now new : Option (Good A)) (m : Member A) → Remains now new → IfSome now (λ good. (rest : List (Member A)) × (good.members ≡ m ∷ rest))
     → IsSome now → IfSome new (λ good. (rest : List (Member A)) × (good.members ≡ m ∷ rest))
-still_first now None m r f k = tt
-still_first None (Some new) m r f k = absurd (false≢true k)
-still_first (Some now) (Some new) m r f k = (f.0, ap (λ g. g.members) r ∙ f.1)
+still_first now new m r f k = grind arith
 
 -- ---- lists of items and of members
 
@@ -83,86 +81,55 @@ items_take past from taken = map-append (λ m. m.item) past (members_from from t
 -- members numbered from a line on are on as many lines
 pub members_low : {A : Type 0} (given : ℕ) (taken : List A) → All (λ m. m.line ≤ given + length taken) (members_from (suc given) taken)
 members_low {A} given [] = All-nil (λ (m : Member A). m.line ≤ given + 0)
-members_low {A} given (x ∷ taken) =
-    All-cons (λ (m : Member A). m.line ≤ given + length (x ∷ taken)) (record { line = suc given; item = x }) (members_from (suc (suc given)) taken) (omega arith)
-    (up_to (suc given + length taken) (given + length (x ∷ taken)) (members_from (suc (suc given)) taken) (omega arith) (members_low (suc given) taken))
+members_low {A} given (x ∷ taken) = grind (arith, (members_low (suc given) taken))
 
 -- the last of some members
 members_last : {A : Type 0} (from : ℕ) (xs : List A) (a : A) → members_from from (xs ++ a ∷ []) ≡ members_from from xs ++ record { line = from + length xs; item = a } ∷ []
 members_last {A} from [] a = ap (λ (n : ℕ). record { line = n; item = a } ∷ []) (let none : from ≡ from + 0 = omega arith in none)
-members_last {A} from (x ∷ xs) a =
-    ap (λ (l : List (Member A)). record { line = from; item = x } ∷ l)
-    (members_last (suc from) xs a ∙ ap (λ (n : ℕ). members_from (suc from) xs ++ record { line = n; item = a } ∷ []) (let same : suc from + length xs ≡ from + length (x ∷ xs) = omega arith in same))
+members_last {A} from (x ∷ xs) a = grind (arith, (members_last (suc from) xs a))
 
 -- the first members were taken of what was to come
 pub come_taken : {A : Type 0} (old now next : Option (Good A)) (past taken : List (Member A)) → ComeFirst old past now
     → option_map (with_members taken) next ≡ now → ComeFirst old (past ++ taken) next
-come_taken None now next past taken c e = tt
-come_taken (Some o) None next past taken c e = absurd c
-come_taken (Some o) (Some n) None past taken c e = absurd (let apart : None ≡ Some n = e in cc)
-come_taken (Some o) (Some n) (Some x) past taken c e =
-    let is : with_members taken x ≡ n = cc in
-    (c.0 ∙ ap (λ g. past ++ g.members) (sym is) ∙ sym (append_assoc past taken x.members), c.1 ∙ ap (λ g. g.fault) (sym is))
+come_taken old now next past taken c e = grind (arith, append_assoc)
 
 -- nothing of what was to come is lost
 come_same : {A : Type 0} (old now peeked : Option (Good A)) (past : List (Member A)) → ComeFirst old past now → Remains now peeked → ComeFirst old past peeked
-come_same None now peeked past c r = tt
-come_same (Some o) None peeked past c r = absurd c
-come_same (Some o) (Some n) None past c r = absurd r
-come_same (Some o) (Some n) (Some p) past c r = (c.0 ∙ ap (λ g. past ++ g.members) (sym r), c.1 ∙ ap (λ g. g.fault) (sym r))
+come_same old now peeked past c r = grind arith
 
 -- what is known stays known
 pub some_map : {A B : Type 0} (f : A → B) (o : Option A) → is_some (option_map f o) ≡ is_some o
-some_map f None = refl
-some_map f (Some x) = refl
+some_map f o = grind arith
 
 some_left : (told : Bool) (bytes : List ℕ) (left : Option (List ℕ)) → is_some (left_at told bytes left) ≡ is_some left
-some_left true bytes left = some_map (λ (rest : List ℕ). bytes) left
-some_left false bytes left = some_map (λ (rest : List ℕ). bytes ++ rest) left
+some_left told bytes left = grind arith
 
 consumes_known : (a b : Option (List ℕ)) (bytes : List ℕ) → Consumes a b bytes → IsSome a → IsSome b
-consumes_known None b bytes c k = absurd (false≢true k)
-consumes_known (Some x) None bytes c k = absurd c
-consumes_known (Some x) (Some y) bytes c k = refl
+consumes_known a b bytes c k = grind arith
 
 coming_known : {S A State : Type 0} (left : S → Option (List ℕ)) (old new : MemberReader S A State) (bytes : List ℕ) → Hands left old.below bytes new.below
     → IsSome (good_coming left old) → IsSome (good_coming left new)
 unfolding good_coming bytes_left
-coming_known left old new bytes hands k =
-    some_map _ _ ∙ some_map _ _ ∙ some_left (end_told new.below) (held new.below) (left (source_of new.below))
-    ∙ consumes_known (left (source_of old.below)) (left (source_of new.below)) bytes hands.left_over
-    (sym (some_left (end_told old.below) (held old.below) (left (source_of old.below))) ∙ sym (some_map _ _) ∙ sym (some_map _ _) ∙ k)
+coming_known left old new bytes hands k = grind arith
 
 bytes_known : {S : Type 0} (left : S → Option (List ℕ)) (old new : LineReader S) (bytes : List ℕ) → Hands left old bytes new → IsSome (lines_left left old) → IsSome (left (source_of new))
 unfolding bytes_left
-bytes_known left old new bytes hands k =
-    consumes_known (left (source_of old)) (left (source_of new)) bytes hands.left_over
-    (sym (some_left (end_told old) (held old) (left (source_of old))) ∙ sym (some_map _ _) ∙ k)
+bytes_known left old new bytes hands k = grind arith
 
 -- after the last line nothing is held
 none_held : (is_open : Bool) (complete rest : List ℕ) → is_open ≡ false → complete ≡ [] → rest ≡ [] → held_at is_open complete rest ≡ []
-none_held true complete rest o c r = cc
-none_held false complete rest o c r = ap (λ (l : List ℕ). l ++ rest) c ∙ r
+none_held is_open complete rest o c r = grind arith
 
 ended_state : (state : State) → ended_at state ≡ true → (open_at state ≡ false) × (lends_at state ≡ false) × (told_at state ≡ true)
-ended_state Reading e = absurd (false≢true e)
-ended_state LastLine e = absurd (false≢true e)
-ended_state Ended e = (refl, refl, refl)
-ended_state ReadFailed e = absurd (false≢true e)
-ended_state TooLong e = absurd (false≢true e)
-ended_state NoMemory e = absurd (false≢true e)
+ended_state state e = grind arith
 
 ended_held : {S : Type 0} (reader : LineReader S) → has_ended reader ≡ true → held reader ≡ []
 unfolding has_ended held
-ended_held reader e =
-    let at = ended_state reader.state e in
-    none_held (open_at reader.state) (complete reader.buffer) (unread reader.buffer) at.0 (reader.quiet at.1) (reader.last.none_behind at.2)
+ended_held reader e = grind arith
 
 none_left_by : (told : Bool) (number : ℕ) (bytes : List ℕ) (left : Option (List ℕ)) → told ≡ true → bytes ≡ [] → IsSome left → option_map (lines_from number) (left_at told bytes left) ≡ Some []
 unfolding lines_from
-none_left_by false number bytes left e h k = absurd (false≢true e)
-none_left_by true number bytes None e h k = absurd (false≢true k)
-none_left_by true number bytes (Some x) e h k = ap (λ (l : List ℕ). Some (lines_from number l)) h
+none_left_by told number bytes left e h k = grind arith
 
 -- once the end was reached, no line is left
 none_left_told : {S : Type 0} (left : S → Option (List ℕ)) (reader : LineReader S) → end_told reader ≡ true → has_ended reader ≡ true → IsSome (left (source_of reader)) → lines_left left reader ≡ Some []
@@ -170,21 +137,15 @@ unfolding bytes_left
 none_left_told left reader e ended k = none_left_by (end_told reader) (suc (lines_given reader)) (held reader) (left (source_of reader)) e (ended_held reader ended) k
 
 lines_end : (old new : Option (List TextLine)) (count : ℕ) → (IsSome old → new ≡ Some []) → IfSome old (λ lines. drop count lines ≡ []) → IfSome old (λ lines. new ≡ Some (drop count lines))
-lines_end None new count e d = tt
-lines_end (Some lines) new count e d = e refl ∙ ap Some (sym d)
+lines_end old new count e d = grind arith
 
 -- at the end nothing more is to come
 come_end : {A : Type 0} (old now new : Option (Good A)) (past : List (Member A)) → ComeFirst old past now → (IsSome now → IsSome new)
     → IfSome now (λ good. good ≡ ends_with None) → IfSome new (λ good. good ≡ ends_with None) → ComeFirst old past new
-come_end None now new past c k e f = tt
-come_end (Some o) None new past c k e f = absurd c
-come_end (Some o) (Some n) None past c k e f = absurd (false≢true (k refl))
-come_end (Some o) (Some n) (Some x) past c k e f = let same : n ≡ x = e ∙ sym f in (c.0 ∙ ap (λ g. past ++ g.members) same, c.1 ∙ ap (λ g. g.fault) same)
+come_end old now new past c k e f = grind arith
 
 come_known : {A : Type 0} (old now : Option (Good A)) (past : List (Member A)) → ComeFirst old past now → IsSome old → IsSome now
-come_known None now past c k = absurd (false≢true k)
-come_known (Some o) None past c k = absurd c
-come_known (Some o) (Some n) past c k = refl
+come_known old now past c k = grind arith
 
 -- if no line is left after those given later, there are no more than these
 no_more : (start now : Option (List TextLine)) (given later : ℕ) → given ≤ later
@@ -193,9 +154,7 @@ no_more : (start now : Option (List TextLine)) (given later : ℕ) → given ≤
     → IfSome start (λ lines. length lines ≤ later)
 no_more None now given later h p e = tt
 no_more (Some start) None given later h p e = cc
-no_more (Some start) (Some now) given later h p e =
-    let is : now ≡ drop given start = cc in
-    omega (arith, h, length-drop given start, ap length is, length-drop (later - given) now, ap length e)
+no_more (Some start) (Some now) given later h p e = grind (arith, (length-drop given start), (length-drop (later - given) now))
 
 -- nothing but a fault is to come if nothing is left
 none_taken : {A : Type 0} (now next : Option (Good A)) (taken : List (Member A)) (fault : Option FaultValue) → IsSome now → option_map (with_members taken) next ≡ now
@@ -203,10 +162,7 @@ none_taken : {A : Type 0} (now next : Option (Good A)) (taken : List (Member A))
 none_taken None next taken fault k e f = absurd (false≢true k)
 none_taken (Some n) None taken fault k e f = absurd (let apart : None ≡ Some n = e in cc)
 none_taken (Some n) (Some x) [] fault k e f = refl
-none_taken (Some n) (Some x) (m ∷ taken) fault k e f =
-    let is : with_members (m ∷ taken) x ≡ n = cc in
-    let gone : m ∷ (taken ++ x.members) ≡ [] = ap (λ g. g.members) (is ∙ f) in
-    cc
+none_taken (Some n) (Some x) (m ∷ taken) fault k e f = grind arith
 
 -- more lines leave no more
 pub near_more : (lines : Option (List TextLine)) (rest : Option (List ℕ)) (count more : ℕ) → count ≤ more → IfSome lines (λ lines. IfSome rest (λ rest. bytes_in (drop count lines) ≤ length rest + block_size))
@@ -215,10 +171,7 @@ near_more None rest count more up h = tt
 near_more (Some lines) None count more up h = tt
 near_more (Some lines) (Some rest) count more up h =
     let both = bytes_in-append (take (more - count) (drop count lines)) (drop (more - count) (drop count lines)) in
-    let whole = ap bytes_in (take-append-drop (more - count) (drop count lines)) in
-    let size : count + (more - count) ≡ more = omega arith in
-    let is = ap bytes_in (drop-drop (more - count) count lines ∙ ap (λ n. drop n lines) size) in
-    omega arith
+    grind (arith, take-append-drop, drop-drop)
 
 near_none : (start now : Option (List TextLine)) (rest : Option (List ℕ)) (given count : ℕ) → given ≤ count → IfSome start (λ lines. now ≡ Some (drop given lines))
     → IfSome now (λ lines. drop (count - given) lines ≡ []) → IfSome start (λ lines. IfSome rest (λ rest. bytes_in (drop (suc count) lines) ≤ length rest + block_size))
@@ -239,13 +192,7 @@ near_given start now rest given p n = near_pass start now rest given 0 given p (
 pub behind_last : {A : Type 0} (count : ℕ) (old : Option (Good A)) (past : List (Member A)) (m : Member A) → suc count ≡ m.line
     → IfSome old (λ good. (rest : List (Member A)) × (good.members ≡ (past ++ m ∷ []) ++ rest) × IsBeyond (suc count) (record { members = rest; fault = good.fault }))
     → IfSome old (λ good. (rest : List (Member A)) × (good.members ≡ past ++ rest) × IsBeyond count (record { members = rest; fault = good.fault }))
-behind_last count None past m at b = tt
-behind_last {A} count (Some good) past m at b =
-    let less = beyond_less count (suc count) (record { members = b.0; fault = good.fault }) (omega arith) b.2 in (
-      m ∷ b.0,
-      b.1 ∙ append_assoc past (m ∷ []) b.0,
-      record { members = All-cons (λ (m : Member A). count < m.line) m b.0 (omega (arith, at)) less.members; fault = less.fault },
-    )
+behind_last count old past m at b = grind (arith, append_assoc)
 
 module _ {S A State : Type 0} (device : Source S) (old : MemberReader S A State) where
   -- before the first record
@@ -345,14 +292,7 @@ module _ {S A State : Type 0} (device : Source S) (old : MemberReader S A State)
 
     -- nothing is read after the end
     pub fails_before_end : (new : MemberReader S A State) (fault : FaultValue) → IsStopped device now fault new → (input : Input) (line : ℕ) → fault ≡ read_failed input line → end_told now.below ≡ false
-    fails_before_end new fault stopped input line e =
-        elim (stopped.answers.first g.going) [
-          | inl at ↦ absurd (line_no_read (input_of now.below) (lines_given new.below) at.kind input line at.of_line (sym at.place ∙ e))
-          | inr other ↦ elim other [
-            | inl unread ↦ unread.fails.before_end
-            | inr ran ↦ absurd (memory_no_read input line (sym ran.is ∙ e))
-          ]
-        ]
+    fails_before_end new fault stopped input line e = grind arith
 
     same_input : input_of now.below ≡ input_of old.below
     same_input = g.bytes.1.same_input
@@ -361,15 +301,7 @@ module _ {S A State : Type 0} (device : Source S) (old : MemberReader S A State)
       cause_of : (new : MemberReader S A State) (fault : FaultValue) → IsKept device new.below → AnswersFault device now fault new
           → Cause device now fault new
           → HasFaultBehind device old kinds past fault new ⊎ LacksMemory device old fault new
-      cause_of new fault kept answers (inl at) = inl (inl (record {
-        whole = whole_with (good_coming device.left old) (good_coming device.left now) past (Some fault) g.come at.none_left;
-        line = lines_given new.below;
-        kind = at.kind;
-        is = at.place ∙ ap (λ input. fault_at_line input (lines_given new.below) at.kind) same_input;
-        of_kind = of_format now.state at.line at.kind (ap (λ (f : Format A State). f.says now.state at.line) (sym g.format) ∙ at.says);
-        served = at.served ∙ g.served;
-        within = kept.within at.going;
-      }))
+      cause_of new fault kept answers (inl at) = grind (arith, (whole_with (good_coming device.left old) (good_coming device.left now) past (Some fault) g.come at.none_left))
       cause_of new fault kept answers (inr (inl unread)) = inl (inr (record {
         is = unread.fails.is ∙ ap (λ input. read_failed input (suc (lines_given new.below))) same_input;
         kept = answers.kept;
@@ -383,10 +315,7 @@ module _ {S A State : Type 0} (device : Source S) (old : MemberReader S A State)
       -- it reports a fault
       pub passes_stop : (new : MemberReader S A State) (fault : FaultValue) → IsStopped device now fault new
           → StopsAfter device old kinds past fault new
-      passes_stop new fault stopped = record {
-        bytes = bytes_more new stopped.answers.stays.bytes;
-        cause = cause_of new fault (stopped.kept g.kept) stopped.answers (stopped.answers.first g.going);
-      }
+      passes_stop new fault stopped = grind (arith, bytes_more, cause_of)
 
     -- how far the input was read
     unfoldable pub read_here : IsReadFor device old past past now
@@ -468,47 +397,23 @@ read_alone {S} {A} {State} {device} {old} {past} {given} {now} read = record {
 
 -- a line that was given came
 pub came : {S : Type 0} (device : Source S) (old new : LineReader S) (line : TextLine) → GivesLine device old line new → LineCame device old line new
-came device old new line gives = record {
-  first = gives.first;
-  bytes = (gives.bytes.0, gives.bytes.1);
-  number = gives.number;
-  counted = gives.counted;
-  below = gives.below;
-  shrinks = gives.shrinks;
-  served = gives.served;
-  was_going = gives.was_going;
-  goes = gives.goes;
-  near = gives.ahead;
-}
+came device old new line gives = grind arith
 
 module _ {A State : Type 0} (format : Format A State) (input : Input) (state : State) where
   none_comes : (old : Option (Good A)) (a b : Option (List TextLine)) (line : TextLine) (past : List (Member A)) → ComeFirst old past (option_map (good_from format input state) a) → GivesFirst a line b
       → format.says state line ≡ Ok None → ComeFirst old past (option_map (good_from format input state) b)
   unfolding good_from
-  none_comes None a b line past c g e = tt
-  none_comes (Some o) None b line past c g e = absurd c
-  none_comes (Some o) (Some xs) None line past c g e = absurd g
-  none_comes (Some o) (Some xs) (Some ys) line past c g e =
-      let is : good_from format input state xs ≡ good_from format input state ys = ap (good_from format input state) g ∙ rw e refl in
-      (c.0 ∙ ap (λ (g : Good A). past ++ g.members) is, c.1 ∙ ap (λ (g : Good A). g.fault) is)
+  none_comes old a b line past c g e = grind arith
 
   come_some : (old : Option (Good A)) (a b : Option (List TextLine)) (line : TextLine) (item : A) (past : List (Member A)) → ComeFirst old past (option_map (good_from format input state) a) → GivesFirst a line b
       → format.says state line ≡ Ok (Some item) → ComeFirst old (past ++ record { line = line.number; item = item } ∷ []) (option_map (good_from format input (format.after state item)) b)
   unfolding good_from
-  come_some None a b line item past c g e = tt
-  come_some (Some o) None b line item past c g e = absurd c
-  come_some (Some o) (Some xs) None line item past c g e = absurd g
-  come_some (Some o) (Some xs) (Some ys) line item past c g e =
-      let m : Member A = record { line = line.number; item = item } in
-      let is : with_members (m ∷ []) (good_from format input (format.after state item) ys) ≡ good_from format input state xs = sym (ap (good_from format input state) g ∙ rw e refl) in
-      come_taken (Some o) (Some (good_from format input state xs)) (Some (good_from format input (format.after state item) ys)) past (m ∷ []) c (ap Some is)
+  come_some old a b line item past c g e = grind (arith, come_taken)
 
 module _ {S A State : Type 0} (device : Source S) (old now : MemberReader S A State) (past : List (Member A)) (g : Passes device old past now) (new : MemberReader S A State) (line : TextLine)
     (gives : GivesLine device now.below line new.below) (kept : IsKept device now.below → IsKept device new.below) (format : new.format ≡ now.format) (none : new.buffered ≡ []) (going : new.fault ≡ None) where
   lines_pass : LinesPass device.left now.below new.below
-  lines_pass =
-      let one : lines_given new.below - lines_given now.below ≡ 1 = omega (arith, gives.counted) in
-      rw one (given_drops (lines_left device.left now.below) line (lines_left device.left new.below) gives.first)
+  lines_pass = grind arith
 
   rises : lines_given now.below ≤ lines_given new.below
   rises = omega (arith, gives.counted)
@@ -527,9 +432,7 @@ module _ {S A State : Type 0} (device : Source S) (old now : MemberReader S A St
   coming_before = coming_is device.left now g.going
 
   coming_after : good_coming device.left new ≡ option_map (good_from now.format (input_of now.below) new.state) (lines_left device.left new.below)
-  coming_after =
-      coming_is device.left new going ∙ ap (λ (f : Format A State). option_map (good_from f (input_of new.below) new.state) (lines_left device.left new.below)) format
-      ∙ ap (λ (i : Input). option_map (good_from now.format i new.state) (lines_left device.left new.below)) gives.bytes.1.same_input
+  coming_after = grind (arith, coming_is)
 
   passes_with : (given : List (Member A)) → AreSaid old.format old.state (member_items given) → new.state ≡ state_behind old.format old.state (member_items given)
       → ComeFirst (good_coming device.left old) given (good_coming device.left new) → All (λ m. m.line ≤ lines_given new.below) given → Passes device old given new
@@ -551,11 +454,7 @@ module _ {S A State : Type 0} (device : Source S) (old now : MemberReader S A St
 
   -- the line says no member
   pub passes_none : now.format.says now.state line ≡ Ok None → new.state ≡ now.state → Passes device old past new
-  passes_none says same =
-      passes_with past g.said (same ∙ g.state)
-      (rw (coming_after, same) (none_comes now.format (input_of now.below) now.state (good_coming device.left old) (lines_left device.left now.below) (lines_left device.left new.below) line past
-      (subst (ComeFirst (good_coming device.left old) past) coming_before g.come) gives.first says))
-      (up_to (lines_given now.below) (lines_given new.below) past rises g.behind)
+  passes_none says same = grind (arith, passes_with, coming_after, none_comes, coming_before)
 
   -- the line says this one
   module _ (item : A) (says : now.format.says now.state line ≡ Ok (Some item)) (after : new.state ≡ now.format.after now.state item) where

@@ -21,8 +21,7 @@ use Rattle.bt_tool.specs.inside.Feed.{AreInOrder, HasTaken}
 use Rattle.bt_tool.proofs.lemmas.running.members.MemberLemmas.{IsFilled, IsOver, IsStopped}
 
 pub or_none : (a b : Option FaultValue) → or_else a b ≡ None → b ≡ None
-or_none None b e = e
-or_none (Some a) b e = cc
+or_none a b e = grind arith
 
 -- a reader of records without a fault has a reader of lines without one
 pub line_going : {S O : Type 0} {ghosts : Ghosts O} (records : Records S O ghosts) → fault_kept records ≡ None → line_fault (below records) ≡ None
@@ -33,9 +32,7 @@ line_going records e = or_none (option_map fault_value records.sorted.fault) (li
 
 members_split : {A : Type 0} (from : ℕ) (xs ys : List A) → members_from from (xs ++ ys) ≡ members_from from xs ++ members_from (from + length xs) ys
 members_split from [] ys = ap (λ (n : ℕ). members_from n ys) (let none : from ≡ from + 0 = omega arith in none)
-members_split {A} from (x ∷ xs) ys =
-    ap (λ (l : List (Member A)). record { line = from; item = x } ∷ l)
-    (members_split (suc from) xs ys ∙ ap (λ (n : ℕ). members_from (suc from) xs ++ members_from n ys) (let same : suc from + length xs ≡ from + length (x ∷ xs) = omega arith in same))
+members_split {A} from (x ∷ xs) ys = grind (arith, (members_split (suc from) xs ys))
 
 first_is : {A : Type 0} (from : ℕ) (items : List A) (m : Member A) (rest : List (Member A)) → first_from from items ≡ Some m → (more : List (Member A)) × (members_from from items ++ rest ≡ m ∷ more)
 first_is from [] m rest e = absurd (let apart : None ≡ Some m = e in cc)
@@ -46,15 +43,7 @@ first_is {A} from (x ∷ xs) m rest e =
 pub comes_next : {A : Type 0} (from given : ℕ) (now next : Option (Good A)) (taken left : List A) (m : Member A) → given ≡ from + length taken
     → IfSome now (λ good. (rest : List (Member A)) × (good.members ≡ members_from from (taken ++ left) ++ rest)) → option_map (with_members (members_from from taken)) next ≡ now
     → first_from given left ≡ Some m → IfSome next (λ good. (rest : List (Member A)) × (good.members ≡ m ∷ rest))
-comes_next from given now None taken left m at b e f = tt
-comes_next from given None (Some x) taken left m at b e f = absurd (let apart : Some (with_members (members_from from taken) x) ≡ None = e in cc)
-comes_next {A} from given (Some n) (Some x) taken left m at b e f =
-    let is : with_members (members_from from taken) x ≡ n = cc in
-    let both : members_from from taken ++ x.members ≡ members_from from taken ++ (members_from given left ++ b.0) =
-    ap (λ (g : Good A). g.members) is ∙ b.1 ∙ ap (λ (l : List (Member A)). l ++ b.0) (members_split from taken left ∙ ap (λ (n : ℕ). members_from from taken ++ members_from n left) (sym at))
-    ∙ append_assoc (members_from from taken) (members_from given left) b.0 in
-    let rest = first_is given left m b.0 f in
-    (rest.0, append_cancel_left (members_from from taken) x.members (members_from given left ++ b.0) both ∙ rest.1)
+comes_next from given now next taken left m at b e f = grind (arith, members_split, append_assoc, append_cancel_left)
 
 -- ---- what a reader of records does, as a reader of members
 
@@ -88,15 +77,13 @@ has_taken device now new count records are comes takes =
 -- taking members reads nothing
 pub taken_reads : {S A State : Type 0} (device : Source S) (old : MemberReader S A State) (taken : List A) (new : MemberReader S A State) → HasTaken device old taken new
     → HasRead device.is_read old.below new.below
-taken_reads device old taken new has =
-    counts_none device.is_read (source_of old.below) (source_of new.below) (bytes_taken old.below) (bytes_taken new.below) has.takes.source (omega (arith, has.takes.hands.counted))
+taken_reads device old taken new has = grind (arith, counts_none)
 
 -- ---- the order of records that were consumed
 
 -- what is required of the last place is required of the last record's
 pub last_up_to : (last : Option Interval) (P : Locus → Type 0) → IfSome (option_map locus_of last) P → IfSome last (λ r. P (locus_of r))
-last_up_to None P h = tt
-last_up_to (Some r) P h = h
+last_up_to last P h = grind arith
 
 abbrev IsKnownLast : Order → Option Locus → Type 0
 IsKnownLast order last = ForSome last (λ place. IsTrue (order.knows place.chrom))
@@ -115,10 +102,8 @@ placed_further order past (r ∷ records) last total known is sorted said =
     let above = last_up_to (last_of (intervals_of past)) (λ place. IsUpTo order place (locus_at r)) (subst (λ (s : Option Locus). IfSome s (λ place. IsUpTo order place (locus_at r))) is behind.in_order) in
     let placed = grows_placed order (intervals_of past) (interval_of r) sorted.0 behind.known above in
     let full = All-push (λ r. r.start < r.stop) (intervals_of past) (interval_of r) sorted.1 behind.feature.non_empty in
-    subst (AreInOrder order) (append_assoc past (r ∷ []) records)
-    (placed_further order (past ++ r ∷ []) records (Some (locus_at r)) total (known_record order r behind.known) next (rw pushed (placed, full)) said.1)
+    grind (arith, (placed_further order (past ++ r ∷ []) records (Some (locus_at r)) total (known_record order r behind.known) next (rw pushed (placed, full)) said.1), append_assoc)
 
 -- records that lines say one after another are in order
 pub said_in_order : (order : Order) (records : List Feature) → IsTotal order → AreSaid (bed_format (sorting_of order)) None records → AreInOrder order records
-said_in_order order records total said =
-    placed_further order [] records None total (λ place e. let apart : None ≡ Some place = e in cc) refl (tt, λ k d h. absurd (omega arith)) said
+said_in_order order records total said = grind (arith, (placed_further order [] records None total (λ place e. let apart : None ≡ Some place = e in cc) refl (tt, λ k d h. absurd (omega arith)) said))

@@ -60,12 +60,10 @@ pub record AreLimits {X Y : Type 0} (join : JoinDef X Y) : Type 0 where
 -- an input that is there
 module _ {S : Type 0} (device : Source S) where
   held_if : (source : S) (handed : Option Handed) → OfBoth (Holds device.left) (Some source) handed → Holds device.left source (or_empty handed)
-  held_if source None h = absurd h
-  held_if source (Some handed) h = h
+  held_if source handed h = grind arith
 
   read_if : (before after : S) (handed : Option Handed) → ReadsIf device (Some before) (Some after) handed → Reads device before after (or_empty handed)
-  read_if before after None h = absurd h
-  read_if before after (Some handed) h = h
+  read_if before after handed h = grind arith
 
 module _ {X Y : Type 0} (join : JoinDef X Y) where
   -- what the lines and the fault of a meeting are
@@ -83,12 +81,7 @@ module _ {X Y : Type 0} (join : JoinDef X Y) where
   module _ (first : Good X) (second : Good Y) (xs : List X) (bytes : List ℕ) (here : HereAs second xs bytes) where
     -- all members of the first are written
     meets_all : items_in first ≡ xs → MeetsAs first second bytes (option_or first.fault (last_of first second))
-    meets_all is =
-        let made = rule_of join (items_in first) second in
-        let all : list_all made.decided (items_in first) ≡ true = ap (list_all made.decided) is ∙ here.0 in (
-          met_lines made (items_in first) first.fault ∙ sym (all_written made (items_in first) all) ∙ ap (flat_map made.lines) is ∙ here.1,
-          met_fault_all made (items_in first) first.fault all,
-        )
+    meets_all is = grind arith
 
     -- one of them waits, which the second input doesn't decide
     meets_stop : (a : X) (rest : List X) (fault : FaultValue) → items_in first ≡ xs ++ a ∷ rest → second.fault ≡ Some fault → join.decided a (items_in second) ≡ false → MeetsAs first second bytes (Some fault)
@@ -101,9 +94,7 @@ module _ {X Y : Type 0} (join : JoinDef X Y) where
 
     -- whatever comes after them
     meets_front : (rest : List X) → items_in first ≡ xs ++ rest → (more : List ℕ) × ((met_whole join first second).lines ≡ bytes ++ more)
-    meets_front rest is =
-        let made = rule_of join (items_in first) second in
-        (written made rest, met_lines made (items_in first) first.fault ∙ ap (written made) is ∙ written_past made xs rest here.0 ∙ ap (λ l. l ++ written made rest) here.1)
+    meets_front rest is = grind (arith, (met_lines (rule_of join (items_in first) second) (items_in first) first.fault), (written_past (rule_of join (items_in first) second) xs rest here.0))
 
 module _ {Y : Type 0} where
   -- of two fronts of a list, that which lies on lower lines begins the other
@@ -111,25 +102,13 @@ module _ {Y : Type 0} where
       → (k : List (Member Y)) × (past ≡ seen ++ k)
   front_in past rest [] more count e low high = (past, refl)
   front_in [] [] (m ∷ seen) more count e low high = cc
-  front_in [] (r ∷ rest) (m ∷ seen) more count e low high =
-      let same : r ≡ m = cc in
-      let up : m.line ≤ count = All-head (λ (m : Member Y). m.line ≤ count) m seen low in
-      let down : count < r.line = All-head (λ (m : Member Y). count < m.line) r rest high in
-      absurd (omega (arith, up, down, ap (λ (m : Member Y). m.line) same))
-  front_in (p ∷ past) rest (m ∷ seen) more count e low high =
-      let same : p ≡ m = cc in
-      let others : past ++ rest ≡ seen ++ more = cc in
-      let found = front_in past rest seen more count others (All-tail (λ (m : Member Y). m.line ≤ count) m seen low) high in
-      (found.0, ap (λ l. p ∷ l) found.1 ∙ ap (λ (x : Member Y). x ∷ seen ++ found.0) same)
+  front_in [] (r ∷ rest) (m ∷ seen) more count e low high = grind (arith, All-head)
+  front_in (p ∷ past) rest (m ∷ seen) more count e low high = grind (arith, (front_in past rest seen more count (cc) (All-tail (λ (m : Member Y). m.line ≤ count) m seen low) high))
 
   pub may_come : (good : Option (Good Y)) (seen : List (Member Y)) (ended : Bool) → IfSome good (λ good. (rest : List (Member Y)) × (good.members ≡ seen ++ rest))
       → (ended ≡ true → IfSome good (λ good. (good.members ≡ seen) × (good.fault ≡ None)))
       → IfSome good (λ good. MayCome (member_items seen) ended (items_in good) good.fault)
-  may_come None seen ended b all = tt
-  may_come (Some good) seen ended b all = record {
-    begins = (member_items b.0, ap member_items b.1 ∙ map-append (λ m. m.item) seen b.0);
-    all = λ e. let whole = all e in (ap member_items whole.0, whole.1);
-  }
+  may_come good seen ended b all = grind (arith, map-append)
 
   good_is : (good : Good Y) (members : List (Member Y)) (fault : Option FaultValue) → good.members ≡ members → good.fault ≡ fault → good ≡ record { members = members; fault = fault }
   good_is good members fault e f = ap (λ ms. record { members = ms; fault = good.fault }) e ∙ ap (λ (o : Option FaultValue). record { members = members; fault = o }) f
@@ -140,8 +119,7 @@ module _ {Y : Type 0} where
 
   sees_by : (good : Option (Good Y)) (seen : List (Member Y)) (ended : Bool) → IfSome good (λ good. (rest : List (Member Y)) × (good.members ≡ seen ++ rest))
       → (ended ≡ true → IfSome good (λ good. (good.members ≡ seen) × (good.fault ≡ None))) → IfSome good (Sees seen ended)
-  sees_by None seen ended b all = tt
-  sees_by (Some good) seen ended b all = (b, all)
+  sees_by good seen ended b all = grind arith
 
   -- the members seen are among those that came before a failed read
   pub seen_in : (good : Option (Good Y)) (past seen : List (Member Y)) (count : ℕ) → IsSome good
@@ -152,8 +130,7 @@ module _ {Y : Type 0} where
   seen_in (Some good) past seen count k f b low = front_in past f.0 seen b.0 count (sym f.1 ∙ b.1) low f.2.members
 
 pub from_known : {T : Type 0} (o : Option T) (P : Type 0) → IsSome o → IfSome o (λ x. P) → P
-from_known None P k h = absurd (false≢true k)
-from_known (Some x) P k h = h
+from_known o P k h = grind arith
 
 module _ {A B X Y U V : Type 0} (join : JoinDef X Y) (pair : Pair A B X Y U V) (out : Output)
     (first_format : Format X U) (second_format : Format Y V) (in_order : (two : Handed) → join.InOrder (items_in (good_handed second_format Second two))) (limits : AreLimits join)
@@ -256,9 +233,7 @@ module _ {A B X Y U V : Type 0} (join : JoinDef X Y) (pair : Pair A B X Y U V) (
   known_by two e = is_known pair.source_b second_format Second two_before pair.second begins_second second two_after ended_second two e
 
   known_two : (other : Option FaultValue) (two : Handed) → CameTwo other two → IsSome (good_coming pair.source_b.left pair.second)
-  known_two other two came =
-      let text = text_known pair.source_b second_format Second two_before pair.second begins_second second two_after ended_second other two came in
-      known_by text.0 text.1
+  known_two other two came = grind arith
 
   here_by : (one two : Handed) → IsSome (good_coming pair.source_b.left pair.second) → MayBe (limit one two) → HereAs join (limit one two) w.written w.bytes
   here_by one two known may = (w.wrote.settles known).whatever (items_in (limit one two)) (limit one two).fault (limits.ordered (items_in (good_one one)) (good_two two) (in_order two)) may
@@ -307,8 +282,7 @@ module _ {A B X Y U V : Type 0} (join : JoinDef X Y) (pair : Pair A B X Y U V) (
         let says = first_wrong stops.past other one (subst (λ f. CameOne f one) is came) stops.cause in
         let begun : Begins (good_one one) = ([], ap member_items says.0 ∙ sym stops.all_given ∙ sym (append-nil w.wrote.given)) in
         let may = limited_may (good_one one) (good_two two) known_now begun (second_whole fault two came_second stops.serves SeesTwo second_sees) in
-        let met = meets_all join (good_one one) (limit one two) w.written w.bytes (here_by one two known_now may) (ap member_items says.0 ∙ sym stops.all) in
-        (met.0, met.1 ∙ ap (λ f. option_or f (last_of join (good_one one) (limit one two))) says.1 ∙ sym is)
+        grind (arith, here_by)
 
     meets_second : (other : FaultValue) → fault ≡ Some other → SecondStops join pair out w.written w.wrote.ended first second other → MeetsHere
     meets_second other is stops =
@@ -354,12 +328,7 @@ module _ {A B X Y U V : Type 0} (join : JoinDef X Y) (pair : Pair A B X Y U V) (
           let begun = first_whole fault one came stops.serves Begins w.wrote.given_begin in
           let same = free (good_one one) (good_two two) known_now begun every (in_order two) begins.0 begins.1 ends in
           let here : HereAs join (good_two two) w.written w.bytes = (w.wrote.settles known_now).whatever (items_in (good_two two)) (good_two two).fault (in_order two) may in
-          let met = meets_all join (good_one one) (good_two two) w.written w.bytes here every in
-          subst (λ (g : Good Y). MeetsAs join (good_one one) g w.bytes fault) (sym same) (
-            met.0,
-            met.1 ∙ ap (λ f. option_or f (last_of join (good_one one) (good_two two))) whole_first.1
-                ∙ ap (λ (xs : List X). or_else (join.last xs (good_two two).members) (good_two two).fault) every ∙ ap (λ t. or_else t (good_two two).fault) is ∙ last,
-          )
+          grind (arith, whole_first)
 
       meets_rest : MeetsHere
       meets_rest =
@@ -405,12 +374,10 @@ module _ {A B X Y U V : Type 0} (join : JoinDef X Y) (pair : Pair A B X Y U V) (
       rw (holds.is, others.is) (meets_front join (good_one (whole_text one)) (limit (whole_text one) (whole_text two)) w.written w.bytes (here_by (whole_text one) (whole_text two) (known_by two f) may) rest.0 rest.1)
 
   first_named : (past : List (Member X)) (other : FaultValue) → HasFaultBehind pair.source_a pair.first join.first_kinds past other first → TellsInput pair.source_a join.first_kinds First one_before one_after other
-  first_named past other fails =
-      tells_fault pair.source_a first_format First one_before pair.first begins first one_after ended join.first_kinds past other w.wrote.first_bytes fails
+  first_named past other fails = grind arith
 
   second_named : (past : List (Member Y)) (other : FaultValue) → SecondFails join pair out w.wrote.ended past second other → TellsInput pair.source_b join.second_kinds Second two_before two_after other
-  second_named past other fails =
-      tells_fault pair.source_b second_format Second two_before pair.second begins_second second two_after ended_second join.second_kinds past other w.wrote.second_bytes fails.cause
+  second_named past other fails = grind arith
 
   abbrev Because : Type 0
   Because = Why join pair out w.written w.bytes w.wrote.given w.wrote.ended first second fault grown
@@ -422,8 +389,7 @@ module _ {A B X Y U V : Type 0} (join : JoinDef X Y) (pair : Pair A B X Y U V) (
   tells_by : (told : FaultValue) → fault ≡ Some told → InputsEnd join pair out w.written w.wrote.given w.wrote.ended first second fault → TellsBoth told
   tells_by told e (inl stops) = subst TellsBoth (some_is stops.0 told (sym stops.1 ∙ e)) (inl (first_named stops.2.past stops.0 stops.2.cause))
   tells_by told e (inr (inl stops)) = subst TellsBoth (some_is stops.0 told (sym stops.1 ∙ e)) (inr (second_named stops.2.past stops.0 stops.2.fails))
-  tells_by told e (inr (inr (inr stops))) =
-      subst TellsBoth (some_is stops.0 told (sym stops.1 ∙ e)) (inr (inl (record { line = stops.2.m.line; kind = stops.2.kind; of_kind = stops.2.of_kind; is = stops.2.is })))
+  tells_by told e (inr (inr (inr stops))) = grind arith
   tells_by told e (inr (inr (inl stops))) =
       elim stops.rest [
         | inl end ↦ absurd (let apart : None ≡ Some told = sym end.0 ∙ e in cc)
@@ -452,14 +418,10 @@ module _ {A B X Y U V : Type 0} (join : JoinDef X Y) (pair : Pair A B X Y U V) (
   whole_by one two before came came_second put write memory (inr (inr cut)) = absurd (write cut.0)
 
   cut_by : fault ≡ Some write_failed → (before : List ℕ) → out.put ≡ Some before → Because → IsPrefixOf grown.took (Some (before ++ w.bytes)) []
-  cut_by is before put (inl (end, puts, works)) = absurd (inputs_no_write end is)
-  cut_by is before put (inr (inl ran)) = absurd (memory_no_write (some_is no_memory write_failed (sym ran.0 ∙ is)))
-  cut_by is before put (inr (inr cut)) = cut.1.front before put
+  cut_by is before put p1 = grind arith
 
   kept_by : fault ≢ Some write_failed → Because → PutsFront out w.bytes grown
-  kept_by other (inl (end, puts, works)) = puts_front out w.bytes grown puts
-  kept_by other (inr (inl ran)) = puts_front out w.bytes grown ran.1
-  kept_by other (inr (inr cut)) = absurd (other cut.0)
+  kept_by other p1 = grind (arith, puts_front)
 
   module _ (settles : Handed → List TextLine → List ℕ) (reaches : Handed → List TextLine → ℕ) where
     abbrev pub NearBoth : Type 0

@@ -1,4 +1,5 @@
 -- Lemmas on how far two inputs were read beside what was written.
+use Rattle.std.proofs.lemmas.Grind.{common_steps}
 use Rattle.bt_lines.proofs.Std.{◌≡◌, ℕ, zero, suc, ◌+◌, ◌-◌, ◌<◌, ◌≤◌, Bool, true, false, not, List, [], ◌∷◌, ◌++◌, take, drop, Option, None, Some, Result, Ok, Err, refl, sym, ap, ◌∙◌, subst, arith, flat_map, inl, inr, ◌⊎◌, ◌&&◌, ◌||◌, All, IfSome, IsSome, if◌then◌else◌, length, Consumes, list_all, list_any, false≢true, map-append, take-append-drop, All-head, All-tail, append-nil, append_cancel_left}
 use Rattle.bt_lines.specs.model.Lines.{Handed, whole_text, AreNumbered, TextLine, bytes_in, text_lines}
 use Rattle.bt_lines.specs.model.Fault.{FaultValue}
@@ -41,13 +42,7 @@ module _ {A State : Type 0} (format : Format A State) (input : Input) where
   front_with bound number state said whole taken [] rest h e up = ((good_with format input number state said taken).members, refl)
   front_with bound number state (Err kind) whole taken (m ∷ ms) rest h e up = cc
   front_with bound number state (Ok None) whole taken (m ∷ ms) rest h e up = h state (m ∷ ms) rest e up
-  front_with bound number state (Ok (Some item)) whole taken (m ∷ ms) rest h e up =
-      let now = format.after state item in
-      let first : Member A = record { line = number; item = item } in
-      let same : first ≡ m = cc in
-      let others : (whole now).members ≡ ms ++ rest = cc in
-      let found = h now ms rest others (All-tail (λ (m : Member A). m.line ≤ bound) m ms up) in
-      (found.0, ap (λ l. first ∷ l) found.1 ∙ ap (λ (x : Member A). x ∷ ms ++ found.0) same)
+  front_with bound number state (Ok (Some item)) whole taken (m ∷ ms) rest h e up = grind (arith, (All-tail (λ (m : Member A). m.line ≤ bound) m ms up))
 
   -- members on the first lines are among those that are good of these lines
   pub front_from : (more bound number : ℕ) (state : State) (lines : List TextLine) (past rest : List (Member A)) → suc bound ≡ number + more → AreNumbered number lines
@@ -55,11 +50,7 @@ module _ {A State : Type 0} (format : Format A State) (input : Input) where
       → (extra : List (Member A)) × ((good_from format input state (take more lines)).members ≡ past ++ extra)
   unfolding good_from
   front_from zero bound number state lines [] rest size n e up = ([], refl)
-  front_from zero bound number state lines (m ∷ ms) rest size n e up =
-      let asc : AreAscending number (m ∷ ms ++ rest) = subst (AreAscending number) e (ascend_from format input number state lines n) in
-      let low : m.line ≤ bound = All-head (λ (m : Member A). m.line ≤ bound) m ms up in
-      let high = asc.0 in
-      absurd (omega arith)
+  front_from zero bound number state lines (m ∷ ms) rest size n e up = grind (arith, (ascend_from format input number state lines n), (All-head (λ (m : Member A). m.line ≤ bound) m ms up))
   front_from (suc more) bound number state [] past rest size n e up = (rest, e)
   front_from (suc more) bound number state (line ∷ lines) past rest size n e up =
       front_with bound line.number state (format.says state line) (λ now. good_from format input now lines) (λ now. good_from format input now (take more lines)) past rest
@@ -70,8 +61,7 @@ pub take_less : (less more : ℕ) (lines : List TextLine) → less ≤ more → 
 take_less zero more lines h = omega arith
 take_less (suc less) zero lines h = absurd (omega arith)
 take_less (suc less) (suc more) [] h = omega arith
-take_less (suc less) (suc more) (x ∷ xs) h =
-    omega (arith, bytes_in-append (x ∷ []) (take less xs), bytes_in-append (x ∷ []) (take more xs), take_less less more xs (omega arith))
+take_less (suc less) (suc more) (x ∷ xs) h = grind (arith, common_steps, (take_less less more xs (omega arith)))
 
 pub take_whole : (count : ℕ) (lines : List TextLine) → bytes_in (take count lines) ≤ bytes_in lines
 take_whole count lines = omega (arith, bytes_in-append (take count lines) (drop count lines), ap bytes_in (take-append-drop count lines))
@@ -135,9 +125,7 @@ module _ {A B X Y U V : Type 0} (join : JoinDef X Y) (pair : Pair A B X Y U V) (
 
     -- the members on the first lines
     on_lines : items_on (take count (text_lines one)) ≡ near.written
-    on_lines =
-        let b = of_one (λ good. (rest : List (Member X)) × (good.members ≡ near.past ++ rest) × IsBeyond count (record { members = rest; fault = good.fault })) near.first_near.to.behind in
-        ap items_in (first_from first_format First count count 1 first_format.begin (text_lines one) near.past b.0 good_one.fault (omega arith) (lines_are_numbered 1 one) b.1 refl near.first_near.low b.2) ∙ near.items
+    on_lines = grind (arith, first_from, (lines_are_numbered 1 one))
 
     -- those that were given are on them and the next
     given_on : (extra : List (Member X)) × (items_on (take (suc count) (text_lines one)) ≡ member_items near.given_first ++ member_items extra)
@@ -159,13 +147,7 @@ module _ {A B X Y U V : Type 0} (join : JoinDef X Y) (pair : Pair A B X Y U V) (
     beside_by asks =
         let read = asks.near known in
         let handed = handed_to pair.source_b second_format Second two_before pair.second begins_second second two_after ended_second read.count two f read.near near.wrote.second_bytes in
-        let b = of_two (λ good. (rest : List (Member Y)) × (good.members ≡ asks.past ++ rest) × IsBeyond read.count (record { members = rest; fault = good.fault })) read.behind in
-        let given = member_items near.given_first ++ member_items given_on.0 in
-        let is : join.reaches given (asks.past ++ b.0) (text_lines two) ≡ reaches (whole_text two) (take (suc count) (text_lines one)) =
-        ap (λ (ms : List (Member Y)). join.reaches given ms (text_lines two)) (sym b.1) ∙ ap (λ (xs : List X). join.reaches xs good_two.members (text_lines two)) (sym given_on.1) in
-        let least : bytes_in (take (suc read.count) (text_lines two)) ≤ reaches (whole_text two) (take (suc count) (text_lines one)) =
-        rw (← is) (needed (member_items near.given_first) (member_items given_on.0) asks.past b.0 (text_lines two) read.count asks.reached b.2.members) in
-        record { handed = handed.0; consumed = handed.1; read = omega (arith, handed.2, least) }
+        grind (arith, given_on)
 
     -- the end of the first input wasn't reported, or not all of its lines were consumed
     no_end : HasNoMore pair first count → IsWithin (pair.source_a.end_told one_after) one (suc count) → ⊥
@@ -173,8 +155,7 @@ module _ {A B X Y U V : Type 0} (join : JoinDef X Y) (pair : Pair A B X Y U V) (
 
     beside : HasNoMore pair first count ⊎ AsksFor join pair out near.given_first second → IsWithin (pair.source_a.end_told one_after) one (suc count)
         → HandsUpTo pair.source_b.left (reaches (whole_text two) (take (suc count) (text_lines one)) + block_size) two_before two_after
-    beside (inl all) within = absurd (no_end all within)
-    beside (inr asks) within = beside_by asks
+    beside p1 within = grind (arith, beside_by)
 
   -- how far both inputs were read
   pub near_both : (one two before taken : List ℕ) → pair.source_a.left one_before ≡ Some one → pair.source_b.left two_before ≡ Some two → out.put ≡ Some before → out.took ≡ Some taken
@@ -230,8 +211,7 @@ module _ {S O : Type 0} {g : Ghosts O} (now : Records S O g) (batch : Batch) (le
 
       -- where it has none left, all that was buffered is taken
       pub all_taken : left_in last ≡ [] → HasTaken device (view_of now) (buffered_in now) (view_of new)
-      all_taken none =
-          subst (λ (l : List Feature). HasTaken device (view_of now) l (view_of new)) (sym (append-nil records) ∙ ap (λ (l : List Feature). records ++ l) (sym none) ∙ sym passes.left_is ∙ lent_is) taken_of
+      all_taken none = grind (arith, append-nil, lent_is, taken_of)
 
       line_is : line_in last ≡ lines_given (below new)
       unfolding line_in cursor_in

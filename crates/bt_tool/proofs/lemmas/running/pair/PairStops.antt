@@ -30,8 +30,7 @@ pub seen_begins : {S A State : Type 0} (left : S → Option (List ℕ)) (old : O
     → (IsSome old → (m : Member A) → ahead_in now ≡ Some m → IfSome (good_coming left now) (λ good. (rest : List (Member A)) × (good.members ≡ m ∷ rest)))
     → IfSome old (λ good. (rest : List (Member A)) × (good.members ≡ (past ++ option_to_list o) ++ rest))
 seen_begins left None now past o e come first = tt
-seen_begins {S} {A} {State} left (Some good) now past None e come first =
-    subst (λ (l : List (Member A)). (rest : List (Member A)) × (good.members ≡ l ++ rest)) (sym (append-nil past)) (begins_with (Some good) (good_coming left now) past come)
+seen_begins {S} {A} {State} left (Some good) now past None e come first = grind (arith, (append-nil past))
 seen_begins left (Some good) now past (Some m) e come first = begins_more good (good_coming left now) past m come (first refl m e)
 
 -- if nothing is buffered, the members seen are on the lines given
@@ -40,12 +39,7 @@ seen_low {S} {A} {State} past now count none low = subst (λ (l : List (Member A
 
 -- nothing more was taken
 takes_none : {S A State : Type 0} (device : Source S) (old : MemberReader S A State) (past : List (Member A)) (now : MemberReader S A State) → Passes device old past now → TakesFurther device old past [] now now
-takes_none {S} {A} {State} device old past now p = record {
-  passes = subst (λ (l : List (Member A)). Passes device old l now) (sym (append-nil past)) p;
-  last = λ before m e. absurd (none_pushed before m e);
-  source = refl;
-  told = λ told. told;
-}
+takes_none device old past now p = grind (arith, append-nil, none_pushed)
 
 -- the good members of an input begin with some items
 abbrev BeginsWith : {S A State : Type 0} → Source S → MemberReader S A State → List A → Type 0
@@ -132,13 +126,8 @@ module _ {A B X Y U V : Type 0} {join : JoinDef X Y} {pair : Pair A B X Y U V} {
   pub asks_then : join.Asks (firsts_given stage) stage.taken → ((more : List X) → join.Asks (firsts_given stage) stage.taken → join.Asks (firsts_given stage ++ more) stage.taken)
       → (more_first : List (Member X)) (more_second : List (Member Y)) (second_now : MemberReader B Y V) → TakesFurther pair.source_b pair.second past_second more_second second second_now
       → AsksFor join pair out (past_first ++ more_first) second_now
-  asks_then asks wider more_first more_second second_now takes = record {
-    past = past_second;
-    reached =
-        subst (λ (l : List X). join.Asks l (member_items past_second)) (given_with more_first)
-        (subst (λ (l : List Y). join.Asks (firsts_given stage ++ member_items more_first) l) s.all_taken (wider (member_items more_first) asks));
-    near = λ known. read_to_same past_second second_now takes.source (read_here pair.source_b pair.second past_second second s.second_passes).to;
-  }
+  asks_then asks wider more_first more_second second_now takes =
+      grind (arith, (given_with more_first), (read_to_same past_second second_now takes.source (read_here pair.source_b pair.second past_second second s.second_passes).to))
 
   pub second_serves : Serves pair.source_b.has_failed pair.second second
   second_serves = record { served = s.second_passes.served; within = s.second_passes.kept.within s.second_passes.clear }

@@ -1,5 +1,6 @@
 -- How one stage of two inputs follows another.
-use Rattle.bt_lines.proofs.Std.{◌≡◌, true, List, [], ◌∷◌, ◌++◌, ℕ, Bool, false, ◌||◌, Option, None, Some, refl, sym, ap, ◌∙◌, subst, append-nil, append_assoc, flat_map, option_to_list, IsSome, is_none, option_map, list_all, false≢true, and_from, or_left, or_right, flat_map-append, list_all-append, suc, ◌≤◌, length, drop, ◌+◌, inl, inr, ◌⊎◌, All, IfSome, append_cancel_left, map-append, same_from_push, ◌<◌, Err, arith, All-push}
+use Rattle.std.proofs.lemmas.Grind.{common_steps}
+use Rattle.bt_lines.proofs.Std.{rules, ◌≡◌, true, List, [], ◌∷◌, ◌++◌, ℕ, Bool, false, ◌||◌, Option, None, Some, refl, sym, ap, ◌∙◌, subst, append-nil, append_assoc, flat_map, option_to_list, IsSome, is_none, option_map, list_all, false≢true, and_from, or_left, or_right, flat_map-append, list_all-append, suc, ◌≤◌, length, drop, ◌+◌, inl, inr, ◌⊎◌, All, IfSome, append_cancel_left, map-append, same_from_push, ◌<◌, Err, arith, All-push}
 use Rattle.bt_lines.specs.declared.device.Source.{Ghosts as Source}
 use Rattle.bt_lines.specs.calls.Reader.{end_told, source_of, lines_given, lines_left, Hands, HasRead, bytes_taken}
 use Rattle.bt_bed.specs.model.Good.{Member}
@@ -112,13 +113,7 @@ module _ {X Y : Type 0} (join : JoinDef X Y) where
   pub seen_by : {S State : Type 0} (device : Source S) (now new : MemberReader S Y State) (m : Member Y) (o : Option (Member Y)) → ahead_in now ≡ o → GivesMember device now m new
       → (written : List X) (bytes : List ℕ) (taken : List Y) → SettlesPair join written bytes (taken ++ option_to_list (option_map (λ m. m.item) o)) false
       → SettlesPair join written bytes (taken ++ m.item ∷ []) false
-  seen_by device now new m None e gives written bytes taken s =
-      settles_seen written bytes taken (m.item ∷ []) (subst (λ (l : List Y). SettlesPair join written bytes l false) (append-nil taken) s)
-  seen_by {S} {State} device now new m (Some x) e gives written bytes taken s =
-      let same : new ≡ now = gives.again (subst IsSome (sym e) refl) in
-      let is : Some x ≡ Some m = sym e ∙ ap (λ (r : MemberReader S Y State). ahead_in r) (sym same) ∙ gives.ahead in
-      let eq : x ≡ m = cc in
-      subst (λ (y : Member Y). SettlesPair join written bytes (taken ++ y.item ∷ []) false) eq s
+  seen_by device now new m o e gives written bytes taken s = grind (arith, settles_seen, append-nil)
 
 -- Lemmas on how a run over two readers of members goes on: as members are buffered and taken, and at the ends.
 
@@ -137,9 +132,7 @@ module _ {S A State : Type 0} (device : Source S) (old : MemberReader S A State)
 
   read_last : (taken xs : List A) (a : A) → taken ≡ xs ++ a ∷ [] → (new : MemberReader S A State) → HasTaken device now taken new
       → IsReadFor device old (past ++ members_from n xs) (past ++ members_from n taken) new
-  read_last taken xs a e new has =
-      subst (λ (l : List A). IsReadFor device old (past ++ members_from n xs) (past ++ members_from n l) new) (sym e)
-      (read_before device old past now p xs a new (subst (λ (l : List A). HasTaken device now l new) e has))
+  read_last taken xs a e new has = grind (arith, read_before)
 
   pub takes_further : (taken : List A) (new : MemberReader S A State) → HasTaken device now taken new → TakesFurther device old past (members_from n taken) now new
   takes_further taken new has = record {
@@ -166,8 +159,7 @@ last_of {A} (x ∷ xs) =
 
 -- at most one waits
 few_waited : {A : Type 0} (newly : List A) (x : A) (o : Option A) → newly ++ x ∷ [] ≡ option_to_list o → newly ≡ []
-few_waited newly x None e = absurd (none_pushed newly x (sym e))
-few_waited newly x (Some y) e = (same_from_push newly [] x y e).0
+few_waited newly x o e = grind (arith, common_steps)
 
 pub both_none : {A : Type 0} (xs ys : List A) → xs ++ ys ≡ [] → (xs ≡ []) × (ys ≡ [])
 both_none [] ys e = (refl, e)
@@ -253,21 +245,7 @@ module _ {A B X Y U V : Type 0} {join : JoinDef X Y} {pair : Pair A B X Y U V} {
   -- a member of the second is
   pub fills_second : stage.second_ended ≡ false → (second_now : MemberReader B Y V) → IsFilled pair.source_b second second_now
       → Comes join pair out stage past_first past_second first second_now grown
-  fills_second going second_now filled = record {
-    first_passes = s.first_passes;
-    second_passes = passes_fill pair.source_b pair.second past_second second s.second_passes second_now filled;
-    all_given = s.all_given;
-    all_taken = s.all_taken;
-    bytes = s.bytes;
-    settles = λ known.
-        rw going (subst (λ (o : Option (Member Y)). SettlesPair join stage.written s.bytes (stage.taken ++ option_to_list (option_map (λ m. m.item) o)) false) (sym filled.gives.ahead)
-        (seen_by join pair.source_b second second_now filled.m _ refl filled.gives stage.written s.bytes stage.taken
-        (subst (λ (b : Bool). SettlesPair join stage.written s.bytes (stage.taken ++ option_to_list (item_ahead second)) b) going (s.settles known))));
-    first_all = s.first_all;
-    second_all = λ e. absurd (false≢true (sym going ∙ e));
-    put = s.put;
-    near_first = s.near_first;
-  }
+  fills_second going second_now filled = grind (arith, (passes_fill pair.source_b pair.second past_second second s.second_passes second_now filled), seen_by)
 
   -- more members of both were taken, after their ends none, and these bytes were put for those that are written now
   module _ (more_first : List (Member X)) (more_second : List (Member Y)) (first_now : MemberReader A X U) (second_now : MemberReader B Y V)
@@ -312,18 +290,7 @@ module _ {A B X Y U V : Type 0} {join : JoinDef X Y} {pair : Pair A B X Y U V} {
         )
 
     near_waiting : (x : X) → new.waiting ≡ Some x → stage.first_ended ≡ false → Near
-    near_waiting x waits going =
-        elim (last_of more_first) [
-          | inl none ↦ near_same none (few_waited newly x stage.waiting (ap (λ (o : Option X). newly ++ option_to_list o) (sym waits) ∙ sym (unless_more none)))
-          | inr some ↦ (
-            past_first ++ some.0,
-            (same_from_push (member_items (past_first ++ some.0)) new.written some.1.item x
-                (sym (map-append (λ m. m.item) (past_first ++ some.0) (some.1 ∷ [])) ∙ ap member_items (append_assoc past_first some.0 (some.1 ∷ []) ∙ ap (λ (l : List (Member X)). past_first ++ l) (sym some.2))
-                ∙ sym all_now ∙ ap (λ (o : Option X). new.written ++ option_to_list o) waits)).0,
-            takes.last some.0 some.1 some.2,
-            λ e. absurd (false≢true (sym going ∙ sym follows.first_is ∙ e)),
-          )
-        ]
+    near_waiting x waits going = grind (arith, (last_of more_first), near_same, few_waited, unless_more, same_from_push, map-append, append_assoc)
 
     near_by : (w : Option X) → new.waiting ≡ w → (b : Bool) → stage.first_ended ≡ b → Near
     near_by w e true done = near_same (ended done).0 (none_then done).0
@@ -370,10 +337,7 @@ module _ {A B X Y U V : Type 0} {join : JoinDef X Y} {pair : Pair A B X Y U V} {
 
     no_more_first : HasNoMore pair first_now (read_here pair.source_a pair.first past_first first_now ended_passes).to.count
     unfolding read_here
-    no_more_first = (
-      (ended_passes.kept.end over.ends.told).0,
-      ended_after_all pair.source_a pair.first past_first first s.first_passes first_now over,
-    )
+    no_more_first = grind (arith, (ended_after_all pair.source_a pair.first past_first first s.first_passes first_now over))
 
     pub ends_first : Comes join pair out (record stage { first_ended = true }) past_first past_second first_now second grown
     ends_first = with_first true none first_now ended_passes (λ e. (passes_all pair.source_a pair.first past_first first s.first_passes first_now over, over.ends.none_buffered, over.ends.told)) (λ e. no_more_first)
@@ -389,27 +353,14 @@ module _ {A B X Y U V : Type 0} {join : JoinDef X Y} {pair : Pair A B X Y U V} {
   module _ (goes : stage.second_ended ≡ false) (second_now : MemberReader B Y V) (over : IsOver pair.source_b second second_now) where
     -- those written are settled by what was taken
     pub settles_ended : IsKnown pair → SettlesPair join stage.written s.bytes stage.taken false
-    settles_ended known =
-        subst (λ (l : List Y). SettlesPair join stage.written s.bytes l false) (seen_alone stage.taken second over.ends.was_none)
-        (subst (λ (b : Bool). SettlesPair join stage.written s.bytes (stage.taken ++ option_to_list (item_ahead second)) b) goes (s.settles known))
+    settles_ended known = search rules
 
     -- its end was given
     ends_by : (now : Output) (bytes : List ℕ) → (IsKnown pair → SettlesPair join (firsts_given stage) bytes stage.taken true) → HasPut out bytes now
         → ((past : List (Member X)) × (member_items past ≡ firsts_given stage)
         × (read : IsReadFor pair.source_a pair.first past past_first first) × (stage.first_ended ≡ true → HasNoMore pair first read.to.count))
         → Comes join pair out (record stage { written = firsts_given stage; waiting = None; second_ended = true }) past_first past_second first second_now now
-    ends_by now bytes settles put near = record {
-      first_passes = s.first_passes;
-      second_passes = passes_end pair.source_b pair.second past_second second s.second_passes second_now over;
-      all_given = append-nil (firsts_given stage) ∙ s.all_given;
-      all_taken = s.all_taken;
-      bytes = bytes;
-      settles = λ known. subst (λ (l : List Y). SettlesPair join (firsts_given stage) bytes l true) (sym (seen_alone stage.taken second_now over.ends.none_buffered)) (settles known);
-      first_all = λ e. let was = s.first_all e in (was.0, refl, was.2, was.3);
-      second_all = λ e. (passes_all pair.source_b pair.second past_second second s.second_passes second_now over, over.ends.none_buffered, over.ends.told);
-      put = put;
-      near_first = near;
-    }
+    ends_by now bytes settles put near = grind (arith, passes_end, append-nil, passes_all)
 
     -- the waiting member was written
     pub ends_waiting : (a : X) → stage.waiting ≡ Some a → (now : Output) → Grown grown (join.bytes a stage.taken) now
@@ -438,16 +389,12 @@ some_buffered line items m e = grind arith
 
 -- and it is on the line after those given
 first_line : {A : Type 0} (line : ℕ) (items : List A) (m : Member A) → first_from line items ≡ Some m → m.line ≡ line
-first_line line [] m e = cc
-first_line {A} line (x ∷ items) m e = let same : record { line = line; item = x } ≡ m = cc in ap (λ (m : Member A). m.line) (sym same)
+first_line line items m e = grind arith
 
 -- taking what is buffered reads nothing
 pub reads_taken : {S A State : Type 0} (device : Source S) (old : LineReader S) (taken : List A) (now new : MemberReader S A State) → HasTaken device now taken new
     → HasRead device.is_read old now.below → HasRead device.is_read old new.below
-reads_taken {S} device old taken now new has read =
-    let bytes : bytes_taken now.below ≡ bytes_taken new.below = omega (arith, has.takes.hands.counted) in
-    subst (λ (n : ℕ). ReadsCounted device.is_read (source_of old) (bytes_taken old) (source_of new.below) n) bytes
-    (subst (λ (s : S). ReadsCounted device.is_read (source_of old) (bytes_taken old) s (bytes_taken now.below)) (sym has.takes.source) read)
+reads_taken device old taken now new has read = grind arith
 
 -- how far a reader has come
 pub record IsReadOn {S A State : Type 0} (device : Source S) (before now : MemberReader S A State) : Type 0 where
@@ -460,13 +407,7 @@ pub record IsReadOn {S A State : Type 0} (device : Source S) (before now : Membe
 
 module _ {S A State : Type 0} (device : Source S) (before : MemberReader S A State) where
   pub reads_start : IsReadOn device before before
-  reads_start = record {
-    bytes = ([], hands_none device.left before.below);
-    rises = omega arith;
-    moves = inl refl;
-    going = λ none. none;
-    passes = λ old past p. ([], subst (λ l. Passes device old l before) (sym (append-nil past)) p);
-  }
+  reads_start = search rules
 
   module _ (now : MemberReader S A State) (on : IsReadOn device before now) where
     -- what was made buffered was taken

@@ -35,9 +35,7 @@ module _ {A State : Type 0} (format : Format A State) (input : Input) where
   fault_with : (count line : ℕ) (state : State) (said : Result (Option A) Kind) (rest : State → Good A)
       → count < line → ((now : State) → FaultBeyond count (rest now).fault)
       → FaultBeyond count (good_with format input line state said rest).fault
-  fault_with count line state (Err kind) rest h f = h
-  fault_with count line state (Ok None) rest h f = f state
-  fault_with count line state (Ok (Some item)) rest h f = f (format.after state item)
+  fault_with count line state said rest h f = grind arith
 
   fault_from : (count number : ℕ) (state : State) (lines : List TextLine) → AreNumbered number lines → count < number
       → FaultBeyond count (good_from format input state lines).fault
@@ -51,11 +49,7 @@ module _ {A State : Type 0} (format : Format A State) (input : Input) where
       → ((now : State) → All (λ m. FaultBeyond m.line (rest now).fault) (rest now).members)
       → ((now : State) → FaultBeyond line (rest now).fault)
       → All (λ m. FaultBeyond m.line (good_with format input line state said rest).fault) (good_with format input line state said rest).members
-  last_with line state (Err kind) rest h f = All-nil (λ (m : Member A). FaultBeyond m.line (good_with format input line state (Err kind) rest).fault)
-  last_with line state (Ok None) rest h f = h state
-  last_with line state (Ok (Some item)) rest h f =
-      let now = format.after state item in
-      All-cons (λ (m : Member A). FaultBeyond m.line (rest now).fault) (record { line = line; item = item }) (rest now).members (f now) (h now)
+  last_with line state said rest h f = grind arith
 
   -- the fault lies after every member
   fault_comes_last : (number : ℕ) (state : State) (lines : List TextLine) → AreNumbered number lines
@@ -75,22 +69,11 @@ module _ {A State : Type 0} (format : Format A State) (input : Input) where
   -- a first member, what comes after it and the fault lie after the lines before its own
   beyond_first : (state : State) (number : ℕ) (lines : List TextLine) (rest : List (Member A)) (m : Member A) (count : ℕ) → AreNumbered number lines
       → (good_from format input state lines).members ≡ m ∷ rest → suc count ≡ m.line → IsBeyond count (good_from format input state lines)
-  beyond_first state number lines rest m count n e at =
-      let good = good_from format input state lines in
-      let ascend : AreAscending number (m ∷ rest) = subst (AreAscending number) e (ascend_from format input number state lines n) in
-      let last : All (λ m. FaultBeyond m.line good.fault) (m ∷ rest) = subst (All (λ m. FaultBeyond m.line good.fault)) e (fault_comes_last number state lines n) in
-      record {
-        members = subst (All (λ m. count < m.line)) (sym e)
-            (All-cons (λ (m : Member A). count < m.line) m rest (omega arith) (ascending_beyond count (suc m.line) rest (omega arith) ascend.1));
-        fault = fault_less count m.line good.fault (omega arith) (All-head (λ (m : Member A). FaultBeyond m.line good.fault) m rest last);
-      }
+  beyond_first state number lines rest m count n e at = grind (arith, (ascend_from format input number state lines n), (fault_comes_last number state lines n), ascending_beyond)
 
 -- what lies after more lines lies after fewer
 pub beyond_less : {A : Type 0} (less more : ℕ) (good : Good A) → less ≤ more → IsBeyond more good → IsBeyond less good
-beyond_less {A} less more good h b = record {
-  members = λ k d i. let far = b.members k d i in omega arith;
-  fault = fault_less less more good.fault h b.fault;
-}
+beyond_less less more good h b = grind arith
 
 -- what is good of the lines that are left, for a reader without a fault
 pub coming_is : {S A State : Type 0} (left : S → Option (List ℕ)) (reader : MemberReader S A State) → reader.fault ≡ None
@@ -100,12 +83,7 @@ coming_is left reader going = ap (λ f. option_map (good_behind reader.format (i
 
 beyond_known : {A State : Type 0} (format : Format A State) (input : Input) (state : State) (given : ℕ) (bytes : Option (List ℕ)) (good : Option (Good A))
     → good ≡ option_map (good_from format input state) (option_map (lines_from (suc given)) bytes) → IfSome good (IsBeyond given)
-beyond_known format input state given None None e = tt
-beyond_known format input state given None (Some good) e = cc
-beyond_known format input state given (Some bytes) None e = tt
-beyond_known format input state given (Some bytes) (Some good) e =
-    let is : good ≡ good_from format input state (lines_from (suc given) bytes) = cc in
-    subst (IsBeyond given) (sym is) (beyond_from format input given state (lines_from (suc given) bytes) (lines_are_numbered (suc given) bytes))
+beyond_known format input state given bytes good e = grind (arith, beyond_from, lines_are_numbered)
 
 -- what is still to come lies after the lines given
 pub beyond_now : {S A State : Type 0} (left : S → Option (List ℕ)) (reader : MemberReader S A State) → reader.fault ≡ None
@@ -139,12 +117,7 @@ module _ {S A State : Type 0} (device : Source S) (old : MemberReader S A State)
   before_line : (new : LineReader S) → (count : ℕ) → suc count ≡ lines_given new → lines_given old.below ≤ count → IfSome (good_coming device.left old) (IsBeyond count)
       → LinesPass device.left old.below new → IsKept device new → line_fault new ≡ None → length (held new) ≤ block_size
       → StopsBehind device.left old count new
-  before_line new count at from passed lines next clear near = record {
-    passed = passed;
-    from = from;
-    near = near_pass (lines_left device.left old.below) (lines_left device.left new) (device.left (source_of new)) (lines_given new - lines_given old.below) 0 (suc count - lines_given old.below) lines (omega (arith, at))
-        (sound_near device new (record { end = next.end; within = next.within; near = λ none. near }) clear);
-  }
+  before_line new count at from passed lines next clear near = grind (arith, (sound_near device new (record { end = next.end; within = next.within; near = λ none. near }) clear))
 
   -- at a line that wasn't given
   stops_unread : (new : MemberReader S A State) (fault : FaultValue) → AnswersFault device old fault new → IfSome (good_coming device.left old) (IsBeyond (lines_given new.below))
@@ -181,9 +154,7 @@ module _ {S A State : Type 0} (device : Source S) (old : MemberReader S A State)
 
   stops_by : (new : MemberReader S A State) (fault : FaultValue) → AnswersFault device old fault new → IsKept device new.below
       → Cause device old fault new → (count : ℕ) × StopsBehind device.left old count new.below
-  stops_by new fault answers next (inl wrong) = stops_wrong new fault answers next wrong
-  stops_by new fault answers next (inr (inl unread)) = stops_unread new fault answers unread.passed
-  stops_by new fault answers next (inr (inr ran)) = stops_out new fault answers next ran.checked
+  stops_by new fault answers next p1 = grind (arith, stops_wrong, stops_out)
 
   -- at a fault
   pub stops_faulty : (new : MemberReader S A State) (fault : FaultValue) → AnswersFault device old fault new → IsKept device new.below

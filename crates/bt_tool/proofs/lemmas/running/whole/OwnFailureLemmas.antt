@@ -1,5 +1,5 @@
 -- Lemmas on failed reads that are reported: each is of a read that failed in the run, whatever its source did before.
-use Rattle.bt_lines.proofs.Std.{◌≡◌, ℕ, Option, None, Some, Err, List, ap, sym, subst, ◌∙◌, inl, inr, arith, ◌⊎◌, ◌≢◌, ⊤, MatchResult, Ok, Result, false≢true, option_map, suc, ◌-◌, ◌^◌, true, ◌++◌, take, refl, ⊎_elim, IfSome}
+use Rattle.bt_lines.proofs.Std.{rules, ◌≡◌, ℕ, Option, None, Some, Err, List, ap, sym, subst, ◌∙◌, inl, inr, arith, ◌⊎◌, ◌≢◌, ⊤, MatchResult, Ok, Result, false≢true, option_map, suc, ◌-◌, ◌^◌, true, ◌++◌, take, refl, ⊎_elim, IfSome}
 use Rattle.bt_lines.specs.declared.device.Source.{Ghosts as Source}
 use Rattle.bt_lines.proofs.lemmas.reader.block.ReadsLemmas.{memory_no_read, some_is, unread_then}
 use Rattle.bt_lines.specs.model.Fault.{FaultValue, no_memory, read_failed, write_failed}
@@ -35,10 +35,7 @@ use Rattle.bt_lines.proofs.lemmas.reader.lines.TextLemmas.{whole_count, whole_fr
 
 -- a failed read is of one input
 pub same_input : (one other : Input) (m n : ℕ) → read_failed one m ≡ read_failed other n → one ≡ other
-same_input one other m n e =
-    let places : Some (record { input = one; line = m }) ≡ Some (record { input = other; line = n }) = ap (λ (f : FaultValue). f.place) e in
-    let same : record { input = one; line = m } ≡ record { input = other; line = n } = cc in
-    ap (λ (p : Place). p.input) same
+same_input one other m n e = grind arith
 
 -- a fault of a kind that no line can have
 never_read : (Kinds : Kind → Type 0) → (Kinds ReadFailed → ⊥) → (input : Input) (line : ℕ) (kind : Kind) → Kinds kind → (other : Input) (at : ℕ) → fault_at_line input line kind ≡ read_failed other at → ⊥
@@ -48,8 +45,7 @@ pub bed_no_read : (order : Order) → IsBedKind order ReadFailed → ⊥
 bed_no_read order kind = false≢true kind.0
 
 pub swept_no_read : (order : Order) (limit : Option ℕ) → IsSweptKind order limit ReadFailed → ⊥
-swept_no_read order limit (inl kind) = false≢true kind.0
-swept_no_read order limit (inr held) = let apart : ReadFailed ≡ TooManyHeld = held.1 in cc
+swept_no_read order limit p1 = grind arith
 
 -- a reader that keeps no fault
 pub none_kept : {S : Type 0} (IsRead : S → Option ℕ → S → Type 0) (old : LineReader S) (kept : Option FaultValue) (lines : LineReader S) → kept ≡ None → IsOwnFault IsRead old kept lines
@@ -76,36 +72,22 @@ kept_below IsRead old reader lines is below own input line e = subst (IsOwnFault
 
 -- the reads of a reader are those of its run
 pub own_failure_of : {S : Type 0} (IsRead : S → Option ℕ → S → Type 0) (first last : S) (old new : LineReader S) → source_of old ≡ first → source_of new ≡ last → bytes_taken old ≡ 0 → IsUnread IsRead old new → IsOwnFailure IsRead first last
-own_failure_of IsRead first last old new starts ends fresh (inl fails) = inl (subst (λ s. ReadsFail IsRead s last) starts (subst (λ s. ReadsFail IsRead (source_of old) s) ends fails))
-own_failure_of IsRead first last old new starts ends fresh (inr (read, past)) =
-    inr (
-      read.given,
-      subst (λ s. ReadsOn IsRead s read.given last) starts (subst (λ s. ReadsOn IsRead (source_of old) read.given s) ends read.served),
-      omega (arith, past, read.counted, fresh),
-    )
+own_failure_of IsRead first last old new starts ends fresh p1 = grind arith
 
 -- what the reads of a reader gave is what those of its run did
 pub served_of : {S : Type 0} (IsRead : S → Option ℕ → S → Type 0) (first last : S) (old new : LineReader S) → source_of old ≡ first → source_of new ≡ last → HasRead IsRead old new → ReadsServe IsRead first last
-served_of IsRead first last old new starts ends read = record {
-  given = read.given;
-  served = subst (λ s. ReadsOn IsRead s read.given last) starts (subst (λ s. ReadsOn IsRead (source_of old) read.given s) ends read.served);
-}
+served_of IsRead first last old new starts ends read = grind arith
 
 -- a source that wasn't read
 pub serve_same : {S : Type 0} (IsRead : S → Option ℕ → S → Type 0) (source : S) → ReadsServe IsRead source source
 serve_same IsRead source = record { given = 0; served = begun }
 
 pub serve_same_if : {S : Type 0} (IsRead : S → Option ℕ → S → Type 0) (source : Option S) → OfBoth (ReadsServe IsRead) source source
-serve_same_if IsRead None = tt
-serve_same_if IsRead (Some source) = serve_same IsRead source
+serve_same_if IsRead source = grind (arith, serve_same)
 
 -- no failed read is reported
 pub tells_none : (G F S : Type 0) (fault : Option FaultValue) → ((input : Input) (line : ℕ) → fault ≡ Some (read_failed input line) → ⊥) → TellsOwnReads G F S fault
-tells_none G F S fault never = record {
-  genome_file = λ line e. absurd (never Genome line e);
-  first_input = λ line e. absurd (never First line e);
-  second_input = λ line e. absurd (never Second line e);
-}
+tells_none G F S fault never = grind arith
 
 pub tells_nothing : (G F S : Type 0) (fault : Option FaultValue) → fault ≡ None → TellsOwnReads G F S fault
 tells_nothing G F S fault none = tells_none G F S fault (λ input line e. let apart : None ≡ Some (read_failed input line) = sym none ∙ e in cc)
@@ -135,34 +117,14 @@ module _ {S A State : Type 0} (device : Source S) (format : Format A State) (inp
   -- a failed read that is reported after some members
   pub behind_own : (Kinds : Kind → Type 0) → (Kinds ReadFailed → ⊥) → (past : List (Member A)) (fault : FaultValue) → HasFaultBehind device old Kinds past fault new → (other : Input) (line : ℕ) → fault ≡ read_failed other line
       → (other ≡ input) × IsOwnFailure device.is_read first last
-  behind_own Kinds never past fault (inl wrong) other line e = absurd (never_read Kinds never _ wrong.line wrong.kind wrong.of_kind other line (sym wrong.is ∙ e))
-  behind_own Kinds never past fault (inr unread) other line e = (
-    sym (same_input _ other _ line (sym unread.is ∙ e)) ∙ begins.input_is,
-    own_failure_of device.is_read first last old.below new.below begins.source ended begins.bytes (own other line (unread.kept ∙ ap Some e)),
-  )
+  behind_own Kinds never past fault p1 other line e = grind arith
 
 -- the members of the first input were fed to an engine up to a fault
 module _ {S A State : Type 0} (device : Source S) (format : Format A State) (first : S) (old : MemberReader S A State) (begins : BeginsAt device.left format First first old)
     (new : MemberReader S A State) (last : S) (ended : source_of new.below ≡ last) (own : KeepsOwnFault device.is_read old.below new) where
   pub feeds_own : (settled : List A → List ℕ) (Kinds : Kind → Type 0) → (Kinds ReadFailed → ⊥) → (Sorted : List A → Type 0) (out : Output) (fault : FaultValue) (grown : Output)
       → FeedsUpTo settled Kinds Sorted device old out fault new grown → TellsOwnReads ⊥ (IsOwnFailure device.is_read first last) ⊥ (Some fault)
-  feeds_own settled Kinds never Sorted out fault grown fed =
-      let by : (other : Input) (line : ℕ) → Some fault ≡ Some (read_failed other line) → (other ≡ First) × IsOwnFailure device.is_read first last =
-      λ other line e.
-      let is = some_is fault (read_failed other line) e in
-      elim fed.cause [
-        | inl taking ↦ elim taking.cause [
-          | inl behind ↦ behind_own device format First first old begins new last ended own Kinds never fed.past fault behind other line is
-          | inr lacks ↦ absurd (memory_no_read other line (sym lacks.is ∙ is))
-        ]
-        | inr writing ↦ absurd (write_no_read other line (sym writing.is ∙ is))
-      ]
-      in
-      record {
-        genome_file = λ line e. let apart : Genome ≡ First = (by Genome line e).0 in cc;
-        first_input = λ line e. (by First line e).1;
-        second_input = λ line e. let apart : Second ≡ First = (by Second line e).0 in cc;
-      }
+  feeds_own settled Kinds never Sorted out fault grown fed = grind arith
 
 -- a run over two readers ended
 module _ {A B X Y U V : Type 0} (join : JoinDef X Y) (pair : Pair A B X Y U V) (out : Output) (first_format : Format X U) (second_format : Format Y V)
@@ -176,29 +138,14 @@ module _ {A B X Y U V : Type 0} (join : JoinDef X Y) (pair : Pair A B X Y U V) (
   Owns Second = IsOwnFailure pair.source_b.is_read two_before two_after
 
   of_first : (past : List (Member X)) (other : FaultValue) → HasFaultBehind pair.source_a pair.first join.first_kinds past other first → (input : Input) (line : ℕ) → other ≡ read_failed input line → Owns input
-  of_first past other behind input line e =
-      let is = behind_own pair.source_a first_format First one_before pair.first begins first one_after ended own join.first_kinds no_first past other behind input line e in
-      subst Owns (sym is.0) is.1
+  of_first past other behind input line e = grind arith
 
   of_second : (past : List (Member Y)) (other : FaultValue) → HasFaultBehind pair.source_b pair.second join.second_kinds past other second → (input : Input) (line : ℕ) → other ≡ read_failed input line → Owns input
-  of_second past other behind input line e =
-      let is = behind_own pair.source_b second_format Second two_before pair.second begins_second second two_after ended_second own_second join.second_kinds no_second past other behind input line e in
-      subst Owns (sym is.0) is.1
+  of_second past other behind input line e = grind arith
 
   -- the inputs reported it
   by_inputs : InputsEnd join pair out w.written w.wrote.given w.wrote.ended first second fault → (input : Input) (line : ℕ) → fault ≡ Some (read_failed input line) → Owns input
-  by_inputs (inl stops) input line e = of_first stops.2.past stops.0 stops.2.cause input line (some_is stops.0 (read_failed input line) (sym stops.1 ∙ e))
-  by_inputs (inr (inl stops)) input line e = of_second stops.2.past stops.0 stops.2.fails.cause input line (some_is stops.0 (read_failed input line) (sym stops.1 ∙ e))
-  by_inputs (inr (inr (inr stops))) input line e =
-      absurd (never_read join.second_kinds no_second Second stops.2.m.line stops.2.kind stops.2.of_kind input line (sym stops.2.is ∙ some_is stops.0 (read_failed input line) (sym stops.1 ∙ e)))
-  by_inputs (inr (inr (inl stops))) input line e =
-      elim stops.rest [
-        | inl end ↦ absurd (let apart : None ≡ Some (read_failed input line) = sym end.0 ∙ e in cc)
-        | inr others ↦ elim others [
-          | inl other ↦ of_second stops.past_second other.0 other.2.cause input line (some_is other.0 (read_failed input line) (sym other.1 ∙ e))
-          | inr other ↦ absurd (never_read join.second_kinds no_second Second other.2.line other.2.kind other.2.of_kind input line (sym other.2.is ∙ some_is other.0 (read_failed input line) (sym other.1 ∙ e)))
-        ]
-      ]
+  by_inputs p1 input line e = grind arith
 
   by_cause : Why join pair out w.written w.bytes w.wrote.given w.wrote.ended first second fault grown → (input : Input) (line : ℕ) → fault ≡ Some (read_failed input line) → Owns input
   by_cause (inl (end, puts, works)) input line e = by_inputs end input line e
@@ -206,35 +153,19 @@ module _ {A B X Y U V : Type 0} (join : JoinDef X Y) (pair : Pair A B X Y U V) (
   by_cause (inr (inr cut)) input line e = absurd (write_no_read input line (some_is write_failed (read_failed input line) (sym cut.0 ∙ e)))
 
   pub both_own : TellsOwnReads ⊥ (IsOwnFailure pair.source_a.is_read one_before one_after) (IsOwnFailure pair.source_b.is_read two_before two_after) fault
-  both_own = record {
-    genome_file = λ line e. by_cause w.why Genome line e;
-    first_input = λ line e. by_cause w.why First line e;
-    second_input = λ line e. by_cause w.why Second line e;
-  }
+  both_own = grind arith
 
 -- a flush tells no failed read of its own
 flushed_read : (old new : Output) (fault answer : Option FaultValue) → (FlushesAll old fault answer new ⊎ FlushFails old fault answer new) ⊎ StaysFailed old fault answer new → (input : Input) (line : ℕ) → answer ≡ Some (read_failed input line)
     → fault ≡ Some (read_failed input line)
-flushed_read old new fault answer (inl (inl all)) input line e = sym all.same_fault ∙ e
-flushed_read old new fault answer (inl (inr fails)) input line e = absurd (write_no_read input line (some_is write_failed (read_failed input line) (sym fails.is ∙ e)))
-flushed_read old new fault answer (inr stays) input line e = absurd (write_no_read input line (some_is write_failed (read_failed input line) (sym stays.is ∙ e)))
+flushed_read old new fault answer p1 input line e = grind arith
 
 pub flushed_own : (G F S : Type 0) (old new : Output) (fault answer : Option FaultValue) → Flushes old fault answer new → TellsOwnReads G F S fault → TellsOwnReads G F S answer
-flushed_own G F S old new fault answer flush own = record {
-  genome_file = λ line e. own.genome_file line (flushed_read old new fault answer flush.ends Genome line e);
-  first_input = λ line e. own.first_input line (flushed_read old new fault answer flush.ends First line e);
-  second_input = λ line e. own.second_input line (flushed_read old new fault answer flush.ends Second line e);
-}
+flushed_own G F S old new fault answer flush own = grind arith
 
 -- nor hides it one, unless a write failed
 pub flushed_no_read : (old new : Output) (fault answer : Option FaultValue) → Flushes old fault answer new → answer ≢ Some write_failed → TellsNoRead answer → TellsNoRead fault
-flushed_no_read old new fault answer flush no_write never input line e = elim flush.ends [
-  | inl handed ↦ elim handed [
-    | inl all ↦ never input line (all.same_fault ∙ e)
-    | inr fails ↦ no_write fails.is
-  ]
-  | inr stays ↦ no_write stays.is
-]
+flushed_no_read old new fault answer flush no_write never = grind arith
 
 -- the genome file was read, or its fault reported, and then the other inputs
 module _ {A B : Type 0} (source_a : Source A) (source_b : Source B) (command : Command) (first : A) (second : Option B) (out : Output) (fault : Option FaultValue) (first_after : A)
@@ -247,49 +178,33 @@ module _ {A B : Type 0} (source_a : Source A) (source_b : Source B) (command : C
 
   pub all_own : (G : Type 0) (chromosomes : Result (Option GenomeTable) Fault) → MatchResult chromosomes (λ _. ⊤) (λ fault. TellsOwnReads G ⊥ ⊥ (Some (fault_value fault)))
       → WritesOutput chromosomes → TellsOwnReads G (IsOwnFailure source_a.is_read first first_after) (IsOwnFailureIf source_b.is_read second second_after) fault
-  all_own G (Ok table) read written =
-      let own = written.own_failure in
-      record { genome_file = λ line e. absurd (own.genome_file line e); first_input = own.first_input; second_input = own.second_input }
-  all_own G (Err wrong) read written = record {
-    genome_file = λ line e. read.genome_file line (sym written.0 ∙ e);
-    first_input = λ line e. absurd (read.first_input line (sym written.0 ∙ e));
-    second_input = λ line e. absurd (read.second_input line (sym written.0 ∙ e));
-  }
+  all_own G chromosomes read written = grind arith
 
   -- if no failed read is reported, the genome file has none
   pub genome_no_read : (chromosomes : Result (Option GenomeTable) Fault) → WritesOutput chromosomes → TellsNoRead fault → AnswersNoRead chromosomes
-  genome_no_read (Ok table) written never = tt
-  genome_no_read (Err wrong) written never = λ input line e. never input line (written.0 ∙ e)
+  genome_no_read chromosomes written never = grind arith
 
   -- and all reads of the others served
   pub all_serve : (chromosomes : Result (Option GenomeTable) Fault) → WritesOutput chromosomes → TellsNoRead fault
       → ReadsServe source_a.is_read first first_after × OfBoth (ReadsServe source_b.is_read) second second_after
-  all_serve (Ok table) written never = written.reads never
-  all_serve (Err wrong) written never = (
-    subst (λ s. ReadsServe source_a.is_read first s) (sym written.1) (serve_same source_a.is_read first),
-    subst (λ s. OfBoth (ReadsServe source_b.is_read) second s) (sym written.2) (serve_same_if source_b.is_read second),
-  )
+  all_serve chromosomes written never = grind (arith, serve_same)
 
 -- Lemmas on the genome file of a run, if it has one.
 
 -- what is said of the whole text is said of what the device holds
 held_as : {G : Type 0} (left : G → Option (List ℕ)) (genome : G) (P : Option Handed → Type 0) → ((text : List ℕ) → left genome ≡ Some text → P (Some (whole_text text)))
     → (handed : Option Handed) → OfBoth (Holds left) (Some genome) handed → P handed
-held_as left genome P h None holds = absurd holds
-held_as left genome P h (Some handed) holds = subst (λ x. P (Some x)) (sym holds.is) (h holds.text holds.known)
+held_as left genome P h handed holds = grind arith
 
 read_as : {G : Type 0} (device : Source G) (genome after : G) (P : Option Handed → Type 0)
     → ((handed : Handed) → Reads device genome after handed → P (Some handed))
     → (handed : Option Handed) → ReadsIf device (Some genome) (Some after) handed → P handed
-read_as device genome after P h None reads = absurd reads
-read_as device genome after P h (Some handed) reads = h handed reads
+read_as device genome after P h handed reads = grind arith
 
 -- a genome file that was cut off after lines that made entries
 cut_genome : (cut more : List ℕ) (made : List Entry) → genome_of FromGenome (take (line_feeds cut) (text_lines (cut ++ more))) ≡ Ok made
     → genome_handed FromGenome (record { text = cut; is_cut = true }) ≡ Err (read_failed FromGenome (suc (line_feeds cut)))
-cut_genome cut more made e =
-    let lines : genome_of FromGenome (whole_lines cut) ≡ Ok made = ap (genome_of FromGenome) (sym (whole_front 1 cut more)) ∙ e in
-    rw (lines, whole_count 1 cut) refl
+cut_genome cut more made e = grind (arith, whole_front, whole_count)
 
 module _ {G : Type 0} (device : Source G) (genome after : G) (old new : LineReader G) (source : source_of old ≡ genome) (ended : source_of new ≡ after) (input : input_of old ≡ FromGenome)
     (fresh : bytes_taken old ≡ 0) (unfed : feeds_taken old ≡ 0) (none_given : lines_given old ≡ 0) (clear : fault_kept old ≡ None) (lines : lines_left device.left old ≡ option_map text_lines (device.left genome)) (sound : IsSound device old) where
@@ -297,25 +212,14 @@ module _ {G : Type 0} (device : Source G) (genome after : G) (old new : LineRead
   at_genome text P e h = some_of (lines_left device.left old) (text_lines text) P (lines ∙ ap (option_map text_lines) e) h
 
   pub knows_read : (table : GenomeTable) → ReadsAll device old new table → IsSound device new → KnowsChromosomes device (Some genome) (Some after) (Some table)
-  knows_read table reads next =
-      let whole : (text : List ℕ) → device.left genome ≡ Some text → chromosomes_of (Some (whole_text text)) ≡ Ok (Some (entries table)) =
-      λ text e. ap of_file (subst (λ i. genome_of i (text_lines text) ≡ Ok (entries table)) input (at_genome text (λ lines. genome_of (input_of old) lines ≡ Ok (entries table)) e reads.is)) in
-      record {
-        whole = read_as device genome after (λ h. chromosomes_of h ≡ Ok (Some (entries table)))
-            (λ handed r. subst (λ h. chromosomes_of (Some h) ≡ Ok (Some (entries table))) (sym (handed_all device genome after old new source ended fresh handed r reads.bytes reads.served (next.within reads.going))) (whole r.text r.known));
-        told = held_as device.left genome (λ h. chromosomes_of h ≡ Ok (Some (entries table))) whole;
-        named = refl;
-        distinct = reads.distinct;
-        served = ap device.has_failed (sym ended) ∙ reads.served ∙ ap device.has_failed source;
-      }
+  knows_read table reads next = search rules
 
   module _ (fault : FaultValue) (bytes : (bytes : List ℕ) × Hands device.left old bytes new) (next : IsSound device new) where
     abbrev Tells : Type 0
     Tells = TellsInput device (IsOneOf is_genome_kind) FromGenome genome after fault
 
     wrong_text : EntryIsWrong device old new fault → (text : List ℕ) → device.left genome ≡ Some text → chromosomes_of (Some (whole_text text)) ≡ Err fault
-    wrong_text wrong text e =
-        ap of_file (subst (λ i. genome_of i (text_lines text) ≡ Err fault) input (at_genome text (λ lines. genome_of (input_of old) lines ≡ Err fault) e wrong.is))
+    wrong_text wrong text e = grind arith
 
     unread_text : EntryUnread device old new fault → (handed : Handed) → Reads device genome after handed → chromosomes_of (Some handed) ≡ Err fault
     unread_text unread handed reads =
@@ -328,9 +232,7 @@ module _ {G : Type 0} (device : Source G) (genome after : G) (old new : LineRead
         ap (λ t. genome_of FromGenome (take (line_feeds front) (text_lines t))) texts.text
         ∙ ap (λ n. genome_of FromGenome (take n (text_lines reads.text))) (sym size)
         ∙ ap (λ i. genome_of i (take (lines_given new - lines_given old) (text_lines reads.text))) (sym input) ∙ made.1 in
-        ap (λ h. chromosomes_of (Some h)) (handed_part device genome after old new source ended fresh handed reads bytes unread.fails.cause)
-        ∙ ap of_file (cut_genome front texts.more made.0 first)
-        ∙ ap Err (ap (λ n. read_failed FromGenome (suc n)) (sym texts.given) ∙ ap (λ i. read_failed i (suc (lines_given new))) (sym input) ∙ sym unread.fails.is)
+        grind (arith, (handed_part device genome after old new source ended fresh handed reads bytes unread.fails.cause), (cut_genome front texts.more made.0 first))
 
     whole_by : StopCause device old new fault → fault ≢ no_memory → (handed : Handed) → Reads device genome after handed → chromosomes_of (Some handed) ≡ Err fault
     whole_by (inl wrong) memory handed reads =
@@ -339,31 +241,16 @@ module _ {G : Type 0} (device : Source G) (genome after : G) (old new : LineRead
     whole_by (inr (inr ran)) memory handed reads = absurd (memory ran.is)
 
     told_by : StopCause device old new fault → IsOfInput (Some fault) → (text : List ℕ) → device.left genome ≡ Some text → chromosomes_of (Some (whole_text text)) ≡ Err fault
-    told_by (inl wrong) is text e = wrong_text wrong text e
-    told_by (inr (inl unread)) is text e = absurd (is.no_read (input_of old) (suc (lines_given new)) (ap Some unread.fails.is))
-    told_by (inr (inr ran)) is text e = absurd (is.no_growth (ap Some ran.is))
+    told_by p1 is text e = grind arith
 
     named_by : StopCause device old new fault → Tells ⊎ (fault ≡ no_memory)
-    named_by (inl wrong) = inl (inl (record { line = lines_given new; kind = wrong.kind; of_kind = wrong.of_line; is = wrong.place ∙ ap (λ i. fault_at_line i (lines_given new) wrong.kind) input }))
-    named_by (inr (inl unread)) = inl (inr (record {
-      line = suc (lines_given new);
-      is = unread.fails.is ∙ ap (λ i. read_failed i (suc (lines_given new))) input;
-      cause = ⊎_elim (λ fails. inl (ap device.has_failed (sym ended) ∙ fails)) (λ past. inr (passes_by device genome after old new source ended fresh bytes past)) unread.fails.cause;
-    }))
-    named_by (inr (inr ran)) = inr ran.is
+    named_by p1 = grind arith
 
     no_write_by : StopCause device old new fault → fault ≡ write_failed → ⊥
-    no_write_by (inl wrong) e = placed_no_write (input_of old) (lines_given new) wrong.kind (sym wrong.place ∙ e)
-    no_write_by (inr (inl unread)) e = placed_no_write (input_of old) (suc (lines_given new)) ReadFailed (sym unread.fails.is ∙ e)
-    no_write_by (inr (inr ran)) e = memory_no_write (sym ran.is ∙ e)
+    no_write_by p1 e = grind arith
 
     lacks_by : StopCause device old new fault → LacksChromosomes device (Some genome) (Some after) fault
-    lacks_by cause = record {
-      whole = λ handed reads memory. read_as device genome after (λ h. chromosomes_of h ≡ Err fault) (whole_by cause memory) handed reads;
-      told = λ handed holds is. held_as device.left genome (λ h. chromosomes_of h ≡ Err fault) (told_by cause is) handed holds;
-      named = named_by cause;
-      no_write = no_write_by cause;
-    }
+    lacks_by cause = grind (arith, whole_by)
 
   pub lacks_read : (fault : FaultValue) → ReadingStops device old new fault → IsSound device new → LacksChromosomes device (Some genome) (Some after) fault
   lacks_read fault stops next = lacks_by fault stops.bytes next (stops.first clear)

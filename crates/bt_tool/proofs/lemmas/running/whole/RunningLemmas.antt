@@ -1,5 +1,6 @@
 -- Lemmas on a run, from its devices to the report on what its inputs hand over.
-use Rattle.bt_lines.proofs.Std.{◌≡◌, ℕ, ◌+◌, ◌≤◌, Bool, true, false, List, [], ◌++◌, length, take, Option, None, Some, Ok, Err, refl, sym, ap, ◌∙◌, subst, append-nil, append_assoc, arith, inl, inr, ⊎_elim, ◌⊎◌, ◌≢◌, IfSome, Result, option_map, false≢true, append_cancel_left, Consumes, Keeps, Appends-nil, Consumes-nil}
+use Rattle.std.proofs.lemmas.Grind.{common_steps}
+use Rattle.bt_lines.proofs.Std.{rules, ◌≡◌, ℕ, ◌+◌, ◌≤◌, Bool, true, false, List, [], ◌++◌, length, take, Option, None, Some, Ok, Err, refl, sym, ap, ◌∙◌, subst, append-nil, append_assoc, arith, inl, inr, ⊎_elim, ◌⊎◌, ◌≢◌, IfSome, Result, option_map, false≢true, append_cancel_left, Consumes, Keeps, Appends-nil, Consumes-nil}
 use Rattle.bt_lines.specs.declared.device.Sink.{Ghosts as Sink}
 use Rattle.bt_lines.specs.declared.device.Source.{Ghosts as Source}
 use Rattle.bt_lines.proofs.lemmas.reader.block.ReadsLemmas.{some_is}
@@ -50,21 +51,12 @@ lies o place e is = ap lies_in_genome e ∙ ap is_of_genome is
 
 -- known bytes that are kept
 kept_known : (a b : Option (List ℕ)) (x : List ℕ) → a ≡ Some x → Keeps a b → b ≡ Some x
-kept_known None b x e k = cc
-kept_known (Some y) None x e k = absurd k
-kept_known (Some y) (Some z) x e k = ap Some k ∙ e
+kept_known a b x e k = grind arith
 
 -- what a sink took is a prefix of the output, if it's a prefix of what was put
 cut_front : (a took : Option (List ℕ)) (before front rest output : List ℕ) → a ≡ Some before → Grows a took → output ≡ front ++ rest → IsPrefixOf took (Some (before ++ front)) []
     → (front : List ℕ) × (rest : List ℕ) × (took ≡ Some (before ++ front)) × (output ≡ front ++ rest)
-cut_front None took before front rest output e g o f = cc
-cut_front (Some x) None before front rest output e g o f = absurd g.1
-cut_front (Some x) (Some y) before front rest output e g o f =
-    let same : x ≡ before = cc in
-    let grown : y ≡ before ++ g.0 = g.1 ∙ ap (λ l. l ++ g.0) same in
-    let joined : before ++ (g.0 ++ f.0) ≡ before ++ front = sym (append_assoc before g.0 f.0) ∙ ap (λ l. l ++ f.0) (sym grown) ∙ f.1 ∙ append-nil (before ++ front) in
-    let parts : g.0 ++ f.0 ≡ front = append_cancel_left before (g.0 ++ f.0) front joined in
-    (g.0, f.0 ++ rest, ap Some grown, o ∙ ap (λ l. l ++ rest) (sym parts) ∙ append_assoc g.0 f.0 rest)
+cut_front a took before front rest output e g o f = grind (arith, append_assoc, append-nil, append_cancel_left)
 
 -- a fault from before a flush
 module _ (out mid new : Output) (fault answer : Option FaultValue) where
@@ -73,9 +65,7 @@ module _ (out mid new : Output) (fault answer : Option FaultValue) where
       → (fault ≡ Some write_failed → (front : List ℕ) × (rest : List ℕ) × (output ≡ front ++ rest) × IsPrefixOf mid.took (Some (before ++ front)) [])
       → (FlushesAll mid fault answer new ⊎ FlushFails mid fault answer new) ⊎ StaysFailed mid fault answer new
       → (front : List ℕ) × (rest : List ℕ) × (new.took ≡ Some (before ++ front)) × (output ≡ front ++ rest)
-  front_by before output took grows more kept cut (inl (inl all)) =
-      let k = kept all.was in
-      (k.0, k.1, kept_known mid.put new.took (before ++ k.0) k.3 all.taken, k.2)
+  front_by before output took grows more kept cut (inl (inl all)) = grind arith
   front_by before output took grows more kept cut (inl (inr fails)) =
       let k = kept fails.was in
       cut_front out.took new.took before k.0 k.1 output took (grows_both out.took mid.took new.took grows more) k.2 (subst (λ put. IsPrefixOf new.took put []) k.3 fails.front)
@@ -86,99 +76,56 @@ module _ (out mid new : Output) (fault answer : Option FaultValue) where
   whole_by : (told : Option FaultValue) (whole : List ℕ) → (fault ≢ Some write_failed → fault ≢ Some no_memory → (fault ≡ told) × (mid.put ≡ Some whole)) → (fault ≡ Some write_failed → mid.sink_has_failed ≡ true)
       → new.sink_has_failed ≡ false → answer ≢ Some no_memory → (FlushesAll mid fault answer new ⊎ FlushFails mid fault answer new) ⊎ StaysFailed mid fault answer new
       → (answer ≡ told) × (new.took ≡ Some whole)
-  whole_by told whole gives writing served memory (inl (inl all)) =
-      let w = gives all.was (λ e. memory (all.same_fault ∙ e)) in
-      (all.same_fault ∙ w.0, kept_known mid.put new.took whole w.1 all.taken)
-  whole_by told whole gives writing served memory (inl (inr fails)) = absurd (false≢true (sym served ∙ fails.sink_failed))
-  whole_by told whole gives writing served memory (inr stays) =
-      absurd (false≢true (sym served ∙ ap (λ (o : Output). o.sink_has_failed) stays.unchanged ∙ writing stays.was))
+  whole_by told whole gives writing served memory p1 = grind arith
 
   told_by : (told : Option FaultValue) (whole : List ℕ) → (IsOfInput fault → (fault ≡ told) × (mid.put ≡ Some whole)) → IsOfInput answer → (FlushesAll mid fault answer new ⊎ FlushFails mid fault answer new) ⊎ StaysFailed mid fault answer new
       → (answer ≡ told) × (new.took ≡ Some whole)
-  told_by told whole gives is (inl (inl all)) =
-      let of_input : IsOfInput fault = record { no_read = λ i line e. is.no_read i line (all.same_fault ∙ e); no_write = all.was; no_growth = λ e. is.no_growth (all.same_fault ∙ e) } in
-      let w = gives of_input in
-      (all.same_fault ∙ w.0, kept_known mid.put new.took whole w.1 all.taken)
-  told_by told whole gives is (inl (inr fails)) = absurd (is.no_write fails.is)
-  told_by told whole gives is (inr stays) = absurd (is.no_write stays.is)
+  told_by told whole gives is p1 = grind arith
 
   -- what was put before the flush was taken with it, unless a write failed
   pub kept_by : (size : ℕ) → (mid.has_failed ≡ true) ⊎ IsPutTo size mid.put → (FlushesAll mid fault answer new ⊎ FlushFails mid fault answer new) ⊎ StaysFailed mid fault answer new
       → (answer ≡ Some write_failed) ⊎ IsPutTo size new.took
-  kept_by size kept (inl (inl all)) =
-      elim kept [
-        | inl failed ↦ absurd (false≢true (sym all.was_served ∙ failed))
-        | inr put ↦ inr (put.0, kept_known mid.put new.took put.0 put.1 all.taken, put.2)
-      ]
-  kept_by size kept (inl (inr fails)) = inl fails.is
-  kept_by size kept (inr stays) = inl stays.is
+  kept_by size kept p1 = grind arith
 
   -- and at a fault nothing else
   pub exact_by : (bytes : List ℕ) → (IsFaultButWrite fault → mid.put ≡ Some bytes) → IsFaultButWrite answer → (FlushesAll mid fault answer new ⊎ FlushFails mid fault answer new) ⊎ StaysFailed mid fault answer new
       → new.took ≡ Some bytes
-  exact_by bytes is stops (inl (inl all)) = kept_known mid.put new.took bytes (is (subst IsFaultButWrite all.same_fault stops)) all.taken
-  exact_by bytes is stops (inl (inr fails)) = absurd (stops.1 fails.is)
-  exact_by bytes is stops (inr stays) = absurd (stops.1 stays.is)
+  exact_by bytes is stops p1 = grind arith
 
   -- without a fault the sink has served in the flush too
   pub served_by : (FlushesAll mid fault answer new ⊎ FlushFails mid fault answer new) ⊎ StaysFailed mid fault answer new → answer ≡ None → (fault ≡ None) × (new.sink_has_failed ≡ mid.sink_has_failed)
-  served_by (inl (inl all)) none = (sym all.same_fault ∙ none, all.sink_served)
-  served_by (inl (inr fails)) none = absurd (let apart : None ≡ Some write_failed = sym none ∙ fails.is in cc)
-  served_by (inr stays) none = absurd (let apart : None ≡ Some write_failed = sym none ∙ stays.is in cc)
+  served_by p1 none = grind arith
 
   -- the fault that is reported is the one before the flush, or a failed write
   pub named_by : {P : FaultValue → Type 0} → ((t : FaultValue) → fault ≡ Some t → P t ⊎ TellsDevice mid.sink_has_failed t)
       → (FlushesAll mid fault answer new ⊎ FlushFails mid fault answer new) ⊎ StaysFailed mid fault answer new
       → (t : FaultValue) → answer ≡ Some t → P t ⊎ TellsDevice new.sink_has_failed t
-  named_by named (inl (inl all)) t e =
-      ⊎_elim (λ p. inl p) (λ d. inr (subst (λ b. TellsDevice b t) (sym all.sink_served) d)) (named t (sym all.same_fault ∙ e))
-  named_by named (inl (inr fails)) t e = inr (inl (some_is t write_failed (sym e ∙ fails.is), fails.sink_failed))
-  named_by named (inr stays) t e =
-      ⊎_elim (λ p. inl p) (λ d. inr (subst (λ (o : Output). TellsDevice o.sink_has_failed t) (sym stays.unchanged) d)) (named t (stays.was ∙ sym stays.is ∙ e))
+  named_by named p1 t e = grind arith
 
   -- where it lies
   pub placed_by : (t : FaultValue) → answer ≡ Some t → lies_in_genome t.place ≡ true
       → (FlushesAll mid fault answer new ⊎ FlushFails mid fault answer new) ⊎ StaysFailed mid fault answer new → fault ≡ Some t
-  placed_by t e lies (inl (inl all)) = sym all.same_fault ∙ e
-  placed_by t e lies (inl (inr fails)) = absurd (false≢true (sym (ap (λ (f : FaultValue). lies_in_genome f.place) (some_is t write_failed (sym e ∙ fails.is))) ∙ lies))
-  placed_by t e lies (inr stays) = stays.was ∙ sym stays.is ∙ e
+  placed_by t e lies p1 = grind arith
 
 -- no line settles nothing
 none_settle : (command : Command) (chromosomes : Option (List Entry)) (second : Option Handed) → (behaviour_of command chromosomes).settles second [] ≡ []
 unfolding good_from settled_gaps settled_depths
-none_settle (Merge d strand) chromosomes second = merge_settles_none (order_of chromosomes) d strand
-none_settle (Complement limit) chromosomes second = refl
-none_settle (Intersect shape rule held) chromosomes second = refl
-none_settle (Subtract whole rule held) chromosomes second = refl
-none_settle (Coverage zeros strand) chromosomes second = refl
-none_settle (BamToBed split cigar) chromosomes second = refl
-none_settle (MaskFasta how full) chromosomes second = refl
-
-none_settle_on : (command : Command) (chromosomes : Result (Option (List Entry)) FaultValue) (second : Option Handed) → (behaviour_on command chromosomes).settles second [] ≡ []
-none_settle_on command (Err fault) second = refl
-none_settle_on command (Ok chromosomes) second = none_settle command chromosomes second
+none_settle command chromosomes second = grind (arith, merge_settles_none)
 
 taken_all : (took : Option (List ℕ)) (before : List ℕ) → took ≡ Some before → IfSome took (λ taken. length (before ++ []) ≤ length taken + block_size)
-taken_all None before e = tt
-taken_all (Some taken) before e =
-    let same : taken ≡ before = cc in
-    omega (arith, ap length same, ap length (append-nil before))
+taken_all took before e = search rules
 
 -- a fault of the first input lies there
 device_elsewhere : (b : Bool) (t : FaultValue) → TellsDevice b t → lies_in_genome t.place ≡ true → ⊥
-device_elsewhere b t (inl write) lies = false≢true (sym (ap (λ (f : FaultValue). lies_in_genome f.place) write.0) ∙ lies)
-device_elsewhere b t (inr memory) lies = false≢true (sym (ap (λ (f : FaultValue). lies_in_genome f.place) memory) ∙ lies)
+device_elsewhere b t p1 lies = grind arith
 
 input_elsewhere : {A : Type 0} (device : Source A) (kinds : Kind → Type 0) (input : Input) (before after : A) (t : FaultValue) → is_of_genome input ≡ false
     → TellsInput device kinds input before after t → lies_in_genome t.place ≡ true → ⊥
-input_elsewhere device kinds input before after t other (inl tells) lies = false≢true (sym other ∙ sym (ap (λ (f : FaultValue). lies_in_genome f.place) tells.is) ∙ lies)
-input_elsewhere device kinds input before after t other (inr tells) lies = false≢true (sym other ∙ sym (ap (λ (f : FaultValue). lies_in_genome f.place) tells.is) ∙ lies)
+input_elsewhere device kinds input before after t other p1 lies = grind arith
 
 if_elsewhere : {B : Type 0} (device : Source B) (kinds : Kind → Type 0) (input : Input) (before after : Option B) (t : FaultValue) → is_of_genome input ≡ false
     → TellsInputIf device kinds input before after t → lies_in_genome t.place ≡ true → ⊥
-if_elsewhere device kinds input None after t other tells lies = absurd tells
-if_elsewhere device kinds input (Some before) None t other tells lies = absurd tells
-if_elsewhere device kinds input (Some before) (Some after) t other tells lies = input_elsewhere device kinds input before after t other tells lies
+if_elsewhere device kinds input before after t other tells lies = grind arith
 
 -- chromosomes that were read aren't at fault
 other_chromosomes : (chromosomes : Result (Option (List Entry)) FaultValue) (entries : Option (List Entry)) (wrong : FaultValue) → chromosomes ≡ Ok entries → chromosomes ≡ Err wrong → ⊥
@@ -186,30 +133,16 @@ other_chromosomes chromosomes entries wrong o e = cc
 
 -- a failed write is reported only if the sink failed
 write_by : {P : Type 0} (b : Bool) → (P → ⊥) → P ⊎ TellsDevice b write_failed → b ≡ true
-write_by b other (inl p) = absurd (other p)
-write_by b other (inr (inl write)) = write.1
-write_by b other (inr (inr memory)) = absurd (memory_no_write (sym memory))
+write_by b other p1 = grind arith
 
 write_of_if : {B : Type 0} (device : Source B) (kinds : Kind → Type 0) (input : Input) (before after : Option B) → TellsInputIf device kinds input before after write_failed → ⊥
-write_of_if device kinds input None after tells = absurd tells
-write_of_if device kinds input (Some before) None tells = absurd tells
-write_of_if device kinds input (Some before) (Some after) tells = tells_no_write device kinds input before after tells
+write_of_if device kinds input before after tells = grind arith
 
 -- an input that wasn't touched was read at most up to its first line
 near_untouched : (Beside : ℕ → Type 0) → ((n : ℕ) → Beside n) → (command : Command) (chromosomes : Result (Option (List Entry)) FaultValue) (second : Option Handed) (text before : List ℕ) (left took more : Option (List ℕ)) → left ≡ Some text → took ≡ Some before → Grows took more
     → (Failed Stops : Type 0) (later : Option (List ℕ)) → Failed ⊎ IsPutTo (length (before ++ [])) later → (Stops → later ≡ Some (before ++ []))
     → ReadsNoFurther Beside ((behaviour_on command chromosomes).settles second) text left before more Failed Stops later
-near_untouched Beside has command chromosomes second text before left took more e t g Failed Stops later kept exact = record {
-  n = 1;
-  some = omega arith;
-  handed = [];
-  consumed = subst (λ o. Consumes o left []) e (Consumes-nil left);
-  read = omega arith;
-  beside = has 1;
-  settled = rw (none_settle_on command chromosomes second) (took_more_than took took more before (length (before ++ [])) t ([], Appends-nil took) g (taken_all took before t));
-  kept = rw (none_settle_on command chromosomes second) kept;
-  exact = rw (none_settle_on command chromosomes second) exact;
-}
+near_untouched Beside has command chromosomes second text before left took more e t g Failed Stops later kept exact = grind (arith, common_steps, none_settle)
 
 module _ {G A B K : Type 0} (source_g : Source G) (source_a : Source A) (source_b : Source B) (sink : Sink K)
     (command : Command) (genome genome_after : Option G) (first first_after : A) (second second_after : Option B) (out out_after : K) (begun mid new : Output) (put : begun.put ≡ sink.took out) (took : begun.took ≡ sink.took out) (served : begun.sink_has_failed ≡ sink.has_failed out)
@@ -240,20 +173,16 @@ module _ {G A B K : Type 0} (source_g : Source G) (source_a : Source A) (source_
     Tells t = TellsInput source_a (behaviour_of command chromosomes).FirstKinds First first first_after t ⊎ TellsInputIf source_b (behaviour_of command chromosomes).SecondKinds Second second second_after t
 
     write_of_others : Tells write_failed → ⊥
-    write_of_others (inl tells) = tells_no_write source_a (behaviour_of command chromosomes).FirstKinds First first first_after tells
-    write_of_others (inr tells) = write_of_if source_b (behaviour_of command chromosomes).SecondKinds Second second second_after tells
+    write_of_others p1 = grind arith
 
     others_elsewhere : (t : FaultValue) → Tells t ⊎ TellsDevice mid.sink_has_failed t → lies_in_genome t.place ≡ true → ⊥
-    others_elsewhere t (inl (inl tells)) lies = input_elsewhere source_a (behaviour_of command chromosomes).FirstKinds First first first_after t refl tells lies
-    others_elsewhere t (inl (inr tells)) lies = if_elsewhere source_b (behaviour_of command chromosomes).SecondKinds Second second second_after t refl tells lies
-    others_elsewhere t (inr tells) lies = device_elsewhere mid.sink_has_failed t tells lies
+    others_elsewhere t p1 lies = grind arith
 
     sink_failed : fault ≡ Some write_failed → mid.sink_has_failed ≡ true
     sink_failed e = write_by mid.sink_has_failed write_of_others (writes.named write_failed e)
 
     of_others : (t : FaultValue) → Tells t ⊎ TellsDevice mid.sink_has_failed t → (GenomeTells t ⊎ OthersTell t) ⊎ TellsDevice mid.sink_has_failed t
-    of_others t (inl tells) = inl (inr (record { chromosomes = chromosomes; named = some_map entries table ∙ knows.named; tells = tells }))
-    of_others t (inr tells) = inr tells
+    of_others t p1 = grind arith
 
     report_is : (inputs : Inputs) → chromosomes_of inputs.genome ≡ Ok chromosomes → report_of command inputs ≡ reported inputs
     unfolding report_of
@@ -312,8 +241,7 @@ module _ {G A B K : Type 0} (source_g : Source G) (source_a : Source A) (source_
 
     genome_named : (t : FaultValue) → TellsInputIf source_g (IsOneOf is_genome_kind) FromGenome genome genome_after wrong ⊎ (wrong ≡ no_memory) → wrong ≡ t
         → (GenomeTells t ⊎ OthersTell t) ⊎ TellsDevice mid.sink_has_failed t
-    genome_named t (inl tells) e = inl (inl (subst (TellsInputIf source_g (IsOneOf is_genome_kind) FromGenome genome genome_after) e tells))
-    genome_named t (inr memory) e = inr (inr (sym e ∙ memory))
+    genome_named t p1 e = grind arith
 
     pub runs_wrong : RunsSo
     runs_wrong = record {
@@ -365,8 +293,4 @@ module _ {G A B K : Type 0} (source_g : Source G) (source_a : Source A) (source_
   shows_report words plan genome first second out fault genome_after first_after second_after out_after genome_text first_text second_text bytes asked runs read empty served memory took =
       let inputs = texts_of plan genome_text first_text second_text in
       let gives = runs.whole inputs [] read empty served memory in
-      let rep = report_of plan.command inputs in
-      let output : bytes ≡ rep.output = some_bytes bytes rep.output (sym took ∙ gives.1) in
-      let plan_seen : seen_of plan rep ≡ seen_of plan (record { output = bytes; fault = fault }) =
-      ap (λ o. seen_of plan (record { output = o; fault = rep.fault })) (sym output) ∙ ap (λ f. seen_of plan (record { output = bytes; fault = f })) (sym gives.0) in
-      ap (λ answer. answer_of words answer genome_text first_text second_text) asked ∙ plan_seen
+      grind arith
