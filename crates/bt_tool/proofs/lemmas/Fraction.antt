@@ -1,6 +1,6 @@
 -- Lemmas on the fraction that digits denote.
 use Rattle.std.proofs.lemmas.Grind.{common_steps}
-use Rattle.bt_lines.proofs.Std.{◌≡◌, ℕ, ◌+◌, ◌-◌, ◌*◌, ◌<◌, ◌≤◌, Bool, true, false, ◌&&◌, List, length, take, get_or, replicate, Option, Some, None, refl, sym, ap, subst, ◌∙◌, arith, zero, suc, ltb, leb, leb-true, cond, get_or-append, get_or-eq_default, get_or-append_right, get_or_default_zero, false≢true, and_right, and_parts, and_left, cond_some, nat_tests, get_or-replicate, length-append, length-replicate, take_all, list_all-append, list_all_at, is_ascii_digit, list_all, unwrap_or, digits_value}
+use Rattle.bt_lines.proofs.Std.{◌≡◌, ℕ, ◌+◌, ◌-◌, ◌*◌, ◌<◌, ◌≤◌, Bool, true, false, ◌&&◌, List, length, take, get_or, replicate, Option, Some, None, refl, sym, ◌∙◌, arith, zero, suc, ltb, leb, cond, get_or-append, get_or-eq_default, get_or-append_right, get_or_default_zero, and_right, and_left, get_or-replicate, length-append, length-replicate, take_all, list_all-append, list_all_at, is_ascii_digit, list_all, unwrap_or, digits_value}
 use Rattle.bt_lines.specs.model.Lines.{value_of as number_of}
 use Rattle.bt_tool.specs.model.Fraction.{are_digits_of_fraction, billionths_in, fraction_in, fraction_of, nine_decimals, one_in_billionths}
 
@@ -9,16 +9,6 @@ if_none b v e = grind arith
 
 none_if : (b : Bool) (v : ℕ) → b ≡ false → None ≡ cond b (Some v) None
 none_if b v e = rw e refl
-
-some_if : (b : Bool) (v n : ℕ) → b ≡ true → v ≡ n → Some n ≡ cond b (Some v) None
-some_if b v n e f = rw (e, f) refl
-
-and_true : (b : Bool) → (b && true) ≡ b
-and_true b = grind arith
-
--- what isn't a number of twelve digits isn't one of at most one
-ones_false : (a b : Bool) (v : ℕ) → a ≡ true → ((a && b) && leb v 999999999999) ≡ false → (b && leb v 1) ≡ false
-ones_false a b v e h = grind arith
 
 module _ (text : List ℕ) where
   pub no_ones : 0 < length text → number_of text ≡ None → None ≡ cond (list_all is_ascii_digit text && leb (digits_value 10 text) 1) (Some (digits_value 10 text)) None
@@ -68,12 +58,6 @@ whole_digits whole decimals = list_all is_ascii_digit whole
 abbrev decimal_digits : List ℕ → List ℕ → Bool
 decimal_digits whole decimals = list_all is_ascii_digit decimals
 
-abbrev few_decimals : List ℕ → List ℕ → Bool
-few_decimals whole decimals = leb (length decimals) 9
-
-abbrev within_one : List ℕ → List ℕ → Bool
-within_one whole decimals = leb (billionths_in whole decimals) 1000000000
-
 module _ (whole decimals : List ℕ) where
   pub no_fraction : are_digits_of_fraction whole decimals ≡ false → None ≡ fraction_in whole decimals
   unfolding fraction_in
@@ -98,9 +82,6 @@ module _ (whole decimals : List ℕ) where
   module _ (ones billionths : ℕ)
       (is_whole : Some ones ≡ cond (list_all is_ascii_digit whole && leb (digits_value 10 whole) 1) (Some (digits_value 10 whole)) None)
       (are_decimals : Some billionths ≡ cond (list_all is_ascii_digit decimals) (Some (digits_value 10 (nine_decimals decimals))) None) where
-    billionths_are : billionths_in whole decimals ≡ ones * 1000000000 + billionths
-    billionths_are = grind arith
-
     pub above_one : 1000000000 < ones * 1000000000 + billionths → None ≡ fraction_in whole decimals
     above_one h = grind (arith, no_fraction)
 

@@ -1,27 +1,25 @@
 -- Lemmas on the words of a command line.
 use Rattle.std.proofs.lemmas.Grind.{common_steps}
-use Rattle.bt_lines.proofs.Std.{rules, ◌≡◌, ℕ, ◌+◌, ◌<◌, ◌≤◌, Bool, true, false, List, [], ◌∷◌, length, Option, Some, None, Err, drop, refl, sym, ap, ◌∙◌, arith, length-drop, Result, Ok, IsTrue, is_some, if◌then◌else◌, IfOk, IfErr, nat_tests, ◌&&◌, cond, subst, ltb, leb, leb-true, All, String, bytes_eq, option_and_then, string_bytes, unwrap_or, is_ascii_digit, list_all, digits_value, le-leb, and_parts, option_or, cond_some, length-map, All-head, All-tail, bytes_eq-Decides, ◌||◌, not, codes, option_map, IsSome, IsNone, list_any, false≢true, not-false, or_parts, ◌++◌, length-append, add_assoc, add-zero, add-one, drop_of_length-le, drop-append-add, drop-cons, option_to_list, get_or, drop-map}
+use Rattle.bt_lines.proofs.Std.{rules, ◌≡◌, ℕ, ◌+◌, ◌<◌, ◌≤◌, Bool, true, false, List, [], ◌∷◌, length, Option, Some, None, Err, drop, refl, sym, ap, ◌∙◌, arith, length-drop, Result, Ok, IsTrue, is_some, if◌then◌else◌, IfOk, IfErr, cond, subst, All, String, bytes_eq, option_and_then, string_bytes, unwrap_or, option_or, length-map, All-head, All-tail, ◌||◌, not, option_map, IsSome, IsNone, list_any, false≢true, or_parts, ◌++◌, add-zero, drop_of_length-le, drop-cons, get_or, drop-map}
 use Rattle.bt_tool.specs.declared.planning.tool.Tool.{Tool}
 use Rattle.bt_tool.specs.declared.options.usage.Usage.{Usage}
-use Rattle.bt_tool.specs.model.Usage.{Item, items_of, spelled, IsTellable, names_word, no_command, unknown_option, required_missing, options_exclusive, input_named_twice, IsItem, words_of, value_missing, bad_value}
-use Rattle.bt_tool.specs.model.Options.{asked, checked, command_of, fault_at, fault_together, options, word_fault, last_item, plan_of, value_of, command_by, has_exclusive, is_given, lacks_one_of, lacks_option, named_by, output_by, overwrites, reads_twice, value_if_any}
+use Rattle.bt_tool.specs.model.Usage.{Item, items_of, IsTellable, no_command, unknown_option, required_missing, options_exclusive, input_named_twice, IsItem, words_of, value_missing, bad_value}
+use Rattle.bt_tool.specs.model.Options.{asked, checked, command_of, fault_together, options, word_fault, last_item, plan_of, value_of, command_by, is_given, output_by, value_if_any}
 use Rattle.bt_tool.specs.model.Table.{Word, Table, table_of, takes, fits, IsNamedBy, tool_of}
 use Rattle.bt_tool.specs.calls.Plan.{plan_seen, IsRefusalOf, words_seen}
-use Rattle.bt_tool.specs.model.Report.{ReportsAnswer, ReportsRefusal, report, answer_of}
+use Rattle.bt_tool.specs.model.Report.{ReportsAnswer, ReportsRefusal, report}
 use Rattle.bt_tool.specs.declared.planning.plan_type.Plan.{Plan}
 use Rattle.bt_tool.specs.declared.options.usage.Refusal.{Refusal}
-use Rattle.bt_tool.specs.declared.options.usage.Refusal.TheVariants.{Usage as InWords, NoMemory}
 use Rattle.std.specs.declared.alloc.Global.{Global}
-use Rattle.bt_lines.specs.model.Lines.{is_number, max_number, value_of as number_of}
+use Rattle.bt_lines.specs.model.Lines.{max_number, value_of as number_of}
 use Rattle.bt_tool.specs.calls.Given.{items_in}
 use Rattle.bt_tool.specs.calls.Lent.{table_lent}
 use Rattle.bt_tool.specs.calls.Limits.{is_limit}
 use Rattle.bt_tool.specs.declared.options.given.Given.{Given}
 use Rattle.bt_tool.specs.declared.options.table.Table.{Table as Lent}
-use Rattle.bt_tool.specs.declared.options.takes.Takes.TheVariants.{FileName, Nothing, Number, Fraction, Strand, Character}
+use Rattle.bt_tool.specs.declared.options.takes.Takes.TheVariants.{FileName}
 use Rattle.bt_tool.proofs.lemmas.Fraction.{limit-or}
 use Rattle.bt_tool.proofs.lemmas.Division.{allowed}
-use Rattle.bt_tool.specs.declared.planning.tool.Tool.TheVariants.{Merge, Complement, Intersect, Subtract, Coverage, BamToBed, MaskFasta}
 use Rattle.bt_tool.specs.declared.options.takes.Takes.{Takes}
 
 -- What a list of words means, from the parts of it that the code finds one after another.
@@ -45,17 +43,6 @@ module _ (words : List Word) where
       → options words ≡ checked command (items_of (table_of command) (drop 1 words))
   options-checked command h g = options-command command h ∙ rw (g, asked) refl
 
--- a fault of one word of `count`
-record IsOfWord (usage : Usage) (at count : ℕ) : Type 0 where
-  at_least : 1 ≤ usage.number
-  at_most : usage.number ≤ 7
-  word : usage.word ≡ at
-  some : 0 < count
-
-of_word : (b : Bool) (number at count : ℕ) (usage : Usage) → 1 ≤ number → number ≤ 7 → 0 < count
-    → (if b then record { number = number; word = at } else unknown_option at) ≡ usage → IsOfWord usage at count
-of_word b number at count usage low high some e = grind arith
-
 word_fault-tellable : (table : Table) (at : ℕ) (words : List Word) (usage : Usage)
     → word_fault table at words ≡ Some usage → IsTellable usage (at + length words)
 unfolding word_fault
@@ -64,16 +51,6 @@ word_fault-tellable table at words usage e = grind (arith, common_steps, length-
 command_of-some : (words : List Word) (command : Tool) → command_of words ≡ Some command
     → 1 + length (drop 1 words) ≡ length words
 command_of-some words command e = grind arith
-
-not_named : (number : ℕ) → 5 ≤ number → IsTrue (names_word number) → ⊥
-not_named number h named = grind arith
-
-not_one : IsTrue (names_word 1) → ⊥
-not_one named = cc
-
-whole-tellable : (told usage : Usage) (count : ℕ)
-    → 5 ≤ told.number → told.number ≤ 7 → told ≡ usage → IsTellable usage count
-whole-tellable told usage count low high e = grind arith
 
 together-tellable : (missing exclusive twice : Bool) (usage : Usage) (count : ℕ)
     → (if missing then Some required_missing else (if exclusive then Some options_exclusive else
@@ -227,12 +204,6 @@ number-is_limit text = limits (number_of text) (number-limit text)
 
 -- Lemmas on the names of a plan: an option that is required names something.
 
--- if nothing is wrong, nothing is lacking
-none-lacks : (lacks exclusive twice : Bool)
-    → (cond lacks (Some required_missing) (cond exclusive (Some options_exclusive) (cond twice (Some input_named_twice) None))) ≡ None
-    → lacks ≡ false
-none-lacks lacks exclusive twice e = grind arith
-
 nothing-lacks : (table : Table) (items : List Item) → fault_together table items ≡ None
     → list_any (λ option. not (is_given items option)) table.required ≡ false
 nothing-lacks table items e = grind arith
@@ -284,20 +255,11 @@ named given table (Some option) copy same none file e = (
   λ h. absurd (false≢true (sym h)),
 )
 
-none-output : (copy : Option (String Global)) (value : Option Word) → value ≡ None
-    → option_map string_bytes copy ≡ output_by value → IsNone copy
-none-output copy value v e = none-copy copy (e ∙ ap output_by v)
-
 -- no command requires the name of its output
 pub named-output : (tool : Tool) (items : List Item) (copy : Option (String Global))
     → option_map string_bytes copy ≡ output_by (value_if_any items (table_of tool).output)
     → IsNamedBy (table_of tool) (table_of tool).output copy
 named-output tool items copy e = grind arith
-
--- the options that name inputs take the names of files
-is-file : (table : Table) (option word : Word) → takes table option ≡ Some FileName
-    → Some option ≡ Some word → takes table word ≡ Some FileName
-is-file table option word file e = let same : option ≡ word = cc in ap (takes table) (sym same) ∙ file
 
 pub genome-file : (tool : Tool) (word : Word) → (table_of tool).genome ≡ Some word
     → takes (table_of tool) word ≡ Some FileName
@@ -329,11 +291,6 @@ pub words-pair : (words : List (String Global)) (at : ℕ) (word value : String 
     → drop at (words_seen words)
     ≡ string_bytes word ∷ string_bytes value ∷ drop (at + 2) (words_seen words)
 words-pair words at word value h e f = grind (arith, words-from)
-
--- an option that may have a value may also have none
-fits-one : (kind : Takes) (value : Word)
-    → fits kind (Some value) ≡ true → fits kind None ≡ false
-fits-one kind value h = grind arith
 
 items_of-alone : (table : Table) (kind : Takes) (option : Word) (rest : List Word)
     → takes table option ≡ Some kind → fits kind None ≡ true
@@ -405,10 +362,6 @@ pub record HasReadWords (table : Table) (words : List Word) (at : ℕ) : Type 0 
 pub record Reads (table : Table) (words : List Word) (option : Word) (at : ℕ) (kept : Option Item) : Type 0 where
   pub fault : word_fault table 1 (drop 1 words) ≡ word_fault table at (drop at words)
   pub last : last_item option (items_of table (drop 1 words)) ≡ option_or (last_item option (items_of table (drop at words))) kept
-
-option_or_assoc : {A : Type 0} (a b c : Option A)
-    → option_or (option_or a b) c ≡ option_or a (option_or b c)
-option_or_assoc a b c = grind arith
 
 fault-moves : (table : Table) (words : List Word) (at : ℕ) (item : Item)
     → IsItem table item → drop at words ≡ words_of item ++ drop (at + length (words_of item)) words

@@ -1,10 +1,10 @@
 -- Lemmas on lists of options that are borrowed, and on the first of them that passes a test.
 use Rattle.std.proofs.lemmas.Grind.{common_steps}
-use Rattle.bt_lines.proofs.Std.{◌≡◌, ℕ, Bool, true, false, cond, List, [], ◌∷◌, Option, Some, None, map, refl, sym, ap, ◌∙◌, arith, find, option_map, ◌||◌, bytes_eq, not, ◌&&◌, ◌==◌, length, list_any, false≢true, nat_tests}
+use Rattle.bt_lines.proofs.Std.{◌≡◌, ℕ, Bool, true, false, cond, List, [], ◌∷◌, Some, None, map, refl, sym, ap, arith, find, option_map, ◌||◌, bytes_eq, not, ◌&&◌, ◌==◌, length, list_any, false≢true}
 use Rattle.bt_tool.specs.model.Usage.{Item, input_named_twice, options_exclusive}
 use Rattle.bt_tool.specs.model.Options.{fault_together, has_exclusive, is_given, lacks_one_of, lacks_option, named_by, overwrites, reads_twice}
-use Rattle.bt_tool.specs.model.Table.{Row, Table, Word, takes}
-use Rattle.bt_tool.specs.calls.Lent.{row_lent, table_lent}
+use Rattle.bt_tool.specs.model.Table.{Table, Word, takes}
+use Rattle.bt_tool.specs.calls.Lent.{table_lent}
 use Rattle.bt_tool.specs.declared.options.table.Table.{Table as Lent}
 use denote.Ref.{Bor}
 
@@ -22,10 +22,6 @@ pub find_of-map : {X Y : Type 0} (h : Y → X) (p : X → Bool) (ys : List Y)
     → find p (map h ys) ≡ option_map h (find (λ y. p (h y)) ys)
 find_of-map h p [] = refl
 find_of-map h p (y ∷ ys) = found-map h p y ys (p (h y)) (find_of-map h p ys)
-
-map-map : {X Y Z : Type 0} (h : Y → X) (k : X → Z) (o : Option Y)
-    → option_map k (option_map h o) ≡ option_map (λ y. k (h y)) o
-map-map h k o = grind arith
 
 -- what an option takes, by the row that is found
 pub takes_lent : (table : Lent) (word : Word)

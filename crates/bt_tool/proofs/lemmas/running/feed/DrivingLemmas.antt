@@ -1,5 +1,5 @@
 -- Lemmas on driving an engine, from the records that it takes to the report on what its input hands over.
-use Rattle.bt_lines.proofs.Std.{◌≡◌, ℕ, suc, ◌-◌, true, List, [], ◌++◌, take, Option, None, Some, Ok, refl, sym, ap, ◌∙◌, subst, append-nil, append_assoc, arith, inl, inr, ◌⊎◌, ◌≢◌, ⊤, IfSome, map-append, Appends, Consumes, Bool, ◌∷◌, option_map, flat_map-append, Appends-nil, false≢true}
+use Rattle.bt_lines.proofs.Std.{◌≡◌, ℕ, suc, ◌-◌, true, List, [], ◌++◌, take, Option, None, Some, Ok, refl, sym, ap, ◌∙◌, subst, append-nil, append_assoc, arith, inl, inr, ◌⊎◌, ◌≢◌, ⊤, IfSome, map-append, Appends, Consumes, Bool, ◌∷◌, option_map, flat_map-append, Appends-nil}
 use Rattle.bt_lines.specs.declared.device.Source.{Ghosts as Source}
 use Rattle.bt_lines.proofs.lemmas.reader.block.ReadsLemmas.{some_is}
 use Rattle.bt_lines.proofs.lemmas.Writer.{grows_both}
@@ -9,10 +9,9 @@ use Rattle.bt_lines.specs.calls.Output.{Output, IsPrefixOf, HoldsBlock, FailsToA
 use Rattle.bt_lines.specs.calls.Reader.{Hands, source_of, input_of, lines_given, GivesEnd, GivesFault, GivesLine, IsKept, IsSound, bytes_taken, fault_kept, feeds_taken, lines_left}
 use Rattle.bt_lines.specs.declared.fault.Input.TheVariants.{First}
 use Rattle.bt_lines.specs.declared.fault.Kind.{Kind}
-use Rattle.bt_lines.specs.declared.fault.Kind.TheVariants.{ReadFailed}
-use Rattle.bt_bed.specs.model.Feature.{Feature, intervals_of, AreNonEmpty, Interval, last_of}
+use Rattle.bt_bed.specs.model.Feature.{Feature, intervals_of, AreNonEmpty, Interval}
 use Rattle.bt_bed.specs.model.BedLine.{fault_at_line, interval_line, interval_lines}
-use Rattle.bt_bed.specs.model.Good.{Format, Good, Member, good, good_handed, items_in, bed_format, bed_good}
+use Rattle.bt_bed.specs.model.Good.{Format, Good, Member, good, good_handed, items_in, bed_format}
 use Rattle.bt_bed.proofs.lemmas.read.good.SaidLemmas.{first_from}
 use Rattle.bt_lines.proofs.lemmas.reader.lines.TextLemmas.{lines_are_numbered}
 use Rattle.bt_bed.specs.calls.Reading.{IsBeyond, MemberReader, good_coming}
@@ -26,11 +25,11 @@ use Rattle.bt_bed.specs.declared.read.records.Records.{Records}
 use Rattle.bt_bed.proofs.lemmas.Definitions.{placed_good, non_empty_good, placed_lines}
 use Rattle.bt_tool.specs.calls.Run.{IsFaultButWrite, IsReported, IsWithin, ReadsNoFurther, TellsDevice, TellsInput, WritesBy, IsOwnFailure, TellsOwnReads, RunsAlone}
 use Rattle.bt_tool.specs.model.Report.{of_members, Holds, OfBoth, of_records}
-use Rattle.bt_tool.proofs.lemmas.running.members.CursorLemmas.{Came, BeginsAt, at_whole, came_whole, good_whole, handed_to, says_fault, tells_fault, begins_over}
+use Rattle.bt_tool.proofs.lemmas.running.members.CursorLemmas.{Came, BeginsAt, at_whole, came_whole, good_whole, handed_to, says_fault, begins_over}
 use Rattle.bt_tool.specs.inside.Feed.{StopCause, CutsLines, PutsLines, FeedsAll, FeedsUpTo, TookButBlock, IsReadFor, member_items, LineRefused, sam_reader, IsFresh, KeepsOwnFault, Passes}
 use Rattle.bt_tool.specs.model.Written.{Report, members_report, members_settle, report_by, Written, IsOneOf, alignment_lines, alignments_written, merge_written, pooled_written, coverage_written}
 use Rattle.bt_tool.proofs.lemmas.running.feed.FeedLemmas.{GoesOn, front_all, text_grows, took_later, Fed, fails_writing, fed_all, fed_none, fed_up_to, goes_same, put_more}
-use Rattle.bt_tool.proofs.lemmas.running.feed.WritingLemmas.{memory_no_write, placed_no_write, is_whole, named_alone, line_no_read, alone_writes}
+use Rattle.bt_tool.proofs.lemmas.running.feed.WritingLemmas.{is_whole, named_alone, alone_writes}
 use Rattle.bt_tool.proofs.lemmas.running.members.SeenLemmas.{PutsFront, puts_front}
 use Rattle.std.specs.Option.{option_map_or}
 use Rattle.bt_lines.specs.declared.fault.Input.{Input}
@@ -40,15 +39,13 @@ use Rattle.bt_seq.specs.calls.Sam.{Converting}
 use Rattle.bt_seq.proofs.lemmas.Sam.{kinds_of_lines, wrong_kinds}
 use Rattle.bt_tool.proofs.lemmas.running.members.MemberLemmas.{IsStopped, came, passes_none, passes_some, read_line}
 use Rattle.bt_bed.proofs.lemmas.read.good.ReadingLemmas.{Going as Steps, going_end, going_start as steps_start, going_unread, going_wrong, good_at_first}
-use Rattle.bt_tool.proofs.lemmas.running.whole.OwnFailureLemmas.{feeds_own}
 use Rattle.bt_bed.specs.model.Genome.{Entry}
 use Rattle.bt_runs.specs.model.Gaps.{settled_gaps, AreTaken as AreTakenBy}
-use Rattle.bt_runs.specs.model.Merged.{AreTaken, merged_runs, passed_by, settled_runs, places_of, settled_strand_runs, strand_runs}
+use Rattle.bt_runs.specs.model.Merged.{AreTaken, merged_runs, settled_runs, places_of, settled_strand_runs, strand_runs}
 use Rattle.bt_runs.specs.calls.Merging.{merge_begun, merge_engine}
 use Rattle.bt_runs.specs.declared.merge.Kind.{Kind as MergeKind}
 use Rattle.bt_runs.specs.declared.merge.Kind.TheVariants.{PerStrand, Unstranded}
 use Rattle.bt_runs.specs.declared.merge.merge_strand.MergeStrand.{MergeStrand}
-use Rattle.bt_runs.specs.declared.merge.merge_strand.MergeStrand.TheVariants.{All, Each, One}
 use Rattle.bt_runs.proofs.lemmas.order.FileOrder.{ordered_come}
 use Rattle.bt_runs.proofs.lemmas.merge.SettledRuns.{runs_begin, runs_stay}
 use Rattle.bt_runs.proofs.lemmas.merge.StrandSettling.{begin, no_strand_settled, stay}

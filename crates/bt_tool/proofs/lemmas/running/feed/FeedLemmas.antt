@@ -1,6 +1,6 @@
 -- What was taken of a reader's members and written of them so far, whatever they are, and what is so when the reading stops. By it, feeding an engine with the records of a reader.
 use Rattle.std.proofs.lemmas.Grind.{common_steps}
-use Rattle.bt_lines.proofs.Std.{rules, ◌≡◌, ℕ, suc, ◌+◌, ◌<◌, ◌≤◌, true, List, [], ◌∷◌, ◌++◌, length, Option, None, Some, Result, Ok, Err, refl, sym, ap, ◌∙◌, subst, append-nil, append_assoc, length-append, arith, inl, inr, ◌⊎◌, IfSome, map-append, All-cons, All-head, All-nil, All-tail, Appends}
+use Rattle.bt_lines.proofs.Std.{rules, ◌≡◌, ℕ, suc, ◌+◌, ◌<◌, ◌≤◌, true, List, [], ◌∷◌, ◌++◌, length, Option, None, Some, Result, Ok, Err, sym, ap, ◌∙◌, subst, append-nil, append_assoc, length-append, arith, inl, inr, ◌⊎◌, IfSome, map-append, All-head, All-nil, All-tail, Appends}
 use Rattle.bt_lines.specs.declared.device.Source.{Ghosts as Source}
 use Rattle.bt_lines.proofs.lemmas.Writer.{grown_works, grows_nothing, grows_both}
 use Rattle.bt_lines.specs.model.Fault.{FaultValue, write_failed, no_memory}
@@ -17,7 +17,7 @@ use Rattle.bt_bed.specs.model.Sorted.{sorting_of, ArePlaced, Locus}
 use Rattle.bt_bed.proofs.lemmas.read.batch.RecordsLemmas.{wrong_of_bed}
 use Rattle.bt_bed.proofs.lemmas.order.OrderLemmas.{placed_prefix}
 use Rattle.bt_bed.specs.model.Order.{IsTotal, Order}
-use Rattle.bt_bed.specs.calls.Reading.{AreSaid, MemberReader, good_coming, members_from}
+use Rattle.bt_bed.specs.calls.Reading.{MemberReader, good_coming, members_from}
 use Rattle.bt_bed.specs.calls.Records.{below, last_locus, order_in, view_of}
 use Rattle.bt_bed.specs.declared.order.ChromOrder.{Ghosts}
 use Rattle.bt_bed.specs.declared.read.records.Records.{Records}
@@ -62,10 +62,6 @@ goes_failed old new grows failed = record { took = grows; put = inl failed; stay
 
 pub goes_works : (old new : Output) → Grows old.took new.took → WorksAsBefore old new → GoesOn old new
 goes_works old new grows works = record { took = grows; put = inr works.put; stays_failed = λ was. works.served ∙ was }
-
--- bytes that were put stay put
-put_more_than : (mid later : Option (List ℕ)) (size : ℕ) → Grows mid later → IsPutTo size mid → IsPutTo size later
-put_more_than mid later size grows kept = grind (arith, length-append)
 
 keeps_later : (out grown later : Output) (bytes : List ℕ) → GoesOn grown later
     → (grown.has_failed ≡ true) ⊎ ((before : List ℕ) → out.put ≡ Some before → IsPutTo (length (before ++ bytes)) grown.put)

@@ -1,7 +1,7 @@
 -- What a command of one input writes, as what any command writes of its inputs.
-use Rattle.bt_lines.proofs.Std.{rules, ◌≡◌, ℕ, ◌+◌, ◌-◌, ◌≤◌, Bool, true, List, [], ◌++◌, length, Option, None, Some, take, refl, sym, ap, ◌∙◌, subst, arith, inl, inr, ◌⊎◌, IfSome, Consumes-nil, false≢true, none-some, suc, ◌^◌, ◌<◌, false, drop, append-nil, All, take-append-add}
+use Rattle.bt_lines.proofs.Std.{rules, ◌≡◌, ℕ, ◌+◌, ◌-◌, ◌≤◌, Bool, true, List, [], ◌++◌, length, Option, None, Some, take, sym, ap, ◌∙◌, subst, arith, inl, inr, ◌⊎◌, IfSome, suc, ◌^◌, ◌<◌, false, drop, All, take-append-add}
 use Rattle.bt_lines.specs.declared.device.Source.{Ghosts as Source}
-use Rattle.bt_lines.specs.model.Fault.{FaultValue, write_failed, no_memory, read_failed}
+use Rattle.bt_lines.specs.model.Fault.{FaultValue, write_failed, read_failed}
 use Rattle.bt_lines.specs.model.Lines.{Handed, TextLine, text_lines, bytes_in, line_feeds}
 use Rattle.bt_lines.specs.calls.Output.{Output, block_size}
 use Rattle.bt_lines.specs.declared.fault.Input.TheVariants.{First}
@@ -12,9 +12,7 @@ use Rattle.bt_tool.specs.model.Written.{Report}
 use Rattle.bt_tool.specs.calls.Run.{IsFaultButWrite, IsOfInput, IsPutTo, IsReported, IsWithin, ReadsNoFurther, TellsInput, WritesBy}
 use Rattle.bt_tool.specs.declared.planning.plan_type.Command.{Command}
 use Rattle.bt_lines.specs.declared.fault.Input.{Input}
-use Rattle.bt_lines.specs.declared.fault.Kind.{Kind}
-use Rattle.bt_lines.specs.declared.fault.Kind.TheVariants.{ReadFailed, WriteFailed, NoMemory}
-use Rattle.bt_bed.specs.model.BedLine.{fault_at_line, is_of_line}
+use Rattle.bt_lines.specs.declared.fault.Kind.TheVariants.{ReadFailed, WriteFailed}
 use Rattle.bt_lines.specs.calls.Reader.{CutsOff, Hands, bytes_taken, end_told}
 use Rattle.bt_lines.specs.declared.reader.line_reader.LineReader.{LineReader}
 use Rattle.bt_lines.proofs.lemmas.reader.lines.TakingLemmas.{hands_both}
@@ -106,24 +104,8 @@ module _ {A B : Type 0} (source_a : Source A) (source_b : Source B) where
 
 -- Lemmas that tell faults apart.
 
--- a fault of a line is no failed read
-pub line_no_read : (input : Input) (line : ℕ) (kind : Kind) (other : Input) (at : ℕ) → is_of_line kind ≡ true
-    → fault_at_line input line kind ≡ read_failed other at → ⊥
-line_no_read input line kind other at of_line e = grind arith
-
--- a fault with a place is no failed write
-pub placed_no_write : (input : Input) (line : ℕ) (kind : Kind) → fault_at_line input line kind ≡ write_failed → ⊥
-placed_no_write input line kind e = none-some (record { input = input; line = line }) (sym (ap (λ (f : FaultValue). f.place) e))
-
-pub memory_no_write : no_memory ≡ write_failed → ⊥
-memory_no_write e = let apart : NoMemory ≡ WriteFailed = ap (λ (f : FaultValue). f.kind) e in cc
-
 pub write_no_read : (input : Input) (line : ℕ) → write_failed ≡ read_failed input line → ⊥
 write_no_read input line e = let apart : WriteFailed ≡ ReadFailed = ap (λ (f : FaultValue). f.kind) e in cc
-
--- a fault of an input isn't a failed write
-pub tells_no_write : {S : Type 0} (device : Source S) (kinds : Kind → Type 0) (input : Input) (before after : S) → TellsInput device kinds input before after write_failed → ⊥
-tells_no_write device kinds input before after p1 = grind arith
 
 -- Lemmas on what was taken of a reader's members and lines, and on what is still to come of them.
 

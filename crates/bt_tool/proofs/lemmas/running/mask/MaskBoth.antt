@@ -1,11 +1,11 @@
 -- Lemmas on a round of masking in which lines and records were given together.
-use Rattle.bt_lines.proofs.Std.{◌≡◌, ℕ, zero, suc, ◌-◌, length-take, ◌+◌, ◌≤◌, ◌<◌, Bool, true, false, List, [], ◌∷◌, ◌++◌, length, take, Option, None, Some, Result, Ok, Err, refl, sym, ap, ◌∙◌, subst, append-nil, append_assoc, option_to_list, arith, inl, inr, append_cancel_left, nil_from_length, ◌⊎◌, OnOk, is_some, nat_eq}
+use Rattle.bt_lines.proofs.Std.{◌≡◌, ℕ, zero, suc, ◌-◌, length-take, ◌+◌, ◌≤◌, ◌<◌, Bool, true, false, List, [], ◌∷◌, ◌++◌, length, take, Option, None, Some, Result, Ok, Err, refl, sym, ap, ◌∙◌, subst, append-nil, append_assoc, option_to_list, arith, inl, inr, append_cancel_left, nil_from_length, ◌⊎◌, OnOk, is_some}
 use Rattle.bt_lines.specs.declared.device.Source.{Ghosts as Source}
 use Rattle.bt_lines.proofs.lemmas.reader.block.BufferLemmas.{fed_none}
 use Rattle.bt_lines.proofs.lemmas.reader.lines.TextLemmas.{bytes_in-lines, whole_count}
-use Rattle.bt_lines.specs.calls.Reader.{BeginsLines, buffered_lines, lines_in, TakenLines, TakesLines, buffered_bytes, buffered_in, has_ended, is_open, lines_given, room as line_room}
+use Rattle.bt_lines.specs.calls.Reader.{BeginsLines, buffered_lines, lines_in, TakenLines, TakesLines, buffered_bytes, buffered_in, has_ended, is_open, lines_given}
 use Rattle.bt_lines.specs.model.Fault.{FaultValue, no_memory}
-use Rattle.bt_lines.specs.model.Lines.{AreNumbered, TextLine, bytes_in}
+use Rattle.bt_lines.specs.model.Lines.{AreNumbered, TextLine}
 use Rattle.bt_lines.specs.calls.Names.{fault_value}
 use Rattle.bt_lines.specs.calls.Output.{Output, FailsToAdd}
 use Rattle.bt_lines.specs.inside.Shape.{IsLast, is_fed}
@@ -17,15 +17,14 @@ use Rattle.bt_bed.specs.calls.Batch.{Passes, cursor_in, left, line_in}
 use Rattle.bt_bed.specs.calls.CursorOf.{batch_cursor}
 use Rattle.bt_bed.specs.model.Feature.{Feature}
 use Rattle.bt_bed.specs.model.Sorted.{Locus}
-use Rattle.bt_bed.specs.calls.Reading.{MemberReader, state_behind}
+use Rattle.bt_bed.specs.calls.Reading.{MemberReader}
 use Rattle.bt_bed.specs.declared.read.batch.Batch.{Batch}
 use Rattle.bt_seq.proofs.lemmas.mask.steps.BedStepLemmas.{goes_more, line_goes}
 use Rattle.bt_seq.proofs.lemmas.mask.steps.CopyLemmas.{wants_line}
 use Rattle.bt_seq.specs.calls.MaskStage.{GoesOn, IsNext, MaskStage, given, is_written_at_once, want_at, with_line}
 use Rattle.bt_seq.specs.calls.MaskState.{Masking}
 use Rattle.bt_seq.specs.calls.MaskSteps.{BothCome, ComesAfter, ComesNext, FailsAfter, FailsAtLines, FailsAtRecord, HasCome, StopsAt, MaskStandsAt, kept_line, FailsWithLine, RefusesLine, bytes_with}
-use Rattle.bt_seq.specs.model.Masked.{Reached, SequenceLine, sequence_format}
-use Rattle.bt_seq.specs.declared.mask.mask_how.MaskHow.{MaskHow}
+use Rattle.bt_seq.specs.model.Masked.{Reached, SequenceLine}
 use Rattle.bt_seq.specs.declared.mask.mask_want.MaskWant.{MaskWant}
 use Rattle.bt_seq.specs.declared.mask.mask_want.MaskWant.TheVariants.{Line as WantLine, Bed as WantBed, Nothing}
 use Rattle.bt_tool.specs.declared.loops.masking.MaskRun.{MaskRun}
@@ -36,7 +35,6 @@ use Rattle.bt_tool.specs.inside.Feed.{HasTaken}
 use Rattle.bt_tool.proofs.lemmas.running.members.MemberLemmas.{items_from, some_map}
 use Rattle.bt_tool.proofs.lemmas.running.mask.MaskAdvanced.{come_on, fails_write, lacks_room, refuses_line, settled}
 use Rattle.bt_tool.proofs.lemmas.running.pair.PairTurns.{none_new}
-use Rattle.bt_tool.proofs.lemmas.running.mask.MaskFacts.{ahead_first, first_of}
 
 -- ---- the record ahead
 
@@ -55,14 +53,8 @@ module _ {S State : Type 0} (second second_now : MemberReader S Feature State) (
 pub waits_is : {stage : MaskStage} {mask : Masking} → MaskStandsAt stage mask → is_some mask.waiting ≡ is_some stage.waiting
 waits_is {stage} {mask} stands = ap is_some stands.waiting_is ∙ some_map kept_line stage.waiting
 
-pub rounds_most : (waits : Bool) (want : MaskWant) → mask_rounds waits want ≤ 3
-rounds_most waits want = grind arith
-
 pub rounds_few : (waits : Bool) (want : MaskWant) → waits ≡ false → mask_rounds waits want ≤ 2
 rounds_few waits want e = grind arith
-
-not_one : (n : ℕ) → nat_eq n 1 ≡ false → n - 1 ≡ 0 → n ≡ 0
-not_one n e h = grind arith
 
 -- if bytes are buffered, a line is
 no_bytes : (is_open : Bool) (lines : ℕ) (bytes : List ℕ) → is_fed bytes ≡ true → IsLast is_open is_open bytes [] → buffered_lines is_open lines bytes ≡ [] → length bytes ≡ 0
@@ -95,9 +87,6 @@ module _ {A B : Type 0} {source_a : Source A} {source_b : Source B} {start : Mas
   module _ (masked : Masking) (now : Output) (comes : HasCome start.mask.how start.mask.full s.stage texts taken out masked now) (stops : StopsAt batch_cursor masked.want last_lines last_beds) where
     abbrev final : MaskStage
     final = comes.stage
-
-    less_room : line_room new + length texts ≤ line_room lines
-    less_room = omega (arith, takes.taken_is, takes.shrinks, are.feeds)
 
     same_by : texts ≡ [] → s.stage.waiting ≡ None → final.waiting ≡ None
     same_by none waits = grind (arith, append-nil, none_new, append_cancel_left, append_assoc)

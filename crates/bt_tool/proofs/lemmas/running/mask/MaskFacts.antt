@@ -1,5 +1,5 @@
 -- The facts of masking that its report and its reading rest on.
-use Rattle.bt_lines.proofs.Std.{◌≡◌, ℕ, suc, ◌<◌, ◌≤◌, Bool, true, false, not, List, [], ◌∷◌, ◌++◌, take, refl, sym, ap, ◌∙◌, subst, append-nil, append_assoc, inl, inr, Option, Some, None, Result, Err, cond, ◌⊎◌, ◌||◌, All, IsTrue, list_all, false≢true, or_left, or_right, All-head, All-tail, list_any-append, flat_map, option_to_list, is_none, option_map, and_from, flat_map-append, list_all-append, arith}
+use Rattle.bt_lines.proofs.Std.{◌≡◌, ℕ, suc, ◌<◌, ◌≤◌, Bool, true, false, List, [], ◌∷◌, ◌++◌, take, refl, sym, ap, ◌∙◌, subst, append-nil, append_assoc, inl, inr, Option, Some, None, Result, Err, cond, ◌⊎◌, ◌||◌, All, IsTrue, list_all, or_left, or_right, All-head, All-tail, list_any-append, flat_map, option_to_list, is_none, option_map, and_from, flat_map-append, list_all-append, arith}
 use Rattle.bt_lines.specs.model.Lines.{TextLine, bytes_in}
 use Rattle.bt_bed.specs.model.Feature.{Feature}
 use Rattle.bt_bed.specs.model.BedLine.{is_record_kind, record_of}
@@ -11,7 +11,7 @@ use Rattle.bt_tool.specs.model.Written.{bytes_up_to, last_needed, is_mask_kind}
 use Rattle.bt_tool.specs.inside.Feed.{member_items}
 use Rattle.bt_tool.specs.inside.MaskLoop.{leaves_some, mask_join}
 use Rattle.bt_tool.proofs.lemmas.running.pair.PairMet.{AreLimits}
-use Rattle.bt_tool.proofs.lemmas.running.pair.PairNear.{AreNeeded, least_by, not_all, skip_by, take_whole}
+use Rattle.bt_tool.proofs.lemmas.running.pair.PairNear.{AreNeeded, least_by, not_all, take_whole}
 use Rattle.bt_lines.specs.declared.fault.Kind.{Kind}
 use Rattle.bt_bed.specs.model.Sorted.{Locus, block_sorting}
 use Rattle.bt_bed.proofs.lemmas.read.good.SaidLemmas.{wrong_is_of_record}
@@ -21,7 +21,7 @@ use Rattle.bt_seq.specs.calls.MaskStage.{GoesOn, MayFollow, seen_at, MaskStage}
 use Rattle.bt_tool.proofs.lemmas.running.pair.PairTurns.{all_or}
 use Rattle.bt_tool.specs.inside.Pair.{MayCome, SettlesPair, item_ahead}
 
--- so who leave one of some lines undecided, do so with fewer records
+-- records that leave one of some lines undecided still do if there are fewer
 fewer_leave : (lines : List SequenceLine) (records more : List Feature) → leaves_some lines (records ++ more) ≡ true → leaves_some lines records ≡ true
 fewer_leave [] records more e = e
 fewer_leave (line ∷ lines) records more e = grind (arith, decided_stays, fewer_leave lines records more)

@@ -1,5 +1,5 @@
 -- Lemmas on the rounds of masking over two readers.
-use Rattle.bt_lines.proofs.Std.{◌≡◌, Bool, true, false, Option, None, Some, Result, Ok, Err, refl, sym, ◌∙◌, subst, ℕ, ◌≤◌, ◌<◌, List, [], length, ap, arith, inl, inr, IsErrAnd, ◌⊎◌, is_some, false≢true}
+use Rattle.bt_lines.proofs.Std.{◌≡◌, Bool, true, false, Option, None, Some, Result, Ok, Err, refl, sym, ◌∙◌, subst, ◌≤◌, ◌<◌, [], ap, arith, inl, IsErrAnd, ◌⊎◌, is_some, false≢true}
 use Rattle.bt_lines.specs.declared.device.Source.{Ghosts as Source}
 use Rattle.bt_lines.proofs.lemmas.reader.block.ReadsLemmas.{has_read_then, reads_same}
 use Rattle.bt_lines.specs.model.Fault.{FaultValue}
@@ -24,15 +24,15 @@ use Rattle.bt_tool.specs.calls.Run.{TellsNoRead}
 use Rattle.bt_tool.specs.inside.Feed.{IsOwnFault, KeepsOwnFault, IsFresh}
 use Rattle.bt_tool.proofs.lemmas.running.members.MemberLemmas.{IsFilled, IsOver, passes_start}
 use Rattle.bt_tool.specs.inside.MaskLoop.{GoesOn, MaskComes, MaskIsOver, mask_run, wanted_by, Masks, mask_rounds, line_members, mask_join, mask_pair, nothing_reached}
-use Rattle.bt_tool.proofs.lemmas.running.mask.MaskedLemmas.{AdvancesMask, MaskEnds, IsMaskReady, mask_left, finishes, stops_lines, stops_records, ends_alone, ends_lines, ends_waiting, fails_at_end, line_made, lines_done, no_line, record_made}
+use Rattle.bt_tool.proofs.lemmas.running.mask.MaskedLemmas.{AdvancesMask, MaskEnds, IsMaskReady, mask_left, finishes, stops_lines, stops_records, ends_alone, ends_lines, ends_waiting, fails_at_end, line_made, lines_done, record_made}
 use Rattle.bt_tool.specs.inside.Rounds.{IsLessOrReady, IsLessIfReady, LeadsTo}
 use Rattle.bt_tool.proofs.lemmas.running.members.BlockMembers.{block_filled, block_over, block_stopped, blocks_going, gives_over}
 use Rattle.bt_tool.proofs.lemmas.running.whole.OwnFailureLemmas.{kept_below, line_told_kept, none_kept, own_then, told_kept}
 use Rattle.bt_bed.proofs.lemmas.read.good.ReadingLemmas.{same_room}
 use Rattle.bt_bed.specs.model.Feature.{Feature}
-use Rattle.bt_bed.specs.model.Good.{Member, block_format}
+use Rattle.bt_bed.specs.model.Good.{block_format}
 use Rattle.bt_bed.specs.model.Sorted.{Locus}
-use Rattle.bt_bed.specs.calls.Reading.{MemberReader, first_from}
+use Rattle.bt_bed.specs.calls.Reading.{MemberReader}
 use Rattle.bt_tool.proofs.lemmas.running.mask.MaskBoth.{rounds_few, waits_is}
 use Rattle.bt_lines.specs.declared.fault.Input.TheVariants.{First}
 use Rattle.bt_bed.specs.calls.SortedReader.{view_with}
@@ -40,24 +40,14 @@ use Rattle.bt_seq.specs.declared.mask.mask_how.MaskHow.{MaskHow}
 use Rattle.bt_tool.specs.inside.Pair.{IsOverWith}
 use Rattle.bt_tool.proofs.lemmas.running.pair.PairTurns.{comes_start}
 
--- what is wanted at some points
-at_line : (waits : Bool) (want : MaskWant) → want ≡ WantLine → mask_rounds waits want ≡ 2
-at_line waits want e = ap (mask_rounds waits) e
-
 at_waiting : (waits : Bool) (want : MaskWant) → waits ≡ true → want ≡ WantBed → mask_rounds waits want ≡ 3
 at_waiting waits want e w = ap (λ b. mask_rounds b want) e ∙ ap (mask_rounds true) w
 
 at_records : (waits : Bool) (want : MaskWant) → waits ≡ false → want ≡ WantBed → mask_rounds waits want ≡ 1
 at_records waits want e w = ap (λ b. mask_rounds b want) e ∙ ap (mask_rounds false) w
 
-at_last : (waits bed_ended : Bool) (want : MaskWant) → waits ≡ false → want ≡ want_of false true bed_ended → mask_rounds waits want ≤ 1
-at_last waits bed_ended want e w = grind arith
-
 at_end : (waits : Bool) (want : MaskWant) → want ≡ Nothing → mask_rounds waits want ≡ 0
 at_end waits want e = ap (mask_rounds waits) e
-
-some_there : (line : ℕ) (records : List Feature) (m : Member Feature) → first_from line records ≡ Some m → 0 < length records
-some_there line records m e = grind arith
 
 module _ {A B : Type 0} {source_a : Source A} {source_b : Source B} {start : MaskRun A B} {before : Output} {at : Reached} {lines : LineReader A} {second : MemberReader B Feature (Option Locus)}
     {mask : Masking} {out : Output} (s : Masks source_a source_b start before at lines second mask out) where

@@ -1,5 +1,5 @@
 -- What giving an engine that masks does, by the parts of a run.
-use Rattle.bt_lines.proofs.Std.{rules, ◌≡◌, arith, ℕ, ◌+◌, ◌*◌, ◌<◌, ◌≤◌, Option, Some, Result, Ok, Err, is_some, length, suc, Bool, true, false, not, List, [], ◌∷◌, ◌++◌, None, refl, sym, ap, ◌∙◌, subst, append-nil, append_assoc, option_to_list, inl, inr, ◌⊎◌, IfSome, IsTrue, false≢true, or_left, or_right, map-append}
+use Rattle.bt_lines.proofs.Std.{rules, ◌≡◌, arith, ℕ, ◌+◌, ◌*◌, ◌<◌, ◌≤◌, Option, Some, Result, Ok, Err, is_some, length, suc, Bool, true, false, not, List, [], ◌∷◌, ◌++◌, None, refl, sym, ap, ◌∙◌, subst, append-nil, append_assoc, option_to_list, inl, inr, ◌⊎◌, IfSome, IsTrue, false≢true, or_right, map-append}
 use Rattle.bt_lines.specs.declared.device.Source.{Ghosts as Source}
 use Rattle.bt_lines.specs.model.Fault.{FaultValue}
 use Rattle.bt_lines.specs.calls.Names.{fault_value}
@@ -26,12 +26,11 @@ use Rattle.bt_lines.specs.declared.fault.Input.TheVariants.{Second}
 use Rattle.bt_lines.specs.declared.fault.Kind.{Kind}
 use Rattle.bt_lines.specs.declared.fault.Kind.TheVariants.{NoSequence}
 use Rattle.bt_bed.specs.calls.Blocks.{view_of}
-use Rattle.bt_bed.specs.model.Good.{Format, Good, Member, AreInBlocks}
+use Rattle.bt_bed.specs.model.Good.{Format, Good, Member}
 use Rattle.bt_seq.proofs.lemmas.definitions.MaskPrefixLemmas.{decided_stays, masked_before, first_is_told, lack_none}
 use Rattle.bt_seq.specs.calls.MaskSteps.{FailsAtRecord, IsOpen, MaskMovesTo}
 use Rattle.bt_seq.proofs.lemmas.mask.steps.CopyLemmas.{last_waits, wants_bed, wants_line}
 use Rattle.bt_seq.proofs.lemmas.mask.steps.AdvanceLemmas.{going}
-use Rattle.bt_seq.proofs.lemmas.mask.steps.LineStepLemmas.{open_undecided}
 use Rattle.bt_seq.specs.declared.mask.mask_how.MaskHow.{MaskHow}
 use Rattle.bt_seq.specs.declared.mask.mask_want.MaskWant.TheVariants.{Line as WantLine, Bed as WantBed, Nothing}
 use Rattle.bt_tool.specs.model.Written.{is_fasta_kind, is_mask_kind}
@@ -131,9 +130,6 @@ module _ {A B : Type 0} {source_a : Source A} {source_b : Source B} {start : Mas
 
   abbrev stage : MaskStage
   stage = s.stage
-
-  abbrev first : MemberReader A SequenceLine Reached
-  first = line_members start.mask.full at lines
 
   -- the lines given have come as far as is known
   pub come_so_far : at ≡ reached stage
@@ -247,9 +243,6 @@ module _ {A B : Type 0} {source_a : Source A} {source_b : Source B} {start : Mas
 
     m_ahead : ahead_in second ≡ Some m
     m_ahead = ap (first_from (suc (lines_given second.below))) buffered
-
-    seen : stage.taken ++ option_to_list (item_ahead second) ≡ stage.taken ++ r ∷ []
-    seen = ap (λ (o : Option Feature). stage.taken ++ option_to_list o) next
 
     -- if it decides the waiting line, that stays as it is
     settles_decided : (a : SequenceLine) → decided a (stage.taken ++ r ∷ []) ≡ true → IsKnown pair

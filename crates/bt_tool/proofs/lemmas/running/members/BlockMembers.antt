@@ -1,14 +1,11 @@
 -- Lemmas on a reader of records in blocks as one of members, and on a reader of lines at its end.
-use Rattle.bt_lines.proofs.Std.{◌≡◌, ℕ, Bool, true, false, List, [], take, None, Ok, Err, refl, ap, ◌∙◌, subst, option_map, false≢true, IfSome_then, suc, ◌+◌, ◌-◌, ◌<◌, ◌≤◌, cond, ◌∷◌, ◌++◌, length, drop, Option, Some, sym, append_assoc, append-nil, length-append, arith, inl, All, IfSome, drop-append_seam, All-append, All-nil}
+use Rattle.bt_lines.proofs.Std.{◌≡◌, ℕ, Bool, true, false, List, [], take, None, Ok, Err, refl, ap, ◌∙◌, subst, option_map, IfSome_then, suc, ◌+◌, ◌-◌, ◌≤◌, cond, ◌∷◌, ◌++◌, length, drop, Option, Some, sym, append_assoc, append-nil, length-append, arith, All, IfSome, drop-append_seam, All-append}
 use Rattle.bt_lines.specs.declared.device.Source.{Ghosts as Source}
 use Rattle.bt_lines.proofs.lemmas.reader.lines.BufferedLemmas.{none_left}
-use Rattle.bt_lines.specs.calls.Reader.{buffered_lines, buffered_bytes, buffered_in, fault_kept as line_fault, has_ended, is_open, lines_given, DropsLines, GivesEnd, GivesFault, Hands, IsKept, MakesLine, TakenLines, TakesLines, bytes_left, end_told, held, input_of, left_at, lines_left, source_of}
+use Rattle.bt_lines.specs.calls.Reader.{buffered_bytes, buffered_in, fault_kept as line_fault, has_ended, is_open, lines_given, DropsLines, GivesEnd, GivesFault, IsKept, MakesLine, TakenLines, TakesLines, bytes_left, held, input_of, lines_left, source_of}
 use Rattle.bt_lines.specs.calls.Names.{fault_value}
-use Rattle.bt_lines.specs.inside.ReadBuffer.{ended_at, lends_at, open_at}
 use Rattle.bt_lines.specs.declared.fault.Fault.{Fault}
 use Rattle.bt_lines.specs.declared.reader.line_reader.LineReader.{LineReader}
-use Rattle.bt_lines.specs.declared.reader.line_reader.State.{State}
-use Rattle.bt_lines.specs.declared.reader.line_reader.State.TheVariants.{Reading, LastLine, Ended, ReadFailed, TooLong, NoMemory}
 use Rattle.bt_bed.proofs.lemmas.read.good.SaidRuns.{taken_are, LinesSay, good_said, say_front}
 use Rattle.bt_bed.specs.calls.Batch.{IsWhere, Passes as PassesBatch, cursor_in, left}
 use Rattle.bt_bed.specs.calls.SortedReader.{view_with}
@@ -16,7 +13,7 @@ use Rattle.bt_bed.specs.declared.read.batch.Consumed.{Consumed}
 use Rattle.bt_bed.specs.calls.Blocks.{FillsBlocks, count_in, Lends, TakesBlocks, below, buffered_in as records_in, fault_kept, view_of}
 use Rattle.bt_bed.specs.model.Feature.{Feature}
 use Rattle.bt_bed.specs.model.BedLine.{fault_at_line}
-use Rattle.bt_bed.specs.calls.Reading.{BeginsComing, Takes, IsBeyond, IsFaultBeyond, AreSaid, MemberReader, first_from, good_behind, good_coming, members_from, state_behind, with_members}
+use Rattle.bt_bed.specs.calls.Reading.{BeginsComing, IsBeyond, AreSaid, MemberReader, good_behind, good_coming, members_from, state_behind, with_members}
 use Rattle.bt_bed.specs.declared.read.batch.Batch.{Batch}
 use Rattle.bt_bed.specs.declared.read.blocks.Blocks.{Blocks}
 use Rattle.bt_tool.specs.inside.Feed.{HasTaken, ComeFirst, IsReadFor, Passes, StopsAfter}
@@ -24,20 +21,17 @@ use Rattle.bt_tool.proofs.lemmas.running.members.MemberLemmas.{IsFilled, IsOver,
 use Rattle.bt_tool.proofs.lemmas.running.members.PassedLemmas.{consumed_of, or_none}
 use Rattle.bt_lines.proofs.lemmas.reader.lines.TakingLemmas.{hands_both, sound_near, is_prefix, near_next}
 use Rattle.bt_lines.specs.model.Fault.{FaultValue}
-use Rattle.bt_lines.specs.model.Lines.{AreNumbered, TextLine, lines_from}
+use Rattle.bt_lines.specs.model.Lines.{AreNumbered, TextLine}
 use Rattle.bt_lines.specs.calls.Output.{block_size}
 use Rattle.bt_lines.specs.declared.reader.buffered_lines.ConsumedLines.{ConsumedLines}
 use Rattle.bt_lines.specs.declared.fault.Kind.{Kind}
 use Rattle.bt_lines.specs.declared.fault.Kind.TheVariants.{TextBeforeHeader}
-use Rattle.bt_bed.proofs.lemmas.read.good.ReadingLemmas.{near_pass, pass_more, drops_pass, left_numbered, some_bytes, Going, going_end, going_start, going_unread}
+use Rattle.bt_bed.proofs.lemmas.read.good.ReadingLemmas.{near_pass, drops_pass, left_numbered, some_bytes, Going, going_end, going_start, going_unread}
 use Rattle.bt_bed.specs.model.Good.{Good, Member, good_from}
 use Rattle.bt_seq.specs.calls.MaskStage.{SayEach}
 use Rattle.bt_seq.specs.model.Masked.{Reached, SequenceLine, is_header, line_says, may_stand, sequence_format}
 use Rattle.bt_tool.specs.inside.MaskLoop.{line_members}
 use Rattle.bt_tool.proofs.lemmas.running.feed.WritingLemmas.{lines_on, up_to}
-
-over_at : (state : State) → ended_at state ≡ true → (lends_at state ≡ false) × (open_at state ≡ false)
-over_at state e = grind arith
 
 -- after the end no line is buffered
 pub none_over : {S : Type 0} (reader : LineReader S) → has_ended reader ≡ true → buffered_in reader ≡ []
@@ -115,15 +109,6 @@ front_of (x ∷ front) more (y ∷ all) e = grind (arith, (front_of front more a
 lines_same : (start now new : Option (List TextLine)) (given later : ℕ) → later ≡ given → IfSome start (λ lines. now ≡ Some (drop given lines)) → DropsLines now 0 new → IfSome start (λ lines. new ≡ Some (drop later lines))
 lines_same start now new given later e p s = grind arith
 
-none_by : (told : Bool) (held : List ℕ) (number : ℕ) → option_map (lines_from number) (left_at told held None) ≡ None
-none_by told held number = grind arith
-
-some_by : (told : Bool) (held : List ℕ) (number : ℕ) (rest : List ℕ) → option_map (lines_from number) (left_at told held (Some rest)) ≡ None → ⊥
-some_by told held number rest e = grind arith
-
-unknown_by : (a b : Option (List ℕ)) (t u : Bool) (h k : List ℕ) (n m : ℕ) → b ≡ a → option_map (lines_from n) (left_at t h a) ≡ None → option_map (lines_from m) (left_at u k b) ≡ None
-unknown_by a b t u h k n m e none = grind arith
-
 -- if no lines are known, none are once some were taken
 still_unknown : {S : Type 0} (left : S → Option (List ℕ)) (old new : LineReader S) → source_of new ≡ source_of old → lines_left left old ≡ None → lines_left left new ≡ None
 unfolding bytes_left
@@ -196,9 +181,6 @@ module _ {S : Type 0} (device : Source S) (full : Bool) where
     abbrev pub reached_then : Reached
     reached_then = state_behind (sequence_format full) reached items
 
-    goes : line_fault new ≡ None
-    goes = takes.fault_is ∙ going
-
     say_known : IfSome (lines_left device.left lines) (λ all. LinesSay (sequence_format full) reached all items)
     say_known = say_by (lines_left device.left lines) (is_prefix device.left lines)
       where
@@ -213,16 +195,6 @@ module _ {S : Type 0} (device : Source S) (full : Bool) where
 
       pub has_taken : HasTaken device (known_members reached items lines) items (line_members full reached_then new)
       has_taken = grind (arith, append-nil, say_said, good_then)
-
-      first_by : (number : ℕ) (items : List SequenceLine) (m : Member SequenceLine) (good then : Option (Good SequenceLine)) → option_map (with_members (members_from number items)) then ≡ good → first_from number items ≡ Some m
-          → IfSome good (λ good. (rest : List (Member SequenceLine)) × (good.members ≡ m ∷ rest))
-      first_by number [] m good then e is = absurd (let apart : None ≡ Some m = is in cc)
-      first_by number (item ∷ items) m None then e is = tt
-      first_by number (item ∷ items) m (Some good) None e is = absurd (let apart : None ≡ Some good = e in cc)
-      first_by number (item ∷ items) m (Some good) (Some then) e is =
-          let same : record { line = number; item = item } ≡ m = cc in
-          let whole : with_members (members_from number (item ∷ items)) then ≡ good = cc in
-          (members_from (suc number) items ++ then.members, ap (λ g. g.members) (sym whole) ∙ ap (λ x. x ∷ (members_from (suc number) items ++ then.members)) same)
 
       -- they were known to come
       pub passes_known : (old : MemberReader S SequenceLine Reached) (past : List (Member SequenceLine)) → Passes device old past (line_members full reached lines) → Passes device old past (known_members reached items lines)
@@ -258,9 +230,6 @@ module _ {S : Type 0} (device : Source S) (full : Bool) where
     given_is : lines_given new ≡ suc count
     given_is = omega (arith, takes.given, are.given, length-append before (line ∷ []), say_count full reached before items say)
 
-    same_input : input_of lines ≡ input_of old.below
-    same_input = g.bytes.1.same_input
-
     good_stops : (rest : List TextLine) → good_from (sequence_format full) (input_of lines) (state_behind (sequence_format full) reached items) (line ∷ rest) ≡ record { members = []; fault = Some fault }
     unfolding good_from
     good_stops rest = grind arith
@@ -285,9 +254,6 @@ module _ {S : Type 0} (device : Source S) (full : Bool) where
 
     clear : line_fault new ≡ None
     clear = takes.fault_is ∙ g.clear
-
-    bytes_then : (bytes : List ℕ) × Hands device.left old.below bytes new
-    bytes_then = (g.bytes.0 ++ [], hands_both device.left old.below lines new g.bytes.0 [] g.bytes.1 takes.hands)
 
     -- so it stops there
     pub refuses : (Kinds : Kind → Type 0) → Kinds kind → StopsAfter device old Kinds (past ++ members) fault refused

@@ -1,11 +1,11 @@
 -- Lemmas on lines that were consumed of those buffered: the lines that are left tell how many bytes they had.
 use Rattle.std.proofs.lemmas.Grind.{common_steps}
-use Rattle.bt_lines.proofs.Std.{◌≡◌, ℕ, zero, suc, ◌+◌, ◌-◌, ◌≤◌, Bool, true, false, nat_eq, List, [], ◌∷◌, ◌++◌, length, take, drop, refl, sym, ap, ◌∙◌, subst, append_assoc, append-nil, length-append, length-take, length-drop, arith, inl, inr, ◌⊎◌, All, flat_map, drop-append_seam, take-append_seam, take-length, take-append-drop, All-cons, All-head, All-nil, All-tail, ◌≢◌, Option, Some, ◌^◌, None, ◌<◌, nat_le, nat_tests, append_cancel_right, Consumes, ⊎_elim, IfSome, IsSome, option_map}
+use Rattle.bt_lines.proofs.Std.{◌≡◌, ℕ, zero, suc, ◌+◌, ◌-◌, ◌≤◌, Bool, true, false, nat_eq, List, [], ◌∷◌, ◌++◌, length, take, drop, refl, sym, ap, ◌∙◌, subst, append_assoc, append-nil, length-append, length-take, length-drop, arith, inl, inr, ◌⊎◌, All, flat_map, drop-append_seam, take-append_seam, take-length, take-append-drop, All-cons, All-head, All-nil, All-tail, ◌≢◌, Option, Some, ◌^◌, None, ◌<◌, nat_le, append_cancel_right, Consumes, IfSome, IsSome, option_map}
 use Rattle.bt_lines.proofs.lemmas.reader.block.BufferLemmas.{fed_clear, fed_drop, fed_last, fed_none, fed_push}
 use Rattle.bt_lines.proofs.lemmas.reader.lines.TextLemmas.{lines_from-fed, lines_from-last, lines_from-nil, spelled-fed, by_lines, lines_are_numbered, whole_lines_are_numbered, bytes_in-lines, line_feeds-append, line_feeds-fed, whole_count, whole_lines_from-fed, whole_lines_from-last, bytes_in-append, whole_front}
 use Rattle.bt_lines.proofs.lemmas.reader.lines.BufferedLemmas.{lines_taken}
 use Rattle.bt_lines.specs.calls.Reader.{BeginsLines, IsWhere, PassesLines, buffered_lines, lines_in, rest_in, TakenLines, buffered_bytes, is_open, lines_given, CutsOff, Hands, source_of, bytes_taken, feeds_taken, IsSound, fault_kept, input_of, lines_left}
-use Rattle.bt_lines.specs.model.Lines.{AreNumbered, TextLine, bytes_in, fed_line, last_line, line_feeds, lines_from, spelled, whole_lines_from, Handed, whole_text, text_lines, whole_lines}
+use Rattle.bt_lines.specs.model.Lines.{AreNumbered, TextLine, bytes_in, fed_line, last_line, line_feeds, lines_from, spelled, whole_lines_from, Handed, whole_text, text_lines}
 use Rattle.bt_lines.specs.inside.Shape.{IsLast, is_fed}
 use Rattle.bt_lines.specs.declared.reader.buffered_lines.BufferedLines.{BufferedLines}
 use Rattle.bt_lines.specs.declared.reader.buffered_lines.ConsumedLines.{ConsumedLines}
@@ -15,12 +15,10 @@ use Rattle.bt_lines.specs.model.Fault.{FaultValue, read_failed}
 use Rattle.bt_lines.specs.declared.fault.Input.{Input}
 use Rattle.bt_tool.specs.model.Report.{Reads, handed_by}
 use Rattle.bt_lines.specs.calls.Output.{block_size}
-use Rattle.bt_bed.specs.model.Good.{Format, Member, good, good_from, good_handed, Good, or_else}
+use Rattle.bt_bed.specs.model.Good.{Format, Member, good, good_handed, Good}
 use Rattle.bt_bed.specs.calls.Reading.{IsBeyond, MemberReader, good_coming}
 use Rattle.bt_bed.proofs.lemmas.read.good.SaidLemmas.{first_from}
-use Rattle.bt_tool.specs.calls.Run.{PassesBound, TellsInput}
 use Rattle.bt_lines.specs.declared.fault.Kind.{Kind}
-use Rattle.bt_bed.specs.model.BedLine.{fault_at_line}
 use Rattle.bt_tool.specs.inside.Feed.{IsFresh, HasFaultBehind, IsUnreadBehind}
 
 -- after a piece and its line feed complete lines go on
@@ -239,16 +237,6 @@ module _ {A State : Type 0} (format : Format A State) (input : Input) where
       ≡ record { members = past; fault = Some (read_failed input (suc (line_feeds cut))) }
   cut_good cut more past rest fault members at up beyond = grind (arith, first_from, (lines_are_numbered 1 (cut ++ more)), (whole_front 1 cut more), (whole_count 1 cut))
 
--- what a source handed over is its whole text, if it worked and passed no bound
-pub handed_whole : (failed passed : Bool) (text bytes : List ℕ) → failed ≡ false → passed ≡ false
-    → handed_by failed passed text bytes ≡ whole_text text
-handed_whole failed passed text bytes f p = grind arith
-
--- if it failed, it's what was handed over before
-pub handed_cut : (failed passed : Bool) (text bytes : List ℕ) → failed ≡ true
-    → handed_by failed passed text bytes ≡ record { text = take (2 ^ 63 - 1) bytes; is_cut = true }
-handed_cut failed passed text bytes f = grind arith
-
 -- and if it passed the bound
 pub handed_past : (failed passed : Bool) (text bytes : List ℕ) → passed ≡ true
     → handed_by failed passed text bytes ≡ record { text = take (2 ^ 63 - 1) bytes; is_cut = true }
@@ -273,9 +261,6 @@ past_bound n h = grind arith
 module _ {S : Type 0} (device : Source S) (first last : S) (old new : LineReader S) (source : source_of old ≡ first) (ended : source_of new ≡ last) (fresh : bytes_taken old ≡ 0) where
   pub consumed_by : (bytes : List ℕ) → Hands device.left old bytes new → Consumes (device.left first) (device.left last) bytes
   consumed_by bytes hands = subst (λ s. Consumes (device.left first) (device.left s) bytes) ended (subst (λ s. Consumes (device.left s) (device.left (source_of new)) bytes) source hands.left_over)
-
-  pub passes_by : (bytes : List ℕ) × Hands device.left old bytes new → 2 ^ 63 ≤ bytes_taken new → PassesBound (device.left first) (device.left last)
-  passes_by hands past = (hands.0, consumed_by hands.0 hands.1, omega (arith, past, hands.1.counted, fresh))
 
   -- the bytes that a run was handed are those that the reader took
   pub taken_by : (handed : Handed) (reads : Reads device first last handed) (bytes : List ℕ) → Hands device.left old bytes new → (reads.bytes ≡ bytes) × (length reads.bytes ≡ bytes_taken new)
@@ -318,9 +303,6 @@ module _ {S : Type 0} (device : Source S) (first last : S) (old new : LineReader
 pub some_of : {A : Type 0} (a : Option A) (value : A) (P : A → Type 0) → a ≡ Some value → IfSome a P → P value
 some_of a value P e h = grind arith
 
-pub or_else_none : (fault : Option FaultValue) → or_else fault None ≡ fault
-or_else_none fault = grind arith
-
 -- what is good of a whole text
 pub good_whole : {A State : Type 0} (format : Format A State) (input : Input) (text : List ℕ) → good_handed format input (whole_text text) ≡ good format input (text_lines text)
 good_whole format input text = grind arith
@@ -357,9 +339,6 @@ module _ {S A State : Type 0} (device : Source S) (format : Format A State) (inp
   pub at_whole : (text : List ℕ) → device.left first ≡ Some text → (P : Good A → Type 0) → IfSome (good_coming device.left old) P → P (good_handed format input (whole_text text))
   at_whole text e P h = subst P (sym (good_whole format input text)) (some_of (good_coming device.left old) (good format input (text_lines text)) P (good_known text e) h)
 
-  pub text_known : (fault : Option FaultValue) (handed : Handed) → Came device first last fault handed → (text : List ℕ) × (device.left first ≡ Some text)
-  text_known fault handed p1 = grind arith
-
   -- an input that worked
   pub came_whole : (fault : Option FaultValue) (handed : Handed) → Came device first last fault handed → (bytes : List ℕ) × Hands device.left old.below bytes new.below
       → device.has_failed (source_of new.below) ≡ device.has_failed (source_of old.below) → bytes_taken new.below < 2 ^ 63
@@ -395,11 +374,6 @@ module _ {S A State : Type 0} (device : Source S) (format : Format A State) (inp
       → HasFaultBehind device old Kinds past fault new → ((good_handed format input handed).members ≡ past) × ((good_handed format input handed).fault ≡ Some fault)
   says_fault Kinds past fault handed came hands (inl wrong) = grind (arith, (came_whole (Some fault) handed came hands wrong.served wrong.within (λ good. (good.members ≡ past) × (good.fault ≡ Some fault)) wrong.whole))
   says_fault Kinds past fault handed came hands (inr unread) = grind (arith, (came_cut past fault handed came unread))
-
-  -- what the fault tells
-  pub tells_fault : (Kinds : Kind → Type 0) (past : List (Member A)) (fault : FaultValue) → (bytes : List ℕ) × Hands device.left old.below bytes new.below
-      → HasFaultBehind device old Kinds past fault new → TellsInput device Kinds input first last fault
-  tells_fault Kinds past fault hands p1 = grind arith
 
   -- what was handed over, by how many lines were read
   pub handed_to : (count : ℕ) (text : List ℕ) → device.left first ≡ Some text

@@ -1,27 +1,23 @@
 -- What a reader that was filled has become.
-use Rattle.bt_lines.proofs.Std.{◌≡◌, None, IfSome_then, ℕ, suc, ◌+◌, ◌-◌, ◌≤◌, ◌<◌, Bool, true, false, List, [], ◌∷◌, ◌++◌, length, take, drop, Option, Some, Err, refl, sym, ap, ◌∙◌, subst, append_assoc, arith, inl, inr, is_some, ◌⊎◌, All, IfSome, IsSome, option_map, drop-drop, length-append, length-drop, map-append, take-append-drop, All-append, All-cons, All-nil, false≢true, Consumes, Ok, All-push}
+use Rattle.bt_lines.proofs.Std.{◌≡◌, None, IfSome_then, ℕ, suc, ◌+◌, ◌-◌, ◌≤◌, Bool, true, false, List, [], ◌∷◌, ◌++◌, length, take, drop, Option, Some, Err, refl, sym, ap, ◌∙◌, subst, append_assoc, arith, inl, inr, is_some, ◌⊎◌, All, IfSome, IsSome, option_map, drop-drop, length-append, length-drop, map-append, take-append-drop, All-append, All-nil, Ok, All-push}
 use Rattle.bt_lines.specs.declared.device.Source.{Ghosts as Source}
 use Rattle.bt_lines.specs.model.Fault.{FaultValue, read_failed}
 use Rattle.bt_lines.specs.calls.Reader.{IsKept, fault_kept as line_fault, Hands, bytes_left, end_told, has_ended, held, left_at, source_of, input_of, lines_given, lines_left, GivesLine}
 use Rattle.bt_bed.specs.model.Good.{Member, Format, Good, ends_with, good_from}
 use Rattle.bt_bed.specs.calls.Reading.{AnswersFault, EndsMembers, GivesMember, MemberReader, IsBeyond, AreSaid, Cause, Remains, ahead_in, first_from, good_coming, members_from, state_behind, with_members, LinesPass}
-use Rattle.bt_lines.proofs.lemmas.reader.block.ReadsLemmas.{memory_no_read}
 use Rattle.bt_lines.specs.model.Lines.{TextLine, bytes_in, lines_from}
 use Rattle.bt_lines.specs.calls.Output.{block_size}
 use Rattle.bt_lines.specs.declared.fault.Input.{Input}
 use Rattle.bt_lines.specs.declared.fault.Kind.{Kind}
 use Rattle.bt_lines.specs.declared.reader.line_reader.LineReader.{LineReader}
 use Rattle.bt_lines.specs.declared.reader.line_reader.State.{State}
-use Rattle.bt_lines.specs.declared.reader.line_reader.State.TheVariants.{Ended, LastLine, NoMemory, ReadFailed, Reading, TooLong}
-use Rattle.bt_lines.specs.inside.ReadBuffer.{complete, unread, ended_at, lends_at, open_at, told_at}
-use Rattle.bt_lines.specs.inside.Shape.{held_at}
-use Rattle.bt_lines.proofs.lemmas.reader.lines.TakingLemmas.{hands_none, hands_both, sound_near, given_drops}
+use Rattle.bt_lines.specs.inside.ReadBuffer.{unread}
+use Rattle.bt_lines.proofs.lemmas.reader.lines.TakingLemmas.{hands_none, hands_both, sound_near}
 use Rattle.bt_lines.proofs.lemmas.reader.lines.TextLemmas.{bytes_in-append}
-use Rattle.bt_bed.specs.model.BedLine.{fault_at_line}
 use Rattle.bt_tool.specs.inside.Feed.{IsFresh, AreAll, ComeFirst, HasFaultBehind, HasTaken, IsReadFor, LacksMemory, Passes, StopsAfter, member_items}
 use Rattle.bt_bed.proofs.lemmas.read.good.ReadingLemmas.{near_pass, LineCame}
-use Rattle.bt_tool.proofs.lemmas.running.feed.WritingLemmas.{line_no_read, begins_beyond, begins_with, come_none, cuts_both, lines_on, near_from_start, none_passed, up_to, whole_with}
-use Rattle.bt_tool.proofs.lemmas.running.pair.StopLemmas.{beyond_less, beyond_now, stops_faulty, coming_is}
+use Rattle.bt_tool.proofs.lemmas.running.feed.WritingLemmas.{begins_beyond, begins_with, come_none, cuts_both, lines_on, near_from_start, none_passed, up_to, whole_with}
+use Rattle.bt_tool.proofs.lemmas.running.pair.StopLemmas.{beyond_now, stops_faulty, coming_is}
 use Rattle.bt_lines.specs.calls.Line.{GivesFirst}
 
 module _ {S A State : Type 0} (device : Source S) where
@@ -101,12 +97,6 @@ come_same old now peeked past c r = grind arith
 pub some_map : {A B : Type 0} (f : A → B) (o : Option A) → is_some (option_map f o) ≡ is_some o
 some_map f o = grind arith
 
-some_left : (told : Bool) (bytes : List ℕ) (left : Option (List ℕ)) → is_some (left_at told bytes left) ≡ is_some left
-some_left told bytes left = grind arith
-
-consumes_known : (a b : Option (List ℕ)) (bytes : List ℕ) → Consumes a b bytes → IsSome a → IsSome b
-consumes_known a b bytes c k = grind arith
-
 coming_known : {S A State : Type 0} (left : S → Option (List ℕ)) (old new : MemberReader S A State) (bytes : List ℕ) → Hands left old.below bytes new.below
     → IsSome (good_coming left old) → IsSome (good_coming left new)
 unfolding good_coming bytes_left
@@ -115,13 +105,6 @@ coming_known left old new bytes hands k = grind arith
 bytes_known : {S : Type 0} (left : S → Option (List ℕ)) (old new : LineReader S) (bytes : List ℕ) → Hands left old bytes new → IsSome (lines_left left old) → IsSome (left (source_of new))
 unfolding bytes_left
 bytes_known left old new bytes hands k = grind arith
-
--- after the last line nothing is held
-none_held : (is_open : Bool) (complete rest : List ℕ) → is_open ≡ false → complete ≡ [] → rest ≡ [] → held_at is_open complete rest ≡ []
-none_held is_open complete rest o c r = grind arith
-
-ended_state : (state : State) → ended_at state ≡ true → (open_at state ≡ false) × (lends_at state ≡ false) × (told_at state ≡ true)
-ended_state state e = grind arith
 
 ended_held : {S : Type 0} (reader : LineReader S) → has_ended reader ≡ true → held reader ≡ []
 unfolding has_ended held
@@ -155,14 +138,6 @@ no_more : (start now : Option (List TextLine)) (given later : ℕ) → given ≤
 no_more None now given later h p e = tt
 no_more (Some start) None given later h p e = cc
 no_more (Some start) (Some now) given later h p e = grind (arith, (length-drop given start), (length-drop (later - given) now))
-
--- nothing but a fault is to come if nothing is left
-none_taken : {A : Type 0} (now next : Option (Good A)) (taken : List (Member A)) (fault : Option FaultValue) → IsSome now → option_map (with_members taken) next ≡ now
-    → IfSome now (λ good. good ≡ ends_with fault) → taken ≡ []
-none_taken None next taken fault k e f = absurd (false≢true k)
-none_taken (Some n) None taken fault k e f = absurd (let apart : None ≡ Some n = e in cc)
-none_taken (Some n) (Some x) [] fault k e f = refl
-none_taken (Some n) (Some x) (m ∷ taken) fault k e f = grind arith
 
 -- more lines leave no more
 pub near_more : (lines : Option (List TextLine)) (rest : Option (List ℕ)) (count more : ℕ) → count ≤ more → IfSome lines (λ lines. IfSome rest (λ rest. bytes_in (drop count lines) ≤ length rest + block_size))

@@ -3,7 +3,7 @@ use Rattle.bt_lines.proofs.Std.{◌≡◌, ℕ, suc, ◌+◌, ◌<◌, true, fal
 use Rattle.bt_lines.specs.declared.device.Source.{Ghosts as Source}
 use Rattle.bt_lines.specs.model.Fault.{FaultValue}
 use Rattle.bt_lines.specs.calls.Names.{fault_value}
-use Rattle.bt_lines.specs.calls.Reader.{HasRead, bytes_taken, fault_kept as line_fault, lines_given, source_of}
+use Rattle.bt_lines.specs.calls.Reader.{HasRead, fault_kept as line_fault, lines_given}
 use Rattle.bt_lines.proofs.lemmas.reader.block.ReadsLemmas.{counts_none}
 use Rattle.bt_lines.specs.declared.fault.Fault.{Fault}
 use Rattle.bt_bed.specs.model.Feature.{Feature, interval_of, intervals_of, Interval, last_of}
@@ -33,12 +33,6 @@ line_going records e = or_none (option_map fault_value records.sorted.fault) (li
 members_split : {A : Type 0} (from : ℕ) (xs ys : List A) → members_from from (xs ++ ys) ≡ members_from from xs ++ members_from (from + length xs) ys
 members_split from [] ys = ap (λ (n : ℕ). members_from n ys) (let none : from ≡ from + 0 = omega arith in none)
 members_split {A} from (x ∷ xs) ys = grind (arith, (members_split (suc from) xs ys))
-
-first_is : {A : Type 0} (from : ℕ) (items : List A) (m : Member A) (rest : List (Member A)) → first_from from items ≡ Some m → (more : List (Member A)) × (members_from from items ++ rest ≡ m ∷ more)
-first_is from [] m rest e = absurd (let apart : None ≡ Some m = e in cc)
-first_is {A} from (x ∷ xs) m rest e =
-    let same : record { line = from; item = x } ≡ m = cc in
-    (members_from (suc from) xs ++ rest, ap (λ (m : Member A). m ∷ (members_from (suc from) xs ++ rest)) same)
 
 pub comes_next : {A : Type 0} (from given : ℕ) (now next : Option (Good A)) (taken left : List A) (m : Member A) → given ≡ from + length taken
     → IfSome now (λ good. (rest : List (Member A)) × (good.members ≡ members_from from (taken ++ left) ++ rest)) → option_map (with_members (members_from from taken)) next ≡ now

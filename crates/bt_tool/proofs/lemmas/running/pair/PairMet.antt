@@ -1,5 +1,5 @@
 -- What all members of two inputs give.
-use Rattle.bt_lines.proofs.Std.{ℕ, ◌||◌, List, is_none, ◌≡◌, suc, ◌+◌, ◌≤◌, ◌<◌, Bool, true, false, [], ◌∷◌, ◌++◌, Option, None, Some, refl, sym, ap, ◌∙◌, subst, append_assoc, append-nil, arith, flat_map, inl, inr, ◌⊎◌, ◌≢◌, All, IfSome, IsSome, option_to_list, take, list_all, option_or, false≢true, or_from, map-append, All-head, All-tail}
+use Rattle.bt_lines.proofs.Std.{ℕ, ◌||◌, List, is_none, ◌≡◌, suc, ◌+◌, ◌≤◌, ◌<◌, Bool, true, false, [], ◌∷◌, ◌++◌, Option, None, Some, refl, sym, ap, ◌∙◌, subst, append_assoc, append-nil, arith, flat_map, inl, inr, ◌⊎◌, ◌≢◌, All, IfSome, IsSome, option_to_list, take, list_all, false≢true, or_from, map-append, All-head, All-tail}
 use Rattle.bt_lines.specs.model.Fault.{FaultValue, no_memory, write_failed}
 use Rattle.bt_bed.specs.model.Good.{Good, items_in, or_else, Format, Member, good_handed}
 use Rattle.bt_bed.specs.model.Meeting.{Met, Rule, join_report, written}
@@ -11,13 +11,13 @@ use Rattle.bt_lines.specs.calls.Output.{Output, IsPrefixOf, block_size}
 use Rattle.bt_lines.specs.calls.Reader.{input_of, lines_given, source_of}
 use Rattle.bt_lines.specs.declared.fault.Input.TheVariants.{First, Second}
 use Rattle.bt_bed.specs.calls.Reading.{IsBeyond, MemberReader, good_coming}
-use Rattle.bt_bed.proofs.lemmas.Definitions.{all_stop, all_written, met_fault_all, met_fault_stop, met_lines, written_past, written_stop}
+use Rattle.bt_bed.proofs.lemmas.Definitions.{all_stop, met_fault_stop, met_lines, written_past, written_stop}
 use Rattle.bt_tool.specs.model.Report.{Behaviour, HandsUpTo, Holds, OfBoth, Reads, ReadsIf, or_empty}
 use Rattle.bt_tool.specs.model.Written.{met_report}
 use Rattle.bt_tool.specs.calls.Run.{WritesBy, IsFaultButWrite, IsReported, IsWithin, ReadsNoFurther, TellsDevice, TellsInput}
-use Rattle.bt_tool.proofs.lemmas.running.members.CursorLemmas.{Came, BeginsAt, at_whole, came_cut, came_whole, is_known, says_fault, tells_fault, text_known}
+use Rattle.bt_tool.proofs.lemmas.running.members.CursorLemmas.{Came, BeginsAt, at_whole, came_cut, came_whole, is_known, says_fault}
 use Rattle.bt_tool.specs.inside.Feed.{PutsLines, member_items, HasFaultBehind}
-use Rattle.bt_tool.proofs.lemmas.running.feed.WritingLemmas.{memory_no_write, is_whole}
+use Rattle.bt_tool.proofs.lemmas.running.feed.WritingLemmas.{is_whole}
 use Rattle.bt_tool.proofs.lemmas.running.members.SeenLemmas.{PutsFront, puts_front}
 
 module _ {X Y : Type 0} (join : JoinDef X Y) where
@@ -70,19 +70,11 @@ module _ {X Y : Type 0} (join : JoinDef X Y) where
   abbrev MeetsAs : Good X → Good Y → List ℕ → Option FaultValue → Type 0
   MeetsAs first second bytes fault = ((met_whole join first second).lines ≡ bytes) × ((met_whole join first second).fault ≡ fault)
 
-  -- what is reported when all of the first is written
-  abbrev last_of : Good X → Good Y → Option FaultValue
-  last_of first second = or_else (join.last (items_in first) second.members) second.fault
-
   -- these members are decided, and have these bytes
   abbrev HereAs : Good Y → List X → List ℕ → Type 0
   HereAs second xs bytes = (list_all (λ x. is_none second.fault || join.decided x (items_in second)) xs ≡ true) × (flat_map (λ x. join.bytes x (items_in second)) xs ≡ bytes)
 
   module _ (first : Good X) (second : Good Y) (xs : List X) (bytes : List ℕ) (here : HereAs second xs bytes) where
-    -- all members of the first are written
-    meets_all : items_in first ≡ xs → MeetsAs first second bytes (option_or first.fault (last_of first second))
-    meets_all is = grind arith
-
     -- one of them waits, which the second input doesn't decide
     meets_stop : (a : X) (rest : List X) (fault : FaultValue) → items_in first ≡ xs ++ a ∷ rest → second.fault ≡ Some fault → join.decided a (items_in second) ≡ false → MeetsAs first second bytes (Some fault)
     meets_stop a rest fault is told undecided_by =
@@ -398,9 +390,6 @@ module _ {A B X Y U V : Type 0} (join : JoinDef X Y) (pair : Pair A B X Y U V) (
           | inr other ↦ subst TellsBoth (some_is other.0 told (sym other.1 ∙ e)) (inr (inl (record { line = other.2.line; kind = other.2.kind; of_kind = other.2.of_kind; is = other.2.is })))
         ]
       ]
-
-  inputs_no_write : InputsEnd join pair out w.written w.wrote.given w.wrote.ended first second fault → fault ≡ Some write_failed → ⊥
-  inputs_no_write end e = grind arith
 
   named_by : (told : FaultValue) → fault ≡ Some told → Because → TellsBoth told ⊎ TellsDevice grown.sink_has_failed told
   named_by told e (inl (end, puts, works)) = inl (tells_by told e end)

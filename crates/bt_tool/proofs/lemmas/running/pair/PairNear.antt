@@ -11,7 +11,7 @@ use Rattle.bt_lines.specs.declared.fault.Kind.{Kind}
 use Rattle.bt_lines.proofs.lemmas.reader.lines.TextLemmas.{bytes_in-append, lines_are_numbered}
 use Rattle.bt_bed.specs.model.Feature.{Feature}
 use Rattle.bt_bed.specs.model.Good.{Format, Good, Member, good, good_from, good_handed, good_with, items_in}
-use Rattle.bt_bed.specs.calls.Reading.{AreAscending, IsBeyond, MemberReader, good_coming, BeginsComing, ahead_in, first_from as first_of_members}
+use Rattle.bt_bed.specs.calls.Reading.{MemberReader, good_coming, BeginsComing, ahead_in, first_from as first_of_members}
 use Rattle.bt_bed.proofs.lemmas.read.good.SaidLemmas.{ascend_from, first_from}
 use Rattle.bt_tool.specs.model.Written.{bytes_up_to}
 use Rattle.bt_tool.specs.calls.Run.{IsFaultButWrite, IsWithin, ReadsNoFurther}
@@ -21,8 +21,7 @@ use Rattle.bt_tool.specs.inside.Pair.{HasNoMore, JoinDef, MayCome, Pair, AsksFor
 use Rattle.bt_tool.proofs.lemmas.running.members.CursorLemmas.{BeginsAt, at_whole, good_whole, handed_to, is_known}
 use Rattle.bt_tool.proofs.lemmas.running.pair.PairMet.{may_come}
 use Rattle.bt_lines.specs.declared.device.Source.{Ghosts as Source}
-use Rattle.bt_lines.specs.declared.fault.Fault.{Fault}
-use Rattle.bt_bed.specs.calls.Batch.{HasEnded, IsWhere, Passes, batch_room, cursor_in, left as left_in, line_in}
+use Rattle.bt_bed.specs.calls.Batch.{IsWhere, Passes, batch_room, cursor_in, left as left_in, line_in}
 use Rattle.bt_bed.specs.calls.CursorOf.{batch_cursor}
 use Rattle.bt_bed.specs.calls.SortedReader.{view_with}
 use Rattle.bt_bed.specs.calls.Records.{IsTaken, Lends, TakesRecords, below, buffered_in, count_in, view_of}
@@ -148,10 +147,6 @@ module _ {A B X Y U V : Type 0} (join : JoinDef X Y) (pair : Pair A B X Y U V) (
         let read = asks.near known in
         let handed = handed_to pair.source_b second_format Second two_before pair.second begins_second second two_after ended_second read.count two f read.near near.wrote.second_bytes in
         grind (arith, given_on)
-
-    -- the end of the first input wasn't reported, or not all of its lines were consumed
-    no_end : HasNoMore pair first count → IsWithin (pair.source_a.end_told one_after) one (suc count) → ⊥
-    no_end all within = grind arith
 
     beside : HasNoMore pair first count ⊎ AsksFor join pair out near.given_first second → IsWithin (pair.source_a.end_told one_after) one (suc count)
         → HandsUpTo pair.source_b.left (reaches (whole_text two) (take (suc count) (text_lines one)) + block_size) two_before two_after

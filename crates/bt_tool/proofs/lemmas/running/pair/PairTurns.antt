@@ -1,8 +1,8 @@
 -- How one stage of two inputs follows another.
 use Rattle.std.proofs.lemmas.Grind.{common_steps}
-use Rattle.bt_lines.proofs.Std.{rules, ◌≡◌, true, List, [], ◌∷◌, ◌++◌, ℕ, Bool, false, ◌||◌, Option, None, Some, refl, sym, ap, ◌∙◌, subst, append-nil, append_assoc, flat_map, option_to_list, IsSome, is_none, option_map, list_all, false≢true, and_from, or_left, or_right, flat_map-append, list_all-append, suc, ◌≤◌, length, drop, ◌+◌, inl, inr, ◌⊎◌, All, IfSome, append_cancel_left, map-append, same_from_push, ◌<◌, Err, arith, All-push}
+use Rattle.bt_lines.proofs.Std.{rules, ◌≡◌, true, List, [], ◌∷◌, ◌++◌, ℕ, Bool, false, ◌||◌, Option, None, Some, refl, sym, ap, ◌∙◌, subst, append-nil, append_assoc, flat_map, option_to_list, is_none, option_map, list_all, false≢true, and_from, or_left, or_right, flat_map-append, list_all-append, suc, ◌≤◌, length, drop, ◌+◌, inl, inr, ◌⊎◌, All, IfSome, append_cancel_left, map-append, same_from_push, ◌<◌, Err, arith, All-push}
 use Rattle.bt_lines.specs.declared.device.Source.{Ghosts as Source}
-use Rattle.bt_lines.specs.calls.Reader.{end_told, source_of, lines_given, lines_left, Hands, HasRead, bytes_taken}
+use Rattle.bt_lines.specs.calls.Reader.{end_told, source_of, lines_given, lines_left, Hands, HasRead}
 use Rattle.bt_bed.specs.model.Good.{Member}
 use Rattle.bt_bed.specs.calls.Reading.{MemberReader, GivesMember, ahead_in, first_from, good_coming, members_from}
 use Rattle.bt_tool.specs.inside.Feed.{IsReadFor, Passes, HasPut, member_items, AreAll, HasTaken}
@@ -12,10 +12,9 @@ use Rattle.bt_lines.specs.model.Lines.{bytes_in, TextLine}
 use Rattle.bt_lines.specs.calls.Output.{Output, HoldsBlock, block_size, Grown}
 use Rattle.bt_tool.proofs.lemmas.running.members.MemberLemmas.{IsFilled, IsOver, ended_after_all, items_from, passes_all, passes_end, passes_fill, passes_take, read_before, read_here, IsStopped, fails_before_end, passes_stop}
 use Rattle.bt_tool.proofs.lemmas.running.feed.FeedLemmas.{put_more, put_none}
-use Rattle.bt_lines.specs.calls.Device.{ReadsCounted}
 use Rattle.bt_lines.specs.declared.reader.line_reader.LineReader.{LineReader}
 use Rattle.bt_lines.specs.declared.fault.Kind.{Kind}
-use Rattle.bt_lines.proofs.lemmas.reader.lines.TakingLemmas.{hands_none, hands_both}
+use Rattle.bt_lines.proofs.lemmas.reader.lines.TakingLemmas.{hands_both}
 use Rattle.bt_tool.specs.inside.SweepLoop.{ChecksUpTo}
 use Rattle.bt_tool.proofs.lemmas.running.feed.WritingLemmas.{up_to}
 

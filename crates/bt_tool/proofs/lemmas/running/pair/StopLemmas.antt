@@ -1,5 +1,5 @@
 -- How far a reader of members has come when it stops at a fault.
-use Rattle.bt_lines.proofs.Std.{IfSome_then, ◌≡◌, ℕ, suc, ◌+◌, ◌-◌, ◌<◌, ◌≤◌, List, [], ◌∷◌, length, drop, Option, Some, None, Result, Ok, Err, refl, sym, ap, ◌∙◌, subst, arith, ◌⊎◌, All, IfSome, option_map, inl, inr, All-cons, All-head, All-nil}
+use Rattle.bt_lines.proofs.Std.{IfSome_then, ◌≡◌, ℕ, suc, ◌+◌, ◌-◌, ◌<◌, ◌≤◌, List, [], ◌∷◌, length, drop, Option, Some, None, Result, refl, sym, ap, ◌∙◌, subst, arith, ◌⊎◌, All, IfSome, option_map, inl, inr, All-nil}
 use Rattle.bt_lines.specs.declared.device.Source.{Ghosts as Source}
 use Rattle.bt_lines.specs.model.Fault.{FaultValue, no_memory}
 use Rattle.bt_lines.specs.model.Lines.{AreNumbered, TextLine, bytes_in, lines_from}
@@ -13,7 +13,6 @@ use Rattle.bt_lines.proofs.lemmas.reader.lines.TextLemmas.{lines_are_numbered}
 use Rattle.bt_bed.specs.model.Good.{Format, Good, Member, ends_with, good_from, good_with}
 use Rattle.bt_bed.specs.calls.Reading.{AreAscending, IsBeyond, IsFaultBeyond, AnswersFault, Cause, LastUnkept, LineIsWrong, LinesPass, MemberReader, SaidNothing, good_behind, good_coming}
 use Rattle.bt_bed.specs.model.BedLine.{fault_at_line}
-use Rattle.bt_bed.proofs.lemmas.read.good.ReadingLemmas.{near_pass}
 use Rattle.bt_bed.proofs.lemmas.read.good.SaidLemmas.{ascend_from, beyond_from}
 
 -- The first `count` lines have none of the members still to come and no fault. Of known bytes those
@@ -27,9 +26,6 @@ pub record StopsBehind {S A State : Type 0} (left : S → Option (List ℕ)) (ol
 -- a fault of a line, if there is one, lies after the first `count` lines
 abbrev FaultBeyond : ℕ → Option FaultValue → Type 0
 FaultBeyond count fault = IfSome fault (IsFaultBeyond count)
-
-fault_less : (less more : ℕ) (fault : Option FaultValue) → less ≤ more → FaultBeyond more fault → FaultBeyond less fault
-fault_less less more fault h f = IfSome_then fault f (λ fault f. IfSome_then fault.place f (λ p up. omega (arith, h, up)))
 
 module _ {A State : Type 0} (format : Format A State) (input : Input) where
   fault_with : (count line : ℕ) (state : State) (said : Result (Option A) Kind) (rest : State → Good A)
@@ -70,10 +66,6 @@ module _ {A State : Type 0} (format : Format A State) (input : Input) where
   beyond_first : (state : State) (number : ℕ) (lines : List TextLine) (rest : List (Member A)) (m : Member A) (count : ℕ) → AreNumbered number lines
       → (good_from format input state lines).members ≡ m ∷ rest → suc count ≡ m.line → IsBeyond count (good_from format input state lines)
   beyond_first state number lines rest m count n e at = grind (arith, (ascend_from format input number state lines n), (fault_comes_last number state lines n), ascending_beyond)
-
--- what lies after more lines lies after fewer
-pub beyond_less : {A : Type 0} (less more : ℕ) (good : Good A) → less ≤ more → IsBeyond more good → IsBeyond less good
-beyond_less less more good h b = grind arith
 
 -- what is good of the lines that are left, for a reader without a fault
 pub coming_is : {S A State : Type 0} (left : S → Option (List ℕ)) (reader : MemberReader S A State) → reader.fault ≡ None

@@ -1,45 +1,40 @@
 -- Lemmas on failed reads that are reported: each is of a read that failed in the run, whatever its source did before.
-use Rattle.bt_lines.proofs.Std.{rules, ◌≡◌, ℕ, Option, None, Some, Err, List, ap, sym, subst, ◌∙◌, inl, inr, arith, ◌⊎◌, ◌≢◌, ⊤, MatchResult, Ok, Result, false≢true, option_map, suc, ◌-◌, ◌^◌, true, ◌++◌, take, refl, ⊎_elim, IfSome}
+use Rattle.bt_lines.proofs.Std.{rules, ◌≡◌, ℕ, Option, None, Some, Err, List, ap, sym, subst, ◌∙◌, inl, inr, arith, ◌≢◌, ⊤, MatchResult, Ok, Result, false≢true, option_map, suc, ◌-◌, ◌^◌, true, ◌++◌, take, IfSome}
 use Rattle.bt_lines.specs.declared.device.Source.{Ghosts as Source}
 use Rattle.bt_lines.proofs.lemmas.reader.block.ReadsLemmas.{memory_no_read, some_is, unread_then}
 use Rattle.bt_lines.specs.model.Fault.{FaultValue, no_memory, read_failed, write_failed}
-use Rattle.bt_lines.specs.calls.Device.{ReadsFail, ReadsOn, begun}
+use Rattle.bt_lines.specs.calls.Device.{begun}
 use Rattle.bt_lines.specs.calls.Names.{fault_value}
 use Rattle.bt_lines.specs.calls.Output.{Output}
 use Rattle.bt_lines.specs.calls.Reader.{HasRead, IsUnread, TellsOwnFailure as LineTellsOwnFailure, bytes_taken, fault_kept as line_fault, source_of, Hands, IsSound, input_of, fault_kept, feeds_taken, lines_given, lines_left}
 use Rattle.bt_lines.specs.declared.fault.Fault.{Fault}
 use Rattle.bt_lines.specs.declared.fault.Input.{Input}
-use Rattle.bt_lines.specs.declared.fault.Input.TheVariants.{Genome, First, Second, Genome as FromGenome}
+use Rattle.bt_lines.specs.declared.fault.Input.TheVariants.{First, Second, Genome as FromGenome}
 use Rattle.bt_lines.specs.declared.fault.Kind.{Kind}
-use Rattle.bt_lines.specs.declared.fault.Kind.TheVariants.{ReadFailed, TooManyHeld}
-use Rattle.bt_lines.specs.declared.fault.Place.{Place}
+use Rattle.bt_lines.specs.declared.fault.Kind.TheVariants.{ReadFailed}
 use Rattle.bt_lines.specs.declared.reader.line.Line.{Line}
 use Rattle.bt_lines.specs.declared.reader.line_reader.LineReader.{LineReader}
-use Rattle.bt_bed.specs.model.Good.{Format, Member}
-use Rattle.bt_bed.specs.model.BedLine.{IsBedKind, fault_at_line, is_genome_kind}
+use Rattle.bt_bed.specs.model.Good.{Format}
+use Rattle.bt_bed.specs.model.BedLine.{IsBedKind, is_genome_kind}
 use Rattle.bt_bed.specs.model.Order.{Order}
 use Rattle.bt_bed.specs.calls.Reading.{MemberReader, TellsOwnFailure}
 use Rattle.bt_bed.specs.declared.order.genome.Genome.{Genome as GenomeTable}
 use Rattle.bt_bed.specs.model.Genome.{Entry, genome_handed, genome_of}
-use Rattle.bt_lines.specs.model.Lines.{Handed, TextLine, whole_text, line_feeds, text_lines, whole_lines}
+use Rattle.bt_lines.specs.model.Lines.{Handed, TextLine, whole_text, line_feeds, text_lines}
 use Rattle.bt_bed.specs.calls.GenomeTable.{entries, EntryIsWrong, EntryUnread, ReadsAll, ReadingStops, StopCause}
-use Rattle.bt_tool.specs.model.Report.{behaviour_of, OfBoth, Holds, Reads, ReadsIf, chromosomes_of, of_file}
-use Rattle.bt_tool.specs.calls.Run.{RunsAlone, RunsBy, AnswersNoRead, IsOwnFailure, IsOwnFailureIf, ReadsServe, TellsNoRead, TellsOwnReads, KnowsChromosomes, LacksChromosomes, IsOfInput, TellsInput}
-use Rattle.bt_tool.proofs.lemmas.running.feed.WritingLemmas.{behaves_alone, write_no_read, memory_no_write, placed_no_write}
-use Rattle.bt_tool.specs.inside.Feed.{FeedsUpTo, Flushes, FlushesAll, FlushFails, StaysFailed, HasFaultBehind, IsKeptBelow, IsOwnFault, KeepsOwnFault}
-use Rattle.bt_tool.specs.inside.Pair.{JoinDef, Pair, PairEnds, InputsEnd, Why}
-use Rattle.bt_tool.specs.model.Written.{IsSweptKind, IsOneOf}
+use Rattle.bt_tool.specs.model.Report.{behaviour_of, OfBoth, Reads, chromosomes_of}
+use Rattle.bt_tool.specs.calls.Run.{RunsAlone, RunsBy, AnswersNoRead, IsOwnFailure, IsOwnFailureIf, ReadsServe, TellsNoRead, TellsOwnReads, KnowsChromosomes, LacksChromosomes}
+use Rattle.bt_tool.proofs.lemmas.running.feed.WritingLemmas.{behaves_alone, write_no_read}
+use Rattle.bt_tool.specs.inside.Feed.{FeedsUpTo, Flushes, IsKeptBelow, IsOwnFault, KeepsOwnFault}
+use Rattle.bt_tool.specs.inside.Pair.{JoinDef, Pair, PairEnds}
+use Rattle.bt_tool.specs.model.Written.{IsSweptKind}
 use Rattle.bt_tool.specs.declared.planning.plan_type.Command.{Command}
-use Rattle.bt_tool.proofs.lemmas.running.members.CursorLemmas.{BeginsAt, some_of, cut_text, handed_all, handed_part, passes_by}
+use Rattle.bt_tool.proofs.lemmas.running.members.CursorLemmas.{BeginsAt, some_of, cut_text, handed_all, handed_part}
 use Rattle.bt_lines.proofs.lemmas.reader.lines.TextLemmas.{whole_count, whole_front}
 
 -- a failed read is of one input
 pub same_input : (one other : Input) (m n : ℕ) → read_failed one m ≡ read_failed other n → one ≡ other
 same_input one other m n e = grind arith
-
--- a fault of a kind that no line can have
-never_read : (Kinds : Kind → Type 0) → (Kinds ReadFailed → ⊥) → (input : Input) (line : ℕ) (kind : Kind) → Kinds kind → (other : Input) (at : ℕ) → fault_at_line input line kind ≡ read_failed other at → ⊥
-never_read Kinds never input line kind of_kind other at e = never (subst Kinds (ap (λ (f : FaultValue). f.kind) e) of_kind)
 
 pub bed_no_read : (order : Order) → IsBedKind order ReadFailed → ⊥
 bed_no_read order kind = false≢true kind.0
@@ -114,11 +109,6 @@ runs_alone source_a source_b command chromosomes same same_settle is e first sec
 -- an input at its end, and what it was at first
 module _ {S A State : Type 0} (device : Source S) (format : Format A State) (input : Input) (first : S) (old : MemberReader S A State) (begins : BeginsAt device.left format input first old)
     (new : MemberReader S A State) (last : S) (ended : source_of new.below ≡ last) (own : KeepsOwnFault device.is_read old.below new) where
-  -- a failed read that is reported after some members
-  pub behind_own : (Kinds : Kind → Type 0) → (Kinds ReadFailed → ⊥) → (past : List (Member A)) (fault : FaultValue) → HasFaultBehind device old Kinds past fault new → (other : Input) (line : ℕ) → fault ≡ read_failed other line
-      → (other ≡ input) × IsOwnFailure device.is_read first last
-  behind_own Kinds never past fault p1 other line e = grind arith
-
 -- the members of the first input were fed to an engine up to a fault
 module _ {S A State : Type 0} (device : Source S) (format : Format A State) (first : S) (old : MemberReader S A State) (begins : BeginsAt device.left format First first old)
     (new : MemberReader S A State) (last : S) (ended : source_of new.below ≡ last) (own : KeepsOwnFault device.is_read old.below new) where
@@ -131,34 +121,8 @@ module _ {A B X Y U V : Type 0} (join : JoinDef X Y) (pair : Pair A B X Y U V) (
     (one_before : A) (two_before : B) (begins : BeginsAt pair.source_a.left first_format First one_before pair.first) (begins_second : BeginsAt pair.source_b.left second_format Second two_before pair.second)
     (first : MemberReader A X U) (second : MemberReader B Y V) (one_after : A) (two_after : B) (ended : source_of first.below ≡ one_after) (ended_second : source_of second.below ≡ two_after) (fault : Option FaultValue) (grown : Output)
     (w : PairEnds join pair out fault first second grown) (no_first : join.first_kinds ReadFailed → ⊥) (no_second : join.second_kinds ReadFailed → ⊥) (own : KeepsOwnFault pair.source_a.is_read pair.first.below first) (own_second : KeepsOwnFault pair.source_b.is_read pair.second.below second) where
-  -- what a failed read of an input owes
-  abbrev Owns : Input → Type 0
-  Owns Genome = ⊥
-  Owns First = IsOwnFailure pair.source_a.is_read one_before one_after
-  Owns Second = IsOwnFailure pair.source_b.is_read two_before two_after
-
-  of_first : (past : List (Member X)) (other : FaultValue) → HasFaultBehind pair.source_a pair.first join.first_kinds past other first → (input : Input) (line : ℕ) → other ≡ read_failed input line → Owns input
-  of_first past other behind input line e = grind arith
-
-  of_second : (past : List (Member Y)) (other : FaultValue) → HasFaultBehind pair.source_b pair.second join.second_kinds past other second → (input : Input) (line : ℕ) → other ≡ read_failed input line → Owns input
-  of_second past other behind input line e = grind arith
-
-  -- the inputs reported it
-  by_inputs : InputsEnd join pair out w.written w.wrote.given w.wrote.ended first second fault → (input : Input) (line : ℕ) → fault ≡ Some (read_failed input line) → Owns input
-  by_inputs p1 input line e = grind arith
-
-  by_cause : Why join pair out w.written w.bytes w.wrote.given w.wrote.ended first second fault grown → (input : Input) (line : ℕ) → fault ≡ Some (read_failed input line) → Owns input
-  by_cause (inl (end, puts, works)) input line e = by_inputs end input line e
-  by_cause (inr (inl ran)) input line e = absurd (memory_no_read input line (some_is no_memory (read_failed input line) (sym ran.0 ∙ e)))
-  by_cause (inr (inr cut)) input line e = absurd (write_no_read input line (some_is write_failed (read_failed input line) (sym cut.0 ∙ e)))
-
   pub both_own : TellsOwnReads ⊥ (IsOwnFailure pair.source_a.is_read one_before one_after) (IsOwnFailure pair.source_b.is_read two_before two_after) fault
   both_own = grind arith
-
--- a flush tells no failed read of its own
-flushed_read : (old new : Output) (fault answer : Option FaultValue) → (FlushesAll old fault answer new ⊎ FlushFails old fault answer new) ⊎ StaysFailed old fault answer new → (input : Input) (line : ℕ) → answer ≡ Some (read_failed input line)
-    → fault ≡ Some (read_failed input line)
-flushed_read old new fault answer p1 input line e = grind arith
 
 pub flushed_own : (G F S : Type 0) (old new : Output) (fault answer : Option FaultValue) → Flushes old fault answer new → TellsOwnReads G F S fault → TellsOwnReads G F S answer
 flushed_own G F S old new fault answer flush own = grind arith
@@ -191,16 +155,6 @@ module _ {A B : Type 0} (source_a : Source A) (source_b : Source B) (command : C
 
 -- Lemmas on the genome file of a run, if it has one.
 
--- what is said of the whole text is said of what the device holds
-held_as : {G : Type 0} (left : G → Option (List ℕ)) (genome : G) (P : Option Handed → Type 0) → ((text : List ℕ) → left genome ≡ Some text → P (Some (whole_text text)))
-    → (handed : Option Handed) → OfBoth (Holds left) (Some genome) handed → P handed
-held_as left genome P h handed holds = grind arith
-
-read_as : {G : Type 0} (device : Source G) (genome after : G) (P : Option Handed → Type 0)
-    → ((handed : Handed) → Reads device genome after handed → P (Some handed))
-    → (handed : Option Handed) → ReadsIf device (Some genome) (Some after) handed → P handed
-read_as device genome after P h handed reads = grind arith
-
 -- a genome file that was cut off after lines that made entries
 cut_genome : (cut more : List ℕ) (made : List Entry) → genome_of FromGenome (take (line_feeds cut) (text_lines (cut ++ more))) ≡ Ok made
     → genome_handed FromGenome (record { text = cut; is_cut = true }) ≡ Err (read_failed FromGenome (suc (line_feeds cut)))
@@ -215,9 +169,6 @@ module _ {G : Type 0} (device : Source G) (genome after : G) (old new : LineRead
   knows_read table reads next = search rules
 
   module _ (fault : FaultValue) (bytes : (bytes : List ℕ) × Hands device.left old bytes new) (next : IsSound device new) where
-    abbrev Tells : Type 0
-    Tells = TellsInput device (IsOneOf is_genome_kind) FromGenome genome after fault
-
     wrong_text : EntryIsWrong device old new fault → (text : List ℕ) → device.left genome ≡ Some text → chromosomes_of (Some (whole_text text)) ≡ Err fault
     wrong_text wrong text e = grind arith
 
@@ -239,15 +190,6 @@ module _ {G : Type 0} (device : Source G) (genome after : G) (old new : LineRead
         subst (λ h. chromosomes_of (Some h) ≡ Err fault) (sym (handed_all device genome after old new source ended fresh handed reads bytes wrong.served (next.within wrong.going))) (wrong_text wrong reads.text reads.known)
     whole_by (inr (inl unread)) memory handed reads = unread_text unread handed reads
     whole_by (inr (inr ran)) memory handed reads = absurd (memory ran.is)
-
-    told_by : StopCause device old new fault → IsOfInput (Some fault) → (text : List ℕ) → device.left genome ≡ Some text → chromosomes_of (Some (whole_text text)) ≡ Err fault
-    told_by p1 is text e = grind arith
-
-    named_by : StopCause device old new fault → Tells ⊎ (fault ≡ no_memory)
-    named_by p1 = grind arith
-
-    no_write_by : StopCause device old new fault → fault ≡ write_failed → ⊥
-    no_write_by p1 e = grind arith
 
     lacks_by : StopCause device old new fault → LacksChromosomes device (Some genome) (Some after) fault
     lacks_by cause = grind (arith, whole_by)

@@ -1,6 +1,6 @@
 -- Lemmas on a run, from its devices to the report on what its inputs hand over.
 use Rattle.std.proofs.lemmas.Grind.{common_steps}
-use Rattle.bt_lines.proofs.Std.{rules, ◌≡◌, ℕ, ◌+◌, ◌≤◌, Bool, true, false, List, [], ◌++◌, length, take, Option, None, Some, Ok, Err, refl, sym, ap, ◌∙◌, subst, append-nil, append_assoc, arith, inl, inr, ⊎_elim, ◌⊎◌, ◌≢◌, IfSome, Result, option_map, false≢true, append_cancel_left, Consumes, Keeps, Appends-nil, Consumes-nil}
+use Rattle.bt_lines.proofs.Std.{◌≡◌, ℕ, ◌+◌, Bool, true, false, List, [], ◌++◌, length, take, Option, None, Some, Ok, Err, refl, sym, ap, ◌∙◌, subst, append-nil, append_assoc, arith, inl, inr, ◌⊎◌, ◌≢◌, Result, option_map, append_cancel_left, Appends-nil}
 use Rattle.bt_lines.specs.declared.device.Sink.{Ghosts as Sink}
 use Rattle.bt_lines.specs.declared.device.Source.{Ghosts as Source}
 use Rattle.bt_lines.proofs.lemmas.reader.block.ReadsLemmas.{some_is}
@@ -13,7 +13,6 @@ use Rattle.bt_lines.specs.calls.Output.{Output, IsPrefixOf, Grows, block_size}
 use Rattle.bt_lines.specs.declared.fault.Fault.{Fault}
 use Rattle.bt_lines.specs.declared.fault.Input.{Input}
 use Rattle.bt_lines.specs.declared.fault.Input.TheVariants.{First, Second, Genome as FromGenome}
-use Rattle.bt_lines.specs.declared.fault.Kind.{Kind}
 use Rattle.bt_lines.specs.declared.fault.Place.{Place}
 use Rattle.bt_bed.specs.model.Genome.{Entry}
 use Rattle.bt_bed.specs.calls.GenomeTable.{entries}
@@ -25,13 +24,11 @@ use Rattle.bt_runs.specs.model.Gaps.{settled_gaps}
 use Rattle.bt_tool.specs.model.Written.{IsOneOf, Report}
 use Rattle.bt_tool.specs.calls.Run.{KnowsChromosomes, LacksChromosomes, ReadsChromosomes, IsFaultButWrite, IsOfInput, IsPutTo, IsWithin, ReadsNoFurther, TellsDevice, TellsInput, TellsInputIf, WritesBy, Runs, TellsOther, ShowsReport}
 use Rattle.bt_tool.specs.inside.Feed.{Flushes, FlushesAll, FlushFails, StaysFailed}
-use Rattle.bt_tool.specs.model.Report.{HandsUpTo, Inputs, OfBoth, behaviour_of, order_of, behaviour_on, chromosomes_of, report_of, report_on, ReportsAnswer, answer_of, report, seen_of, texts_of}
+use Rattle.bt_tool.specs.model.Report.{HandsUpTo, Inputs, OfBoth, behaviour_of, behaviour_on, chromosomes_of, report_of, report_on, ReportsAnswer, answer_of, report, texts_of}
 use Rattle.bt_tool.specs.declared.planning.plan_type.Command.{Command}
-use Rattle.bt_tool.specs.declared.planning.plan_type.Command.TheVariants.{Merge, Complement, Intersect, Subtract, Coverage, BamToBed, MaskFasta}
 use Rattle.bt_tool.proofs.lemmas.running.whole.OwnFailureLemmas.{WritesOutput}
 use Rattle.bt_tool.proofs.lemmas.running.feed.DrivingLemmas.{merge_settles_none}
-use Rattle.bt_tool.proofs.lemmas.running.feed.WritingLemmas.{hands_none, near_as, memory_no_write, tells_no_write}
-use Rattle.bt_tool.proofs.lemmas.running.members.MemberLemmas.{some_map}
+use Rattle.bt_tool.proofs.lemmas.running.feed.WritingLemmas.{hands_none, near_as}
 use Rattle.bt_tool.specs.model.Options.{options}
 use Rattle.bt_tool.specs.model.Table.{Word}
 use Rattle.bt_tool.specs.declared.options.usage.Usage.{Usage}
@@ -48,10 +45,6 @@ lies_in_genome (Some place) = is_of_genome place.input
 
 lies : (o : Option Place) (place : Place) → o ≡ Some place → place.input ≡ FromGenome → lies_in_genome o ≡ true
 lies o place e is = ap lies_in_genome e ∙ ap is_of_genome is
-
--- known bytes that are kept
-kept_known : (a b : Option (List ℕ)) (x : List ℕ) → a ≡ Some x → Keeps a b → b ≡ Some x
-kept_known a b x e k = grind arith
 
 -- what a sink took is a prefix of the output, if it's a prefix of what was put
 cut_front : (a took : Option (List ℕ)) (before front rest output : List ℕ) → a ≡ Some before → Grows a took → output ≡ front ++ rest → IsPrefixOf took (Some (before ++ front)) []
@@ -112,21 +105,6 @@ none_settle : (command : Command) (chromosomes : Option (List Entry)) (second : 
 unfolding good_from settled_gaps settled_depths
 none_settle command chromosomes second = grind (arith, merge_settles_none)
 
-taken_all : (took : Option (List ℕ)) (before : List ℕ) → took ≡ Some before → IfSome took (λ taken. length (before ++ []) ≤ length taken + block_size)
-taken_all took before e = search rules
-
--- a fault of the first input lies there
-device_elsewhere : (b : Bool) (t : FaultValue) → TellsDevice b t → lies_in_genome t.place ≡ true → ⊥
-device_elsewhere b t p1 lies = grind arith
-
-input_elsewhere : {A : Type 0} (device : Source A) (kinds : Kind → Type 0) (input : Input) (before after : A) (t : FaultValue) → is_of_genome input ≡ false
-    → TellsInput device kinds input before after t → lies_in_genome t.place ≡ true → ⊥
-input_elsewhere device kinds input before after t other p1 lies = grind arith
-
-if_elsewhere : {B : Type 0} (device : Source B) (kinds : Kind → Type 0) (input : Input) (before after : Option B) (t : FaultValue) → is_of_genome input ≡ false
-    → TellsInputIf device kinds input before after t → lies_in_genome t.place ≡ true → ⊥
-if_elsewhere device kinds input before after t other tells lies = grind arith
-
 -- chromosomes that were read aren't at fault
 other_chromosomes : (chromosomes : Result (Option (List Entry)) FaultValue) (entries : Option (List Entry)) (wrong : FaultValue) → chromosomes ≡ Ok entries → chromosomes ≡ Err wrong → ⊥
 other_chromosomes chromosomes entries wrong o e = cc
@@ -134,9 +112,6 @@ other_chromosomes chromosomes entries wrong o e = cc
 -- a failed write is reported only if the sink failed
 write_by : {P : Type 0} (b : Bool) → (P → ⊥) → P ⊎ TellsDevice b write_failed → b ≡ true
 write_by b other p1 = grind arith
-
-write_of_if : {B : Type 0} (device : Source B) (kinds : Kind → Type 0) (input : Input) (before after : Option B) → TellsInputIf device kinds input before after write_failed → ⊥
-write_of_if device kinds input before after tells = grind arith
 
 -- an input that wasn't touched was read at most up to its first line
 near_untouched : (Beside : ℕ → Type 0) → ((n : ℕ) → Beside n) → (command : Command) (chromosomes : Result (Option (List Entry)) FaultValue) (second : Option Handed) (text before : List ℕ) (left took more : Option (List ℕ)) → left ≡ Some text → took ≡ Some before → Grows took more
@@ -279,9 +254,6 @@ module _ {G A B K : Type 0} (source_g : Source G) (source_a : Source A) (source_
   runs_by (Err wrong) lacks stops = runs_wrong (fault_value wrong) lacks stops
 
 -- What a user sees of a run is the report.
-
-some_bytes : (a b : List ℕ) → Some a ≡ Some b → a ≡ b
-some_bytes a b e = cc
 
 pub usage_reported : (words : List Word) (usage : Usage) → options words ≡ Err usage → ReportsAnswer words (Err usage)
 unfolding report
