@@ -63,7 +63,6 @@ written_before rule xs ys h = ap (flat_map rule.lines) (take_before rule.decided
 
 -- ---- what decides, and what hits
 
-module _ (order : Order) (total : IsTotal order) where
 apart_shares : (c : Bool) (n : ℕ) → c ≡ false → ltb 0 (cond c n 0) ≡ false
 apart_shares c n e = grind arith
 

@@ -236,7 +236,6 @@ pub record Stands (old new : List ℕ) : Type 0 where
 
 -- ---- one line
 
-module _ (full : Bool) where
 -- ---- line ends
 
 clear_return : (text : List ℕ) → NoLineFeed text → NoLineFeed (text ++ 13 ∷ [])

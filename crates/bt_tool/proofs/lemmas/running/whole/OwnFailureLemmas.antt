@@ -106,9 +106,6 @@ runs_alone source_a source_b command chromosomes same same_settle is e first sec
   own_failure = tells_first _ _ fault runs.own_failure;
 }
 
--- an input at its end, and what it was at first
-module _ {S A State : Type 0} (device : Source S) (format : Format A State) (input : Input) (first : S) (old : MemberReader S A State) (begins : BeginsAt device.left format input first old)
-    (new : MemberReader S A State) (last : S) (ended : source_of new.below ≡ last) (own : KeepsOwnFault device.is_read old.below new) where
 -- the members of the first input were fed to an engine up to a fault
 module _ {S A State : Type 0} (device : Source S) (format : Format A State) (first : S) (old : MemberReader S A State) (begins : BeginsAt device.left format First first old)
     (new : MemberReader S A State) (last : S) (ended : source_of new.below ≡ last) (own : KeepsOwnFault device.is_read old.below new) where
