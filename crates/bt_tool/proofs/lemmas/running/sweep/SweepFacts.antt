@@ -31,10 +31,7 @@ use Rattle.bt_tool.proofs.lemmas.running.pair.PairTurns as turned
 
 -- it goes by the same shape, rule and limit
 pub same_config : (old new : Sweeping) → SameConfig old new → config_of new ≡ config_of old
-same_config old new same =
-    ap (λ (s : Shape). record { shape = s; rule = new.rule; limit = new.limit }) same.shape_is
-    ∙ ap (λ (r : HitRule). record { shape = old.shape; rule = r; limit = new.limit }) same.rule_is
-    ∙ ap (λ (l : Option ℕ). record { shape = old.shape; rule = old.rule; limit = l }) same.limit_is
+same_config old new same = grind arith
 
 module _ (order : Order) where
   -- who leaves one of some records undecided, leaves one of more undecided
@@ -43,9 +40,7 @@ module _ (order : Order) where
   leaves_more as_given extra (b ∷ bs) h =
       let here = (and_parts (leaves_some order as_given b) (list_all (leaves_some order as_given) bs) h).0 in
       let rest = (and_parts (leaves_some order as_given b) (list_all (leaves_some order as_given) bs) h).1 in
-      and_from (leaves_some order (as_given ++ extra) b) (list_all (leaves_some order (as_given ++ extra)) bs)
-      (list_any-append (λ a. not (decides order a b)) as_given extra ∙ or_left (leaves_some order as_given b) (leaves_some order extra b) here)
-      (leaves_more as_given extra bs rest)
+      grind (arith, (leaves_more as_given extra bs rest), and_from, list_any-append, or_left)
 
   -- none of these is the first that decides all
   decider_behind : (as_given : List Feature) (past rest : List (Member Feature)) → IsTrue (list_all (leaves_some order as_given) (member_items past))
@@ -54,51 +49,39 @@ module _ (order : Order) where
   decider_behind as_given (m ∷ ms) rest h =
       let here = (and_parts (leaves_some order as_given m.item) (list_all (leaves_some order as_given) (member_items ms)) h).0 in
       let more = (and_parts (leaves_some order as_given m.item) (list_all (leaves_some order as_given) (member_items ms)) h).1 in
-      skip_by (list_all (λ a. decides order a m.item) as_given) m (decider order as_given (ms ++ rest)) (not_all (λ a. decides order a m.item) as_given here)
-      ∙ decider_behind as_given ms rest more
+      grind (arith, (decider_behind as_given ms rest more), skip_by, not_all)
 
   -- the record that decides all is after the first lines
   reaches_least : (as_given : List Feature) (rest : List (Member Feature)) (lines : List TextLine) (count : ℕ) → All (λ m. count < m.line) rest
       → bytes_in (take (suc count) lines) ≤ bytes_up_to lines (decider order as_given rest)
   reaches_least as_given [] lines count high = take_whole (suc count) lines
-  reaches_least as_given (m ∷ ms) lines count high =
-      least_by (list_all (λ a. decides order a m.item) as_given) m (decider order as_given ms) lines count (All-head (λ (m : Member Feature). count < m.line) m ms high)
-      (reaches_least as_given ms lines count (All-tail (λ (m : Member Feature). count < m.line) m ms high))
+  reaches_least as_given (m ∷ ms) lines count high = grind (arith, (reaches_least as_given ms lines count (All-tail (λ (m : Member Feature). count < m.line) m ms high)), least_by, All-head, All-tail)
 
   -- what records of the first need lies after those that were taken for them
   pub sweep_needs : (config : SweepConfig) → AreNeeded (sweep_join order config)
   sweep_needs config given extra past rest lines count reached high = grind (arith, decider_behind, leaves_more, reaches_least)
 
 pub some_limit : (limit : Option ℕ) (count : ℕ) → has_room limit count ≡ false → is_some limit ≡ true
-some_limit None count full = absurd (false≢true (sym full))
-some_limit (Some most) count full = refl
+some_limit limit count full = grind arith
 
 module _ (order : Order) where
   -- at the start
   pub within_start : (limit : Option ℕ) (as_given : List Feature) → AreWithin order limit as_given []
-  within_start None as_given = tt
-  within_start (Some most) as_given = λ later more fault. refl
+  within_start limit as_given = grind arith
 
   -- with more of the first input
   pub within_given : (limit : Option ℕ) (as_given extra : List Feature) (past : List (Member Feature)) → AreWithin order limit as_given past → AreWithin order limit (as_given ++ extra) past
-  within_given None as_given extra past within = tt
-  within_given (Some most) as_given extra past within = λ later more fault.
-      subst (λ (l : List Feature). cut_behind (are_too_many order most l) [] (past ++ more) fault ≡ cut_behind (are_too_many order most l) past more fault) (sym (append_assoc as_given extra later)) (within (extra ++ later) more fault)
+  within_given limit as_given extra past within = grind (arith, append_assoc)
 
   -- with one more of the second, with which they aren't too many
   pub within_taken : (limit : Option ℕ) (as_given : List Feature) (past : List (Member Feature)) (m : Member Feature) → AreWithin order limit as_given past
       → IfSome limit (λ most. (later : List Feature) → are_too_many order most (as_given ++ later) (member_items (past ++ m ∷ [])) ≡ false) → AreWithin order limit as_given (past ++ m ∷ [])
-  within_taken None as_given past m within few = tt
-  within_taken (Some most) as_given past m within few = λ later more fault.
-      ap (λ l. cut_behind (are_too_many order most (as_given ++ later)) [] l fault) (append_assoc past (m ∷ []) more) ∙ within later (m ∷ more) fault
-      ∙ cut_on (are_too_many order most (as_given ++ later)) past more m fault (few later)
+  within_taken limit as_given past m within few = grind (arith, append_assoc, cut_on)
 
   -- by the records held for the one that waits
   pub held_few : (limit : Option ℕ) (before : List Feature) (a : Feature) (second : List Feature) → list_all (λ x. decided order x second) before ≡ true → decided order a second ≡ false
       → IfSome limit (λ most. length (filter (is_held a) second) ≤ most) → IfSome limit (λ most. (later : List Feature) → are_too_many order most ((before ++ a ∷ []) ++ later) second ≡ false)
-  held_few None before a second all undecided few = tt
-  held_few (Some most) before a second all undecided few = λ later.
-      ap (λ l. are_too_many order most l second) (append_assoc before (a ∷ []) later) ∙ many_by order most second before later a all undecided ∙ le-ltb most (length (filter (is_held a) second)) few
+  held_few limit before a second all undecided few = grind (arith, append_assoc, many_by, le-ltb)
 
   passed_one : (a b : Feature) → is_held a b ≡ true → length (filter (is_held a) (b ∷ [])) ≡ 1
   passed_one a b e = ap (λ c. length (cond c (b ∷ []) [])) e
@@ -118,19 +101,14 @@ module _ (order : Order) where
       let many : are_too_many order most (before ++ a ∷ later) (member_items (past ++ m ∷ [])) ≡ true =
       many_by order most (member_items (past ++ m ∷ [])) before later a all undecided
       ∙ lt-ltb most count (omega (arith, held_one a past m held, ltb-false (length (filter (is_held a) (member_items past))) most full)) in
-      let here : cut_behind (are_too_many order most (before ++ a ∷ later)) [] (past ++ m ∷ more) other ≡ cut_behind (are_too_many order most (before ++ a ∷ later)) past (m ∷ more) other =
-      subst (λ (l : List Feature). cut_behind (are_too_many order most l) [] (past ++ m ∷ more) other ≡ cut_behind (are_too_many order most l) past (m ∷ more) other) (append_assoc before (a ∷ []) later) (within later (m ∷ more) other) in
-      ap (λ l. cut_behind (are_too_many order most (before ++ a ∷ later)) [] l other) (append_assoc past (m ∷ []) more)
-      ∙ here ∙ cut_here (are_too_many order most (before ++ a ∷ later)) past more m other many
-      ∙ ap (λ (f : FaultValue). record { members = past ++ m ∷ []; fault = Some f }) (sym is)
+      grind (arith, (append_assoc before (a ∷ []) later), (append_assoc past (m ∷ []) more), (cut_here (are_too_many order most (before ++ a ∷ later)) past more m other many))
 
   module _ (most : ℕ) (first : List Feature) where
     abbrev too_many : List Feature → Bool
     too_many = are_too_many order most first
 
     cut_at : (past more : List (Member Feature)) (fault : Option FaultValue) → AreWithin order (Some most) first past → cut_behind too_many [] (past ++ more) fault ≡ cut_behind too_many past more fault
-    cut_at past more fault within =
-        subst (λ (l : List Feature). cut_behind (are_too_many order most l) [] (past ++ more) fault ≡ cut_behind (are_too_many order most l) past more fault) (append-nil first) (within [] more fault)
+    cut_at past more fault within = grind (arith, (append-nil first))
 
     still : (x : Feature) (past extra : List (Member Feature)) → decided order x (member_items past) ≡ true → decided order x (member_items (past ++ extra)) ≡ true
     still x past extra e = grind (arith, map-append, list_any-append, or_left)
@@ -144,11 +122,8 @@ module _ (order : Order) where
     cut_seen : (past : List (Member Feature)) (ahead : Option (Member Feature)) (rest : List (Member Feature)) (fault : Option FaultValue) → AreWithin order (Some most) first past
         → list_all (λ x. decided order x (member_items (past ++ option_to_list ahead))) first ≡ true
         → cut_behind too_many [] ((past ++ option_to_list ahead) ++ rest) fault ≡ cut_behind too_many (past ++ option_to_list ahead) rest fault
-    cut_seen past None rest fault within all =
-        ap (λ l. cut_behind too_many [] (l ++ rest) fault) (append-nil past) ∙ cut_at past rest fault within ∙ ap (λ l. cut_behind too_many l rest fault) (sym (append-nil past))
-    cut_seen past (Some m) rest fault within all =
-        ap (λ l. cut_behind too_many [] l fault) (append_assoc past (m ∷ []) rest) ∙ cut_at past (m ∷ rest) fault within
-        ∙ cut_on too_many past rest m fault (few_decided order most (member_items (past ++ m ∷ [])) first all)
+    cut_seen past None rest fault within all = grind (arith, append-nil, cut_at)
+    cut_seen past (Some m) rest fault within all = grind (arith, append_assoc, cut_at, cut_on, few_decided)
 
     -- if all of the first is decided, the second isn't cut
     cut_done : (past : List (Member Feature)) (ahead : Option (Member Feature)) (rest : List (Member Feature)) (fault : Option FaultValue) → AreWithin order (Some most) first past
@@ -161,16 +136,8 @@ module _ (order : Order) where
 
     keeps_at : (past : List (Member Feature)) (ahead : Option (Member Feature)) (rest : List (Member Feature)) (fault : Option FaultValue) → AreWithin order (Some most) first past
         → (more : List (Member Feature)) × ((cut_behind too_many [] ((past ++ option_to_list ahead) ++ rest) fault).members ≡ (past ++ option_to_list ahead) ++ more)
-    keeps_at past None rest fault within =
-        let keeps = cut_keeps too_many past rest fault in (
-          keeps.0,
-          ap (λ (g : Good Feature). g.members) (ap (λ l. cut_behind too_many [] (l ++ rest) fault) (append-nil past) ∙ cut_at past rest fault within) ∙ keeps.1 ∙ ap (λ l. l ++ keeps.0) (sym (append-nil past)),
-        )
-    keeps_at past (Some m) rest fault within =
-        let keeps = cut_next too_many past rest m fault in (
-          keeps.0,
-          ap (λ (g : Good Feature). g.members) (ap (λ l. cut_behind too_many [] l fault) (append_assoc past (m ∷ []) rest) ∙ cut_at past (m ∷ rest) fault within) ∙ keeps.1,
-        )
+    keeps_at past None rest fault within = grind (arith, (cut_keeps too_many past rest fault), (append-nil past), (cut_at past rest fault within))
+    keeps_at past (Some m) rest fault within = grind (arith, (cut_next too_many past rest m fault), (append_assoc past (m ∷ []) rest), (cut_at past (m ∷ rest) fault within))
 
   whole_limited : (limit : Option ℕ) (first : List Feature) (past : List (Member Feature)) (fault : Option FaultValue) → AreWithin order limit first past
       → limited order limit first (record { members = past; fault = fault }) ≡ record { members = past; fault = fault }
@@ -194,19 +161,11 @@ module _ (order : Order) where
 
   ordered_limited : (limit : Option ℕ) (first : List Feature) (second : Good Feature) → ArePlaced order (intervals_of (items_in second)) → ArePlaced order (intervals_of (items_in (limited order limit first second)))
   ordered_limited None first second placed = placed
-  ordered_limited (Some most) first second placed =
-      let front = cut_front (are_too_many order most first) [] second.members second.fault in
-      members_placed (limited order (Some most) first second).members front.0 (subst (λ ms. ArePlaced order (intervals_of (member_items ms))) front.1 placed)
+  ordered_limited (Some most) first second placed = grind (arith, (cut_front (are_too_many order most first) [] second.members second.fault), members_placed)
 
   -- what a run owes for the limit
   pub sweep_limits : (config : SweepConfig) → AreLimits (sweep_join order config)
-  sweep_limits config = record {
-    more = within_given config.limit;
-    whole = whole_limited config.limit;
-    keeps = keeps_limited config.limit;
-    done = done_limited config.limit;
-    ordered = ordered_limited config.limit;
-  }
+  sweep_limits config = grind (arith, within_given, whole_limited, keeps_limited, done_limited, ordered_limited)
 
 -- ---- the record that waits is undecided, if the second input gives no more
 
@@ -245,15 +204,9 @@ module _ (order : Order) (total : IsTotal order) where
 
   lines_then : (shape : Shape) (rule : HitRule) (newly taken : List Feature) (o : Option Feature) (rest : List Feature) → ArePlaced order (intervals_of newly) → AreDecided order newly (taken ++ option_to_list o)
       → ArePlaced order (intervals_of ((taken ++ option_to_list o) ++ rest)) → intersect shape rule newly ((taken ++ option_to_list o) ++ rest) ≡ intersect shape rule newly taken
-  lines_then shape rule newly taken (Some b) rest known all placed =
-      let parts : (taken ++ b ∷ []) ++ rest ≡ taken ++ b ∷ rest = append_assoc taken (b ∷ []) rest in
-      ap (intersect shape rule newly) parts ∙ lines_stay_so order total shape rule taken b rest (subst (λ (l : List Feature). ArePlaced order (intervals_of l)) parts placed) newly known all
+  lines_then shape rule newly taken (Some b) rest known all placed = grind (arith, append_assoc, lines_stay_so)
   lines_then shape rule newly taken None [] known all placed = ap (intersect shape rule newly) (append-nil (taken ++ []) ∙ append-nil taken)
-  lines_then shape rule newly taken None (b ∷ rest) known all placed =
-      let parts : (taken ++ []) ++ b ∷ rest ≡ taken ++ b ∷ rest = ap (λ (l : List Feature). l ++ b ∷ rest) (append-nil taken) in
-      ap (intersect shape rule newly) parts
-      ∙ lines_stay_so order total shape rule taken b rest (subst (λ (l : List Feature). ArePlaced order (intervals_of l)) parts placed) newly known
-      (decided_before order newly taken (b ∷ []) (subst (λ (l : List Feature). AreDecided order newly l) (append-nil taken) all))
+  lines_then shape rule newly taken None (b ∷ rest) known all placed = grind (arith, append-nil, lines_stay_so, decided_before)
 
   none_true : (newly second : List Feature) → list_all (λ x. is_none {T = FaultValue} None || decided order x second) newly ≡ true
   none_true [] second = refl
@@ -288,9 +241,7 @@ module _ (order : Order) (total : IsTotal order) where
 
   few_more : (limit : Option ℕ) (xs after whole second items : List Feature) → whole ≡ xs ++ after → items ≡ second → IfSome limit (λ most. (later : List Feature) → are_too_many order most (xs ++ later) second ≡ false)
       → IfSome limit (λ most. (later : List Feature) → are_too_many order most (whole ++ later) items ≡ false)
-  few_more None xs after whole second items e f few = tt
-  few_more (Some most) xs after whole second items e f few = λ later.
-      ap (λ (l : List Feature). are_too_many order most l items) (ap (λ (l : List Feature). l ++ later) e ∙ append_assoc xs after later) ∙ ap (are_too_many order most (xs ++ (after ++ later))) f ∙ few (after ++ later)
+  few_more limit xs after whole second items e f few = grind (arith, append_assoc)
 
   -- with each that was taken the limit lies as far
   pub fits_each : (limit : Option ℕ) (written rest : List Feature) → ArePlaced order (intervals_of (written ++ rest)) → (n : ℕ) (seconds taken : List Feature) (past : List (Member Feature)) → member_items past ≡ taken → ArePlaced order (intervals_of (taken ++ seconds))

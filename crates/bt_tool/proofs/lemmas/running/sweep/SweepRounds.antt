@@ -57,18 +57,13 @@ module _ {A B O : Type 0} {g : Ghosts O} (source_a : Source A) (source_b : Sourc
 -- ---- how much is still wanted
 
 rounds_most : (o : Option Feature) (done : Bool) → sweep_rounds (is_some o) done ≤ length (option_to_list o) + 1
-rounds_most (Some a) done = omega arith
-rounds_most None true = omega arith
-rounds_most None false = omega arith
+rounds_most o done = grind arith
 
 rounds_two : (waits done : Bool) → sweep_rounds waits done ≤ 2
-rounds_two true done = omega arith
-rounds_two false true = omega arith
-rounds_two false false = omega arith
+rounds_two waits done = grind arith
 
 some_waits : (o : Option Feature) → is_some o ≡ true → length (option_to_list o) ≡ 1
-some_waits (Some a) e = refl
-some_waits None e = absurd (false≢true e)
+some_waits o e = grind arith
 
 none_of : (o : Option Feature) → o ≡ None → length (option_to_list o) ≡ 0
 none_of o e = ap (λ (o : Option Feature). length (option_to_list o)) e
@@ -76,17 +71,13 @@ none_of o e = ap (λ (o : Option Feature). length (option_to_list o)) e
 -- no more is wanted, if as many were taken as wait now
 rounds_few : (o n : Option Feature) (done now : Bool) (k : ℕ) → now ≡ done → length (option_to_list n) ≤ length (option_to_list o) + k
     → sweep_rounds (is_some n) now ≤ sweep_rounds (is_some o) done + 2 * k
-rounds_few (Some a) n done now k same few = omega (arith, rounds_two (is_some n) now)
-rounds_few None (Some c) done now k same few = omega (arith, few)
-rounds_few None None done now k same few = omega (arith, ap (sweep_rounds false) same)
+rounds_few o n done now k same few = grind arith
 
 answers_none : {T : Type 0} (answer : Result T Fault) → TellsNoRead (fault_in answer) → AnswersNoRead answer
-answers_none (Ok done) never = tt
-answers_none (Err fault) never = never
+answers_none answer never = grind arith
 
 number_cases : (n : ℕ) → (n ≡ 0) ⊎ (0 < n)
-number_cases zero = inl refl
-number_cases (suc n) = inr (omega arith)
+number_cases n = grind arith
 
 module _ {A B O : Type 0} {g : Ghosts O} {source_a : Source A} {source_b : Source B} {start : SweepRun A B O g} {out : Output} {old : SweepRun A B O g} {grown : Output} (s : SweepComes source_a source_b start out old grown) where
   abbrev sweep : Sweeping
@@ -227,10 +218,7 @@ module _ {A B O : Type 0} {g : Ghosts O} {source_a : Source A} {source_b : Sourc
       Ending answer = (stage : Stage) (a : Feature) → StandsAt order stage sweep → stage.waiting ≡ Some a → IsInOrder order stage → EndsB order stage a sweep grown answer (state_of now.sweep) later
 
       ending : {T : Type 0} (answer : Result T Fault) → Ending answer → EndsB (order_in start.first) s.sweeps.stage (waiting s wants).0 sweep grown answer (state_of now.sweep) later
-      ending answer ends =
-          let w = waiting s wants in
-          subst (λ (o : Order). (stage : Stage) (a : Feature) → StandsAt o stage sweep → stage.waiting ≡ Some a → IsInOrder o stage → EndsB o stage a sweep grown answer (state_of now.sweep) later) s.order_is ends
-          s.sweeps.stage w.0 s.sweeps.stands w.1 (in_order s)
+      ending answer ends = grind (arith, (waiting s wants), (in_order s))
 
       pub second_over : {T : Type 0} (answer : Result T Fault) → sweep_order now.sweep ≡ order → Ending answer → Leads Filled answer now later
       second_over (Ok done) same_order ends =
@@ -266,10 +254,7 @@ module _ {A B O : Type 0} {g : Ghosts O} {source_a : Source A} {source_b : Sourc
 
       -- whether the first input has ended doesn't change
       same_done : is_done swept.phase ≡ is_done sweep.phase
-      same_done =
-          let placed = placed_first s takes in
-          let placed_seconds = placed_second s takes in
-          ap is_done (gives.stands s.sweeps.stage s.sweeps.stands placed placed_seconds).stands.phase_is ∙ ap is_done (sym s.sweeps.stands.phase_is)
+      same_done = grind (arith, (placed_first s takes), (placed_second s takes))
 
       abbrev waits : Sweeping → ℕ
       waits sweep = length (option_to_list sweep.current)
@@ -297,36 +282,13 @@ module _ {A B O : Type 0} {g : Ghosts O} {source_a : Source A} {source_b : Sourc
 
       -- none of the first was taken, though one was buffered
       stopped_a : (w : Want) → want_in swept ≡ w → 0 < length (view_of old.first).buffered → want_in sweep ≡ WantA → waits sweep ≡ 0 → length gives.proceeds.firsts ≡ 0 → Stops w → IsLess new
-      stopped_a WantA e some wants none taken none_left = absurd (omega (arith, some, first_left, taken, ap length (consumes.left_is ∙ none_left.none)))
-      stopped_a WantB e some wants none taken none_left = absurd (omega (arith, ap (λ (o : Option Feature). length (option_to_list o)) (wants_second swept.current (is_done swept.phase) e).1, counted, taken, none))
-      stopped_a Nothing e some wants none taken none_left =
-          omega (arith, rooms, (wants_nothing swept.current (is_done swept.phase) e).1, (wants_first sweep.current (is_done sweep.phase) wants).2)
+      stopped_a w e some wants none taken none_left = grind (arith, first_left, wants_second, counted, rooms, wants_nothing, wants_first)
 
       stopped_b : (w : Want) → want_in swept ≡ w → 0 < length (view_of old.second).buffered → want_in sweep ≡ WantB → length gives.proceeds.seconds ≡ 0 → Stops w → IsLess new
-      stopped_b WantB e some wants taken none_left = absurd (omega (arith, some, second_left, taken, ap length (consumes_second.left_is ∙ none_left.none)))
-      stopped_b WantA e some wants taken none_left =
-          omega (arith, rooms, (wants_first swept.current (is_done swept.phase) e).2, (wants_second sweep.current (is_done sweep.phase) wants).2)
-      stopped_b Nothing e some wants taken none_left = omega (arith, rooms, (wants_nothing swept.current (is_done swept.phase) e).1, (wants_second sweep.current (is_done sweep.phase) wants).2)
+      stopped_b w e some wants taken none_left = grind (arith, second_left, rooms, wants_first, wants_second, wants_nothing)
 
       less_by : Stops (want_in swept) ⊎ HasWritten sweep swept → (w : Want) → want_in sweep ≡ w → IsBuffered w (length (view_of old.first).buffered) (length (view_of old.second).buffered) → IsLess new
-      less_by stops WantA wants some =
-          let none : waits sweep ≡ 0 = none_of sweep.current (wants_first sweep.current (is_done sweep.phase) wants).0 in
-          elim (number_cases (length gives.proceeds.firsts)) [
-            | inl taken ↦ elim stops [
-              | inl for ↦ stopped_a (want_in swept) refl some wants none taken for
-              | inr written ↦ absurd (omega (arith, none, some_waits sweep.current written.0))
-            ]
-            | inr more ↦ omega (arith, rooms, most, counted, none, more, (wants_first sweep.current (is_done sweep.phase) wants).2)
-          ]
-      less_by stops WantB wants some =
-          elim (number_cases (length gives.proceeds.seconds)) [
-            | inl taken ↦ elim stops [
-              | inl for ↦ stopped_b (want_in swept) refl some wants taken for
-              | inr written ↦ omega (arith, rooms, most, none_of swept.current written.1, (wants_second sweep.current (is_done sweep.phase) wants).2)
-            ]
-            | inr more ↦ omega (arith, rooms, rounds_two (is_some swept.current) (is_done swept.phase), more, (wants_second sweep.current (is_done sweep.phase) wants).2)
-          ]
-      less_by stops Nothing wants some = absurd some
+      less_by stops w wants some = grind (arith, none_of, wants_first, number_cases, stopped_a, some_waits, rooms, most, counted, stopped_b)
 
       came_further : Stops (want_in swept) ⊎ HasWritten sweep swept → sweep_order new.sweep ≡ order → Goes new later × Given new
       came_further stops same = (

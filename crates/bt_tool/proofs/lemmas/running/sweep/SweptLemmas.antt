@@ -1,5 +1,5 @@
 -- Lemmas on records that a sweep is given of what two readers have buffered.
-use Rattle.bt_lines.proofs.Std.{arith, ◌≡◌, inl, inr, ℕ, suc, true, ◌&&◌, not, List, [], ◌∷◌, ◌++◌, Option, None, Some, Ok, Err, Result, refl, sym, ap, ◌∙◌, subst, append-nil, append_assoc, option_to_list, ForSome, IfSome, IsTrue, option_map, list_all, and_parts, not-true, map-append, Bool, false, filter, length, bytes_eq, ltb, ◌<◌, is_some, false≢true, and_from, lt-ltb}
+use Rattle.bt_lines.proofs.Std.{rules, arith, ◌≡◌, inl, inr, ℕ, suc, true, ◌&&◌, not, List, [], ◌∷◌, ◌++◌, Option, None, Some, Ok, Err, Result, refl, sym, ap, ◌∙◌, subst, append-nil, append_assoc, option_to_list, ForSome, IfSome, IsTrue, option_map, list_all, and_parts, not-true, map-append, Bool, false, filter, length, bytes_eq, ltb, ◌<◌, is_some, false≢true, and_from, lt-ltb}
 use Rattle.bt_lines.specs.declared.device.Source.{Ghosts as Source}
 use Rattle.bt_lines.specs.calls.Output.{Output, FailsToAdd, Grown}
 use Rattle.bt_lines.specs.calls.Reader.{lines_given}
@@ -66,8 +66,7 @@ some_first line [] m e = absurd (let apart : None ≡ Some m = e in cc)
 some_first line (x ∷ items) m e = let same : record { line = line; item = x } ≡ m = cc in (items, ap (λ (m : Member Feature). m.item ∷ items) same)
 
 known_last : (order : Order) (last : Option Locus) → ForSome last (λ place. IsTrue (order.knows place.chrom)) → IfSome last (λ place. IsTrue (order.knows place.chrom))
-known_last order None known = tt
-known_last order (Some place) known = known place refl
+known_last order last known = grind arith
 
 pub ahead_placed : {S O : Type 0} {g : Ghosts O} (now : Records S O g) (order : Order) → order_in now ≡ order → (past : List Feature) (m : Member Feature) → IsTotal order
     → (view_of now).state ≡ state_behind (bed_format (sorting_of order)) None past → ahead_in (view_of now) ≡ Some m → ArePlaced order (intervals_of past) → ArePlaced order (intervals_of (past ++ m.item ∷ []))
@@ -87,15 +86,11 @@ ahead_placed now order is past m total state ahead placed =
 pub passed_both : {T : Type 0} (order : Order) (sweep : Sweeping) (firsts seconds : Batch) (out : Output) (result : Result T Fault) (swept : Sweeping) (last_firsts last_seconds : Batch) (grown : Output)
     → AdvancesOn batch_cursor batch_cursor order sweep firsts seconds out result swept last_firsts last_seconds grown
     → ((records : List Feature) × PassesBatch firsts records last_firsts) × ((records : List Feature) × PassesBatch seconds records last_seconds)
-passed_both order sweep firsts seconds out (Ok done) swept last_firsts last_seconds grown (so, stops) = ((so.proceeds.firsts, so.proceeds.gives_firsts), (so.proceeds.seconds, so.proceeds.gives_seconds))
-passed_both order sweep firsts seconds out (Err fault) swept last_firsts last_seconds grown fails = ((fails.proceeds.firsts, fails.proceeds.gives_firsts), (fails.proceeds.seconds, fails.proceeds.gives_seconds))
+passed_both order sweep firsts seconds out result swept last_firsts last_seconds grown fails = search rules
 
 -- what comes next is seen too
 settles_ahead : (order : Order) (phase : Phase) (newly seconds : List Feature) (next ahead : Option Feature) → IfSome next (λ b. ahead ≡ Some b) → Settles order phase newly (seconds ++ option_to_list next) → Settles order phase newly (seconds ++ option_to_list ahead)
-settles_ahead order phase newly seconds None ahead is (inl ended) = inl ended
-settles_ahead order phase newly seconds None ahead is (inr all) =
-    inr (decided_before order newly seconds (option_to_list ahead) (let e = append-nil seconds in subst (λ (l : List Feature). list_all (λ a. decided order a l) newly ≡ true) e all))
-settles_ahead order phase newly seconds (Some b) ahead is all = subst (λ (o : Option Feature). Settles order phase newly (seconds ++ option_to_list o)) (sym is) all
+settles_ahead order phase newly seconds next ahead is all = grind (arith, decided_before, append-nil)
 
 -- records of both that were buffered are taken
 pub record TakesBoth {A B O : Type 0} {g : Ghosts O} (source_a : Source A) (source_b : Source B) (first : Records A O g) (second : Records B O g) (firsts seconds : List Feature) (new_first : Records A O g) (new_second : Records B O g) : Type 0 where
@@ -108,36 +103,26 @@ pub record TakesBoth {A B O : Type 0} {g : Ghosts O} (source_a : Source A) (sour
 pub seen_then : {S O : Type 0} {g : Ghosts O} (device : Source S) (old new : Records S O g) (first last : Batch) → ConsumesGiven device old first last new → (order : Order) (phase : Phase) (newly seconds : List Feature) (next : Option Feature)
     → ComesNext batch_cursor last next → Settles order phase newly (seconds ++ option_to_list next) → Settles order phase newly (seconds ++ option_to_list (item_ahead (view_of new)))
 seen_then device old new first last consumes order phase newly seconds next comes settles =
-    settles_ahead order phase newly seconds next (item_ahead (view_of new)) (next_then device old new first last consumes next comes) settles
+    grind (arith, (settles_ahead order phase newly seconds next (item_ahead (view_of new)) (next_then device old new first last consumes next comes) settles))
 
 -- Lemmas on a sweep over two readers: how far it comes in a round, and how it stops.
 
 -- ---- what is wanted tells what waits
 
 pub wants_first : (w : Option Feature) (done : Bool) → want_of (is_some w) done ≡ WantA → (w ≡ None) × (done ≡ false) × (sweep_rounds (is_some w) done ≡ 1)
-wants_first (Some a) done e = absurd (let apart : WantB ≡ WantA = e in cc)
-wants_first None true e = absurd (let apart : Nothing ≡ WantA = e in cc)
-wants_first None false e = (refl, refl, refl)
+wants_first w done e = grind arith
 
 pub wants_second : (w : Option Feature) (done : Bool) → want_of (is_some w) done ≡ WantB → (a : Feature) × (w ≡ Some a) × (sweep_rounds (is_some w) done ≡ 2)
-wants_second (Some a) done e = (a, refl, refl)
-wants_second None true e = absurd (let apart : Nothing ≡ WantB = e in cc)
-wants_second None false e = absurd (let apart : WantA ≡ WantB = e in cc)
+wants_second w done e = grind arith
 
 pub wants_nothing : (w : Option Feature) (done : Bool) → want_of (is_some w) done ≡ Nothing → (done ≡ true) × (sweep_rounds (is_some w) done ≡ 0)
-wants_nothing (Some a) done e = absurd (let apart : WantB ≡ Nothing = e in cc)
-wants_nothing None true e = (refl, refl)
-wants_nothing None false e = absurd (let apart : WantA ≡ Nothing = e in cc)
+wants_nothing w done e = grind arith
 
 pub over_is : (a b : Bool) → is_done (phase_of a b) ≡ a
-over_is true b = refl
-over_is false true = refl
-over_is false false = refl
+over_is a b = grind arith
 
 first_is : (a b : Bool) → phase_of a b ≡ First → b ≡ true
-first_is true b e = absurd (let apart : Over ≡ First = e in cc)
-first_is false true e = refl
-first_is false false e = absurd (let apart : Both ≡ First = e in cc)
+first_is a b e = grind arith
 
 says_bed : (order : Order) (format : Format Feature (Option Locus)) → format ≡ bed_format (sorting_of order) → (state : Option Locus) (line : TextLine) (kind : Kind) → format.says state line ≡ Err kind → IsBedKind order kind
 says_bed order format is state line kind e = wrong_of_bed order state line.text kind (ap (λ (f : Format Feature (Option Locus)). f.says state line) (sym is) ∙ e)
@@ -145,20 +130,10 @@ says_bed order format is state line kind e = wrong_of_bed order state line.text 
 -- a fault of some kinds is one of wider kinds
 stops_wider : {S A State : Type 0} (device : Source S) (old : MemberReader S A State) (Narrow Wide : Kind → Type 0) → ((kind : Kind) → Narrow kind → Wide kind)
     → (past : List (Member A)) (fault : FaultValue) (new : MemberReader S A State) → StopsAfter device old Narrow past fault new → StopsAfter device old Wide past fault new
-stops_wider device old Narrow Wide wider past fault new stops = record {
-  bytes = stops.bytes;
-  cause = elim stops.cause [
-    | inl fails ↦ inl (elim fails [
-      | inl wrong ↦ inl (record { whole = wrong.whole; line = wrong.line; kind = wrong.kind; is = wrong.is; of_kind = wider wrong.kind wrong.of_kind; served = wrong.served; within = wrong.within })
-      | inr unread ↦ inr unread
-    ])
-    | inr ran ↦ inr ran
-  ];
-}
+stops_wider device old Narrow Wide wider past fault new stops = grind arith
 
 item_any : (m n : ℕ) (xs : List Feature) → option_map (λ (m : Member Feature). m.item) (first_from m xs) ≡ option_map (λ m. m.item) (first_from n xs)
-item_any m n [] = refl
-item_any m n (x ∷ xs) = refl
+item_any m n xs = grind arith
 
 -- the first of the same records
 item_same : (m n : ℕ) (xs ys : List Feature) → xs ≡ ys → option_map (λ (m : Member Feature). m.item) (first_from m xs) ≡ option_map (λ m. m.item) (first_from n ys)
@@ -279,17 +254,7 @@ module _ {A B O : Type 0} {g : Ghosts O} {source_a : Source A} {source_b : Sourc
   goes_on : (first_now : Records A O g) (second_now : Records B O g) (swept : Sweeping) (now : Output) (next : Stage) → StandsAt order next swept → config_of swept ≡ config
       → Comes join pair out (stage_of next) s.past_first s.past_second (view_of first_now) (view_of second_now) now → order_in first_now ≡ order_in first → order_in second_now ≡ order_in second
       → (IsKnown pair → AreWithin order config.limit (given next) s.past_second) → Going first_now second_now swept now
-  goes_on first_now second_now swept now next stands config_is comes same same_second fits = record {
-    past_first = s.past_first;
-    past_second = s.past_second;
-    stage = next;
-    stands = stands;
-    config_is = config_is;
-    comes = comes;
-    first_order = same ∙ s.first_order;
-    second_order = same_second ∙ s.second_order;
-    fits = fits;
-  }
+  goes_on first_now second_now swept now next stands config_is comes same same_second fits = grind arith
 
   -- ---- a record of the first input is wanted
 
@@ -349,9 +314,7 @@ module _ {A B O : Type 0} {g : Ghosts O} {source_a : Source A} {source_b : Sourc
     opens known none =
         let seen = turned.seen_alone stage.taken (view_of second) none in
         let all = ((s.comes.settles known).whatever stage.taken (Some no_memory) placed_taken (record { begins = ([], sym (append-nil stage.taken) ∙ ap (λ (l : List Feature). l ++ []) (sym seen)); all = λ e. absurd (false≢true (sym goes ∙ e)) })).0 in
-        let parts : given stage ≡ stage.written ++ a ∷ [] = ap (λ (o : Option Feature). stage.written ++ option_to_list o) waiting.1 in
-        open_last order c.begun.total stage.taken stage.written a placed_taken (subst (λ (l : List Feature). ArePlaced order (intervals_of l)) parts placed_given) all
-        (subst (λ (l : List Feature). IsTrue (list_all (leaves_some order l) stage.taken)) parts asked)
+        grind (arith, waiting, open_last, placed_taken, placed_given)
 
     pub stops_second : (fault : Fault) (second_now : Records B O g) → FillsRecords source_b second (Err fault) second_now → Ends (Some (fault_value fault)) first second_now grown
     stops_second fault second_now fills =
@@ -409,31 +372,18 @@ module _ {A B O : Type 0} {g : Ghosts O} {source_a : Source A} {source_b : Sourc
     ended_second e = let none = none_second e in (ap (members_from (suc (lines_given (below second)))) none.0, none.1)
 
     not_ended_with : (m : Member Feature) → ahead_in (view_of second_now) ≡ Some m → (b : Bool) → stage.b_ended ≡ b → b ≡ false
-    not_ended_with m ahead true e =
-        absurd (let apart : None ≡ Some m = sym (ap (λ (l : List Feature). first_from (suc (lines_given (below second_now))) l) (none_second e).1) ∙ ahead in cc)
-    not_ended_with m ahead false e = refl
+    not_ended_with m ahead b e = grind (arith, none_second)
 
     -- what is seen of the second input grows
     seen_by : (b : Bool) → stage.b_ended ≡ b → (xs : List Feature) → ss ≡ xs → SettlesPair join stage.written s.comes.bytes (stage.taken ++ option_to_list (item_ahead (view_of second))) b
         → SettlesPair join stage.written s.comes.bytes ((stage.taken ++ xs) ++ option_to_list (item_ahead (view_of second_now))) b
-    seen_by true e xs is settles =
-        let none = none_second e in
-        let before = turned.seen_alone stage.taken (view_of second) (s.comes.second_all e).1 in
-        let after = turned.seen_alone (stage.taken ++ xs) (view_of second_now) none.1 ∙ ap (λ (l : List Feature). stage.taken ++ l) (sym is ∙ none.0) ∙ append-nil stage.taken in
-        subst (λ (l : List Feature). SettlesPair join stage.written s.comes.bytes l true) (before ∙ sym after) settles
-    seen_by false e [] is settles =
-        let same : (view_of second).buffered ≡ (view_of second_now).buffered = takes.second_taken.takes.buffered ∙ ap (λ (l : List Feature). l ++ (view_of second_now).buffered) is in
-        subst (λ (l : List Feature). SettlesPair join stage.written s.comes.bytes l false)
-        (ap (λ (o : Option Feature). stage.taken ++ option_to_list o) (item_same (suc (lines_given (below second))) (suc (lines_given (below second_now))) (view_of second).buffered (view_of second_now).buffered same)
-        ∙ ap (λ (l : List Feature). l ++ option_to_list (item_ahead (view_of second_now))) (sym (append-nil stage.taken))) settles
+    seen_by true e xs is settles = grind (arith, none_second, append-nil)
+    seen_by false e [] is settles = grind (arith, item_same, append-nil)
     seen_by false e (x ∷ xs) is settles =
         let same : (view_of second).buffered ≡ x ∷ (xs ++ (view_of second_now).buffered) = takes.second_taken.takes.buffered ∙ ap (λ (l : List Feature). l ++ (view_of second_now).buffered) is in
         let ahead : item_ahead (view_of second) ≡ Some x = item_same (suc (lines_given (below second))) 0 (view_of second).buffered (x ∷ (xs ++ (view_of second_now).buffered)) same in
         let rest = xs ++ option_to_list (item_ahead (view_of second_now)) in
-        subst (λ (l : List Feature). SettlesPair join stage.written s.comes.bytes l false)
-        (append_assoc stage.taken (x ∷ []) rest ∙ sym (append_assoc stage.taken (x ∷ xs) (option_to_list (item_ahead (view_of second_now)))))
-        (settles_seen join stage.written s.comes.bytes (stage.taken ++ x ∷ []) rest
-        (subst (λ (o : Option Feature). SettlesPair join stage.written s.comes.bytes (stage.taken ++ option_to_list o) false) ahead settles))
+        grind (arith, (append_assoc stage.taken (x ∷ []) rest), (append_assoc stage.taken (x ∷ xs) (option_to_list (item_ahead (view_of second_now)))), settles_seen)
 
     settled_seen : IsKnown pair → SettlesPair join stage.written s.comes.bytes ((stage.taken ++ ss) ++ option_to_list (item_ahead (view_of second_now))) stage.b_ended
     settled_seen known = seen_by stage.b_ended refl ss refl (s.comes.settles known)
@@ -504,8 +454,7 @@ module _ {A B O : Type 0} {g : Ghosts O} {source_a : Source A} {source_b : Sourc
   module _ {first_now : Records A O g} {second_now : Records B O g} {firsts seconds last_firsts last_seconds : Batch}
       (consumes : ConsumesGiven source_a first firsts last_firsts first_now) (consumes_second : ConsumesGiven source_b second seconds last_seconds second_now) where
     pub takes_both : (fs ss : List Feature) → PassesBatch firsts fs last_firsts → PassesBatch seconds ss last_seconds → TakesBoth source_a source_b first second fs ss first_now second_now
-    takes_both fs ss passes passes_second =
-        record { first_taken = consumes.takes fs passes; second_taken = consumes_second.takes ss passes_second; first_order = consumes.order; second_order = consumes_second.order }
+    takes_both fs ss passes passes_second = grind arith
 
     seen : (newly ss : List Feature) (next : Option Feature) → ComesNext batch_cursor last_seconds next → Settles order sweep.phase newly (ss ++ option_to_list next) → Settles order sweep.phase newly (ss ++ option_to_list (item_ahead (view_of second_now)))
     seen = seen_then source_b second second_now seconds last_seconds consumes_second order sweep.phase
