@@ -2,11 +2,11 @@
 use Rattle.std.proofs.lemmas.Grind.{common_steps}
 use Rattle.bt_lines.proofs.Std.{◌≡◌, ℕ, [], ◌∷◌, ◌++◌, List, Result, false, true, ◌∙◌, append_assoc, arith, drop, length, take, ◌-◌, length-drop, take_all, is_ok}
 use Rattle.bt_lines.specs.model.Fault.{write_failed, FaultValue}
-use Rattle.bt_lines.specs.calls.Output.{Output, Adds, FailsToPut, Puts, PutsAll, span_text}
+use Rattle.bt_lines.specs.calls.Output.{Output, FailsToPut, Puts, PutsAll, span_text}
 use Rattle.bt_lines.specs.declared.fault.Fault.{Fault}
-use Rattle.bt_lines.proofs.lemmas.Writer.{line_alone, fails_before, puts_more}
+use Rattle.bt_lines.proofs.lemmas.Writer.{fails_before, puts_more}
 use Rattle.bt_bed.specs.model.Feature.{Interval, Feature}
-use Rattle.bt_bed.specs.model.BedLine.{interval_line, interval_lines, bounds_text, bed_text}
+use Rattle.bt_bed.specs.model.BedLine.{interval_line, bounds_text, bed_text}
 
 -- The line of an interval, put column by column, and the lines of intervals one after another.
 

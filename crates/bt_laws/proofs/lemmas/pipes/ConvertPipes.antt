@@ -234,8 +234,6 @@ pub record Stands (old new : List ℕ) : Type 0 where
   -- a header stays
   pub same : is_header old ≡ true → new ≡ old
 
--- ---- one line
-
 -- ---- line ends
 
 clear_return : (text : List ℕ) → NoLineFeed text → NoLineFeed (text ++ 13 ∷ [])

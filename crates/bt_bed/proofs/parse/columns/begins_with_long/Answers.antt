@@ -1,5 +1,5 @@
-use Rattle.bt_lines.proofs.Std.{◌≡◌, ◌+◌, ◌<◌, ◌∙◌, ap, arith, drop, get_or, length, sym, get_or-append_seam, bytes_eq-Decides}
-use Rattle.bt_bed.proofs.lemmas.read.ColumnLemmas.{front_is_name, name_in_front}
+use Rattle.bt_lines.proofs.Std.{arith, get_or-append_seam, bytes_eq-Decides}
+use Rattle.bt_bed.proofs.lemmas.read.ColumnLemmas.{front_is_name}
 use Rattle.bt_bed.proofs.parse.columns.begins_with_long.Goals as goal
 
 pub returns-then-bytes-end-eq9-clause-other : goal.returns-then-bytes-end-eq9-clause-other

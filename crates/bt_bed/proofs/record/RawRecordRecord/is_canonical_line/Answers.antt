@@ -1,4 +1,4 @@
-use Rattle.bt_lines.proofs.Std.{arith, ◌∙◌, ◌∷◌, ◌++◌, [], ap, sym}
+use Rattle.bt_lines.proofs.Std.{arith}
 use Rattle.bt_lines.proofs.lemmas.reader.lines.TextLemmas.{strip_last-other}
 use Rattle.bt_bed.specs.calls.Bed.{raw_in, text_in}
 use Rattle.bt_bed.proofs.lemmas.read.ColumnLemmas.{text_written}

@@ -1,4 +1,4 @@
-use Rattle.bt_lines.proofs.Std.{◌<◌, length, arith, drop_more}
+use Rattle.bt_lines.proofs.Std.{arith, drop_more}
 use Rattle.bt_bed.proofs.record.kept_strand.kept_strand.Goals as goal
 
 pub returns : goal.returns

@@ -1,5 +1,5 @@
 -- Lemmas on the rounds of a sweep over two readers: how far each comes, what it reads, and how much is still wanted.
-use Rattle.bt_lines.proofs.Std.{◌≡◌, ℕ, zero, suc, ◌+◌, ◌*◌, ◌≤◌, ◌<◌, Bool, true, false, List, length, length-append, Option, None, Some, Ok, Err, refl, sym, ap, ◌∙◌, subst, arith, inl, inr, option_to_list, [], ◌⊎◌, IsErrAnd, Result, is_some, false≢true}
+use Rattle.bt_lines.proofs.Std.{◌≡◌, ℕ, zero, ◌+◌, ◌*◌, ◌≤◌, ◌<◌, Bool, true, false, List, length, length-append, Option, None, Some, Ok, Err, refl, sym, ap, ◌∙◌, subst, arith, inl, inr, option_to_list, [], ◌⊎◌, IsErrAnd, Result, is_some}
 use Rattle.bt_lines.specs.calls.Output.{HoldsBlock, Output}
 use Rattle.bt_sweep.specs.calls.Sweeping.{first_stage, IsInOrder, MovesTo, Stage, StandsAt, with_a_ended, AdvancesOn, AdvancesSo, HasWritten, StopsFor, EndsB, Sweeping, is_over as is_done, want_in}
 use Rattle.bt_sweep.specs.calls.SweepView.{order_of as sweep_order, state_of}
@@ -58,9 +58,6 @@ module _ {A B O : Type 0} {g : Ghosts O} (source_a : Source A) (source_b : Sourc
 
 rounds_most : (o : Option Feature) (done : Bool) → sweep_rounds (is_some o) done ≤ length (option_to_list o) + 1
 rounds_most o done = grind arith
-
-rounds_two : (waits done : Bool) → sweep_rounds waits done ≤ 2
-rounds_two waits done = grind arith
 
 some_waits : (o : Option Feature) → is_some o ≡ true → length (option_to_list o) ≡ 1
 some_waits o e = grind arith

@@ -18,7 +18,7 @@ use Rattle.bt_bed.specs.declared.read.batch.Batch.{Batch}
 use Rattle.bt_bed.specs.declared.order.ChromOrder.{Ghosts}
 use Rattle.bt_bed.specs.declared.read.records.Records.{Records}
 use Rattle.bt_bed.proofs.lemmas.order.OrderLemmas.{sorted_up_to, grows_placed, last_of-push}
-use Rattle.bt_sweep.specs.calls.Sweeping.{AdvancesOn, Settles, ComesNext, Sweeping, AdvancesSo, FailsAt, PutsEach, stage_after, AreDecided, CannotBeHeld, TakenEach, has_room, IsInOrder, MovesTo, Stage, StandsAt, given, leaves_some, phase_of, with_a_ended, with_b_ended, is_over as is_done, want_in, want_of}
+use Rattle.bt_sweep.specs.calls.Sweeping.{AdvancesOn, Settles, ComesNext, Sweeping, AdvancesSo, FailsAt, PutsEach, stage_after, AreDecided, CannotBeHeld, TakenEach, has_room, IsInOrder, MovesTo, Stage, StandsAt, given, phase_of, with_a_ended, with_b_ended, is_over as is_done, want_in, want_of}
 use Rattle.bt_sweep.specs.calls.SweepView.{state_of}
 use Rattle.bt_sweep.specs.model.Hits.{decided, held_for, is_held}
 use Rattle.bt_sweep.specs.declared.sweep.phase.Phase.{Phase}
@@ -37,7 +37,7 @@ use Rattle.bt_lines.specs.declared.fault.Kind.TheVariants.{TooManyHeld}
 use Rattle.bt_bed.proofs.lemmas.parse.NameLemmas.{name_eq}
 use Rattle.bt_bed.proofs.lemmas.read.batch.RecordsLemmas.{wrong_of_bed}
 use Rattle.bt_sweep.specs.model.Lines.{intersect, lines_for}
-use Rattle.bt_sweep.specs.declared.sweep.phase.Phase.TheVariants.{Both, First, Over}
+use Rattle.bt_sweep.specs.declared.sweep.phase.Phase.TheVariants.{First}
 use Rattle.bt_sweep.specs.declared.sweep.want.Want.TheVariants.{A as WantA, B as WantB, Nothing}
 use Rattle.bt_sweep.proofs.lemmas.definitions.HitLemmas.{none_before, placed_back, front_placed}
 use Rattle.bt_tool.specs.declared.loops.sweeping.SweepConfig.{SweepConfig}

@@ -1,10 +1,10 @@
-use Rattle.bt_lines.proofs.Std.{arith, ◌∙◌, ℕ, ◌<◌, Some, ap, map, sym, All, Vec, is_some}
+use Rattle.bt_lines.proofs.Std.{arith, ◌∙◌, ℕ, ◌<◌, ap, sym, All, Vec, is_some}
 use Rattle.std.specs.declared.alloc.Global.{Global}
 use Rattle.bt_lines.specs.declared.fault.Kind.TheVariants.{RepeatedChrom}
 use Rattle.bt_bed.proofs.lemmas.order.TableLemmas.{is_new, either_way, lost_item, lost_wrong, entries_non_empty, entries_push, refused_at_place, says_new, says_repeated}
 use Rattle.bt_bed.proofs.lemmas.read.good.SaidLemmas.{genome_of_line}
 use Rattle.bt_bed.specs.model.Genome.{entry_of, new_entry}
-use Rattle.bt_bed.specs.calls.GenomeTable.{entries, entry_lent, entry_seen, names_of}
+use Rattle.bt_bed.specs.calls.GenomeTable.{entries, entry_lent, names_of}
 use Rattle.bt_bed.proofs.order.genome.Genome.add_line.Goals as goal
 
 pub at_line-requires : goal.at_line-requires

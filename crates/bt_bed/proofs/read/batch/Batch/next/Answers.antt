@@ -1,7 +1,7 @@
-use Rattle.bt_lines.proofs.Std.{◌≡◌, ◌∷◌, ◌+◌, [], length, length-append, refl, sym, ap, arith, take, ◌∙◌}
+use Rattle.bt_lines.proofs.Std.{length-append, arith}
 use Rattle.bt_lines.specs.calls.Reader.{rest_in}
 use Rattle.bt_bed.specs.calls.Batch.{chrom_in, consumed_in, cursor_in, left, left_after, start_in}
-use Rattle.bt_bed.specs.calls.Bed.{raw_in, record_in, text_in, run_of}
+use Rattle.bt_bed.specs.calls.Bed.{raw_in, record_in, text_in}
 use Rattle.bt_bed.proofs.lemmas.read.batch.RecordsLemmas.{one_more}
 use Rattle.bt_bed.proofs.read.batch.Batch.next.Goals as goal
 

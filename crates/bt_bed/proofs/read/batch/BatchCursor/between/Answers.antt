@@ -1,4 +1,4 @@
-use Rattle.bt_lines.proofs.Std.{◌∙◌, ◌++◌, ap, arith, sym, take, length-take-le}
+use Rattle.bt_lines.proofs.Std.{arith, length-take-le}
 use Rattle.bt_bed.specs.calls.Batch.{consumed_in}
 use Rattle.bt_bed.proofs.lemmas.read.batch.RecordsLemmas.{bytes_between}
 use Rattle.bt_bed.proofs.read.batch.BatchCursor.between.Goals as goal

@@ -3,7 +3,6 @@ use Rattle.bt_bed.specs.calls.Blocks.{view_of}
 use Rattle.bt_bed.specs.calls.SortedReader.{view_with}
 use Rattle.bt_bed.proofs.lemmas.read.batch.BlocksLemmas.{takes_blocks}
 use Rattle.bt_bed.proofs.lemmas.read.batch.RecordsLemmas.{passed_last, some_first}
-use Rattle.bt_bed.specs.model.Sorted.{block_sorting}
 use Rattle.bt_bed.proofs.read.blocks.Blocks.advance.Goals as goal
 
 pub advance-requires-clause-some : goal.advance-requires-clause-some

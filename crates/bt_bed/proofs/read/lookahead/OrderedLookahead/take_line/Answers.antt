@@ -1,4 +1,4 @@
-use Rattle.bt_lines.proofs.Std.{arith, ◌≡◌, ◌∙◌, refl, rules, sym, Some, None}
+use Rattle.bt_lines.proofs.Std.{arith, ◌≡◌, ◌∙◌, refl, rules, sym, Some}
 use Rattle.bt_bed.proofs.lemmas.order.TableLemmas.{lost_item, lost_wrong}
 use Rattle.bt_bed.proofs.lemmas.read.good.SaidLemmas.{bed_of_line, wrong_is_of_line}
 use Rattle.bt_bed.proofs.lemmas.read.batch.RecordsLemmas.{held_other, held_same, says_nothing, says_wrong, says_misplaced, says_record}

@@ -2,7 +2,6 @@ use Rattle.bt_lines.proofs.Std.{arith}
 use Rattle.bt_bed.specs.calls.Records.{view_of}
 use Rattle.bt_bed.specs.calls.SortedReader.{view_with}
 use Rattle.bt_bed.proofs.lemmas.read.batch.RecordsLemmas.{passed_last, placed_by, some_first, takes_records}
-use Rattle.bt_bed.specs.model.Sorted.{sorting_of}
 use Rattle.bt_bed.proofs.read.records.Records.advance.Goals as goal
 
 pub invariant_of-self : goal.invariant_of-self

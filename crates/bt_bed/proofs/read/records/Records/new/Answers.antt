@@ -1,10 +1,6 @@
-use Rattle.bt_lines.proofs.Std.{arith, ◌∙◌, ap, option_map}
-use Rattle.bt_lines.specs.calls.Reader.{input_of, lines_left}
+use Rattle.bt_lines.proofs.Std.{arith}
 use Rattle.bt_bed.proofs.lemmas.read.batch.RecordsLemmas.{good_at_start, placed_at_start}
-use Rattle.bt_bed.specs.model.Good.{good, bed_format}
 use Rattle.bt_bed.specs.calls.Records.{view_of}
-use Rattle.bt_bed.specs.model.Sorted.{sorting_of}
-use Rattle.bt_bed.specs.declared.read.sorted.ByOrder.{ByOrder}
 use Rattle.bt_bed.proofs.read.records.Records.new.Goals as goal
 
 pub invariant_of-result : goal.invariant_of-result

@@ -1,7 +1,5 @@
-use Rattle.bt_lines.proofs.Std.{arith, [], ◌∷◌, subst, take}
+use Rattle.bt_lines.proofs.Std.{arith, [], ◌∷◌}
 use Rattle.bt_bed.proofs.lemmas.read.good.SaidRuns.{count_is, one_given, token_is}
-use Rattle.bt_bed.specs.calls.Reading.{Takes}
-use Rattle.bt_bed.specs.calls.SortedReader.{buffered_in, view_in}
 use Rattle.bt_bed.proofs.read.sorted_reader.SortedReader.advance.Goals as goal
 
 pub consume-requires-clause-taken : goal.consume-requires-clause-taken

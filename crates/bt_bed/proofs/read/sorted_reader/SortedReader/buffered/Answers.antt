@@ -1,7 +1,6 @@
-use Rattle.bt_lines.proofs.Std.{arith, ◌≡◌, [], List, ◌∙◌, ap, sym, false≢true}
+use Rattle.bt_lines.proofs.Std.{arith, false≢true}
 use Rattle.bt_bed.proofs.lemmas.read.batch.SortedReaderLemmas.{name_is_record}
-use Rattle.bt_bed.specs.model.Feature.{Feature}
-use Rattle.bt_bed.specs.calls.Bed.{is_some_left, run_of}
+use Rattle.bt_bed.specs.calls.Bed.{run_of}
 use Rattle.bt_bed.specs.calls.SortedReader.{buffered_in}
 use Rattle.bt_bed.proofs.read.sorted_reader.SortedReader.buffered.Goals as goal
 

@@ -1,8 +1,7 @@
-use Rattle.bt_lines.proofs.Std.{arith, ◌≡◌, refl, sym, subst, take}
+use Rattle.bt_lines.proofs.Std.{arith, ◌≡◌, refl}
 use Rattle.bt_lines.proofs.lemmas.reader.lines.BufferedLemmas.{no_lines, some_lines}
 use Rattle.bt_bed.proofs.lemmas.read.good.ReadingLemmas.{takes_none}
 use Rattle.bt_bed.proofs.lemmas.read.batch.SortedReaderLemmas.{sorted_ahead, sorted_placed, sorted_takes, was_ahead}
-use Rattle.bt_bed.specs.calls.Reading.{Takes}
 use Rattle.bt_bed.specs.calls.SortedReader.{buffered_in, count_in, view_in}
 use Rattle.bt_bed.proofs.read.sorted_reader.SortedReader.consume.Goals as goal
 

@@ -1,4 +1,4 @@
-use Rattle.bt_lines.proofs.Std.{arith, ◌∙◌}
+use Rattle.bt_lines.proofs.Std.{arith}
 use Rattle.bt_bed.specs.calls.Bed.{text_in}
 use Rattle.bt_bed.proofs.lemmas.read.ColumnLemmas.{byte_there, column_begins, other_byte, text_less, written_so}
 use Rattle.bt_bed.proofs.record.raw_record.RawRecord.is_canonical.Goals as goal
