@@ -11,7 +11,7 @@ pub use Rattle.std.proofs.lemmas.Bool.{agree_below, agree_below_at, and_from, an
 pub use Rattle.std.proofs.lemmas.Bool.Decides.{Decides-and, Decides-below_or, Decides-like, Decides-ltb, Decides-not, Decides-or, nat_tests}
 pub use Rattle.std.proofs.lemmas.Fmt.{decimal-digits_value, decimal_digit, decimal_is_IsNumeral, length-decimal-le}
 pub use Rattle.std.proofs.lemmas.Fn.{filter_same}
-pub use Rattle.std.proofs.lemmas.Grind.{flat_map-append, get_or_default_zero, take_at_read}
+pub use Rattle.std.proofs.lemmas.Grind.{common_steps, flat_map-append, get_or_default_zero, take_at_read}
 pub use Rattle.std.proofs.lemmas.Int.Digits.{digits_value-lt, digits_value_is, digits_value_more, number_after_append, number_after_ge}
 pub use Rattle.std.proofs.lemmas.Iterator.Adapters.{position_from-zero}
 pub use Rattle.std.proofs.lemmas.List.{append_cancel_left, append_cancel_right, drop-append-le, drop-drop, drop-map, drop-set, drop-take, drop_all, drop_at, drop_more, get_or-append-add, get_or-drop, get_or-map, get_or-replicate, get_or-take, get_or_append_left, get_or_default, get_or_past, length-drop, length-map, length-replicate, length-set, length-take-le, map-append, map-id, map-set, nil_from_length, reverse-append, same_from_push, set-get_or, take-append-drop, take-append-le, take-map, take-take, take_all, take_at, take_more, take_more_set, take_rest}

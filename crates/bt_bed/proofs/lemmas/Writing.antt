@@ -1,6 +1,5 @@
 -- Lemmas on records and intervals as lines.
-use Rattle.std.proofs.lemmas.Grind.{common_steps}
-use Rattle.bt_lines.proofs.Std.{◌≡◌, ℕ, [], ◌∷◌, ◌++◌, List, Result, false, true, ◌∙◌, append_assoc, arith, drop, length, take, ◌-◌, length-drop, take_all, is_ok}
+use Rattle.bt_lines.proofs.Std.{common_steps, ◌≡◌, ℕ, [], ◌∷◌, ◌++◌, List, Result, false, true, ◌∙◌, append_assoc, arith, drop, length, take, ◌-◌, length-drop, take_all, is_ok}
 use Rattle.bt_lines.specs.model.Fault.{write_failed, FaultValue}
 use Rattle.bt_lines.specs.calls.Output.{Output, FailsToPut, Puts, PutsAll, span_text}
 use Rattle.bt_lines.specs.declared.fault.Fault.{Fault}

@@ -1,6 +1,5 @@
 -- Sums, pairs and bases.
-use Rattle.bt_lines.proofs.Std.{rules, ◌≡◌, ℕ, zero, suc, ◌+◌, ◌-◌, ◌*◌, ◌<◌, ◌≤◌, Bool, false, cond, List, [], ◌∷◌, map, filter, length, max, min, Option, Some, None, inl, inr, refl, sym, ap, ap₂, ◌∙◌, arith, eqb, ◌⊎◌, bytes_eq, flat_map, nat_lt, sum_by, or_parts, mul-suc, sum_by-append, sum_by-cons, ◌++◌, append_assoc, subst, IsPermutation, flat_map-append, map-append, IsPermutation-append_comm, IsPermutation-append_left, IsPermutation-append_right, IsPermutation-refl, IsPermutation-trans, flat_map-map, cases_Bool, false≢true}
-use Rattle.std.proofs.lemmas.Grind.{common_steps}
+use Rattle.bt_lines.proofs.Std.{common_steps, rules, ◌≡◌, ℕ, zero, suc, ◌+◌, ◌-◌, ◌*◌, ◌<◌, ◌≤◌, Bool, false, cond, List, [], ◌∷◌, map, filter, length, max, min, Option, Some, None, inl, inr, refl, sym, ap, ap₂, ◌∙◌, arith, eqb, ◌⊎◌, bytes_eq, flat_map, nat_lt, sum_by, or_parts, mul-suc, sum_by-append, sum_by-cons, ◌++◌, append_assoc, subst, IsPermutation, flat_map-append, map-append, IsPermutation-append_comm, IsPermutation-append_left, IsPermutation-append_right, IsPermutation-refl, IsPermutation-trans, flat_map-map, cases_Bool, false≢true}
 use Rattle.bt_bed.specs.model.Feature.{Feature, interval_of, intervals_of, Interval, Span, span_of, spans_on, placed_on}
 use Rattle.bt_bed.specs.model.Positions.{IsCovered}
 use Rattle.bt_bed.specs.model.BedLine.{cut_to}

@@ -1,6 +1,5 @@
 -- Lemmas on bamtobed.
-use Rattle.std.proofs.lemmas.Grind.{common_steps}
-use Rattle.bt_lines.proofs.Std.{rules, ◌≡◌, ℕ, Bool, true, false, List, [], ◌∷◌, ◌++◌, Result, sym, ap, subst, ◌∙◌, append_assoc, append-nil, codes, length, arith, map, length-append, flat_map, flat_map-append, map-append, ◌<◌, max}
+use Rattle.bt_lines.proofs.Std.{common_steps, rules, ◌≡◌, ℕ, Bool, true, false, List, [], ◌∷◌, ◌++◌, Result, sym, ap, subst, ◌∙◌, append_assoc, append-nil, codes, length, arith, map, length-append, flat_map, flat_map-append, map-append, ◌<◌, max}
 use Rattle.bt_bed.specs.model.Feature.{Span}
 use Rattle.bt_lines.specs.model.Fault.{FaultValue}
 use Rattle.bt_lines.specs.calls.Output.{Output, Adds, FailsToAdd, FailsToPut, Grown, Puts, PutsAll}

@@ -1,6 +1,5 @@
 -- Lemmas on the fraction that digits denote.
-use Rattle.std.proofs.lemmas.Grind.{common_steps}
-use Rattle.bt_lines.proofs.Std.{◌≡◌, ℕ, ◌+◌, ◌-◌, ◌*◌, ◌<◌, ◌≤◌, Bool, true, false, ◌&&◌, List, length, take, get_or, replicate, Option, Some, None, refl, sym, ◌∙◌, arith, zero, suc, ltb, leb, cond, get_or-append, get_or-eq_default, get_or-append_right, get_or_default_zero, and_right, and_left, get_or-replicate, length-append, length-replicate, take_all, list_all-append, list_all_at, is_ascii_digit, list_all, unwrap_or, digits_value}
+use Rattle.bt_lines.proofs.Std.{common_steps, ◌≡◌, ℕ, ◌+◌, ◌-◌, ◌*◌, ◌<◌, ◌≤◌, Bool, true, false, ◌&&◌, List, length, take, get_or, replicate, Option, Some, None, refl, sym, ◌∙◌, arith, zero, suc, ltb, leb, cond, get_or-append, get_or-eq_default, get_or-append_right, get_or_default_zero, and_right, and_left, get_or-replicate, length-append, length-replicate, take_all, list_all-append, list_all_at, is_ascii_digit, list_all, unwrap_or, digits_value}
 use Rattle.bt_lines.specs.model.Lines.{value_of as number_of}
 use Rattle.bt_tool.specs.model.Fraction.{are_digits_of_fraction, billionths_in, fraction_in, fraction_of, nine_decimals, one_in_billionths}
 

@@ -1,6 +1,5 @@
 -- Lemmas on lists of options that are borrowed, and on the first of them that passes a test.
-use Rattle.std.proofs.lemmas.Grind.{common_steps}
-use Rattle.bt_lines.proofs.Std.{◌≡◌, ℕ, Bool, true, false, cond, List, [], ◌∷◌, Some, None, map, refl, sym, ap, arith, find, option_map, ◌||◌, bytes_eq, not, ◌&&◌, ◌==◌, length, list_any, false≢true}
+use Rattle.bt_lines.proofs.Std.{common_steps, ◌≡◌, ℕ, Bool, true, false, cond, List, [], ◌∷◌, Some, None, map, refl, sym, ap, arith, find, option_map, ◌||◌, bytes_eq, not, ◌&&◌, ◌==◌, length, list_any, false≢true}
 use Rattle.bt_tool.specs.model.Usage.{Item, input_named_twice, options_exclusive}
 use Rattle.bt_tool.specs.model.Options.{fault_together, has_exclusive, is_given, lacks_one_of, lacks_option, named_by, overwrites, reads_twice}
 use Rattle.bt_tool.specs.model.Table.{Table, Word, takes}

@@ -1,6 +1,5 @@
 -- Lemmas on columns, and on what is kept of them.
-use Rattle.std.proofs.lemmas.Grind.{common_steps}
-use Rattle.bt_lines.proofs.Std.{◌≡◌, ℕ, ◌+◌, ◌≤◌, Bool, List, [], ◌∷◌, ◌++◌, length, drop, refl, sym, ap, ◌∙◌, eqb, append_assoc, append-nil, arith, length-append, drop_at, slice_split_at, slice_split_none, join_with_byte-slice_split, AllByRecursion, join_with_byte, ◌<◌, true, false, cond, Option, Some, None, Result, Ok, subst, ◌||◌, bytes_eq, take, get_or, take-append-drop, All-head, All-tail, bytes_eq-Decides, All}
+use Rattle.bt_lines.proofs.Std.{common_steps, ◌≡◌, ℕ, ◌+◌, ◌≤◌, Bool, List, [], ◌∷◌, ◌++◌, length, drop, refl, sym, ap, ◌∙◌, eqb, append_assoc, append-nil, arith, length-append, drop_at, slice_split_at, slice_split_none, join_with_byte-slice_split, AllByRecursion, join_with_byte, ◌<◌, true, false, cond, Option, Some, None, Result, Ok, subst, ◌||◌, bytes_eq, take, get_or, take-append-drop, All-head, All-tail, bytes_eq-Decides, All}
 use Rattle.bt_lines.specs.model.Lines.{pieces, value_of}
 use Rattle.bt_lines.proofs.lemmas.reader.lines.TextLemmas.{IsColumn}
 use Rattle.bt_bed.specs.model.Feature.{Feature}

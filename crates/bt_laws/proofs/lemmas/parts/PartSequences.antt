@@ -1,6 +1,5 @@
 -- What is good of two concatenated FASTA texts.
-use Rattle.bt_lines.proofs.Std.{◌≡◌, ℕ, suc, ◌-◌, Bool, true, false, cond, List, [], ◌∷◌, ◌++◌, map, append-nil, append_assoc, Option, Some, None, Result, Ok, Err, refl, sym, ap, ap₂, ◌∙◌, subst, arith, IsTrue, ⊤, flat_map, AllByRecursion, map-append, is_none, option_map}
-use Rattle.std.proofs.lemmas.Grind.{common_steps}
+use Rattle.bt_lines.proofs.Std.{common_steps, ◌≡◌, ℕ, suc, ◌-◌, Bool, true, false, cond, List, [], ◌∷◌, ◌++◌, map, append-nil, append_assoc, Option, Some, None, Result, Ok, Err, refl, sym, ap, ap₂, ◌∙◌, subst, arith, IsTrue, ⊤, flat_map, AllByRecursion, map-append, is_none, option_map}
 use Rattle.bt_lines.specs.model.Fault.{FaultValue}
 use Rattle.bt_lines.specs.model.Lines.{TextLine, fed_line, last_line, lines_from, text_lines}
 use Rattle.bt_lines.specs.declared.fault.Input.{Input}

@@ -1,6 +1,5 @@
 -- What intersect and subtract write of inputs of two parts.
-use Rattle.bt_lines.proofs.Std.{arith, ◌≡◌, ℕ, Bool, true, false, ◌&&◌, ◌||◌, cond, List, [], ◌∷◌, ◌++◌, append-nil, append_assoc, Option, Some, None, refl, sym, ap, ap₂, ◌∙◌, ltb, min, max, ◌-◌, IsTrue, bytes_eq, flat_map, is_none, AllByRecursion, list_all, list_any, take_while, option_or, flat_map-append, filter-append, take_while-cons}
-use Rattle.std.proofs.lemmas.Grind.{common_steps}
+use Rattle.bt_lines.proofs.Std.{common_steps, arith, ◌≡◌, ℕ, Bool, true, false, ◌&&◌, ◌||◌, cond, List, [], ◌∷◌, ◌++◌, append-nil, append_assoc, Option, Some, None, refl, sym, ap, ap₂, ◌∙◌, ltb, min, max, ◌-◌, IsTrue, bytes_eq, flat_map, is_none, AllByRecursion, list_all, list_any, take_while, option_or, flat_map-append, filter-append, take_while-cons}
 use Rattle.std.specs.declared.cmp.Ordering.TheVariants.{Less}
 use Rattle.bt_laws.proofs.lemmas.parts.PartGenomes.{or_true}
 use Rattle.bt_sweep.proofs.lemmas.definitions.HitLemmas.{apart_misses}

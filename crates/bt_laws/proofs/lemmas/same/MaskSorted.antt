@@ -1,6 +1,5 @@
 -- maskfasta by two BEDs, and by one that has the records of both.
-use Rattle.std.proofs.lemmas.Grind.{common_steps}
-use Rattle.bt_lines.proofs.Std.{◌≡◌, ◌||◌, ◌&&◌, ℕ, ◌<◌, ◌≤◌, Bool, true, false, cond, List, [], ◌∷◌, ◌++◌, append_assoc, Option, Some, None, inl, inr, refl, sym, ap, ap₂, ◌∙◌, subst, length, filter, arith, ◌⊎◌, bytes_eq, flat_map, is_some, IsPermutation, AllByRecursion, list_any, cases_Bool, or_parts, recursion_from_All, list_any-append, list_any-IsPermutation}
+use Rattle.bt_lines.proofs.Std.{common_steps, ◌≡◌, ◌||◌, ◌&&◌, ℕ, ◌<◌, ◌≤◌, Bool, true, false, cond, List, [], ◌∷◌, ◌++◌, append_assoc, Option, Some, None, inl, inr, refl, sym, ap, ap₂, ◌∙◌, subst, length, filter, arith, ◌⊎◌, bytes_eq, flat_map, is_some, IsPermutation, AllByRecursion, list_any, cases_Bool, or_parts, recursion_from_All, list_any-append, list_any-IsPermutation}
 use Rattle.bt_lines.specs.model.Lines.{lines_handed}
 use Rattle.bt_lines.specs.declared.fault.Input.TheVariants.{First}
 use Rattle.bt_bed.specs.model.Feature.{Feature}

@@ -1,6 +1,5 @@
 -- What maskfasta writes has the lines of its input, and is masked already.
-use Rattle.std.proofs.lemmas.Grind.{common_steps}
-use Rattle.bt_lines.proofs.Std.{◌≡◌, ◌||◌, ℕ, suc, ◌+◌, ◌≤◌, Bool, true, false, List, [], ◌∷◌, ◌++◌, map, length, Option, Some, None, refl, sym, ap, ap₂, ◌∙◌, arith, eqb, flat_map, if◌then◌else◌, list_all, list_any, option_or, ends_with_byte, All-head, All-nil, All-tail, ◌<◌, Result, subst, is_some, AllByRecursion, flat_map-map}
+use Rattle.bt_lines.proofs.Std.{common_steps, ◌≡◌, ◌||◌, ℕ, suc, ◌+◌, ◌≤◌, Bool, true, false, List, [], ◌∷◌, ◌++◌, map, length, Option, Some, None, refl, sym, ap, ap₂, ◌∙◌, arith, eqb, flat_map, if◌then◌else◌, list_all, list_any, option_or, ends_with_byte, All-head, All-nil, All-tail, ◌<◌, Result, subst, is_some, AllByRecursion, flat_map-map}
 use Rattle.bt_lines.specs.model.Fault.{FaultValue, read_failed}
 use Rattle.bt_lines.specs.model.Lines.{Handed, cut_fault, lines_handed, whole_text, TextLine, end_bytes, text_lines, whole_lines}
 use Rattle.bt_lines.specs.calls.Line.{NoLineFeed}

@@ -1,6 +1,5 @@
 -- Records that differ in their order, or in one that comes twice.
-use Rattle.std.proofs.lemmas.Grind.{common_steps}
-use Rattle.bt_lines.proofs.Std.{◌≡◌, inl, inr, ◌||◌, ℕ, ◌+◌, ◌<◌, Bool, true, false, cond, not, List, [], ◌∷◌, ◌++◌, map, filter, Option, refl, sym, ap, ◌∙◌, subst, arith, ◌≢◌, bytes_eq, flat_map, sum_by, IsPermutation, IsTrue, map-append, filter-append, AllByRecursion, list_any, cases_Bool, list_any-IsPermutation, sum_by-IsPermutation, sum_by-cons, append-nil, None, Ok, ap₂, length, or_parts}
+use Rattle.bt_lines.proofs.Std.{common_steps, ◌≡◌, inl, inr, ◌||◌, ℕ, ◌+◌, ◌<◌, Bool, true, false, cond, not, List, [], ◌∷◌, ◌++◌, map, filter, Option, refl, sym, ap, ◌∙◌, subst, arith, ◌≢◌, bytes_eq, flat_map, sum_by, IsPermutation, IsTrue, map-append, filter-append, AllByRecursion, list_any, cases_Bool, list_any-IsPermutation, sum_by-IsPermutation, sum_by-cons, append-nil, None, Ok, ap₂, length, or_parts}
 use Rattle.bt_lines.specs.declared.fault.Input.TheVariants.{First}
 use Rattle.bt_bed.specs.model.Sorted.{ArePlaced, has_records}
 use Rattle.bt_bed.proofs.lemmas.Definitions.{placed_good}

@@ -1,6 +1,5 @@
 -- Lemmas on alignments and masked sequences.
-use Rattle.bt_lines.proofs.Std.{rules, ◌≡◌, ℕ, ◌<◌, ◌≤◌, Bool, true, false, cond, List, [], ◌∷◌, ◌++◌, length, Option, Some, None, refl, sym, ap, ◌∙◌, length-append, arith, bytes_eq, append_cancel_right, ◌+◌, subst, option_map, sum_by-cons, add-zero, not, list_all, and_parts, append_assoc, flat_map, AllByRecursion, ◌≢◌, bytes_decides, ◌⊎◌}
-use Rattle.std.proofs.lemmas.Grind.{common_steps}
+use Rattle.bt_lines.proofs.Std.{common_steps, rules, ◌≡◌, ℕ, ◌<◌, ◌≤◌, Bool, true, false, cond, List, [], ◌∷◌, ◌++◌, length, Option, Some, None, refl, sym, ap, ◌∙◌, length-append, arith, bytes_eq, append_cancel_right, ◌+◌, subst, option_map, sum_by-cons, add-zero, not, list_all, and_parts, append_assoc, flat_map, AllByRecursion, ◌≢◌, bytes_decides, ◌⊎◌}
 use Rattle.bt_bed.specs.model.Feature.{Feature, Span}
 use Rattle.bt_seq.specs.model.Masked.{Block, blocks_by, left_at_last, names_behind, owned_from, decided, mask_rule, SequenceLine}
 use Rattle.bt_laws.specs.Sequences.{owners_stay, owners_were, AreBetween, blocks_are_within, unskipped_are_one_block, Divides, division_is_found, division_is_one, is_operation, operations_are_divided, spelled, early_mask_rule, faultless_are_masked, masked_are_a_prefix, AreApart, AreOfChrom, DividesAt, blocks_are_maximal_runs, items_of, owners_are_first, unowned_find_no_name, quiet_records_are_taken, taken_are_first}

@@ -1,6 +1,5 @@
 -- An engine that goes through the chromosomes of a genome file. One more record moves what is settled and what is reached as its walk's step says. At the end what its walk leaves is left. Complement and coverage are such engines; `GapRuleLemmas` and `DepthSteps` have what each owes of one chromosome.
-use Rattle.std.proofs.lemmas.Grind.{common_steps}
-use Rattle.bt_lines.proofs.Std.{◌≡◌, ℕ, ◌+◌, ◌≤◌, inl, inr, List, [], ◌∷◌, ◌++◌, refl, sym, ap, ap₂, ◌∙◌, subst, arith, append-nil, append_assoc, flat_map, length, length-append, slice_range, true, false, Option, Some, None, not, Decides, ◌<◌, max, min, cond, nat_lt, Decides-not, ⊤}
+use Rattle.bt_lines.proofs.Std.{common_steps, ◌≡◌, ℕ, ◌+◌, ◌≤◌, inl, inr, List, [], ◌∷◌, ◌++◌, refl, sym, ap, ap₂, ◌∙◌, subst, arith, append-nil, append_assoc, flat_map, length, length-append, slice_range, true, false, Option, Some, None, not, Decides, ◌<◌, max, min, cond, nat_lt, Decides-not, ⊤}
 use Rattle.bt_bed.specs.model.Feature.{Feature, interval_of, intervals_of, Interval, Span}
 use Rattle.bt_bed.specs.model.Positions.{IsCovered, AreApartFrom, AreStretchesOf}
 use Rattle.bt_bed.specs.model.Genome.{Entry, genome_names}

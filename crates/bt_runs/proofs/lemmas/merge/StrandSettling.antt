@@ -1,6 +1,5 @@
 -- The settled runs of several strands and the kept ones, and what one more record does to them.
-use Rattle.std.proofs.lemmas.Grind.{common_steps}
-use Rattle.bt_lines.proofs.Std.{◌≡◌, ℕ, ◌+◌, ◌≤◌, inl, inr, List, [], ◌∷◌, ◌++◌, append_assoc, append-nil, refl, sym, ap, ◌∙◌, subst, arith, drop, filter, get_or, length, map, set, take, Bool, true, false, not, ◌||◌, bytes_eq, nat_lt, Option, Some, None, list_any, prefix_len, take_while, ⊤, is_some, and_left, and_right, cases_Bool, cond-true, cond-false, false≢true, ltb-true, not-true, not_from_true, or_cases, drop_at, map-append, take-append-drop, take_at, length-prefix_len, list_any-append, take_while-cons, ◌<◌, ◌-◌, le-ltb, zero, suc, ◌⊎◌, Result, Err, slice_get, or_from, set-get_or, get_or_from_slice_get, slice_get_read, slice_get_within}
+use Rattle.bt_lines.proofs.Std.{common_steps, ◌≡◌, ℕ, ◌+◌, ◌≤◌, inl, inr, List, [], ◌∷◌, ◌++◌, append_assoc, append-nil, refl, sym, ap, ◌∙◌, subst, arith, drop, filter, get_or, length, map, set, take, Bool, true, false, not, ◌||◌, bytes_eq, nat_lt, Option, Some, None, list_any, prefix_len, take_while, ⊤, is_some, and_left, and_right, cases_Bool, cond-true, cond-false, false≢true, ltb-true, not-true, not_from_true, or_cases, drop_at, map-append, take-append-drop, take_at, length-prefix_len, list_any-append, take_while-cons, ◌<◌, ◌-◌, le-ltb, zero, suc, ◌⊎◌, Result, Err, slice_get, or_from, set-get_or, get_or_from_slice_get, slice_get_read, slice_get_within}
 use Rattle.bt_bed.specs.model.Feature.{Feature, interval_of, intervals_of, Interval, last_from, last_of, is_strand}
 use Rattle.bt_bed.specs.model.BedLine.{interval_line}
 use Rattle.bt_bed.specs.model.Sorted.{AreContiguous}

@@ -9,8 +9,7 @@
 --
 -- It is given what one more record settles and what is kept then, on the same chromosome or a later one (`goes_first`, `goes_on`, `goes_to`). That is what `feed` has to do. It is also given what is left for `finish` (`whole_left`), and `Settles` (`settling`), from which settled items stay and begin the whole (`Standing`).
 -- The engines' forms are in `SettledRuns` (merge), `GapRuleLemmas` (complement) and `DepthSteps` (coverage); the last two take `Walks` from here.
-use Rattle.std.proofs.lemmas.Grind.{common_steps}
-use Rattle.bt_lines.proofs.Std.{◌≡◌, ◌⊎◌, ℕ, ◌<◌, ◌≤◌, inl, inr, List, [], ◌∷◌, ◌++◌, append_assoc, append-nil, refl, sym, ap, ap₂, ◌∙◌, subst, arith, length, length-append, map, filter, flat_map, Bool, true, false, bytes_eq, Some, ⊤, or_parts, flat_map-append, map-append, take_at, filter-append, Contains-push, zero, suc, ◌+◌, ◌-◌, length-drop, drop, option_map, slice_range, min, Option, Result, Ok, Err, slice_get, cond-true, cond-false, take_at_read, drop_at, get_or-drop, drop-drop, get_or-append_seam, take-add}
+use Rattle.bt_lines.proofs.Std.{common_steps, ◌≡◌, ◌⊎◌, ℕ, ◌<◌, ◌≤◌, inl, inr, List, [], ◌∷◌, ◌++◌, append_assoc, append-nil, refl, sym, ap, ap₂, ◌∙◌, subst, arith, length, length-append, map, filter, flat_map, Bool, true, false, bytes_eq, Some, ⊤, or_parts, flat_map-append, map-append, take_at, filter-append, Contains-push, zero, suc, ◌+◌, ◌-◌, length-drop, drop, option_map, slice_range, min, Option, Result, Ok, Err, slice_get, cond-true, cond-false, take_at_read, drop_at, get_or-drop, drop-drop, get_or-append_seam, take-add}
 use Rattle.std.specs.declared.cmp.Ordering.TheVariants.{Less, Greater}
 use Rattle.bt_bed.specs.model.Feature.{Feature, interval_of, intervals_of, Interval, AreNonEmpty, last_of}
 use Rattle.bt_bed.specs.model.Sorted.{ArePlaced, has_records}

@@ -1,6 +1,5 @@
 -- What is held is all that the lines of a record come from.
-use Rattle.std.proofs.lemmas.Grind.{common_steps}
-use Rattle.bt_lines.proofs.Std.{◌≡◌, true, List, ap, ltb, arith, filter, and_from, ◌<◌, ℕ, Bool, cond, [], ◌∷◌, length, Option, Some, None, refl, sym, ◌∙◌, All, IfSome, slice_index_or, AllByRecursion, false≢true, All-filter, All-from_recursion, recursion_from_All, ◌⊎◌, false, ◌++◌, Ok, Err, Result, subst, append-nil, append_assoc, decimal, OnOk, is_ok, decimal_digit, ◌≤◌, not, IsTrue, list_all, and_parts, flat_map-append, list_any-append, list_all-append, ◌&&◌}
+use Rattle.bt_lines.proofs.Std.{common_steps, ◌≡◌, true, List, ap, ltb, arith, filter, and_from, ◌<◌, ℕ, Bool, cond, [], ◌∷◌, length, Option, Some, None, refl, sym, ◌∙◌, All, IfSome, slice_index_or, AllByRecursion, false≢true, All-filter, All-from_recursion, recursion_from_All, ◌⊎◌, false, ◌++◌, Ok, Err, Result, subst, append-nil, append_assoc, decimal, OnOk, is_ok, decimal_digit, ◌≤◌, not, IsTrue, list_all, and_parts, flat_map-append, list_any-append, list_all-append, ◌&&◌}
 use Rattle.bt_bed.specs.model.Feature.{Feature, intervals_of}
 use Rattle.bt_bed.specs.model.BedLine.{bed_text}
 use Rattle.bt_sweep.specs.model.Hits.{hits, decided, decides}

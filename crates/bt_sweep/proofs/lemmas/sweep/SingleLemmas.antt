@@ -1,6 +1,5 @@
 -- Lemmas on calls with one record: they are calls with cursors over one record, or over none.
-use Rattle.bt_lines.proofs.Std.{rules}
-use Rattle.std.proofs.lemmas.Grind.{common_steps}
+use Rattle.bt_lines.proofs.Std.{common_steps, rules}
 use Rattle.bt_lines.proofs.Std.{◌≡◌, ◌⊎◌, inl, inr, ℕ, Bool, true, false, cond, List, [], ◌∷◌, ◌++◌, Option, Some, None, Ok, Err, Result, refl, sym, ap, ◌∙◌, subst, append-nil, option_to_list, bytes_eq, ltb, ◌<◌, arith, OnErr, and_from, false≢true, lt-ltb}
 use Rattle.bt_lines.specs.model.Fault.{FaultValue}
 use Rattle.bt_lines.specs.calls.Names.{fault_value}

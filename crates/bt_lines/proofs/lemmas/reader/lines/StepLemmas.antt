@@ -1,6 +1,5 @@
 -- Lemmas on a step of the reader of lines.
-use Rattle.std.proofs.lemmas.Grind.{common_steps}
-use Rattle.bt_lines.proofs.Std.{rules, ◌≡◌, ℕ, suc, ◌+◌, ◌-◌, ◌^◌, ◌<◌, ◌≤◌, ◌⊎◌, inl, inr, true, false, cond, List, [], ◌∷◌, ◌++◌, length, Option, None, Some, Ok, Err, take, drop, refl, sym, ap, ◌∙◌, subst, append_assoc, append-nil, length-append, arith, option_map, is_some, IfSome, take_all, false≢true, take-append-add, take-append_seam, Consumes, IsAtEnd, prepend_known, ends_with_byte, strip_last}
+use Rattle.bt_lines.proofs.Std.{common_steps, rules, ◌≡◌, ℕ, suc, ◌+◌, ◌-◌, ◌^◌, ◌<◌, ◌≤◌, ◌⊎◌, inl, inr, true, false, cond, List, [], ◌∷◌, ◌++◌, length, Option, None, Some, Ok, Err, take, drop, refl, sym, ap, ◌∙◌, subst, append_assoc, append-nil, length-append, arith, option_map, is_some, IfSome, take_all, false≢true, take-append-add, take-append_seam, Consumes, IsAtEnd, prepend_known, ends_with_byte, strip_last}
 use Rattle.bt_lines.specs.declared.device.Source.{Ghosts as Source}
 use Rattle.bt_lines.proofs.lemmas.reader.block.BufferLemmas.{unread_fits, one_line}
 use Rattle.bt_lines.proofs.lemmas.reader.lines.TextLemmas.{lines_from-fed, lines_from-last, lines_from-nil, spelled-fed, line_feeds-append, line_feeds-none, line_feeds-fed, bytes_behind_first}

@@ -1,6 +1,5 @@
 -- Lemmas on lines that are taken of those that are buffered.
-use Rattle.std.proofs.lemmas.Grind.{common_steps}
-use Rattle.bt_lines.proofs.Std.{◌≡◌, ◌⊎◌, inl, inr, ℕ, zero, suc, ◌+◌, ◌-◌, ◌^◌, ◌<◌, ◌≤◌, Bool, true, false, nat_eq, List, [], ◌∷◌, ◌++◌, length, take, drop, refl, sym, ap, ◌∙◌, Option, None, Some, append_assoc, length-append, arith, IfSome, option_map, drop_all, drop_at, take_all, take_at, length-take, take-append-drop, Consumes-trans}
+use Rattle.bt_lines.proofs.Std.{common_steps, ◌≡◌, ◌⊎◌, inl, inr, ℕ, zero, suc, ◌+◌, ◌-◌, ◌^◌, ◌<◌, ◌≤◌, Bool, true, false, nat_eq, List, [], ◌∷◌, ◌++◌, length, take, drop, refl, sym, ap, ◌∙◌, Option, None, Some, append_assoc, length-append, arith, IfSome, option_map, drop_all, drop_at, take_all, take_at, length-take, take-append-drop, Consumes-trans}
 use Rattle.bt_lines.specs.declared.device.Source.{Ghosts as Source}
 use Rattle.bt_lines.proofs.lemmas.reader.block.BufferLemmas.{fed_clear, fed_drop, fed_last, fed_none, unread_fits}
 use Rattle.bt_lines.proofs.lemmas.reader.lines.BufferedLemmas.{are_fed, lines_fit}

@@ -1,5 +1,4 @@
-use Rattle.std.proofs.lemmas.Grind.{common_steps}
-use Rattle.bt_lines.proofs.Std.{arith, drop, take, append-nil, length-map, length-take-le, take-append-drop}
+use Rattle.bt_lines.proofs.Std.{common_steps, arith, drop, take, append-nil, length-map, length-take-le, take-append-drop}
 use Rattle.bt_runs.proofs.lemmas.coverage.OpenLemmas.{all_stay, none_past, open_both}
 use Rattle.bt_runs.proofs.coverage.open_records.drop_from.Goals as goal
 

@@ -1,5 +1,4 @@
-use Rattle.std.proofs.lemmas.Grind.{common_steps}
-use Rattle.bt_lines.proofs.Std.{arith, ◌∙◌, refl, subst, sym}
+use Rattle.bt_lines.proofs.Std.{common_steps, arith, ◌∙◌, refl, subst, sym}
 use Rattle.bt_runs.proofs.lemmas.Engine.{follows, follows_on, follows_up_to}
 use Rattle.bt_runs.proofs.engine.rule.follow.Goals as goal
 

@@ -1,5 +1,4 @@
-use Rattle.std.proofs.lemmas.Grind.{common_steps}
-use Rattle.bt_lines.proofs.Std.{arith, sym, ◌∙◌, ◌≡◌, inl, inr, Ok, true, err_from_is_err_and}
+use Rattle.bt_lines.proofs.Std.{common_steps, arith, sym, ◌∙◌, ◌≡◌, inl, inr, Ok, true, err_from_is_err_and}
 use Rattle.bt_lines.proofs.lemmas.Writer.{grown_none}
 use Rattle.bt_runs.proofs.lemmas.merge.StrandSettling.{all_left, all_written, is_over, line_cut, line_more, next_written, none_written, over_not, over_so, stopped_at}
 use Rattle.bt_runs.proofs.merge.per_strand_merge.put_passed.Goals as goal

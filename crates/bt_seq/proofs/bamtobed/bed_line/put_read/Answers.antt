@@ -1,5 +1,4 @@
-use Rattle.std.proofs.lemmas.Grind.{common_steps}
-use Rattle.bt_lines.proofs.Std.{◌≡◌, ◌++◌, ◌-◌, List, ℕ, append-nil, arith, length, replicate, take, drop, drop_all, length-drop, take_all, err_from_is_err_and}
+use Rattle.bt_lines.proofs.Std.{common_steps, ◌≡◌, ◌++◌, ◌-◌, List, ℕ, append-nil, arith, length, replicate, take, drop, drop_all, length-drop, take_all, err_from_is_err_and}
 use Rattle.bt_seq.specs.inside.Sam.{marks, quality_text}
 use Rattle.bt_seq.specs.calls.Sam.{alignment_lent}
 use Rattle.bt_seq.proofs.lemmas.BamToBed.{read_alone, read_cut, read_puts}

@@ -1,6 +1,5 @@
 -- Lemmas on what is known of blocks, from call to call.
-use Rattle.std.proofs.lemmas.Grind.{common_steps}
-use Rattle.bt_lines.proofs.Std.{◌≡◌, ℕ, ◌⊎◌, Bool, true, false, cond, List, [], ◌∷◌, ◌++◌, Option, Some, None, refl, sym, ap, ◌∙◌, inl, inr, bytes_eq, arith, bytes_decides, is_some, option_map}
+use Rattle.bt_lines.proofs.Std.{common_steps, ◌≡◌, ℕ, ◌⊎◌, Bool, true, false, cond, List, [], ◌∷◌, ◌++◌, Option, Some, None, refl, sym, ap, ◌∙◌, inl, inr, bytes_eq, arith, bytes_decides, is_some, option_map}
 use Rattle.std.specs.List.{last_or}
 use Rattle.bt_bed.specs.model.Feature.{Feature}
 use Rattle.bt_seq.proofs.lemmas.definitions.KnowsLemmas.{last_goes_on, owners_found, goes_on_or_begins}

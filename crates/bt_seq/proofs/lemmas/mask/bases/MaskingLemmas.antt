@@ -1,6 +1,5 @@
 -- Lemmas on the steps of a masking engine.
-use Rattle.std.proofs.lemmas.Grind.{common_steps}
-use Rattle.bt_lines.proofs.Std.{rules, ◌≡◌, ℕ, nat_eq, Bool, true, false, cond, not, nat_lt, length, List, [], ◌∷◌, ◌++◌, arith, Some, None, Result, Ok, Err, refl, sym, ap, ◌∙◌, subst, inl, nat_tests, IsErr, IsOk, ◌+◌, ◌<◌, zero, suc, map, take, drop, slice_index_or, slice_set, ◌-◌, ◌≤◌, eqb, Fits, w8, ap₂, append-nil, append_assoc, length-append, Each1, chunk, put_chunk, sel_l, top, agree_below, agree_below_at, eqb_yes, T, drop-drop, drop_all, drop_at, length-drop, length-map, length-take-le, map-append, take-append-drop, take_at, take_rest, put_chunk_is, take-add, ◌==◌, take_while, take_all, All-head, All-tail, All-take, take_while-cons}
+use Rattle.bt_lines.proofs.Std.{common_steps, rules, ◌≡◌, ℕ, nat_eq, Bool, true, false, cond, not, nat_lt, length, List, [], ◌∷◌, ◌++◌, arith, Some, None, Result, Ok, Err, refl, sym, ap, ◌∙◌, subst, inl, nat_tests, IsErr, IsOk, ◌+◌, ◌<◌, zero, suc, map, take, drop, slice_index_or, slice_set, ◌-◌, ◌≤◌, eqb, Fits, w8, ap₂, append-nil, append_assoc, length-append, Each1, chunk, put_chunk, sel_l, top, agree_below, agree_below_at, eqb_yes, T, drop-drop, drop_all, drop_at, length-drop, length-map, length-take-le, map-append, take-append-drop, take_at, take_rest, put_chunk_is, take-add, ◌==◌, take_while, take_all, All-head, All-tail, All-take, take_while-cons}
 use Rattle.bt_bed.specs.model.Feature.{Feature}
 use Rattle.bt_lines.specs.calls.Output.{Output, Adds, Grown}
 use Rattle.bt_lines.specs.model.Lines.{end_bytes}

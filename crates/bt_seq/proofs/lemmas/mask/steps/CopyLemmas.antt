@@ -1,6 +1,5 @@
 -- Lemmas on lines of bases that are copied through.
-use Rattle.std.proofs.lemmas.Grind.{common_steps}
-use Rattle.bt_lines.proofs.Std.{◌≡◌, ℕ, ◌+◌, ◌-◌, ◌≤◌, min, Bool, true, false, ◌||◌, nat_eq, nat_le, if◌then◌else◌, List, [], ◌∷◌, ◌++◌, length, drop, length-append, append_assoc, append-nil, None, Result, is_some, slice_range, refl, sym, ap, ◌∙◌, subst, arith, IsErr, IsOk, flat_map, cond, Option, Some, bytes_eq, list_any, flat_map-append, list_any-append, or_parts, or_from, is_none, option_to_list}
+use Rattle.bt_lines.proofs.Std.{common_steps, ◌≡◌, ℕ, ◌+◌, ◌-◌, ◌≤◌, min, Bool, true, false, ◌||◌, nat_eq, nat_le, if◌then◌else◌, List, [], ◌∷◌, ◌++◌, length, drop, length-append, append_assoc, append-nil, None, Result, is_some, slice_range, refl, sym, ap, ◌∙◌, subst, arith, IsErr, IsOk, flat_map, cond, Option, Some, bytes_eq, list_any, flat_map-append, list_any-append, or_parts, or_from, is_none, option_to_list}
 use Rattle.bt_lines.specs.calls.Reader.{PassesLine, line_of, rest_in}
 use Rattle.bt_lines.specs.calls.Line.{Cut, Shown}
 use Rattle.bt_lines.specs.model.Lines.{TextLine, spelled}

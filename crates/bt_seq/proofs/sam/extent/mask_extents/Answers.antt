@@ -1,5 +1,4 @@
-use Rattle.bt_lines.proofs.Std.{arith}
-use Rattle.std.proofs.lemmas.Grind.{common_steps}
+use Rattle.bt_lines.proofs.Std.{common_steps, arith}
 use Rattle.bt_lines.proofs.Std.{take_more}
 use Rattle.bt_seq.proofs.lemmas.Sam.{one_behind}
 use Rattle.bt_seq.proofs.sam.extent.mask_extents.Goals as goal

@@ -1,6 +1,5 @@
 -- Lemmas on how far two inputs were read beside what was written.
-use Rattle.std.proofs.lemmas.Grind.{common_steps}
-use Rattle.bt_lines.proofs.Std.{◌≡◌, ℕ, zero, suc, ◌+◌, ◌-◌, ◌<◌, ◌≤◌, Bool, true, false, not, List, [], ◌∷◌, ◌++◌, take, drop, Option, None, Some, Result, Ok, Err, refl, sym, ap, ◌∙◌, subst, arith, flat_map, inl, inr, ◌⊎◌, ◌&&◌, ◌||◌, All, IfSome, IsSome, if◌then◌else◌, length, Consumes, list_all, list_any, false≢true, map-append, take-append-drop, All-head, All-tail, append-nil, append_cancel_left}
+use Rattle.bt_lines.proofs.Std.{common_steps, ◌≡◌, ℕ, zero, suc, ◌+◌, ◌-◌, ◌<◌, ◌≤◌, Bool, true, false, not, List, [], ◌∷◌, ◌++◌, take, drop, Option, None, Some, Result, Ok, Err, refl, sym, ap, ◌∙◌, subst, arith, flat_map, inl, inr, ◌⊎◌, ◌&&◌, ◌||◌, All, IfSome, IsSome, if◌then◌else◌, length, Consumes, list_all, list_any, false≢true, map-append, take-append-drop, All-head, All-tail, append-nil, append_cancel_left}
 use Rattle.bt_lines.specs.model.Lines.{Handed, whole_text, AreNumbered, TextLine, bytes_in, text_lines}
 use Rattle.bt_lines.specs.model.Fault.{FaultValue}
 use Rattle.bt_lines.specs.calls.Output.{Output, block_size}

@@ -1,5 +1,4 @@
-use Rattle.bt_lines.proofs.Std.{arith}
-use Rattle.std.proofs.lemmas.Grind.{common_steps}
+use Rattle.bt_lines.proofs.Std.{common_steps, arith}
 use Rattle.bt_lines.specs.calls.Reader.{rest_in}
 use Rattle.bt_bed.proofs.lemmas.read.batch.RecordsLemmas.{none_below, none_either, none_elsewhere, none_holds, some_bytes, stands_first}
 use Rattle.bt_bed.specs.calls.Batch.{chrom_in, cursor_in, start_in}

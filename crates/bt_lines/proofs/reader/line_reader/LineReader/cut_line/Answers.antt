@@ -1,5 +1,4 @@
-use Rattle.bt_lines.proofs.Std.{arith}
-use Rattle.std.proofs.lemmas.Grind.{common_steps}
+use Rattle.bt_lines.proofs.Std.{common_steps, arith}
 use Rattle.bt_lines.proofs.Std.{◌∙◌, ◌+◌, ◌∷◌, ◌++◌, None, Some, ap, length, refl, sym, nat_lt}
 use Rattle.bt_lines.proofs.lemmas.reader.block.BufferLemmas.{fed_clear}
 use Rattle.bt_lines.proofs.lemmas.reader.lines.BufferedLemmas.{begins_first, are_fed, cut_gives, cut_within, cuts_first, last_cut, quiet_cut, some_at, spaced_cut}

@@ -1,5 +1,4 @@
-use Rattle.bt_lines.proofs.Std.{arith}
-use Rattle.std.proofs.lemmas.Grind.{common_steps}
+use Rattle.bt_lines.proofs.Std.{common_steps, arith}
 use Rattle.bt_lines.proofs.Std.{◌∙◌, ◌++◌, ap, eqb, length, refl, sym, eqb-true, false≢true}
 use Rattle.bt_lines.specs.calls.Reader.{fault_kept, input_of, lines_given}
 use Rattle.bt_lines.specs.inside.ReadBuffer.{complete, unread}

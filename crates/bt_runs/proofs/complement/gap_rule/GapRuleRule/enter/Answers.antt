@@ -1,5 +1,4 @@
-use Rattle.std.proofs.lemmas.Grind.{common_steps}
-use Rattle.bt_lines.proofs.Std.{◌∙◌, Some, arith, refl, sym, err_from_is_err_and}
+use Rattle.bt_lines.proofs.Std.{common_steps, ◌∙◌, Some, arith, refl, sym, err_from_is_err_and}
 use Rattle.bt_bed.specs.calls.GenomeTable.{entries}
 use Rattle.bt_runs.specs.inside.GapRule.{seen, complement_at}
 use Rattle.bt_runs.specs.inside.Walk.{left_before}
