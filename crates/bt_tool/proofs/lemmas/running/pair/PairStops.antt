@@ -122,7 +122,7 @@ module _ {A B X Y U V : Type 0} {join : JoinDef X Y} {pair : Pair A B X Y U V} {
     behind = read.behind;
   }
 
-  -- the second input is still asked for after more members were taken of both
+  -- the second input is still wanted after more members were taken of both
   pub asks_then : join.Asks (firsts_given stage) stage.taken → ((more : List X) → join.Asks (firsts_given stage) stage.taken → join.Asks (firsts_given stage ++ more) stage.taken)
       → (more_first : List (Member X)) (more_second : List (Member Y)) (second_now : MemberReader B Y V) → TakesFurther pair.source_b pair.second past_second more_second second second_now
       → AsksFor join pair out (past_first ++ more_first) second_now
