@@ -1,5 +1,5 @@
 -- Lemmas on bamtobed.
-use Rattle.bt_lines.proofs.Std.{common_steps, rules, ◌≡◌, ℕ, Bool, true, false, List, [], ◌∷◌, ◌++◌, Result, sym, ap, subst, ◌∙◌, append_assoc, append-nil, codes, length, arith, map, length-append, flat_map, flat_map-append, map-append, ◌<◌, max}
+use Rattle.bt_lines.proofs.Std.{common_steps, ◌≡◌, ℕ, Bool, true, List, [], ◌∷◌, ◌++◌, Result, sym, ap, subst, ◌∙◌, append_assoc, append-nil, codes, length, arith, map, length-append, flat_map, flat_map-append, map-append, ◌<◌, max}
 use Rattle.bt_bed.specs.model.Feature.{Span}
 use Rattle.bt_lines.specs.model.Fault.{FaultValue}
 use Rattle.bt_lines.specs.calls.Output.{Output, Adds, FailsToAdd, FailsToPut, Grown, Puts, PutsAll}
@@ -26,9 +26,6 @@ module _ (with_cigar : Bool) (a : Alignment) where
   pub read_cut : (piece : List ℕ) (old new : Output) (fault : FaultValue) → piece ≡ marks a.first a.last ++ quality_text with_cigar a → FailsToPut old (a.name ++ piece) fault new → FailsToPut old (a.name ++ line_tail with_cigar a) fault new
   read_cut piece old new fault e p = grind (arith, read_parts, fails_before)
 
-  pub read_alone : {A : Type 0} (piece : List ℕ) (old new : Output) (result : Result A Fault) → piece ≡ marks a.first a.last ++ quality_text with_cigar a → with_cigar ≡ false → Puts old (a.name ++ piece) result new → Puts old (a.name ++ line_tail with_cigar a) result new
-  read_alone piece old new result e unasked p = search rules
-
   pub read_puts : {A : Type 0} (piece : List ℕ) (old mid new : Output) (result : Result A Fault) → piece ≡ marks a.first a.last ++ quality_text with_cigar a → with_cigar ≡ true
       → PutsAll old (a.name ++ piece) mid → Puts mid (a.cigar ++ codes "\n") result new → Puts old (a.name ++ line_tail with_cigar a) result new
   read_puts piece old mid new result e asked p q = grind (arith, read_parts, puts_more)
@@ -36,7 +33,7 @@ module _ (with_cigar : Bool) (a : Alignment) where
   -- the line was cut off in one of its pieces
   module _ (s : Span) (o : Output) (fault : FaultValue) where
     whole : (new : Output) → FailsToPut o (a.chrom ++ (bounds_text s.start s.stop ++ (a.name ++ line_tail with_cigar a))) fault new → FailsToPut o (bed_line with_cigar a s) fault new
-    whole new p = subst (λ l. FailsToPut o l fault new) (line_parts with_cigar a s) p
+    whole new p = subst (λ l. FailsToPut o l fault new) (grind (arith, append_assoc)) p
 
     pub cut_place : (p : Output) → FailsToPut o (a.chrom ++ bounds_text s.start s.stop) fault p → FailsToPut o (bed_line with_cigar a s) fault p
     cut_place p x =
@@ -51,7 +48,7 @@ module _ (with_cigar : Bool) (a : Alignment) where
 
   -- the line of a block alone
   pub adds_line : {A : Type 0} (s : Span) (old new : Output) (result : Result A Fault) → Puts old (bed_line with_cigar a s) result new → Adds old (flat_map (bed_line with_cigar a) (s ∷ [])) result new
-  adds_line s old new result p = rw (append-nil (bed_line with_cigar a s)) (adds_some old new (bed_line with_cigar a s) result (line_has_bytes s) p)
+  adds_line s old new result p = rw (append-nil (bed_line with_cigar a s)) (adds_some old new (bed_line with_cigar a s) result (grind (arith, common_steps)) p)
 
   -- the lines of blocks
   abbrev pub lines_of : List Span → List ℕ
@@ -67,14 +64,10 @@ module _ (with_cigar : Bool) (a : Alignment) where
   pub cut_line : (done : List Span) (s : Span) (rest all : List Span) (old mid new : Output) (fault : FaultValue) → done ++ s ∷ rest ≡ all → Grown old (lines_of done) mid → FailsToPut mid (bed_line with_cigar a s) fault new
       → FailsToAdd old (lines_of all) fault new
   cut_line done s rest all old mid new fault e p q =
-      let here = fails_then old mid new (lines_of done) (bed_line with_cigar a s) fault p (record { puts = q; some = line_has_bytes s }) in
+      let here = fails_then old mid new (lines_of done) (bed_line with_cigar a s) fault p (record { puts = q; some = grind (arith, common_steps) }) in
       let lines : (lines_of done ++ bed_line with_cigar a s) ++ lines_of rest ≡ lines_of all =
       append_assoc (lines_of done) (bed_line with_cigar a s) (lines_of rest) ∙ sym (flat_map-append (bed_line with_cigar a) done (s ∷ rest)) ∙ ap lines_of e in
       subst (λ l. FailsToAdd old l fault new) lines (cut_off old new (lines_of done ++ bed_line with_cigar a s) (lines_of rest) fault here)
-
--- one more of the blocks
-pub left_more : (done : List (ℕ × ℕ)) (x : ℕ × ℕ) (rest more all : List Span) → map span_given done ++ more ≡ all → more ≡ span_given x ∷ rest → map span_given (done ++ x ∷ []) ++ rest ≡ all
-left_more done x rest more all h e = grind (arith, map-append, append_assoc)
 
 pub grown_block : (with_cigar : Bool) (a : Alignment) (done : List (ℕ × ℕ)) (x : ℕ × ℕ) (old mid new : Output) → Grown old (lines_of with_cigar a (map span_given done)) mid → PutsAll mid (bed_line with_cigar a (span_given x)) new
     → Grown old (lines_of with_cigar a (map span_given (done ++ x ∷ []))) new

@@ -1,5 +1,5 @@
 -- Lemmas on SAM lines and on blocks.
-use Rattle.bt_lines.proofs.Std.{common_steps, ◌≡◌, ℕ, ◌+◌, ◌≤◌, Bool, true, false, List, [], ◌∷◌, ◌++◌, length, Option, Some, None, refl, sym, ap, ◌∙◌, arith, cond, append-nil, add-zero, flat_map, false≢true, nat_tests, sum_by_push, ◌<◌, take, drop, get_or, length-append, length-take, IfSome, is_ascii_digit, list_all, list_all_more, digits_value, and_parts, take-append-drop, take_more, drop_more, take-append-le, get_or_append_left, take_all, ◌-◌, zero, suc, min, ◌||◌, map, list_any, list_any-append, Ok, Err, nat_le, bytes_eq, bytes_decides, ⊤, flat_map-append}
+use Rattle.bt_lines.proofs.Std.{common_steps, ◌≡◌, ℕ, ◌+◌, ◌≤◌, Bool, true, false, List, [], ◌∷◌, ◌++◌, length, Option, Some, None, refl, sym, ap, ◌∙◌, arith, cond, append-nil, add-zero, flat_map, false≢true, nat_tests, sum_by_push, ◌<◌, take, drop, get_or, length-append, length-take, IfSome, is_ascii_digit, list_all, list_all_more, digits_value, and_parts, take-append-drop, take_more, drop_more, take-append-le, get_or_append_left, take_all, ◌-◌, zero, suc, min, ◌||◌, map, list_any, list_any-append, Ok, Err, nat_le, bytes_decides, ⊤, flat_map-append}
 use Rattle.bt_bed.specs.model.Feature.{Span, Feature}
 use Rattle.bt_seq.specs.model.Alignment.{begins_block, block_at, blocks_in, blocks_of, cuts, is_skip, up_to_skip, with_bases, covered_by, operations_in, reference_length, with_operation, Part, is_letter, onto_part, operation_of, each_operation, parts_of, span_with, Fields, alignment_of, columns_say, fields_of, fields_say, is_skipped, is_sam_kind, sam_kinds_are_of_lines, wrong_have_sam_kinds}
 use Rattle.bt_seq.specs.inside.Sam.{none_left, FitBehind}
@@ -109,8 +109,7 @@ no_letters bytes = list_all (λ byte. cond (is_letter byte) false true) bytes
 parts_behind : (front rest : List ℕ) → no_letters front ≡ true → parts_of (front ++ rest) ≡ onto_front front (parts_of rest)
 parts_behind [] rest e = refl
 parts_behind (byte ∷ bytes) rest e =
-    let p = and_parts (cond (is_letter byte) false true) (no_letters bytes) e in
-    grind (arith, (parts_behind bytes rest p.1))
+    grind (arith, (parts_behind bytes rest (and_parts (cond (is_letter byte) false true) (no_letters bytes) e).1))
 
 -- digits before the parts, of which the first begins so
 onto_some : (front : List ℕ) (part : Part) (parts : List Part)
@@ -158,9 +157,8 @@ pub first_is : (text : List ℕ) (value end letter : ℕ) → end < length text 
     → value ≤ 999999999999 → letter ≡ get_or text end 0 → is_letter letter ≡ true
     → operations_in text ≡ with_operation (Some (record { length = value; letter = letter })) (operations_in (drop (end + 1) text))
 first_is text value end letter inside some is digits small at named =
-    let size : 0 < length (take end text) = omega (arith, length-take end text) in
     let low : digits_value 10 (take end text) ≤ 999999999999 = rw (← is) small in
-    let number : value_of (take end text) ≡ Some value = sym (value_of_digits (take end text) size digits low) ∙ ap Some (sym is) in
+    let number : value_of (take end text) ≡ Some value = sym (value_of_digits (take end text) (omega (arith, length-take end text)) digits low) ∙ ap Some (sym is) in
     grind (arith, (cut_there text end inside), (first_operation_is (take end text) letter (drop (end + 1) text) (digits_no_letters (take end text) digits) named))
 
 -- a letter without a number
@@ -337,25 +335,13 @@ module _ {A : Type 0} (chrom : A → List ℕ) where
   blocks_tags left last [] = []
   blocks_tags left last (b ∷ bs) = cond (is_last last b.chrom) (tag_items left b.items ++ spread (owned_from left bs)) (spread (owned_from left (b ∷ bs)))
 
-  with_first : (left : Option (List (List ℕ))) (last : Option (List ℕ)) (x : A) (b : Block A) (bs : List (Block A)) (t : Bool) → bytes_eq (chrom x) b.chrom ≡ t
-      → record { item = x; left = next_left left last x } ∷ cond t (tag_items (next_left left last x) b.items ++ spread (owned_from (next_left left last x) bs)) (spread (owned_from (next_left left last x) (b ∷ bs)))
-      ≡ blocks_tags left last (cond t (record { chrom = b.chrom; items = x ∷ b.items } ∷ bs) (record { chrom = chrom x; items = x ∷ [] } ∷ b ∷ bs))
-  with_first left last x b bs t e = grind (arith, bytes_decides)
-
-  with_any : (left : Option (List (List ℕ))) (last : Option (List ℕ)) (x : A) (bs : List (Block A))
-      → record { item = x; left = next_left left last x } ∷ blocks_tags (next_left left last x) (Some (chrom x)) bs ≡ blocks_tags left last (block_with (chrom x) x bs)
-  with_any left last x bs = grind (arith, with_first)
-
   tags_on : (left : Option (List (List ℕ))) (last : Option (List ℕ)) (xs : List A) → tags left last xs ≡ blocks_tags left last (blocks xs)
   tags_on left last [] = refl
-  tags_on left last (x ∷ xs) = grind (arith, (tags_on (next_left left last x) (Some (chrom x)) xs), with_any)
-
-  all_tags : (left : Option (List (List ℕ))) (bs : List (Block A)) → blocks_tags left None bs ≡ spread (owned_from left bs)
-  all_tags left bs = grind arith
+  tags_on left last (x ∷ xs) = grind (arith, (tags_on (next_left left last x) (Some (chrom x)) xs), bytes_decides)
 
   -- the tags of all
   pub tags_all : (left : Option (List (List ℕ))) (xs : List A) → tags left None xs ≡ spread (owned_from left (blocks xs))
-  tags_all left xs = tags_on left None xs ∙ all_tags left (blocks xs)
+  tags_all left xs = tags_on left None xs ∙ (grind arith)
 
   with_one : (x : A) (bs : List (Block A)) → AllHaveOne bs → AllHaveOne (block_with (chrom x) x bs)
   with_one x bs h = grind arith
@@ -392,12 +378,9 @@ pub own_tagged : (names : List (List ℕ)) (records : List Feature) → own_reco
 own_tagged names records = own_spread (owned names records) ∙ sym (ap own_in (tags_all (λ (r : Feature). r.chrom) (Some names) records))
 
 module _ (bases : ℕ) where
-  or_first : (a b : Bool) → ((a || false) || b) ≡ (a || b)
-  or_first a b = grind arith
-
   own_decides : (rs : List Feature) → list_any (λ (r : Feature). nat_le bases r.start) rs ≡ list_any (tag_decides bases) (tag_items (Some []) rs)
   own_decides [] = refl
-  own_decides (r ∷ rs) = ap (λ b. nat_le bases r.start || b) (own_decides rs) ∙ sym (or_first (nat_le bases r.start) (list_any (tag_decides bases) (tag_items (Some []) rs)))
+  own_decides (r ∷ rs) = ap (λ b. nat_le bases r.start || b) (own_decides rs) ∙ sym (grind arith)
 
   early_decides : (n : List ℕ) (ns : List (List ℕ)) (rs : List Feature) → list_any (tag_decides bases) (tag_items (Some (n ∷ ns)) rs) ≡ false
   early_decides n ns [] = refl

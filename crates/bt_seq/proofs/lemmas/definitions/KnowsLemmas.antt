@@ -1,7 +1,7 @@
 -- Lemmas on the names that blocks leave, record by record.
 use Rattle.bt_lines.proofs.Std.{◌≡◌, ℕ, Bool, true, false, cond, List, [], ◌∷◌, ◌++◌, Option, Some, None, refl, sym, ap, ◌∙◌, bytes_eq, bytes_decides, ◌⊎◌, ◌&&◌, not, inl, inr, arith}
 use Rattle.bt_bed.specs.model.Feature.{Feature}
-use Rattle.bt_seq.specs.model.Masked.{Block, block_with, blocks_by, goes_on, left_at_last, left_by, next_goes_on_or_begins, owned_from, left_after, names_behind}
+use Rattle.bt_seq.specs.model.Masked.{Block, blocks_by, goes_on, left_at_last, left_by, next_goes_on_or_begins, owned_from, left_after, names_behind}
 use Rattle.bt_seq.specs.calls.MaskState.{KnowsEarlier, KnowsOwn, last_chrom, owner_by, owners_are_found, Matched, is_it, owner_of}
 use Rattle.bt_seq.specs.declared.mask.matching.Owner.{Owner}
 use Rattle.bt_seq.specs.declared.mask.matching.Owner.TheVariants.{Own, Earlier, Nobody}
@@ -28,26 +28,15 @@ abbrev blocks_leave : Option (List (List ℕ)) → List ℕ → List (Block Feat
 blocks_leave left last [] = left
 blocks_leave left last (b ∷ bs) = cond (bytes_eq last b.chrom) (left_at_last left (owned_from left bs)) (left_at_last left (owned_from left (b ∷ bs)))
 
-with_first : (left : Option (List (List ℕ))) (last : List ℕ) (r : Feature) (b : Block Feature) (bs : List (Block Feature)) (t : Bool) → bytes_eq r.chrom b.chrom ≡ t
-    → cond t (left_at_last (one_leaves left (Some last) r) (owned_from (one_leaves left (Some last) r) bs)) (left_at_last (one_leaves left (Some last) r) (owned_from (one_leaves left (Some last) r) (b ∷ bs)))
-    ≡ blocks_leave left last (cond t (record { chrom = b.chrom; items = r ∷ b.items } ∷ bs) (record { chrom = r.chrom; items = r ∷ [] } ∷ b ∷ bs))
-with_first left last r b bs t e = grind (arith, bytes_decides)
-
-with_any : (left : Option (List (List ℕ))) (last : List ℕ) (r : Feature) (bs : List (Block Feature)) → blocks_leave (one_leaves left (Some last) r) r.chrom bs ≡ blocks_leave left last (block_with r.chrom r bs)
-with_any left last r bs = grind (arith, with_first)
-
 -- after a last chromosome
 leave_on : (left : Option (List (List ℕ))) (last : List ℕ) (rs : List Feature) → leave left (Some last) rs ≡ blocks_leave left last (blocks rs)
 leave_on left last [] = refl
-leave_on left last (r ∷ rs) = leave_on (one_leaves left (Some last) r) r.chrom rs ∙ with_any left last r (blocks rs)
-
-first_any : (left : Option (List (List ℕ))) (r : Feature) (bs : List (Block Feature)) → blocks_leave (left_by left r.chrom) r.chrom bs ≡ left_at_last left (owned_from left (block_with r.chrom r bs))
-first_any left r bs = grind (arith, bytes_decides)
+leave_on left last (r ∷ rs) = leave_on (one_leaves left (Some last) r) r.chrom rs ∙ (grind (arith, bytes_decides))
 
 -- from the start
 pub leave_all : (left : Option (List (List ℕ))) (rs : List Feature) → leave left None rs ≡ left_at_last left (owned_from left (blocks rs))
 leave_all left [] = refl
-leave_all left (r ∷ rs) = leave_on (left_by left r.chrom) r.chrom rs ∙ first_any left r (blocks rs)
+leave_all left (r ∷ rs) = leave_on (left_by left r.chrom) r.chrom rs ∙ (grind (arith, bytes_decides))
 
 -- one more
 more_on : (left : Option (List (List ℕ))) (last : Option (List ℕ)) (s : Feature) (ss : List Feature) (r : Feature)
@@ -63,9 +52,6 @@ pub goes_on_or_begins : next_goes_on_or_begins
 goes_on_or_begins names records r = grind (arith, (leave_all (Some names) (records ++ r ∷ [])), (more (Some names) records r), (leave_all (Some names) records))
 
 -- Lemmas on what an engine knows of sequences and blocks.
-
-pub last_goes_on : (records : List Feature) (r : Feature) → is_it (last_chrom records) r.chrom ≡ goes_on records r
-last_goes_on records r = grind arith
 
 -- the owner, once it is known whether the record goes on with the last block
 abbrev pub found_by : (own goes is_name : Bool) → Owner
@@ -87,13 +73,6 @@ behind_last : (chrom name : List ℕ) (front : List (List ℕ)) → names_behind
 behind_last chrom name [] none = refl
 behind_last chrom name (n ∷ ns) none = behind_first chrom name n ns (bytes_eq n chrom) none (behind_last chrom name ns)
 
-found_own : (goes is_name : Bool) (chrom : List ℕ) → found_by true goes is_name ≡ owner_by (cond goes (Some []) (left_by (Some []) chrom))
-found_own goes is_name chrom = grind arith
-
-found_earlier : (goes : Bool) (chrom name : List ℕ) (front : List (List ℕ)) → (goes ≡ false → names_behind chrom front ≡ None)
-    → found_by false goes (bytes_eq name chrom) ≡ owner_by (cond goes (Some (front ++ name ∷ [])) (left_by (Some (front ++ name ∷ [])) chrom))
-found_earlier goes chrom name front none = grind (arith, some_left, behind_last)
-
 module _ (names : List (List ℕ)) (records : List Feature) (m : Matched) (r : Feature) where
   next_left : (left : Option (List (List ℕ))) → left_after names records ≡ left → left_after names (records ++ r ∷ []) ≡ cond (goes_on records r) left (left_by left r.chrom)
   next_left left e = goes_on_or_begins names records r ∙ ap (λ left. cond (goes_on records r) left (left_by left r.chrom)) e
@@ -101,13 +80,13 @@ module _ (names : List (List ℕ)) (records : List Feature) (m : Matched) (r : F
   found_at : m.last ≡ last_chrom records → KnowsOwn names records m ⊎ KnowsEarlier names records m → (goes_on records r ≡ false → (e : KnowsEarlier names records m) → names_behind r.chrom e.before ≡ None)
       → owner_of m r.chrom ≡ owner_by (left_after names (records ++ r ∷ []))
   found_at last (inl k) none =
-      owner_is m r.chrom true (goes_on records r) (ap (λ l. is_it l r.chrom) last ∙ last_goes_on records r) k.own
-      ∙ found_own (goes_on records r) (is_it m.name r.chrom) r.chrom
+      owner_is m r.chrom true (goes_on records r) (ap (λ l. is_it l r.chrom) last ∙ (grind arith)) k.own
+      ∙ (grind arith)
       ∙ sym (ap owner_by (next_left (Some []) k.left))
   found_at last (inr k) none =
-      owner_is m r.chrom false (goes_on records r) (ap (λ l. is_it l r.chrom) last ∙ last_goes_on records r) k.own
+      owner_is m r.chrom false (goes_on records r) (ap (λ l. is_it l r.chrom) last ∙ (grind arith)) k.own
       ∙ ap (λ n. found_by false (goes_on records r) (is_it n r.chrom)) k.named
-      ∙ found_earlier (goes_on records r) r.chrom k.name k.before (λ begins. none begins k)
+      ∙ (grind (arith, some_left, behind_last))
       ∙ sym (ap owner_by (next_left (Some (k.before ++ k.name ∷ [])) k.left))
 
 pub owners_found : owners_are_found

@@ -4,7 +4,7 @@ use Rattle.bt_bed.specs.model.Feature.{Feature}
 use Rattle.bt_bed.specs.model.BedLine.{fault_at_line}
 use Rattle.bt_bed.specs.model.Good.{locus_at, AreInBlocks, IsBlockUpTo, Member}
 use Rattle.bt_lines.specs.model.Lines.{end_bytes}
-use Rattle.bt_seq.proofs.lemmas.definitions.KnowsLemmas.{is_last, leave, leave_all}
+use Rattle.bt_seq.proofs.lemmas.definitions.KnowsLemmas.{leave, leave_all}
 use Rattle.bt_seq.proofs.lemmas.Sam.{Tagged, decided_tagged, last_from, next_left, own_in, own_tagged, tag_decides, tags, tags_append, tags_of, AllHaveOne, blocks_have_one, spread, tag_items, tags_all}
 use Rattle.bt_seq.specs.calls.MaskStage.{decided_lines_stay, masked_lines_are_before, masked_lines_stay, first_unowned_is_told, owned_lack_none, held_mask_alone, extent_of}
 use Rattle.bt_seq.specs.model.Masked.{covers, decided, held_for, is_unnamed, masked_from, masked_text, block_decides, items_if_last, left_by, own_records, SequenceLine, bases_in, bases_up_to, is_header, no_sequence, told_at_first, Block, Owned, blocks_by, owned_from}
@@ -35,12 +35,9 @@ behind_rest : (bases : ℕ) (rs more : List Feature) → AreBehind bases (rs ++ 
 behind_rest bases [] more h = h
 behind_rest bases (r ∷ rs) more h = behind_rest bases rs more h.1
 
-blocks_rest : (r : Feature) (rs : List Feature) → AreInBlocks (r ∷ rs) → AreInBlocks rs
-blocks_rest r rs h = grind arith
-
 blocks_drop : (rs more : List Feature) → AreInBlocks (rs ++ more) → AreInBlocks more
 blocks_drop [] more h = h
-blocks_drop (r ∷ rs) more h = blocks_drop rs more (blocks_rest r (rs ++ more) h)
+blocks_drop (r ∷ rs) more h = blocks_drop rs more (grind arith)
 
 pub blocks_front : (rs more : List Feature) → AreInBlocks (rs ++ more) → AreInBlocks rs
 blocks_front [] more h = tt
@@ -65,15 +62,12 @@ module _ (bases : ℕ) where
       let now = past_next left r s (bytes_eq r.chrom s.chrom) refl placed.0 h in
       grind (arith, (past_all (next_left chrom_of left (Some r.chrom) s) s ss now placed.1))
 
-  decides_past : (left : Option (List (List ℕ))) (r : Feature) → block_decides bases left (r ∷ []) ≡ true → IsPast left r
-  decides_past left r e = grind arith
-
   after_by : (left : Option (List (List ℕ))) (r : Feature) (rs more : List Feature) (t : Bool) → block_decides bases left (r ∷ []) ≡ t
       → (t || list_any (tag_decides bases) (tags chrom_of left (Some r.chrom) rs)) ≡ true → AreInBlocks (r ∷ (rs ++ more))
       → (list_any (tag_decides bases) (tags chrom_of left (Some r.chrom) rs) ≡ true → AreInBlocks (rs ++ more) → AreBehind bases (own_in (tags chrom_of (leave left (Some r.chrom) rs) (last_from (Some r.chrom) rs) more)))
       → AreBehind bases (own_in (tags chrom_of (leave left (Some r.chrom) rs) (last_from (Some r.chrom) rs) more))
-  after_by left r rs more true d e placed rest = grind (arith, (past_all left r (rs ++ more) (decides_past left r d) placed), (tags_append left (Some r.chrom) rs more), flat_map-append, behind_rest)
-  after_by left r rs more false d e placed rest = rest e (blocks_rest r (rs ++ more) placed)
+  after_by left r rs more true d e placed rest = grind (arith, (past_all left r (rs ++ more) (grind arith) placed), (tags_append left (Some r.chrom) rs more), flat_map-append, behind_rest)
+  after_by left r rs more false d e placed rest = rest e (grind arith)
 
   -- the records that follow those that decide a line
   after_all : (left : Option (List (List ℕ))) (last : Option (List ℕ)) (rs more : List Feature) → list_any (tag_decides bases) (tags chrom_of left last rs) ≡ true → AreInBlocks (rs ++ more)
@@ -112,9 +106,6 @@ module _ (bases : ℕ) where
   masked_same how rs extra position [] low h = refl
   masked_same how rs extra position (base ∷ text) low h = grind (arith, masked_same how rs extra (suc position) text (omega arith) h, list_any-append, no_cover)
 
-pub none_next : (t : Bool) (name : List ℕ) → cond t None (left_by None name) ≡ None
-none_next t name = grind arith
-
 none_own : (last : Option (List ℕ)) (rs : List Feature) → own_in (tags chrom_of None last rs) ≡ []
 none_own last [] = refl
 none_own last (r ∷ rs) = grind (arith, none_own (Some r.chrom) rs)
@@ -123,9 +114,6 @@ none_own last (r ∷ rs) = grind (arith, none_own (Some r.chrom) rs)
 pub unnamed_own : (rs : List Feature) → own_records [] rs ≡ []
 unnamed_own [] = refl
 unnamed_own (r ∷ rs) = own_tagged [] (r ∷ rs) ∙ none_own (Some r.chrom) rs
-
-unnamed_alike : (names : List (List ℕ)) → is_unnamed names ≡ true → (rs ss : List Feature) → own_records names rs ≡ own_records names ss
-unnamed_alike names e rs ss = grind (arith, unnamed_own)
 
 -- the records of the line's sequence, split where it was decided
 own_split : (names : List (List ℕ)) (rs more : List Feature) → own_records names (rs ++ more) ≡ own_records names rs ++ own_in (tags chrom_of (leave (Some names) None rs) (last_from None rs) more)
@@ -137,12 +125,12 @@ module _ (how : MaskHow) (line : SequenceLine) where
 
   stay_text : (rs more : List Feature) → AreInBlocks (rs ++ more) → (u : Bool) → is_unnamed line.names ≡ u → (u || list_any (tag_decides (bases_up_to line)) (tags_of line.names rs)) ≡ true
       → masked_text how (rs ++ more) line ≡ masked_text how rs line
-  stay_text rs more placed true u e = ap text_by (unnamed_alike line.names u (rs ++ more) rs)
+  stay_text rs more placed true u e = ap text_by (grind (arith, unnamed_own))
   stay_text rs more placed false u e = grind (arith, (own_split line.names rs more), (after_all (bases_up_to line) (Some line.names) None rs more e placed), masked_same)
 
   before_text : (rs : List Feature) (r : Feature) (more : List Feature) → AreInBlocks (rs ++ r ∷ more) → (u : Bool) → is_unnamed line.names ≡ u → (u || list_any (tag_decides (bases_up_to line)) (tags_of line.names (rs ++ r ∷ []))) ≡ true
       → masked_text how (rs ++ r ∷ more) line ≡ masked_text how rs line
-  before_text rs r more placed true u e = ap text_by (unnamed_alike line.names u (rs ++ r ∷ more) rs)
+  before_text rs r more placed true u e = ap text_by (grind (arith, unnamed_own))
   before_text rs r more placed false u e = grind (arith, (own_split line.names rs (r ∷ more)), (before_all (bases_up_to line) (Some line.names) None rs r more e placed), masked_same)
 
 -- a record that decides a line isn't held by it
@@ -162,7 +150,7 @@ module _ (line : SequenceLine) where
       → is_unnamed line.names ≡ u
       → (u || list_any (tag_decides (bases_up_to line)) (tags_of line.names (rs ++ r ∷ []))) ≡ true
       → held_for line (rs ++ r ∷ []) ≡ held_for line rs
-  held_by_tags rs r placed true u e = grind (arith, unnamed_alike)
+  held_by_tags rs r placed true u e = grind (arith, unnamed_own)
   held_by_tags rs r placed false u e = grind (arith, (own_split line.names rs (r ∷ [])), held_same, (before_all (bases_up_to line) (Some line.names) None rs r [] e placed))
 
   pub held_before : (rs : List Feature) (r : Feature) → AreInBlocks (rs ++ r ∷ [])
@@ -212,7 +200,7 @@ told_tagged names ms = grind (arith, (told_spread (Some names) (blocks_by chrom_
 -- after a block that belongs to none, all belong to none
 pub none_leaves : (last : Option (List ℕ)) (rs : List Feature) → leave None last rs ≡ None
 none_leaves last [] = refl
-none_leaves last (r ∷ rs) = ap (λ left. leave left (Some r.chrom) rs) (none_next (is_last last r.chrom) r.chrom) ∙ none_leaves (Some r.chrom) rs
+none_leaves last (r ∷ rs) = ap (λ left. leave left (Some r.chrom) rs) (grind arith) ∙ none_leaves (Some r.chrom) rs
 
 never_owned : (last : Option (List ℕ)) (rs : List Feature) → is_some (leave None last rs) ≡ true → ⊥
 never_owned last rs e = let apart : false ≡ true = sym (ap is_some (none_leaves last rs)) ∙ e in absurd (let it : ⊥ = cc in it)
@@ -229,18 +217,13 @@ none_told left last (m ∷ ms) e = none_by (next_left chrom_at left last m) m ms
 pub lack_none : owned_lack_none
 lack_none names ms e = told_tagged names ms ∙ none_told (Some names) None ms (ap is_some (leave_all (Some names) (items ms)) ∙ e)
 
-first_by : (left : Option (List (List ℕ))) (p : Member Feature) (past more : List (Member Feature)) (m : Member Feature) → is_some (leave left (Some p.item.chrom) (items past)) ≡ true
-    → told_of (tags chrom_at left (Some p.item.chrom) (past ++ m ∷ more)) ≡ Some (fault_at_line Second m.line NoSequence)
-    → told_by left p (told_of (tags chrom_at left (Some p.item.chrom) (past ++ m ∷ more))) ≡ Some (fault_at_line Second m.line NoSequence)
-first_by left p past more m e rest = grind (arith, never_owned)
-
 first_here : (left : Option (List (List ℕ))) (m : Member Feature) (later : Option FaultValue) → left ≡ None → told_by left m later ≡ Some (fault_at_line Second m.line NoSequence)
 first_here left m later e = ap (λ l. told_by l m later) e
 
 first_told : (left : Option (List (List ℕ))) (last : Option (List ℕ)) (past more : List (Member Feature)) (m : Member Feature) → is_some (leave left last (items past)) ≡ true → leave left last (items (past ++ m ∷ [])) ≡ None
     → told_of (tags chrom_at left last (past ++ m ∷ more)) ≡ Some (fault_at_line Second m.line NoSequence)
 first_told left last [] more m e none = first_here (next_left chrom_at left last m) m (told_of (tags chrom_at (next_left chrom_at left last m) (Some m.item.chrom) more)) none
-first_told left last (p ∷ past) more m e none = grind (arith, first_by, first_told (next_left chrom_at left last p) (Some p.item.chrom) past more m e none)
+first_told left last (p ∷ past) more m e none = grind (arith, never_owned, first_told (next_left chrom_at left last p) (Some p.item.chrom) past more m e none)
 
 pub first_is_told : first_unowned_is_told
 first_is_told = grind (arith, told_tagged, first_told, leave_all)

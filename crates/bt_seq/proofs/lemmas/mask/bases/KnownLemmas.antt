@@ -2,7 +2,7 @@
 use Rattle.bt_lines.proofs.Std.{common_steps, ◌≡◌, ℕ, ◌⊎◌, Bool, true, false, cond, List, [], ◌∷◌, ◌++◌, Option, Some, None, refl, sym, ap, ◌∙◌, inl, inr, bytes_eq, arith, bytes_decides, is_some, option_map}
 use Rattle.std.specs.List.{last_or}
 use Rattle.bt_bed.specs.model.Feature.{Feature}
-use Rattle.bt_seq.proofs.lemmas.definitions.KnowsLemmas.{last_goes_on, owners_found, goes_on_or_begins}
+use Rattle.bt_seq.proofs.lemmas.definitions.KnowsLemmas.{owners_found, goes_on_or_begins}
 use Rattle.bt_seq.proofs.lemmas.mask.steps.CopyLemmas.{left_grows, last_more}
 use Rattle.bt_seq.specs.calls.MaskStage.{IsNext}
 use Rattle.bt_seq.specs.calls.MaskState.{Knows, KnowsEarlier, last_chrom, owner_by, Matched, is_it, matched_with, named, owner_of}
@@ -20,10 +20,7 @@ bytes_same : (name : List ℕ) → bytes_eq name name ≡ true
 bytes_same name = (bytes_decides name name).1 refl
 
 goes_more : (rs : List Feature) (r : Feature) → goes_on (rs ++ r ∷ []) r ≡ true
-goes_more rs r = sym (last_goes_on (rs ++ r ∷ []) r) ∙ ap (λ l. is_it l r.chrom) (chrom_more rs r) ∙ bytes_same r.chrom
-
-is_it_true : (o : Option (List ℕ)) (name : List ℕ) → is_it o name ≡ true → o ≡ Some name
-is_it_true o name e = grind (arith, bytes_decides)
+goes_more rs r = sym (grind arith) ∙ ap (λ l. is_it l r.chrom) (chrom_more rs r) ∙ bytes_same r.chrom
 
 -- the last of a list with one more
 snoc_front : (xs ys : List (List ℕ)) (x y : List ℕ) → xs ++ x ∷ [] ≡ ys ++ y ∷ [] → xs ≡ ys
@@ -45,7 +42,7 @@ module _ (names : List (List ℕ)) (taken : List Feature) (r : Feature) (m : Mat
     pub near : goes_on taken r ≡ true → (e : KnowsEarlier names taken m) → e.before ≡ []
 
   goes_is : Knows names taken m → is_it m.last r.chrom ≡ goes_on taken r
-  goes_is k = ap (λ l. is_it l r.chrom) k.last ∙ last_goes_on taken r
+  goes_is k = ap (λ l. is_it l r.chrom) k.last ∙ (grind arith)
 
   pub may_last : KnowsLast names taken m → MayTake
   may_last k = record { knows = k.knows; none = λ begins e. ap (names_behind r.chrom) (k.near e); near = λ goes e. k.near e }
@@ -56,22 +53,20 @@ module _ (names : List (List ℕ)) (taken : List Feature) (r : Feature) (m : Mat
   -- it goes on with the last block
   goes_known : MayTake → goes_on taken r ≡ true → KnowsLast names (taken ++ r ∷ []) (matched_with m r.chrom)
   goes_known k goes =
-      let it : is_it m.last r.chrom ≡ true = goes_is k.knows ∙ goes in
       let left : left_after names (taken ++ r ∷ []) ≡ left_after names taken = next_left ∙ ap (λ b. cond b (left_after names taken) (left_by (left_after names taken) r.chrom)) goes in
       let known : Knows names (taken ++ r ∷ []) m = record {
-        last = is_it_true m.last r.chrom it ∙ sym (chrom_more taken r);
+        last = (grind (arith, bytes_decides)) ∙ sym (chrom_more taken r);
         where_last = elim k.knows.where_last [
           | inl own ↦ inl (record { left = left ∙ own.left; own = own.own })
           | inr e ↦ inr (record { before = e.before; name = e.name; left = left ∙ e.left; named = e.named; own = e.own })
         ];
       } in
       let near : (e : KnowsEarlier names (taken ++ r ∷ []) m) → e.before ≡ [] = λ e. k.near goes (record { before = e.before; name = e.name; left = sym left ∙ e.left; named = e.named; own = e.own }) in
-      let all : KnowsLast names (taken ++ r ∷ []) m = record { knows = known; near = near } in
-      rw it all
+      rw (goes_is k.knows ∙ goes) (record { knows = known; near = near })
 
   -- it begins a block of the last sequence
   begins_known : MayTake → goes_on taken r ≡ false → (owner_of m r.chrom ≡ Nobody → ⊥) → KnowsLast names (taken ++ r ∷ []) (matched_with m r.chrom)
-  begins_known k begins some = grind (arith, owner_may, is_it_true, chrom_more)
+  begins_known k begins some = grind (arith, owner_may, bytes_decides, chrom_more)
 
   -- it is taken
   pub take_may : MayTake → (owner_of m r.chrom ≡ Nobody → ⊥) → KnowsLast names (taken ++ r ∷ []) (matched_with m r.chrom)
@@ -84,9 +79,6 @@ module _ (names : List (List ℕ)) (taken : List Feature) (r : Feature) (m : Mat
   pub take_known : KnowsLast names (taken ++ r ∷ []) m → KnowsLast names (taken ++ r ∷ []) (matched_with m r.chrom)
   take_known k = rw (known_it k) k
 
-  pub owner_known : KnowsLast names (taken ++ r ∷ []) m → owner_of m r.chrom ≡ owner_by (left_after names (taken ++ r ∷ []))
-  owner_known k = grind (arith, (owners_found names (taken ++ r ∷ []) m r k.knows (λ begins. absurd (never (sym begins ∙ goes_more taken r)))), (goes_on_or_begins names (taken ++ r ∷ []) r), (goes_more taken r))
-
   pub next_can_be : (waits : Bool) (ahead : Option Feature) → KnowsNext waits names taken ahead m → IsNext ahead r → KnowsNone names taken m ⊎ (MayTake ⊎ KnowsLast names (taken ++ r ∷ []) m)
   next_can_be waits ahead known next = grind (arith, may_last)
 
@@ -95,7 +87,7 @@ module _ (names : List (List ℕ)) (taken : List Feature) (r : Feature) (m : Mat
 
   -- the sequence of its block is found
   pub owner_next : KnowsNone names taken m ⊎ (MayTake ⊎ KnowsLast names (taken ++ r ∷ []) m) → m.name ≡ last_or None names → owner_of m r.chrom ≡ owner_by (left_after names (taken ++ r ∷ []))
-  owner_next can name = grind (arith, owner_may, owner_known)
+  owner_next can name = grind (arith, owner_may, owners_found, (goes_on_or_begins names (taken ++ r ∷ []) r), (goes_more taken r))
 
   not_nobody : (left : Option (List (List ℕ))) → is_some left ≡ true → owner_by left ≡ Nobody → ⊥
   not_nobody left e o = grind arith
@@ -147,7 +139,3 @@ module _ (names : List (List ℕ)) (n : List ℕ) (taken : List Feature) (m : Ma
 
   pub with_header : (ahead : Option Feature) → (is_some ahead ≡ false → (names ≡ []) × (taken ≡ [])) → KnowsNext false names taken ahead m → KnowsNext true (names ++ n ∷ []) taken ahead (named m n)
   with_header ahead first known = grind (arith, grown_last, ahead_grows)
-
--- one more line of the same sequence
-pub with_plain : (names : List (List ℕ)) (taken : List Feature) (ahead : Option Feature) (m : Matched) → KnowsNext false names taken ahead m → KnowsNext true names taken ahead m
-with_plain names taken ahead m known = grind arith

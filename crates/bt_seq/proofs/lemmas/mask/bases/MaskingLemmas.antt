@@ -101,9 +101,8 @@ module _ (f : ℕ → ℕ) (old bases : List ℕ) (at : ℕ) (within : at ≤ le
 
   pub masked_rest : (rest : List ℕ) → rest ≡ map f (take (length bases - at) (drop at bases)) → take at bases ++ (rest ++ drop (length bases - at) (drop at bases)) ≡ map f old
   masked_rest rest masked =
-      let whole : rest ≡ map f (drop at old) = masked ∙ ap (map f) (take_rest bases at) ∙ ap (map f) back in
       let none : drop (length bases - at) (drop at bases) ≡ [] = drop_all (length bases - at) (drop at bases) (omega (arith, length-drop at bases)) in
-      ap₂ (λ l r. l ++ r) front_masked (ap₂ (λ l r. l ++ r) whole none ∙ append-nil (map f (drop at old)))
+      ap₂ (λ l r. l ++ r) front_masked (ap₂ (λ l r. l ++ r) (masked ∙ ap (map f) (take_rest bases at) ∙ ap (map f) back) none ∙ append-nil (map f (drop at old)))
       ∙ sym (map-append f (take at old) (drop at old)) ∙ ap (map f) (take-append-drop at old)
 
 -- two functions that agree on each byte
@@ -174,18 +173,14 @@ module _ (text : List ℕ) (end n : ℕ) (space : IsBefore 32 text end) (tab : I
     clear : Lacks 9 front
     clear = subst (Lacks 9) (take_all n front (omega (arith, none))) tab.clear
 
-    by_end : length text ≤ end → take n text ≡ take_while in_name text
-    by_end over = grind (arith, take_all, all_named)
-
     by_rest : (b : Bool) → nat_lt end (length text) ≡ b → take n text ≡ take_while in_name text
-    by_rest b e = grind (arith, by_end, size, before_end, clear)
+    by_rest b e = grind (arith, take_all, all_named, size, before_end, clear)
 
   by_front : (b : Bool) → nat_lt n (length front) ≡ b → take n text ≡ take_while in_name text
   by_front true e = by_tab (let below : n < length front = grind (arith, nat_tests) in below)
   by_front false e =
       let over : length front ≤ n = grind (arith, nat_tests) in
-      let all : n ≡ length front = omega (arith, over, tab.within) in
-      by_rest all (nat_lt end (length text)) refl
+      by_rest (omega (arith, over, tab.within)) (nat_lt end (length text)) refl
 
   pub name_is : take n text ≡ take_while in_name text
   name_is = by_front (nat_lt n (length front)) refl

@@ -1,5 +1,5 @@
 -- Lemmas on lines and records that are given to a masking engine together.
-use Rattle.bt_lines.proofs.Std.{common_steps, rules, ◌≡◌, ◌⊎◌, inl, inr, ℕ, ◌<◌, ◌≤◌, Bool, true, false, cond, List, [], ◌∷◌, ◌++◌, length, append_assoc, Option, None, Some, Result, Ok, Err, refl, sym, ap, ◌∙◌, arith, flat_map}
+use Rattle.bt_lines.proofs.Std.{common_steps, rules, ◌≡◌, ◌⊎◌, inl, inr, ℕ, ◌<◌, ◌≤◌, Bool, true, false, List, [], ◌∷◌, ◌++◌, length, append_assoc, Option, None, Some, Result, Ok, Err, refl, sym, ap, ◌∙◌, arith, flat_map, length-append}
 use Rattle.bt_bed.specs.model.Feature.{Feature}
 use Rattle.bt_bed.specs.declared.read.cursor.Cursor.{Ghosts as Cursor}
 use Rattle.bt_bed.specs.declared.record.taken.Taken.{Taken}
@@ -11,12 +11,12 @@ use Rattle.bt_lines.specs.calls.Names.{fault_value}
 use Rattle.bt_lines.specs.calls.Output.{Output, Grown}
 use Rattle.bt_lines.specs.declared.reader.buffered_lines.BufferedLines.{BufferedLines}
 use Rattle.bt_lines.specs.declared.fault.Fault.{Fault}
-use Rattle.bt_seq.proofs.lemmas.mask.steps.CopyLemmas.{none_pass, pass_more, pass_one, stays_at, wants_line}
+use Rattle.bt_seq.proofs.lemmas.mask.steps.CopyLemmas.{none_pass, stays_at, wants_line}
 use Rattle.bt_seq.proofs.lemmas.mask.steps.LineStepLemmas.{gives_line}
 use Rattle.bt_seq.proofs.lemmas.mask.bases.MaskingLemmas.{passes_line}
 use Rattle.bt_seq.proofs.lemmas.mask.steps.BedStepLemmas.{decided_goes, goes_more, goes_nowhere, line_goes, record_goes}
 use Rattle.bt_seq.specs.inside.Masking.{CopiesThrough, StayEach, passed_all}
-use Rattle.bt_seq.specs.calls.MaskStage.{PassesLines, GoesOn, IsNext, MaskStage, is_written_at_once, with_decided, with_line, with_record}
+use Rattle.bt_seq.specs.calls.MaskStage.{PassesLines, GoesOn, IsNext, MaskStage, with_decided, with_line, with_record}
 use Rattle.bt_seq.specs.calls.MaskState.{Masking, TakesLine, passed, stays_as_given}
 use Rattle.bt_seq.specs.calls.MaskSteps.{BothCome, ComesAfter, ComesNext, FailsAtRecord, GivesBoth, HasCome, asks_more, left_to_give, MaskMovesTo, MaskStandsAt, ChecksRecord, GivesBed, TakesNextLine, bytes_with}
 use Rattle.bt_seq.specs.model.Masked.{masked_line, SequenceLine}
@@ -35,11 +35,6 @@ grown_known bytes = search rules
 bytes_known : {bytes more : List ℕ} → Grown (put_known []) more (put_known bytes) → bytes ≡ more
 unfolding put_known
 bytes_known g = g.appends
-
--- giving a line leaves the record ahead
-ahead_by : (stage : MaskStage) (item : SequenceLine) (b : Bool)
-    → (cond b (record stage { written = stage.written ++ item ∷ [] }) (record stage { waiting = Some item })).ahead ≡ stage.ahead
-ahead_by stage item b = grind arith
 
 none_waits : {how : MaskHow} {full : Bool} {stage : MaskStage} {m : Masking} → MaskMovesTo how full stage m → m.want ≡ Line → stage.waiting ≡ None
 none_waits {stage} stands wants = (wants_line stage.waiting stage.lines_ended stage.bed_ended (sym stands.stands.want_is ∙ wants)).0
@@ -65,7 +60,7 @@ module _ (how : MaskHow) (full : Bool) where
       let mid = with_line stage one.item in
       let first : GoesOn how full stage (line ∷ []) [] mid (spelled line) = rw (bytes_known one.puts) (line_goes how full stage line one.item (none_waits stands wants) one.says) in
       let rest = lines_copied lines mid (passed m line.text) one.stands refl stay.1 in
-      record { now = rest.now; goes = goes_more first rest.goes; stands = rest.stands; ahead = rest.ahead ∙ ahead_by stage one.item (is_written_at_once stage one.item) }
+      record { now = rest.now; goes = goes_more first rest.goes; stands = rest.stands; ahead = rest.ahead ∙ (grind arith) }
 
 -- what was given after that
 abbrev come_more : {how : MaskHow} {full : Bool} {old : MaskStage} {lines more : List TextLine} {records further : List Feature} {out mid later : Output} {middle new : Masking}
@@ -148,7 +143,7 @@ module _ {C R : Type 0} (cursor : Cursor C R) (gives_none : (at : C) → cursor.
       module _ (line : TextLine) {last : BufferedLines} (passes : PassesLine left line last) {new : Masking} {grown : Output} where
         pub gave_line : {B D : Type 0} (took : B) {given : D} → TakesLine mid line.number (record { text = line.text; ending = line.ending }) between (Ok took) new grown
             → GivesBoth cursor old lines records out (Ok given) new last records grown
-        gave_line took takes = gave_texts (copies.texts ++ line ∷ []) (pass_more copies.passes (pass_one passes)) (λ stage stands next.
+        gave_line took takes = gave_texts (copies.texts ++ line ∷ []) (grind (arith, append_assoc, length-append)) (λ stage stands next.
             let first = come_first stage stands in
             let now = first.stage in
             let t = gives_line old.how old.full now mid first.stands next_wanted line between new grown (Ok took) takes in
@@ -159,12 +154,12 @@ module _ {C R : Type 0} (cursor : Cursor C R) (gives_none : (at : C) → cursor.
               stands = t.stands;
               puts = t.puts;
             } in
-            let same = leave_first stage stands next _ (ahead_by now t.item (is_written_at_once now t.item)) in
+            let same = leave_first stage stands next _ (grind arith) in
             (come_more first one, same.0, same.1))
 
         pub failed_line : {D : Type 0} (fault : Fault) → TakesLine {A = Unit {0}} mid line.number (record { text = line.text; ending = line.ending }) between (Err fault) new grown
             → GivesBoth cursor {A = D} old lines records out (Err fault) new last records grown
-        failed_line fault takes = gave_texts (copies.texts ++ line ∷ []) (pass_more copies.passes (pass_one passes)) (λ stage stands next.
+        failed_line fault takes = gave_texts (copies.texts ++ line ∷ []) (grind (arith, append_assoc, length-append)) (λ stage stands next.
             let first = come_first stage stands in
             let failed = gives_line old.how old.full first.stage mid first.stands next_wanted line between new grown {A = Unit {0}} (Err fault) takes in
             let same = leave_first stage stands next _ refl in (
@@ -297,7 +292,7 @@ module _ {C R : Type 0} (cursor : Cursor C R) (gives_more : (old mid new : C) (x
         → GivesBoth cursor old lines records out result new left last grown
     both result rest comes = record {
       texts = first.texts ++ rest.texts;
-      passes = pass_more first.passes rest.passes;
+      passes = grind (arith, append_assoc, length-append);
       taken = first.taken ++ rest.taken;
       given = gives_more records passing last first.taken rest.taken first.given rest.given;
       comes = comes;

@@ -3,7 +3,6 @@ use Rattle.bt_lines.proofs.Std.{common_steps, rules, ◌≡◌, ℕ, ◌≤◌, 
 use Rattle.std.specs.List.{last_or}
 use Rattle.bt_bed.specs.model.Feature.{Feature}
 use Rattle.bt_bed.specs.model.BedLine.{fault_at_line}
-use Rattle.bt_bed.specs.model.Good.{AreInBlocks}
 use Rattle.bt_lines.specs.calls.Names.{fault_value}
 use Rattle.bt_lines.specs.model.Lines.{max_number, TextLine}
 use Rattle.bt_lines.specs.calls.Output.{Output, Grown}
@@ -14,8 +13,8 @@ use Rattle.bt_seq.proofs.lemmas.mask.steps.LineStepLemmas.{range_more, line_mask
 use Rattle.bt_seq.proofs.lemmas.mask.bases.KnownLemmas.{MayTake, never, next_can_be, none_ahead, own_ahead, owner_next, take_next}
 use Rattle.bt_seq.proofs.lemmas.definitions.MaskPrefixLemmas.{blocks_front, decided_stays, held_before, masked_before, masked_stay}
 use Rattle.bt_seq.proofs.lemmas.mask.steps.CopyLemmas.{decided_more, own_more, last_waits, stands_at, wants_bed, last_more}
-use Rattle.bt_seq.specs.calls.MaskStage.{extent_of, IsNext, MaskStage, given, held_by, reached, want_of, with_decided, with_record, SayEach, GoesOn, MayFollow, SettlesLines, is_written_ahead, is_written_at_once, reached_by, with_line}
-use Rattle.bt_seq.specs.calls.MaskState.{owner_by, Matched, matched_with, owner_of, Masking, TakesBed, Writes, decides, decides_up_to, holding, holds, holds_by, line_bytes, with_owner, with_extent}
+use Rattle.bt_seq.specs.calls.MaskStage.{extent_of, IsNext, MaskStage, given, reached, want_of, with_decided, with_record, SayEach, GoesOn, MayFollow, SettlesLines, is_written_ahead, is_written_at_once, reached_by, with_line}
+use Rattle.bt_seq.specs.calls.MaskState.{owner_by, owner_of, Masking, TakesBed, Writes, decides, decides_up_to, holding, holds, holds_by, line_bytes, with_owner, with_extent}
 use Rattle.bt_seq.specs.inside.Masking.{Counts, IsDecided, KnowsLast, KnowsNone, decided_up_to}
 use Rattle.bt_seq.specs.calls.MaskSteps.{MaskMovesTo, IsAtStage, Waits, kept_line, ChecksRecord, EndsRecords, GivesBed, LacksSequence, WritesLine, bytes_with}
 use Rattle.bt_seq.specs.model.Masked.{decided, held_for, masked_line, block_decides, items_if_last, left_after, own_records, SequenceLine, bases_up_to, is_unnamed, Reached, line_says}
@@ -29,9 +28,6 @@ use Rattle.bt_seq.specs.declared.sam.extent.Extent.{Extent}
 
 extent_counts : (last : Option SequenceLine) (w : Bounds) (b : Bool) (start stop : ℕ) → Counts last w → Counts last (with_extent b w start stop)
 extent_counts last w b start stop c = grind arith
-
-name_same : (m : Matched) (chrom : List ℕ) → (matched_with m chrom).name ≡ m.name
-name_same m chrom = grind arith
 
 module _ (line : SequenceLine) (r : Feature) (range : r.stop ≤ max_number) where
   abbrev reaches : Feature → Bool
@@ -48,13 +44,6 @@ module _ (line : SequenceLine) (r : Feature) (range : r.stop ≤ max_number) whe
 
     hold_item : (left : Option (List (List ℕ))) → block_decides (bases_up_to line) left (r ∷ []) ≡ false → holds_by (owner_by left) w r ≡ true → filter reaches (items_if_last left (r ∷ [])) ≡ r ∷ []
     hold_item left e d = grind arith
-
-left_some : (bases : ℕ) (left : Option (List (List ℕ))) (r : Feature) → block_decides bases left (r ∷ []) ≡ false → is_some left ≡ true
-left_some bases left r e = grind arith
-
--- how far a record decides lines
-up_to_by : (left : Option (List (List ℕ))) (r : Feature) → decides_up_to (owner_by left) r.start ≡ decided_up_to left r
-up_to_by left r = grind arith
 
 -- the block of a record that decides a line belongs to the last sequence or to none
 decides_left : (bases : ℕ) (left : Option (List (List ℕ))) (r : Feature) → block_decides bases left (r ∷ []) ≡ true → (left ≡ None) ⊎ (left ≡ Some [])
@@ -84,9 +73,6 @@ module _ (how : MaskHow) (full : Bool) (stage : MaskStage) (line : SequenceLine)
     abbrev left : Option (List (List ℕ))
     left = left_after line.names (stage.taken ++ r ∷ [])
 
-    low : r.start < limit
-    low = omega arith
-
     can : KnowsNone line.names stage.taken old.matched ⊎ (MayTake line.names stage.taken r old.matched ⊎ KnowsLast line.names (stage.taken ++ r ∷ []) old.matched)
     can = next_can_be line.names stage.taken r old.matched (is_some stage.waiting) stage.ahead (at_last.inside.knows as_waits.bed) next
 
@@ -105,7 +91,7 @@ module _ (how : MaskHow) (full : Bool) (stage : MaskStage) (line : SequenceLine)
     taken_stands : decides old r ≡ false → MaskMovesTo how full (with_record stage r) (holding old r)
     taken_stands e =
         let undecided : block_decides (bases_up_to line) left (r ∷ []) ≡ false = sym decides_is ∙ e in
-        let owned : is_some left ≡ true = left_some (bases_up_to line) left r undecided in
+        let owned : is_some left ≡ true = grind arith in
         let held : old.window.held ≡ map extent_of (held_for line stage.taken) =
         at_last.holds (inl as_waits.lines) in
         stands_at how full (with_record stage r) (holding old r) (Some line) (last_waits stage line waits) stands.how_is stands.full_is (record {
@@ -123,7 +109,7 @@ module _ (how : MaskHow) (full : Bool) (stage : MaskStage) (line : SequenceLine)
           owned = owned;
           inside = record {
             counts = extent_counts (Some line) old.window (holds old r) r.start r.stop at_last.inside.counts;
-            name_is = name_same old.matched r.chrom ∙ at_last.inside.name_is;
+            name_is = (grind arith) ∙ at_last.inside.name_is;
             is_decided = λ n. absurd (let apart : Some line ≡ None = sym waits ∙ n in cc);
             in_range = range_more stage.taken r at_last.inside.in_range range;
             knows = λ d. inr (take_next line.names stage.taken r old.matched can owned);
@@ -152,7 +138,7 @@ module _ (how : MaskHow) (full : Bool) (stage : MaskStage) (line : SequenceLine)
           owned = at_last.owned;
           inside = record {
             counts = at_last.inside.counts;
-            name_is = name_same old.matched r.chrom ∙ at_last.inside.name_is;
+            name_is = (grind arith) ∙ at_last.inside.name_is;
             is_decided = λ n going. decided_is ∙ e;
             in_range = at_last.inside.in_range;
             knows = λ d. elim (decides_left (bases_up_to line) left r (sym decides_is ∙ e)) [
@@ -160,17 +146,17 @@ module _ (how : MaskHow) (full : Bool) (stage : MaskStage) (line : SequenceLine)
               | inr own ↦ own_ahead line.names stage.taken r old.matched can own
             ];
             has_ahead = λ d going u. refl;
-            ahead_in_range = λ a d. let same : r ≡ a = cc in subst (λ (a : Feature). a.start < limit) same low;
+            ahead_in_range = λ a d. let same : r ≡ a = cc in subst (λ (a : Feature). a.start < limit) same (omega arith);
             decided_to_is = λ n going a d.
                 let same : r ≡ a = cc in
-                ap (λ o. decides_up_to o r.start) owner_is ∙ up_to_by left r
+                ap (λ o. decides_up_to o r.start) owner_is ∙ (grind arith)
                 ∙ ap (λ (a : Feature). decided_up_to (left_after line.names (stage.taken ++ a ∷ [])) a) same;
           };
         })
 
     module _ (out : Output) (new : Masking) (grown : Output) where
       writes_line : (decides old r ≡ true) → Grown out (line_bytes old (kept_line line)) grown → new ≡ after_decided → WritesLine how full stage line r out new grown
-      writes_line e puts is = grind (arith, decided_is, decided_stands, bytes_are, masked_before)
+      writes_line e puts is = grind (arith, decided_is, decided_stands, line_masked, at_last, masked_before)
 
       pub gives_bed : (answer : Result Taken Fault) → TakesBed old (kept_line line) r out answer new grown → GivesBed how full stage line r out answer new grown
       gives_bed (Ok Yes) t = grind (arith, decided_is, taken_stands)
@@ -179,19 +165,6 @@ module _ (how : MaskHow) (full : Bool) (stage : MaskStage) (line : SequenceLine)
 
   pub ends_bed : {A : Type 0} (answer : Result A Fault) (out : Output) (new : Masking) (grown : Output) → Writes (record old { bed_ended = true }) (kept_line line) out answer new grown → EndsRecords how full stage line out answer new grown
   ends_bed answer out new grown w = grind (arith, bytes_are, given_last, at_last)
-
--- what is decided by the records taken and the one ahead is decided by those taken, once it is
--- taken too
-decided_next : (last : Option SequenceLine) (taken : List Feature) (ahead : Option Feature)
-    (r : Feature) → IsNext ahead r → IsDecided last (taken ++ option_to_list ahead)
-    → IsDecided last (taken ++ r ∷ [])
-decided_next last taken ahead r next e = grind (arith, decided_stays, append-nil)
-
--- and it isn't held
-held_next : (last : Option SequenceLine) (taken : List Feature) (r : Feature)
-    → IsDecided last (taken ++ r ∷ []) → AreInBlocks (taken ++ r ∷ [])
-    → held_by last (taken ++ r ∷ []) ≡ held_by last taken
-held_next last taken r e placed = grind (arith, held_before)
 
 -- after the last line
 module _ (how : MaskHow) (full : Bool) (stage : MaskStage) (none : stage.waiting ≡ None) (old : Masking) (stands : MaskMovesTo how full stage old) (wants : old.want ≡ Bed) where
@@ -215,7 +188,7 @@ module _ (how : MaskHow) (full : Bool) (stage : MaskStage) (none : stage.waiting
     last = last_or None (given stage)
 
     decided_now : IsDecided last (stage.taken ++ r ∷ [])
-    decided_now = decided_next last stage.taken stage.ahead r next (stands.stands.inside.is_decided none ended.1)
+    decided_now = grind (arith, decided_stays, append-nil)
 
     checked_stands : is_some left_now ≡ true → MaskMovesTo how full (with_record stage r) (with_owner old r.chrom)
     checked_stands owned = record {
@@ -228,13 +201,13 @@ module _ (how : MaskHow) (full : Bool) (stage : MaskStage) (none : stage.waiting
         waits = λ l d. absurd (let apart : None ≡ Some l = sym none ∙ d in cc);
         holds = λ d. elim d [
           | inl lasts ↦ absurd (never (sym lasts ∙ ended.0))
-          | inr placed ↦ grind (arith, blocks_front, held_next, decided_now)
+          | inr placed ↦ grind (arith, blocks_front, held_before, decided_now)
         ];
         is_open = λ d. absurd (never (sym d ∙ ended.0));
         owned = owned;
         inside = record {
           counts = stands.stands.inside.counts;
-          name_is = name_same old.matched r.chrom ∙ stands.stands.inside.name_is;
+          name_is = (grind arith) ∙ stands.stands.inside.name_is;
           is_decided = λ n going. subst (λ (rs : List Feature). IsDecided last rs)
               (sym (append-nil (stage.taken ++ r ∷ []))) decided_now;
           in_range = range_more stage.taken r stands.stands.inside.in_range range;
@@ -291,15 +264,11 @@ module _ (how : MaskHow) (full : Bool) where
 
   -- a line that is written at once is settled
   module _ (stage : MaskStage) (line : SequenceLine) where
-    settled_ahead : (o : Option Feature) → stage.ahead ≡ o → is_written_ahead o stage.taken line ≡ true → stage.bed_ended ≡ false
-        → SettlesLines how stage (line ∷ []) (masked_line how stage.taken line)
-    settled_ahead o is now going = grind (arith, decided_stays, append_assoc, masked_before)
-
     settled_at_once : (bed unnamed : Bool) → stage.bed_ended ≡ bed → is_unnamed line.names ≡ unnamed → (bed || (unnamed || is_written_ahead stage.ahead stage.taken line)) ≡ true
         → SettlesLines how stage (line ∷ []) (masked_line how stage.taken line)
     settled_at_once true unnamed e u now = grind (arith, common_steps)
     settled_at_once false true e u now = grind (arith, common_steps, blocks_front, masked_stay)
-    settled_at_once false false e u now = settled_ahead stage.ahead refl now e
+    settled_at_once false false e u now = grind (arith, decided_stays, append_assoc, masked_before)
 
   -- one more line
   module _ (stage : MaskStage) (line : TextLine) (item : SequenceLine) (none : stage.waiting ≡ None) (says : line_says full (reached stage) line ≡ Ok (Some item)) where

@@ -1,12 +1,12 @@
 -- Lemmas on lines of bases that are copied through.
-use Rattle.bt_lines.proofs.Std.{common_steps, ◌≡◌, ℕ, ◌+◌, ◌-◌, ◌≤◌, min, Bool, true, false, ◌||◌, nat_eq, nat_le, if◌then◌else◌, List, [], ◌∷◌, ◌++◌, length, drop, length-append, append_assoc, append-nil, None, Result, is_some, slice_range, refl, sym, ap, ◌∙◌, subst, arith, IsErr, IsOk, flat_map, cond, Option, Some, bytes_eq, list_any, flat_map-append, list_any-append, or_parts, or_from, is_none, option_to_list}
+use Rattle.bt_lines.proofs.Std.{common_steps, ◌≡◌, ℕ, ◌+◌, ◌≤◌, min, Bool, true, false, ◌||◌, nat_eq, nat_le, if◌then◌else◌, List, [], ◌∷◌, ◌++◌, length, drop, length-append, append_assoc, append-nil, None, Result, is_some, slice_range, refl, sym, ap, ◌∙◌, subst, arith, IsErr, IsOk, flat_map, cond, Option, Some, bytes_eq, list_any, flat_map-append, list_any-append, or_parts, or_from, is_none, option_to_list}
 use Rattle.bt_lines.specs.calls.Reader.{PassesLine, line_of, rest_in}
 use Rattle.bt_lines.specs.calls.Line.{Cut, Shown}
 use Rattle.bt_lines.specs.model.Lines.{TextLine, spelled}
 use Rattle.bt_lines.specs.calls.Output.{Output, Puts}
 use Rattle.bt_lines.specs.declared.reader.buffered_lines.BufferedLines.{BufferedLines}
 use Rattle.bt_lines.specs.declared.fault.Fault.{Fault}
-use Rattle.bt_seq.specs.inside.Masking.{CopiesLine, CopiesLines, CopiesThrough, StayEach, WritesAll, bounds_of, passed_all}
+use Rattle.bt_seq.specs.inside.Masking.{CopiesLine, CopiesLines, CopiesThrough, StayEach, bounds_of, passed_all}
 use Rattle.bt_seq.specs.calls.MaskStage.{PassesLines, MaskStage, given, want_of}
 use Rattle.bt_seq.specs.calls.MaskState.{Masking, passed, stays_as_given}
 use Rattle.bt_seq.specs.model.Masked.{is_header, decided, is_unnamed, block_decides, items_if_last, left_after, names_behind, own_records, SequenceLine, bases_up_to}
@@ -59,10 +59,6 @@ pub bytes_between : (to : ℕ) (lines : List TextLine) (old new : CopyThrough) �
 unfolding rest_in
 bytes_between to lines old new p = grind (arith, common_steps, copies_bytes)
 
--- up to a base lines are known to be decided
-pub known_up_to : (ended : Bool) (to bases : ℕ) → bases ≤ (if ended then limit else to) → (ended || nat_le bases to) ≡ true
-known_up_to ended to bases within = grind arith
-
 -- the bounds of a line if nothing is held
 pub bounds_are : (before bases : ℕ) (w : Bounds) → before ≡ w.before → bases ≡ w.bases → w.held ≡ []
     → ◌≡◌ {A = Bounds} (record { before = before; bases = bases; held = [] }) w
@@ -89,8 +85,7 @@ module _ (to : ℕ) where
       → CopiesLines to p (line ∷ lines) q → passed_all m (line ∷ lines) ≡ record m { window = bounds_of q; waiting = None; want = Line }
   copies_come [] line p q m at named known copies = grind arith
   copies_come (next ∷ lines) line p q m at named known copies =
-      let step = stays p copies.0 line m at named known copies.1 in
-      copies_come lines next copies.0 q (passed m line.text) step.1 named known copies.2
+      copies_come lines next copies.0 q (passed m line.text) (stays p copies.0 line m at named known copies.1).1 named known copies.2
 
   -- if some bytes were put
   pub copies_end : (lines : List TextLine) (p q : CopyThrough) (m : Masking) (window : Bounds) → bounds_of p ≡ m.window → is_some m.matched.name ≡ true → IsKnownTo m → window ≡ bounds_of q
@@ -111,18 +106,14 @@ module _ (to : ℕ) (old : Masking) (first last : CopyThrough) (at : bounds_of f
     (window : Bounds) (is : window ≡ bounds_of last) (copied : List ℕ) (copied_is : copied ≡ slice_range first.lines.all.now first.lines.at last.lines.at)
     (some : copied ≡ [] → ⊥) (out grown : Output) where
   known : IsKnownTo to old
-  known bases within = known_up_to old.bed_ended old.decided_to bases (subst (λ n. bases ≤ n) known_is within)
+  known bases within = grind arith
 
   bytes_are : copied ≡ flat_map spelled copies.0
   bytes_are = copied_is ∙ (bytes_between to copies.0 first last copies.1).0
 
-  all_written : {A : Type 0} (r : Result A Fault) (new : Masking) → Puts out (copied ++ []) r grown → (IsOk r → new ≡ record old { window = window; waiting = None; want = Line })
-      → (IsErr r → new.want ≡ Nothing) → WritesAll old copies.0 out r new grown
-  all_written r new puts goes stops = grind (arith, copies_end, bytes_are, append-nil)
-
   pub copied_through : {A : Type 0} (r : Result A Fault) (new : Masking) → Puts out (copied ++ []) r grown → (IsOk r → new ≡ record old { window = window; waiting = None; want = Line })
       → (IsErr r → new.want ≡ Nothing) → CopiesThrough old first.lines out r new last.lines grown
-  copied_through r new puts goes stops = grind (arith, copies_pass, copies_stay, all_written)
+  copied_through r new puts goes stops = grind (arith, copies_pass, copies_stay, copies_end, bytes_are, append-nil)
 
 -- Lemmas on one more record, and on the next line.
 
@@ -197,14 +188,10 @@ module _ (n : List ℕ) where
 
 -- a later line of the sequence isn't decided before an earlier one
 module _ (low high : ℕ) (up : low ≤ high) where
-  not_yet : (left : Option (List (List ℕ))) (r : Feature) → block_decides low left (r ∷ []) ≡ false → block_decides high left (r ∷ []) ≡ false
-  not_yet left r e = grind arith
-
   none_yet : (ts : List (Tagged Feature)) → list_any (tag_decides low) ts ≡ false → list_any (tag_decides high) ts ≡ false
   none_yet [] e = refl
   none_yet (t ∷ ts) e =
-      let both = or_parts (tag_decides low t) (list_any (tag_decides low) ts) e in
-      or_from (tag_decides high t) (list_any (tag_decides high) ts) (not_yet t.left t.item both.0) (none_yet ts both.1)
+      or_from (tag_decides high t) (list_any (tag_decides high) ts) (grind arith) (none_yet ts (or_parts (tag_decides low t) (list_any (tag_decides low) ts) e).1)
 
   pub undecided_next : (line next : SequenceLine) (rs : List Feature) → next.names ≡ line.names → bases_up_to line ≡ low → bases_up_to next ≡ high → decided line rs ≡ false → decided next rs ≡ false
   undecided_next line next rs same is next_is e = grind (arith, decided_by_tags, none_yet)

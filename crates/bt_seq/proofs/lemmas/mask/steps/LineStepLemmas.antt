@@ -1,5 +1,5 @@
 -- Lemmas on bases that are counted as far as records reach, and on what is held.
-use Rattle.bt_lines.proofs.Std.{◌≡◌, ℕ, suc, ◌+◌, ◌<◌, ◌≤◌, min, Bool, true, false, cond, ◌&&◌, ◌||◌, nat_le, nat_lt, length, List, [], ◌∷◌, ◌++◌, Option, Some, None, map, filter, refl, sym, ap, ◌∙◌, subst, arith, AllByRecursion, list_any, nat_tests, or_parts, not, Result, Ok, Err, append-nil, inl, inr, ◌⊎◌, is_none, is_some, option_map, option_to_list, length-map, cases_Bool, not-true, not-false}
+use Rattle.bt_lines.proofs.Std.{◌≡◌, ℕ, suc, ◌+◌, ◌<◌, ◌≤◌, min, Bool, true, false, cond, ◌&&◌, ◌||◌, nat_le, nat_lt, length, List, [], ◌∷◌, ◌++◌, Option, Some, None, map, filter, refl, sym, ap, ◌∙◌, subst, arith, AllByRecursion, list_any, nat_tests, or_parts, not, Result, Ok, Err, append-nil, inl, inr, ◌⊎◌, is_none, is_some, option_map, length-map, cases_Bool, not-true, not-false}
 use Rattle.bt_bed.specs.model.Feature.{Feature}
 use Rattle.bt_lines.specs.model.Lines.{max_number, end_bytes, TextLine}
 use Rattle.bt_seq.proofs.lemmas.definitions.MaskPrefixLemmas.{held_alone, chrom_of, decided_by_tags, masked_before}
@@ -17,8 +17,8 @@ use Rattle.bt_lines.specs.calls.Names.{fault_value}
 use Rattle.bt_lines.specs.calls.Output.{Output, FailsToAdd, Grown}
 use Rattle.bt_lines.specs.declared.fault.Fault.{Fault}
 use Rattle.bt_lines.specs.declared.fault.Kind.TheVariants.{TextBeforeHeader}
-use Rattle.bt_seq.proofs.lemmas.mask.bases.KnownLemmas.{never, with_header, with_plain}
-use Rattle.bt_seq.proofs.lemmas.mask.steps.CopyLemmas.{decided_more, left_grows, named_more, none_own, undecided_header, undecided_next, last_more, last_name_none, stands_at, wants_line}
+use Rattle.bt_seq.proofs.lemmas.mask.bases.KnownLemmas.{never, with_header}
+use Rattle.bt_seq.proofs.lemmas.mask.steps.CopyLemmas.{decided_more, left_grows, none_own, undecided_header, undecided_next, last_more, last_name_none, stands_at, wants_line}
 use Rattle.bt_seq.specs.declared.mask.mask_want.MaskWant.TheVariants.{Line, Bed, Nothing}
 
 all_both : (P : Feature → Type 0) (rs ss : List Feature) → AllByRecursion P rs → AllByRecursion P ss → AllByRecursion P (rs ++ ss)
@@ -29,30 +29,24 @@ all_both P (r ∷ rs) ss h k = (h.0, all_both P rs ss h.1 k)
 pub range_more : (rs : List Feature) (r : Feature) → AreInRange rs → r.stop ≤ max_number → AreInRange (rs ++ r ∷ [])
 range_more rs r h low = all_both (λ (r : Feature). r.stop ≤ max_number) rs (r ∷ []) h (low, tt)
 
-item_range : (left : Option (List (List ℕ))) (r : Feature) → r.stop ≤ max_number → AreInRange (items_if_last left (r ∷ []))
-item_range left r h = grind arith
-
 own_range : (left : Option (List (List ℕ))) (last : Option (List ℕ)) (rs : List Feature) → AreInRange rs → AreInRange (own_in (tags chrom_of left last rs))
 own_range left last [] h = tt
 own_range left last (r ∷ rs) h =
     let next = next_left chrom_of left last r in
-    all_both (λ (r : Feature). r.stop ≤ max_number) (items_if_last next (r ∷ [])) (own_in (tags chrom_of next (Some r.chrom) rs)) (item_range next r h.0) (own_range next (Some r.chrom) rs h.1)
+    all_both (λ (r : Feature). r.stop ≤ max_number) (items_if_last next (r ∷ [])) (own_in (tags chrom_of next (Some r.chrom) rs)) (grind arith) (own_range next (Some r.chrom) rs h.1)
 
 -- a record that starts before a base, and ends in range
 abbrev pub IsLow : ℕ → Feature → Type 0
 IsLow low r = (r.start < low) × (r.stop ≤ max_number)
 
 module _ (low : ℕ) where
-  item_low : (left : Option (List (List ℕ))) (r : Feature) → block_decides low left (r ∷ []) ≡ false → r.stop ≤ max_number → AllByRecursion (IsLow low) (items_if_last left (r ∷ []))
-  item_low left r e h = grind arith
-
   pub own_low : (left : Option (List (List ℕ))) (last : Option (List ℕ)) (rs : List Feature) → list_any (tag_decides low) (tags chrom_of left last rs) ≡ false → AreInRange rs
       → AllByRecursion (IsLow low) (own_in (tags chrom_of left last rs))
   own_low left last [] e h = tt
   own_low left last (r ∷ rs) e h =
       let next = next_left chrom_of left last r in
       let both = or_parts (block_decides low next (r ∷ [])) (list_any (tag_decides low) (tags chrom_of next (Some r.chrom) rs)) e in
-      all_both (IsLow low) (items_if_last next (r ∷ [])) (own_in (tags chrom_of next (Some r.chrom) rs)) (item_low next r both.0 h.0) (own_low next (Some r.chrom) rs both.1 h.1)
+      all_both (IsLow low) (items_if_last next (r ∷ [])) (own_in (tags chrom_of next (Some r.chrom) rs)) (grind arith) (own_low next (Some r.chrom) rs both.1 h.1)
 
 -- what is held goes on to be held by the next line, if it reaches that far
 module _ (first low high : ℕ) (up : first ≤ low) (further : low ≤ high) where
@@ -69,12 +63,9 @@ module _ (first low high : ℕ) (up : first ≤ low) (further : low ≤ high) wh
       → filter goes_past (map extent_of (cond p (r ∷ old) old)) ≡ map extent_of (cond w (r ∷ new) new)
   held_if r old new p w e rest = grind arith
 
-  tests_agree : (start stop : ℕ) → start < low → stop ≤ max_number → ((nat_lt start low && nat_lt first stop) && nat_lt (min low limit) stop) ≡ (nat_lt start high && nat_lt low stop)
-  tests_agree start stop before short = grind arith
-
   pub held_on : (own : List Feature) → AllByRecursion (IsLow low) own → filter goes_past (map extent_of (filter is_old own)) ≡ map extent_of (filter is_new own)
   held_on [] h = refl
-  held_on (r ∷ rs) h = held_if r (filter is_old rs) (filter is_new rs) (is_old r) (is_new r) (tests_agree r.start r.stop h.0.0 h.0.1) (held_on rs h.1)
+  held_on (r ∷ rs) h = held_if r (filter is_old rs) (filter is_new rs) (is_old r) (is_new r) (grind arith) (held_on rs h.1)
 
 -- extents in range
 abbrev AreShort : List Extent → Type 0
@@ -90,7 +81,6 @@ held_short p (r ∷ rs) h = short_if (p r) r (filter p rs) h.0 (held_short p rs 
 no_extent : (position : ℕ) (extents : List Extent) → limit ≤ position → AreShort extents → list_any (has_position position) extents ≡ false
 no_extent position [] far h = refl
 no_extent position (s ∷ ss) far h =
-    let short : s.stop ≤ max_number = h.0 in
     let none : has_position position s ≡ false = grind (arith, nat_tests) in
     ap (λ b. b || list_any (has_position position) ss) none ∙ no_extent position ss far h.1
 
@@ -103,12 +93,10 @@ unmasked how extents position (base ∷ text) far h = grind (arith, no_extent, u
 counted_by : (how : MaskHow) (extents : List Extent) (before : ℕ) (text : List ℕ) → AreShort extents → (b : Bool) → nat_le before limit ≡ b → masked_in how extents (min before limit) text ≡ masked_in how extents before text
 counted_by how extents before text h true e =
     let low : before ≤ limit = grind (arith, nat_tests) in
-    let same : min before limit ≡ before = omega arith in
-    ap (λ p. masked_in how extents p text) same
+    ap (λ p. masked_in how extents p text) (omega arith)
 counted_by how extents before text h false e =
     let far : limit ≤ before = grind (arith, nat_tests) in
-    let same : min before limit ≡ limit = omega arith in
-    ap (λ p. masked_in how extents p text) same ∙ unmasked how extents limit text (omega arith) h ∙ sym (unmasked how extents before text far h)
+    ap (λ p. masked_in how extents p text) (omega arith) ∙ unmasked how extents limit text (omega arith) h ∙ sym (unmasked how extents before text far h)
 
 none_before : (stop : ℕ) (p : Feature → Bool) (rs : List Feature) → stop ≡ 0 → filter (λ (r : Feature). nat_lt r.start stop && p r) rs ≡ []
 none_before stop p [] e = refl
@@ -129,14 +117,10 @@ module _ (how : MaskHow) (line : SequenceLine) (rs : List Feature) (range : AreI
       ∙ sym (ap (λ b. cond b line.text (masked_from how (own_records line.names rs) line.before line.text)) e)
   text_by false e header = grind (arith, counted_by, held_short, own_in_range, held_alone)
 
-  -- what is held masks the line as all records do
-  pub text_masked : (is_header line.text ≡ true → line.before ≡ 0) → masked_in how (map extent_of (held_for line rs)) (min line.before limit) line.text ≡ masked_text how rs line
-  text_masked header = text_by (is_header line.text) refl header
-
   -- so what is written of it are its bytes
   pub line_masked : (is_header line.text ≡ true → line.before ≡ 0) → (m : Masking) → m.how ≡ how → m.window.held ≡ map extent_of (held_for line rs) → m.window.before ≡ min line.before limit
       → line_bytes m (kept_line line) ≡ masked_line how rs line
-  line_masked header m same_how held before = ap (λ t. t ++ end_bytes line.ending) (rw (same_how, held, before) (text_masked header))
+  line_masked header m same_how held before = ap (λ t. t ++ end_bytes line.ending) (rw (same_how, held, before) (text_by (is_header line.text) refl header))
 
 -- Lemmas on a masking engine that is given a line.
 
@@ -175,29 +159,8 @@ module _ (taken : List Feature) (range : AreInRange taken) (line : TextLine) (pl
     | inr undecided ↦ inr (undecided_next (bases_up_to l) (bases_up_to (next (Some l))) (omega arith) l (next (Some l)) taken refl refl refl undecided)
   ]
 
--- the record ahead doesn't decide a header, and if it decides a line there is one
-header_ahead : (o : Option Feature) (taken : List Feature) (item : SequenceLine) → is_header item.text ≡ true
-    → is_written_ahead o taken item ≡ false
-header_ahead o taken item e = grind arith
-
-decided_some : (o : Option Feature) (taken : List Feature) (item : SequenceLine) → is_written_ahead o taken item ≡ true
-    → is_some o ≡ true
-decided_some o taken item e = grind arith
-
--- a line that is written at once while records may come is decided
-decided_at_once : (u : Bool) (o : Option Feature) (taken : List Feature) (item : SequenceLine)
-    → is_unnamed item.names ≡ u → (u || is_written_ahead o taken item) ≡ true
-    → decided item (taken ++ option_to_list o) ≡ true
-decided_at_once u o taken item unnamed e = grind arith
-
 or_rest : (a b : Bool) → (a || b) ≡ true → a ≡ false → b ≡ true
 or_rest a b e d = grind arith
-
--- whether it decides one more line of the sequence, by how far it decides them
-ahead_decides : (bases : ℕ) (left : Option (List (List ℕ))) (r : Feature) → r.start < limit
-    → (left ≡ Some []) ⊎ (left ≡ None)
-    → nat_le (min bases limit) (decided_up_to left r) ≡ block_decides bases left (r ∷ [])
-ahead_decides bases left r low which = grind arith
 
 -- its block belongs to the last sequence, or to none
 ahead_left : (names : List (List ℕ)) (taken : List Feature) (r : Feature) (m : Matched) → KnowsNext false names taken (Some r) m
@@ -245,11 +208,8 @@ module _ (how : MaskHow) (full : Bool) (stage : MaskStage) (old : Masking) (s : 
   going_known : stage.bed_ended ≡ false → KnowsNext false names stage.taken stage.ahead old.matched
   going_known going = subst (λ (w : Option SequenceLine). KnowsNext (is_some w) names stage.taken stage.ahead old.matched) asked.0 (s.stands.inside.knows going)
 
-  first_by : (u : Bool) → is_unnamed names ≡ u → (u ≡ false → is_some stage.ahead ≡ true) → is_some stage.ahead ≡ false → (names ≡ []) × (stage.taken ≡ [])
-  first_by u e ahead none = grind arith
-
   first_header : stage.bed_ended ≡ false → is_some stage.ahead ≡ false → (names ≡ []) × (stage.taken ≡ [])
-  first_header going none = first_by (is_unnamed names) refl (λ e. s.stands.inside.has_ahead (sym s.stands.want_is ∙ wants) going e) none
+  first_header going none = grind arith
 
   -- whether a line to which it has moved is written at once
   once_by : (item : SequenceLine) (moved : Masking) → moved.bed_ended ≡ stage.bed_ended → moved.matched.name ≡ last_or None item.names
@@ -257,11 +217,6 @@ module _ (how : MaskHow) (full : Bool) (stage : MaskStage) (old : Masking) (s : 
       → (not (is_header item.text) && nat_le moved.window.bases moved.decided_to) ≡ is_written_ahead stage.ahead stage.taken item)
       → writes_at_once moved item.text ≡ is_written_at_once stage item
   once_by item moved ended name alike = grind (arith, last_name_none)
-
-  -- a header isn't, while records may come
-  header_later : (item : SequenceLine) → is_unnamed item.names ≡ false → is_header item.text ≡ true → stage.bed_ended ≡ false
-      → is_written_at_once stage item ≡ true → ⊥
-  header_later item is_named e going now = grind arith
 
   module _ (line : TextLine) where
     abbrev header_moved : Masking
@@ -286,10 +241,9 @@ module _ (how : MaskHow) (full : Bool) (stage : MaskStage) (old : Masking) (s : 
           owned = ap is_some (left_grows n names left.0 stage.taken left.1);
           header = λ e. refl;
           waits_known = λ going u. with_header names n stage.taken old.matched stage.ahead (first_header going) (going_known going);
-          at_once = once_by header_item header_moved s.stands.bed_ended_is (sym (last_more names n)) (λ going u.
-              ap (λ b. not b && nat_le header_moved.window.bases header_moved.decided_to) e ∙ sym (header_ahead stage.ahead stage.taken header_item e));
-          written_known = λ going now. absurd (header_later header_item (named_more n names) e going now);
-          written_to = λ going now. absurd (header_later header_item (named_more n names) e going now);
+          at_once = grind (arith, last_name_none);
+          written_known = λ going now. absurd (grind arith);
+          written_to = λ going now. absurd (grind arith);
         }
 
     abbrev plain_moved : Masking
@@ -309,13 +263,12 @@ module _ (how : MaskHow) (full : Bool) (stage : MaskStage) (old : Masking) (s : 
         → (not (is_header line.text) && nat_le plain_moved.window.bases old.decided_to) ≡ is_written_ahead o stage.taken plain_item
     plain_alike e going is_named None ahead = grind arith
     plain_alike e going is_named (Some r) ahead =
-        let known = subst (λ (o : Option Feature). KnowsNext false names stage.taken o old.matched) ahead (going_known going) in
         let left = left_after names (stage.taken ++ r ∷ []) in
         let undecided = open_undecided plain_item stage.taken is_named (open_further stage.taken s.stands.inside.in_range line e (last_or None (given stage)) open_at) in
         let decides : nat_le plain_moved.window.bases old.decided_to ≡ decided plain_item (stage.taken ++ r ∷ []) =
         ap (λ (n : ℕ). nat_le n old.decided_to) (plain_counts e).bases
         ∙ ap (λ (n : ℕ). nat_le (min (bases_up_to plain_item) limit) n) (s.stands.inside.decided_to_is asked.0 going r ahead)
-        ∙ ahead_decides (bases_up_to plain_item) left r (s.stands.inside.ahead_in_range r ahead) (ahead_left names stage.taken r old.matched known)
+        ∙ (grind arith)
         ∙ sym (decided_more plain_item stage.taken r ∙ ap (λ b. b || block_decides (bases_up_to plain_item) left (r ∷ [])) undecided) in
         ap (λ b. not (is_header line.text) && b) decides
 
@@ -331,7 +284,7 @@ module _ (how : MaskHow) (full : Bool) (stage : MaskStage) (old : Masking) (s : 
           is_open = open_further stage.taken s.stands.inside.in_range line e (last_or None (given stage)) open_at;
           owned = s.stands.owned;
           header = λ h. absurd (never (sym e ∙ h));
-          waits_known = λ going u. with_plain names stage.taken stage.ahead old.matched (going_known going);
+          waits_known = λ going u. grind arith;
           at_once = once_by plain_item plain_moved s.stands.bed_ended_is s.stands.inside.name_is (λ going u. plain_alike e going u stage.ahead refl);
           written_known = λ going now. going_known going;
           written_to = λ going now. s.stands.inside.decided_to_is asked.0 going;
@@ -442,13 +395,10 @@ module _ (how : MaskHow) (full : Bool) (stage : MaskStage) (old : Masking) (s : 
             counts = m.counts;
             name_is = m.name_is;
             is_decided = λ n going.
-                let ahead = is_written_ahead stage.ahead stage.taken item in
-                decided_at_once (is_unnamed item.names) stage.ahead stage.taken item refl
-                (or_rest stage.bed_ended (is_unnamed item.names || ahead) now going);
+                grind arith;
             in_range = s.stands.inside.in_range;
             knows = λ going. rw asked.0 (m.written_known going now);
-            has_ahead = λ e going u. decided_some stage.ahead stage.taken item
-                (or_true stage.bed_ended (is_unnamed item.names) (is_written_ahead stage.ahead stage.taken item) now going u);
+            has_ahead = λ e going u. grind arith;
             ahead_in_range = s.stands.inside.ahead_in_range;
             decided_to_is = λ e going. m.written_to going now;
           };

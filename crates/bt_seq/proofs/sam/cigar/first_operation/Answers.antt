@@ -1,4 +1,4 @@
-use Rattle.bt_lines.proofs.Std.{◌∙◌, ◌-◌, length, sym, arith, length-drop, take_all}
+use Rattle.bt_lines.proofs.Std.{◌∙◌, sym, arith, length-drop, take_all}
 use Rattle.bt_lines.proofs.lemmas.numbers.NumberLemmas.{value_more, digits_more}
 use Rattle.bt_seq.proofs.lemmas.Sam.{first_is, large_number}
 use Rattle.bt_seq.proofs.sam.cigar.first_operation.Goals as goal

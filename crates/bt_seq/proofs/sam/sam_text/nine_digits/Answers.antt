@@ -1,4 +1,4 @@
-use Rattle.bt_lines.proofs.Std.{inl, inr, ◌∙◌, ◌≡◌, ◌+◌, ◌-◌, ◌*◌, ◌^◌, ◌<◌, arith, false, get_or, length, length-take, List, None, sym, take, true, ℕ, cases_Bool, take_all, list_all_more, is_ascii_digit, list_all, digits_value}
+use Rattle.bt_lines.proofs.Std.{inl, inr, ◌∙◌, ◌≡◌, ◌+◌, ◌-◌, ◌*◌, ◌^◌, ◌<◌, arith, get_or, length, length-take, List, None, sym, take, true, ℕ, cases_Bool, take_all, list_all_more, is_ascii_digit, list_all, digits_value}
 use Rattle.bt_bed.proofs.lemmas.read.ColumnLemmas.{digit_bound}
 use Rattle.bt_lines.proofs.lemmas.numbers.NumberLemmas.{digit_small, digits_below, digits_denoting, digits_more, refused_second, value_below, value_more, value_of_digits, value_of_other, value_of_whole, value_short}
 use Rattle.bt_lines.specs.model.Lines.{value_of}
@@ -26,14 +26,12 @@ returns-then-not-is_ascii_digit c = value_of_other c.args.text.now 8 (omega (ari
 
 pub overflow_mul-result : goal.overflow_mul-result
 overflow_mul-result c =
-    let text = c.args.text.now in
-    let is = digits_denoting (take 8 text) c.in_ok-value.value c.in_ok-value.ensures in
+    let is = digits_denoting (take 8 c.args.text.now) c.in_ok-value.value c.in_ok-value.ensures in
     grind (arith, front_below, value_short)
 
 pub overflow_add-result : goal.overflow_add-result
 overflow_add-result c =
-    let text = c.args.text.now in
-    let is = digits_denoting (take 8 text) c.in_ok-value.value c.in_ok-value.ensures in
+    let is = digits_denoting (take 8 c.args.text.now) c.in_ok-value.value c.in_ok-value.ensures in
     grind (arith, front_below, value_short, digit_bound)
 
 pub returns : goal.returns
@@ -43,7 +41,6 @@ returns c =
     let is = digits_denoting (take 8 text) value c.in_ok-value.ensures in
     let digit = sym c.is_ascii_digit.ensures.value ∙ c.if-not-is_ascii_digit.false in
     let inside : 8 < length text = omega (arith, c.requires) in
-    let below : value < 10 ^ 8 = rw (is.1) (front_below text c.requires is.0) in
-    let most = value_short 9 _ (value_below 8 value _ below (digit_small (get_or text 8 0) digit)) (omega arith) in
+    let most = value_short 9 _ (value_below 8 value _ (rw (is.1) (front_below text c.requires is.0)) (digit_small (get_or text 8 0) digit)) (omega arith) in
     rw (c.from.ensures) (value_of_whole text 9 (value * 10 + (get_or text 8 0 - 48)) (omega arith) (omega (arith, c.requires))
     (value_more text 8 value inside is.1 digit) (digits_more text 8 inside is.0 digit) most)

@@ -9,8 +9,6 @@ use Rattle.bt_seq.specs.contracts.mask.mask_state.MaskState.{the_view}
 
 pub returns : goal.returns
 returns g c =
-    let old : Masking = the_view c.self.inside in
-    let copies = c.consume_up_to-through.ensures in
     let last = c.consume_up_to-through.result in
     let all = c.args.lines.now.all.now in
     let may = c.may_copy.ensures in
@@ -21,7 +19,7 @@ returns g c =
     let written = c.finish_write.ensures in
     rw written.same
     (subst (λ (m : Masking). CopiesThrough m c.args.lines.now c.args.out.now.output c.put_line-put.result c.finish_write.new.self last.lines c.put_line-put.new.out.output) c.self.view_is
-    (copied_through c.known_to.result old _ last at (ap (λ (m : Masking). is_some m.matched.name) c.self.view_is ∙ may.named c.if-not-may_copy.false)
-    (c.known_to.ensures ∙ ap (λ (m : Masking). if m.bed_ended then limit else m.decided_to) (sym c.self.view_is)) copies
+    (copied_through c.known_to.result (the_view c.self.inside) _ last at (ap (λ (m : Masking). is_some m.matched.name) c.self.view_is ∙ may.named c.if-not-may_copy.false)
+    (c.known_to.ensures ∙ ap (λ (m : Masking). if m.bed_ended then limit else m.decided_to) (sym c.self.view_is)) c.consume_up_to-through.ensures
     c.stand_at.new.self c.stand_at.ensures c.between-copied.result.now copied_is (some_bytes c.between-copied.result.now (sym c.is_empty.ensures ∙ c.if-is_empty.false))
     c.args.out.now.output c.put_line-put.new.out.output c.put_line-put.result c.finish_write.new.self c.put_line-put.ensures written.next written.stops))
