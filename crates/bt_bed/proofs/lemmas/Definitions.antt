@@ -6,7 +6,7 @@ use Rattle.bt_lines.specs.declared.fault.Kind.{Kind}
 use Rattle.bt_bed.specs.model.Feature.{Feature, interval_of, intervals_of, AreNonEmpty, Span}
 use Rattle.bt_bed.specs.model.Positions.{IsCovered, AreApartFrom, with_position, stretches_from, scan_finds_stretches, AreStretchesOf}
 use Rattle.bt_bed.specs.model.BedLine.{record_of}
-use Rattle.bt_bed.specs.model.Good.{good, Good, good_from, good_with, items_in, bed_format, good_are_placed, good_are_non_empty, line_says, said_after, locus_at, AreInBlocks, IsBlockUpTo, block_format, good_are_in_blocks}
+use Rattle.bt_bed.specs.model.Good.{good, Good, good_from, good_with, items_in, bed_format, good_are_placed, good_are_non_empty, line_says, locus_at, AreInBlocks, IsBlockUpTo, block_format, good_are_in_blocks}
 use Rattle.bt_bed.specs.model.Meeting.{Rule, Met, join_report, written}
 use Rattle.bt_bed.specs.model.Order.{Order, IsTotal}
 use Rattle.bt_bed.specs.model.Sorted.{Locus, IsUpTo, ArePlaced, IsPlacedBefore, Sorting, falls_in, sorting_of, block_sorting}
@@ -21,12 +21,9 @@ pub record Said (sorting : Sorting) (last : Option Locus) (text : List ℕ) (r :
   pub stays : falls_in sorting last (locus_at r) ≡ false
   pub says : record_of text ≡ Ok (Some r)
 
-said_by_record : (sorting : Sorting) (last : Option Locus) (text : List ℕ) (said : Result (Option Feature) Kind) (r : Feature) → record_of text ≡ said → said_after sorting last said ≡ Ok (Some r) → Said sorting last text r
-said_by_record sorting last text said r was e = grind arith
-
 pub line_said : (sorting : Sorting) (last : Option Locus) (text : List ℕ) (r : Feature) → line_says sorting last text ≡ Ok (Some r) → Said sorting last text r
 unfolding line_says
-line_said sorting last text r e = said_by_record sorting last text (record_of text) r refl e
+line_said sorting last text r e = grind arith
 
 -- the records come after the last place
 abbrev Follow : Order → Option Locus → List Feature → Type 0
@@ -42,9 +39,6 @@ record Placed (order : Order) (last : Option Locus) (rs : List Feature) : Type 0
 abbrev IsKnownLocus : Order → Option Locus → Type 0
 IsKnownLocus order last = IfSome last (λ place. IsTrue (order.knows place.chrom))
 
-follow_nil : (order : Order) (last : Option Locus) → Follow order last []
-follow_nil order last = grind arith
-
 follow_up_to : (order : Order) (last : Option Locus) (r : Feature) (rs : List Feature) → IfSome last (λ l. IsUpTo order l (locus_at r)) → Follow order last (r ∷ rs)
 follow_up_to order last r rs up = grind arith
 
@@ -54,7 +48,7 @@ before_rest order r rs f = grind arith
 placed_with : (input : Input) (order : Order) (last : Option Locus) (line : TextLine) (rest : Option Locus → Good Feature) → IsTotal order → IsKnownLocus order last
     → ((now : Option Locus) → IsKnownLocus order now → Placed order now (items_in (rest now)))
     → (said : Result (Option Feature) Kind) → line_says (sorting_of order) last line.text ≡ said → Placed order last (items_in (good_with (bed_format (sorting_of order)) input line.number last said rest))
-placed_with input order last line rest total was h (Err kind) e = record { placed = tt; behind = follow_nil order last }
+placed_with input order last line rest total was h (Err kind) e = record { placed = tt; behind = grind arith }
 placed_with input order last line rest total was h (Ok None) e = h last was
 placed_with input order last line rest total was h (Ok (Some r)) e =
     let said = line_said (sorting_of order) last line.text r e in
@@ -66,7 +60,7 @@ placed_with input order last line rest total was h (Ok (Some r)) e =
 
 placed_from : (input : Input) (order : Order) (last : Option Locus) (lines : List TextLine) → IsTotal order → IsKnownLocus order last → Placed order last (items_in (good_from (bed_format (sorting_of order)) input last lines))
 unfolding good_from
-placed_from input order last [] total was = record { placed = tt; behind = follow_nil order last }
+placed_from input order last [] total was = record { placed = tt; behind = grind arith }
 placed_from input order last (line ∷ lines) total was =
     placed_with input order last line (λ now. good_from (bed_format (sorting_of order)) input now lines) total was (λ now is. placed_from input order now lines total is) (line_says (sorting_of order) last line.text) refl
 
@@ -110,15 +104,12 @@ record Blocked (last : Option Locus) (rs : List Feature) : Type 0 where
   blocks : AreInBlocks rs
   behind : FollowInBlocks last rs
 
-more_blocks : (r : Feature) (rs : List Feature) → Blocked (Some (locus_at r)) rs → AreInBlocks (r ∷ rs)
-more_blocks r rs b = grind arith
-
 blocked_with : (input : Input) (last : Option Locus) (line : TextLine) (rest : Option Locus → Good Feature) → ((now : Option Locus) → Blocked now (items_in (rest now)))
     → (said : Result (Option Feature) Kind) → line_says block_sorting last line.text ≡ said → Blocked last (items_in (good_with block_format input line.number last said rest))
 blocked_with input last line rest h (Err kind) e = record { blocks = tt; behind = tt }
 blocked_with input last line rest h (Ok None) e = h last
 blocked_with input last line rest h (Ok (Some r)) e = record {
-  blocks = more_blocks r (items_in (rest (Some (locus_at r)))) (h (Some (locus_at r)));
+  blocks = grind arith;
   behind = block_up_to last (locus_at r) (line_said block_sorting last line.text r e).stays;
 }
 
@@ -135,12 +126,6 @@ good_in_blocks input handed = (blocked_from input None (lines_handed handed)).bl
 
 met_either : {L F : Type 0} (b : Bool) (x y : Met L F) (lines : List L) → (b ≡ true → x.lines ≡ lines) → y.lines ≡ lines → (if b then x else y).lines ≡ lines
 met_either b x y lines first second = grind arith
-
-fault_yes : {L F : Type 0} (b : Bool) (x y : Met L F) → b ≡ true → (if b then x else y).fault ≡ x.fault
-fault_yes b x y e = grind arith
-
-fault_no : {L F : Type 0} (b : Bool) (x y : Met L F) → b ≡ false → (if b then x else y).fault ≡ y.fault
-fault_no b x y e = grind arith
 
 module _ {A L F : Type 0} where
   pub written_at : (rule : Rule A L F) (a : A) (members : List A) (d : Bool) → rule.decided a ≡ d → written rule (a ∷ members) ≡ cond d (rule.lines a ++ written rule members) []
@@ -160,10 +145,10 @@ module _ {A L F : Type 0} where
   met_lines rule members fault = met_either (list_all rule.decided members) _ _ _ (all_written rule members) refl
 
   pub met_fault_all : (rule : Rule A L F) (members : List A) (fault : Option F) → list_all rule.decided members ≡ true → (join_report rule members fault).fault ≡ option_or fault rule.last
-  met_fault_all rule members fault e = fault_yes (list_all rule.decided members) _ _ e
+  met_fault_all rule members fault e = grind arith
 
   pub met_fault_stop : (rule : Rule A L F) (members : List A) (fault : Option F) → list_all rule.decided members ≡ false → (join_report rule members fault).fault ≡ rule.fault
-  met_fault_stop rule members fault e = fault_no (list_all rule.decided members) _ _ e
+  met_fault_stop rule members fault e = grind arith
 
   -- up to the first that isn't decided
   pub written_stop : (rule : Rule A L F) (xs : List A) (a : A) (ys : List A) → list_all rule.decided xs ≡ true → rule.decided a ≡ false → written rule (xs ++ a ∷ ys) ≡ flat_map rule.lines xs
@@ -208,9 +193,6 @@ looser f g (x ∷ xs) h a = (omega arith, a.1, a.2)
 passing : (test : ℕ → Bool) (first n : ℕ) (xs ys : List Span) → test first ≡ true → IsScanOf test (first + 1) n xs → AddsPosition first xs ys → IsScanOf test first (suc n) ys
 passing test first n xs ys t scan adds = grind arith
 
-failing : (test : ℕ → Bool) (first n : ℕ) (xs : List Span) → test first ≡ false → IsScanOf test (first + 1) n xs → IsScanOf test first (suc n) xs
-failing test first n xs t scan = grind (arith, looser)
-
 stretches_from-scans : (test : ℕ → Bool) (first n : ℕ) → IsScanOf test first n (stretches_from test first n)
 unfolding stretches_from
 stretches_from-scans test first zero = grind arith
@@ -219,7 +201,7 @@ stretches_from-scans test first (suc n) =
     let scan : IsScanOf test (first + 1) n rest = stretches_from-scans test (first + 1) n in
     elim (cases_Bool (test first)) [
       | inl t ↦ rw (cond-true (test first) (with_position first rest) rest t) (passing test first n rest (with_position first rest) t scan (with_position-adds first rest scan.apart))
-      | inr t ↦ rw (cond-false (test first) (with_position first rest) rest t) (failing test first n rest t scan)
+      | inr t ↦ rw (cond-false (test first) (with_position first rest) rest t) (grind (arith, looser))
     ]
 
 pub scan_finds : scan_finds_stretches
@@ -255,9 +237,6 @@ stop_up_to f x y g xs ys a b within e =
       | inr h ↦ h
     ]
 
-tail_within : (f : ℕ) (x y : Span) (xs ys : List Span) → AreApartFrom f (x ∷ xs) → x.stop ≡ y.stop → IsWithin (x ∷ xs) (y ∷ ys) → IsWithin xs ys
-tail_within f x y xs ys a e within = grind (arith, covered_from)
-
 -- two lists of spans with gaps that cover the same positions are equal
 pub same_apart : (f g : ℕ) (xs ys : List Span) → AreApartFrom f xs → AreApartFrom g ys → IsWithin xs ys → IsWithin ys xs → xs ≡ ys
 same_apart f g [] [] a b to back = refl
@@ -266,11 +245,9 @@ same_apart f g (x ∷ xs) [] a b to back = absurd (to x.start (inl (omega arith,
 same_apart f g (x ∷ xs) (y ∷ ys) a b to back =
     let low = start_up_to f x y g xs ys a b to in
     let high = start_up_to g y x f ys xs b a back in
-    let starts : x.start ≡ y.start = omega arith in
-    let back_starts : y.start ≡ x.start = omega arith in
-    let short = stop_up_to f x y g xs ys a b to starts in
-    let long = stop_up_to g y x f ys xs b a back back_starts in
-    grind (arith, (same_apart (x.stop + 1) (y.stop + 1) xs ys a.2 b.2 (tail_within f x y xs ys a (omega arith) to) (tail_within g y x ys xs b (omega arith) back)))
+    let short = stop_up_to f x y g xs ys a b to (omega arith) in
+    let long = stop_up_to g y x f ys xs b a back (omega arith) in
+    grind (arith, (same_apart (x.stop + 1) (y.stop + 1) xs ys a.2 b.2 (grind (arith, covered_from)) (grind (arith, covered_from))))
 
 -- two lists that make up one set are one list
 pub stretches_are_same : (S : ℕ → Type 0) (xs ys : List Span) → AreStretchesOf S xs → AreStretchesOf S ys → xs ≡ ys

@@ -35,13 +35,9 @@ span_is_bounds start stop end = simp append_assoc
 pub bounds_before_feed : (text : List ℕ) (first start stop : ℕ) → length text ≡ 43 → drop first text ≡ span_text start stop 10 → take (42 - first) (drop first text) ≡ bounds_text start stop
 bounds_before_feed text first start stop l e = grind (arith, common_steps, span_is_bounds)
 
--- the parts of a record and its end
-record_parts : (r : Feature) (end : List ℕ) → r.chrom ++ (bounds_text r.start r.stop ++ (r.rest ++ end)) ≡ bed_text r ++ end
-record_parts r end = simp append_assoc
-
 module _ (r : Feature) (end : List ℕ) where
   front_parts : (r.chrom ++ bounds_text r.start r.stop) ++ (r.rest ++ end) ≡ bed_text r ++ end
-  front_parts = append_assoc r.chrom (bounds_text r.start r.stop) (r.rest ++ end) ∙ record_parts r end
+  front_parts = append_assoc r.chrom (bounds_text r.start r.stop) (r.rest ++ end) ∙ (simp append_assoc)
 
   -- the record was cut off in its name or in its bounds
   pub cut_in_front : (old new : Output) (fault : FaultValue) → FailsToPut old (r.chrom ++ bounds_text r.start r.stop) fault new → FailsToPut old (bed_text r ++ end) fault new

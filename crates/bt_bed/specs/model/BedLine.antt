@@ -1,5 +1,5 @@
 -- What a line of a BED file says: headers, features, faults; and the lines that intervals are written as.
-use Rattle.std.specs.Prelude.{ℕ, ◌<◌, List, [], ◌∷◌, All, bytes_eq, Option, Some, None, ◌-◌, Bool, true, ◌==◌, ◌||◌, not, codes, ◌++◌, decimal, flat_map, ◌≡◌, false, ◌≤◌, IsTrue, length, Result, Ok, Err, nat_lt, if◌then◌else◌, ◌+◌}
+use Rattle.std.specs.Prelude.{ℕ, ◌<◌, List, [], ◌∷◌, All, bytes_eq, Option, Some, None, Bool, true, ◌==◌, ◌||◌, not, codes, ◌++◌, decimal, flat_map, ◌≡◌, false, ◌≤◌, IsTrue, length, Result, Ok, Err, nat_lt, if◌then◌else◌}
 use Rattle.bt_bed.specs.declared.record.strand.Strand.{Strand}
 use Rattle.std.specs.List.{take_while}
 use Rattle.bt_lines.specs.model.Fault.{FaultValue}

@@ -1,31 +1,28 @@
 -- Lemmas on orders of records.
-use Rattle.bt_lines.proofs.Std.{rules, ◌≡◌, ℕ, ◌≤◌, ◌⊎◌, inl, inr, List, [], ◌∷◌, ◌++◌, refl, ◌∙◌, subst, true, false, bytes_eq, Some, IsTrue, or_parts, or_from, or_left, or_right, Bool, cond, Option, arith, IfSome, nat_lt, suc, ◌||◌, ap, is_some, option_map, tied_itself, nat_list_cmp_total}
+use Rattle.bt_lines.proofs.Std.{rules, ◌≡◌, ℕ, ◌≤◌, ◌⊎◌, inl, inr, List, [], ◌∷◌, ◌++◌, refl, ◌∙◌, subst, true, false, bytes_eq, Some, IsTrue, or_parts, or_from, or_left, or_right, Option, arith, IfSome, ◌||◌, ap, is_some, tied_itself, nat_list_cmp_total}
 use Rattle.std.specs.declared.cmp.Ordering.TheVariants.{Less, Equal}
 use Rattle.bt_bed.specs.model.Feature.{last_from, last_of, Interval}
 use Rattle.bt_bed.specs.model.Order.{Order, IsTotal, is_among, rank_of, byte_order}
-use Rattle.bt_bed.specs.model.Sorted.{locus_of, IsUpTo, ArePlaced, placed_grows, prefixes_are_placed, has_records, IsFollowed, AreContiguous, placed_are_contiguous, prefixes_are_contiguous, Locus, is_below, falls_in, sorted_by_places, sorting_of}
+use Rattle.bt_bed.specs.model.Sorted.{locus_of, IsUpTo, ArePlaced, placed_grows, prefixes_are_placed, has_records, IsFollowed, AreContiguous, placed_are_contiguous, prefixes_are_contiguous, Locus, falls_in, sorted_by_places, sorting_of}
 use Rattle.bt_bed.proofs.lemmas.parse.NameLemmas.{name_eq, name_ne, name_ne-sym, same_name}
-use Rattle.std.specs.Ordering.{is_lt}
 
 -- Lemmas on contiguous records, and on records in a total order of their chromosomes.
 
 pub has_records-append : (name : List ℕ) (xs ys : List Interval) → has_records name (xs ++ ys) ≡ false → (has_records name xs ≡ false) × (has_records name ys ≡ false)
 has_records-append name [] ys f = (refl, f)
 has_records-append name (x ∷ xs) ys f =
-    let parts = or_parts (bytes_eq x.chrom name) (has_records name (xs ++ ys)) f in
-    grind (arith, (has_records-append name xs ys parts.1))
+    grind (arith, (has_records-append name xs ys (or_parts (bytes_eq x.chrom name) (has_records name (xs ++ ys)) f).1))
 
 -- records in order: the last of them, and one more
 pub contiguous_prefix : prefixes_are_contiguous
 contiguous_prefix [] ys t = tt
 contiguous_prefix (x ∷ []) ys t = (tt, tt)
 contiguous_prefix (x ∷ y ∷ zs) ys t =
-    let rest = contiguous_prefix (y ∷ zs) ys t.1 in
     let next : IsFollowed x (y ∷ zs) = elim t.0 [
       | inl same ↦ inl same
       | inr gone ↦ inr (has_records-append x.chrom (y ∷ zs) ys gone).0
     ] in
-    (next, rest)
+    (next, contiguous_prefix (y ∷ zs) ys t.1)
 
 pub next_place : (q : Interval) (qs : List Interval) (r : Interval) → AreContiguous (q ∷ qs ++ r ∷ []) → ((r.chrom ≡ (last_from q qs).chrom) × ((last_from q qs).start ≤ r.start)) ⊎ (has_records r.chrom (q ∷ qs) ≡ false)
 next_place q [] r t = grind (arith, name_ne-sym)
@@ -41,10 +38,6 @@ pub has_records-last : (q : Interval) (qs : List Interval) → has_records (last
 has_records-last q [] = or_left (bytes_eq q.chrom q.chrom) false (name_eq q.chrom q.chrom refl)
 has_records-last q (s ∷ ss) = or_right (bytes_eq q.chrom (last_from s ss).chrom) (has_records (last_from s ss).chrom (s ∷ ss)) (has_records-last s ss)
 
--- a name that comes before another isn't that one
-lower_is_other : (order : Order) (a b : List ℕ) → IsTotal order → IsTrue (order.knows a) → order.compare a b ≡ Less → b ≡ a → ⊥
-lower_is_other order a b total known lower e = grind arith
-
 -- a chromosome that comes before the first record's has no records
 lower_is_absent : (order : Order) (name : List ℕ) (s : Interval) (ss : List Interval) → IsTotal order → IsTrue (order.knows name) → ArePlaced order (s ∷ ss) → order.compare name s.chrom ≡ Less → has_records name (s ∷ ss) ≡ false
 lower_is_absent order name s [] total known placed lower = grind (arith, name_ne)
@@ -53,15 +46,11 @@ lower_is_absent order name s (t ∷ ts) total known placed lower =
       | inl less ↦ total.ascends name s.chrom t.chrom known placed.0 placed.2.0 lower less
       | inr same ↦ subst (λ (c : List ℕ). order.compare name c ≡ Less) same.0 lower
     ] in
-    or_from (bytes_eq s.chrom name) (has_records name (t ∷ ts)) (name_ne s.chrom name (lower_is_other order name s.chrom total known lower)) (lower_is_absent order name t ts total known placed.2 further)
-
--- what comes next is on the same chromosome, or has none of it
-followed : (order : Order) (r : Interval) (rs : List Interval) → IsTotal order → ArePlaced order (r ∷ rs) → IsFollowed r rs
-followed order r rs total placed = grind (arith, lower_is_absent)
+    or_from (bytes_eq s.chrom name) (has_records name (t ∷ ts)) (name_ne s.chrom name (grind arith)) (lower_is_absent order name t ts total known placed.2 further)
 
 pub placed_contiguous : placed_are_contiguous
 placed_contiguous order [] total placed = tt
-placed_contiguous order (r ∷ rs) total placed = (followed order r rs total placed, placed_contiguous order rs total placed.2)
+placed_contiguous order (r ∷ rs) total placed = ((grind (arith, lower_is_absent)), placed_contiguous order rs total placed.2)
 
 pub placed_prefix : prefixes_are_placed
 placed_prefix order [] ys placed = tt
@@ -77,13 +66,9 @@ grows_placed = grind (arith, placed_from)
 
 -- Lemmas on how records are sorted.
 
-sorted_by : (order : Order) (last place : Locus) → IsTotal order → IsTrue (order.knows last.chrom) → IsTrue (order.knows place.chrom)
-    → (b : Bool) → bytes_eq last.chrom place.chrom ≡ b → cond b (nat_lt place.start last.start) (is_lt (order.compare place.chrom last.chrom)) ≡ is_below order place last
-sorted_by order last place total was is b e = search rules
-
 -- in a total order places are sorted as the order has them
 pub places_sorted : sorted_by_places
-places_sorted order last place total was is = sorted_by order last place total was is (bytes_eq last.chrom place.chrom) refl
+places_sorted order last place total was is = search rules
 
 -- a place that doesn't fall below the last one isn't before it
 pub sorted_up_to : (order : Order) (last : Option Locus) (place : Locus) → IsTotal order → IfSome last (λ l. IsTrue (order.knows l.chrom)) → IsTrue (order.knows place.chrom) → falls_in (sorting_of order) last place ≡ false
@@ -92,13 +77,10 @@ sorted_up_to order last place total was is stays = grind (arith, places_sorted)
 
 -- Lemmas on the ranks of names.
 
-is_some-cond : (b : Bool) (o : Option ℕ) → is_some (cond b (Some 0) (option_map (λ n. suc n) o)) ≡ (b || is_some o)
-is_some-cond b o = grind arith
-
 -- a name is among the names exactly if it has a rank
 pub among_ranked : (names : List (List ℕ)) (name : List ℕ) → is_some (rank_of names name) ≡ is_among names name
 among_ranked [] name = refl
-among_ranked (n ∷ ns) name = is_some-cond (bytes_eq n name) (rank_of ns name) ∙ ap (λ b. bytes_eq n name || b) (among_ranked ns name)
+among_ranked (n ∷ ns) name = (grind arith) ∙ ap (λ b. bytes_eq n name || b) (among_ranked ns name)
 
 -- The order of names by their bytes: which of two names comes first.
 

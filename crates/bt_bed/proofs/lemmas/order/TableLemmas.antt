@@ -18,7 +18,6 @@ use Rattle.bt_lines.specs.calls.Reader.{CutsOff, GivesFault, GivesLine, Hands, I
 use Rattle.bt_lines.specs.declared.reader.line_reader.LineReader.{LineReader}
 use Rattle.bt_bed.proofs.lemmas.read.good.ReadingLemmas.{front_of_both, near_pass, pass_more}
 use Rattle.bt_lines.specs.calls.Line.{GivesFirst}
-use Rattle.bt_lines.specs.declared.fault.Kind.TheVariants.{RepeatedChrom}
 use Rattle.bt_bed.proofs.lemmas.order.OrderLemmas.{among_ranked}
 use Rattle.std.specs.declared.alloc.Global.{Global}
 use Rattle.indexmap.specs.IndexMap.{insert_entry}
@@ -167,9 +166,6 @@ module _ {S : Type 0} (device : Source S) where
 -- a line's entry is new if its name has no rank, and else repeated
 pub says_new : (names : List (List ℕ)) (said : Result (Option Entry) Kind) (entry : Entry) → said ≡ Ok (Some entry) → is_some (rank_of names entry.name) ≡ false → new_entry names said ≡ Ok (Some entry)
 says_new names said entry e unranked = grind (arith, among_ranked)
-
-pub says_repeated : (names : List (List ℕ)) (said : Result (Option Entry) Kind) (entry : Entry) → said ≡ Ok (Some entry) → is_some (rank_of names entry.name) ≡ true → new_entry names said ≡ Err RepeatedChrom
-says_repeated names said entry e ranked = grind (arith, among_ranked)
 
 -- what is wrong with a line is of a line
 pub refused_at_place : (names : List (List ℕ)) (text : List ℕ) (kind : Kind) → new_entry names (entry_of text) ≡ Err kind → is_genome_kind kind ≡ true

@@ -50,7 +50,7 @@ taken_in_turn columns left left2 left3 text a b c e first second third = cc
 
 pub taken_are_within : (columns left left2 left3 : List (List ℕ)) (text a b c : List ℕ) → left ≡ pieces 9 text → left ≡ a ∷ left2 → left2 ≡ b ∷ left3 → left3 ≡ c ∷ columns
     → length a + length b + length c + 2 ≤ length text
-taken_are_within columns left left2 left3 text a b c e first second third = grind (arith, (three_are_within text a b c columns (taken_in_turn columns left left2 left3 text a b c e first second third)))
+taken_are_within columns left left2 left3 text a b c e first second third = grind (arith, (three_are_within text a b c columns (cc)))
 
 -- Lemmas on the feature that a line says.
 
@@ -124,13 +124,10 @@ pub columns_of_line : (text : List ℕ) → is_header text ≡ false → record_
 unfolding record_of
 columns_of_line text h = rw h refl
 
-skipped_or_said : (header : Bool) (said : Result Feature Kind) (f : Feature) → cond header (Ok None) (not_skipped said) ≡ Ok (Some f) → (header ≡ false) × (said ≡ Ok f)
-skipped_or_said header said f e = grind arith
-
 -- a line that says a feature is no header, and its columns say it
 pub record_said : (text : List ℕ) (f : Feature) → record_of text ≡ Ok (Some f) → (is_header text ≡ false) × (columns_say (pieces 9 text) ≡ Ok f)
 unfolding record_of
-record_said text f e = skipped_or_said (is_header text) (columns_say (pieces 9 text)) f e
+record_said text f e = grind arith
 
 -- a line that is no header says what its columns say
 pub said_by_columns : (text : List ℕ) (said : Result Feature Kind) → is_header text ≡ false → said ≡ columns_say (pieces 9 text) → not_skipped said ≡ record_of text
@@ -145,7 +142,7 @@ made_is_said text a b c rest bounds strand kept cut found s k = grind (arith, re
 pub made_is_feature : (text a b c : List ℕ) (rest : List (List ℕ)) (bounds : ℕ × ℕ) (strand : Strand) (kept : List ℕ) → pieces 9 text ≡ a ∷ b ∷ c ∷ rest
     → feature_between a (Ok bounds) rest ≡ feature_of a (value_of b) (value_of c) rest → strand ≡ strand_of (columns_in kept) → kept ≡ drop (length a + length b + length c + 2) text
     → IsFeature (record { chrom = a; start = bounds.0; stop = bounds.1; strand = strand; rest = kept })
-made_is_feature text a b c rest bounds strand kept cut found s k = said_is_feature text _ (sym (made_is_said text a b c rest bounds strand kept cut found s k))
+made_is_feature text a b c rest bounds strand kept cut found s k = said_is_feature text _ (sym (grind (arith, rest_of_three, pieces_are_columns, columns_in_kept)))
 
 -- Lemmas on the first word of a text.
 
@@ -168,24 +165,18 @@ same_word word = sym ((bytes_eq-Decides (word ++ []) word).1 (append-nil word))
 stripped : (text word rest : List ℕ) → bytes_eq (take (length word) text) word ≡ true → rest ≡ drop (length word) text → text ≡ word ++ rest
 stripped text word rest same e = grind (arith, bytes_eq-Decides, take-append-drop)
 
-alone : (word rest : List ℕ) → All IsOfWord word → length rest < 1 → true ≡ bytes_eq (first_word (word ++ rest)) word
-alone word rest h short = grind (arith, common_steps, word_first, same_word)
-
 ended_by : (word bytes : List ℕ) (byte : ℕ) (b : Bool) → ends_word byte ≡ b → b ≡ bytes_eq (word ++ first_word (byte ∷ bytes)) word
 ended_by word bytes byte b e = grind (arith, same_word, common_steps)
-
-ended : (word rest : List ℕ) → All IsOfWord word → 1 ≤ length rest → ends_word (get_or rest 0 0) ≡ bytes_eq (first_word (word ++ rest)) word
-ended word rest h some = grind (arith, common_steps, word_first, ended_by)
 
 -- a text that is a word
 pub word_alone : (text word rest : List ℕ) → All IsOfWord word → bytes_eq (take (length word) text) word ≡ true → rest ≡ drop (length word) text → length rest < 1
     → true ≡ bytes_eq (first_word text) word
-word_alone text word rest h same e short = rw (stripped text word rest same e) (alone word rest h short)
+word_alone text word rest h same e short = rw (stripped text word rest same e) (grind (arith, common_steps, word_first, same_word))
 
 -- a text that goes on after a word
 pub word_ended : (text word rest : List ℕ) → All IsOfWord word → bytes_eq (take (length word) text) word ≡ true → rest ≡ drop (length word) text → 1 ≤ length rest
     → ends_word (get_or rest 0 0) ≡ bytes_eq (first_word text) word
-word_ended text word rest h same e some = rw (stripped text word rest same e) (ended word rest h some)
+word_ended text word rest h same e some = rw (stripped text word rest same e) (grind (arith, common_steps, word_first, ended_by))
 
 more_of_word : (byte : ℕ) (left right : List ℕ) (b : Bool) → ends_word byte ≡ b → first_word left ≡ first_word right → first_word (byte ∷ left) ≡ first_word (byte ∷ right)
 more_of_word byte left right b e same = grind (arith, common_steps)

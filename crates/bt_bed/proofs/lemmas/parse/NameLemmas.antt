@@ -1,5 +1,5 @@
 -- Names of chromosomes: whether two are one.
-use Rattle.bt_lines.proofs.Std.{◌≡◌, ℕ, ◌⊎◌, ◌+◌, ◌-◌, ◌<◌, ◌≤◌, ◌++◌, inl, inr, List, length, take, drop, get_or, refl, sym, ap, ◌∙◌, arith, true, false, eqb, bytes_eq, length-take, length-drop, cases_Bool, eqb-true, false_from_ne_true, drop-drop, get_or-drop, get_or-take, get_or_past, take-append-drop, le_bytes_4, bytes_eq-Decides, from_le_bytes, w32, zero, suc, ◌*◌, ◌/◌, ◌%◌, ◌^◌, [], ◌∷◌, append_assoc, add-mul-mod_self_right, eq_of_mul-eq-mul_left, mod-add-div, pow-succ', one_shl, pow-add, length-append, take-take, take-length, w64, Some, subst, drop-take, length-take-le, get_or-append_seam, is_ascii_digit, list_all, digits_value}
+use Rattle.bt_lines.proofs.Std.{◌≡◌, ℕ, ◌⊎◌, ◌+◌, ◌-◌, ◌<◌, ◌≤◌, ◌++◌, inl, inr, List, length, take, drop, get_or, refl, sym, ap, ◌∙◌, arith, true, false, eqb, bytes_eq, length-take, length-drop, cases_Bool, eqb-true, false_from_ne_true, drop-drop, get_or-drop, get_or-take, get_or_past, take-append-drop, le_bytes_4, bytes_eq-Decides, from_le_bytes, w32, zero, suc, ◌*◌, ◌/◌, ◌%◌, ◌^◌, [], ◌∷◌, append_assoc, add-mul-mod_self_right, eq_of_mul-eq-mul_left, pow-succ', one_shl, pow-add, length-append, take-take, take-length, w64, Some, subst, drop-take, length-take-le, get_or-append_seam, is_ascii_digit, list_all, digits_value}
 use Rattle.bt_bed.specs.inside.FirstColumns.{BeginsWithName, IsKey, AreBounds, BeginsWith, HasColumns, Leads}
 use Rattle.bt_bed.specs.declared.parse.packed_name.PackedName.{PackedName}
 use Rattle.bt_lines.proofs.lemmas.numbers.NumberLemmas.{digits_denoting, digits_more, value_more, value_short}
@@ -126,16 +126,11 @@ front_same (suc k) (x ∷ a) (y ∷ b) p q fit other m n e =
     (sym (raise_one x (worth a) p k) ∙ e ∙ raise_one y (worth b) q k) in
     grind (arith, (front_same k a b p q (λ i. fit (suc i)) (λ i. other (suc i)) (omega arith) (omega arith) parts.1))
 
-some_factor : (f k n : ℕ) → f * k ≡ n → 0 < n → 0 < f
-some_factor f k n is some = grind arith
-
 -- what is lost of a product is a multiple of the other factor
 lost_parts : (a b f k n : ℕ) → f * k ≡ n → 0 < n → (a * f) % n ≡ (b * f) % n → a + (b * f / n) * k ≡ b + (a * f / n) * k
 lost_parts a b f k n is some same =
-    let whole = mod-add-div (a * f) n in
-    let other = mod-add-div (b * f) n in
     let product : f * (a + (b * f / n) * k) ≡ f * (b + (a * f / n) * k) = omega (arith, ap (λ (m : ℕ). (b * f / n) * m) is, ap (λ (m : ℕ). (a * f / n) * m) is) in
-    eq_of_mul-eq-mul_left f (some_factor f k n is some) (a + (b * f / n) * k) (b + (a * f / n) * k) product
+    eq_of_mul-eq-mul_left f (grind arith) (a + (b * f / n) * k) (b + (a * f / n) * k) product
 
 bytes_and_tab : (name : List ℕ) → ((i : ℕ) → get_or name i 0 < 256) → (i : ℕ) → get_or (name ++ 9 ∷ []) i 0 < 256
 bytes_and_tab [] bytes zero = omega arith
@@ -147,7 +142,6 @@ bytes_and_tab (x ∷ name) bytes (suc i) = bytes_and_tab name (λ k. bytes (suc 
 pub key_tells : (name bytes : List ℕ) (key : PackedName) → IsKey name key → length bytes ≡ 8 → ((i : ℕ) → get_or bytes i 0 < 256)
     → (from_le_bytes w64 bytes * key.factor) % 2 ^ 64 ≡ key.word → take (length name + 1) bytes ≡ name ++ 9 ∷ []
 key_tells name bytes key is eight fit same =
-    let short = is.short in
     let size : length (name ++ 9 ∷ []) ≡ length name + 1 = length-append name (9 ∷ []) in
     let words : (worth bytes * key.factor) % 2 ^ 64 ≡ (worth (name ++ 9 ∷ []) * key.factor) % 2 ^ 64 =
     ap (λ (w : ℕ). (w * key.factor) % 2 ^ 64) (sym (worth_is bytes (omega arith))) ∙ same ∙ is.word
@@ -182,7 +176,6 @@ eight_begin text value room denotes = grind (arith, (digits_denoting (take 8 tex
 -- the digits that eight bytes begin with
 pub few_begin : (text bytes : List ℕ) (lead : ParsedNumber) → bytes ≡ take 8 text → 8 ≤ length text → BeginsWith bytes lead → BeginsWith text lead
 few_begin text bytes lead are room begins =
-    let within = begins.within in
     let size : length bytes ≡ 8 = ap length are ∙ length-take-le 8 text room in
     grind (arith, (take-take lead.end 8 text (omega arith)))
 
@@ -207,16 +200,12 @@ module _ (bytes name : List ℕ) (start stop : ParsedNumber) (has : HasColumns b
     front_is : (n : ℕ) → n ≤ length name + start.end + stop.end + 2 → take n text ≡ take n bytes
     front_is n small = ap (take n) (sym front) ∙ take-take n (length text) bytes (omega arith)
 
-    -- a byte of it
-    byte_is : (k : ℕ) → k < length name + start.end + stop.end + 2 → get_or text k 0 ≡ get_or bytes k 0
-    byte_is k small = grind (arith, get_or-take)
-
     -- a number in it
     number_in : (at : ℕ) (lead : ParsedNumber) → BeginsWith (drop at bytes) lead → at + lead.end ≤ length name + start.end + stop.end + 2 → take lead.end (drop at text) ≡ take lead.end (drop at bytes)
     number_in at lead begins small = grind (arith, (drop-take at lead.end text), (front_is (at + lead.end) small), (drop-take at lead.end bytes))
 
     pub line_named : BeginsWithName text name
-    line_named = grind (arith, name_in_front, byte_is, name_tab, bytes_eq-Decides, front_is, front_is_name)
+    line_named = grind (arith, name_in_front, get_or-take, name_tab, bytes_eq-Decides, front_is, front_is_name)
 
     leads_at : (at : ℕ) (lead : ParsedNumber) → BeginsWith (drop at bytes) lead → 0 < lead.end → at + lead.end ≤ length name + start.end + stop.end + 2 → (at + lead.end < length text → get_or text (at + lead.end) 0 ≡ 9)
         → Leads (drop at text) lead
@@ -229,14 +218,12 @@ module _ (bytes name : List ℕ) (start stop : ParsedNumber) (has : HasColumns b
 
     pub line_bounds : AreBounds text (length name) start stop
     line_bounds =
-        let tab : get_or text (length name + start.end + 1) 0 ≡ 9 = byte_is (length name + start.end + 1) (omega arith) ∙ has.tab in
-        let first_end : length name + 1 + start.end ≡ length name + start.end + 1 = omega arith in
+        let tab : get_or text (length name + start.end + 1) 0 ≡ 9 = (grind (arith, get_or-take)) ∙ has.tab in
         let second_end : length name + start.end + 2 + stop.end ≡ length name + start.end + stop.end + 2 = omega arith in
-        let second_at : length name + 1 + (start.end + 1) ≡ length name + start.end + 2 = omega arith in
         record {
-          first = leads_at (length name + 1) start has.first has.some_first (omega arith) (λ inside. ap (λ (i : ℕ). get_or text i 0) first_end ∙ tab);
+          first = leads_at (length name + 1) start has.first has.some_first (omega arith) (λ inside. ap (λ (i : ℕ). get_or text i 0) (omega arith) ∙ tab);
           inside = omega (arith, length-drop (length name + 1) text);
-          second = subst (λ (l : List ℕ). Leads l stop) (ap (λ (i : ℕ). drop i text) (sym second_at) ∙ sym (drop-drop (start.end + 1) (length name + 1) text))
+          second = subst (λ (l : List ℕ). Leads l stop) (ap (λ (i : ℕ). drop i text) (sym (omega arith)) ∙ sym (drop-drop (start.end + 1) (length name + 1) text))
               (leads_at (length name + start.end + 2) stop has.second has.some_second (omega arith) (λ inside. ap (λ (i : ℕ). get_or text i 0) second_end ∙ last_tab (omega arith)));
           below = has.below;
         }

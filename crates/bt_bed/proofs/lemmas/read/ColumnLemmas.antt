@@ -1,5 +1,5 @@
 -- Lemmas on the first columns of a line that are in order.
-use Rattle.bt_lines.proofs.Std.{common_steps, rules, ◌≡◌, ℕ, ◌+◌, ◌^◌, ◌<◌, ◌≤◌, Bool, true, false, List, [], ◌∷◌, ◌++◌, length, take, drop, get_or, Option, Some, Ok, refl, sym, ap, ◌∙◌, subst, arith, append_assoc, bytes_eq, eqb, ltb, length-take, is_ascii_digit, list_all, digits_value, get_or-append_seam, take-append_seam, drop-drop, drop_more, drop_all, length-append, take_all, take-append-drop, slice_split_none, length-slice_split, bytes_eq-Decides, Result, inl, inr, IfSome, cases_Bool, cases_lt, false≢true, drop_at, ◌-◌, decimal, eq-eqb, length-drop, IsTrue, not, strip_last, list_all_at, AllDigits, decimal-digits_value, get_or-drop, get_or-take, length-take-le, numerals_by_value, tells_digits}
+use Rattle.bt_lines.proofs.Std.{common_steps, rules, ◌≡◌, ℕ, ◌+◌, ◌^◌, ◌<◌, ◌≤◌, Bool, true, false, List, [], ◌∷◌, ◌++◌, length, take, drop, get_or, Some, Ok, refl, sym, ap, ◌∙◌, subst, arith, append_assoc, bytes_eq, eqb, ltb, length-take, is_ascii_digit, list_all, digits_value, get_or-append_seam, take-append_seam, drop-drop, drop_more, drop_all, length-append, take_all, take-append-drop, slice_split_none, length-slice_split, bytes_eq-Decides, inl, inr, IfSome, cases_Bool, cases_lt, false≢true, drop_at, ◌-◌, decimal, eq-eqb, length-drop, IsTrue, not, strip_last, list_all_at, AllDigits, decimal-digits_value, get_or-drop, get_or-take, length-take-le, numerals_by_value, tells_digits}
 use Rattle.bt_lines.proofs.lemmas.reader.lines.TextLemmas.{cut_at, IsColumn}
 use Rattle.bt_lines.proofs.lemmas.numbers.NumberLemmas.{digits_below, value_of_digits, all_digits_in, digits_denoting}
 use Rattle.bt_lines.specs.model.Lines.{pieces, value_of}
@@ -10,7 +10,6 @@ use Rattle.bt_bed.specs.inside.FirstColumns.{AreBounds, BeginsWith, BeginsWithNa
 use Rattle.bt_bed.specs.declared.parse.parsed_number.ParsedNumber.{ParsedNumber}
 use Rattle.bt_bed.specs.declared.record.strand.Strand.{Strand}
 use Rattle.bt_bed.specs.calls.Bed.{is_on, IsOnLine, kept_in, record_in, text_in}
-use Rattle.bt_lines.specs.declared.fault.Kind.{Kind}
 use Rattle.bt_bed.specs.declared.record.raw_record.RawRecord.{RawRecord}
 
 pub cut_by : (text : List ℕ) (n : ℕ) → n ≤ length text → (n < length text → get_or text n 0 ≡ 9) → IsColumn (take n text) → (b : Bool) → ltb n (length text) ≡ b → pieces 9 text ≡ take n text ∷ columns_in (drop n text)
@@ -98,7 +97,7 @@ module _ (text name : List ℕ) (r : Feature) (says : record_of text ≡ Ok (Som
   parsed_begins = grind (arith, stands, append_assoc, behind_name)
 
   pub parsed_name : EndsName text (length name)
-  parsed_name = name_ends text name (subst IsName on (said_is_feature text r said).named) parsed_begins
+  parsed_name = name_ends text name (subst IsName on (said_is_feature text r said).named) (grind (arith, stands, append_assoc, behind_name))
 
   abbrev pub first : List ℕ
   first = drop (length name + 1) text
@@ -137,12 +136,9 @@ module _ (text name : List ℕ) (r : Feature) (says : record_of text ≡ Ok (Som
   pub parsed_no_header : is_header text ≡ false
   parsed_no_header = (record_said text r says).0
 
-on_by : (name : List ℕ) (said : Result (Option Feature) Kind) → is_on name said ≡ true → (r : Feature) × (said ≡ Ok (Some r)) × (r.chrom ≡ name)
-on_by name said e = search rules
-
 -- a text that says a record on the chromosome
 pub parsed_of : (name text : List ℕ) → is_on name (record_of text) ≡ true → (r : Feature) × (record_of text ≡ Ok (Some r)) × (r.chrom ≡ name)
-parsed_of name text e = on_by name (record_of text) e
+parsed_of name text e = search rules
 
 -- one that doesn't begin with the name says none
 pub not_on : (name text : List ℕ) → (BeginsWithName text name → ⊥) → false ≡ is_on name (record_of text)
@@ -244,10 +240,6 @@ pub no_return_there : (bytes name line : List ℕ) (start stop : ParsedNumber) �
     → length name + start.end + stop.end + 2 ≤ length line → get_or line (length name + start.end + stop.end + 2 - 1) 0 ≡ 13 → ⊥
 no_return_there bytes name line start stop has front inside is =
     let from = length name + start.end + 2 in
-    let end = length name + start.end + stop.end + 2 in
-    let digits = take stop.end (drop from bytes) in
-    let some = has.some_second in
-    let last : stop.end - 1 < stop.end = omega (arith, some) in
-    let size : length digits ≡ stop.end = length-take-le stop.end (drop from bytes) has.second.within in
-    let place : from + (stop.end - 1) ≡ end - 1 = omega (arith, some) in
+    let size : length (take stop.end (drop from bytes)) ≡ stop.end = length-take-le stop.end (drop from bytes) has.second.within in
+    let place : from + (stop.end - 1) ≡ (length name + start.end + stop.end + 2) - 1 = omega (arith, has.some_second) in
     grind (arith, get_or-take, get_or-drop, list_all_at)

@@ -1,5 +1,5 @@
 -- Lemmas on the reader of records.
-use Rattle.bt_lines.proofs.Std.{common_steps, arith, ◌≡◌, ℕ, Bool, true, false, List, [], ◌∷◌, Option, Some, None, Ok, Err, take, refl, sym, ap, ◌∙◌, subst, IfSome, IsSome, IsTrue, Result, option_map, ForSome, false≢true, ◌≤◌, cond, bytes_eq, ◌&&◌, is_some, nat_lt, unwrap_or, nat_tests, bytes_eq-Decides, ◌+◌, ◌<◌, ◌++◌, drop, length, length-append, IfNone, strip_last, take-append-add, take-append_seam, ◌-◌, slice_range, take-add}
+use Rattle.bt_lines.proofs.Std.{common_steps, arith, ◌≡◌, ℕ, Bool, true, false, List, [], ◌∷◌, Option, Some, None, Ok, Err, take, refl, sym, ap, ◌∙◌, subst, IfSome, IsSome, IsTrue, Result, option_map, ForSome, false≢true, ◌≤◌, bytes_eq, ◌&&◌, is_some, nat_lt, unwrap_or, nat_tests, bytes_eq-Decides, ◌+◌, ◌<◌, ◌++◌, drop, length, length-append, IfNone, strip_last, take-append-add, take-append_seam, ◌-◌, slice_range, take-add}
 use Rattle.bt_lines.specs.declared.device.Source.{Ghosts as Source}
 use Rattle.bt_lines.specs.calls.Reader.{input_of, lines_left, fault_kept as line_fault, lines_in, lines_after, line_of, rest_in}
 use Rattle.bt_lines.specs.declared.fault.Fault.{Fault}
@@ -15,24 +15,21 @@ use Rattle.bt_bed.specs.model.BedLine.{IsFeature, is_bed_kind, is_record_kind, r
 use Rattle.bt_bed.specs.model.Good.{Member, good, bed_format, line_says, locus_at, said_after, in_order, wrong_lines_are_of_bed}
 use Rattle.bt_bed.specs.inside.OrderedLookahead.{last_in, start_after}
 use Rattle.bt_bed.specs.model.Order.{Order, IsTotal}
-use Rattle.bt_bed.specs.model.Sorted.{Locus, IsUpTo, Sorting, sorting_of, falls_in}
+use Rattle.bt_bed.specs.model.Sorted.{Locus, IsUpTo, Sorting, sorting_of}
 use Rattle.bt_bed.specs.calls.Reading.{Fills, FillAnswers, GivesMember, MemberReader, Takes, TellsOwnFailure, ahead_in, first_from, good_coming}
 use Rattle.bt_bed.specs.calls.Records.{FillsRecords, IsNext, TakesRecords, order_in, view_of}
-use Rattle.bt_bed.specs.calls.Bed.{is_on, placed_on, record_on, run_of, run_then, IsOnLine, raw_in, record_in, text_in}
+use Rattle.bt_bed.specs.calls.Bed.{is_on, record_on, run_of, run_then, IsOnLine, raw_in, record_in, text_in}
 use Rattle.bt_bed.specs.declared.read.sorted_reader.SortedReader.{SortedReader}
 use Rattle.bt_bed.specs.declared.read.sorted.ByOrder.{ByOrder}
 use Rattle.bt_bed.specs.declared.order.ChromOrder.{Ghosts}
 use Rattle.bt_bed.specs.declared.read.records.Records.{Records}
 use Rattle.bt_lines.specs.declared.fault.Kind.{Kind}
-use Rattle.bt_lines.specs.declared.fault.Kind.TheVariants.{UnknownChrom, OutOfOrder}
+use Rattle.bt_lines.specs.declared.fault.Kind.TheVariants.{UnknownChrom}
 use Rattle.bt_lines.specs.model.Lines.{TextLine}
 use Rattle.bt_lines.specs.calls.Line.{Cut, shown_of}
 use Rattle.bt_bed.proofs.lemmas.read.ColumnLemmas.{name_within}
 use Rattle.bt_bed.specs.declared.read.batch.Batch.{Batch}
 use Rattle.bt_bed.specs.declared.record.raw_record.RawRecord.{RawRecord}
-
-for_if : {A : Type 0} (o : Option A) (P : A → Type 0) → ForSome o P → IfSome o P
-for_if o P h = grind arith
 
 -- what is known of a record that a line says after the last one
 pub record BehindLast (order : Order) (last : Option Locus) (r : Feature) : Type 0 where
@@ -44,7 +41,7 @@ pub said_behind : (order : Order) (last : Option Locus) (text : List ℕ) (r : F
     → BehindLast order last r
 said_behind order last text r total known says =
     let said = line_said (sorting_of order) last text r says in
-    grind (arith, (said_features text r said.says), (sorted_up_to order last (locus_at r) total (for_if last (λ place. IsTrue (order.knows place.chrom)) known) said.known said.stays))
+    grind (arith, (said_features text r said.says), (sorted_up_to order last (locus_at r) total (grind arith) said.known said.stays))
 
 pub some_first : {A : Type 0} (line : ℕ) (items : List A) → IsSome (option_map (λ m. m.line) (first_from line items)) → (item : A) × (more : List A) × (items ≡ item ∷ more)
 some_first line items item = grind arith
@@ -54,14 +51,11 @@ module _ {S : Type 0} (reader : MemberReader S Feature (Option Locus)) (P : Memb
   pub ahead_is : (m : Member Feature) → ahead_in reader ≡ Some m → P m → IfSome (ahead_in reader) P
   ahead_is m is holds = subst (λ (o : Option (Member Feature)). IfSome o P) (sym is) holds
 
-last_one : (items : List Feature) (line : ℕ) (item : Feature) (more : List Feature) (state : Option Locus) → items ≡ item ∷ more → state ≡ Some (locus_at item) → state ≡ option_map (λ m. locus_at m.item) (first_from line items)
-last_one items line item more state e s = grind arith
-
 -- if the first of those buffered is taken, the record ahead is the last one
 pub passed_last : {S Q : Type 0} (device : Source S) (sorting : Sorting) (old new : SortedReader S Q) (item : Feature) (more : List Feature) → records_in old ≡ item ∷ more
     → Takes device (view_in sorting old) (take 1 (records_in old)) (view_in sorting new) → last_in new.lookahead ≡ option_map (λ m. locus_at m.item) (ahead_in (view_in sorting old))
 unfolding view_with
-passed_last device sorting old new item more is takes = last_one (records_in old) _ item more (last_in new.lookahead) is (takes.state ∙ rw is refl)
+passed_last device sorting old new item more is takes = grind arith
 
 module _ {S O : Type 0} {g : Ghosts O} (device : Source S) where
   given : (old new : Records S O g) (m : Member Feature) → IsTotal (order_in old) → GivesMember device (view_of old) m (view_of new) → IfSome (ahead_in (view_of new)) (λ m. IsFeature m.item × IsNext old m.item)
@@ -146,13 +140,9 @@ pub says_of_line : (sorting : Sorting) (last : Option Locus) (text : List ℕ) (
 unfolding line_says
 says_of_line sorting last text kind e = said_is_of_line sorting last (record_of text) kind e (λ k h. wrong_is_of_line text k (sym h))
 
--- an unknown chromosome is one that the order doesn't know
-unknown_by : (b : Bool) (name : List ℕ) (known falls : Bool) (r : Feature) → b ≡ known → cond known (cond falls (Err OutOfOrder) (Ok (Some r))) (Err UnknownChrom) ≡ Err UnknownChrom → b ≡ false
-unknown_by b name known falls r is e = grind arith
-
 unknown_said : (order : Order) (last : Option Locus) (said : Result (Option Feature) Kind) → said_after (sorting_of order) last said ≡ Err UnknownChrom → ((k : Kind) → said ≡ Err k → is_record_kind k ≡ true) → (name : List ℕ) × (order.knows name ≡ false)
 unknown_said order last (Ok None) e h = cc
-unknown_said order last (Ok (Some r)) e h = (r.chrom, unknown_by (order.knows r.chrom) r.chrom (order.knows r.chrom) (falls_in (sorting_of order) last (locus_at r)) r refl e)
+unknown_said order last (Ok (Some r)) e h = (r.chrom, grind arith)
 unknown_said order last (Err k) e h =
     let is : k ≡ UnknownChrom = cc in
     absurd (false≢true (subst (λ (kind : Kind). is_record_kind kind ≡ true) is (h k refl)))
@@ -171,10 +161,6 @@ start_at name start = option_map (λ s. record { chrom = name; start = s }) star
 pub held_same : (name chrom : List ℕ) (last : Option ℕ) → is_some last && bytes_eq name chrom ≡ true → (name ≡ chrom) × (unwrap_or last 0 ≡ start_after (start_at name last) chrom)
 held_same name chrom last e = grind (arith, bytes_eq-Decides)
 
--- if it is another
-pub held_other : (name chrom : List ℕ) (last : Option ℕ) → is_some last && bytes_eq name chrom ≡ false → 0 ≡ start_after (start_at name last) chrom
-held_other name chrom last e = grind arith
-
 -- Lemmas on the records on one chromosome that lines begin with.
 
 -- a record on the chromosome that doesn't start below
@@ -187,13 +173,10 @@ pub placed_below : (name : List ℕ) (start : ℕ) (text : List ℕ) (r : Featur
 unfolding record_on
 placed_below name start text r says below = grind arith
 
-not_placed_by : (name : List ℕ) (start : ℕ) (said : Result (Option Feature) Kind) → is_on name said ≡ false → placed_on name start said ≡ None
-not_placed_by name start said e = grind arith
-
 -- no record on the chromosome
 pub placed_elsewhere : (name : List ℕ) (start : ℕ) (text : List ℕ) → is_on name (record_of text) ≡ false → record_on name start text ≡ None
 unfolding record_on
-placed_elsewhere name start text e = not_placed_by name start (record_of text) e
+placed_elsewhere name start text e = grind arith
 
 -- the records that lines begin with, by their first one
 pub run_some : (name : List ℕ) (start : ℕ) (line : TextLine) (lines : List TextLine) (r : Feature) → record_on name start line.text ≡ Some r → run_of name start (line ∷ lines) ≡ r ∷ run_of name r.start lines
@@ -213,10 +196,6 @@ run_nil name start lines e = ap (run_of name start) e
 pub none_holds : {A : Type 0} (o : Option A) (P : Type 0) → P → IfNone o P
 none_holds o P p = grind arith
 
--- the bytes of a line are those before its line feed, and that
-line_there : (line bytes : List ℕ) → take (length line) bytes ≡ line → Cut bytes (shown_of line) → take (length line + 1) bytes ≡ line ++ 10 ∷ []
-line_there line bytes front cut = grind (arith, take-append_seam, take-append-add)
-
 -- bytes that a record's line begins aren't empty
 pub some_bytes : (raw : RawRecord) (line bytes : List ℕ) → raw.line.now ≡ line → take (length line) bytes ≡ line → 0 < length bytes
 some_bytes raw line bytes is front = grind (arith, name_within)
@@ -234,22 +213,16 @@ module _ (batch : Batch) (line : List ℕ) (front : take (length line) (rest_in 
   unfolding left left_after chrom_in start_in cursor_in text_in raw_in rest_in
   stands_first raw is above = record {
     left_is =
-        ap (λ l. left_of l) first
+        ap (λ l. run_of batch.name.now batch.start l) first
         ∙ run_some (chrom_in batch) (start_in batch) (line_of (cursor_in batch) (shown_of line)) (lines_after (cursor_in batch) (length line + 1)) (record_in raw)
         (placed_there (chrom_in batch) (start_in batch) (strip_last 13 line) (record_in raw) is.says is.chrom above)
-        ∙ ap (λ l. record_in raw ∷ behind (drop 1 l)) (sym first);
+        ∙ ap (λ l. record_in raw ∷ (run_of batch.name.now (record_in raw).start (drop 1 l))) (sym first);
     line = shown_of line;
     cut = cut;
     text_is = ap (strip_last 13) is.line_is;
     size_is = sym (length-append line (10 ∷ [])) ∙ ap (λ l. length (l ++ 10 ∷ [])) (sym is.line_is);
-    bytes_are = line_there line (rest_in (cursor_in batch)) front cut ∙ ap (λ l. l ++ 10 ∷ []) (sym is.line_is);
+    bytes_are = (grind (arith, take-append_seam, take-append-add)) ∙ ap (λ l. l ++ 10 ∷ []) (sym is.line_is);
   }
-    where
-      left_of : List TextLine → List Feature
-      left_of l = run_of batch.name.now batch.start l
-
-      behind : List TextLine → List Feature
-      behind l = run_of batch.name.now (record_in raw).start l
 
   -- none is left if it starts below
   pub none_below : (raw : RawRecord) → IsOnLine line (chrom_in batch) raw → (record_in raw).start < start_in batch → left batch ≡ []
@@ -269,13 +242,9 @@ module _ (batch : Batch) (line : List ℕ) (front : take (length line) (rest_in 
 pub one_more : (at size : ℕ) (bytes line : List ℕ) → take size (drop at bytes) ≡ line → take (at + size) bytes ≡ take at bytes ++ line
 one_more at size bytes line is = take-add at size bytes ∙ ap (λ l. take at bytes ++ l) is
 
--- a prefix of a prefix
-take_less : (n m : ℕ) (bytes : List ℕ) → n ≤ m → m ≤ length bytes → take n (take m bytes) ≡ take n bytes
-take_less n m bytes less within = grind (arith, common_steps)
-
 -- the bytes between two offsets
 pub bytes_between : (from to at : ℕ) (bytes : List ℕ) → from ≤ to → to ≤ at → at ≤ length bytes
     → take to (take at bytes) ≡ take from (take at bytes) ++ slice_range bytes from to
 bytes_between from to at bytes ordered within inside =
     let same : to ≡ from + (to - from) = omega (arith, ordered) in
-    grind (arith, take_less, take-add)
+    grind (arith, common_steps, take-add)

@@ -1,5 +1,5 @@
 -- Lemmas on a reader of sorted records.
-use Rattle.bt_lines.proofs.Std.{◌≡◌, ℕ, suc, ◌+◌, ◌-◌, ◌<◌, ◌≤◌, Bool, true, false, List, [], ◌∷◌, ◌++◌, length, take, drop, Option, Some, None, Ok, refl, sym, ap, ◌∙◌, subst, arith, length-take, take-append-drop, if◌then◌else◌, IfSome, IsTrue, is_some, option_map, ForSome, Result, Err, inl, inr}
+use Rattle.bt_lines.proofs.Std.{◌≡◌, ℕ, suc, ◌-◌, ◌<◌, ◌≤◌, Bool, true, false, List, [], ◌∷◌, ◌++◌, length, take, drop, Option, Some, None, Ok, refl, sym, ap, ◌∙◌, subst, arith, length-take, take-append-drop, if◌then◌else◌, IfSome, IsTrue, option_map, ForSome, Result, Err, inl, inr}
 use Rattle.bt_lines.specs.declared.device.Source.{Ghosts as Source}
 use Rattle.bt_lines.proofs.lemmas.reader.lines.TakingLemmas.{is_prefix, next_bytes, next_number}
 use Rattle.bt_lines.specs.calls.Reader.{DropsLines, TakesLines, bytes_left, buffered_in as lines_buffered, fault_kept as line_fault, input_of, lines_given, lines_left, source_of, GivesEnd, GivesFault, HasRead, IsKept, MakesLine, bytes_taken}
@@ -104,7 +104,7 @@ module _ {S Q : Type 0} (device : Source S) (sorting : Sorting) (old : SortedRea
 
   was : (old.is_ahead ≡ true) × (run_of (name_in old.lookahead) (start_in old.lookahead) (lines_buffered old.reader) ≡ parts.0 ∷ (parts.1 ++ rest))
   unfolding buffered_in
-  was = is_ahead_by old.is_ahead (run_of (name_in old.lookahead) (start_in old.lookahead) (lines_buffered old.reader)) parts.0 (parts.1 ++ rest) parts.3
+  was = grind arith
 
   run_then : run_of (name_in lookahead) (start_in lookahead) (lines_buffered reader) ≡ rest
   run_then = grind (arith, (run_behind (name_in old.lookahead) (start_in old.lookahead) (lines_buffered old.reader) (parts.0 ∷ parts.1) rest was.1))
@@ -196,14 +196,11 @@ module _ {Q : Type 0} (sorting : Sorting) (old new : OrderedLookahead Q) (line :
   pub found_run : run_of (name_in new) (start_in new) (line ∷ more) ≡ r ∷ run_of (name_in new) r.start more
   found_run = grind (arith, (line_said sorting (last_in old) line.text r says), run_some, placed_there)
 
-  pub found_said : AreSaid (bed_format sorting) (last_in old) (run_of (name_in new) (start_in new) (line ∷ more))
-  found_said = grind (arith, (line_said sorting (last_in old) line.text r says), found_run, run_is_said)
-
   pub found_buffered : (lines : List TextLine) → lines ≡ line ∷ more → run_of (name_in new) (start_in new) lines ≡ r ∷ run_of (name_in new) r.start more
   found_buffered lines e = ap (run_of (name_in new) (start_in new)) e ∙ found_run
 
   pub found_in_order : (lines : List TextLine) → lines ≡ line ∷ more → are_in_order sorting (last_in old) (run_of (name_in new) (start_in new) lines) ≡ true
-  found_in_order lines e = grind (arith, said_in_order, found_said)
+  found_in_order lines e = grind (arith, said_in_order, (line_said sorting (last_in old) line.text r says), found_run, run_is_said)
 
   pub found_some : (lines : List TextLine) → lines ≡ line ∷ more → is_some_left (run_of (name_in new) (start_in new) lines) ≡ true
   found_some lines e = ap is_some_left (found_buffered lines e)
@@ -214,18 +211,12 @@ pub record Found {Q : Type 0} (sorting : Sorting) (old new : OrderedLookahead Q)
   pub says : line_says sorting (last_in old) text ≡ Ok (Some r)
   pub holds : HoldsChrom old r.chrom new
 
-found_by : {Q : Type 0} (sorting : Sorting) (old new : OrderedLookahead Q) (text : List ℕ) (said : Option Feature) → line_says sorting (last_in old) text ≡ Ok said → true ≡ is_some said → IfSome said (λ r. HoldsChrom old r.chrom new) → Found sorting old new text
-found_by sorting old new text said says e holds = grind arith
-
 pub found_of : {Q : Type 0} (sorting : Sorting) (old new : OrderedLookahead Q) (text : List ℕ) → LineTaken sorting text old true new → Found sorting old new text
-found_of sorting old new text taken = found_by sorting old new text taken.said taken.says taken.is taken.ahead
-
-said_none : (said : Option Feature) → false ≡ is_some said → said ≡ None
-said_none said e = grind arith
+found_of sorting old new text taken = grind arith
 
 -- one that wasn't says nothing
 pub skipped_of : {Q : Type 0} (sorting : Sorting) (old new : OrderedLookahead Q) (text : List ℕ) → LineTaken sorting text old false new → line_says sorting (last_in old) text ≡ Ok None
-skipped_of sorting old new text taken = taken.says ∙ ap (λ o. Ok o) (said_none taken.said taken.is)
+skipped_of sorting old new text taken = taken.says ∙ ap (λ o. Ok o) (grind arith)
 
 -- Lemmas on how a reader of sorted records reads on.
 
@@ -372,13 +363,10 @@ module _ {S Q : Type 0} (device : Source S) (sorting : Sorting) where
     read_fault before fault taken = lost_is_own Bool device.is_read before old new.reader fault (read_on device old mid.reader new.reader read taken.takes.takes) (record { input = input_of mid.reader; line = taken.line.number })
         (line_says rules (last_in mid.lookahead) taken.line.text) (λ kind e. bed_of_line kind (says_of_line rules (last_in mid.lookahead) taken.line.text kind e)) taken.takes.cause
 
-some_parts : (records : List Feature) → is_some_left records ≡ true → (r : Feature) × (more : List Feature) × (records ≡ r ∷ more)
-some_parts records r = grind arith
-
 module _ {S Q : Type 0} (sorted : SortedReader S Q) (some : sorted.is_ahead ≡ true) where
   ahead_parts : (r : Feature) × (more : List Feature) × (buffered_in sorted ≡ r ∷ more)
   unfolding buffered_in
-  ahead_parts = some_parts (ahead_of sorted.is_ahead sorted.reader sorted.lookahead) (sorted.ahead some)
+  ahead_parts = grind arith
 
   run_is : run_of (name_in sorted.lookahead) (start_in sorted.lookahead) (lines_buffered sorted.reader) ≡ ahead_parts.0 ∷ ahead_parts.1
   unfolding buffered_in

@@ -1,22 +1,22 @@
 -- Lemmas on lines that a reader of records takes one after another.
 use Rattle.bt_lines.proofs.Std.{◌≡◌, ℕ, suc, ◌+◌, ◌-◌, ◌^◌, ◌<◌, ◌≤◌, List, [], ◌∷◌, ◌++◌, length, take, drop, Option, Some, None, sym, ap, ◌∙◌, arith, false, length-append, IfSome, option_map, take-append-add, drop-drop, true, Ok, Err, refl, inl, inr, ◌⊎◌, Result}
 use Rattle.bt_lines.specs.declared.device.Source.{Ghosts as Source}
-use Rattle.bt_lines.proofs.lemmas.reader.lines.TakingLemmas.{hands_both, hands_none, is_prefix, near_next, not_told, given_below, next_below}
+use Rattle.bt_lines.proofs.lemmas.reader.lines.TakingLemmas.{hands_both, hands_none, is_prefix, near_next, not_told, next_below}
 use Rattle.bt_lines.proofs.lemmas.reader.lines.TextLemmas.{line_feeds-append, lines_are_numbered}
 use Rattle.bt_lines.specs.model.Fault.{FaultValue, read_failed, no_memory}
 use Rattle.bt_lines.specs.calls.Line.{GivesFirst}
-use Rattle.bt_lines.specs.model.Lines.{TextLine, AreNumbered, bytes_in, line_feeds, lines_from}
+use Rattle.bt_lines.specs.model.Lines.{TextLine, AreNumbered, bytes_in, line_feeds}
 use Rattle.bt_lines.specs.calls.Output.{block_size}
-use Rattle.bt_lines.specs.calls.Reader.{CutsOff, DropsLines, GivesFault, Hands, IsKept, IsNear, MakesLine, TakenLines, TakesLines, buffered_bytes, buffered_in, bytes_left, bytes_taken, fault_kept, has_ended, held, input_of, lines_given, lines_left, room, source_of, FailsToRead, GivesEnd, end_told, room as line_room, fault_kept as line_fault, HasRead, TellsOwnFailure as LineTellsOwnFailure}
+use Rattle.bt_lines.specs.calls.Reader.{CutsOff, DropsLines, GivesFault, Hands, IsKept, IsNear, MakesLine, TakenLines, TakesLines, buffered_bytes, buffered_in, bytes_taken, fault_kept, has_ended, held, input_of, lines_given, lines_left, room, source_of, FailsToRead, GivesEnd, end_told, room as line_room, fault_kept as line_fault, HasRead, TellsOwnFailure as LineTellsOwnFailure}
 use Rattle.bt_lines.specs.declared.reader.buffered_lines.ConsumedLines.{ConsumedLines}
 use Rattle.bt_lines.specs.declared.reader.line_reader.LineReader.{LineReader}
-use Rattle.bt_bed.specs.calls.Reading.{LinesPass, IsBeyond, MemberReader, Remains, first_from, good_behind, good_coming, Stays, Takes, GivesMember, EndsMembers, LineIsWrong, RunsOut, Cause, AnswersFault, IsLost, TellsOwnFailure}
+use Rattle.bt_bed.specs.calls.Reading.{LinesPass, IsBeyond, MemberReader, Remains, first_from, good_behind, good_coming, Stays, GivesMember, EndsMembers, LineIsWrong, RunsOut, Cause, AnswersFault, IsLost, TellsOwnFailure}
 use Rattle.bt_lines.specs.declared.fault.Input.{Input}
 use Rattle.bt_lines.specs.declared.fault.Kind.{Kind}
 use Rattle.bt_bed.proofs.lemmas.read.good.SaidLemmas.{beyond_from}
 use Rattle.bt_bed.specs.model.Good.{with_member, Format, Good, Member, ends_with, good, good_from}
 use Rattle.bt_bed.specs.model.BedLine.{fault_at_line, is_of_line}
-use Rattle.bt_lines.proofs.lemmas.reader.block.ReadsLemmas.{some_is, tells_no_memory, tells_read, tells_then}
+use Rattle.bt_lines.proofs.lemmas.reader.block.ReadsLemmas.{tells_no_memory, tells_read, tells_then}
 use Rattle.bt_lines.specs.calls.Names.{fault_value}
 use Rattle.bt_lines.specs.declared.fault.Fault.{Fault}
 use Rattle.bt_lines.specs.declared.fault.Place.{Place}
@@ -30,15 +30,9 @@ pub near_pass : (a b : Option (List TextLine)) (rest : Option (List ℕ)) (i j k
     → IfSome a (λ all. IfSome rest (λ bytes. bytes_in (drop k all) ≤ length bytes + block_size))
 near_pass a b rest i j k p e q = grind (arith, drop-drop)
 
-numbered_by : (n : ℕ) (bytes : Option (List ℕ)) → IfSome (option_map (lines_from n) bytes) (AreNumbered n)
-numbered_by n bytes = grind (arith, lines_are_numbered)
-
 -- the first n bytes of two texts, if the first text has at most n
 pub front_of_both : (first second : List ℕ) (n m : ℕ) → n ≡ length first + m → take n (first ++ second) ≡ first ++ take m second
 front_of_both first second n m e = rw e (take-append-add first second m)
-
-same_pass : (a b : Option (List TextLine)) (n m : ℕ) → DropsLines a 0 b → m ≡ n → IfSome a (λ all. b ≡ Some (drop (m - n) all))
-same_pass a b n m s e = grind arith
 
 pub drops_pass : (a b : Option (List TextLine)) (count k : ℕ) → DropsLines a count b → k ≡ count → IfSome a (λ all. b ≡ Some (drop k all))
 drops_pass a b count k d e = grind arith
@@ -96,10 +90,7 @@ module _ {S : Type 0} (device : Source S) where
 
   -- the lines that are left are numbered on from those given
   pub left_numbered : (reader : LineReader S) → IfSome (lines_left device.left reader) (AreNumbered (suc (lines_given reader)))
-  left_numbered reader = numbered_by (suc (lines_given reader)) (bytes_left device.left reader)
-
-  first_drops : (old : Option (List TextLine)) (line : TextLine) (new : Option (List TextLine)) → GivesFirst old line new → IfSome old (λ lines. new ≡ Some (drop 1 lines))
-  first_drops old line new h = grind arith
+  left_numbered reader = grind (arith, lines_are_numbered)
 
   -- of known bytes, those after one more line are left
   pub near_came : (old new : LineReader S) → Came old new → IsNear device.left old new
@@ -109,7 +100,7 @@ module _ {S : Type 0} (device : Source S) where
   module _ (old now new : LineReader S) (p : Came old now) where
     pub came_line : (line : TextLine) → LineCame device now line new → (IsKept device now → IsKept device new) → Came old new
     came_line line came kept = record {
-      lines = pass_more (lines_left device.left old) (lines_left device.left now) (lines_left device.left new) (lines_given now - lines_given old) 1 (lines_given new - lines_given old) p.lines (first_drops (lines_left device.left now) line (lines_left device.left new) came.first) (omega (arith, came.counted, p.least));
+      lines = pass_more (lines_left device.left old) (lines_left device.left now) (lines_left device.left new) (lines_given now - lines_given old) 1 (lines_given new - lines_given old) p.lines (grind arith) (omega (arith, came.counted, p.least));
       least = omega (arith, came.counted, p.least);
       bytes = (p.bytes.0 ++ came.bytes.0, hands_both device.left old now new p.bytes.0 came.bytes.0 p.bytes.1 came.bytes.1);
       kept = λ was. kept (p.kept was);
@@ -119,7 +110,7 @@ module _ {S : Type 0} (device : Source S) where
     pub came_made : MakesLine device now new → (IsKept device now → IsKept device new) → Came old new
     came_made makes kept = record {
       lines = pass_more (lines_left device.left old) (lines_left device.left now) (lines_left device.left new) (lines_given now - lines_given old) (lines_given new - lines_given now) (lines_given new - lines_given old) p.lines
-          (same_pass (lines_left device.left now) (lines_left device.left new) (lines_given now) (lines_given new) makes.same makes.counted) (omega (arith, makes.counted, p.least));
+          (grind arith) (omega (arith, makes.counted, p.least));
       least = omega (arith, makes.counted, p.least);
       bytes = (p.bytes.0 ++ makes.bytes.0, hands_both device.left old now new p.bytes.0 makes.bytes.0 p.bytes.1 makes.bytes.1);
       kept = λ was. kept (p.kept was);
@@ -136,16 +127,10 @@ module _ {S : Type 0} (device : Source S) where
     cut_fault fault gives going is kept =
         let cut = gives.cut_off going is in
         let within : bytes_taken now < 2 ^ 63 = (p.kept kept).within going in
-        let fed = p.bytes.1.fed (gives.before_end going) within in
-        let counted = p.bytes.1.counted in
-        let given = cut.given in
         let front = front_of_both p.bytes.0 cut.bytes (2 ^ 63 - 1 - bytes_taken old) (2 ^ 63 - 1 - bytes_taken now) (omega arith) in
         grind (arith, (hands_both device.left old now new p.bytes.0 cut.bytes p.bytes.1 cut.hands), (line_feeds-append p.bytes.0 (take (2 ^ 63 - 1 - bytes_taken now) cut.bytes)))
 
 -- Lemmas on a step of a reader of members, whatever the lines say.
-
-pub remains_same : {A : Type 0} (a : Option (Good A)) → Remains a a
-remains_same a = grind arith
 
 remains_further : {A : Type 0} (a b c : Option (Good A)) → Remains a b → Remains b c → Remains a c
 remains_further a b c p q = grind arith
@@ -195,9 +180,6 @@ buffered_below : {S : Type 0} (reader : LineReader S) → 0 < length (buffered_b
 unfolding buffered_bytes
 buffered_below reader some = next_below reader some
 
-all_given : (a b : Option (List TextLine)) (i k : ℕ) → IfSome a (λ all. b ≡ Some (drop i all)) → IfSome b (λ lines. lines ≡ []) → k ≡ i → IfSome a (λ all. drop k all ≡ [])
-all_given a b i k p q e = grind arith
-
 beyond_lines : {A State : Type 0} (format : Format A State) (input : Input) (state : State) (count : ℕ) (lines : Option (List TextLine)) → IfSome lines (AreNumbered (suc count)) → IfSome (option_map (good_behind format input None state) lines) (IsBeyond count)
 beyond_lines format input state count lines n = grind (arith, beyond_from)
 
@@ -207,9 +189,6 @@ module _ {S A State : Type 0} (device : Source S) where
       → good_coming device.left reader ≡ option_map (good_behind reader.format (input_of reader.below) None reader.state) (lines_left device.left reader.below)
   unfolding good_coming
   good_is reader going = rw going refl
-
-  stays_same : (reader : MemberReader S A State) → Stays device.left reader reader
-  stays_same reader = record { bytes = ([], hands_none device.left reader.below); format = refl }
 
   -- lines were read from the reader
   pub record Begun (old : MemberReader S A State) : Type 0 where
@@ -238,10 +217,6 @@ module _ {S A State : Type 0} (device : Source S) where
   module _ (old : MemberReader S A State) where
     pub going_start : old.buffered ≡ [] → old.fault ≡ line_fault old.below → Going old old
     going_start none rest = grind arith
-
-    -- the old reader had no fault
-    was_faultless : (now : MemberReader S A State) → Going old now → line_fault now.below ≡ None → old.fault ≡ None
-    was_faultless now g going = grind arith
 
     more_bytes : (now : MemberReader S A State) (reader : LineReader S) → Going old now → (bytes : List ℕ) × Hands device.left now.below bytes reader → (bytes : List ℕ) × Hands device.left old.below bytes reader
     more_bytes now reader g more = (g.passed.bytes.0 ++ more.0, hands_both device.left old.below now.below reader g.passed.bytes.0 more.0 g.passed.bytes.1 more.1)
@@ -277,23 +252,16 @@ module _ {S A State : Type 0} (device : Source S) where
     lines_first : (a b : Option (List TextLine)) (line : TextLine) (more buffered : List TextLine) → IfSome b (λ all. take (length buffered) all ≡ buffered) → buffered ≡ line ∷ more → IfSome b (λ lines. (rest : List TextLine) × (lines ≡ line ∷ rest))
     lines_first a b line more buffered p is = grind arith
 
-    good_same : (now new : MemberReader S A State) → now.fault ≡ None → new.fault ≡ None → MakesLine device now.below new.below → Follows now new → Remains (good_coming device.left now) (good_coming device.left new)
-    good_same now new going goes makes follows = grind (arith, good_is)
-
     -- a line was made buffered that says a member
     pub going_member : (now new : MemberReader S A State) (line : TextLine) (more : List TextLine) (item : A) (items : List A) → Going old now → MakesLine device now.below new.below
         → (IsKept device now.below → IsKept device new.below) → buffered_in new.below ≡ line ∷ more → line.number ≡ suc (lines_given new.below)
         → now.format.says now.state line ≡ Ok (Some item) → new.buffered ≡ item ∷ items → new.fault ≡ line_fault new.below → Follows now new
         → GivesMember device old (record { line = line.number; item = item }) new
     going_member now new line more item items g makes kept first number says buffered rest follows =
-        let m : Member A = record { line = line.number; item = item } in
-        let goes : new.fault ≡ None = rest ∙ makes.goes in
-        let went : now.fault ≡ None = g.rest ∙ makes.was_going.0 in
-        let good = remains_further (good_coming device.left old) (good_coming device.left now) (good_coming device.left new) g.good (good_same now new went goes makes follows) in
+        let good = remains_further (good_coming device.left old) (good_coming device.left now) (good_coming device.left new) g.good (grind (arith, good_is)) in
         let came = came_made device old.below now.below new.below g.passed makes kept in
-        let input : input_of new.below ≡ input_of now.below = makes.bytes.1.same_input in
-        let there : IfSome (good_coming device.left new) (λ good. (rest : List (Member A)) × (good.members ≡ m ∷ rest)) =
-        rw (good_is new goes, follows.state, follows.format)
+        let there : IfSome (good_coming device.left new) (λ good. (rest : List (Member A)) × (good.members ≡ (record { line = line.number; item = item }) ∷ rest)) =
+        rw (good_is new (rest ∙ makes.goes), follows.state, follows.format)
         (good_first now.format (input_of new.below) now.state line item (lines_left device.left new.below) (lines_first (lines_left device.left now.below) (lines_left device.left new.below) line more (buffered_in new.below) (is_prefix device.left new.below) first) says) in
         grind (arith, buffered_below, near_came, same_room)
 
@@ -301,22 +269,16 @@ module _ {S A State : Type 0} (device : Source S) where
     wrong_cause : (now new : MemberReader S A State) (line : TextLine) (fault : FaultValue) (kind : Kind) → Going old now → LineCame device now.below line new.below
         → now.format.says now.state line ≡ Err kind → is_of_line kind ≡ true → fault ≡ fault_at_line (input_of old.below) line.number kind → LineIsWrong device old fault new
     wrong_cause now new line fault kind g gives says of_line is =
-        let counted : line.number ≡ lines_given new.below = gives.number ∙ sym gives.counted in
         let before = good_is now (g.rest ∙ gives.was_going.0) in
         let none : IfSome (good_coming device.left now) (λ good. good ≡ ends_with (Some (fault_at_line (input_of now.below) line.number kind))) =
         rw before (good_fault now.format (input_of now.below) now.state line (lines_left device.left now.below) (lines_left device.left new.below) kind gives.first says) in
         grind arith
 
-    first_came : (a b : Option (List TextLine)) (line : TextLine) → GivesFirst a line b → IfSome a (λ lines. (rest : List TextLine) × (lines ≡ line ∷ rest))
-    first_came a b line g = grind arith
-
     -- a member that couldn't be kept was good
     unkept_cause : (now new : MemberReader S A State) (line : TextLine) (fault : FaultValue) (item : A) → Going old now → LineCame device now.below line new.below
         → now.format.says now.state line ≡ Ok (Some item) → fault ≡ no_memory → RunsOut device old fault new
     unkept_cause now new line fault item g gives says is =
-        let IsGood : Good A → Type 0 = λ good. (item : A) × (rest : List (Member A)) × (good.members ≡ record { line = lines_given new.below; item = item } ∷ rest) in
-        let counted : line.number ≡ lines_given new.below = gives.number ∙ sym gives.counted in
-        let first = good_first now.format (input_of now.below) now.state line item (lines_left device.left now.below) (first_came (lines_left device.left now.below) (lines_left device.left new.below) line gives.first) says in
+        let first = good_first now.format (input_of now.below) now.state line item (lines_left device.left now.below) (grind arith) says in
         grind (arith, good_is)
 
     lost_by : (now new : MemberReader S A State) (line : TextLine) (fault : FaultValue) → Going old now → LineCame device now.below line new.below → new.fault ≡ Some fault → new.buffered ≡ [] → Follows now new → (IsKept device now.below → IsKept device new.below)
@@ -338,7 +300,6 @@ module _ {S A State : Type 0} (device : Source S) where
     -- the line couldn't be read
     read_cause : (now new : MemberReader S A State) (fault : FaultValue) → Going old now → GivesFault device now.below fault new.below → line_fault now.below ≡ None → FailsToRead device now.below fault new.below ⊎ (fault ≡ no_memory) → Cause device old fault new
     read_cause now new fault g gives going (inl fails) =
-        let said = rw (sym gives.counted) at (beyond now g going) in
         inr (inl (record {
           fails = record {
             is = fails.is ∙ ap (λ i. read_failed i (suc (lines_given now.below))) (same_input now g) ∙ ap (λ n. read_failed (input_of old.below) (suc n)) (sym gives.counted);
@@ -346,13 +307,9 @@ module _ {S A State : Type 0} (device : Source S) where
             before_end = not_told (end_told old.below) (end_told now.below) g.passed.bytes.1.told_stays (gives.before_end going);
             cut = cut_fault device old.below now.below new.below g.passed fault gives going fails.is;
           };
-          passed = said;
+          passed = rw (sym gives.counted) at (beyond now g going);
         }))
     read_cause now new fault g gives going (inr is) = grind (arith, beyond)
-
-    again_by : (now new : MemberReader S A State) (fault : FaultValue) → Going old now → GivesFault device now.below fault new.below → new.fault ≡ Some fault → (new.below ≡ now.below → new.fault ≡ now.fault → new ≡ now) → (now ≡ old) ⊎ Begun old → (before : FaultValue) → old.fault ≡ Some before
-        → (fault ≡ before) × (new ≡ old)
-    again_by now new fault before gives is track e h kept = grind arith
 
     pub going_unread : (now new : MemberReader S A State) (fault : FaultValue) → Going old now → GivesFault device now.below fault new.below → new.fault ≡ Some fault → new.buffered ≡ [] → Follows now new → (new.below ≡ now.below → new.fault ≡ now.fault → new ≡ now)
         → AnswersFault device old fault new
@@ -361,17 +318,13 @@ module _ {S A State : Type 0} (device : Source S) where
       was_none = g.was_none;
       none_buffered = ahead;
       state = follows.state ∙ g.state;
-      again = again_by now new fault g gives kept track g.begun;
+      again = grind arith;
       first = λ none. let going = sym g.rest ∙ g.going none in read_cause now new fault g gives going (gives.first going);
       stays = stays_more now new g gives.bytes follows;
       rises = omega (arith, g.passed.least, gives.counted);
       lines = λ none. absurd (let apart : None ≡ Some fault = sym none ∙ gives.kept in cc);
       near = λ none sound. near_fault device old.below now.below new.below g.passed fault gives (sym g.rest ∙ g.going none);
     }
-
-    -- no line was left
-    end_again : (now new : MemberReader S A State) → Going old now → GivesEnd device now.below new.below → new.fault ≡ line_fault new.below → (new.below ≡ now.below → new.fault ≡ now.fault → new ≡ now) → (now ≡ old) ⊎ Begun old → has_ended old.below ≡ true → new ≡ old
-    end_again now new g gives rest track e ended = grind arith
 
     room_at_end : (now : LineReader S) (reader : LineReader S) → GivesEnd device now reader → line_room reader ≤ line_room now
     room_at_end now reader gives = let counted = gives.bytes.1.counted in rw gives.nothing_held (omega arith)
@@ -381,7 +334,6 @@ module _ {S A State : Type 0} (device : Source S) where
     going_end now new g gives ahead rest follows track =
         let none : IfSome (good_coming device.left now) (λ good. good ≡ ends_with None) =
         rw (good_is now (g.rest ∙ gives.was_going)) (good_end now.format (input_of now.below) now.state (lines_left device.left now.below) gives.none_left) in
-        let falls = room_at_end now.below new.below gives in
         record {
           none_left = remains_if (good_coming device.left old) (good_coming device.left now) (λ good. good ≡ ends_with None) g.good none;
           none_comes = rw (good_is new (rest ∙ gives.goes)) (good_end new.format (input_of new.below) new.state (lines_left device.left new.below) gives.none_comes);
@@ -391,13 +343,13 @@ module _ {S A State : Type 0} (device : Source S) where
           ends = gives.ends;
           told = gives.told;
           rises = omega (arith, g.passed.least, gives.counted);
-          lines = all_given (lines_left device.left old.below) (lines_left device.left now.below) (lines_given now.below - lines_given old.below) (lines_given new.below - lines_given old.below) g.passed.lines gives.none_left (ap (λ n. n - lines_given old.below) gives.counted);
-          again = end_again now new g gives rest track g.begun;
+          lines = grind arith;
+          again = grind arith;
           served = gives.served ∙ g.served;
-          was_going = was_faultless now g gives.was_going;
+          was_going = grind arith;
           goes = rest ∙ gives.goes;
           stays = stays_more now new g (gives.bytes.0, gives.bytes.1) follows;
-          shrinks = omega (arith, falls, g.shrinks);
+          shrinks = omega (arith, room_at_end now.below new.below gives, g.shrinks);
         }
 
   -- a reader that has given no member has all of the good ones left
@@ -411,7 +363,7 @@ module _ {S A State : Type 0} (device : Source S) where
   gives_again old line more item items going some first number says buffered = record {
     ahead = ap (first_from (suc (lines_given old.below))) buffered ∙ ap (λ n. Some (record { line = n; item = item })) (sym number);
     state = refl;
-    good = remains_same (good_coming device.left old);
+    good = grind arith;
     first = rw (good_is old going)
         (good_first old.format (input_of old.below) old.state line item (lines_left device.left old.below) (lines_first old (lines_left device.left old.below) (lines_left device.left old.below) line more (buffered_in old.below) (is_prefix device.left old.below) first) says);
     said = (line, says);
@@ -422,28 +374,19 @@ module _ {S A State : Type 0} (device : Source S) where
     served = refl;
     was_going = going;
     goes = refl;
-    stays = stays_same old;
+    stays = record { bytes = ([], hands_none device.left old.below); format = refl };
     lines = (came_none device old.below).lines;
     near = near_came device old.below old.below (came_none device old.below);
     shrinks = omega arith;
   }
 
--- no member was taken
-pub takes_none : {S A State : Type 0} (device : Source S) (reader : MemberReader S A State) → Takes device reader [] reader
-takes_none device reader = grind (arith, given_below)
-
 -- Lemmas on failed reads that are reported for the first time.
-
--- a fault of a line is no failed read
-line_no_read : (place : Place) (kind : Kind) (input : Input) (line : ℕ) → is_of_line kind ≡ true
-    → fault_at_line place.input place.line kind ≡ read_failed input line → ⊥
-line_no_read place kind input line of_line e = grind arith
 
 module _ (T : Type 0) {S : Type 0} (IsRead : S → Option ℕ → S → Type 0) (before : Option FaultValue) (old new : LineReader S) (fault : Fault) where
   module _ (read : HasRead IsRead old new) where
     -- a line at fault tells no failed read
     pub line_is_own : (place : Place) (kind : Kind) → is_of_line kind ≡ true → fault_value fault ≡ fault_at_line place.input place.line kind → TellsOwnFailure {T = T} IsRead before old (Err fault) new
-    line_is_own place kind of_line is none = tells_read IsRead old new (Some (fault_value fault)) (λ input line e. line_no_read place kind input line of_line (sym is ∙ some_is (fault_value fault) (read_failed input line) e)) read
+    line_is_own place kind of_line is none = tells_read IsRead old new (Some (fault_value fault)) (λ input line e. grind arith) read
 
     -- nor does running out of memory
     pub memory_is_own : fault_value fault ≡ no_memory → TellsOwnFailure {T = T} IsRead before old (Err fault) new

@@ -79,7 +79,6 @@ module _ {A State : Type 0} (format : Format A State) (input : Input) where
   unfolding good_from
   fault_from count number state [] low n = tt
   fault_from count number state (line ∷ lines) low n =
-      let same = n.0 in
       fault_with count line.number state (format.says state line) (λ now. good_from format input now lines) (omega arith) (λ now. fault_from count (suc number) now lines (omega arith) n.1)
 
   -- what is good of the lines after the first `count` is on lines after `count`
@@ -122,6 +121,5 @@ module _ {A State : Type 0} (format : Format A State) (input : Input) where
       grind (arith, none_up_to, (ascend_from format input number state lines n))
   first_from (suc more) count number state [] past rest fault size n e f up beyond = rw (no_front past rest e) refl
   first_from (suc more) count number state (line ∷ lines) past rest fault size n e f up beyond =
-      let same = n.0 in
       first_with count line.number state (format.says state line) (λ now. good_from format input now lines) (λ now. good_from format input now (take more lines)) past rest fault (omega arith)
       (λ now past e f up. first_from more count (suc number) now lines past rest fault (omega arith) n.1 e f up beyond) e f up beyond

@@ -1,17 +1,16 @@
 -- Lemmas on records that lines say one after another, and on what is good of such lines.
-use Rattle.bt_lines.proofs.Std.{rules, ◌≡◌, ℕ, suc, ◌≤◌, Bool, true, false, List, [], ◌∷◌, ◌++◌, length, take, drop, Option, Some, None, Result, Ok, refl, sym, ap, ◌∙◌, subst, arith, ⊤, IsTrue, ◌+◌, ◌-◌, length-append, IfNone, IfSome, take-append_seam, drop_at, length-drop}
+use Rattle.bt_lines.proofs.Std.{rules, ◌≡◌, ℕ, suc, ◌≤◌, Bool, true, false, List, [], ◌∷◌, ◌++◌, length, take, drop, Option, Some, None, Ok, refl, sym, ap, ◌∙◌, subst, arith, ⊤, IsTrue, length-append, IfNone, IfSome, take-append_seam, drop_at, length-drop}
 use Rattle.bt_bed.specs.calls.Batch.{IsWhere, Passes, cursor_in, left}
 use Rattle.bt_bed.specs.calls.SortedReader.{are_in_order, IsTaken, Lends, buffered_in, count_in}
 use Rattle.bt_lines.specs.model.Lines.{AreNumbered, TextLine}
 use Rattle.bt_lines.specs.declared.fault.Input.{Input}
-use Rattle.bt_lines.specs.declared.fault.Kind.{Kind}
 use Rattle.bt_bed.proofs.lemmas.Definitions.{line_said}
 use Rattle.bt_bed.specs.model.Feature.{Feature}
 use Rattle.bt_bed.specs.model.BedLine.{record_of}
 use Rattle.bt_bed.specs.model.Good.{Format, good_from, bed_format, line_says, locus_at, said_after}
 use Rattle.bt_bed.specs.model.Sorted.{Locus, Sorting, falls_in}
 use Rattle.bt_bed.specs.calls.Reading.{AreSaid, members_from, state_behind, with_members}
-use Rattle.bt_bed.specs.calls.Bed.{last_start, placed_on, record_on, run_of, record_in, is_some_left}
+use Rattle.bt_bed.specs.calls.Bed.{last_start, record_on, run_of, record_in, is_some_left}
 use Rattle.bt_lines.proofs.lemmas.reader.block.BufferLemmas.{fed_none}
 use Rattle.bt_lines.proofs.lemmas.reader.lines.BufferedLemmas.{lines_taken}
 use Rattle.bt_lines.specs.calls.Reader.{PassesLines, rest_in, TakenLines}
@@ -58,13 +57,10 @@ module _ {A State : Type 0} (format : Format A State) where
   said_fewer state [] more said = tt
   said_fewer state (item ∷ items) more said = (said.0, said_fewer (format.after state item) items more said.1)
 
-placed_is_by : (name : List ℕ) (start : ℕ) (said : Result (Option Feature) Kind) (r : Feature) → placed_on name start said ≡ Some r → (said ≡ Ok (Some r)) × (r.chrom ≡ name) × (start ≤ r.start)
-placed_is_by name start said r e = search rules
-
 -- a record of a run is what its line says
 pub record_on_is : (name : List ℕ) (start : ℕ) (text : List ℕ) (r : Feature) → record_on name start text ≡ Some r → (record_of text ≡ Ok (Some r)) × (r.chrom ≡ name) × (start ≤ r.start)
 unfolding record_on
-record_on_is name start text r e = placed_is_by name start (record_of text) r e
+record_on_is name start text r e = search rules
 
 -- the first line of a run
 pub record FirstOfRun (name : List ℕ) (start : ℕ) (lines : List TextLine) (r : Feature) (items : List Feature) : Type 0 where
@@ -170,9 +166,6 @@ one_given sorted first last (Some raw) r more is lends some none = (record_in ra
 one_given sorted first last None r more is lends some none = absurd (let gone : [] ≡ r ∷ more = sym none ∙ lends.left_is ∙ is in cc)
 
 module _ {S Q : Type 0} (sorted : SortedReader S Q) (first last : Batch) (records : List Feature) (consumed : Consumed) (lends : Lends sorted first) (passes : Passes first records last) (is : IsWhere last consumed) where
-  all_is : buffered_in sorted ≡ records ++ left last
-  all_is = sym lends.left_is ∙ passes.left_is
-
   taken_by : (b : Bool) → is_some_left (buffered_in sorted) ≡ b → TakenLines sorted.reader consumed.lines (length records)
   taken_by true e = lines_taken sorted.reader (cursor_in first) (cursor_in last) consumed.lines (length records) (lends.begins e) passes.lines is.lines
   taken_by false e = grind (arith, none_before, same_place)
@@ -186,7 +179,7 @@ module _ {S Q : Type 0} (sorted : SortedReader S Q) (first last : Batch) (record
 
   -- these
   pub taken_are : take (count_in sorted consumed) (buffered_in sorted) ≡ records
-  taken_are = ap (λ n. take n (buffered_in sorted)) count_is ∙ ap (take (length records)) all_is ∙ take-append_seam records (left last)
+  taken_are = ap (λ n. take n (buffered_in sorted)) count_is ∙ ap (take (length records)) (sym lends.left_is ∙ passes.left_is) ∙ take-append_seam records (left last)
 
   pub token_is : IsTaken sorted consumed
   token_is = grind (arith, lines_are, length-append, taken_are, drop_at)

@@ -1,7 +1,7 @@
 use Rattle.bt_lines.proofs.Std.{arith, ◌≡◌, ◌∙◌, refl, rules, sym, Some}
 use Rattle.bt_bed.proofs.lemmas.order.TableLemmas.{lost_item, lost_wrong}
 use Rattle.bt_bed.proofs.lemmas.read.good.SaidLemmas.{bed_of_line, wrong_is_of_line}
-use Rattle.bt_bed.proofs.lemmas.read.batch.RecordsLemmas.{held_other, held_same, says_nothing, says_wrong, says_misplaced, says_record}
+use Rattle.bt_bed.proofs.lemmas.read.batch.RecordsLemmas.{held_same, says_nothing, says_wrong, says_misplaced, says_record}
 use Rattle.bt_bed.specs.calls.Bed.{feature_lent}
 use Rattle.bt_bed.specs.inside.OrderedLookahead.{goes_on, last_in, name_in, start_in}
 use Rattle.bt_bed.proofs.read.lookahead.OrderedLookahead.take_line.Goals as goal
@@ -49,7 +49,7 @@ returns-in-Ok g c =
       ahead = rw c.if-is_same.false
           (record {
             name_is = search rules;
-            start_is = held_other c.args.self.now.last_name.items bed.chrom c.args.self.now.last (sym is ∙ c.if-is_same.false);
+            start_is = grind arith;
           });
       keeps = record { rule = refl; last = refl };
     }

@@ -1,14 +1,13 @@
-use Rattle.bt_lines.proofs.Std.{arith, ◌≡◌, refl}
-use Rattle.bt_lines.proofs.lemmas.reader.lines.BufferedLemmas.{no_lines, some_lines}
-use Rattle.bt_bed.proofs.lemmas.read.good.ReadingLemmas.{takes_none}
+use Rattle.bt_lines.proofs.Std.{arith, refl}
+use Rattle.bt_lines.proofs.lemmas.reader.lines.BufferedLemmas.{some_lines}
 use Rattle.bt_bed.proofs.lemmas.read.batch.SortedReaderLemmas.{sorted_ahead, sorted_placed, sorted_takes, was_ahead}
-use Rattle.bt_bed.specs.calls.SortedReader.{buffered_in, count_in, view_in}
+use Rattle.bt_bed.specs.calls.SortedReader.{buffered_in, count_in}
 use Rattle.bt_bed.proofs.read.sorted_reader.SortedReader.consume.Goals as goal
+use Rattle.bt_lines.proofs.lemmas.reader.lines.TakingLemmas.{given_below}
 
 pub returns-then-consumed-eq0-clause-takes : goal.returns-then-consumed-eq0-clause-takes
 returns-then-consumed-eq0-clause-takes g c =
-    let none : count_in c.args.self.now c.args.consumed ≡ 0 = no_lines c.args.self.now.reader c.args.consumed.lines (count_in c.args.self.now c.args.consumed) c.requires.taken.lines c.if-consumed-eq0.true in
-    grind (arith, (takes_none g.S.Source (view_in (g.Q.Sorted.sorting c.args.self.now.lookahead.rule) c.args.self.now)))
+    grind (arith, given_below)
 
 pub invariant_of-self : goal.invariant_of-self
 invariant_of-self g c = grind (arith, some_lines, sorted_ahead, was_ahead)
