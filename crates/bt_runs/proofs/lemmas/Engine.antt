@@ -120,7 +120,7 @@ module _ {E C R : Type 0} {rule : RuleDef E} {cursor : Cursor C R} {old : E} {st
     -- and the next one is available
     pub follows_on : {next : Feature} {last : C} → rule.is_on new (cursor.name start) → cursor.gives ahead (next ∷ []) last → next.chrom ≡ cursor.name start
         → Following rule cursor old start out new later next last
-    follows_on entered given on = grind (arith, follows)
+    follows_on entered given on = grind (arith, (taken_more rule old out f.takes.records r f.mid f.through new later f.takes.each (f.does_so (Ok tt) new later done)))
 
   -- it wasn't taken
   pub follows_up_to : {fault : Fault} → Taken rule now r grown (Err fault) new later → StepsUpTo rule cursor old start out fault new ahead later
@@ -147,9 +147,6 @@ going_is now was = ap (λ (failure : Option Failure). record { rule = now.rule; 
 abbrev pub Keeps : {E : Type 0} → Result (Unit {0}) Fault → Ruled E → Type 0
 Keeps (Ok done) new = new.failure ≡ None
 Keeps (Err fault) new = ruled_fault new ≡ Some (fault_value fault)
-
-pub keeps_none : {E : Type 0} (result : Result (Unit {0}) Fault) (new : Ruled E) → ((fault : Fault) → result ≡ Err fault → ⊥) → new.failure ≡ None → Keeps result new
-keeps_none result new never none = grind arith
 
 module _ {E : Type 0} (rule : RuleDef E) where
   -- one record

@@ -1,7 +1,7 @@
 -- What a complement says of one chromosome: its gaps, if they are wanted; those that are done by the last start, and the place up to which they are.
 -- The file has what it owes of one chromosome.
-use Rattle.bt_lines.proofs.Std.{rules, Option, ◌≡◌, ℕ, ◌<◌, inl, inr, List, [], ◌∷◌, ◌++◌, refl, ap, ◌∙◌, map, filter, flat_map, cond, Bool, true, false, bytes_eq, ◌≤◌, sym, arith, max, min, cases_Bool, cond-true, le-leb, map-append, Some, length, None, ◌⊎◌, suc, eqb, Result, Ok, Err, OnOk, option_map, option_eq, cond-false, flat_map-append}
-use Rattle.std.specs.declared.cmp.Ordering.TheVariants.{Less, Equal, Greater}
+use Rattle.bt_lines.proofs.Std.{rules, Option, ◌≡◌, ℕ, ◌<◌, inl, inr, List, [], ◌∷◌, ◌++◌, refl, ap, ◌∙◌, map, filter, flat_map, cond, Bool, true, false, bytes_eq, ◌≤◌, sym, arith, max, min, cases_Bool, cond-true, le-leb, map-append, Some, length, None, ◌⊎◌, suc, eqb, Result, Ok, Err, OnOk, option_map, option_eq, cond-false, flat_map-append, filter-append}
+use Rattle.std.specs.declared.cmp.Ordering.TheVariants.{Equal}
 use Rattle.bt_bed.specs.model.Feature.{Feature, intervals_of, interval_of, Interval, Span, placed_on, spans_on, span_of}
 use Rattle.bt_bed.specs.model.BedLine.{interval_line, interval_lines}
 use Rattle.bt_bed.specs.model.Genome.{Entry, genome_names}
@@ -12,8 +12,8 @@ use Rattle.bt_runs.specs.inside.Walk.{AreReached, Place, left_before, places, Do
 use Rattle.bt_runs.specs.inside.GapStep.{bare_gap, gap_between, gap_walk, last_gap}
 use Rattle.bt_runs.proofs.lemmas.definitions.Standing.{filter_map_all, filter_map_none, has_records-push, compare_same, apart, found}
 use Rattle.bt_runs.proofs.lemmas.order.FileOrder.{spans_on-push_elsewhere, spans_on-none, spans_on-push_here}
-use Rattle.bt_runs.proofs.lemmas.complement.Walks.{OneGap, no_gap, one_gaps, span_between, EndBy, cover_gap, end_between, end_both, end_later, Walked, form_of, Held, Steps, ends, rank_entry, reaches, settles_items, steps, taken_front, entered_steps, going_to, step_starts}
-use Rattle.bt_runs.proofs.lemmas.order.ByChromosome.{Divides, NoRecords, Owes, Written, intervals_next, picks_by, name_at, size_there, found_at, found_entry, size_ranked}
+use Rattle.bt_runs.proofs.lemmas.complement.Walks.{OneGap, one_gaps, span_between, EndBy, cover_gap, end_both, end_later, Walked, form_of, Held, Steps, ends, rank_entry, reaches, settles_items, steps, taken_front, entered_steps, going_to, step_starts}
+use Rattle.bt_runs.proofs.lemmas.order.ByChromosome.{Divides, Owes, Written, intervals_next, name_at, size_there, found_at, found_entry, size_ranked}
 use Rattle.bt_runs.specs.calls.Engine.{Settles, AfterEach}
 use Rattle.bt_lines.specs.calls.Names.{fault_value}
 use Rattle.bt_lines.specs.calls.Output.{Output, Adds, FailsToAdd, Grown}
@@ -44,31 +44,16 @@ placed_between name start stop = grind arith
 
 -- a chromosome without records is one gap
 gaps_none : (size : ℕ) → gaps_of size [] ≡ span_between 0 size
-gaps_none size = one_gaps size [] [] 0 (no_gap size)
-
--- one with records has the gaps that are done, and the last
-pub part_here : (limit : Bool) (records : List Interval) (e : Entry) (done : List Span) (kept : ℕ) → has_records e.name records ≡ true → OneGap e.length (spans_on e.name records) done kept
-    → part limit records e ≡ map (placed_on e.name) (done ++ span_between kept e.length)
-part_here limit records e done kept some one = grind (arith, one_gaps)
+gaps_none size = one_gaps size [] [] 0 (grind arith)
 
 -- a record on another chromosome changes nothing
 pub part_other : (limit : Bool) (past : List Interval) (r : Interval) (e : Entry) → bytes_eq r.chrom e.name ≡ false → part limit (past ++ r ∷ []) e ≡ part limit past e
 part_other limit past r e f = rw (has_records-push e.name past r f, spans_on-push_elsewhere e.name past r f) refl
 
--- the gaps of a chromosome before that of the last record are over, and those of one after it aren't
-pub part_before : (names : List (List ℕ)) (last : Interval) (limit : Bool) (records : List Interval) (e : Entry) → (rank_order names).compare e.name last.chrom ≡ Less → filter (is_over names last) (part limit records e) ≡ part limit records e
-part_before names last limit records e less = grind (arith, filter_map_all)
-
-pub part_after : (names : List (List ℕ)) (last : Interval) (limit : Bool) (records : List Interval) (e : Entry) → (rank_order names).compare e.name last.chrom ≡ Greater → filter (is_over names last) (part limit records e) ≡ []
-part_after names last limit records e greater = grind (arith, filter_map_none)
-
 -- on the last record's chromosome those that end by its start are over, and the last gap isn't
 pub placed_done : (names : List (List ℕ)) (last : Interval) (name : List ℕ) (done : List Span) → (rank_order names).compare name last.chrom ≡ Equal → EndBy last.start done → filter (is_over names last) (map (placed_on name) done) ≡ map (placed_on name) done
 placed_done names last name [] equal ended = refl
 placed_done names last name (s ∷ ss) equal ended = rw (equal, le-leb s.stop last.start ended.0, placed_done names last name ss equal ended.1) refl
-
-pub placed_left : (names : List (List ℕ)) (last : Interval) (name : List ℕ) (kept size : ℕ) → (rank_order names).compare name last.chrom ≡ Equal → (kept < size → last.start < size) → filter (is_over names last) (map (placed_on name) (span_between kept size)) ≡ []
-placed_left names last name kept size equal ahead = grind arith
 
 -- the gaps of a chromosome by the last start on it, those that are done and the place that is kept
 pub record Own (entry : Entry) (past : List Feature) (start : ℕ) (done : List Interval) (kept : ℕ) : Type 0 where
@@ -89,10 +74,10 @@ own_next entry past start done kept r own is up full =
       spans = own.spans ++ gap;
       done_is =
           ap (λ l. l ++ gap_between entry.name kept (min r.start entry.length)) own.done_is
-          ∙ ap (λ l. map (placed_on entry.name) own.spans ++ l) (sym (placed_between entry.name kept (min r.start entry.length)))
+          ∙ ap (λ l. map (placed_on entry.name) own.spans ++ l) (sym (grind arith))
           ∙ sym (map-append (placed_on entry.name) own.spans gap);
       one = rw spans_are (cover_gap entry.length (spans_on entry.name (intervals_of past)) own.spans kept (span_of (interval_of r)) own.one ended full);
-      ended = end_both r.start own.spans gap ended (end_between r.start kept (min r.start entry.length) (omega arith));
+      ended = end_both r.start own.spans gap ended (grind arith);
       ahead = λ less. omega arith;
     }
 
@@ -106,23 +91,18 @@ module _ (limit : Bool) (entries : List Entry) where
     settled = settled_gaps limit entries;
   }
 
-  -- a chromosome without records is one gap
-  none_on : (entry : Entry) (past : List Feature) → has_records entry.name (intervals_of past) ≡ false → NoRecords (form_of gaps) Own entry past
-  none_on entry past none = grind (arith, spans_on-none, gaps_none)
-
   -- the gaps that are done end by the last start, and the last one doesn't
   divides_own : (entry : Entry) (past : List Feature) (last : Interval) (done : List Interval) (kept : ℕ) → Own entry past last.start done kept → entry.name ≡ last.chrom → has_records entry.name (intervals_of past) ≡ true → Divides (form_of gaps) Own entry past last done kept
   divides_own entry past last done kept own is some =
       let names = genome_names entries in
-      let here : (rank_order names).compare entry.name last.chrom ≡ Equal = compare_same names entry.name last.chrom is in
       let placed = placed_between entry.name kept entry.length in
       record {
-        all = part_here limit (intervals_of past) entry own.spans kept some own.one
+        all = (grind (arith, one_gaps))
             ∙ map-append (placed_on entry.name) own.spans (span_between kept entry.length)
             ∙ ap (λ l. map (placed_on entry.name) own.spans ++ l) placed
             ∙ ap (λ l. l ++ gap_between entry.name kept entry.length) (sym own.done_is);
-        done_over = rw own.done_is (placed_done names last entry.name own.spans here own.ended);
-        left_open = ap (filter (is_over names last)) (sym placed) ∙ placed_left names last entry.name kept entry.length here own.ahead;
+        done_over = rw own.done_is (placed_done names last entry.name own.spans (compare_same names entry.name last.chrom is) own.ended);
+        left_open = ap (filter (is_over names last)) (sym placed) ∙ (grind arith);
       }
 
   nothing_settled : settled_gaps limit entries [] ≡ []
@@ -132,11 +112,11 @@ module _ (limit : Bool) (entries : List Entry) where
   pub owes : Owes (form_of gaps) Own (genome_names entries)
   owes = record {
     nothing = nothing_settled;
-    picks = λ last. picks_by (is_over (genome_names entries) last);
+    picks = λ last. grind (arith, filter-append);
     elsewhere = λ entry past r other. ap (λ l. part limit l entry) (intervals_next past r) ∙ part_other limit (intervals_of past) (interval_of r) entry other;
-    is_before = λ last entry past less. part_before (genome_names entries) last limit (intervals_of past) entry less;
-    is_behind = λ last entry past greater none. part_after (genome_names entries) last limit (intervals_of past) entry greater;
-    none = none_on;
+    is_before = λ last entry past less. grind (arith, filter_map_all);
+    is_behind = λ last entry past greater none. grind (arith, filter_map_none);
+    none = grind (arith, spans_on-none, gaps_none);
     next = λ entry past start done kept r own is up full. own_next entry past start done kept r own is up full;
     divides = divides_own;
   }
@@ -183,19 +163,14 @@ module _ (limit : Bool) (entries : List Entry) where
 
 -- What the rule of a complement does with a record: by the step of its walk, and so after every past.
 
-none_mapped : (o : Option ℕ) → option_map (λ n. suc n) o ≡ None → o ≡ None
-none_mapped o e = grind arith
-
 -- a chromosome that the genome file lacks has no bases
 pub no_bases : (table : List Entry) (name : List ℕ) → rank_of (genome_names table) name ≡ None → length_in table name ≡ 0
 no_bases [] name none = refl
 no_bases (entry ∷ table) name none =
-    let rest = rank_of (genome_names table) name in
     elim (cases_Bool (bytes_eq entry.name name)) [
-      | inl t ↦ let first = cond-true (bytes_eq entry.name name) (Some 0) (option_map (λ n. suc n) rest) t in absurd (cc)
+      | inl t ↦ let first = cond-true (bytes_eq entry.name name) (Some 0) (option_map (λ n. suc n) (rank_of (genome_names table) name)) t in absurd (cc)
       | inr f ↦
-          let later = cond-false (bytes_eq entry.name name) (Some 0) (option_map (λ n. suc n) rest) f in
-          cond-false (bytes_eq entry.name name) entry.length (length_in table name) f ∙ no_bases table name (none_mapped rest (sym later ∙ none))
+          cond-false (bytes_eq entry.name name) entry.length (length_in table name) f ∙ no_bases table name (grind arith)
     ]
 
 -- the chromosome of the rank of a name has that name
@@ -229,12 +204,8 @@ module _ (limit : Bool) (table : List Entry) (r : Feature) (name : List ℕ) (en
       let place : Place ℕ = record { rank = rank; known = end } in
       grind (arith, (not_on table place (named rank refl).placed r.chrom (λ e. let n = none in absurd (cc))), (nothing (Some rank) (is ∙ no_bases table r.chrom none)))
 
--- one that was reached is one of the table
-reached_at : (table : List Entry) (name : List ℕ) (end : ℕ) (rank : Option ℕ) → ((n : ℕ) → rank ≡ Some n → IsNamed table n name) → AreReached table (option_map (λ rank. record { rank = rank; known = end }) rank)
-reached_at table name end rank named = grind arith
-
 pub cursor_reached : (cursor : GapCursor) → AreReached (entries cursor.genome.now) (seen cursor)
-cursor_reached cursor = reached_at (entries cursor.genome.now) cursor.name.now cursor.end cursor.rank cursor.named
+cursor_reached cursor = grind arith
 
 -- a rule of gaps
 module _ (old : Complementing) (at : AreReached old.entries old.current) where
@@ -325,10 +296,6 @@ same_rank o rank test is t = grind arith
 pub other_rank : (o : Option ℕ) (rank : ℕ) (test : Bool) → test ≡ option_eq eqb o (Some rank) → test ≡ false → o ≡ Some rank → ⊥
 other_rank o rank test is f e = grind arith
 
-off_at : (table : List Entry) (name : List ℕ) (end : ℕ) (chrom : List ℕ) (rank : ℕ) → rank_of (genome_names table) chrom ≡ Some rank
-    → (o : Option ℕ) → ((n : ℕ) → o ≡ Some n → IsNamed table n name) → (o ≡ Some rank → ⊥) → is_on table (place_at end o) chrom ≡ false
-off_at table name end chrom rank is o named other = search rules
-
 -- a cursor on the way to the chromosome of a name
 module _ (limit : Bool) (cursor : GapCursor) (chrom : List ℕ) where
   abbrev table : List Entry
@@ -348,7 +315,7 @@ module _ (limit : Bool) (cursor : GapCursor) (chrom : List ℕ) where
 
     -- another one
     pub goes_other : (cursor.rank ≡ Some rank → ⊥) → going (gap_walk limit) table (seen cursor) chrom ≡ (place_at 0 (Some rank), left_before last_gap (bare_gap limit) table (seen cursor) rank)
-    goes_other other = going_to (gap_walk limit) table (seen cursor) chrom (Some rank) (off_at table cursor.name.now cursor.end chrom rank is cursor.rank cursor.named other) (sym is)
+    goes_other other = going_to (gap_walk limit) table (seen cursor) chrom (Some rank) (search rules) (sym is)
 
     pub rank_placed : IsPlaced table rank
     rank_placed = found_at table chrom rank is

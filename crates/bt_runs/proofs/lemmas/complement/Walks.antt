@@ -1,5 +1,5 @@
 -- An engine that goes through the chromosomes of a genome file. One more record moves what is settled and what is reached as its walk's step says. At the end what its walk leaves is left. Complement and coverage are such engines; `GapRuleLemmas` and `DepthSteps` have what each owes of one chromosome.
-use Rattle.bt_lines.proofs.Std.{common_steps, ◌≡◌, ℕ, ◌+◌, ◌≤◌, inl, inr, List, [], ◌∷◌, ◌++◌, refl, sym, ap, ap₂, ◌∙◌, subst, arith, append-nil, append_assoc, flat_map, length, length-append, slice_range, true, false, Option, Some, None, not, Decides, ◌<◌, max, min, cond, nat_lt, Decides-not, ⊤}
+use Rattle.bt_lines.proofs.Std.{common_steps, ◌≡◌, ℕ, ◌+◌, ◌≤◌, inl, inr, List, [], ◌∷◌, ◌++◌, refl, sym, ap, ap₂, ◌∙◌, subst, arith, append-nil, append_assoc, flat_map, length, length-append, slice_range, true, false, Option, Some, None, not, Decides, ◌<◌, max, min, cond, nat_lt, Decides-not, ⊤, drop_at, take_at}
 use Rattle.bt_bed.specs.model.Feature.{Feature, interval_of, intervals_of, Interval, Span}
 use Rattle.bt_bed.specs.model.Positions.{IsCovered, AreApartFrom, AreStretchesOf}
 use Rattle.bt_bed.specs.model.Genome.{Entry, genome_names}
@@ -8,7 +8,7 @@ use Rattle.bt_bed.proofs.lemmas.parse.NameLemmas.{name_eq}
 use Rattle.bt_runs.specs.model.Gaps.{AreTaken, IsBare, gaps_of}
 use Rattle.bt_runs.specs.calls.Engine.{Settles}
 use Rattle.bt_runs.specs.inside.Walk.{AreReached, Place, Walk, entry_at, going, going_at, is_on, left_before, step_from, taking, walk_step}
-use Rattle.bt_runs.proofs.lemmas.order.ByChromosome.{Begun, Form, InOrder, Moves, Owes, Standing, Written, begun, full_last, goes_first, goes_next, goes_on, goes_to, order_front, settling, whole_left, entry_there, name_at, slice_between}
+use Rattle.bt_runs.proofs.lemmas.order.ByChromosome.{Begun, Form, InOrder, Moves, Owes, Standing, Written, begun, full_last, goes_first, goes_next, goes_on, goes_to, order_front, settling, whole_left, entry_there, name_at}
 use Rattle.bt_runs.proofs.lemmas.definitions.Standing.{GoesTo, begins_at, last_rank}
 use Rattle.bt_runs.specs.model.Merged.{is_covered, end_of}
 use Rattle.bt_bed.proofs.lemmas.Definitions.{stretches_are_same, scan_finds}
@@ -52,7 +52,7 @@ slice_behind : (entries before : List Entry) (key : Entry) (middle rest : List E
 slice_behind entries before key middle rest rank stop split at end =
     let one_more = length-append before (key ∷ []) in
     let long = length-append before (key ∷ middle) in
-    ap (λ l. slice_range l (rank + 1) stop) (split ∙ sym (append_assoc before (key ∷ []) (middle ++ rest))) ∙ slice_between (before ++ key ∷ []) middle rest (rank + 1) stop (omega arith) (omega arith)
+    ap (λ l. slice_range l (rank + 1) stop) (split ∙ sym (append_assoc before (key ∷ []) (middle ++ rest))) ∙ (grind (arith, drop_at, take_at))
 
 module _ {T S : Type 0} (walk : Walk T S) (entries : List Entry) where
   -- the chromosome of a name is the one that was reached, or another
@@ -95,10 +95,6 @@ module _ {T S : Type 0} (e : Walked T S) (Own : Entry → List Feature → ℕ �
   held_begun [] b = (None, refl)
   held_begun (q ∷ qs) b = (Some (record { rank = length b.before; known = b.state }), (b.before, b.key, b.after, b.here, refl))
 
-  -- what is reached is a chromosome of the table
-  held_at : (past : List Feature) (current : Option (Place S)) → AreDistinct (genome_names entries) → Held past current → AreReached entries current
-  held_at past current distinct none = grind (arith, rank_entry, length-append, last_rank)
-
   module _ (owes : Owes (form_of e) Own (genome_names entries)) (written : (past : List Feature) → Written (form_of e) Own entries past) where
     -- once the record's chromosome is reached, the step takes the record as its chromosome does
     arrive : (past : List Feature) (r : Feature) (current : Option (Place S)) (place : Place S) (before : List Entry) (key : Entry) (after : List Entry) (first : List T) → place.rank ≡ length before
@@ -112,7 +108,7 @@ module _ {T S : Type 0} (e : Walked T S) (Own : Entry → List Feature → ℕ �
         let first = begins_at name_at entries t.distinct (interval_of r) t.placed in
         let k = first.0 in
         let f = first.1 in
-        let slice : slice_range entries 0 k ≡ f.before = ap (λ l. slice_range l 0 k) f.split ∙ slice_between [] f.before (f.key ∷ f.after) 0 k refl (let a = f.at in omega arith) in
+        let slice : slice_range entries 0 k ≡ f.before = ap (λ l. slice_range l 0 k) f.split ∙ (grind (arith, drop_at, take_at)) in
         let place : Place S = record { rank = k; known = e.walk.fresh } in
         let none : Option (Place S) = None in
         let goes : going e.walk entries none r.chrom ≡ (Some place, flat_map e.walk.bare f.before) = going_to e.walk entries none r.chrom (Some k) refl (sym first.2) ∙ ap (λ l. (Some place, flat_map e.walk.bare l)) slice in
@@ -161,7 +157,7 @@ module _ {T S : Type 0} (e : Walked T S) (Own : Entry → List Feature → ℕ �
 
     -- something is reached after records in order
     pub reaches : (past : List Feature) → AreTaken entries past → (current : Option (Place S)) × Held past current × AreReached entries current
-    reaches past t = grind (arith, (held_begun past (begun (form_of e) Own entries owes t.distinct past (in_order entries past t))), held_at)
+    reaches past t = grind (arith, (held_begun past (begun (form_of e) Own entries owes t.distinct past (in_order entries past t))), rank_entry, length-append, last_rank)
 
     -- more and more is settled
     pub settles_items : Settles e.settled e.whole (AreTaken entries)
@@ -202,9 +198,6 @@ pub end_both : (start : ℕ) (xs ys : List Span) → EndBy start xs → EndBy st
 end_both start [] ys a b = b
 end_both start (x ∷ xs) ys a b = (a.0, end_both start xs ys a.1 b)
 
-pub end_between : (start from to : ℕ) → to ≤ start → EndBy start (span_between from to)
-end_between start from to h = grind arith
-
 -- what spans that end by a position cover lies below it
 covered_by_end : (start : ℕ) (xs : List Span) (p : ℕ) → EndBy start xs → IsCovered xs p → p < start
 covered_by_end start [] p e c = absurd c
@@ -225,10 +218,6 @@ pub record OneGap (size : ℕ) (spans done : List Span) (kept : ℕ) : Type 0 wh
 pub one_gaps : (size : ℕ) (spans done : List Span) (kept : ℕ) → OneGap size spans done kept → gaps_of size spans ≡ done ++ span_between kept size
 one_gaps size spans done kept one = sym (only_gaps size spans (done ++ span_between kept size) one.parts)
 
--- with no record, the chromosome is one gap
-pub no_gap : (size : ℕ) → OneGap size [] [] 0
-no_gap size = grind arith
-
 end_of-push : (spans : List Span) (s : Span) → end_of (spans ++ s ∷ []) ≡ max (end_of spans) s.stop
 end_of-push [] s = omega arith
 end_of-push (x ∷ xs) s = let h = end_of-push xs s in omega arith
@@ -240,11 +229,5 @@ module _ (size : ℕ) (spans done : List Span) (kept : ℕ) (s : Span) (one : On
   abbrev rest : List Span
   rest = span_between (max kept (min s.stop size)) size
 
-  cover_within : (p : ℕ) → IsCovered (done ++ (first ++ rest)) p → IsBare size (spans ++ s ∷ []) p
-  cover_within p c = grind (arith, covered_parts, covered_by_end, covered_left, covered_right)
-
-  cover_whole : (p : ℕ) → IsBare size (spans ++ s ∷ []) p → IsCovered (done ++ (first ++ rest)) p
-  cover_whole p b = grind (arith, covered_left, covered_right, covered_parts)
-
   pub cover_gap : OneGap size (spans ++ s ∷ []) (done ++ span_between kept (min s.start size)) (max kept (min s.stop size))
-  cover_gap = grind (arith, append_assoc, cover_within, cover_whole, end_of-push, apart_tail)
+  cover_gap = grind (arith, append_assoc, covered_parts, covered_by_end, covered_left, covered_right, end_of-push, apart_tail)

@@ -1,5 +1,5 @@
 -- What a count of depths says of one chromosome, and what it owes of it. It says which intervals are settled by the last start, and what is known for the rest.
-use Rattle.bt_lines.proofs.Std.{rules, max, ◌≡◌, ℕ, ◌<◌, ◌≤◌, ◌+◌, List, [], ◌∷◌, ◌++◌, refl, sym, ap, ap₂, ◌∙◌, filter, nat_lt, Bool, true, false, append-nil, Option, lt-ltb, le-ltb, map-append, length, inl, inr, arith, Some, None, Result, Ok, Err, flat_map-append, append_assoc, codes, decimal, length-append, ◌-◌, All}
+use Rattle.bt_lines.proofs.Std.{rules, max, ◌≡◌, ℕ, ◌<◌, ◌≤◌, ◌+◌, List, [], ◌∷◌, ◌++◌, refl, sym, ap, ap₂, ◌∙◌, filter, nat_lt, Bool, true, false, append-nil, Option, lt-ltb, le-ltb, map-append, length, inl, inr, arith, Some, None, Result, Ok, Err, flat_map-append, append_assoc, codes, decimal, length-append, ◌-◌, All, filter-append}
 use Rattle.std.specs.declared.cmp.Ordering.TheVariants.{Equal}
 use Rattle.bt_bed.specs.model.Feature.{Feature, interval_of, intervals_of, Interval, span_of, Span}
 use Rattle.bt_bed.specs.model.Genome.{Entry, genome_names}
@@ -8,10 +8,10 @@ use Rattle.bt_bed.specs.model.Sorted.{has_records}
 use Rattle.bt_bed.specs.declared.record.strand.Strand.{Strand}
 use Rattle.bt_runs.specs.model.Depth.{DepthInterval, counted_on, coverage, depth_of, depth_on, depths_on, is_counted_by, is_ended_by, settled_depths, Level, levels_of, depth_lines, kept_records, known_place, unfinished, depth_line, Begun, reported, begun_after, ended_after, next_begun, next_ended}
 use Rattle.bt_runs.specs.inside.Coverage.{Known, depth_walk, known_by, levels_by, levels_left, levels_on, bare_of, depths_left, known_seen, place_seen, seen, CountAnswers, OpenAt, depth_text, still_open}
-use Rattle.bt_runs.proofs.lemmas.order.ByChromosome.{Divides, NoRecords, Owes, Written, picks_by, found_at, size_there, size_ranked}
-use Rattle.bt_runs.proofs.lemmas.coverage.OpenLemmas.{counted_elsewhere, counted_here, counted_append, counted_none, bare_levels, known_at, known_first, known_next, left_end, settled_and_left, settled_at, settled_end, settled_first, settled_next, start_same, with_counted, across_known, none_open, all_open, walk_depth}
+use Rattle.bt_runs.proofs.lemmas.order.ByChromosome.{Divides, Owes, Written, found_at, size_there, size_ranked, found_entry, name_at}
+use Rattle.bt_runs.proofs.lemmas.coverage.OpenLemmas.{counted_elsewhere, counted_append, counted_none, bare_levels, known_at, known_first, known_next, left_end, settled_and_left, settled_at, settled_end, settled_first, settled_next, with_counted, across_known, none_open, all_open, walk_depth}
 use Rattle.bt_runs.specs.model.Gaps.{is_over_at, AreTaken}
-use Rattle.bt_runs.proofs.lemmas.definitions.Standing.{filter_map_all, filter_map_none, compare_same, apart}
+use Rattle.bt_runs.proofs.lemmas.definitions.Standing.{filter_map_all, filter_map_none, compare_same, apart, found}
 use Rattle.bt_runs.proofs.lemmas.coverage.LevelLemmas.{StopIn, scan_run, scan_split}
 use Rattle.bt_runs.proofs.lemmas.complement.Walks.{Walked, form_of, Held, Steps, ends, reaches, settles_items, steps, rank_entry, taken_front}
 use Rattle.bt_runs.specs.calls.Engine.{Settles, fault_of}
@@ -21,10 +21,9 @@ use Rattle.bt_lines.specs.calls.Output.{Output, Adds, FailsToAdd, Grown, Puts}
 use Rattle.bt_lines.specs.calls.Names.{fault_value}
 use Rattle.bt_lines.specs.declared.fault.Fault.{Fault}
 use Rattle.bt_runs.specs.calls.Covering.{Covering, IsAfter, IsOnBy, begun_of, depth_rule, depth_step, held_of, next_lines, wants_memory, IsOnChrom, with_begun, with_chrom}
-use Rattle.bt_runs.proofs.lemmas.complement.GapRuleLemmas.{on_found}
 use Rattle.bt_runs.proofs.lemmas.Engine.{enters, enters_cut}
 use Rattle.bt_bed.specs.declared.parse.bounds.Bounds.{Bounds}
-use Rattle.bt_bed.proofs.lemmas.parse.NameLemmas.{same_name}
+use Rattle.bt_bed.proofs.lemmas.parse.NameLemmas.{same_name, name_eq}
 use Rattle.bt_runs.specs.declared.coverage.depth_rule.CurrentChrom.{CurrentChrom}
 use Rattle.bt_runs.specs.declared.coverage.depths.OpenInterval.{OpenInterval}
 use Rattle.bt_runs.specs.declared.coverage.depths.DepthCursor.{DepthCursor}
@@ -33,7 +32,7 @@ use Rattle.bt_runs.specs.declared.engine.failure.Failure.TheVariants.{Write, Mem
 
 -- the counted records of a chromosome, with one more on it
 pub counted_next : (strand : Option Strand) (name : List ℕ) (past : List Feature) (r : Feature) → r.chrom ≡ name → counted_on strand name (past ++ r ∷ []) ≡ with_counted (is_counted_by strand r.strand) (counted_on strand name past) r.start r.stop
-counted_next strand name past r is = counted_append strand name past (r ∷ []) ∙ ap (λ l. counted_on strand name past ++ l) (counted_here strand name r is)
+counted_next strand name past r is = counted_append strand name past (r ∷ []) ∙ ap (λ l. counted_on strand name past ++ l) (search rules)
 
 -- intervals of which all are over, or none
 module _ (names : List (List ℕ)) (last : Interval) (name : List ℕ) where
@@ -61,10 +60,6 @@ module _ (zeros : Bool) (strand : Option Strand) where
       settled = settled_depths zeros strand entries;
     }
 
-    -- a chromosome without records has one depth
-    none_on : (entry : Entry) (past : List Feature) → has_records entry.name (intervals_of past) ≡ false → NoRecords (form_of depths) Own entry past
-    none_on entry past none = grind (arith, counted_none, bare_levels, settled_first, known_first)
-
     own_next : (entry : Entry) (past : List Feature) (start : ℕ) (done : List DepthInterval) (known : Known) (r : Feature) → Own entry past start done known → entry.name ≡ r.chrom → start ≤ r.start → r.start < r.stop
         → Own entry (past ++ r ∷ []) r.start (done ++ levels_on entry.name (levels_by zeros entry.length known (max r.start known.to))) (known_by zeros (is_counted_by strand r.strand) entry.length known (max r.start known.to) r.stop)
     own_next entry past start done known r own is up full =
@@ -75,7 +70,6 @@ module _ (zeros : Bool) (strand : Option Strand) where
         let settled = settled_at zeros size spans start in
         let more = levels_by zeros size (known_at zeros size spans start) r.start in
         let next = counted_next strand entry.name past r (sym is) in
-        let from = start_same zeros size spans start r.start up in
         grind (arith, (map-append (depth_on entry.name) settled more), (settled_next zeros counted size spans start s up full), (known_next zeros counted size spans start s up full))
 
     -- the settled intervals end below the last start, and the others don't
@@ -100,12 +94,12 @@ module _ (zeros : Bool) (strand : Option Strand) where
     pub owes : Owes (form_of depths) Own (genome_names entries)
     owes = record {
       nothing = nothing_settled;
-      picks = λ last. picks_by (is_ended_by (genome_names entries) last);
+      picks = λ last. grind (arith, filter-append);
       elsewhere = λ entry past r other.
           ap (λ l. levels_on entry.name (levels_of (depth_of zeros l) entry.length)) (counted_append strand entry.name past (r ∷ []) ∙ ap (λ l. counted_on strand entry.name past ++ l) (counted_elsewhere strand entry.name r other) ∙ append-nil (counted_on strand entry.name past));
       is_before = λ last entry past less. filter_map_all (depth_on entry.name) (is_ended_by (genome_names entries) last) (levels_of (depth_of zeros (counted_on strand entry.name past)) entry.length) (λ l. ap (λ o. is_over_at o (nat_lt l.stop last.start)) less);
       is_behind = λ last entry past greater none. filter_map_none (depth_on entry.name) (is_ended_by (genome_names entries) last) (levels_of (depth_of zeros (counted_on strand entry.name past)) entry.length) (λ l. ap (λ o. is_over_at o (nat_lt l.stop last.start)) greater);
-      none = none_on;
+      none = grind (arith, counted_none, bare_levels, settled_first, known_first);
       next = own_next;
       divides = divides_own;
     }
@@ -221,7 +215,7 @@ module _ (old : Covering) where
     before = left_before (depths_left old.zeros) (bare_of old.zeros) old.entries old.current rank
 
     pub is_there : is_on old.entries (Some place_first) chrom ≡ true
-    is_there = on_found old.entries chrom rank (sym is)
+    is_there = grind (arith, name_eq, (found_entry old.entries chrom rank (found name_at old.entries chrom rank (sym is))))
 
     there_steps : (r : Feature) → r.chrom ≡ chrom → ((depth_step old r).0 ≡ (depth_step begun_there r).0) × ((depth_step old r).1 ≡ before ++ (depth_step begun_there r).1)
     there_steps r same = grind (arith, is_there)
@@ -316,8 +310,7 @@ line_parts r = grind (arith, append_assoc)
 -- no line is empty
 pub line_has_bytes : (r : DepthInterval) → depth_line r ≡ [] → ⊥
 line_has_bytes r e =
-    let behind = codes "\t" ++ decimal r.start ++ codes "\t" ++ decimal r.stop ++ codes "\t" ++ decimal r.depth in
-    grind (arith, (length-append r.chrom (behind ++ codes "\n")))
+    grind (arith, (length-append r.chrom ((codes "\t" ++ decimal r.start ++ codes "\t" ++ decimal r.stop ++ codes "\t" ++ decimal r.depth) ++ codes "\n")))
 
 -- the line of an interval alone
 pub adds_line : {A : Type 0} (r : DepthInterval) (old new : Output) (result : Result A Fault) → Puts old (depth_line r) result new → Adds old (depth_lines (r ∷ [])) result new
@@ -390,15 +383,12 @@ one_ended u p g = append-nil (next_ended p (u p) g)
 pub turn_more : (u : ℕ → Option ℕ) (from at stop : ℕ) (g begun : Option Begun) (value : Option ℕ) → from ≤ at → at < stop → u at ≡ value → begun ≡ begun_after u from (at - from) g
     → (more : List Level) × (ended_after u from (stop - from) g ≡ (ended_after u from (at - from) g ++ next_ended at value begun) ++ more)
 turn_more u from at stop g begun value low up is same =
-    let parts : stop - from ≡ (at - from) + (1 + (stop - (at + 1))) = omega arith in
-    let here : from + (at - from) ≡ at = omega arith in
-    let behind = begun_after u at 1 begun in
-    let more = ended_after u (at + 1) (stop - (at + 1)) behind in
+    let more = ended_after u (at + 1) (stop - (at + 1)) (begun_after u at 1 begun) in
     let ended = ended_after u from (at - from) g in (
       more,
-      ap (λ n. ended_after u from n g) parts
+      ap (λ n. ended_after u from n g) (omega arith)
           ∙ (scan_split u (at - from) (1 + (stop - (at + 1))) from g).1
-          ∙ ap₂ (λ n b. ended ++ ended_after u n (1 + (stop - (at + 1))) b) here (sym same)
+          ∙ ap₂ (λ n b. ended ++ ended_after u n (1 + (stop - (at + 1))) b) (omega arith) (sym same)
           ∙ ap (λ l. ended ++ l) ((scan_split u 1 (stop - (at + 1)) at begun).1 ∙ ap (λ l. l ++ more) (one_ended u at begun ∙ ap (λ v. next_ended at v begun) is))
           ∙ sym (append_assoc ended (next_ended at value begun) more),
     )

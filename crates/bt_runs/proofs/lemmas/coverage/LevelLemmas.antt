@@ -1,5 +1,5 @@
 -- A scan of the positions finds the intervals of equal value, and no other list has them; scans in parts, and scans that see the same values.
-use Rattle.bt_lines.proofs.Std.{◌≡◌, ℕ, zero, suc, ◌+◌, ◌<◌, ◌≤◌, List, [], ◌∷◌, ◌++◌, refl, arith, append_assoc, true, Option, Some, None, ⊤}
+use Rattle.bt_lines.proofs.Std.{◌≡◌, ℕ, zero, suc, ◌+◌, ◌<◌, ◌≤◌, List, [], ◌∷◌, ◌++◌, refl, arith, true, Option, Some, None, ⊤}
 use Rattle.bt_runs.specs.model.Depth.{Begun, Level, begun_after, ended_after, levels_from, next_begun, next_ended, goes_on}
 
 pub levels_more : (value : ℕ → Option ℕ) (p n : ℕ) (begun : Option Begun) → levels_from value p (suc n) begun ≡ next_ended p (value p) begun ++ levels_from value (p + 1) n (next_begun p (value p) begun)
@@ -12,12 +12,8 @@ pub scan_split : (value : ℕ → Option ℕ) (a b p : ℕ) (g : Option Begun) �
 unfolding begun_after ended_after
 scan_split value zero b p g = let here : p + 0 ≡ p = omega arith in let none : 0 + b ≡ b = omega arith in rw (here, none) (refl, refl)
 scan_split value (suc a) b p g =
-    let next : p + suc a ≡ p + 1 + a = omega arith in
     let more : suc a + b ≡ suc (a + b) = omega arith in
     grind (arith, (scan_split value a b (p + 1) (next_begun p (value p) g)))
-
-pub levels_split : (value : ℕ → Option ℕ) (a b p : ℕ) (g : Option Begun) → levels_from value p (a + b) g ≡ ended_after value p a g ++ levels_from value (p + a) b (begun_after value p a g)
-levels_split value a b p g = grind (arith, scan_split, append_assoc)
 
 -- scans of the same values
 abbrev pub AreSame : (ℕ → Option ℕ) → (ℕ → Option ℕ) → ℕ → ℕ → Type 0
@@ -28,10 +24,6 @@ unfolding begun_after ended_after
 scan_same u v zero p g same = (refl, refl)
 scan_same u v (suc n) p g same = grind (arith, (scan_same u v n (p + 1) (next_begun p (v p) g) (λ q low high. same q (omega arith) (omega arith))))
 
--- a scan of one value
-goes_on_now : (value : Option ℕ) (p : ℕ) (g : Option Begun) → goes_on (next_begun p value g) value ≡ true
-goes_on_now value p g = grind arith
-
 module _ (u : ℕ → Option ℕ) (value : Option ℕ) where
   scan_on : (n p : ℕ) (g : Option Begun) → ((q : ℕ) → p ≤ q → q < p + n → u q ≡ value) → goes_on g value ≡ true → (begun_after u p n g ≡ g) × (ended_after u p n g ≡ [])
   unfolding begun_after ended_after
@@ -41,7 +33,7 @@ module _ (u : ℕ → Option ℕ) (value : Option ℕ) where
   pub scan_run : (n p : ℕ) (g : Option Begun) → 0 < n → ((q : ℕ) → p ≤ q → q < p + n → u q ≡ value) → (begun_after u p n g ≡ next_begun p value g) × (ended_after u p n g ≡ next_ended p value g)
   unfolding begun_after ended_after
   scan_run zero p g some same = absurd (omega arith)
-  scan_run (suc n) p g some same = grind (arith, (scan_on n (p + 1) (next_begun p value g) (λ q low high. same q (omega arith) (omega arith)) (goes_on_now value p g)))
+  scan_run (suc n) p g some same = grind (arith, (scan_on n (p + 1) (next_begun p value g) (λ q low high. same q (omega arith) (omega arith)) (grind arith)))
 
 -- where intervals stop
 abbrev pub StopIn : ℕ → ℕ → List Level → Type 0
@@ -61,9 +53,6 @@ unfolding ended_after
 ended_after-stop value zero p g = tt
 ended_after-stop value (suc n) p g = grind (arith, (ended_after-stop value n (p + 1) (next_begun p (value p) g)), stop_wider)
 
-pub levels_from-stop : (value : ℕ → Option ℕ) (n p : ℕ) (g : Option Begun) → StopIn p (p + n + 1) (levels_from value p n g)
-levels_from-stop value n p g = grind (arith, stop_both, stop_wider, ended_after-stop)
-
 -- where they start
 abbrev pub BeginsBelow : ℕ → Option Begun → Type 0
 BeginsBelow p None = ⊤
@@ -76,10 +65,7 @@ BeginsFrom p (Some begun) = p ≤ begun.start
 below_later : (p q : ℕ) (g : Option Begun) → p ≤ q → BeginsBelow p g → BeginsBelow q g
 below_later p q g h b = grind arith
 
-next_begun-below : (p : ℕ) (value : Option ℕ) (g : Option Begun) → BeginsBelow p g → BeginsBelow (p + 1) (next_begun p value g)
-next_begun-below p value g b = grind arith
-
 pub begun_after-below : (value : ℕ → Option ℕ) (n p : ℕ) (g : Option Begun) → BeginsBelow p g → BeginsBelow (p + n) (begun_after value p n g)
 unfolding begun_after
 begun_after-below value zero p g b = below_later p (p + 0) g (omega arith) b
-begun_after-below value (suc n) p g b = grind (arith, (begun_after-below value n (p + 1) (next_begun p (value p) g) (next_begun-below p (value p) g b)))
+begun_after-below value (suc n) p g b = grind (arith, (begun_after-below value n (p + 1) (next_begun p (value p) g) (grind arith)))

@@ -1,14 +1,14 @@
 -- The records that are open at a position and at later ones, how many of them cover a position, and their ends, counted by every test of an end.
-use Rattle.bt_lines.proofs.Std.{common_steps, rules, ◌≡◌, ℕ, ◌+◌, ◌<◌, ◌≤◌, inl, inr, List, [], ◌∷◌, ◌++◌, refl, sym, ap, ◌∙◌, arith, All, filter, length, max, nat_le, not, false, cond, ◌&&◌, nat_lt, slice_index_or, subst, drop, Bool, MatchBool, true, IfSome, IsSome, Option, Some, None, cases_Bool, cases_lt, lt-ltb, le-ltb, le-leb, length-map, map-append, length-filter_both, All-filter, All-head, All-nil, All-tail, All-weaker, filter-append, filter_agree, filter_passes, IsUpperBound, PopsGreatest, IsPermutation, nat_cmp, IsPermutation-map, sum_by-IsPermutation, length-filter, ap₂, length-append, map, bytes_eq, or_parts, ◌-◌, append_assoc, append-nil, zero, suc}
-use Rattle.bt_bed.specs.model.Feature.{Span, Feature, interval_of, intervals_of, span_of}
-use Rattle.bt_runs.specs.model.Depth.{covers, depth_at, counted_on, cut_at, depth_of, is_counted_by, open_at, reported, begun_across, Begun, Level, begun_after, ended_after, ended_at, levels_of, begun_at, goes_on, levels_from}
-use Rattle.bt_runs.specs.inside.Coverage.{still_open, CountsFrom, IsLeastFirst, StartsBelow, ends_of, KeepsOpen, span_open, spans_open, opened, Known, known_by, levels_by, levels_left}
+use Rattle.bt_lines.proofs.Std.{common_steps, ◌≡◌, ℕ, ◌+◌, ◌<◌, ◌≤◌, inl, inr, List, [], ◌∷◌, ◌++◌, refl, sym, ap, ◌∙◌, arith, All, filter, length, max, nat_le, not, false, cond, ◌&&◌, nat_lt, slice_index_or, subst, drop, Bool, MatchBool, true, IfSome, IsSome, Option, Some, None, cases_Bool, cases_lt, lt-ltb, le-ltb, le-leb, length-map, map-append, length-filter_both, All-filter, All-head, All-nil, All-tail, All-weaker, filter-append, filter_agree, filter_passes, IsUpperBound, PopsGreatest, IsPermutation, nat_cmp, IsPermutation-map, sum_by-IsPermutation, length-filter, ap₂, length-append, map, bytes_eq, or_parts, ◌-◌, append_assoc, append-nil, zero, suc}
+use Rattle.bt_bed.specs.model.Feature.{Span, Feature, intervals_of}
+use Rattle.bt_runs.specs.model.Depth.{covers, depth_at, counted_on, cut_at, depth_of, open_at, reported, begun_across, Begun, Level, begun_after, ended_after, ended_at, levels_of, begun_at, goes_on, levels_from}
+use Rattle.bt_runs.specs.inside.Coverage.{still_open, CountsFrom, IsLeastFirst, StartsBelow, ends_of, KeepsOpen, span_open, spans_open, Known, known_by, levels_by, levels_left}
 use Rattle.bt_runs.specs.declared.coverage.open_records.OpenSpan.{OpenSpan}
 use Rattle.std.specs.declared.cmp.Reverse.{Reverse}
 use Rattle.bt_bed.specs.model.Sorted.{has_records}
 use Rattle.bt_bed.specs.declared.record.strand.Strand.{Strand}
 use Rattle.bt_runs.proofs.lemmas.order.FileOrder.{spans_on-append}
-use Rattle.bt_runs.proofs.lemmas.coverage.LevelLemmas.{AreSame, StopIn, scan_run, scan_same, scan_split, ended_after-stop, levels_from-stop, stop_wider, BeginsBelow, BeginsFrom, begun_after-below, levels_split, levels_more}
+use Rattle.bt_runs.proofs.lemmas.coverage.LevelLemmas.{AreSame, StopIn, scan_run, scan_same, scan_split, ended_after-stop, stop_wider, BeginsBelow, BeginsFrom, begun_after-below, levels_more, stop_both}
 
 -- what a filter keeps
 module _ {X : Type 0} (p : X → Bool) where
@@ -34,26 +34,18 @@ module _ {X : Type 0} (p : X → Bool) where
   filter_both q [] = refl
   filter_both q (x ∷ xs) = grind (arith, (filter_both q xs))
 
--- those that end at a position or past it do, and if all do, all are kept
-from_all : {X : Type 0} (end : X → ℕ) (position : ℕ) (xs : List X) → All (λ x. position ≤ end x) (filter (λ x. nat_le position (end x)) xs)
-from_all end position xs = grind (arith, filter_passes)
-
 all_from : {X : Type 0} (end : X → ℕ) (position : ℕ) (xs : List X) → All (λ x. position ≤ end x) xs → filter (λ x. nat_le position (end x)) xs ≡ xs
 all_from end position xs all =
     filter_stays (λ x. nat_le position (end x)) xs (All-weaker (λ x. position ≤ end x) (λ x. nat_le position (end x) ≡ true) (λ x low. le-leb position (end x) low) xs all)
 
--- those that are open at a later position are open before
-later_alone : (first later end : ℕ) → first ≤ later → (nat_le first end && nat_le later end) ≡ nat_le later end
-later_alone first later end up = grind arith
-
 pub open_after : (first later : ℕ) (spans : List Span) → first ≤ later → still_open later (still_open first spans) ≡ still_open later spans
 open_after first later spans up =
     sym (filter_both (λ (s : Span). nat_le first s.stop) (λ s. nat_le later s.stop) spans)
-    ∙ filter_agree (λ (s : Span). nat_le first s.stop && nat_le later s.stop) (λ s. nat_le later s.stop) (λ s. later_alone first later s.stop up) spans
+    ∙ filter_agree (λ (s : Span). nat_le first s.stop && nat_le later s.stop) (λ s. nat_le later s.stop) (λ s. grind arith) spans
 
 -- none of them ends before
 pub all_open : (position : ℕ) (spans : List Span) → All (λ s. position ≤ s.stop) (still_open position spans)
-all_open position spans = from_all (λ (s : Span). s.stop) position spans
+all_open position spans = grind (arith, filter_passes)
 
 -- those that all end at a position or past it stay
 pub stay_open : (position next : ℕ) (spans : List Span) → position ≤ next → All (λ s. next ≤ s.stop) spans → still_open position spans ≡ spans
@@ -113,7 +105,7 @@ module _ (ends : List ℕ) (spans : List Span) (counts : (test : ℕ → Bool) �
   pub left_ends : (position : ℕ) → All (λ s. position ≤ s.stop) spans → All (λ e. position ≤ e) ends
   left_ends position all =
       let same : length ends ≡ length (filter (λ e. nat_le position e) ends) = as_many ∙ ap length (sym (all_from (λ (s : Span). s.stop) position spans all)) ∙ sym (counts (λ e. nat_le position e)) in
-      rw (← (filter_full (λ e. nat_le position e) ends (omega arith))) (from_all (λ e. e) position ends)
+      rw (← (filter_full (λ e. nat_le position e) ends (omega arith))) (grind (arith, filter_passes))
 
 -- an order of the ends doesn't matter
 pub same_count : (test : ℕ → Bool) (xs ys : List ℕ) → IsPermutation xs ys → length (filter test ys) ≡ length (filter test xs)
@@ -144,20 +136,17 @@ module _ (first position : ℕ) (spans : List Span) (ends : List ℕ) (kept : Ke
   abbrev later : ℕ
   later = max first position
 
-  pub same_open : still_open later spans ≡ still_open first spans
-  same_open = grind (arith, open_after, stay_open)
-
   pub keeps_same : KeepsOpen later (still_open later spans) ends
   keeps_same = record {
     started = All-filter (λ s. nat_le later s.stop) (λ s. s.start ≤ later) spans (All-weaker (λ s. s.start ≤ first) (λ s. s.start ≤ later) (λ s low. omega arith) spans kept.started);
     counts = λ test.
         kept.counts test
-        ∙ ap (λ l. length (filter (λ (s : Span). test s.stop) l)) (sym same_open ∙ sym (open_after later later spans (omega arith)));
+        ∙ ap (λ l. length (filter (λ (s : Span). test s.stop) l)) (sym (grind (arith, open_after, stay_open)) ∙ sym (open_after later later spans (omega arith)));
   }
 
   -- as many as there are ends
   pub open_count : length ends ≡ length (still_open later spans)
-  open_count = as_many ends (still_open first spans) kept.counts ∙ ap length (sym same_open)
+  open_count = as_many ends (still_open first spans) kept.counts ∙ ap length (sym (grind (arith, open_after, stay_open)))
 
 -- the top of a heap whose least is the first
 pub top_least : (xs : List (Reverse ℕ)) (x : Reverse ℕ) → IsUpperBound (λ x y. nat_cmp y.0 x.0) x xs → All (λ e. x.0 ≤ e) (ends_of xs)
@@ -194,12 +183,9 @@ module _ (position : ℕ) (first : List ℕ) (old new : List (Reverse ℕ)) (bel
 depth_append : (xs ys : List Span) (p : ℕ) → depth_at (xs ++ ys) p ≡ depth_at xs p + depth_at ys p
 depth_append xs ys p = ap length (filter-append (covers p) xs ys) ∙ length-append (filter (covers p) xs) (filter (covers p) ys)
 
-depth_push : (xs : List Span) (s : Span) (p : ℕ) → p < s.start → depth_at (xs ++ s ∷ []) p ≡ depth_at xs p
-depth_push xs s p h = grind (arith, depth_append)
-
 pub depth_of-push : (zeros : Bool) (xs : List Span) (s : Span) (p : ℕ) → p < s.start → depth_of zeros (xs ++ s ∷ []) p ≡ depth_of zeros xs p
 unfolding depth_of
-depth_of-push zeros xs s p h = ap (reported zeros) (depth_push xs s p h)
+depth_of-push zeros xs s p h = ap (reported zeros) (grind (arith, depth_append))
 
 depth_cut : (size p : ℕ) (spans : List Span) → p < size → depth_at (map (cut_at size) (filter (λ s. nat_lt s.start size) spans)) p ≡ depth_at spans p
 depth_cut size p [] high = refl
@@ -225,9 +211,6 @@ counted_append strand name past more = grind (arith, filter-append, map-append, 
 pub counted_elsewhere : (strand : Option Strand) (name : List ℕ) (r : Feature) → bytes_eq r.chrom name ≡ false → counted_on strand name (r ∷ []) ≡ []
 counted_elsewhere strand name r other = grind arith
 
-pub counted_here : (strand : Option Strand) (name : List ℕ) (r : Feature) → r.chrom ≡ name → counted_on strand name (r ∷ []) ≡ cond (is_counted_by strand r.strand) (span_of (interval_of r) ∷ []) []
-counted_here strand name r is = search rules
-
 pub counted_none : (strand : Option Strand) (name : List ℕ) (past : List Feature) → has_records name (intervals_of past) ≡ false → counted_on strand name past ≡ []
 counted_none strand name [] none = refl
 counted_none strand name (r ∷ rs) none =
@@ -245,10 +228,6 @@ known_at zeros size spans start = cond (nat_lt size start) (record { to = size; 
 abbrev pub settled_at : Bool → ℕ → List Span → ℕ → List Level
 settled_at zeros size spans start = cond (nat_lt size start) (levels_of (depth_of zeros spans) size) (ended_after (depth_of zeros spans) 0 start None)
 
--- a record that comes in order is taken to start where it does
-pub start_same : (zeros : Bool) (size : ℕ) (spans : List Span) (start next : ℕ) → start ≤ next → max next (known_at zeros size spans start).to ≡ next
-start_same zeros size spans start next up = grind arith
-
 -- the record is one of the counted ones, or not
 abbrev pub with_counted : Bool → List Span → ℕ → ℕ → List Span
 with_counted counted spans start stop = spans ++ cond counted (record { start = start; stop = stop } ∷ []) []
@@ -262,8 +241,6 @@ module _ (zeros : Bool) (size : ℕ) (spans : List Span) (start : ℕ) where
   rest_of : (stop : ℕ) → start ≤ stop → stop ≤ size → start ≤ size → (begun_after (depth_of zeros spans) 0 stop None ≡ begun_after (depth_of zeros (open_at size start spans)) start (stop - start) (begun_after (depth_of zeros spans) 0 start None))
       × (ended_after (depth_of zeros spans) 0 stop None ≡ ended_after (depth_of zeros spans) 0 start None ++ ended_after (depth_of zeros (open_at size start spans)) start (stop - start) (begun_after (depth_of zeros spans) 0 start None))
   rest_of stop up within below =
-      let parts : stop ≡ start + (stop - start) = omega arith in
-      let from : 0 + start ≡ start = omega arith in
       let v = depth_of zeros spans in
       grind (arith, (scan_split v start (stop - start) 0 None), (scan_same (depth_of zeros (open_at size start spans)) v (stop - start) start (begun_after v 0 start None) (held_same stop within)))
 
@@ -278,12 +255,12 @@ module _ (zeros : Bool) (size : ℕ) (spans : List Span) (start : ℕ) where
 
   -- those that are settled end below the start, and those that are left don't
   pub settled_end : StopIn 0 start (settled_at zeros size spans start)
-  settled_end = grind (arith, stop_wider, levels_from-stop, ended_after-stop)
+  settled_end = grind (arith, stop_wider, stop_both, ended_after-stop)
 
   pub left_end : StopIn start (size + 1) (levels_left zeros size (known_at zeros size spans start))
   left_end = elim (cases_lt size start) [
     | inl past ↦ grind (arith, none_left)
-    | inr within ↦ grind (arith, (levels_from-stop (depth_of zeros (open_at size start spans)) (size - start) start (begun_after (depth_of zeros spans) 0 start None)))
+    | inr within ↦ grind (arith, stop_both, stop_wider, ended_after-stop)
   ]
 
 -- one more record
@@ -291,25 +268,18 @@ module _ (zeros counted : Bool) (size : ℕ) (spans : List Span) (start : ℕ) (
   abbrev more : List Span
   more = with_counted counted spans r.start r.stop
 
-  -- below its start nothing changes
-  same_below : (n : ℕ) → n ≤ r.start → AreSame (depth_of zeros (with_counted counted spans r.start r.stop)) (depth_of zeros spans) 0 n
-  same_below n h = grind (arith, depth_of-push, append-nil)
-
   same_scan : (n : ℕ) → n ≤ r.start → (begun_after (depth_of zeros (with_counted counted spans r.start r.stop)) 0 n None ≡ begun_after (depth_of zeros spans) 0 n None)
       × (ended_after (depth_of zeros (with_counted counted spans r.start r.stop)) 0 n None ≡ ended_after (depth_of zeros spans) 0 n None)
-  same_scan n h = scan_same (depth_of zeros (with_counted counted spans r.start r.stop)) (depth_of zeros spans) n 0 None (same_below n h)
+  same_scan n h = scan_same (depth_of zeros (with_counted counted spans r.start r.stop)) (depth_of zeros spans) n 0 None (grind (arith, depth_of-push, append-nil))
 
   pub settled_next : settled_at zeros size (with_counted counted spans r.start r.stop) r.start ≡ settled_at zeros size spans start ++ levels_by zeros size (known_at zeros size spans start) r.start
   settled_next = elim (cases_lt size r.start) [
-    | inl past ↦ grind (arith, same_scan, settled_and_left)
+    | inl past ↦ grind (arith, same_scan, none_left, rest_of, append_assoc)
     | inr within ↦ grind (arith, (same_scan r.start (omega arith)), (rest_of zeros size spans start r.start up within (omega arith)))
   ]
 
-  open_next : r.start ≤ size → open_at size r.start (with_counted counted spans r.start r.stop) ≡ still_open r.start (open_at size start spans) ++ opened counted size r.start r.stop
-  open_next within = grind (arith, open_later, filter-append, map-append)
-
   pub known_next : known_at zeros size (with_counted counted spans r.start r.stop) r.start ≡ known_by zeros counted size (known_at zeros size spans start) r.start r.stop
-  known_next = grind (arith, same_scan, rest_of, open_next)
+  known_next = grind (arith, same_scan, rest_of, open_later, filter-append, map-append)
 
 -- a chromosome without records has one depth
 depth_none : (zeros : Bool) (p : ℕ) → depth_of zeros [] p ≡ reported zeros 0
@@ -338,25 +308,15 @@ pub settled_first : (zeros : Bool) (size : ℕ) → settled_at zeros size [] 0 �
 unfolding ended_after
 settled_first zeros size = let within : 0 ≤ size = omega arith in rw (le-ltb size 0 within) refl
 
--- an interval that ends below the start isn't it
-across_one : (p : ℕ) (l : Level) (ls : List Level) → l.stop < p → begun_across p (l ∷ ls) ≡ begun_across p ls
-across_one p l ls h = grind arith
-
 across_ended : (p : ℕ) (xs ys : List Level) → StopIn 0 p xs → begun_across p (xs ++ ys) ≡ begun_across p ys
 across_ended p [] ys s = refl
-across_ended p (x ∷ xs) ys s = across_one p x (xs ++ ys) s.1 ∙ across_ended p xs ys s.2
+across_ended p (x ∷ xs) ys s = (grind arith) ∙ across_ended p xs ys s.2
 
 across_none : (p : ℕ) (xs : List Level) → StopIn 0 p xs → begun_across p xs ≡ None
 across_none p [] s = refl
-across_none p (x ∷ xs) s = across_one p x xs s.1 ∙ across_none p xs s.2
+across_none p (x ∷ xs) s = (grind arith) ∙ across_none p xs s.2
 
 module _ (value : ℕ → Option ℕ) (p : ℕ) where
-  across_begun : (q : ℕ) (g : Option Begun) (rest : List Level) → BeginsFrom p g → begun_across p (ended_at g q ++ rest) ≡ begun_across p rest
-  across_begun q g rest b = grind arith
-
-  begun_at-from : (q : ℕ) (v : Option ℕ) → p ≤ q → BeginsFrom p (begun_at q v)
-  begun_at-from q v h = grind arith
-
   -- what begins at the start or past it isn't it
   across_from : (n q : ℕ) (g : Option Begun) → p ≤ q → BeginsFrom p g → begun_across p (levels_from value q n g) ≡ None
   unfolding begun_after ended_after
@@ -366,7 +326,7 @@ module _ (value : ℕ → Option ℕ) (p : ℕ) where
       ap (begun_across p) (levels_more value q n g)
       ∙ elim (cases_Bool (goes_on g (value q))) [
         | inl t ↦ rw t (across_from n (q + 1) g (omega arith) b)
-        | inr f ↦ rw f (across_begun q g (levels_from value (q + 1) n (begun_at q (value q))) b ∙ across_from n (q + 1) (begun_at q (value q)) (omega arith) (begun_at-from q (value q) h))
+        | inr f ↦ rw f ((grind arith) ∙ across_from n (q + 1) (begun_at q (value q)) (omega arith) (grind arith))
       ]
 
   -- what has begun below it and reaches it is
@@ -385,16 +345,15 @@ pub across_known : (zeros : Bool) (size : ℕ) (spans : List Span) (start : ℕ)
 across_known zeros size spans start =
     let v = depth_of zeros spans in
     elim (cases_lt size start) [
-      | inl past ↦ rw (lt-ltb size start past) (across_none start (levels_of v size) (stop_wider 0 (0 + size + 1) 0 start (levels_of v size) (omega arith) (omega arith) (levels_from-stop v size 0 None)))
+      | inl past ↦ rw (lt-ltb size start past) (across_none start (levels_of v size) (stop_wider 0 (0 + size + 1) 0 start (levels_of v size) (omega arith) (omega arith) (grind (arith, stop_both, stop_wider, ended_after-stop))))
       | inr within ↦
           let parts : start + (size - start) ≡ size = omega arith in
           let from : 0 + start ≡ start = omega arith in
           let begun = begun_after v 0 start None in
-          let below : BeginsBelow start begun = subst (λ n. BeginsBelow n begun) from (begun_after-below v start 0 None tt) in
           rw (le-ltb size start within)
           (ap (λ n. begun_across start (levels_of v n)) (sym parts)
-          ∙ ap (begun_across start) (levels_split v start (size - start) 0 None)
+          ∙ ap (begun_across start) (grind (arith, scan_split, append_assoc))
           ∙ across_ended start (ended_after v 0 start None) (levels_from v (0 + start) (size - start) begun) (stop_wider 0 (0 + start) 0 start (ended_after v 0 start None) (omega arith) (omega arith) (ended_after-stop v start 0 None))
           ∙ ap (λ n. begun_across start (levels_from v n (size - start) begun)) from
-          ∙ across_all v start (size - start) begun below)
+          ∙ across_all v start (size - start) begun (subst (λ n. BeginsBelow n begun) from (begun_after-below v start 0 None tt)))
     ]

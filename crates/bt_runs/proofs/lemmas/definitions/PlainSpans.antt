@@ -48,9 +48,6 @@ AreBelow P n spans = AreStretchesOf (λ p. (p < n) × P p) spans
 pub below_with : (P : ℕ → Type 0) (n : ℕ) (spans : List Span) → AreBelow P n spans → P n → AreBelow P (n + 1) (with_next spans n)
 below_with P n spans r here = grind (arith, (with_next-adds n spans r.apart (λ q c. (r.within q c).0)))
 
-pub below_without : (P : ℕ → Type 0) (n : ℕ) (spans : List Span) → AreBelow P n spans → (P n → ⊥) → AreBelow P (n + 1) spans
-below_without P n spans r none = grind arith
-
 -- those of the bridged positions
 abbrev pub AreRunsBelow : ℕ → List Span → ℕ → List Span → Type 0
 AreRunsBelow gap spans n runs = AreBelow (Bridged gap spans) n runs

@@ -22,12 +22,9 @@ cmp_greater a b h = rw (le-ltb a b (omega arith), ne_eqb a b (λ e. absurd (omeg
 pub less_cmp : (a b : ℕ) → nat_cmp a b ≡ Less → a < b
 less_cmp a b e = grind arith
 
-equal_rank : (o : Option ℕ) → compare_ranks o o ≡ Equal
-equal_rank o = grind arith
-
 -- a name compares as equal with itself, and so never as less
 pub compare_same : (names : List (List ℕ)) (a b : List ℕ) → a ≡ b → (rank_order names).compare a b ≡ Equal
-compare_same names a b same = ap (λ c. (rank_order names).compare c b) same ∙ equal_rank (rank_of names b)
+compare_same names a b same = ap (λ c. (rank_order names).compare c b) same ∙ (grind arith)
 
 pub not_less : (names : List (List ℕ)) (a b : List ℕ) → a ≡ b → (rank_order names).compare a b ≡ Less → ⊥
 not_less names a b same less = let apart : Equal ≡ Less = sym (compare_same names a b same) ∙ less in cc
@@ -76,7 +73,6 @@ module _ {K : Type 0} (name : K → List ℕ) where
   found (e ∷ es) wanted rank is =
       elim (cases_Bool (bytes_eq (name e) wanted)) [
         | inl t ↦
-            let here : Some 0 ≡ Some rank = sym (cond-true (bytes_eq (name e) wanted) (Some 0) (option_map (λ n. suc n) (rank_of (map name es) wanted)) t) ∙ is in
             record { before = []; key = e; after = es; split = refl; at = cc; is = same_name (name e) wanted t; first = refl }
         | inr f ↦
             let more = later_rank (rank_of (map name es) wanted) rank (sym (cond-false (bytes_eq (name e) wanted) (Some 0) (option_map (λ n. suc n) (rank_of (map name es) wanted)) f) ∙ is) in
@@ -105,8 +101,7 @@ module _ {K : Type 0} (name : K → List ℕ) where
   rank_behind : (before : List K) (e : K) (after : List K) → is_among (map name before) (name e) ≡ false → rank_of (map name (before ++ e ∷ after)) (name e) ≡ Some (length before)
   rank_behind [] e after f = cond-true (bytes_eq (name e) (name e)) (Some 0) (option_map (λ n. suc n) (rank_of (map name after) (name e))) (name_eq (name e) (name e) refl)
   rank_behind (b ∷ bs) e after f =
-      let parts = or_parts (bytes_eq (name b) (name e)) (is_among (map name bs) (name e)) f in
-      grind (arith, (rank_behind bs e after parts.1))
+      grind (arith, (rank_behind bs e after (or_parts (bytes_eq (name b) (name e)) (is_among (map name bs) (name e)) f).1))
 
   pub rank_at : (before : List K) (e : K) (after : List K) → AreDistinct (map name (before ++ e ∷ after)) → rank_of (map name (before ++ e ∷ after)) (name e) ≡ Some (length before)
   rank_at before e after d = rank_behind before e after (apart before e after d).none_before
@@ -238,7 +233,6 @@ module _ {K : Type 0} (name : K → List ℕ) where
             | inl less ↦
                 let higher = less_cmp (length before) known.0 (rw mine at (rw known.1 at less)) in
                 let other = λ (e : name key ≡ r.chrom).
-                let both : Some (length before) ≡ Some known.0 = sym mine ∙ ap (rank_of names) (sym s.is ∙ e) ∙ known.1 in
                 let same : length before ≡ known.0 = cc in
                 absurd (omega arith) in
                 inr (further records r before key after known.0 s.split s.none_after other known.1 higher (found name keys r.chrom known.0 known.1))
@@ -248,8 +242,7 @@ module _ {K : Type 0} (name : K → List ℕ) where
       -- the first record
       pub begins_at : (r : Interval) → ArePlaced (rank_order (map name keys)) (r ∷ []) → (rank : ℕ) × (f : Found name keys r.chrom rank) × (rank_of (map name keys) r.chrom ≡ Some rank) × Arrives [] r f.before f.key f.after
       begins_at r placed =
-          let names = map name keys in
-          let known = known_rank (rank_of names r.chrom) placed.0 in
+          let known = known_rank (rank_of (map name keys) r.chrom) placed.0 in
           let f = found name keys r.chrom known.0 known.1 in
           (known.0, f, known.1, record { split = f.split; is = f.is; none_after = none_at_first f.after })
 
@@ -418,8 +411,7 @@ module _ (keep : Feature → Bool) where
   pub some_absent : (name : List ℕ) (records : List Feature) (more : List Interval) → has_records name (intervals_of records ++ more) ≡ false → has_records name (intervals_of (filter keep records) ++ more) ≡ false
   some_absent name [] more f = f
   some_absent name (r ∷ rs) more f =
-      let parts = or_parts (bytes_eq r.chrom name) (has_records name (intervals_of rs ++ more)) f in
-      grind (arith, (some_absent name rs more parts.1))
+      grind (arith, (some_absent name rs more (or_parts (bytes_eq r.chrom name) (has_records name (intervals_of rs ++ more)) f).1))
 
 module _ (strand : MergeStrand) where
   pub counted_absent : (name : List ℕ) (past : List Feature) → has_records name (intervals_of past) ≡ false → has_records name (counted strand past) ≡ false
@@ -433,9 +425,6 @@ module _ (strand : MergeStrand) where
   -- one more that is merged, and one that isn't
   pub counted_next : (past : List Feature) (r : Feature) → is_counted strand r.strand ≡ true → counted strand (past ++ r ∷ []) ≡ counted strand past ++ interval_of r ∷ []
   counted_next past r t = counted-append past (r ∷ []) ∙ ap (λ rs. counted strand past ++ intervals_of rs) (cond-true (is_counted strand r.strand) (r ∷ []) [] t)
-
-  pub counted_same : (past : List Feature) (r : Feature) → is_counted strand r.strand ≡ false → counted strand (past ++ r ∷ []) ≡ counted strand past
-  counted_same past r f = grind (arith, counted-append, append-nil)
 
 -- What follows of every list of which more and more is settled as records come.
 

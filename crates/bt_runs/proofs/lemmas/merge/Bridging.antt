@@ -45,9 +45,6 @@ HasRight-Decides gap spans p left = some_below-Decides (λ right. is_covered spa
 abbrev HasLeft : ℕ → List Span → ℕ → Type 0
 HasLeft gap spans p = (left : ℕ) × (left < p + 1) × (IsCovered spans left × HasRight gap spans p left)
 
-bridged_from : (gap : ℕ) (spans : List Span) (p : ℕ) → HasLeft gap spans p → Bridged gap spans p
-bridged_from gap spans p h = grind arith
-
 bridged_to : (gap : ℕ) (spans : List Span) (p : ℕ) → Bridged gap spans p → HasLeft gap spans p
 bridged_to gap spans p b = (b.left, omega arith, (b.left_covered, (b.right, omega arith, (b.right_covered, b.to_right))))
 
@@ -55,7 +52,7 @@ pub is_bridged-Decides : (gap : ℕ) (spans : List Span) (p : ℕ) → Decides (
 unfolding is_bridged
 is_bridged-Decides gap spans p =
     Decides-like (some_below (p + 1) (λ left. is_covered spans left && some_below (left + gap + 2) (λ right. is_covered spans right && nat_le p right)))
-    (bridged_from gap spans p)
+    (grind arith)
     (bridged_to gap spans p)
     (some_below-Decides (λ left. is_covered spans left && some_below (left + gap + 2) (λ right. is_covered spans right && nat_le p right)) (λ left. IsCovered spans left × HasRight gap spans p left) (λ left. Decides-and (is_covered spans left) (some_below (left + gap + 2) (λ right. is_covered spans right && nat_le p right)) (is_covered-Decides spans left) (HasRight-Decides gap spans p left)) (p + 1))
 
@@ -127,16 +124,9 @@ apart_push : (gap first : ℕ) (done : List Span) (run x : Span) → run.stop + 
 apart_push gap first [] run x far full a = (a.0, a.1, (omega arith, full, tt))
 apart_push gap first (y ∷ done) run x far full a = (a.0, a.1, apart_push gap (y.stop + gap + 1) done run x far full a.2)
 
--- one record alone is open
-pub first_open : (gap : ℕ) (x : Span) → x.start < x.stop → OneOpen gap (x ∷ []) x.start [] x
-first_open gap x full = grind arith
-
 -- the run with one more span joined to it
 abbrev pub longer : Span → Span → Span
 longer run x = record { start = run.start; stop = max run.stop x.stop }
-
-join_covering : (spans done : List Span) (run x : Span) → run.start ≤ x.start → IsWithin spans (done ++ run ∷ []) → IsWithin (spans ++ x ∷ []) (done ++ longer run x ∷ [])
-join_covering spans done run x low within = grind (arith, covered_parts, covered_left, covered_right)
 
 -- the positions of the longer run are bridged: those of the run, those of the new span, and those of the gap between
 in_longer : (gap : ℕ) (spans : List Span) (run x : Span) (p : ℕ) → run.start < run.stop → x.start ≤ run.stop + gap → ((q : ℕ) → q + 1 ≡ run.stop → IsCovered spans q) → ((q : ℕ) → run.start ≤ q → q < run.stop → Bridged gap spans q) → run.start ≤ p → p < max run.stop x.stop → x.start < x.stop → Bridged gap (spans ++ x ∷ []) p
@@ -154,7 +144,7 @@ pub join_open : (gap : ℕ) (spans : List Span) (last : ℕ) (done : List Span) 
 join_open gap spans last done run x o up full near = record {
   joined = record {
     apart = apart_longer gap 0 done run (longer run x) refl (let h = o.began in let g = o.reaches in omega arith) o.joined.apart;
-    covering = join_covering spans done run x (let h = o.began in omega arith) o.joined.covering;
+    covering = grind (arith, covered_parts, covered_left, covered_right);
     within = λ p c. elim (covered_parts done (longer run x ∷ []) p c) [
       | inl h ↦ bridged_more gap spans (x ∷ []) p (o.joined.within p (covered_left done (run ∷ []) p h))
       | inr h ↦ let w = covered_last (longer run x) p h in in_longer gap spans run x p (let f = o.began in let g = o.reaches in omega arith) near o.ends (λ q l r. o.joined.within q (covered_right done (run ∷ []) q (inl (l, r)))) w.0 w.1 full

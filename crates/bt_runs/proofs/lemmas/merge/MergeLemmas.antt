@@ -3,7 +3,7 @@ use Rattle.bt_lines.proofs.Std.{arith, ◌≡◌, ℕ, inl, inr, List, [], ◌�
 use Rattle.bt_lines.specs.calls.Output.{Output}
 use Rattle.bt_lines.specs.declared.fault.Fault.{Fault}
 use Rattle.bt_bed.specs.model.Feature.{Feature}
-use Rattle.bt_runs.specs.calls.Engine.{EngineDef, FeedAnswers, Feeds, FeedsBatch, FinishAnswers, Finishes, TakesEach, TakesGiven}
+use Rattle.bt_runs.specs.calls.Engine.{EngineDef, FeedAnswers, Feeds, FeedsBatch, Finishes, TakesEach, TakesGiven}
 use Rattle.bt_runs.specs.declared.merge.Kind.{Kind}
 use Rattle.bt_runs.specs.declared.merge.Kind.TheVariants.{PerStrand, Unstranded}
 use Rattle.bt_runs.specs.calls.Merging.{IsAfter, merge_begun, merge_engine}
@@ -31,24 +31,16 @@ module _ {E : Type 0} (merge : E → Kind) (only : (first : Kind) (past : List F
   }
 
   module _ (old : E) where
-    -- what holds after every past that the engine inside is after holds after every one that the merge is after
-    at : (P : Kind → List Feature → Type 0) → ((first : E) (past : List Feature) → inside.is_after first past old → P (merge first) past)
-        → (first : Kind) (past : List Feature) → IsAfter first past (merge old) → P first past
-    at P h first past s = grind arith
-
     module _ (r : Feature) (out : Output) (new : E) (grown : Output) where
       answers : {A : Type 0} (result : Result A Fault) → FeedAnswers inside old r out result new grown → FeedAnswers merge_engine (merge old) r out result (merge new) grown
       answers result p = grind arith
 
       pub feeds_inside : {A : Type 0} (result : Result A Fault) → Feeds inside old r out result new grown → Feeds merge_engine (merge old) r out result (merge new) grown
-      feeds_inside result p = record { going = at _ p.going; answers = answers result p.answers; quiet = at _ p.quiet; grows = p.grows; after_failure = p.after_failure }
+      feeds_inside result p = record { going = grind arith; answers = answers result p.answers; quiet = grind arith; grows = p.grows; after_failure = p.after_failure }
 
     module _ (out grown : Output) where
-      end_answers : {A : Type 0} (result : Result A Fault) → FinishAnswers inside old out result grown → FinishAnswers merge_engine (merge old) out result grown
-      end_answers result p = grind arith
-
       pub finishes_inside : {A : Type 0} (result : Result A Fault) → Finishes inside old out result grown → Finishes merge_engine (merge old) out result grown
-      finishes_inside result p = record { going = at _ p.going; answers = end_answers result p.answers; grows = p.grows; after_failure = p.after_failure }
+      finishes_inside result p = record { going = grind arith; answers = grind arith; grows = p.grows; after_failure = p.after_failure }
 
   -- what several records do
   each_inside : (records : List Feature) (old : E) (out : Output) (new : E) (grown : Output) → TakesEach inside old out records new grown

@@ -4,11 +4,11 @@ use Rattle.bt_lines.specs.model.Fault.{no_memory}
 use Rattle.bt_lines.specs.calls.Names.{fault_value}
 use Rattle.bt_lines.specs.calls.Output.{Output, Adds, FailsToAdd, FailsToPut, Grown}
 use Rattle.bt_lines.specs.declared.fault.Fault.{Fault}
-use Rattle.bt_bed.specs.model.Feature.{Feature, interval_of, Interval, is_strand}
+use Rattle.bt_bed.specs.model.Feature.{Feature, Interval, is_strand}
 use Rattle.bt_bed.specs.model.BedLine.{interval_line, interval_lines}
 use Rattle.bt_bed.proofs.lemmas.parse.NameLemmas.{name_eq, other_name}
 use Rattle.bt_runs.specs.calls.Engine.{AfterEach, fault_of}
-use Rattle.bt_runs.specs.model.Merged.{is_closed, StrandRun, kept_strand_runs, places_of, settled_strand_runs}
+use Rattle.bt_runs.specs.model.Merged.{StrandRun, kept_strand_runs, places_of, settled_strand_runs}
 use Rattle.bt_runs.specs.inside.merge.StrandStep.{left_runs, passed_runs, place_of, placed_run, placed_runs, with_joined, kept_in, added_at, left_unsettled, settled_prefix, last_place, place_among, run_from, with_added, JoinsAmong, joined_among, lines_by, strand_rule, stranding}
 use Rattle.bt_runs.specs.inside.Walk.{Does, EnterAnswers, FitsPast, PutsRestAtEnd}
 use Rattle.bt_runs.specs.calls.Stranding.{Stranding, held_count, settled_lines, strand_lines}
@@ -45,12 +45,9 @@ module _ (gap : ℕ) (chrom : List ℕ) (r : Feature) where
   abbrev reach : ℕ
   reach = r.start - gap
 
-  prefix_placed : (runs : List PendingRun) → prefix_len (λ item. is_closed gap (interval_of r) item.run) (placed_runs chrom runs) ≡ prefix_len (λ (w : PendingRun). not here || nat_lt w.stop reach) runs
-  prefix_placed runs = grind (arith, prefix_map)
-
   -- the runs that the record settles, and those that stay
   pub front_placed : (runs : List PendingRun) → settled_prefix gap (placed_runs chrom runs) r ≡ placed_runs chrom (passed_runs here reach runs)
-  front_placed runs = grind (arith, (prefix_placed runs), (take-map (placed_run chrom) (prefix_len (λ (w : PendingRun). not here || nat_lt w.stop reach) runs) runs))
+  front_placed runs = grind (arith, prefix_map, (take-map (placed_run chrom) (prefix_len (λ (w : PendingRun). not here || nat_lt w.stop reach) runs) runs))
 
   -- the record lies on the chromosome of the runs, or there are none
   abbrev pub Fits : List PendingRun → Type 0
@@ -91,14 +88,11 @@ module _ (old : Stranding) (r : Feature) (out : Output) (runs : List PendingRun)
   here_is : bytes_eq old.chrom r.chrom ≡ true
   here_is = name_eq old.chrom r.chrom on
 
-  front_is : settled_prefix old.gap old.kept r ≡ placed_runs old.chrom (passed_runs true near runs)
-  front_is = grind (arith, front_placed, here_is)
-
   behind_is : left_unsettled old.gap old.kept r ≡ placed_runs old.chrom left
   behind_is = grind (arith, here_is, front_placed, length-map, drop-map)
 
   lines_is : strand_lines (placed_runs old.chrom (passed_runs true near runs)) ≡ lines_by old r
-  lines_is = ap strand_lines (sym front_is)
+  lines_is = ap strand_lines (sym (grind (arith, front_placed, here_is)))
 
   kept_is_with : (new : List StrandRun) → with_added old.gap (placed_runs old.chrom left) r ≡ new → with_added old.gap (left_unsettled old.gap old.kept r) r ≡ new
   kept_is_with new is = ap (λ items. with_added old.gap items r) behind_is ∙ is
@@ -114,11 +108,8 @@ module _ (old : Stranding) (r : Feature) (out : Output) (runs : List PendingRun)
   added : Added old.gap old.chrom r left joined.0 joined.1
   added = added_by old.gap old.chrom r left joined.0 joined.1 refl (inl here_is)
 
-  left_kept : (now : List PendingRun) (b : Bool) → joined.0 ≡ b → now ≡ cond b joined.1 (left ++ pending_from r ∷ []) → with_added old.gap (placed_runs old.chrom left) r ≡ placed_runs old.chrom now
-  left_kept now b is e = grind (arith, added, map-append)
-
   pub takes_left : (now : List PendingRun) (new : Stranding) (grown : Output) → JoinsAmong old.chrom near runs (pending_from r) out (Ok false) now grown → new.gap ≡ old.gap → new.chrom ≡ old.chrom → new.kept ≡ placed_runs old.chrom now → TakesNext old r out (Ok tt) new grown
-  takes_left now new grown p gap chrom kept = takes_with new grown gap chrom (left_kept now joined.0 refl p.0 ∙ sym kept) p.1
+  takes_left now new grown p gap chrom kept = takes_with new grown gap chrom ((grind (arith, added, map-append)) ∙ sym kept) p.1
 
   pub takes_alone : (now : List PendingRun) (new : Stranding) (grown : Output) → JoinsAmong old.chrom near runs (pending_from r) out (Ok true) now grown → new.gap ≡ old.gap → new.chrom ≡ old.chrom → new.kept ≡ placed_run old.chrom (pending_from r) ∷ [] → TakesNext old r out (Ok tt) new grown
   takes_alone now new grown p gap chrom kept =
@@ -138,11 +129,8 @@ fails_alone old r out w kept_is on far fault new grown p = grind (arith, common_
 abbrev pub pending_in : OnlyRun → List PendingRun → List PendingRun
 pending_in only runs = cond only.is_any (only.run ∷ []) runs
 
-by_hand : (chrom : List ℕ) (b : Bool) (w : PendingRun) (runs : List PendingRun) → cond b (placed_run chrom w ∷ []) (placed_runs chrom runs) ≡ placed_runs chrom (cond b (w ∷ []) runs)
-by_hand chrom b w runs = grind arith
-
 pub kept_placed : (chrom : List ℕ) (only : OnlyRun) (runs : List PendingRun) → kept_in chrom only (placed_runs chrom runs) ≡ placed_runs chrom (pending_in only runs)
-kept_placed chrom only runs = by_hand chrom only.is_any only.run runs
+kept_placed chrom only runs = grind arith
 
 none_placed : (chrom other : List ℕ) (runs : List PendingRun) → placed_runs chrom runs ≡ [] → placed_runs other runs ≡ []
 none_placed chrom other [] e = refl

@@ -6,10 +6,10 @@ use Rattle.bt_bed.proofs.lemmas.parse.NameLemmas.{name_ne}
 use Rattle.bt_runs.specs.model.Merged.{is_counted, counted, runs_of, runs_on, is_closed, merged_runs, settled_runs, chromosomes, merged, kept_runs, AreTaken}
 use Rattle.bt_runs.specs.inside.merge.UnstrandedStep.{kept_by, left_by, settled_by, with_record}
 use Rattle.bt_runs.specs.declared.merge.merge_strand.MergeStrand.{MergeStrand}
-use Rattle.bt_runs.proofs.lemmas.order.ByChromosome.{Divides, Form, NoRecords, Owes, picks_by, Begun, InOrder, Moves, Ordered, Standing, Written, bares, begun, full_front, full_last, goes_first, goes_next, goes_on, goes_to, order_front, settling, whole_left}
+use Rattle.bt_runs.proofs.lemmas.order.ByChromosome.{Divides, Form, NoRecords, Owes, Begun, InOrder, Moves, Ordered, Standing, Written, bares, begun, full_front, full_last, goes_first, goes_next, goes_on, goes_to, order_front, settling, whole_left}
 use Rattle.bt_runs.proofs.lemmas.order.FileOrder.{runs_on-push_elsewhere, spans_on-none, spans_on-push_here, runs_of-nil, runs_on-none, in_file_order, distinct_chromosomes, placed_own}
-use Rattle.bt_runs.proofs.lemmas.definitions.Standing.{counted_absent, counted_next, counted_same, not_passed, passed_before, passed_far, placed_elsewhere, not_less, stays, begins, begins_at}
-use Rattle.bt_runs.proofs.lemmas.merge.Bridging.{OneOpen, first_open, join_open, longer, next_open, open_runs}
+use Rattle.bt_runs.proofs.lemmas.definitions.Standing.{counted_absent, counted_next, not_passed, passed_before, passed_far, placed_elsewhere, not_less, stays, begins, begins_at, counted-append}
+use Rattle.bt_runs.proofs.lemmas.merge.Bridging.{OneOpen, join_open, longer, next_open, open_runs}
 use Rattle.bt_bed.specs.model.Order.{AreDistinct, rank_order}
 use Rattle.bt_bed.proofs.lemmas.order.OrderLemmas.{placed_prefix, contiguous_prefix}
 use Rattle.bt_runs.specs.calls.Engine.{SettledBegins, SettledStays, Settles}
@@ -89,7 +89,7 @@ module _ (gap : ℕ) (name : List ℕ) (spans : List Span) where
   -- a record at the last start is joined to the run that is kept, or opens one
   adds : (done kept : List Interval) (x : Interval) → name ≡ x.chrom → x.start < x.stop → Runs gap name spans x.start done kept → Runs gap name (spans ++ span_of x ∷ []) x.start done (with_record kept x)
   adds done kept x is full (inl u) = inr (inl (record {
-    last = record { before = []; run = span_of x; at = x.start; up = omega arith; one = rw u.none (first_open gap (span_of x) full) };
+    last = record { before = []; run = span_of x; at = x.start; up = omega arith; one = rw u.none (grind arith) };
     near = omega arith;
     done_is = u.done_is;
     kept_is = rw (u.kept_is, is) refl;
@@ -131,7 +131,7 @@ module _ (gap : ℕ) (strand : MergeStrand) where
   }
 
   elsewhere : (name : List ℕ) (past : List Feature) (r : Feature) → bytes_eq r.chrom name ≡ false → runs_on name gap (counted strand (past ++ r ∷ [])) ≡ runs_on name gap (counted strand past)
-  elsewhere name past r other = grind (arith, counted_next, runs_on-push_elsewhere, counted_same)
+  elsewhere name past r other = grind (arith, counted_next, runs_on-push_elsewhere, counted-append, append-nil)
 
   none_on : (name : List ℕ) (past : List Feature) → has_records name (intervals_of past) ≡ false → NoRecords form (At gap strand) name past
   none_on name past none = grind (arith, counted_absent, runs_on-none, spans_on-none)
@@ -142,13 +142,12 @@ module _ (gap : ℕ) (strand : MergeStrand) where
       let x = interval_of r in
       let left = left_by gap kept x in
       let spans = spans_on name (counted strand past) in
-      let now = done ++ settled_by gap kept x in
       let passed = passes gap name spans start done kept x is up at in
       elim (cases_Bool (is_counted strand r.strand)) [
         | inl t ↦
             let more = ap (spans_on name) (counted_next strand past r t) ∙ spans_on-push_here name (counted strand past) x (sym is) in
-            rw (more, cond-true (is_counted strand r.strand) (with_record left x) left t) (adds gap name spans now left x is full passed)
-        | inr n ↦ grind (arith, counted_same)
+            rw (more, cond-true (is_counted strand r.strand) (with_record left x) left t) (adds gap name spans (done ++ settled_by gap kept x) left x is full passed)
+        | inr n ↦ grind (arith, counted-append, append-nil)
       ]
 
   divides_on : (name : List ℕ) (past : List Feature) (last : Interval) (done kept : List Interval) → At gap strand name past last.start done kept → name ≡ last.chrom → Divides form (At gap strand) name past last done kept
@@ -182,7 +181,7 @@ module _ (gap : ℕ) (strand : MergeStrand) where
   pub owes : (names : List (List ℕ)) → Owes form (At gap strand) names
   owes names = record {
     nothing = nothing_settled;
-    picks = λ last. picks_by (is_closed gap last);
+    picks = λ last. grind (arith, filter-append);
     elsewhere = elsewhere;
     is_before = λ last name past less. placed_elsewhere gap last name (runs_of gap (spans_on name (counted strand past))) (name_ne name last.chrom (λ e. not_less names name last.chrom e less));
     is_behind = λ last name past greater none. ap (filter (is_closed gap last)) (none_on name past none).part_is;

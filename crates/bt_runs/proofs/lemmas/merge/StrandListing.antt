@@ -9,15 +9,12 @@ use Rattle.bt_runs.specs.inside.merge.UnstrandedStep.{joined_run, left_by, settl
 use Rattle.bt_runs.specs.inside.merge.StrandStep.{run_from, run_with}
 use Rattle.bt_runs.specs.declared.merge.merge_strand.MergeStrand.TheVariants.{One}
 use Rattle.bt_runs.proofs.lemmas.order.ByChromosome.{intervals_next, full_front, full_last}
-use Rattle.bt_runs.proofs.lemmas.definitions.Standing.{counted_same, Each, any_from, each_append, each_front, each_map, each_weaker, filter_passes, map_leaves, none_from, some_right, has_records-here, Some_of, any_same, any_some, each_all, each_both, each_filter, each_swap, each_unmap, filter_changed, filter_drops, none_each, some_each, some_left, some_map, some_out, some_weaker}
+use Rattle.bt_runs.proofs.lemmas.definitions.Standing.{Each, any_from, each_append, each_front, each_map, each_weaker, filter_passes, map_leaves, none_from, some_right, has_records-here, Some_of, any_same, any_some, each_all, each_both, each_filter, each_swap, each_unmap, filter_changed, filter_drops, none_each, some_each, some_left, some_map, some_out, some_weaker, counted-append}
 use Rattle.bt_runs.proofs.lemmas.merge.SettledRuns.{next_taken, taken_front, whole_taken}
 
 -- strands that are one
 pub strand_self : (s : Strand) → is_strand s s ≡ true
 strand_self s = grind arith
-
-pub same_strand : (a b : Strand) → is_strand a b ≡ true → a ≡ b
-same_strand a b t = grind arith
 
 -- contiguous records: one before the next on its chromosome doesn't start after it
 not_gone : (x r : Interval) (xs : List Interval) → x.chrom ≡ r.chrom → has_records x.chrom (xs ++ r ∷ []) ≡ false → ⊥
@@ -87,12 +84,9 @@ on_strand strand run = record { strand = strand; run = run }
 reaches_open : (gap : ℕ) (r : Feature) (run : Interval) → reaches gap r (on_strand r.strand run) ≡ is_open gap (interval_of r) run
 reaches_open gap r run = ap (λ b. b && is_open gap (interval_of r) run) (strand_self r.strand)
 
-joined_open : (gap : ℕ) (r : Feature) (run : Interval) → joined_to gap r (on_strand r.strand run) ≡ on_strand r.strand (joined gap (interval_of r) run)
-joined_open gap r run = grind arith
-
 joined_all : (gap : ℕ) (r : Feature) (runs : List Interval) → map (joined_to gap r) (map (on_strand r.strand) runs) ≡ map (on_strand r.strand) (map (joined gap (interval_of r)) runs)
 joined_all gap r [] = refl
-joined_all gap r (run ∷ runs) = ap₂ (λ y ys. y ∷ ys) (joined_open gap r run) (joined_all gap r runs)
+joined_all gap r (run ∷ runs) = ap₂ (λ y ys. y ∷ ys) (grind arith) (joined_all gap r runs)
 
 reaches_any : (gap : ℕ) (r : Feature) (runs : List Interval) → list_any (reaches gap r) (map (on_strand r.strand) runs) ≡ list_any (is_open gap (interval_of r)) runs
 reaches_any gap r [] = refl
@@ -213,7 +207,7 @@ module _ (gap : ℕ) (past : List Feature) (r : Feature) (taken : AreTaken (past
   leaves_other strand (run ∷ runs) other = grind (arith, (leaves_other strand runs other))
 
   runs_next : (strand : Strand) → runs_of_strand gap (past ++ r ∷ []) strand ≡ map (joined_to gap r) (runs_of_strand gap past strand) ++ cond (is_strand strand r.strand) (new_run some_reached r) []
-  runs_next strand = grind (arith, same_next, reached_split, leaves_other, append-nil, counted_same)
+  runs_next strand = grind (arith, same_next, reached_split, leaves_other, append-nil, counted-append)
 
   -- what is so of each listed run is so of each run of a strand
   of_strand : (P : StrandRun → Type 0) → Each P (strand_runs gap past) → (strand : Strand) → Each P (runs_of_strand gap past strand)
@@ -273,7 +267,7 @@ module _ (gap : ℕ) (past : List Feature) (r : Feature) (taken : AreTaken (past
       (rw (← (listed.split r.strand)) (filter_passes (λ item. is_strand item.strand r.strand) (strand_runs gap past)))
       (of_strand (λ item. Some_of (λ p. Lies item p) past) listed.has r.strand) in
       let none = filter_drops begins (map (joined_to gap r) runs) (each_map (λ item. begins item ≡ false) (joined_to gap r) runs
-      (each_weaker (λ item. (is_strand item.strand r.strand ≡ true) × Some_of (λ p. Lies item p) past) (λ item. begins (joined_to gap r item) ≡ false) (λ item e. begins_no_old item (same_strand item.strand r.strand e.0) e.1) runs each)) in
+      (each_weaker (λ item. (is_strand item.strand r.strand ≡ true) × Some_of (λ p. Lies item p) past) (λ item. begins (joined_to gap r item) ≡ false) (λ item e. begins_no_old item (grind arith) e.1) runs each)) in
       let here = lies_true (run_from r) r (record { same = refl; on = refl; from = omega arith; to = omega arith }) in
       let new : filter begins (new_run some_reached r) ≡ new_run some_reached r = elim (cases_Bool some_reached) [
         | inl t ↦ ap (λ b. filter begins (new_run b r)) t ∙ ap (λ b. new_run b r) (sym t)
@@ -347,11 +341,8 @@ module _ (gap : ℕ) (past : List Feature) (r : Feature) (taken : AreTaken (past
       (each_map Apart (joined_to gap r) old (each_weaker (λ item. Each (λ p. IsWithinOrFar gap item p) past) (λ item. Apart (joined_to gap r item)) apart_old old listed.apart))
       (of_new Apart apart_new))
 
-  next_split : (strand : Strand) → filter (λ item. is_strand item.strand strand) (strand_runs gap (past ++ r ∷ [])) ≡ runs_of_strand gap (past ++ r ∷ []) strand
-  next_split strand = grind (arith, listing_next, filter-append, filter_changed, each_all, runs_next)
-
   pub listed_next : Listed gap (past ++ r ∷ [])
-  listed_next = record { lies = next_lies; has = next_has; apart = next_apart; split = next_split }
+  listed_next = record { lies = next_lies; has = next_has; apart = next_apart; split = grind (arith, listing_next, filter-append, filter_changed, each_all, runs_next) }
 
 -- so it is of all records
 listed_none : (gap : ℕ) → Listed gap []

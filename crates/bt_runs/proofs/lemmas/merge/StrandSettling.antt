@@ -1,5 +1,5 @@
 -- The settled runs of several strands and the kept ones, and what one more record does to them.
-use Rattle.bt_lines.proofs.Std.{common_steps, ◌≡◌, ℕ, ◌+◌, ◌≤◌, inl, inr, List, [], ◌∷◌, ◌++◌, append_assoc, append-nil, refl, sym, ap, ◌∙◌, subst, arith, drop, filter, get_or, length, map, set, take, Bool, true, false, not, ◌||◌, bytes_eq, nat_lt, Option, Some, None, list_any, prefix_len, take_while, ⊤, is_some, and_left, and_right, cases_Bool, cond-true, cond-false, false≢true, ltb-true, not-true, not_from_true, or_cases, drop_at, map-append, take-append-drop, take_at, length-prefix_len, list_any-append, take_while-cons, ◌<◌, ◌-◌, le-ltb, zero, suc, ◌⊎◌, Result, Err, slice_get, or_from, set-get_or, get_or_from_slice_get, slice_get_read, slice_get_within}
+use Rattle.bt_lines.proofs.Std.{common_steps, ◌≡◌, ℕ, ◌+◌, ◌≤◌, inl, inr, List, [], ◌∷◌, ◌++◌, append_assoc, append-nil, refl, sym, ap, ◌∙◌, subst, arith, drop, filter, get_or, length, map, set, take, Bool, true, false, not, ◌||◌, bytes_eq, nat_lt, Option, Some, None, list_any, prefix_len, take_while, ⊤, is_some, and_left, cases_Bool, cond-true, cond-false, false≢true, ltb-true, not-true, not_from_true, or_cases, drop_at, map-append, take-append-drop, take_at, length-prefix_len, list_any-append, take_while-cons, ◌<◌, ◌-◌, le-ltb, zero, suc, ◌⊎◌, Result, Err, slice_get, or_from, set-get_or, get_or_from_slice_get, slice_get_read, slice_get_within}
 use Rattle.bt_bed.specs.model.Feature.{Feature, interval_of, intervals_of, Interval, last_from, last_of, is_strand}
 use Rattle.bt_bed.specs.model.BedLine.{interval_line}
 use Rattle.bt_bed.specs.model.Sorted.{AreContiguous}
@@ -7,7 +7,7 @@ use Rattle.bt_bed.proofs.lemmas.parse.NameLemmas.{cases_name, name_eq}
 use Rattle.bt_bed.proofs.lemmas.order.OrderLemmas.{last_of-push}
 use Rattle.bt_runs.specs.model.Merged.{AreTaken, is_closed, StrandRun, kept_strand_runs, closed_prefix, settled_strand_runs, strand_runs, places_of}
 use Rattle.bt_runs.specs.calls.Engine.{SettledBegins, SettledStays, Settles}
-use Rattle.bt_runs.specs.inside.merge.StrandStep.{added_at, left_unsettled, settled_prefix, last_place, place_among, run_from, run_with, with_added, count_up_to, counts_up_to_last, place_of, slot_of, joined_here, lengthened, with_joined, left_runs, passed_runs, placed_run, placed_runs}
+use Rattle.bt_runs.specs.inside.merge.StrandStep.{added_at, left_unsettled, settled_prefix, last_place, place_among, run_from, run_with, with_added, count_up_to, counts_up_to_last, place_of, slot_of, lengthened, with_joined, left_runs, passed_runs, placed_run, placed_runs}
 use Rattle.bt_runs.proofs.lemmas.order.ByChromosome.{intervals_next}
 use Rattle.bt_runs.proofs.lemmas.definitions.Standing.{Each, Some_of, each_append, each_both, each_front, each_unmap, each_weaker, map_leaves, none_each, none_from, some_each, some_out, not_passed, passed_elsewhere, passed_far, begins, stays}
 use Rattle.bt_runs.proofs.lemmas.merge.StrandListing.{joined_to, last_there, new_run, parted, reaches, Lies, Listed, are_listed, listing_next}
@@ -72,9 +72,6 @@ module _ (gap : ℕ) (r : Feature) where
   not_reached : (item : StrandRun) → on_its item ≡ false → reaches gap r item ≡ false
   not_reached item f = and_left (is_strand item.strand r.strand) (not (is_closed gap (interval_of r) item.run)) f
 
-  passed_unreached : (item : StrandRun) → is_closed gap (interval_of r) item.run ≡ true → reaches gap r item ≡ false
-  passed_unreached item t = and_right (is_strand item.strand r.strand) (not (is_closed gap (interval_of r) item.run)) (not_from_true (is_closed gap (interval_of r) item.run) t)
-
   none_on : (xs : List StrandRun) → filter on_its xs ≡ [] → list_any on_its xs ≡ false
   none_on [] e = refl
   none_on (x ∷ xs) e = elim (cases_Bool (on_its x)) [
@@ -101,18 +98,14 @@ module _ (gap : ℕ) (r : Feature) where
   added_later : (x : StrandRun) (xs : List StrandRun) (place : Option ℕ) → is_some place ≡ true → added_at gap (x ∷ xs) r (place_among (on_its x) place) ≡ x ∷ added_at gap xs r place
   added_later x xs place some = grind arith
 
-  leaves_all : (xs : List StrandRun) → Each (λ item. reaches gap r item ≡ false) xs → map (joined_to gap r) xs ++ new_run (list_any (reaches gap r) xs) r ≡ xs ++ run_from r ∷ []
-  leaves_all xs e = grind (arith, map_leaves, each_weaker, none_from)
-
   added_here : (x : StrandRun) (xs : List StrandRun) → list_any on_its xs ≡ false → added_at gap (x ∷ xs) r (place_among (on_its x) None) ≡ map (joined_to gap r) (x ∷ xs) ++ new_run (list_any (reaches gap r) (x ∷ xs)) r
   added_here x xs none =
       let others = each_weaker (λ item. on_its item ≡ false) (λ item. reaches gap r item ≡ false) (λ item f. not_reached item f) xs (none_each on_its xs none) in
       let passed = is_closed gap (interval_of r) x.run in
-      let more = x ∷ xs ++ run_from r ∷ [] in
       elim (cases_Bool (on_its x)) [
-        | inr f ↦ ap (added_at gap (x ∷ xs) r) (cond-false (on_its x) (Some 0) None f) ∙ sym (leaves_all (x ∷ xs) (not_reached x f, others))
+        | inr f ↦ ap (added_at gap (x ∷ xs) r) (cond-false (on_its x) (Some 0) None f) ∙ sym (grind (arith, map_leaves, each_weaker, none_from))
         | inl t ↦ ap (added_at gap (x ∷ xs) r) (cond-true (on_its x) (Some 0) None t) ∙ elim (cases_Bool passed) [
-          | inl p ↦ cond-true passed more (run_with r x ∷ xs) p ∙ sym (leaves_all (x ∷ xs) (passed_unreached x p, others))
+          | inl p ↦ cond-true passed (x ∷ xs ++ run_from r ∷ []) (run_with r x ∷ xs) p ∙ sym (grind (arith, map_leaves, each_weaker, none_from))
           | inr n ↦ grind (arith, map_leaves, each_weaker, append-nil)
         ]
       ]
@@ -135,13 +128,10 @@ module _ (gap : ℕ) where
   abbrev passes : Interval → StrandRun → Bool
   passes last item = is_closed gap last item.run
 
-  front_parts : (items : List StrandRun) (last : Option Interval) → items ≡ closed_prefix gap items last ++ drop (length (closed_prefix gap items last)) items
-  front_parts items last = grind (arith, front_and_behind)
-
   -- the settled runs and the kept ones are all
   pub strand_runs_are_all : (past : List Feature) → strand_runs gap past ≡ settled_strand_runs gap past ++ kept_strand_runs gap past
   unfolding settled_strand_runs kept_strand_runs
-  strand_runs_are_all past = front_parts (strand_runs gap past) (last_of (intervals_of past))
+  strand_runs_are_all past = grind (arith, front_and_behind)
 
   -- before any record
   pub no_strand_runs : kept_strand_runs gap [] ≡ []
@@ -286,11 +276,8 @@ set_counts runs place stop run got =
     let stays = λ (s : Strand). ap count_up_to (last_place_set (λ (w : PendingRun). is_strand w.strand s) runs place (lengthened stop run) run within (ap (λ (w : PendingRun). is_strand w.strand s) is)) in
     rw (stays Plus, stays Minus, stays Dot) refl
 
-here_counts : (reach stop : ℕ) (runs : List PendingRun) (place : ℕ) (got : Option PendingRun) → slice_get runs place ≡ got → counts_up_to_last (joined_here reach stop runs place got).1 ≡ counts_up_to_last runs
-here_counts reach stop runs place got is = grind (arith, set_counts)
-
 pub joined_counts : (reach stop : ℕ) (runs new : List PendingRun) (place : ℕ) (joined : Bool) → (joined, new) ≡ with_joined reach stop runs (Some place) → counts_up_to_last new ≡ counts_up_to_last runs
-joined_counts reach stop runs new place joined is = grind (arith, (here_counts reach stop runs place (slice_get runs place) refl))
+joined_counts reach stop runs new place joined is = grind (arith, set_counts)
 
 module _ (here : Bool) (reach : ℕ) where
   abbrev pub is_over : PendingRun → Bool
@@ -305,11 +292,8 @@ module _ (here : Bool) (reach : ℕ) where
   abbrev pub none_written : (runs : List PendingRun) → Written runs runs
   none_written runs = record { done = []; front = refl; behind = refl }
 
-  one_passed : (w : PendingRun) (ws : List PendingRun) → is_over w ≡ true → passed_runs here reach (w ∷ ws) ≡ w ∷ passed_runs here reach ws
-  one_passed w ws t = take_goes is_over w ws t
-
   pub one_left : (w : PendingRun) (ws : List PendingRun) → is_over w ≡ true → left_runs here reach (w ∷ ws) ≡ left_runs here reach ws
-  one_left w ws t = ap (λ (l : List PendingRun). drop (length l) (w ∷ ws)) (one_passed w ws t)
+  one_left w ws t = ap (λ (l : List PendingRun). drop (length l) (w ∷ ws)) (take_goes is_over w ws t)
 
   pub front_next : (now : List PendingRun) (w : PendingRun) → slice_get now 0 ≡ Some w → is_over w ≡ true → passed_runs here reach now ≡ w ∷ passed_runs here reach (drop 1 now)
   front_next now w is t = grind arith

@@ -9,7 +9,7 @@
 --
 -- It is given what one more record settles and what is kept then, on the same chromosome or a later one (`goes_first`, `goes_on`, `goes_to`). That is what `feed` has to do. It is also given what is left for `finish` (`whole_left`), and `Settles` (`settling`), from which settled items stay and begin the whole (`Standing`).
 -- The engines' forms are in `SettledRuns` (merge), `GapRuleLemmas` (complement) and `DepthSteps` (coverage); the last two take `Walks` from here.
-use Rattle.bt_lines.proofs.Std.{common_steps, ◌≡◌, ◌⊎◌, ℕ, ◌<◌, ◌≤◌, inl, inr, List, [], ◌∷◌, ◌++◌, append_assoc, append-nil, refl, sym, ap, ap₂, ◌∙◌, subst, arith, length, length-append, map, filter, flat_map, Bool, true, false, bytes_eq, Some, ⊤, or_parts, flat_map-append, map-append, take_at, filter-append, Contains-push, zero, suc, ◌+◌, ◌-◌, length-drop, drop, option_map, slice_range, min, Option, Result, Ok, Err, slice_get, cond-true, cond-false, take_at_read, drop_at, get_or-drop, drop-drop, get_or-append_seam, take-add}
+use Rattle.bt_lines.proofs.Std.{common_steps, ◌≡◌, ◌⊎◌, ℕ, ◌<◌, ◌≤◌, inl, inr, List, [], ◌∷◌, ◌++◌, append_assoc, append-nil, refl, sym, ap, ap₂, ◌∙◌, subst, arith, length, length-append, map, flat_map, true, false, bytes_eq, Some, ⊤, or_parts, flat_map-append, map-append, take_at, Contains-push, zero, suc, ◌+◌, ◌-◌, length-drop, drop, option_map, slice_range, min, Option, Result, Ok, Err, slice_get, cond-true, cond-false, take_at_read, get_or-drop, drop-drop, get_or-append_seam, take-add}
 use Rattle.std.specs.declared.cmp.Ordering.TheVariants.{Less, Greater}
 use Rattle.bt_bed.specs.model.Feature.{Feature, interval_of, intervals_of, Interval, AreNonEmpty, last_of}
 use Rattle.bt_bed.specs.model.Sorted.{ArePlaced, has_records}
@@ -51,10 +51,6 @@ pub record Picks {T : Type 0} (pick : List T → List T) : Type 0 where
   pub all : (xs ys : List T) → pick xs ≡ xs → pick (xs ++ ys) ≡ xs ++ pick ys
   pub none : (xs ys : List T) → pick xs ≡ [] → pick ys ≡ [] → pick (xs ++ ys) ≡ []
 
--- a test picks so
-pub picks_by : {T : Type 0} (test : T → Bool) → Picks (filter test)
-picks_by test = grind (arith, filter-append)
-
 module _ {K T S : Type 0} (f : Form K T S) where
   -- the items of the chromosomes, concatenated
   abbrev pub parts : List Feature → List K → List T
@@ -73,8 +69,7 @@ full_front past more full = grind (arith, common_steps, (take_at (intervals_of p
 
 pub full_last : (past : List Feature) (r : Feature) → AreNonEmpty (intervals_of (past ++ r ∷ [])) → r.start < r.stop
 full_last past r full =
-    let x = interval_of r in
-    grind (arith, intervals_next, (Contains-push (intervals_of past) x))
+    grind (arith, intervals_next, (Contains-push (intervals_of past) (interval_of r)))
 
 -- records in an order of chromosomes, each with a base
 pub record InOrder (names : List (List ℕ)) (past : List Feature) : Type 0 where
@@ -176,9 +171,8 @@ module _ {K T S : Type 0} (f : Form K T S) (At : K → List Feature → ℕ → 
 
         picked : f.pick s.last (parts f past keys) ≡ parts f past before ++ s.done
         picked =
-            let n = length before in
             let ranked = last_rank f.name keys distinct (intervals_of past) s.last before key after s.stand in
-            let less = all_before f.name keys distinct s.last.chrom n ranked [] before (key ∷ after) s.stand.split (omega arith) in
+            let less = all_before f.name keys distinct s.last.chrom (length before) ranked [] before (key ∷ after) s.stand.split (omega arith) in
             let split_after : keys ≡ (before ++ key ∷ []) ++ (after ++ []) = s.stand.split ∙ sym (append_assoc before (key ∷ []) after) ∙ ap (λ l. (before ++ key ∷ []) ++ l) (sym (append-nil after)) in
             grind (arith, length-append, all_after, flat_map-append, parts_before, append_assoc, parts_behind, append-nil)
 
@@ -306,13 +300,10 @@ entry_there before e after rank at = rw (← at) (get_or-append_seam before e af
 pub found_entry : (entries : List Entry) (name : List ℕ) (rank : ℕ) → (f : Found name_at entries name rank) → entry_at entries rank ≡ f.key
 found_entry entries name rank f = ap (λ l. entry_at l rank) f.split ∙ entry_there f.before f.key f.after rank f.at
 
-pub found_within : (entries : List Entry) (name : List ℕ) (rank : ℕ) → Found name_at entries name rank → rank < length entries
-found_within entries name rank f = grind (arith, length-append)
-
 -- the chromosome that a look-up finds is the one of its name
 pub found_at : (entries : List Entry) (name : List ℕ) (rank : ℕ) → rank_of (genome_names entries) name ≡ Some rank → IsPlaced entries rank
 found_at entries name rank is =
-    grind (arith, (found_within entries name rank (found name_at entries name rank is)), (found_entry entries name rank (found name_at entries name rank is)))
+    grind (arith, length-append, (found_entry entries name rank (found name_at entries name rank is)))
 
 -- the length of a chromosome, by its name
 pub size_there : (before : List Entry) (e : Entry) (after : List Entry) (name : List ℕ) → e.name ≡ name → is_among (genome_names before) name ≡ false → length_in (before ++ e ∷ after) name ≡ e.length
@@ -337,10 +328,6 @@ pub length_read : (entries : List Entry) (rank size : ℕ) → option_map (λ (e
 length_read [] rank size e = cc
 length_read (x ∷ xs) zero size e = cc
 length_read (x ∷ xs) (suc rank) size e = length_read xs rank size e
-
--- the chromosomes from one rank up to another
-pub slice_between : (before middle after : List Entry) (first stop : ℕ) → length before ≡ first → length before + length middle ≡ stop → slice_range (before ++ (middle ++ after)) first stop ≡ middle
-slice_between before middle after first stop f s = grind (arith, drop_at, take_at)
 
 -- one more chromosome
 pub slice_more : (entries : List Entry) (first rank : ℕ) → first ≤ rank → rank < length entries → slice_range entries first (rank + 1) ≡ slice_range entries first rank ++ entry_at entries rank ∷ []

@@ -77,10 +77,6 @@ rank_of-here n name ns e = cond-true (bytes_eq n name) (Some 0) (option_map (λ 
 pub rank_of-later : (n name : List ℕ) (ns : List (List ℕ)) → bytes_eq n name ≡ false → rank_of (n ∷ ns) name ≡ option_map (λ rank. suc rank) (rank_of ns name)
 rank_of-later n name ns f = cond-false (bytes_eq n name) (Some 0) (option_map (λ rank. suc rank) (rank_of ns name)) f
 
--- the rank past the first name
-rank_past : (n name : List ℕ) (ns : List (List ℕ)) (i : ℕ) → bytes_eq n name ≡ false → rank_of (n ∷ ns) name ≡ Some i → (k : ℕ) × (rank_of ns name ≡ Some k) × (i ≡ suc k)
-rank_past n name ns i f e = later_rank (rank_of ns name) i (sym (rank_of-later n name ns f) ∙ e)
-
 -- the ranks of a record's chromosome and of the next one's
 record RanksUpTo (names : List (List ℕ)) (r s : Interval) : Type 0 where
   rank : ℕ
@@ -114,17 +110,16 @@ pick_first [] c i q distinct r low = absurd (cc)
 pick_first (n ∷ ns) c i q distinct r low =
     let p : List ℕ → Bool = λ m. bytes_eq c m || q m in
     let absent : q n ≡ false = low n 0 (rank_of-here n n ns refl) (omega arith) in
-    let dropped : filter q (n ∷ ns) ≡ filter q ns = cond-false (q n) (n ∷ filter q ns) (filter q ns) absent in
     elim (cases_name n c) [
       | inl e ↦ grind (arith, name_eq, pick_absent)
       | inr f ↦
-          let past = rank_past n c ns i f r in
+          let past = later_rank (rank_of ns c) i (sym (rank_of-later n c ns f) ∙ r) in
           let here : p n ≡ false = or_from (bytes_eq c n) (q n) (name_ne-sym n c f) absent in
           let rest = pick_first ns c past.0 q distinct.1 past.1 (λ m j h l. elim (cases_name n m) [
             | inl e ↦ rw (← e) absent
             | inr g ↦ low m (suc j) (rank_of-later n m ns g ∙ ap (λ o. option_map (λ rank. suc rank) o) h) (omega (arith, past.2))
           ]) in
-          cond-false (p n) (n ∷ filter p ns) (filter p ns) here ∙ rest ∙ ap (λ ms. c ∷ ms) (sym dropped)
+          cond-false (p n) (n ∷ filter p ns) (filter p ns) here ∙ rest ∙ ap (λ ms. c ∷ ms) (sym (cond-false (q n) (n ∷ filter q ns) (filter q ns) absent))
     ]
 
 pub without_absent : (name : List ℕ) (names : List (List ℕ)) → is_among names name ≡ false → without name names ≡ names
@@ -225,23 +220,20 @@ shift : (name : List ℕ) (names : List (List ℕ)) (records : List Interval) �
 shift name names [] f p = tt
 shift name names (r ∷ []) f p = grind arith
 shift name names (r ∷ s ∷ ss) f p =
-    let parts = or_parts (bytes_eq r.chrom name) (has_records name (s ∷ ss)) f in
-    grind (arith, (shift name names (s ∷ ss) parts.1 p.2), name_ne-sym)
+    grind (arith, (shift name names (s ∷ ss) (or_parts (bytes_eq r.chrom name) (has_records name (s ∷ ss)) f).1 p.2), name_ne-sym)
 
 pub placed_own : (records : List Interval) → AreContiguous records → ArePlaced (rank_order (chromosomes records)) records
 placed_own [] t = tt
 placed_own (r ∷ []) t = (ap is_some (rank_of-here r.chrom r.chrom [] refl), tt, tt)
 placed_own (r ∷ s ∷ ss) t =
     let rest = placed_own (s ∷ ss) t.1 in
-    let Placed : List (List ℕ) → Type 0 = λ names. ArePlaced (rank_order names) (r ∷ s ∷ ss) in
     elim t.0 [
       | inl same ↦ grind (arith, same_chromosome)
       | inr gone ↦
           let names = chromosomes (s ∷ ss) in
           let front : chromosomes (r ∷ s ∷ ss) ≡ r.chrom ∷ names = ap (λ ns. r.chrom ∷ ns) (without_absent r.chrom names (among_chromosomes r.chrom (s ∷ ss) ∙ gone)) in
           let here = rank_of-here r.chrom r.chrom names refl in
-          let next = or_parts (bytes_eq s.chrom r.chrom) (has_records r.chrom ss) gone in
-          let there = rank_of-later r.chrom s.chrom names (name_ne-sym s.chrom r.chrom next.0) in
+          let there = rank_of-later r.chrom s.chrom names (name_ne-sym s.chrom r.chrom (or_parts (bytes_eq s.chrom r.chrom) (has_records r.chrom ss) gone).0) in
           let less = ap (λ o. compare_ranks o (rank_of (r.chrom ∷ names) s.chrom)) here ∙ ap (λ o. compare_ranks (Some 0) o) there ∙ less_first (rank_of names s.chrom) rest.0 in
-          subst Placed (sym front) (ap is_some here, inl less, shift r.chrom names (s ∷ ss) gone rest)
+          subst (λ names. ArePlaced (rank_order names) (r ∷ s ∷ ss)) (sym front) (ap is_some here, inl less, shift r.chrom names (s ∷ ss) gone rest)
     ]

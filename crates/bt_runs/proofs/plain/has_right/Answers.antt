@@ -1,4 +1,4 @@
-use Rattle.bt_lines.proofs.Std.{◌<◌, arith, false≢true}
+use Rattle.bt_lines.proofs.Std.{arith, false≢true}
 use Rattle.bt_runs.proofs.lemmas.definitions.PlainSpans.{covered_below}
 use Rattle.bt_runs.proofs.plain.has_right.Goals as goal
 
@@ -7,6 +7,5 @@ returns c = (
   λ e. absurd (false≢true e),
   λ h.
       let low = covered_below c.args.end c.args.spans.now h.right c.requires.ended h.covered in
-      let past : h.right < c.loop-right.right = omega arith in
-      absurd (c.loop-right.invariant h.right h.to_right past h.covered h.near),
+      absurd (c.loop-right.invariant h.right h.to_right (omega arith) h.covered h.near),
 )

@@ -1,7 +1,7 @@
 use Rattle.bt_lines.proofs.Std.{arith, false≢true}
 use Rattle.bt_runs.specs.model.Merged.{Bridged}
 use Rattle.bt_runs.specs.inside.PlainRuns.{spans_in}
-use Rattle.bt_runs.proofs.lemmas.definitions.PlainSpans.{below_with, below_without, runs_below-all}
+use Rattle.bt_runs.proofs.lemmas.definitions.PlainSpans.{below_with, runs_below-all}
 use Rattle.bt_runs.proofs.plain.plain_runs.Goals as goal
 use Rattle.bt_runs.proofs.plain.plain_runs.Goals.{then-is_bridged+in_ok-add_position, else-is_bridged}
 
@@ -12,7 +12,7 @@ loop-position-preserved c =
       | then-is_bridged+in_ok-add_position w ↦
           let added = w.in_ok-add_position.ensures in
           rw (w.runs-is, added) (below_with (Bridged c.args.gap (spans_in c.args.spans.now)) c.loop-position.position before c.loop-position.invariant (c.is_bridged.ensures.0 w.if-is_bridged.true))
-      | else-is_bridged w ↦ grind (arith, below_without, false≢true)
+      | else-is_bridged w ↦ grind (arith, false≢true)
     ]
 
 pub returns : goal.returns

@@ -17,7 +17,6 @@ returns g c =
     let table = entries c.args.cursor.now.genome.now in
     let rank = c.in-Some.rank in
     let place : Place ℕ = record { rank = rank; known = c.args.cursor.now.end } in
-    let named = (c.args.cursor.now.named rank c.in-Some.is).is in
     let size = length_read table rank c.length.result c.length.ensures.is in
     let first : c.min.result ≡ min (rank + 1) c.args.stop = let is = c.min.ensures in let next = c.saturating_add.ensures in let fits = c.ranges.stop.fits in omega arith in
     grind (arith, (before_from (bare_gap c.args.limit) table last_gap (Some place) c.min.result c.args.stop first), adds_lines)

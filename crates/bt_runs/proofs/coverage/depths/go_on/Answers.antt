@@ -42,13 +42,9 @@ loop-position-preserved g c =
     let begun = begun_seen c.loop-position.begun in
     let value = c.reported-depth.result in
     let spans = c.loop-position.held.spans in
-    let test = c.loop-position-test.true in
-    let later : max c.loop-position.held.at (at + 1) ≡ at + 1 = omega (arith, i.here) in
-    let now : c.go_on.new.self ≡ record { at = at + 1; spans = spans } = c.go_on.ensures.at ∙ ap (λ n. with_at n spans) later in
+    let now : c.go_on.new.self ≡ record { at = at + 1; spans = spans } = c.go_on.ensures.at ∙ ap (λ n. with_at n spans) (omega (arith, i.here)) in
     let here : c.go_on.new.self.at ≡ at + 1 = ap (λ h. h.at) now in
     let is : value ≡ reported c.args.chrom.now.zeros (length (still_open (at + 1) spans)) = c.reported-depth.ensures ∙ ap (reported c.args.chrom.now.zeros) (c.depth.ensures ∙ ap (λ (h : OpenAt). length (still_open h.at h.spans)) now) in
-    let within = c.first_end-position.ensures.within in
-    let up : c.go_on.new.self.at ≤ next = c.first_end-position.ensures.behind (omega arith) in
     let ends : All (λ s. next ≤ s.stop) (still_open (at + 1) spans) = subst (λ (h : OpenAt). All (λ s. next ≤ s.stop) (still_open h.at h.spans)) now c.first_end-position.ensures.ends in
     let run = run_depth c.args.chrom.now.zeros c.loop-position.held.at at held.spans spans i.here (ap (still_open at) i.same) c.go_on.ensures.started value is next ends in
     let low = i.from in

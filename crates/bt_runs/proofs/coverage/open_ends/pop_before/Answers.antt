@@ -11,7 +11,6 @@ loop-ends-preserved c =
     let first = ends_of (heap_items c.args.ends.now) in
     let below = c.loop-ends-test.ensures in
     let many = some_before c.args.position old below in
-    let ok = c.loop-ends.ends.data.ok in
     let e = c.pop.ensures in
     let some = e.variant.1 (omega arith) in
     record {

@@ -23,8 +23,7 @@ returns-then-not-on-clause-does g c =
     let old = holding c.self.inside.gap chrom (kept_in chrom on (placed_runs chrom c.self.inside.runs)) (placed_runs chrom c.self.inside.runs) in
     let new = holding c.self.inside.gap chrom (kept_in chrom c.match-join_among.on listed) listed in
     let joins = λ (answer : Result Bool Failure) (is : c.join_among.result ≡ answer).
-    let said : JoinsAmong c.as_slice.result.now c.saturating_sub-reach.result c.self.inside.runs (record { strand = c.strand.result; start = c.start.result; stop = c.stop.result }) c.args.out.now.output c.join_among.result c.join_among.new.runs c.join_among.new.out.output = c.join_among.ensures in
-    let there = rw (c.as_slice.ensures.value, c.saturating_sub-reach.ensures, c.start.ensures, c.strand.ensures, c.stop.ensures.is) at said in
+    let there = rw (c.as_slice.ensures.value, c.saturating_sub-reach.ensures, c.start.ensures, c.strand.ensures, c.stop.ensures.is) at c.join_among.ensures in
     subst (λ (answer : Result Bool Failure). JoinsAmong chrom (r.start - c.self.inside.gap) c.self.inside.runs (pending_from r) c.args.out.now.output answer c.join_among.new.runs c.join_among.new.out.output) is there in
     let stays : c.match-join_among.on ≡ on → kept_in chrom c.match-join_among.on listed ≡ listed =
     λ is. ap (λ (o : OnlyRun). kept_in chrom o listed) is ∙ cond-false on.is_any (placed_run chrom on.run ∷ []) listed c.if-not-on.true in
