@@ -23,12 +23,11 @@ both_ends width to piece same low high =
     let begins : take width front ≡ take width piece = take_more_put_chunk 0 to (chunk 0 width piece) width (omega arith) (omega arith) in
     let kept : take from front ≡ take from piece =
     sym (take-take from width front (omega arith)) ∙ ap (take from) begins ∙ take-take from width piece (omega arith) in
-    let whole : from + width ≡ length piece = omega arith in
     sym (take_all (length piece) all (omega arith))
     ∙ take_more_put_chunk from front last (length piece) (omega arith) (omega arith)
     ∙ ap (λ l. l ++ last) kept
     ∙ sym (take-add from width piece)
-    ∙ ap (λ n. take n piece) whole
+    ∙ ap (λ n. take n piece) (omega arith)
     ∙ take_all (length piece) piece (omega arith)
 
 -- the first byte, the middle one and the last are all of up to three
@@ -48,11 +47,6 @@ few_copied (x ∷ y ∷ z ∷ []) (a ∷ b ∷ []) same some few = absurd (omega
 few_copied (x ∷ y ∷ z ∷ []) (a ∷ b ∷ c ∷ []) same some few = refl
 few_copied (x ∷ y ∷ z ∷ []) (a ∷ b ∷ c ∷ d ∷ piece) same some few = absurd (omega arith)
 few_copied (x ∷ y ∷ z ∷ w ∷ to) piece same some few = absurd (omega arith)
-
--- two pieces are written after the first bytes, the second after the first
-pub two_put : (bytes piece end : List ℕ) (len : ℕ) (k m : ℕ) → len + (length piece + length end) ≤ length bytes
-    → take (len + length piece + length end) (put_mid (len + length piece) m (put_mid len k bytes piece) end) ≡ take len bytes ++ (piece ++ end)
-two_put bytes piece end len k m room = grind (arith, length-append, length-take-le, take-put_mid, append_assoc)
 
 -- Lemmas on what was put and what was taken.
 
@@ -89,17 +83,14 @@ module _ (held piece : List ℕ) (n k : ℕ) where
   abbrev pub rest : List ℕ
   rest = drop n piece
 
-  all_over : (old mid : List ℕ) → mid ≡ old ++ (held ++ take n piece) → (mid ++ take k rest) ++ drop k rest ≡ (old ++ held) ++ piece
-  all_over old mid p = grind (arith, append_assoc, take-append-drop)
-
   pub put_over : (old mid new : Option (List ℕ)) → Appends old mid (held ++ take n piece) → Appends mid new (take k rest) → Appends (append_known old held) (append_known new (drop k rest)) piece
-  put_over old mid new p q = grind (arith, all_over)
+  put_over old mid new p q = grind (arith, append_assoc, take-append-drop)
 
   pub front_over : (old mid new : Option (List ℕ)) → Appends old mid (held ++ take n piece) → IsPrefixOf new mid (take k rest) → IsPrefixOf new (append_known old held) piece
   front_over old mid None p f = tt
   front_over None mid (Some new) p f = tt
   front_over (Some old) None (Some new) p f = absurd p
-  front_over (Some old) (Some mid) (Some new) p f = grind (arith, (append_assoc new f.0 (drop k rest)), (all_over old mid p))
+  front_over (Some old) (Some mid) (Some new) p f = grind (arith, (append_assoc new f.0 (drop k rest)), append_assoc, take-append-drop)
 
 -- what was taken grows, and grows again
 pub grows_both : (old mid new : Option (List ℕ)) → Grows old mid → Grows mid new → Grows old new
@@ -117,10 +108,6 @@ front_longer None old xs ys f = tt
 front_longer (Some new) None xs ys f = tt
 front_longer (Some new) (Some old) xs ys f = grind (arith, (append_assoc new f.0 ys), (append_assoc old xs ys))
 
--- a prefix of bytes that follow some that were appended
-pub front_behind : (new old mid : Option (List ℕ)) (xs ys : List ℕ) → Appends old mid xs → IsPrefixOf new mid ys → IsPrefixOf new old (xs ++ ys)
-front_behind new old mid xs ys p f = grind (arith, append_assoc)
-
 pub grows_nothing : (a : Option (List ℕ)) → Grows a a
 grows_nothing a = ([], Appends-nil a)
 
@@ -129,7 +116,7 @@ module _ (old mid new : Output) (xs ys : List ℕ) where
   put_more p q = grind (arith, Appends-trans)
 
   pub fails_behind : (fault : FaultValue) → PutsAll old xs mid → FailsToPut mid ys fault new → FailsToPut old (xs ++ ys) fault new
-  fails_behind fault p q = grind (arith, (front_behind new.took old.put mid.put xs ys p.appends q.front), (grows_both old.took mid.took new.took p.grows q.grows))
+  fails_behind fault p q = grind (arith, append_assoc, (grows_both old.took mid.took new.took p.grows q.grows))
 
 pub fails_before : (old new : Output) (xs ys : List ℕ) (fault : FaultValue) → FailsToPut old xs fault new → FailsToPut old (xs ++ ys) fault new
 fails_before old new xs ys fault p = grind (arith, front_longer)
@@ -147,10 +134,6 @@ pub puts_from : {A : Type 0} (old new : Output) (bytes : List ℕ) (r : Result A
     → (old.has_failed ≡ true → IsErr r × (new ≡ old)) → Puts old bytes r new
 puts_from old new bytes r p b f g s w c a = grind arith
 
-held_further : (took : Option (List ℕ)) (held more : List ℕ)
-    → Appends (append_known took held) (append_known took (held ++ more)) more
-held_further took held more = grind (arith, append_assoc)
-
 -- bytes are held back
 module _ (took : Option (List ℕ)) (failed sink_failed flushed : Bool) where
   abbrev holding : List ℕ → Output
@@ -163,7 +146,7 @@ module _ (took : Option (List ℕ)) (failed sink_failed flushed : Bool) where
   }
 
   pub puts_held : (held bytes all : List ℕ) → failed ≡ false → all ≡ held ++ bytes → length held + length bytes ≤ block_size → PutsAll (holding held) bytes (holding all)
-  puts_held held bytes all works is fits = grind (arith, held_further, holds_held, length-append, grows_nothing)
+  puts_held held bytes all works is fits = grind (arith, append_assoc, holds_held, length-append, grows_nothing)
 
 -- bytes that were put, or none
 pub grown_all : (old new : Output) (bytes : List ℕ) → (bytes ≡ [] → ⊥) → PutsAll old bytes new → Grown old bytes new
@@ -188,7 +171,7 @@ module _ (old mid new : Output) (xs ys : List ℕ) where
   grown_more p q = grind (arith, (Appends-trans old.put mid.put new.put xs ys p.appends q.appends), (grows_both old.took mid.took new.took p.grows q.grows), nothing_before)
 
   pub fails_then : (fault : FaultValue) → Grown old xs mid → FailsToAdd mid ys fault new → FailsToAdd old (xs ++ ys) fault new
-  fails_then fault p q = grind (arith, (front_behind new.took old.put mid.put xs ys p.appends q.puts.front), (grows_both old.took mid.took new.took p.grows q.puts.grows), nothing_behind)
+  fails_then fault p q = grind (arith, append_assoc, (grows_both old.took mid.took new.took p.grows q.puts.grows), nothing_behind)
 
 pub adds_more : {A : Type 0} (old mid new : Output) (xs ys : List ℕ) (r : Result A Fault) → Grown old xs mid → Adds mid ys r new → Adds old (xs ++ ys) r new
 adds_more old mid new xs ys (Ok done) p q = grown_more old mid new xs ys p q
@@ -251,8 +234,7 @@ pub span_moved : (text : List ℕ) (first : ℕ) (span : List ℕ) → first + 6
     → take (43 - first) (put_chunk 0 text (chunk first 64 text)) ≡ span
 span_moved text first span room has =
     let moved = chunk first 64 text in
-    let size : length moved ≡ 64 = length-chunk first 64 text room in
-    let begins : take 64 (put_chunk 0 text moved) ≡ moved = take_more_put_chunk 0 text moved 64 (omega (arith, size)) (omega arith) in
+    let begins : take 64 (put_chunk 0 text moved) ≡ moved = take_more_put_chunk 0 text moved 64 (omega (arith, length-chunk first 64 text room)) (omega arith) in
     grind (arith, (take-take (43 - first) 64 (put_chunk 0 text moved) (omega arith)), (take-take (43 - first) 64 (drop first text) (omega arith)), (take_at span has.rest (43 - first) has.size))
 
 -- a span was written after a name, with other bytes after it

@@ -1,6 +1,6 @@
 -- Lemmas on eight bytes that are read as one number, the first in its lowest byte.
 use Rattle.bt_lines.proofs.Std.{zero, suc, ◌≡◌, ℕ, ◌+◌, ◌-◌, ◌*◌, ◌/◌, ◌%◌, ◌^◌, ◌<◌, ◌≤◌, true, false, List, [], ◌∷◌, ◌++◌, drop, length, get_or, length-take-le, subst, Some, None, refl, sym, ap, ◌∙◌, arith, bit_and, bit_or, bit_xor, take, w64, and_parts, and_assoc, and_block, and_comm, and_le_r, and_mask, and_or_apart, and_or_self, mod_below, or_comm, pow-add, xor_block, xor_of_8, and_high, mul_assoc, take-append-drop, is_ascii_digit, digit_value, from_le_bytes, and_zero_r, xor_add_and, xor_zero_r, list_all, digits_value}
-use Rattle.bt_lines.proofs.lemmas.numbers.NumberLemmas.{digit_is, value_of_digits}
+use Rattle.bt_lines.proofs.lemmas.numbers.NumberLemmas.{value_of_digits}
 use Rattle.bt_lines.specs.inside.Digits.{AreOnes}
 use Rattle.bt_lines.specs.model.Lines.{value_of}
 
@@ -76,7 +76,7 @@ flipped_digit byte low high = grind (arith, flipped_byte)
 
 flipped_digits : (bytes : List ℕ) → AreWithin 48 57 bytes → AreWithin 0 9 (flipped bytes)
 flipped_digits [] all = tt
-flipped_digits (byte ∷ bytes) all = grind (arith, (flipped_digits bytes all.2), flipped_digit)
+flipped_digits (byte ∷ bytes) all = grind (arith, (flipped_digits bytes all.2), flipped_byte)
 
 digits_flipped : (bytes : List ℕ) → AreWithin 0 9 (flipped bytes) → AreWithin 48 57 bytes
 digits_flipped [] all = tt
@@ -134,7 +134,6 @@ by_eight P all (a ∷ b ∷ c ∷ d ∷ e ∷ f ∷ g ∷ h ∷ i ∷ more) n = 
 
 eight : (bytes : List ℕ) → length bytes ≡ 8 → Eight bytes
 eight = by_eight Eight (λ a b c d e f g h.
-    let sum : from_le_bytes w64 (a ∷ b ∷ c ∷ d ∷ e ∷ f ∷ g ∷ h ∷ []) ≡ a + b * 256 + c * 65536 + d * 16777216 + e * 4294967296 + f * 1099511627776 + g * 281474976710656 + h * 72057594037927936 = refl in
     record { word = omega arith; uppers = refl; zeros = refl; sixes = refl; nines = refl; fifteens = refl; most = refl })
 
 no_digits : (bytes : List ℕ) → list_all is_ascii_digit bytes ≡ false → None ≡ value_of bytes
@@ -222,19 +221,15 @@ pairs_in ones = bit_and (ones * 10 + ones / 256) 71777214294589695
 abbrev pub value_in : ℕ → ℕ
 value_in pairs = (pairs * 100 + pairs / 65536) % 65536 * 10000 + (pairs * 100 + pairs / 65536) / 4294967296 % 65536
 
-value_small : (pairs : ℕ) → value_in pairs ≤ 999999999999
-value_small pairs = omega arith
-
 value_eight : (a b c d e f g h ones : ℕ) → a ≤ 9 → b ≤ 9 → c ≤ 9 → d ≤ 9 → e ≤ 9 → f ≤ 9 → g ≤ 9 → h ≤ 9
     → ones ≡ worth (a ∷ b ∷ c ∷ d ∷ e ∷ f ∷ g ∷ h ∷ [])
     → value_in (pairs_in ones) ≡ a * 10000000 + b * 1000000 + c * 100000 + d * 10000 + e * 1000 + f * 100 + g * 10 + h
 value_eight a b c d e f g h ones i j k l m n o p is =
-    let rest : ones / 256 ≡ b + c * 256 + d * 65536 + e * 16777216 + f * 4294967296 + g * 1099511627776 + h * 281474976710656 = omega arith in
     let pairs : ones * 10 + ones / 256 ≡ worth ((10 * a + b) ∷ (10 * b + c) ∷ (10 * c + d) ∷ (10 * d + e) ∷ (10 * e + f) ∷ (10 * f + g) ∷ (10 * g + h) ∷ (10 * h) ∷ []) = omega arith in
     grind (arith, four_bytes)
 
 digit_at : (byte : ℕ) → 48 ≤ byte → byte ≤ 57 → digit_value byte ≡ byte - 48
-digit_at byte low high = digit_is byte (within_digit byte low high)
+digit_at byte low high = grind arith
 
 -- each with 48 taken off
 abbrev pub lowered : List ℕ → List ℕ
@@ -248,12 +243,6 @@ flipped_lowered (byte ∷ bytes) all = rw (flipped_digit byte all.0 all.1, flipp
 ones_lowered : (bytes : List ℕ) → length bytes ≡ 8 → AreWithin 48 57 bytes → ones_in bytes ≡ worth (lowered bytes)
 ones_lowered bytes n all = ones_are bytes n (looser bytes 48 57 0 255 (omega arith) (omega arith) all) ∙ ap worth (flipped_lowered bytes all)
 
-place_values : (a b c d e f g h : ℕ) → a * 10000000 + b * 1000000 + c * 100000 + d * 10000 + e * 1000 + f * 100 + g * 10 + h ≡ (((((((0 * 10 + a) * 10 + b) * 10 + c) * 10 + d) * 10 + e) * 10 + f) * 10 + g) * 10 + h
-place_values a b c d e f g h = omega arith
-
-digits_of : (a b c d e f g h : ℕ) → digits_value 10 (a ∷ b ∷ c ∷ d ∷ e ∷ f ∷ g ∷ h ∷ []) ≡ (((((((0 * 10 + digit_value a) * 10 + digit_value b) * 10 + digit_value c) * 10 + digit_value d) * 10 + digit_value e) * 10 + digit_value f) * 10 + digit_value g) * 10 + digit_value h
-digits_of a b c d e f g h = refl
-
 small_digit : (byte : ℕ) → 48 ≤ byte → byte ≤ 57 → byte - 48 ≤ 9
 small_digit byte low high = omega arith
 
@@ -263,13 +252,13 @@ value_of_eight a b c d e f g h (a1, a2, (b1, b2, (c1, c2, (d1, d2, (e1, e2, (f1,
     value_eight (a - 48) (b - 48) (c - 48) (d - 48) (e - 48) (f - 48) (g - 48) (h - 48) _
     (small_digit a a1 a2) (small_digit b b1 b2) (small_digit c c1 c2) (small_digit d d1 d2) (small_digit e e1 e2) (small_digit f f1 f2) (small_digit g g1 g2) (small_digit h h1 h2)
     (ones_lowered (a ∷ b ∷ c ∷ d ∷ e ∷ f ∷ g ∷ h ∷ []) refl (a1, a2, (b1, b2, (c1, c2, (d1, d2, (e1, e2, (f1, f2, (g1, g2, (h1, h2, none)))))))))
-    ∙ rw (digits_of a b c d e f g h, digit_at a a1 a2, digit_at b b1 b2, digit_at c c1 c2, digit_at d d1 d2, digit_at e e1 e2, digit_at f f1 f2, digit_at g g1 g2, digit_at h h1 h2)
-    (place_values (a - 48) (b - 48) (c - 48) (d - 48) (e - 48) (f - 48) (g - 48) (h - 48))
+    ∙ rw (digit_at a a1 a2, digit_at b b1 b2, digit_at c c1 c2, digit_at d d1 d2, digit_at e e1 e2, digit_at f f1 f2, digit_at g g1 g2, digit_at h h1 h2)
+    (omega arith)
 
 eight_small : (bytes : List ℕ) → length bytes ≡ 8 → AreWithin 48 57 bytes → (value_in (pairs_in (ones_in bytes)) ≡ digits_value 10 bytes) × (digits_value 10 bytes ≤ 999999999999)
 eight_small = by_eight (λ bytes. AreWithin 48 57 bytes → (value_in (pairs_in (ones_in bytes)) ≡ digits_value 10 bytes) × (digits_value 10 bytes ≤ 999999999999)) (λ a b c d e f g h all.
     let is = value_of_eight a b c d e f g h all in
-    (is, rw (← is) (value_small (pairs_in (ones_in (a ∷ b ∷ c ∷ d ∷ e ∷ f ∷ g ∷ h ∷ []))))))
+    (is, rw (← is) (omega arith)))
 
 -- eight digits denote their value
 pub value_of_eight_digits : (bytes : List ℕ) → length bytes ≡ 8 → AreWithin 48 57 bytes → Some (digits_value 10 bytes) ≡ value_of bytes
@@ -354,18 +343,15 @@ module _ (bytes : List ℕ) (count : ℕ) (n : length bytes ≡ 8) (few : count 
       let front = after (8 - count) 0 (take count fs) in
       let within : AreWithin 0 255 padded = after_within (8 - count) 48 0 255 (take count bytes) (omega arith) (omega arith) (take_within count 0 255 bytes all) in
       let is : flipped padded ≡ front = after_flipped (8 - count) (take count bytes) ∙ ap (after (8 - count) 0) (sym (flipped_take count bytes)) in
-      let size : length front ≡ 8 = ap length (sym is) ∙ flipped_length padded ∙ padded_length in
       let small : worth front ≤ 18446744073709551615 =
       subst (λ l. worth l ≤ 18446744073709551615) is (rw (← (masks padded padded_length).most) (worth_up_to (flipped padded) 0 255 (flipped_within padded within))) in
-      let bits : 64 - 8 * count ≡ 8 * (8 - count) = omega arith in
-      let power : 2 ^ (64 - 8 * count) ≡ 256 ^ (8 - count) = ap (λ k. 2 ^ k) bits ∙ pow_bytes (8 - count) in
       let all_are : ones_in bytes * 2 ^ (64 - 8 * count) ≡ worth front + worth (drop count fs) * 18446744073709551616 =
-      ap (λ p. ones_in bytes * p) power ∙ ap (λ w. w * 256 ^ (8 - count)) (ones_are bytes n all)
+      ap (λ p. ones_in bytes * p) (ap (λ k. 2 ^ k) (omega arith) ∙ pow_bytes (8 - count)) ∙ ap (λ w. w * 256 ^ (8 - count)) (ones_are bytes n all)
       ∙ sym (after_worth (8 - count) fs)
       ∙ ap (λ l. worth (after (8 - count) 0 l)) (sym (take-append-drop count fs))
       ∙ ap worth (after_append (8 - count) 0 (take count fs) (drop count fs))
       ∙ worth_append front (drop count fs)
-      ∙ ap (λ k. worth front + worth (drop count fs) * 256 ^ k) size in
+      ∙ ap (λ k. worth front + worth (drop count fs) * 256 ^ k) (ap length (sym is) ∙ flipped_length padded ∙ padded_length) in
       grind (arith, ones_are, padded_length)
 
   -- what is read of them, if they are digits

@@ -28,10 +28,6 @@ pub value_of_digits : (text : List ℕ) → 0 < length text → list_all is_asci
 unfolding value_of
 value_of_digits text some digits small = grind arith
 
--- a digit stands for its distance from '0'
-pub digit_is : (b : ℕ) → is_ascii_digit b ≡ true → digit_value b ≡ b - 48
-digit_is b digit = grind arith
-
 -- the value with one more digit
 pub value_more : (text : List ℕ) (i value : ℕ) → i < length text → value ≡ digits_value 10 (take i text) → is_ascii_digit (get_or text i 0) ≡ true
     → value * 10 + (get_or text i 0 - 48) ≡ digits_value 10 (take (i + 1) text)
@@ -67,13 +63,10 @@ all_digits_in (byte ∷ bytes) all = grind (arith, (all_digits_in bytes (and_par
 pub digits_below : (text : List ℕ) → list_all is_ascii_digit text ≡ true → digits_value 10 text < 10 ^ length text
 digits_below text all = digits_value-lt 10 text (all_digits_in text all)
 
-taken : (a b c : Bool) (x value : ℕ) → Some value ≡ cond ((a && b) && c) (Some x) None → (b ≡ true) × (value ≡ x)
-taken a b c x value e = grind arith
-
 -- what denotes a number is its digits
 pub digits_denoting : (text : List ℕ) (value : ℕ) → Some value ≡ value_of text → (list_all is_ascii_digit text ≡ true) × (value ≡ digits_value 10 text)
 unfolding value_of
-digits_denoting text value e = taken (ltb 0 (length text)) (list_all is_ascii_digit text) (leb (digits_value 10 text) 999999999999) (digits_value 10 text) value e
+digits_denoting text value e = grind arith
 
 -- Lemmas on the digits that come first in some bytes.
 
@@ -82,13 +75,10 @@ pub splat_before : (t : ℕ → ℕ → Bool) (y : ℕ) (xs : List ℕ) → zip2
 splat_before t y [] = refl
 splat_before t y (x ∷ xs) = ap (λ l. t y x ∷ l) (splat_before t y xs)
 
-small_bit : (a : Bool) → cond a 1 0 < 2 ^ 1
-small_bit a = grind arith
-
 -- the bits of what one of two tests accepts
 pub or_masks : (p q : ℕ → Bool) (xs : List ℕ) → bit_or (mask_l (map p xs)) (mask_l (map q xs)) ≡ mask_l (map (λ x. p x || q x) xs)
 or_masks p q [] = refl
-or_masks p q (x ∷ xs) = grind (arith, (or_masks p q xs), (or_block 1 (mask_l (map p xs)) (mask_l (map q xs)) (cond (p x) 1 0) (cond (q x) 1 0) (small_bit (p x)) (small_bit (q x))))
+or_masks p q (x ∷ xs) = grind (arith, (or_masks p q xs), (or_block 1 (mask_l (map p xs)) (mask_l (map q xs)) (cond (p x) 1 0) (cond (q x) 1 0) (grind arith) (grind arith)))
 
 front_of : (bytes : List ℕ) (byte n : ℕ) (b : Bool) → is_other byte ≡ b → list_all is_ascii_digit (take n bytes) ≡ true
     → list_all is_ascii_digit (take (cond (not b) (1 + n) 0) (byte ∷ bytes)) ≡ true

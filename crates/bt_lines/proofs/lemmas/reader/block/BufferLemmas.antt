@@ -24,14 +24,10 @@ consumed xs start end count inside =
     let parts : end - start ≡ count + (end - (start + count)) = omega arith in
     grind (arith, drop-take, drop-drop)
 
--- a part of a list is at most as long as its ends are apart
-pub length-range-le : (xs : List ℕ) (start end : ℕ) → length (slice_range xs start end) ≤ end - start
-length-range-le xs start end = omega (arith, length-take (end - start) (drop start xs))
-
 -- the unread bytes fit into a block
 pub unread_fits : (buffer : ReadBuffer) → length (unread buffer) ≤ block_size
 unfolding unread
-unread_fits buffer = omega (arith, length-range-le buffer.bytes buffer.whole buffer.end, buffer.within)
+unread_fits buffer = omega (arith, length-take (buffer.end - buffer.whole) (drop buffer.whole buffer.bytes), buffer.within)
 
 -- Lemmas on what a reader has buffered.
 
@@ -63,17 +59,14 @@ shorter_front l b c h = sym (take-take b c l h)
 pub range_same : (xs ys : List ℕ) (a b c : ℕ) → take c ys ≡ take c xs → a ≤ b → b ≤ c → slice_range ys a b ≡ slice_range xs a b
 range_same xs ys a b c e h k =
     let front : (l : List ℕ) → take b l ≡ take b (take c l) = λ l. shorter_front l b c k in
-    range_drop ys a b h ∙ ap (drop a) (front ys ∙ ap (take b) e ∙ sym (front xs)) ∙ sym (range_drop xs a b h)
+    (grind (arith, (drop-take a (b - a) ys))) ∙ ap (drop a) (front ys ∙ ap (take b) e ∙ sym (front xs)) ∙ sym (grind (arith, (drop-take a (b - a) xs)))
 
 -- ---- bytes that end with a line feed
-
-fed_tail : (x : ℕ) (xs : List ℕ) → is_fed (x ∷ xs) ≡ true → is_fed xs ≡ true
-fed_tail x xs h = grind arith
 
 pub fed_drop : (n : ℕ) (xs : List ℕ) → is_fed xs ≡ true → is_fed (drop n xs) ≡ true
 fed_drop zero xs h = h
 fed_drop (suc n) [] h = refl
-fed_drop (suc n) (x ∷ xs) h = fed_drop n xs (fed_tail x xs h)
+fed_drop (suc n) (x ∷ xs) h = fed_drop n xs (grind arith)
 
 pub fed_push : (xs : List ℕ) → is_fed (xs ++ 10 ∷ []) ≡ true
 fed_push [] = refl
@@ -112,14 +105,6 @@ are_in_block xs h = record { fed = h; one = λ e. absurd (false≢true e) }
 
 -- ---- taking lines
 
-pub lines_dropped : (is_spilled : Bool) (spilled bytes : List ℕ) (start whole n : ℕ) → n ≤ length (cond is_spilled (drop start spilled) (slice_range bytes start whole))
-    → cond is_spilled (drop (start + n) spilled) (slice_range bytes (start + n) whole) ≡ drop n (cond is_spilled (drop start spilled) (slice_range bytes start whole))
-lines_dropped is_spilled spilled bytes start whole n h = grind (arith, drop-drop, consumed, length-take)
-
-pub lines_ordered : (is_spilled : Bool) (spilled bytes : List ℕ) (start whole n : ℕ) → start ≤ cond is_spilled (length spilled) whole
-    → n ≤ length (cond is_spilled (drop start spilled) (slice_range bytes start whole)) → start + n ≤ cond is_spilled (length spilled) whole
-lines_ordered is_spilled spilled bytes start whole n o h = grind (arith, length-drop, length-take)
-
 -- ---- what was read
 
 -- the last line feed of a part ends lines, and none comes after it
@@ -128,30 +113,21 @@ pub record LastFeed (bytes : List ℕ) (from end last : ℕ) : Type 0 where
   pub fed : is_fed (slice_range bytes from (from + last + 1)) ≡ true
   pub clear : NoLineFeed (slice_range bytes (from + last + 1) end)
 
-sum : (a b : ℕ) → a + (b + 1) ≡ a + b + 1
-sum a b = omega arith
-
 pub last_feed : (bytes : List ℕ) (from end last : ℕ) → from ≤ end → end ≤ length bytes → IsLastByte (is_byte 10) (slice_range bytes from end) (Some last) → LastFeed bytes from end last
 last_feed bytes from end last h k is =
     let hay = slice_range bytes from end in
-    let size : length hay ≡ end - from = length-range bytes from end k in
     let below : last < length hay = is.0.high in
-    let inside : from + last < end = omega (arith, below, size) in
-    let byte : get_or hay last 0 ≡ 10 = eqb-true (get_or hay last 0) 10 is.1 in
+    let inside : from + last < end = omega (arith, below, length-range bytes from end k) in
     let count : from + last + 1 - from ≡ last + 1 = omega arith in
     let front : slice_range bytes from (from + last + 1) ≡ take last hay ++ 10 ∷ [] =
     ap (λ (n : ℕ). take n (drop from bytes)) count ∙ shorter_front (drop from bytes) (last + 1) (end - from) (omega (arith, inside))
-    ∙ take_more hay last 0 below ∙ ap (λ (b : ℕ). take last hay ++ b ∷ []) byte in
+    ∙ take_more hay last 0 below ∙ ap (λ (b : ℕ). take last hay ++ b ∷ []) (eqb-true (get_or hay last 0) 10 is.1) in
     grind (arith, (fed_push (take last hay)), (consumed bytes from end (last + 1) (omega (arith, inside))), (length-drop (last + 1) hay), get_or-drop, get_or_default)
 
 -- the text of a line that was taken
 pub line_text : (is_spilled : Bool) (spilled bytes : List ℕ) (start whole text line : ℕ) → text ≤ line → line ≤ length (cond is_spilled (drop start spilled) (slice_range bytes start whole))
     → cond is_spilled (slice_range spilled start (start + text)) (slice_range bytes start (start + text)) ≡ take text (cond is_spilled (drop start spilled) (slice_range bytes start whole))
 line_text is_spilled spilled bytes start whole text line h k = grind (arith, shorter_front, length-take)
-
-pub text_fits : (is_spilled : Bool) (spilled bytes : List ℕ) (start whole end text line : ℕ) → start ≤ cond is_spilled (length spilled) whole → whole ≤ end → end ≤ block_size
-    → text ≤ line → line ≤ length (cond is_spilled (drop start spilled) (slice_range bytes start whole)) → start + text ≤ cond is_spilled (length spilled) block_size
-text_fits is_spilled spilled bytes start whole end text line o w b h k = grind (arith, length-drop, length-take)
 
 -- ---- after a search
 
@@ -172,7 +148,6 @@ pub found : (bytes : List ℕ) (whole searched end last : ℕ) → whole ≤ sea
     → Found bytes whole searched end last
 found bytes whole searched end last w s e is =
     let feed = last_feed bytes searched end last s e is in
-    let size : length (slice_range bytes searched (searched + last + 1)) ≡ searched + last + 1 - searched = length-range bytes searched (searched + last + 1) (omega (arith, feed.inside, e)) in
     let split = range_split bytes whole searched (searched + last + 1) w (omega arith) in
     grind (arith, length-range, fed_after, range_split)
 
@@ -197,10 +172,6 @@ front_to bytes moved from to end h k b e = grind (arith, length-take-le, length-
 pub front_same : (old new : List ℕ) (a b end : ℕ) → take end new ≡ take end old → a ≤ b → b ≤ end → IsSearched (slice_range old a b) → IsSearched (slice_range new a b)
 front_same old new a b end e h k is = subst IsSearched (sym (range_same old new a b end e h k)) is
 
-pub lines_front : (is_spilled : Bool) (spilled old new : List ℕ) (start whole end : ℕ) → take end new ≡ take end old → start ≤ cond is_spilled (length spilled) whole → whole ≤ end
-    → AreComplete is_spilled (cond is_spilled (drop start spilled) (slice_range old start whole)) → AreComplete is_spilled (cond is_spilled (drop start spilled) (slice_range new start whole))
-lines_front is_spilled spilled old new start whole end e h k are = grind (arith, range_same)
-
 pub behind_read : (old new : List ℕ) (whole end count : ℕ) → whole ≤ end → take end new ≡ take end old → end + count ≤ length new
     → (count ≡ length (slice_range new end (end + count))) × (slice_range new whole (end + count) ≡ slice_range old whole end ++ slice_range new end (end + count))
 behind_read old new whole end count w e h = grind (arith, length-range, range_split, range_same)
@@ -216,13 +187,12 @@ pub piece : (bytes : List ℕ) (whole end size : ℕ) → IsBefore 10 (slice_ran
 piece bytes whole end size is below =
     let all = slice_range bytes whole end in
     let fits : whole + (size + 1) ≤ end = omega (arith, below, length-take (end - whole) (drop whole bytes)) in
-    let parts : whole + size + 1 - whole ≡ size + 1 = omega arith in
     let whole_is : all ≡ (take size all ++ 10 ∷ []) ++ drop (size + 1) all = is.cut below ∙ sym (append_assoc (take size all) (10 ∷ []) (drop (size + 1) all)) in
     let count : length (take size all ++ 10 ∷ []) ≡ size + 1 = omega (arith, below, length-append (take size all) (10 ∷ []), length-take-le size all is.within) in
     record {
-      moved = ap (λ (n : ℕ). take n (drop whole bytes)) parts ∙ shorter_front (drop whole bytes) (size + 1) (end - whole) (omega (arith, fits))
+      moved = ap (λ (n : ℕ). take n (drop whole bytes)) (omega arith) ∙ shorter_front (drop whole bytes) (size + 1) (end - whole) (omega (arith, fits))
           ∙ ap (take (size + 1)) whole_is ∙ take_at (take size all ++ 10 ∷ []) (drop (size + 1) all) (size + 1) count;
-      cut = is.cut below ∙ ap (λ (l : List ℕ). take size all ++ 10 ∷ l) (sym (consumed bytes whole end (size + 1) fits) ∙ ap (λ (n : ℕ). slice_range bytes n end) (sum whole size));
+      cut = is.cut below ∙ ap (λ (l : List ℕ). take size all ++ 10 ∷ l) (sym (consumed bytes whole end (size + 1) fits) ∙ ap (λ (n : ℕ). slice_range bytes n end) (omega arith));
     }
 
 -- Lemmas on reads that buffer lines.
@@ -242,10 +212,6 @@ then_counted IsRead a b c m n k End one two = counts_then IsRead a b c m n k one
 then_counted IsRead a b c m n k Failed one two = fails_then IsRead a b c m n one two
 then_counted IsRead a b c m n k TooLong one two = counts_then IsRead a b c m n (suc k) one two
 then_counted IsRead a b c m n k NoMemory one two = counts_then IsRead a b c m n k one two
-
--- if bytes have no line feed, neither has a prefix of them
-none_in_front : (xs ys all : List ℕ) → all ≡ xs ++ ys → NoLineFeed all → 0 < line_feeds xs → ⊥
-none_in_front xs ys all e clear h = omega (arith, h, line_feeds-none all clear, ap line_feeds e, line_feeds-append xs ys)
 
 -- a line with its line feed
 pub fed_line : (text line : List ℕ) → text ≡ line ++ 10 ∷ [] → is_fed text ≡ true
@@ -272,7 +238,7 @@ module _ {S : Type 0} (device : Source S) where
     -- none does
     module _ (same : List ℕ) (is : same ≡ unread) (clear : NoLineFeed same) where
       never : 0 < line_feeds old_unread → ⊥
-      never h = none_in_front old_unread so_far.bytes same (is ∙ so_far.joined) clear h
+      never h = omega (arith, h, line_feeds-none same clear, ap line_feeds (is ∙ so_far.joined), line_feeds-append old_unread so_far.bytes)
 
       both : (new : S) (next : List ℕ) → Consumes (device.left mid) (device.left new) next → Consumes (device.left old) (device.left new) (so_far.bytes ++ next)
       both new next c = Consumes-trans (device.left old) (device.left mid) (device.left new) so_far.bytes next so_far.consumed c
@@ -296,16 +262,12 @@ module _ {S : Type 0} (device : Source S) where
       pub text_ended : (new : S) (next_unread : List ℕ) (next_taken : ℕ) (complete rest : List ℕ) → AsksMore device mid same taken NoBytes new next_unread next_taken
           → complete ≡ closed next_unread → rest ≡ [] → Buffers device old old_unread old_taken End new complete rest next_taken
       text_ended new next_unread next_taken complete rest asks lines none =
-          let whole : old_unread ++ (so_far.bytes ++ asks.bytes) ≡ same = all asks.bytes ∙ ap (λ l. same ++ l) asks.came.0 ∙ append-nil same in
-          stops_by End new asks.bytes complete rest next_taken asks.consumed asks.counted asks.within
-          (rw whole clear, rw whole (lines ∙ ap closed asks.came.1), none, asks.came.2 ∙ so_far.served, asks.came.3, asks.came.4)
+          grind (arith, both, counts, never)
 
       pub source_failed : (new : S) (next_unread : List ℕ) (next_taken : ℕ) (complete : List ℕ) → AsksMore device mid same taken BadRead new next_unread next_taken
           → complete ≡ [] → Buffers device old old_unread old_taken Failed new complete next_unread next_taken
       source_failed new next_unread next_taken complete asks none =
-          let whole : old_unread ++ (so_far.bytes ++ asks.bytes) ≡ same = all asks.bytes ∙ ap (λ l. same ++ l) asks.came.0 ∙ append-nil same in
-          stops_by Failed new asks.bytes complete next_unread next_taken asks.consumed asks.counted asks.within
-          (rw whole clear, none, rw asks.came.1 clear, asks.came.2, ([], whole ∙ sym asks.came.1))
+          grind (arith, both, counts, never)
 
       pub text_too_long : (new : S) (next_unread : List ℕ) (next_taken : ℕ) (complete : List ℕ) → AsksMore device mid same taken PastBound new next_unread next_taken
           → complete ≡ [] → Buffers device old old_unread old_taken TooLong new complete next_unread next_taken

@@ -3,7 +3,7 @@ use Rattle.bt_lines.proofs.Std.{common_steps, rules, ◌≡◌, ℕ, suc, ◌-�
 use Rattle.bt_lines.specs.declared.device.Source.{Ghosts as Source}
 use Rattle.bt_lines.proofs.lemmas.reader.block.ReadsLemmas.{has_read_then}
 use Rattle.bt_lines.proofs.lemmas.reader.lines.StepLemmas.{none_told}
-use Rattle.bt_lines.proofs.lemmas.reader.lines.TextLemmas.{line_feeds-append}
+use Rattle.bt_lines.proofs.lemmas.reader.lines.TextLemmas.{line_feeds-append, lines_from-nil}
 use Rattle.bt_lines.specs.calls.Columns.{IsBefore, IsFirstOf, Lacks}
 use Rattle.bt_lines.specs.calls.Line.{line_seen}
 use Rattle.bt_lines.specs.model.Lines.{TextLine, lines_from}
@@ -18,13 +18,10 @@ use Rattle.bt_lines.specs.declared.reader.line_reader.State.TheVariants.{LastLin
 same_lines : (lines : Option (List TextLine)) → DropsLines lines 0 lines
 same_lines lines = grind arith
 
-none_left_at : (told : Bool) (held : List ℕ) (n : ℕ) (a : Option (List ℕ)) → told ≡ true → held ≡ [] → IfSome (option_map (lines_from n) (left_at told held a)) (λ lines. lines ≡ [])
-none_left_at told held n a e none = grind (arith, none_told)
-
 -- no line is left once the end was reported and nothing is held
 none_left_told : {S : Type 0} (left : S → Option (List ℕ)) (reader : LineReader S) → end_told reader ≡ true → held reader ≡ [] → IfSome (lines_left left reader) (λ lines. lines ≡ [])
 unfolding bytes_left
-none_left_told left reader e none = none_left_at (end_told reader) (held reader) (suc (lines_given reader)) (left (source_of reader)) e none
+none_left_told left reader e none = grind (arith, none_told)
 
 module _ {S : Type 0} (device : Source S) where
   -- a line is buffered already
@@ -71,10 +68,9 @@ module _ {S : Type 0} (device : Source S) where
   moves_by old mid new answer b e fills none gives some sound read then (Some line) at =
       let filled = filled old mid answer e fills in
       let cut = is_cut old mid answer b e fills none in
-      let reads : HasRead device.is_read old mid = subst (λ (r : Result Bool Fault). TellsOwnFailure device.is_read old r mid) e read in
       record {
         answers = gives_after old mid new (line_seen line) filled.answers (gives cut line at);
-        own_failure = has_read_then device.is_read old mid new reads (then cut);
+        own_failure = has_read_then device.is_read old mid new (subst (λ (r : Result Bool Fault). TellsOwnFailure device.is_read old r mid) e read) (then cut);
         sound = λ h. sound cut (filled.kept (record { end = h.end; within = h.within }));
       }
 
@@ -121,6 +117,5 @@ before_feed value text n first = record { within = omega (arith, first.0); clear
 -- the first one among the first bytes
 pub feed_first : (value : ℕ) (text near : List ℕ) (n place : ℕ) → near ≡ take n text → n ≤ length text → IsFirstOf value near (Some place) → IsFirstOf value text (Some place)
 feed_first value text near n place e h first =
-    let none : 0 + place ≡ place = omega arith in
-    subst (λ (k : ℕ). IsFirstOf value text (Some k)) none
+    subst (λ (k : ℕ). IsFirstOf value text (Some k)) (omega arith)
     (feed_behind value text 0 (omega arith) (λ k d below. absurd (omega (arith, below))) near n place (chunk_first text near n e h) first)

@@ -1,5 +1,5 @@
 -- Lemmas on a line that is taken of those that are buffered.
-use Rattle.bt_lines.proofs.Std.{common_steps, ◌≡◌, ◌⊎◌, ℕ, suc, ◌+◌, ◌-◌, ◌<◌, ◌≤◌, Bool, true, false, cond, nat_eq, List, [], ◌∷◌, ◌++◌, length, take, drop, slice_range, Option, Some, refl, sym, ap, ◌∙◌, subst, append_assoc, append-nil, length-append, add-zero, arith, IsSome, nat_lt, ends_with_byte, strip_last, take-append_seam, length-take, Consumes-nil, Consumes, ◌^◌, drop-drop, length-drop, take-append-drop, take_all, zero, take-add}
+use Rattle.bt_lines.proofs.Std.{common_steps, ◌≡◌, ◌⊎◌, ℕ, suc, ◌+◌, ◌-◌, ◌<◌, ◌≤◌, Bool, true, false, cond, nat_eq, List, [], ◌∷◌, ◌++◌, length, take, drop, slice_range, Option, Some, refl, sym, ap, ◌∙◌, subst, append_assoc, append-nil, length-append, add-zero, arith, IsSome, nat_lt, ends_with_byte, strip_last, take-append_seam, length-take, Consumes-nil, Consumes, ◌^◌, drop-drop, length-drop, take-append-drop, take_all, zero, take-add, drop_all, drop_more}
 use Rattle.bt_lines.specs.declared.device.Source.{Ghosts as Source}
 use Rattle.bt_lines.proofs.lemmas.reader.block.BufferLemmas.{unread_fits, fed_none, fed_clear, fed_drop, fed_after, fed_push}
 use Rattle.bt_lines.proofs.lemmas.reader.lines.StepLemmas.{some_state, goes, told_last, gives_fed, sound_fed, gives_last, sound_last}
@@ -27,12 +27,9 @@ pub record CutsFirst {S : Type 0} (device : Source S) (old new : LineReader S) :
   pub gives : GivesLine device old line new
   pub sound : IsKept device old → IsSound device new
 
-same_line : (a b : TextLine) → Some a ≡ Some b → a ≡ b
-same_line a b e = cc
-
 -- the line that the reader is at then is this one
 pub cut_gives : {S : Type 0} (device : Source S) (old new : LineReader S) → CutsFirst device old new → (line : Line) → Some (line_seen line) ≡ line_at new → GivesLine device old (line_seen line) new
-cut_gives device old new cuts line at = subst (λ l. GivesLine device old l new) (same_line cuts.line (line_seen line) (sym cuts.at ∙ sym at)) cuts.gives
+cut_gives device old new cuts line at = subst (λ l. GivesLine device old l new) (cc) cuts.gives
 
 pub are_fed : (buffer : ReadBuffer) → AreComplete buffer.is_spilled (complete buffer)
 unfolding complete
@@ -42,14 +39,10 @@ are_fed buffer = buffer.are_complete
 pub cut_within : (bytes : List ℕ) (line : Shown) → Cut bytes line → line.size ≤ length bytes
 cut_within bytes line cut = omega (arith, cut.size_is, ap length cut.cut, length-append cut.piece (10 ∷ drop line.size bytes))
 
-lines_fit_by : (is_spilled : Bool) (spilled bytes : List ℕ) (start whole end : ℕ) → is_spilled ≡ false → start ≤ cond is_spilled (length spilled) whole → whole ≤ end → end ≤ block_size
-    → length (cond is_spilled (drop start spilled) (slice_range bytes start whole) ++ slice_range bytes whole end) ≤ block_size
-lines_fit_by is_spilled spilled bytes start whole end e o w b = grind (arith, length-append, length-take)
-
 -- what the block has room for
 pub lines_fit : (buffer : ReadBuffer) → buffer.is_spilled ≡ false → length (complete buffer ++ unread buffer) ≤ block_size
 unfolding complete unread
-lines_fit buffer e = lines_fit_by buffer.is_spilled buffer.spilled.items buffer.bytes buffer.start buffer.whole buffer.end e buffer.ordered (omega (arith, buffer.whole_searched, buffer.searched_within)) buffer.within
+lines_fit buffer e = grind (arith, length-append, length-take)
 
 -- if only one line is complete, it is all of the lines
 pub alone : (lines piece rest : List ℕ) → lines ≡ piece ++ 10 ∷ rest → NoLineFeed piece → line_feeds lines ≤ 1 → is_fed rest ≡ true → rest ≡ []
@@ -65,9 +58,6 @@ fed_ending b piece e = rw e refl
 
 last_ending : (b : Bool) (piece : List ℕ) → b ≡ ends_with_byte 13 piece → ending_at true b ≡ cond (ends_with_byte 13 piece) Cr Absent
 last_ending b piece e = rw e refl
-
-pub some_size : (n : ℕ) (piece : List ℕ) → n ≡ length piece + 1 → nat_eq n 1 ≡ false → 0 < length piece
-some_size n piece e one = grind arith
 
 module _ {S : Type 0} (device : Source S) (old new : LineReader S) (line : Shown)
     (same_state : new.state ≡ old.state) (same : new.input ≡ old.input) (same_source : new.source ≡ old.source) (same_taken : new.taken ≡ old.taken) (more : new.lines ≡ old.lines + 1)
@@ -120,7 +110,7 @@ module _ {S : Type 0} (device : Source S) (old new : LineReader S) (line : Shown
       let less : length (complete old.buffer) - 1 ≡ length cut.piece = omega (arith, size) in
       let holds : held old ≡ cut.piece = rw is (ap (λ n. take n (complete old.buffer)) less ∙ ap (take (length cut.piece)) whole ∙ take-append_seam cut.piece (10 ∷ [])) in
       let left_none : held new ≡ [] = rw state (ap (λ l. take (length l - 1) l) gone) in
-      let some : 0 < length cut.piece = some_size (length (complete old.buffer)) cut.piece size (old.last.some opened) in
+      let some : 0 < length cut.piece = grind arith in
       let end_is : new.ending ≡ cond (ends_with_byte 13 cut.piece) Cr Absent = ending ∙ rw is (last_ending _ cut.piece cut.returned) in
       let last : TextLine = record { number = suc old.lines; text = strip_last 13 cut.piece; ending = cond (ends_with_byte 13 cut.piece) Cr Absent } in
       let at : line_at new ≡ Some last = rw (state, number, end_is, text_is, counts_some) refl in
@@ -147,11 +137,8 @@ module _ (state : State) (old_lines old_unread lines unread_now : List ℕ) (giv
   gone_by : open_at state ≡ true → lines ≡ []
   gone_by e = alone old_lines piece lines parts clear (last.one e) fed
 
-  spaced_by : (state ≡ Reading) ⊎ (state ≡ LastLine) → given + 1 + length (held_at (open_at state) lines unread_now) ≤ taken
-  spaced_by p1 = grind (arith, length-append, length-take)
-
   pub spaced_cut : given + 1 + length (held_at (open_at state) lines unread_now) ≤ taken
-  spaced_cut = spaced_by (some_state state some_lends)
+  spaced_cut = grind (arith, length-append, length-take)
 
   pub quiet_cut : lends_at state ≡ false → lines ≡ []
   quiet_cut e = absurd (some_lends e)
@@ -173,14 +160,9 @@ pub lines_first : (is_open : Bool) (lines : ℕ) (bytes : List ℕ) (line : Show
 lines_first false lines bytes line cut fed last = grind (arith, whole_lines_from-fed)
 lines_first true lines bytes line cut fed last =
     let gone : drop line.size bytes ≡ [] = alone bytes cut.piece (drop line.size bytes) cut.cut cut.clear (last.one refl) (fed_drop line.size bytes fed) in
-    let whole : bytes ≡ cut.piece ++ 10 ∷ [] = cut.cut ∙ ap (λ l. cut.piece ++ 10 ∷ l) gone in
-    let size : length bytes ≡ length cut.piece + 1 = omega (arith, ap length whole, length-append cut.piece (10 ∷ [])) in
+    let size : length bytes ≡ length cut.piece + 1 = omega (arith, ap length (cut.cut ∙ ap (λ l. cut.piece ++ 10 ∷ l) gone), length-append cut.piece (10 ∷ [])) in
     let less : length bytes - 1 ≡ length cut.piece = omega (arith, size) in
     grind (arith, take-append_seam, lines_from-last)
-
--- none is left if there is no line feed
-lines_none : (is_open : Bool) (lines : ℕ) (bytes : List ℕ) → NoLineFeed bytes → is_fed bytes ≡ true → buffered_lines is_open lines bytes ≡ []
-lines_none is_open lines bytes clear fed = grind (arith, whole_lines_from-last, fed_clear, lines_from-nil)
 
 -- ---- the bytes of the first line
 
@@ -189,7 +171,7 @@ pub strip_begins : (line : List ℕ) → (tail : List ℕ) × (line ≡ strip_la
 strip_begins line = begins_by (ends_with_byte 13 line) refl
   where
     begins_by : (b : Bool) → ends_with_byte 13 line ≡ b → (tail : List ℕ) × (line ≡ strip_last 13 line ++ tail)
-    begins_by true e = (13 ∷ [], sym (strip_last-push 13 line e))
+    begins_by true e = (13 ∷ [], sym (grind (arith, drop_more, drop_all, take-append-drop)))
     begins_by false e = ([], sym (append-nil (strip_last 13 line) ∙ strip_last-other 13 line e))
 
 -- what bytes begin with begins by its own first bytes
@@ -200,21 +182,17 @@ take_front xs tail line bytes is front = grind (arith, (take-append-drop (length
 cut_of : (bytes line : List ℕ) → IsBefore 10 bytes (length line) → take (length line) bytes ≡ line → length line < length bytes → Cut bytes (shown_of line)
 cut_of bytes line before front inside = grind (arith, common_steps)
 
--- bytes that are complete lines have a line feed, if there are some
-inside_by : (bytes line : List ℕ) → IsBefore 10 bytes (length line) → take (length line) bytes ≡ line → is_fed bytes ≡ true → 0 < length bytes → length line < length bytes
-inside_by bytes line before front fed some = grind (arith, take_all, fed_clear)
-
 pub line_first : (cursor : BufferedLines) (line : List ℕ) → IsBefore 10 (rest_in cursor) (length line) → take (length line) (rest_in cursor) ≡ line → 0 < length (rest_in cursor)
     → Cut (rest_in cursor) (shown_of line) × (lines_in cursor ≡ line_of cursor (shown_of line) ∷ lines_after cursor (length line + 1))
 unfolding rest_in lines_in
 line_first cursor line before front some =
     let rest = drop cursor.at cursor.all.now in
-    let cut = cut_of rest line before front (inside_by rest line before front cursor.fed some) in
+    let cut = cut_of rest line before front (grind (arith, take_all, fed_clear)) in
     (cut, lines_first cursor.is_open cursor.lines rest (shown_of line) cut cursor.fed cursor.last)
 
 pub line_none : (cursor : BufferedLines) → rest_in cursor ≡ [] → lines_in cursor ≡ []
 unfolding rest_in lines_in
-line_none cursor none = lines_none cursor.is_open cursor.lines (drop cursor.at cursor.all.now) (subst NoLineFeed (sym none) (λ k d h. absurd (omega (arith, h)))) cursor.fed
+line_none cursor none = grind (arith, whole_lines_from-last, fed_clear, lines_from-nil)
 
 -- what a cursor keeps when a line is consumed
 pub record Kept (all : List ℕ) (at lines : ℕ) (is_open : Bool) : Type 0 where

@@ -51,24 +51,9 @@ told_ended reader e = record { good = rw e refl; is_told = rw e refl; taken = rw
 
 -- ---- lines of known bytes
 
--- those that are left stay the same while more bytes are taken
-same_known : (n : ℕ) (a b : Option (List ℕ)) (old new bytes : List ℕ) → Consumes a b bytes → new ≡ old ++ bytes
-    → DropsLines (option_map (lines_from n) (prepend_known old a)) 0 (option_map (lines_from n) (prepend_known new b))
-same_known n a b old new bytes c e = grind (arith, append_assoc)
-
 -- none is left once the end was reported and nothing is held
 pub none_told : (n : ℕ) (a : Option (List ℕ)) (held : List ℕ) → held ≡ [] → IfSome (option_map (lines_from n) (option_map (λ ys. held) a)) (λ lines. lines ≡ [])
 none_told n a held e = grind (arith, lines_from-nil)
-
--- those after the first are what is left, except what was taken after a prefix without a line feed
-near_known : (n : ℕ) (a b : Option (List ℕ)) (block bytes front back : List ℕ) (k : ℕ) → NoLineFeed front → length back ≤ k → Consumes a b bytes → block ++ bytes ≡ front ++ back
-    → IfSome (option_map (lines_from n) (prepend_known block a)) (λ lines. IfSome b (λ rest. bytes_in (drop 1 lines) ≤ length rest + k))
-near_known n a b block bytes front back k clear short c e = grind (arith, append_assoc, bytes_behind_first, length-append)
-
--- a last piece with a byte is one line
-pub last_line-some : (n : ℕ) (piece : List ℕ) → 0 < length piece
-    → last_line n piece ≡ record { number = n; text = strip_last 13 piece; ending = cond (ends_with_byte 13 piece) Cr Absent } ∷ []
-last_line-some n piece h = grind arith
 
 -- ---- a line with a line feed
 
@@ -109,7 +94,7 @@ module _ {S : Type 0} (device : Source S) (old new : LineReader S) (piece : List
   line = record { number = suc (lines_given old); text = strip_last 13 piece; ending = cond (ends_with_byte 13 piece) Cr Absent }
 
   one : last_line (suc (lines_given old)) piece ≡ line ∷ []
-  one = last_line-some (suc (lines_given old)) piece some
+  one = grind arith
 
   last_held : held old ++ [] ≡ spelled line ++ held new
   last_held = grind (arith, common_steps)
@@ -139,7 +124,7 @@ module _ {S : Type 0} (device : Source S) (old new : LineReader S) (bytes : List
 
   pub makes_line : end_told new ≡ false → FillsLines device old (Ok true) new
   unfolding bytes_left
-  makes_line untold = grind (arith, same_known, made_hands)
+  makes_line untold = grind (arith, append_assoc, made_hands)
 
   pub makes_last : end_told new ≡ true → device.end_told (source_of new) ≡ true → IsAtEnd (device.left (source_of new)) → FillsLines device old (Ok true) new
   unfolding bytes_left
@@ -180,7 +165,7 @@ module _ {S : Type 0} (device : Source S) (old new : LineReader S) (bytes text b
   cut_near =
       let one : suc (lines_given new) - lines_given old ≡ 1 = omega (arith, same_lines) in
       rw (one, was.untold)
-      (near_known (suc (lines_given old)) (device.left (source_of old)) (device.left (source_of new)) (held old) bytes text behind block_size clear short consumed joined)
+      (grind (arith, append_assoc, bytes_behind_first, length-append))
 
   cut_given : text ≡ held old ++ take (2 ^ 63 - 1 - bytes_taken old) bytes
       → lines_given new ≡ feeds_taken old + line_feeds (take (2 ^ 63 - 1 - bytes_taken old) bytes)
@@ -197,9 +182,6 @@ module _ {S : Type 0} (device : Source S) (old new : LineReader S) (bytes text b
 -- a last piece with its line feed holds the piece
 pub held_closed : (all complete unread : List ℕ) → complete ≡ closed all → held_at true complete unread ≡ all
 held_closed all complete unread e = grind (arith, common_steps)
-
-no_feeds_by : (stop : Stop) (n : ℕ) → (stop ≡ StopLineFeed → ⊥) → (n ≡ 0) ⊎ (stop ≡ StopLineFeed) → n ≡ 0
-no_feeds_by stop n other p1 = grind arith
 
 module _ {S : Type 0} (device : Source S) (old new : LineReader S) (going : old.state ≡ Reading) (none : complete old.buffer ≡ [])
     (same : new.input ≡ old.input) (same_lines : new.lines ≡ old.lines) (stop : Stop)
@@ -224,7 +206,7 @@ module _ {S : Type 0} (device : Source S) (old new : LineReader S) (going : old.
   end_step is empty state = grind (arith, goes, fills_end, told_ended, nothing_buffered)
 
   no_feeds : (stop ≡ StopLineFeed → ⊥) → line_feeds (held old) ≡ 0
-  no_feeds other = rw old_holds (no_feeds_by stop (line_feeds (unread old.buffer)) other buffers.first)
+  no_feeds other = rw old_holds (grind arith)
 
   joined_all : (all bytes : List ℕ) → unread old.buffer ++ bytes ≡ all → held old ++ bytes ≡ all
   joined_all all bytes e = ap (λ l. l ++ bytes) old_holds ∙ e
@@ -242,15 +224,13 @@ module _ {S : Type 0} (device : Source S) (old new : LineReader S) (going : old.
         let was = goes old going in
         let is_fault = is_read_failed at in
         let counted : new.taken ≡ old.taken + length b.bytes = omega (arith, b.counted) in
-        let room : length b.bytes ≤ 2 ^ 63 - 1 - old.taken = omega (arith, counted, new.counted) in
-        let all : held old ++ b.bytes ≡ unread old.buffer ++ b.bytes = joined_all (unread old.buffer ++ b.bytes) b.bytes refl in
-        let clear : NoLineFeed (held old ++ b.bytes) = subst NoLineFeed (sym all) b.stopped.0 in
+        let clear : NoLineFeed (held old ++ b.bytes) = subst NoLineFeed (sym (joined_all (unread old.buffer ++ b.bytes) b.bytes refl)) b.stopped.0 in
         let kept : held new ≡ unread new.buffer = rw (state, b.stopped.1) refl in
         let none : line_feeds (held new) ≡ 0 = rw kept (line_feeds-none (unread new.buffer) b.stopped.2) in
         stepped_cut device old new b.bytes (held old ++ b.bytes) [] fault was (no_feeds (λ e. let apart : StopLineFeed ≡ Failed = sym e ∙ is in cc)) same same_lines b.consumed
         (rw (state, was.taken) counted) (sym (append-nil (held old ++ b.bytes))) clear (omega arith)
         (λ below. omega (arith, none, line_feeds-none (held old ++ b.bytes) clear, line_feeds-append (held old) b.bytes)) (rw (state, is_fault, same, same_lines) refl) (rw state refl) nothing_buffered
-        (λ e. rw (was.taken, take_all (2 ^ 63 - 1 - old.taken) b.bytes room) refl)
+        (λ e. rw (was.taken, take_all (2 ^ 63 - 1 - old.taken) b.bytes (omega (arith, counted, new.counted))) refl)
         (inl (record { is = is_fault; cause = inl b.stopped.3 }))
         (λ e. absurd (some_place (sym is_fault ∙ e)))
 
@@ -264,12 +244,11 @@ module _ {S : Type 0} (device : Source S) (old new : LineReader S) (going : old.
         let cut = b.stopped.0 in
         let counted : suc new.taken ≡ old.taken + length b.bytes = omega (arith, b.counted) in
         let room : length b.bytes - length cut.1 ≡ 2 ^ 63 - 1 - old.taken = omega (arith, counted, cut.4, b.stopped.3) in
-        let some : length cut.1 ≤ length b.bytes = omega (arith, counted, cut.4, b.stopped.3, old.counted) in
         let joined : held old ++ b.bytes ≡ cut.0 ++ cut.1 = joined_all (cut.0 ++ cut.1) b.bytes cut.3 in
         stepped_cut device old new b.bytes cut.0 cut.1 fault was (no_feeds (λ e. let apart : StopLineFeed ≡ StopTooLong = sym e ∙ is in cc)) same same_lines b.consumed
         (rw (state, was.taken) counted) joined cut.2 (omega (arith, cut.4))
         (λ below. absurd (omega (arith, b.stopped.3, rw state at below))) (rw (state, is_fault, same, same_lines) refl) (rw state refl) nothing_buffered
-        (λ e. rw (was.taken, ← room) (front_of_joined (held old) b.bytes cut.0 cut.1 joined some))
+        (λ e. rw (was.taken, ← room) (front_of_joined (held old) b.bytes cut.0 cut.1 joined (omega (arith, counted, cut.4, b.stopped.3, old.counted))))
         (inl (record { is = is_fault; cause = inr (rw state (omega (arith, b.stopped.3))) }))
         (λ e. absurd (some_place (sym is_fault ∙ e)))
 
@@ -280,11 +259,10 @@ module _ {S : Type 0} (device : Source S) (old new : LineReader S) (going : old.
         let b = rw is at buffers in
         let was = goes old going in
         let cut = b.stopped.0 in
-        let counted : new.taken ≡ old.taken + length b.bytes = omega (arith, b.counted) in
         let joined : held old ++ b.bytes ≡ cut.0 ++ unread new.buffer = joined_all (cut.0 ++ unread new.buffer) b.bytes cut.2 in
         let kept : held new ≡ unread new.buffer = rw (state, b.stopped.1) refl in
         stepped_cut device old new b.bytes cut.0 (unread new.buffer) fault was (no_feeds (λ e. let apart : StopLineFeed ≡ StopNoMemory = sym e ∙ is in cc)) same same_lines b.consumed
-        (rw (state, was.taken) counted) joined cut.1 (unread_fits new.buffer)
+        (rw (state, was.taken) (omega (arith, b.counted))) joined cut.1 (unread_fits new.buffer)
         (λ below. omega (arith, ap line_feeds kept, ap line_feeds joined, line_feeds-append (held old) b.bytes, line_feeds-append cut.0 (unread new.buffer), line_feeds-none cut.0 cut.1))
         (rw (state, is_fault) refl) (rw state refl) nothing_buffered
         (λ e. absurd (some_place (sym e ∙ is_fault)))

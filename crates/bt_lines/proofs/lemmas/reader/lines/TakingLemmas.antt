@@ -22,7 +22,6 @@ pub record Whole (lines : List ℕ) (n : ℕ) : Type 0 where
 whole_by : (lines : List ℕ) (n : ℕ) → n ≤ length lines → is_fed lines ≡ true → line_feeds lines ≤ 1 → (take n lines ≡ []) ⊎ ((front : List ℕ) × (take n lines ≡ front ++ 10 ∷ [])) → Whole lines n
 whole_by lines n within fed one (inl e) = grind (arith, common_steps)
 whole_by lines n within fed one (inr f) =
-    let feed : line_feeds (10 ∷ []) ≡ 1 = refl in
     let all : line_feeds lines ≡ line_feeds (take n lines) + line_feeds (drop n lines) =
     ap line_feeds (sym (take-append-drop n lines)) ∙ line_feeds-append (take n lines) (drop n lines) in
     let some : line_feeds (take n lines) ≡ line_feeds f.0 + 1 = ap line_feeds f.1 ∙ line_feeds-append f.0 (10 ∷ []) in
@@ -36,11 +35,8 @@ module _ (state : State) (lines unread : List ℕ) (given taken n : ℕ) (within
   alone_by : open_at state ≡ true → Whole lines n
   alone_by e = whole lines n within fed front (last.one e)
 
-  spaced_closed : (b : Bool) → open_at state ≡ b → given + line_feeds (take n lines) + length (held_at b (drop n lines) unread) ≤ taken
-  spaced_closed b e = grind (arith, common_steps)
-
   pub spaced_taken : given + line_feeds (take n lines) + length (held_at (open_at state) (drop n lines) unread) ≤ taken
-  spaced_taken = spaced_closed (open_at state) refl
+  spaced_taken = grind (arith, common_steps)
 
   pub quiet_taken : lends_at state ≡ false → drop n lines ≡ []
   quiet_taken e = drop_all n lines (omega (arith, ap length (quiet e)))
@@ -101,16 +97,9 @@ take_whole xs = take_all (length xs) xs (omega arith)
 first_whole : (number : ℕ) (lines more : List ℕ) → take (length (whole_lines_from number lines)) (lines_from number (lines ++ more)) ≡ whole_lines_from number lines
 first_whole number lines more = ap (λ k. take k (lines_from number (lines ++ more))) (whole_count number lines) ∙ whole_front number lines more
 
-prefix_by : (told open_now : Bool) (given : ℕ) (lines unread : List ℕ) (left : Option (List ℕ)) → (open_now ≡ true → told ≡ true)
-    → IfSome (option_map (lines_from (suc given)) (left_at told (held_at open_now lines unread) left)) (λ all. take (length (buffered_lines open_now given lines)) all ≡ buffered_lines open_now given lines)
-prefix_by told open_now given lines unread left h = grind (arith, take_whole, first_whole, append_assoc)
-
-open_told : (state : State) → open_at state ≡ true → told_at state ≡ true
-open_told state e = grind arith
-
 pub is_prefix : {S : Type 0} (left : S → Option (List ℕ)) (reader : LineReader S) → IsPrefix left reader
 unfolding bytes_left held end_told lines_given source_of buffered_bytes is_open
-is_prefix left reader = prefix_by (told_at reader.state) (open_at reader.state) reader.lines (complete reader.buffer) (unread reader.buffer) (left reader.source) (open_told reader.state)
+is_prefix left reader = grind (arith, take_whole, first_whole, append_assoc)
 
 -- ---- an open line
 
@@ -135,16 +124,13 @@ open_held reader e = held_open (open_at reader.state) (complete reader.buffer) (
 
 open_is_told : {S : Type 0} (reader : LineReader S) → open_at reader.state ≡ true → end_told reader ≡ true
 unfolding end_told
-open_is_told reader e = open_told reader.state e
+open_is_told reader e = grind arith
 
 closed_held : {S : Type 0} (reader : LineReader S) → open_at reader.state ≡ false → held reader ≡ complete reader.buffer ++ unread reader.buffer
 unfolding held
 closed_held reader e = held_plain (open_at reader.state) (complete reader.buffer) (unread reader.buffer) e
 
 -- ---- what stays as it was
-
-closed_by : (state : State) → told_at state ≡ false → open_at state ≡ false
-closed_by state e = grind arith
 
 module _ {S : Type 0} (device : Source S) (old new : LineReader S) (n : ℕ) (takes : Takes old new n) where
   near_taken : 0 < n → length (held new) ≤ block_size
@@ -177,18 +163,12 @@ module _ {S : Type 0} (device : Source S) (old new : LineReader S) (n : ℕ) (ta
   unfolding bytes_left
   open_taken opened = grind (arith, open_held, are_fed, open_is_told, sources, numbers, whole, drop_all, few_lines, front_feeds, fed_last, lines_from-nil)
 
-  both_taken : (b : Bool) → open_at old.state ≡ b → DropsLines (lines_left device.left old) (line_feeds (take n (complete old.buffer))) (lines_left device.left new)
-  both_taken b e = grind (arith, open_taken, closed_taken)
-
   all_taken : DropsLines (lines_left device.left old) (line_feeds (take n (complete old.buffer))) (lines_left device.left new)
-  all_taken = both_taken (open_at old.state) refl
-
-  faults_by : (state : State) → old.state ≡ state → fault_at state old.input new.lines ≡ fault_at state old.input old.lines
-  faults_by state e = grind arith
+  all_taken = grind (arith, open_taken, closed_taken)
 
   fault_taken : fault_kept new ≡ fault_kept old
   unfolding fault_kept
-  fault_taken = ap (λ s. fault_at s new.input new.lines) takes.state ∙ ap (λ i. fault_at old.state i new.lines) takes.input ∙ faults_by old.state refl
+  fault_taken = ap (λ s. fault_at s new.input new.lines) takes.state ∙ ap (λ i. fault_at old.state i new.lines) takes.input ∙ (grind arith)
 
   ended_taken : has_ended new ≡ has_ended old
   unfolding has_ended
@@ -205,14 +185,12 @@ module _ {S : Type 0} (device : Source S) (old new : LineReader S) (n : ℕ) (ta
   feeds_kept : end_told new ≡ false → feeds_taken new ≡ feeds_taken old
   unfolding feeds_taken end_told lines_given
   feeds_kept e =
-      let plain : open_at old.state ≡ false = closed_by old.state (sym (ap told_at takes.state) ∙ e) in
-      let was : held old ≡ complete old.buffer ++ unread old.buffer = closed_held old plain in
-      let is : held new ≡ drop n (complete old.buffer) ++ unread old.buffer = closed_new plain in
+      let plain : open_at old.state ≡ false = grind arith in
       omega (
         arith,
         takes.more,
-        ap line_feeds was,
-        ap line_feeds is,
+        ap line_feeds (closed_held old plain),
+        ap line_feeds (closed_new plain),
         line_feeds-append (complete old.buffer) (unread old.buffer),
         line_feeds-append (drop n (complete old.buffer)) (unread old.buffer),
         ap line_feeds (take-append-drop n (complete old.buffer)),
@@ -294,13 +272,10 @@ pub given_below : {S : Type 0} (reader : LineReader S) → lines_given reader < 
 unfolding lines_given
 given_below reader = omega (arith, reader.a_byte_each, reader.counted)
 
-taken_by : (state : State) (input : Input) (lines taken : ℕ) → taken < 2 ^ 63 → fault_at state input lines ≡ None → taken_at state taken < 2 ^ 63
-taken_by state input lines taken below going = grind arith
-
 -- without a fault, fewer than 2^63 bytes were taken
 pub taken_below : {S : Type 0} (reader : LineReader S) → fault_kept reader ≡ None → bytes_taken reader < 2 ^ 63
 unfolding fault_kept bytes_taken
-taken_below reader going = taken_by reader.state reader.input reader.lines reader.taken reader.counted going
+taken_below reader going = grind arith
 
 -- ---- the number of the next line
 
@@ -315,11 +290,8 @@ next_number reader line more e = number_by (is_open reader) (lines_given reader)
 no_bytes : (b : Bool) (given : ℕ) (line : TextLine) (more : List TextLine) → buffered_lines b given [] ≡ line ∷ more → ⊥
 no_bytes b given line more e = grind (arith, lines_from-nil, whole_lines_from-last)
 
-some_bytes_by : (bytes : List ℕ) (b : Bool) (given : ℕ) (line : TextLine) (more : List TextLine) → buffered_lines b given bytes ≡ line ∷ more → 0 < length bytes
-some_bytes_by bytes b given line more e = grind (arith, common_steps, no_bytes)
-
 pub next_bytes : {S : Type 0} (reader : LineReader S) (line : TextLine) (more : List TextLine) → buffered_in reader ≡ line ∷ more → 0 < length (buffered_bytes reader)
-next_bytes reader line more e = some_bytes_by (buffered_bytes reader) (is_open reader) (lines_given reader) line more e
+next_bytes reader line more e = grind (arith, common_steps, no_bytes)
 
 -- and if bytes are, one is
 none_buffered : (b : Bool) (given : ℕ) (bytes : List ℕ) → is_fed bytes ≡ true → (b ≡ true → nat_eq (length bytes) 1 ≡ false) → buffered_lines b given bytes ≡ [] → length bytes ≡ 0
@@ -347,16 +319,11 @@ pub hands_both : {S : Type 0} (left : S → Option (List ℕ)) (old mid new : Li
     → Hands left old first mid → Hands left mid second new → Hands left old (first ++ second) new
 hands_both left old mid new first second p q = grind (arith, Consumes-trans, length-append, line_feeds-append)
 
--- after the lines given, at most a block more than the source has
-near_left : (told : Bool) (held : List ℕ) (n : ℕ) (left : Option (List ℕ)) (k : ℕ) → length held ≤ k
-    → IfSome (option_map (lines_from n) (left_at told held left)) (λ lines. IfSome left (λ rest. bytes_in lines ≤ length rest + k))
-near_left told held n left k short = grind (arith, bytes_in-lines, length-append)
-
 -- of known bytes, those of the lines that are left are left at the source, except at most a block
 pub sound_near : {S : Type 0} (device : Source S) (reader : LineReader S) → IsSound device reader → fault_kept reader ≡ None
     → IfSome (lines_left device.left reader) (λ lines. IfSome (device.left (source_of reader)) (λ rest. bytes_in lines ≤ length rest + block_size))
 unfolding bytes_left
-sound_near device reader sound going = near_left (end_told reader) (held reader) (suc (lines_given reader)) (device.left (source_of reader)) block_size (sound.near going)
+sound_near device reader sound going = grind (arith, bytes_in-lines, length-append)
 
 -- of known lines, those left after one was given are the others
 pub given_drops : (old : Option (List TextLine)) (line : TextLine) (new : Option (List TextLine)) → GivesFirst old line new → IfSome old (λ lines. new ≡ Some (drop 1 lines))

@@ -36,7 +36,7 @@ fed_end b piece stripped with without = grind (arith, append_assoc)
 
 -- a line with a line feed, as the text has it
 pub spelled-fed : (n : ℕ) (piece : List ℕ) → spelled (fed_line n piece) ≡ piece ++ 10 ∷ []
-spelled-fed n piece = fed_end (ends_with_byte 13 piece) piece (strip_last 13 piece) (strip_last-push 13 piece) (strip_last-other 13 piece)
+spelled-fed n piece = fed_end (ends_with_byte 13 piece) piece (strip_last 13 piece) (grind (arith, drop_more, drop_all, take-append-drop)) (strip_last-other 13 piece)
 
 -- a last line, as the text has it
 pub spelled-last : (n : ℕ) (piece : List ℕ) → flat_map spelled (last_line n piece) ≡ piece
@@ -115,13 +115,10 @@ whole_front n bytes more = by_lines (λ n bytes. take (line_feeds bytes) (lines_
 
 -- ---- numbers
 
-last_is_numbered : (n : ℕ) (piece : List ℕ) → AreNumbered n (last_line n piece)
-last_is_numbered n piece = grind arith
-
 -- the lines of a text count up from the number given
 pub lines_are_numbered : (n : ℕ) (bytes : List ℕ) → AreNumbered n (lines_from n bytes)
 lines_are_numbered = by_lines (λ n bytes. AreNumbered n (lines_from n bytes))
-    (λ n piece clear. subst (AreNumbered n) (sym (lines_from-last n piece clear)) (last_is_numbered n piece))
+    (λ n piece clear. subst (AreNumbered n) (sym (lines_from-last n piece clear)) (grind arith))
     (λ n piece rest clear is. subst (AreNumbered n) (sym (lines_from-fed n piece rest clear)) (refl, is))
 
 -- so do its complete lines
@@ -149,14 +146,12 @@ bytes_in-drop (suc k) (line ∷ lines) = omega (arith, bytes_in-drop k lines, le
 -- a list of bytes that begins with a piece without a line feed, cut at its first one
 first_cut : (piece rest front back : List ℕ) → NoLineFeed front → front ++ back ≡ piece ++ 10 ∷ rest → length rest ≤ length back
 first_cut piece rest [] back clear e = grind (arith, length-append)
-first_cut [] rest (byte ∷ front) back clear e = absurd (false≢true (sym (All-head (λ b. eqb b 10 ≡ false) byte front clear) ∙ ap (λ b. eqb b 10) (heads byte 10 (front ++ back) rest e)))
+first_cut [] rest (byte ∷ front) back clear e = absurd (false≢true (sym (All-head (λ b. eqb b 10 ≡ false) byte front clear) ∙ ap (λ b. eqb b 10) (ap first e)))
   where
     first : List ℕ → ℕ
     first [] = 0
     first (x ∷ xs) = x
 
-    heads : (x y : ℕ) (xs ys : List ℕ) → x ∷ xs ≡ y ∷ ys → x ≡ y
-    heads x y xs ys e = ap first e
 first_cut (other ∷ piece) rest (byte ∷ front) back clear e = grind (arith, (first_cut piece rest front back (All-tail (λ b. eqb b 10 ≡ false) byte front clear) (ap (drop 1) e)))
 
 -- after a piece without a line feed: the lines except the first have at most the bytes that come there
@@ -214,17 +209,14 @@ without_tab text end is all = slice_split_none (λ x. eqb x 9) text (subst (Lack
 
 -- a needle of one byte
 module _ (hay : List ℕ) (b : ℕ) where
-  byte_occurs : (k : ℕ) → k < length hay → Passes (is_byte b) hay k → OccursAt hay (b ∷ []) k
-  byte_occurs k h e = grind arith
-
   occurs_byte : (k : ℕ) → OccursAt hay (b ∷ []) k → Passes (is_byte b) hay k
   occurs_byte k o = grind arith
 
   -- the needle's first match is the first such byte
   pub finds_byte : (found : Option ℕ) → FindsNeedle hay (b ∷ []) 0 found → IsFirstByte (is_byte b) hay found
-  finds_byte None none = λ k low high e. none k low (omega (arith, high)) (byte_occurs k high e)
+  finds_byte None none = λ k low high e. none k low (omega (arith, high)) (grind arith)
   finds_byte (Some at) first =
       let fits = first.1.fits in (
-        record { low = first.0.low; high = omega (arith, fits); before = λ k low high e. first.0.before k low high (byte_occurs k (omega (arith, high, fits)) e) },
+        record { low = first.0.low; high = omega (arith, fits); before = λ k low high e. first.0.before k low high (grind arith) },
         occurs_byte at first.1,
       )

@@ -8,7 +8,6 @@ overflow_add-result c =
     let at = c.loop-near.at in
     let near = chunk_of text at _ 32 c.in-Some.ensures.cases.same c.in-Some.ensures.cases.enough in
     let first = feed_behind c.args.byte text at c.loop-near.invariant.0 c.loop-near.invariant.1 _ 32 c.in-Some-find_near.place near c.in-Some-find_near.ensures in
-    let inside : at + c.in-Some-find_near.place < length text = first.0 in
     search rules
 
 pub returns-in-Some-find_near : goal.returns-in-Some-find_near

@@ -8,10 +8,6 @@ returns-clause-written c =
     let start = c.write_column-first in
     let text = c.args.text.now in
     let same = length-set text 42 c.args.end in
-    let kept = stop.auto.text in
-    let long = start.auto.text in
-    let low = start.ensures.high in
-    let high = stop.ensures.high in
     span_moved start.new.text start.result _ (omega arith)
     (span_written text stop.new.text start.new.text c.args.start c.args.stop c.args.end stop.result start.result (omega arith) (omega arith) (omega arith)
     stop.ensures.written start.ensures.written)

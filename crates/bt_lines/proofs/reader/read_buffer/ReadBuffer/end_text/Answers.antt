@@ -1,5 +1,5 @@
-use Rattle.bt_lines.proofs.Std.{◌≡◌, ◌≤◌, ◌<◌, ◌+◌, arith, length, rules, set, slice_range, subst, sym}
-use Rattle.bt_lines.proofs.lemmas.reader.block.BufferLemmas.{are_in_block, end_added, fed_push, length-range, none_searched, closed_some}
+use Rattle.bt_lines.proofs.Std.{◌≡◌, ◌≤◌, ◌<◌, ◌+◌, arith, length, rules, set, slice_range, subst, sym, drop-append-le, length-take-le, take_more_set, ◌-◌}
+use Rattle.bt_lines.proofs.lemmas.reader.block.BufferLemmas.{are_in_block, end_added, fed_push, length-range, none_searched, closed_some, range_drop}
 use Rattle.bt_lines.specs.inside.ReadBuffer.{complete, unread}
 use Rattle.bt_lines.specs.inside.Shape.{AreComplete}
 use Rattle.bt_lines.proofs.reader.read_buffer.ReadBuffer.end_text.Goals as goal
@@ -23,4 +23,4 @@ invariant_of-self-clause-are_complete c =
 
 pub returns-clause-lines : goal.returns-clause-lines
 unfolding complete unread
-returns-clause-lines c = grind (arith, length-range, end_added, closed_some)
+returns-clause-lines c = grind (arith, length-range, range_drop, take_more_set, drop-append-le, length-take-le, closed_some)

@@ -1,12 +1,11 @@
 use Rattle.bt_lines.proofs.Std.{◌+◌, ◌∙◌, ◌++◌, ℕ, List, ap, arith, slice_range}
-use Rattle.bt_lines.proofs.lemmas.reader.block.BufferLemmas.{behind_read, front_same, lines_front}
+use Rattle.bt_lines.proofs.lemmas.reader.block.BufferLemmas.{behind_read, front_same, range_same}
 use Rattle.bt_lines.specs.inside.ReadBuffer.{unread}
 use Rattle.bt_lines.proofs.reader.read_buffer.ReadBuffer.read_more.Goals as goal
 
 pub invariant_of-self : goal.invariant_of-self
 invariant_of-self g c =
     let mid = c.move_front.new.self in
-    let before = c.in_err-count.ensures.before in
     record {
       text_ordered = mid.text_ordered;
       text_within = mid.text_within;
@@ -14,8 +13,8 @@ invariant_of-self g c =
       whole_searched = mid.whole_searched;
       searched_within = mid.searched_within;
       within = mid.within;
-      clear = front_same mid.bytes _ mid.whole mid.searched mid.end before mid.whole_searched mid.searched_within mid.clear;
-      are_complete = lines_front mid.is_spilled mid.spilled.items mid.bytes _ mid.start mid.whole mid.end before mid.ordered (omega (arith, mid.whole_searched, mid.searched_within)) mid.are_complete;
+      clear = front_same mid.bytes _ mid.whole mid.searched mid.end c.in_err-count.ensures.before mid.whole_searched mid.searched_within mid.clear;
+      are_complete = grind (arith, range_same);
     }
 
 pub invariant_of-self-2-clause-clear : goal.invariant_of-self-2-clause-clear

@@ -1,5 +1,5 @@
-use Rattle.bt_lines.proofs.Std.{arith, subst, sym}
-use Rattle.bt_lines.proofs.lemmas.reader.block.BufferLemmas.{are_dropped, line_text, lines_dropped, lines_ordered, text_fits}
+use Rattle.bt_lines.proofs.Std.{arith, subst, sym, drop-drop, length-drop, length-take, ◌-◌}
+use Rattle.bt_lines.proofs.lemmas.reader.block.BufferLemmas.{are_dropped, line_text, consumed}
 use Rattle.bt_lines.specs.inside.ReadBuffer.{complete, text_in}
 use Rattle.bt_lines.specs.inside.Shape.{AreComplete}
 use Rattle.bt_lines.proofs.reader.read_buffer.ReadBuffer.take_line.Goals as goal
@@ -10,13 +10,13 @@ invariant_of-self c =
     let old = c.args.self.now in
     record {
       text_ordered = omega arith;
-      text_within = text_fits old.is_spilled old.spilled.items old.bytes old.start old.whole old.end c.args.text c.args.line old.ordered (omega (arith, old.whole_searched, old.searched_within)) old.within c.requires.text c.requires.line;
-      ordered = lines_ordered old.is_spilled old.spilled.items old.bytes old.start old.whole c.args.line old.ordered c.requires.line;
+      text_within = grind (arith, length-drop, length-take);
+      ordered = grind (arith, length-drop, length-take);
       whole_searched = old.whole_searched;
       searched_within = old.searched_within;
       within = old.within;
       clear = old.clear;
-      are_complete = subst (AreComplete old.is_spilled) (sym (lines_dropped old.is_spilled old.spilled.items old.bytes old.start old.whole c.args.line c.requires.line))
+      are_complete = subst (AreComplete old.is_spilled) (sym (grind (arith, drop-drop, consumed, length-take)))
           (are_dropped old.is_spilled _ c.args.line old.are_complete);
     }
 
@@ -26,4 +26,4 @@ returns-clause-text c = grind (arith, line_text)
 
 pub returns-clause-lines : goal.returns-clause-lines
 unfolding complete
-returns-clause-lines c = grind (arith, lines_dropped)
+returns-clause-lines c = grind (arith, drop-drop, consumed, length-take)

@@ -1,6 +1,5 @@
-use Rattle.bt_lines.proofs.Std.{arith, length-take-le}
-use Rattle.bt_lines.proofs.lemmas.Writer.{two_put}
+use Rattle.bt_lines.proofs.Std.{arith, length-take-le, append_assoc, length-append, take-put_mid, ◌-◌}
 use Rattle.bt_lines.proofs.writer.write_buffer.WriteBuffer.append_short.Goals as goal
 
 pub returns : goal.returns
-returns c = grind (arith, length-take-le, two_put)
+returns c = grind (arith, length-take-le, length-append, take-put_mid, append_assoc)
