@@ -1,5 +1,5 @@
 -- Lemmas on held records.
-use Rattle.bt_lines.proofs.Std.{◌≡◌, Bool, true, ◌&&◌, cond, List, [], ◌∷◌, refl, filter, arith, ℕ, ◌<◌, false, None, Some, sym, ap, ◌∙◌, subst, rules, length, nat_eq, nat_lt, IsSome, BTreeMap, get, nat_cmp, eq-eqb, eqb-true, false≢true, lt-ltb, length-filter, ◌+◌, ◌-◌, ◌≤◌, ◌++◌, zero, suc, add-one, append_assoc, drop, length-append, nat_le, option_to_list, slice_index_or, take, or-false, le-ltb, leb-false, ltb-false, ltb-true, or_parts, All, AllByRecursion, list_any, slice_get, IsNonDecreasingBy, IsPartitionPoint, get_or-drop, get_or_default, length-drop, take-append-drop, All-filter, filter-append, recursion_from_All, IsNonDecreasingBy-filter, IsNonDecreasingBy-push}
+use Rattle.bt_lines.proofs.Std.{◌≡◌, Bool, true, ◌&&◌, cond, List, [], ◌∷◌, refl, filter, arith, ℕ, ◌<◌, false, None, Some, sym, ap, ◌∙◌, subst, rules, length, nat_eq, nat_lt, IsSome, BTreeMap, get, nat_cmp, eq-eqb, eqb-true, lt-ltb, length-filter, ◌+◌, ◌-◌, ◌≤◌, ◌++◌, zero, suc, add-one, append_assoc, drop, length-append, nat_le, option_to_list, slice_index_or, take, or-false, le-ltb, leb-false, ltb-false, ltb-true, or_parts, All, AllByRecursion, list_any, slice_get, IsNonDecreasingBy, IsPartitionPoint, get_or-drop, get_or_default, length-drop, take-append-drop, All-filter, filter-append, recursion_from_All, IsNonDecreasingBy-filter, IsNonDecreasingBy-push}
 use Rattle.bt_bed.specs.model.Feature.{Feature}
 use Rattle.bt_sweep.specs.inside.Held.{CountsEnds, ending_at, if_some}
 use Rattle.bt_sweep.specs.calls.Held.{HaveBases}
@@ -37,15 +37,9 @@ as_length stop xs = sym (length-filter (ends_at stop) xs)
 some_of : (n : ℕ) → 0 < n → IsSome (if_some n)
 some_of n h = subst (λ (b : Bool). IsSome (cond b (Some n) None)) (sym (lt-ltb 0 n h)) (search rules)
 
-never_both : (c d : Bool) → (c ≡ true → d ≡ true → ⊥) → false ≡ (c && d)
-never_both c d h = grind arith
-
 none_pass : (xs : List Feature) → filter (λ r. false) xs ≡ []
 none_pass [] = refl
 none_pass (x ∷ xs) = none_pass xs
-
-one_longer : (x : Feature) (xs : List Feature) (c : Bool) → 0 < length xs → 0 < length (cond c (x ∷ xs) xs)
-one_longer x xs c h = grind arith
 
 module _ (place : ℕ) where
   abbrev stays : Feature → Bool
@@ -53,7 +47,7 @@ module _ (place : ℕ) where
 
   stay_rec : (xs : List Feature) → ((stop : ℕ) → 0 < length (filter (ends_at stop) xs) → place < stop) → xs ≡ filter stays xs
   stay_rec [] h = refl
-  stay_rec (x ∷ xs) h = grind (arith, (eq-eqb x.stop x.stop refl), (stay_rec xs (λ stop some. h stop (one_longer x (filter (ends_at stop) xs) (ends_at stop x) some))))
+  stay_rec (x ∷ xs) h = grind (arith, (eq-eqb x.stop x.stop refl), (stay_rec xs (λ stop some. h stop (grind arith))))
 
   -- if each end that is counted lies after the place, no record has ended there
   pub none_ended : (ends : BTreeMap ℕ ℕ) (xs : List Feature) → CountsEnds ends xs → ((stop : ℕ) → IsSome (get nat_cmp ends stop) → place < stop) → xs ≡ filter stays xs
@@ -63,12 +57,9 @@ module _ (place : ℕ) where
     stop_stays : nat_lt place stop ≡ true → (x : Feature) → ends_at stop x ≡ true → stays x ≡ true
     stop_stays h x e = ap (nat_lt place) (eqb-true x.stop stop e) ∙ h
 
-    stop_goes : nat_lt place stop ≡ false → (x : Feature) → stays x ≡ true → ends_at stop x ≡ true → ⊥
-    stop_goes h x s e = false≢true (sym h ∙ ap (nat_lt place) (sym (eqb-true x.stop stop e)) ∙ s)
-
     kept_by : (c : Bool) → nat_lt place stop ≡ c → if_some (ending_at stop (filter stays xs)) ≡ cond c (if_some (ending_at stop xs)) None
     kept_by true h = grind (arith, (as_length stop (filter stays xs)), (filter-wider (ends_at stop) stays (stop_stays h) xs), (as_length stop xs))
-    kept_by false h = grind (arith, (as_length stop (filter stays xs)), (filter-both (λ r. false) stays (ends_at stop) (λ x. never_both (stays x) (ends_at stop x) (stop_goes h x)) xs), (none_pass xs))
+    kept_by false h = grind (arith, (as_length stop (filter stays xs)), (filter-both (λ r. false) stays (ends_at stop) (λ x. grind arith) xs), (none_pass xs))
 
     -- of the records that haven't ended at the place as many end anywhere after it, and none elsewhere
     pub kept_ends : if_some (ending_at stop (filter stays xs)) ≡ cond (nat_lt place stop) (if_some (ending_at stop xs)) None
@@ -84,9 +75,7 @@ pub rises_push : (xs : List Feature) (last y : Feature) (n : ℕ) → n ≡ leng
     → IsNonDecreasingBy (λ r. r.start) xs → IsNonDecreasingBy (λ r. r.start) (xs ++ y ∷ [])
 rises_push xs last y n is at h rises =
     IsNonDecreasingBy-push start_of xs y rises (λ d some.
-    let within : length xs - 1 < length xs = omega (arith, some) in
-    let same = ap start_of (get_or_default xs (length xs - 1) d last within ∙ ap (λ k. slice_index_or xs (k - 1) last) (sym is) ∙ sym at) in
-    omega (arith, same, h))
+    omega (arith, ap start_of (get_or_default xs (length xs - 1) d last (omega (arith, some)) ∙ ap (λ k. slice_index_or xs (k - 1) last) (sym is) ∙ sym at), h))
 
 -- whether the one at an index passes a test
 passes_at : {X : Type 0} (p : X → Bool) (xs : List X) (i : ℕ) (d : X) → i < length xs → list_any p (option_to_list (slice_get xs i)) ≡ p (slice_index_or xs i d)
@@ -105,14 +94,12 @@ module _ (place : ℕ) (xs : List Feature) (rises : IsNonDecreasingBy (λ r. r.s
   -- if one starts before the place, so do those before it
   pub come_before : list_any (λ r. nat_lt r.start place) (option_to_list (slice_get xs middle)) ≡ true → ComeBefore place xs (middle + 1)
   come_before e = λ i d low.
-      let here = sym (passes_at (λ r. nat_lt r.start place) xs middle d h) ∙ e in
-      lt-ltb _ place (omega (arith, rises i middle d (omega (arith, low)) h, ltb-true _ place here))
+      lt-ltb _ place (omega (arith, rises i middle d (omega (arith, low)) h, ltb-true _ place (sym (passes_at (λ r. nat_lt r.start place) xs middle d h) ∙ e)))
 
   -- if one starts there or after it, so do those after it in the list
   pub come_from : list_any (λ r. nat_lt r.start place) (option_to_list (slice_get xs middle)) ≡ false → ComeFrom place xs middle
   come_from e = λ i d low high.
-      let here = sym (passes_at (λ r. nat_lt r.start place) xs middle d h) ∙ e in
-      le-ltb _ place (omega (arith, rises middle i d low high, ltb-false _ place here))
+      le-ltb _ place (omega (arith, rises middle i d low high, ltb-false _ place (sym (passes_at (λ r. nat_lt r.start place) xs middle d h) ∙ e)))
 
 pub come_to : (place : ℕ) (xs : List Feature) (low high : ℕ) → low ≡ high → ComeBefore place xs low → ComeFrom place xs high
     → IsPartitionPoint (λ (r : Feature). nat_lt r.start place ≡ true) (λ (r : Feature). nat_lt r.start place ≡ false) xs high

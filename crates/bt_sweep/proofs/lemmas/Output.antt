@@ -1,5 +1,5 @@
 -- Lemmas on what is written of a record.
-use Rattle.bt_lines.proofs.Std.{common_steps, ◌≡◌, ℕ, ◌+◌, ◌<◌, ◌≤◌, Bool, true, false, ◌||◌, List, [], ◌∷◌, zero, suc, add-one, arith, drop, length, nat_le, leb-true, option_to_list, take, AllByRecursion, list_any, slice_get, leb-false, or_parts, All-from_recursion, cond, ◌++◌, Err, refl, sym, ap, ◌∙◌, subst, append_assoc, filter, flat_map, length-append, or_left, or_right, or_from, take-append-drop, filter-append, list_any-append, ◌-◌, not, ltb, min, max, All, length-take-le, All-take, recursion_from_All, Result, ◌⊎◌, inl, inr, bytes_eq, decimal}
+use Rattle.bt_lines.proofs.Std.{common_steps, ◌≡◌, ℕ, ◌+◌, ◌<◌, ◌≤◌, Bool, true, false, ◌||◌, List, [], ◌∷◌, zero, suc, add-one, arith, drop, length, nat_le, leb-true, option_to_list, take, AllByRecursion, list_any, slice_get, leb-false, or_parts, All-from_recursion, cond, ◌++◌, Err, refl, sym, ap, ◌∙◌, subst, append_assoc, filter, flat_map, length-append, or_left, or_right, or_from, take-append-drop, filter-append, list_any-append, ◌-◌, not, ltb, min, max, All, length-take-le, All-take, recursion_from_All, Result, ◌⊎◌, inl, inr, decimal}
 use Rattle.bt_bed.specs.model.Feature.{Feature, is_strand}
 use Rattle.bt_bed.specs.model.BedLine.{bed_text}
 use Rattle.bt_sweep.specs.calls.Held.{AreRising, AreRisingFrom, StartBefore, StartFrom, AreOn, CanHit}
@@ -57,12 +57,9 @@ module _ (place : ℕ) where
   abbrev StartsBefore : Feature → Type 0
   StartsBefore b = b.start < place
 
-  only_before : (n : ℕ) → (nat_le place n || false) ≡ false → n < place
-  only_before n e = leb-false place n (or_parts (nat_le place n) false e).0
-
   before_rec : (low : ℕ) (bs : List Feature) (i : ℕ) → i < length bs → list_any (λ r. nat_le place r.start) (option_to_list (slice_get bs i)) ≡ false → AreRisingFrom low bs → AllByRecursion StartsBefore (take (suc i) bs)
   before_rec low [] i h e rises = absurd (omega (arith, h))
-  before_rec low (b ∷ bs) zero h e rises = (only_before b.start e, tt)
+  before_rec low (b ∷ bs) zero h e rises = ((leb-false place b.start (or_parts (nat_le place b.start) false e).0), tt)
   before_rec low (b ∷ []) (suc i) h e rises = absurd (omega (arith, h))
   before_rec low (b ∷ next ∷ bs) (suc i) h e rises = grind (arith, (before_rec b.start (next ∷ bs) i (omega (arith, h)) e rises.1))
 
@@ -116,12 +113,9 @@ module _ {X : Type 0} where
     pub count_next : (xs : List X) (i n : ℕ) (b : Bool) → n ≡ length (filter p (take i xs)) → list_any p (option_to_list (slice_get xs i)) ≡ b → n + cond b 1 0 ≡ length (filter p (take (i + 1) xs))
     count_next xs i n b e f = grind (arith, take_next, filter-append, length-append)
 
-flat_map-append : (f : Feature → List ℕ) (xs ys : List Feature) → flat_map f (xs ++ ys) ≡ flat_map f xs ++ flat_map f ys
-flat_map-append f xs ys = grind (arith, common_steps)
-
 module _ (f : Feature → List ℕ) (p : Feature → Bool) (xs : List Feature) where
   found_append : (ys zs : List Feature) → flat_map f (filter p (ys ++ zs)) ≡ flat_map f (filter p ys) ++ flat_map f (filter p zs)
-  found_append ys zs = ap (flat_map f) (filter-append p ys zs) ∙ flat_map-append f (filter p ys) (filter p zs)
+  found_append ys zs = ap (flat_map f) (filter-append p ys zs) ∙ (grind (arith, common_steps))
 
   module _ (i : ℕ) where
     found_next : flat_map f (filter p (take (i + 1) xs)) ≡ flat_map f (filter p (take i xs)) ++ flat_map f (filter p (option_to_list (slice_get xs i)))
@@ -169,16 +163,13 @@ pub open_kept : (last a : Feature) (bs : List Feature) → last.chrom ≡ a.chro
 open_kept last a bs same all = All-from_recursion (CanHit a) (filter (λ b. ltb a.start b.stop) bs) (kept_rec last a same bs (recursion_from_All (CanHit last) bs all))
 
 module _ (rule : HitRule) (a : Feature) (any : rule.billionths ≡ 0) (no_strand : rule.same_strand ≡ false) (some : a.start < a.stop) where
-  shares : (b : Feature) → CanHit a b → b.start < a.stop → ltb 0 (shared_bases a b) ≡ true
-  shares b one before = grind (arith, name_eq)
-
   strands : (b : Feature) → strands_agree rule a b ≡ true
   unfolding strands_agree
   strands b = ap (λ c. not c || is_strand a.strand b.strand) no_strand
 
   one_hits : (b : Feature) → CanHit a b → b.start < a.stop → hits rule a b ≡ true
   unfolding hits
-  one_hits b one before = grind (arith, shares, strands, enough_of_nothing)
+  one_hits b one before = grind (arith, name_eq, strands, enough_of_nothing)
 
   hit_rec : (bs : List Feature) → AllByRecursion (CanHit a) bs → AllByRecursion (λ b. b.start < a.stop) bs → hits_among rule a bs ≡ bs
   hit_rec [] able before = refl
@@ -228,7 +219,7 @@ module _ (rule : HitRule) (a : Feature) (held : List Feature) where
 
     -- the pieces before one more
     pub pieces_next : (old mid new : Output) → Grown old (before_to i) mid → Grown mid (lines_before a free (found_at i)) new → Grown old (before_to (i + 1)) new
-    pieces_next old mid new so_far here = grind (arith, next_lines, (grown_more old mid new (before_to i) (lines_before a free (found_at i)) so_far here))
+    pieces_next old mid new so_far here = grind (arith, next_found, lines_append, (grown_more old mid new (before_to i) (lines_before a free (found_at i)) so_far here))
 
     abbrev rest : List Feature
     rest = hits_among rule a (drop (i + 1) held)
@@ -274,12 +265,9 @@ line_some (text ∷ next ∷ more) e = behind (text ++ 9 ∷ []) (line_with (nex
 pub line_adds : {A : Type 0} (texts : List (List ℕ)) (out grown : Output) (r : Result A Fault) → Puts out (line_with texts) r grown → Adds out (line_with texts) r grown
 line_adds texts out grown r puts = adds_some out grown (line_with texts) r (line_some texts) puts
 
-shared_where : (c : Bool) (n : ℕ) → 0 < cond c n 0 → n ≡ cond c n 0
-shared_where c n e = grind arith
-
 -- the bases that two records share, if they share one
 pub hit_shares : (a b : Feature) → 0 < shared_bases a b → min a.stop b.stop - max a.start b.start ≡ shared_bases a b
-hit_shares a b e = shared_where (bytes_eq a.chrom b.chrom) (min a.stop b.stop - max a.start b.start) e
+hit_shares a b e = grind arith
 
 once_at : (a : Feature) (p : Feature → Bool) (b : Feature) (bs : List Feature) (c : Bool) → p b ≡ c → lines_of Once a (filter p bs) ≡ cond (list_any p bs) (line_with (bed_text a ∷ [])) []
     → lines_of Once a (cond c (b ∷ filter p bs) (filter p bs)) ≡ cond (c || list_any p bs) (line_with (bed_text a ∷ [])) []
@@ -297,9 +285,6 @@ missing_of : (a : Feature) (p : Feature → Bool) (bs : List Feature) → lines_
 missing_of a p [] = refl
 missing_of a p (b ∷ bs) = missing_at a p b bs (p b) refl (missing_of a p bs)
 
-whole_of : (a : Feature) (found : List Feature) → lines_of Whole a found ≡ lines_of Missing a found
-whole_of a found = grind arith
-
 module _ {A : Type 0} (a : Feature) (bs : List Feature) (out grown : Output) (r : Result A Fault) (shape : Shape) (rule : HitRule) where
   -- a record that is put if something hits it
   pub once_adds : (any : Bool) → shape ≡ Once → any ≡ list_any (hits rule a) bs → Adds out (cond any (line_with (bed_text a ∷ [])) []) r grown → Adds out (lines_for shape rule a bs) r grown
@@ -316,7 +301,7 @@ module _ {A : Type 0} (a : Feature) (bs : List Feature) (out grown : Output) (r 
   unmatched_adds none is e adds =
       elim is [
         | inl is ↦ missing_as Missing none is (missing_of a (hits rule a) bs) e adds
-        | inr is ↦ missing_as Whole none is (whole_of a (hits_among rule a bs) ∙ missing_of a (hits rule a) bs) e adds
+        | inr is ↦ missing_as Whole none is ((grind arith) ∙ missing_of a (hits rule a) bs) e adds
       ]
 
   -- the pieces that those leave that hit it

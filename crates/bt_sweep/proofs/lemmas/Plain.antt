@@ -4,7 +4,7 @@ use Rattle.bt_bed.specs.model.Feature.{Feature, Span}
 use Rattle.bt_bed.specs.model.Positions.{stretches_from, with_position}
 use Rattle.bt_bed.specs.model.BedLine.{bed_text}
 use Rattle.bt_sweep.specs.model.Hits.{hits_among, hits}
-use Rattle.bt_sweep.specs.model.Lines.{hit_line, line_with, lines_for, lines_of, piece_line, pieces, has_position, is_left}
+use Rattle.bt_sweep.specs.model.Lines.{hit_line, line_with, lines_for, piece_line, pieces, has_position, is_left}
 use Rattle.bt_sweep.specs.declared.hits.hit_rule.HitRule.{HitRule}
 use Rattle.bt_sweep.specs.declared.output.shape.Shape.{Shape}
 use Rattle.bt_sweep.specs.declared.output.shape.Shape.TheVariants.{Cut, OrigA, CutAndB, OrigBoth, Overlap, Once, Missing, Count, Pieces, Whole}
@@ -17,12 +17,6 @@ use Rattle.bt_sweep.specs.declared.plain.plain_pieces.PlainPiece.{PlainPiece}
 pub tabbed : (old x y first second new : List ℕ) → first ≡ old ++ x → second ≡ first ++ 9 ∷ [] → new ≡ second ++ y → new ≡ old ++ ((x ++ 9 ∷ []) ++ y)
 tabbed old x y first second new e f g = g ∙ ap (λ l. l ++ y) (f ∙ ap (λ l. l ++ 9 ∷ []) e) ∙ simp append_assoc
 
-once_of : (a : Feature) (found : List Feature) → length found ≡ 0 → lines_of Once a found ≡ []
-once_of a found e = grind arith
-
-once_by : (a : Feature) (found : List Feature) → (length found ≡ 0 → ⊥) → lines_of Once a found ≡ line_with (bed_text a ∷ [])
-once_by a found e = grind arith
-
 module _ (a : Feature) (bs : List Feature) (shape : Shape) (rule : HitRule) where
   at_shape : (s : Shape) (l : List ℕ) → shape ≡ s → lines_for s rule a bs ≡ l → lines_for shape rule a bs ≡ l
   at_shape s l is e = ap (λ (t : Shape). lines_for t rule a bs) is ∙ e
@@ -30,11 +24,11 @@ module _ (a : Feature) (bs : List Feature) (shape : Shape) (rule : HitRule) wher
   module _ (n : ℕ) (counted : n ≡ length (hits_among rule a bs)) where
     pub once_none : shape ≡ Once → n ≡ 0 → lines_for shape rule a bs ≡ []
     unfolding lines_for
-    once_none is none = at_shape Once [] is (once_of a (hits_among rule a bs) (sym counted ∙ none))
+    once_none is none = at_shape Once [] is (grind arith)
 
     pub once_some : shape ≡ Once → (n ≡ 0 → ⊥) → lines_for shape rule a bs ≡ line_with (bed_text a ∷ [])
     unfolding lines_for
-    once_some is some = at_shape Once (line_with (bed_text a ∷ [])) is (once_by a (hits_among rule a bs) (λ e. some (counted ∙ e)))
+    once_some is some = at_shape Once (line_with (bed_text a ∷ [])) is (grind arith)
 
     pub missing_none : (shape ≡ Missing) ⊎ (shape ≡ Whole) → n ≡ 0 → lines_for shape rule a bs ≡ line_with (bed_text a ∷ [])
     unfolding lines_for
@@ -99,14 +93,10 @@ pub scan_all : (a : Feature) (others : List Feature) (passed : ℕ) (found : Lis
 unfolding pieces
 scan_all a others passed found all so_far = grind (arith)
 
-any_at : (rule : HitRule) (a : Feature) (p : ℕ) (b : Feature) (bs : List Feature) (c : Bool) → hits rule a b ≡ c
-    → ((c && has_position p b) || list_any (has_position p) (hits_among rule a bs)) ≡ list_any (has_position p) (cond c (b ∷ hits_among rule a bs) (hits_among rule a bs))
-any_at rule a p b bs c e = grind arith
-
 -- some of those that hit a has the position
 pub any_hit_has : (rule : HitRule) (a : Feature) (p : ℕ) (bs : List Feature) → list_any (λ b. hits rule a b && has_position p b) bs ≡ list_any (has_position p) (hits_among rule a bs)
 any_hit_has rule a p [] = refl
-any_hit_has rule a p (b ∷ bs) = ap (λ c. (hits rule a b && has_position p b) || c) (any_hit_has rule a p bs) ∙ any_at rule a p b bs (hits rule a b) refl
+any_hit_has rule a p (b ∷ bs) = ap (λ c. (hits rule a b && has_position p b) || c) (any_hit_has rule a p bs) ∙ (grind arith)
 
 -- a position from the start on that none of the others has
 pub left_by : (a : Feature) (others : List Feature) (p : ℕ) (taken : Bool) → a.start ≤ p → taken ≡ list_any (has_position p) others → not taken ≡ is_left a others p

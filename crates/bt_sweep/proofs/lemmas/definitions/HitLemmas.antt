@@ -10,7 +10,7 @@ use Rattle.bt_bed.specs.model.Good.{locus_at, Good, Member}
 use Rattle.bt_bed.specs.model.Sorted.{IsUpTo, ArePlaced, has_records}
 use Rattle.bt_bed.proofs.lemmas.parse.NameLemmas.{same_name}
 use Rattle.bt_sweep.specs.calls.Held.{StartFrom}
-use Rattle.bt_sweep.specs.model.Lines.{lines_of, lines_for, lines_stay, lines_are_before, intersect, left_are_lines, subtract, subtract_is_met, subtract_shape, faultless_are_all, sweep_rule}
+use Rattle.bt_sweep.specs.model.Lines.{lines_of, lines_for, lines_stay, lines_are_before, left_are_lines, subtract_is_met, subtract_shape, faultless_are_all, sweep_rule}
 use Rattle.bt_sweep.specs.declared.output.shape.Shape.{Shape}
 use Rattle.bt_bed.proofs.lemmas.order.OrderLemmas.{has_records-last, next_place, placed_prefix, placed_contiguous}
 use Rattle.bt_sweep.specs.calls.Sweeping.{last_after, last_given, has_room}
@@ -30,12 +30,9 @@ pub apart_misses : (rule : HitRule) (a b : Feature) → ltb 0 (shared_bases a b)
 unfolding hits
 apart_misses rule a b e = ap (λ c. c && (strands_agree rule a b && is_enough rule (shared_bases a b) a b)) e
 
-parts_of : (c : Bool) (n : ℕ) → ltb 0 (cond c n 0) ≡ true → (c ≡ true) × (0 < n)
-parts_of c n e = grind arith
-
 -- where the shared bases lie
 pub overlap_parts : (a b : Feature) → ltb 0 (shared_bases a b) ≡ true → (bytes_eq a.chrom b.chrom ≡ true) × (0 < min a.stop b.stop - max a.start b.start)
-overlap_parts a b e = parts_of (bytes_eq a.chrom b.chrom) (min a.stop b.stop - max a.start b.start) e
+overlap_parts a b e = grind arith
 
 none_asked : (bases : ℕ) (r : Feature) → has_fraction 0 bases r ≡ true
 unfolding has_fraction
@@ -52,17 +49,8 @@ enough_of_nothing rule bases a b e = grind (arith, none_asked)
 abbrev pub IsPast : Order → Feature → Feature → Type 0
 IsPast order a b = (order.compare b.chrom a.chrom ≡ Greater) ⊎ ((b.chrom ≡ a.chrom) × (a.stop ≤ b.start))
 
-pub past_from : (order : Order) (a b : Feature) → IsTotal order → IsTrue (order.knows a.chrom) → IsTrue (order.knows b.chrom) → decides order a b ≡ true → IsPast order a b
-past_from order a b total ka kb e = grind arith
-
-pub decides_from : (order : Order) (a b : Feature) → IsTotal order → IsTrue (order.knows a.chrom) → IsPast order a b → decides order a b ≡ true
-decides_from order a b total ka past = grind arith
-
-pub past_moves : (order : Order) (a b m : Feature) → IsTotal order → IsTrue (order.knows a.chrom) → IsTrue (order.knows b.chrom) → IsTrue (order.knows m.chrom) → IsUpTo order (locus_at b) (locus_at m) → IsPast order a b → IsPast order a m
-past_moves order a b m total ka kb km up past = grind arith
-
 pub decides_next : (order : Order) (a b m : Feature) → IsTotal order → IsTrue (order.knows a.chrom) → IsTrue (order.knows b.chrom) → IsTrue (order.knows m.chrom) → IsUpTo order (locus_at b) (locus_at m) → decides order a b ≡ true → decides order a m ≡ true
-decides_next order a b m total ka kb km up e = decides_from order a m total ka (past_moves order a b m total ka kb km up (past_from order a b total ka kb e))
+decides_next order a b m total ka kb km up e = grind arith
 
 -- all that follows what decides a decides it
 pub all_decide : (order : Order) (a b : Feature) (xs : List Feature) → IsTotal order → IsTrue (order.knows a.chrom) → ArePlaced order (intervals_of (b ∷ xs)) → decides order a b ≡ true → list_all (decides order a) xs ≡ true
@@ -98,14 +86,6 @@ none_before order a bs b total ka placed e =
 
 -- Lemmas on hits: what decides a record doesn't hit it.
 
--- what is past a doesn't hit it
-past_misses : (order : Order) (rule : HitRule) (a b : Feature) → IsTotal order → IsTrue (order.knows b.chrom) → IsPast order a b → hits rule a b ≡ false
-past_misses order rule a b total kb past = grind (arith, apart_misses, same_name)
-
--- what starts at its end or after it doesn't either
-behind_misses : (rule : HitRule) (a b : Feature) → a.stop ≤ b.start → hits rule a b ≡ false
-behind_misses rule a b h = grind (arith, apart_misses)
-
 misses_at : (rule : HitRule) (a : Feature) (x : Feature) (xs : List Feature) → hits rule a x ≡ false → filter (hits rule a) xs ≡ [] → filter (hits rule a) (x ∷ xs) ≡ []
 misses_at rule a x xs e rest = ap (λ b. cond b (x ∷ filter (hits rule a) xs) (filter (hits rule a) xs)) e ∙ rest
 
@@ -114,7 +94,7 @@ pub none_hit : (order : Order) (rule : HitRule) (a : Feature) (xs : List Feature
 none_hit order rule a [] total ka placed e = refl
 none_hit order rule a (x ∷ xs) total ka placed e =
     let parts = and_parts (decides order a x) (list_all (decides order a) xs) e in
-    misses_at rule a x xs (past_misses order rule a x total placed.0 (past_from order a x total ka placed.0 parts.0)) (none_hit order rule a xs total ka placed.2 parts.1)
+    misses_at rule a x xs (grind (arith, apart_misses, same_name)) (none_hit order rule a xs total ka placed.2 parts.1)
 
 pub stay_lines : lines_stay
 unfolding lines_for
@@ -132,11 +112,11 @@ before_lines order shape rule a b bs total ka e more placed =
 module _ (rule : HitRule) (a : Feature) where
   none_rec : (bs : List Feature) → AllByRecursion (λ b. a.stop ≤ b.start) bs → hits_among rule a bs ≡ []
   none_rec [] all = refl
-  none_rec (b ∷ bs) all = misses_at rule a b bs (behind_misses rule a b all.0) (none_rec bs all.1)
+  none_rec (b ∷ bs) all = misses_at rule a b bs (grind (arith, apart_misses)) (none_rec bs all.1)
 
   none_behind : (bs : List Feature) → AllByRecursion (λ b. a.stop ≤ b.start) bs → list_any (hits rule a) bs ≡ false
   none_behind [] all = refl
-  none_behind (b ∷ bs) all = or_from (hits rule a b) (list_any (hits rule a) bs) (behind_misses rule a b all.0) (none_behind bs all.1)
+  none_behind (b ∷ bs) all = or_from (hits rule a b) (list_any (hits rule a) bs) (grind (arith, apart_misses)) (none_behind bs all.1)
 
   -- so if none before it does, none does
   pub none_left : (bs : List Feature) (n : ℕ) → list_any (hits rule a) (take n bs) ≡ false → StartFrom a.stop (drop n bs) → list_any (hits rule a) bs ≡ false
@@ -205,14 +185,10 @@ cond_less c xs count h = grind arith
 pub held_less : (held : List Feature) (a : Feature) → length (held_with held a) ≤ length held
 held_less held a = cond_less (are_on held a.chrom) (filter (λ b. ltb a.start b.stop) held) (length held) (filter_less (λ b. ltb a.start b.stop) held)
 
-within_at : (limit : Option ℕ) (b : Feature) (held : List Feature) (c : Bool) → (c ≡ true → has_room limit (length held) ≡ true) → IfSome limit (λ most. length held ≤ most)
-    → IfSome limit (λ most. length (held ++ cond c (b ∷ []) []) ≤ most)
-within_at limit b held c room within = grind (arith, length-append)
-
 -- with one more, for which there is room if it has to be held
 pub within_more : (limit : Option ℕ) (a b : Feature) (held : List Feature) → (is_held a b ≡ true → has_room limit (length held) ≡ true) → IfSome limit (λ most. length held ≤ most)
     → IfSome limit (λ most. length (held ++ filter (is_held a) (b ∷ [])) ≤ most)
-within_more limit a b held room within = within_at limit b held (is_held a b) room within
+within_more limit a b held room within = grind (arith, length-append)
 
 -- after prefixes that aren't too many
 pub cut_past : (too_many : List Feature → Bool) (before past more : List (Member Feature)) (fault : Option FaultValue)
@@ -315,8 +291,5 @@ pub left_at : left_are_lines
 unfolding lines_for
 left_at = grind arith
 
-left_of_all : (whole : Bool) (rule : HitRule) (first second : List Feature) → intersect (subtract_shape whole) rule first second ≡ subtract whole rule first second
-left_of_all whole rule first second = grind (arith, left_at)
-
 pub subtract_met : subtract_is_met
-subtract_met order whole rule first second fault = faultless_all order (subtract_shape whole) rule first second fault ∙ left_of_all whole rule first second
+subtract_met order whole rule first second fault = faultless_all order (subtract_shape whole) rule first second fault ∙ (grind (arith, left_at))

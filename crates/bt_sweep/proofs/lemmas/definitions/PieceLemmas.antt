@@ -1,6 +1,6 @@
 -- Lemmas on records whose starts don't fall.
 use Rattle.bt_lines.proofs.Std.{rules}
-use Rattle.bt_lines.proofs.Std.{◌≡◌, ℕ, ◌≤◌, inl, inr, Bool, true, cond, List, [], ◌∷◌, refl, sym, ◌∙◌, ltb, arith, filter, bytes_eq, and_parts, ◌+◌, ◌<◌, ◌++◌, ap, append_assoc, flat_map, max, Decides, list_any, false≢true}
+use Rattle.bt_lines.proofs.Std.{◌≡◌, ℕ, ◌≤◌, inl, inr, Bool, true, cond, List, [], ◌∷◌, refl, sym, ◌∙◌, ltb, arith, filter, bytes_eq, and_parts, ◌<◌, ◌++◌, ap, append_assoc, flat_map, max, Decides, list_any, false≢true}
 use Rattle.bt_bed.specs.model.Feature.{Feature, intervals_of, Span}
 use Rattle.bt_bed.specs.model.Positions.{AreApartFrom, IsCovered}
 use Rattle.bt_bed.specs.model.Sorted.{ArePlaced}
@@ -30,16 +30,13 @@ module _ (p : Feature → Bool) where
   rising_filter low (b ∷ bs) rises = filter_at low b bs (p b) rises.0 (rising_filter b.start bs rises.1)
 
 module _ (order : Order) (total : IsTotal order) (p : Feature → Bool) (name : List ℕ) (on : (b : Feature) → p b ≡ true → b.chrom ≡ name) where
-  skip_second : (x y : Feature) (zs : List Feature) → ArePlaced order (intervals_of (x ∷ y ∷ zs)) → ArePlaced order (intervals_of (x ∷ zs))
-  skip_second x y zs placed = grind arith
-
   next_rises : (x y : Feature) (ys : List Feature) (c : Bool) → p y ≡ c → x.chrom ≡ name → ArePlaced order (intervals_of (x ∷ y ∷ ys))
       → (y.chrom ≡ name → AreRisingFrom y.start (filter p ys)) → AreRisingFrom x.start (filter p ys) → AreRisingFrom x.start (cond c (y ∷ filter p ys) (filter p ys))
   next_rises x y ys c e ex placed taken skipped = grind arith
 
   rising_by : (x : Feature) (ys : List Feature) → x.chrom ≡ name → ArePlaced order (intervals_of (x ∷ ys)) → AreRisingFrom x.start (filter p ys)
   rising_by x [] ex placed = tt
-  rising_by x (y ∷ ys) ex placed = next_rises x y ys (p y) refl ex placed (λ ey. rising_by y ys ey placed.2) (rising_by x ys ex (skip_second x y ys placed))
+  rising_by x (y ∷ ys) ex placed = next_rises x y ys (p y) refl ex placed (λ ey. rising_by y ys ey placed.2) (rising_by x ys ex (grind arith))
 
   first_rises : (x : Feature) (xs : List Feature) (c : Bool) → p x ≡ c → (x.chrom ≡ name → AreRisingFrom x.start (filter p xs)) → AreRising (filter p xs) → AreRising (cond c (x ∷ filter p xs) (filter p xs))
   first_rises x xs c e taken skipped = grind arith
@@ -76,11 +73,8 @@ abbrev walk : ℕ → ℕ → List Feature → List Span
 walk free stop [] = gap free stop
 walk free stop (b ∷ bs) = gap free b.start ++ walk (max free b.stop) stop bs
 
-gap_at : (a : Feature) (start stop : ℕ) (c : Bool) → flat_map (piece_line a) (cond c (record { start = start; stop = stop } ∷ []) []) ≡ cond c (piece_line a (record { start = start; stop = stop })) []
-gap_at a start stop c = search rules
-
 gap_written : (a : Feature) (start stop : ℕ) → flat_map (piece_line a) (gap start stop) ≡ gap_lines a start stop
-gap_written a start stop = gap_at a start stop (ltb start stop)
+gap_written a start stop = search rules
 
 -- the lines of a walk
 walk_lines : (a : Feature) (free stop : ℕ) (bs : List Feature) → flat_map (piece_line a) (walk free stop bs) ≡ lines_before a free bs ++ gap_lines a (free_after free bs) stop
@@ -117,11 +111,8 @@ apart_down low high [] h apart = tt
 apart_down low high (s ∷ ss) h apart = (omega (arith, apart.0), apart.1, apart.2)
 
 module _ (free stop : ℕ) (b : Feature) (bs : List Feature) (spans : List Span) (some : b.start < b.stop) (within : b.start < stop) (rises : AreRisingFrom b.start bs) (rest : IsWalk (max free b.stop) stop bs spans) where
-  bare_gap : (p : ℕ) → p < b.start → IsCovered (spans_of (b ∷ bs)) p → ⊥
-  bare_gap p low w = grind (arith, none_below)
-
   next_walks : (c : Bool) → ltb free b.start ≡ c → IsWalk free stop (b ∷ bs) (cond c (record { start = free; stop = b.start } ∷ []) [] ++ spans)
-  next_walks c e = grind (arith, apart_down, bare_gap)
+  next_walks c e = grind (arith, apart_down, none_below)
 
 walk_walks : (free stop low : ℕ) (bs : List Feature) → AreWithin stop bs → AreRisingFrom low bs → IsWalk free stop bs (walk free stop bs)
 walk_walks free stop low [] within rises = gap_walks free stop (ltb free stop) refl

@@ -55,21 +55,16 @@ none_new order a gs (b ∷ taken) total placed none reached =
 same_held : (l a : Feature) (taken : List Feature) → a.chrom ≡ l.chrom → l.start ≤ a.start → filter (λ b. ltb a.start b.stop) (filter (is_held l) taken) ≡ filter (is_held a) taken
 same_held l a taken same up = grind (arith, filter-both)
 
--- what is held once a is given
-pub held_next : (order : Order) (gs taken held : List Feature) (a : Feature) → IsTotal order → ArePlaced order (intervals_of (gs ++ a ∷ [])) → HoldsFor order gs taken held → held_behind (last_given gs) held a ≡ filter (is_held a) taken
-held_next order gs taken held a total placed holds = grind (arith, next_lies, name_eq, same_held, name_ne, last_is_there, none_new)
-
 -- what was reached stays reached with more given
 reached_more : (order : Order) (gs more taken : List Feature) → list_all (leaves_some order gs) taken ≡ true → list_all (leaves_some order (gs ++ more)) taken ≡ true
 reached_more order gs more [] reached = refl
 reached_more order gs more (b ∷ taken) reached =
-    let parts = and_parts (leaves_some order gs b) (list_all (leaves_some order gs) taken) reached in
-    grind (arith, (reached_more order gs more taken parts.1), list_any-append)
+    grind (arith, (reached_more order gs more taken (and_parts (leaves_some order gs b) (list_all (leaves_some order gs) taken) reached).1), list_any-append)
 
 -- with one more record of the first input
 pub holds_a : (order : Order) (gs taken held : List Feature) (a : Feature) → IsTotal order → ArePlaced order (intervals_of (gs ++ a ∷ [])) → HoldsFor order gs taken held
     → HoldsFor order (gs ++ a ∷ []) taken (held_behind (last_given gs) held a)
-holds_a order gs taken held a total placed holds = grind (arith, held_next, last_given-push, reached_more)
+holds_a order gs taken held a total placed holds = grind (arith, next_lies, name_eq, same_held, name_ne, last_is_there, none_new, last_given-push, reached_more)
 
 -- with one more record of the second, which leaves the last of the first undecided
 pub holds_b : (order : Order) (gs taken held : List Feature) (a b : Feature) → HoldsFor order (gs ++ a ∷ []) taken held → decides order a b ≡ false

@@ -11,7 +11,7 @@ use Rattle.bt_sweep.specs.model.Hits.{decides}
 use Rattle.bt_sweep.specs.calls.Held.{CanHit}
 use Rattle.bt_sweep.specs.model.Lines.{intersect}
 use Rattle.bt_sweep.specs.calls.Sweeping.{AreDecided, CannotBeHeld, CannotHold, GivesKnown, LeavesLast, TakenEach, TakenFor, has_room, held_for, is_held, Sweeping}
-use Rattle.bt_sweep.specs.inside.Joining.{AreDecidedOn, GivenLast, Breaks, CutsOff, EndUpTo, Holds, Joins, JoinsSo, Keeps, LeavesOn, LieOn, Proceeded, WaitsOn, WritesSo, has_room_in, holding}
+use Rattle.bt_sweep.specs.inside.Joining.{AreDecidedOn, GivenLast, Breaks, CutsOff, EndUpTo, Holds, Joins, JoinsSo, Keeps, LeavesOn, LieOn, Proceeded, WritesSo, has_room_in, holding}
 use Rattle.bt_sweep.proofs.lemmas.definitions.HitLemmas.{placed_back, front_placed}
 use Rattle.bt_sweep.proofs.lemmas.sweep.KeepLemmas.{cut_both, decided_before, decided_behind, decided_both, keeps_held, keeps_taken, lines_both, lines_stay_so, undecided_beside, fails_again, with_none, with_rest, with_rest_cut, fewer_firsts, fewer_seconds, goes_none, same_as, same_rules, split_last, split_more, writes_first}
 
@@ -32,17 +32,11 @@ no_last (x ∷ before) b e = cc
 pub leaves_none : (order : Order) (seconds : List Feature) (a : Feature) → seconds ≡ [] → LeavesLast order seconds a
 leaves_none order seconds a none before b e = absurd (no_last before b (sym none ∙ e))
 
-leaves_push : (seconds : List Feature) (b a : Feature) → b.chrom ≡ a.chrom → b.start < a.stop → LeavesOn (seconds ++ b ∷ []) a
-leaves_push seconds b a on before_end = grind (arith, common_steps)
-
 -- ---- the records of the second input, each taken for one of the first
-
-taken_wider : (order : Order) (limit : Option ℕ) (as_given more taken : List Feature) (b : Feature) → TakenFor order limit as_given taken b → TakenFor order limit (as_given ++ more) taken b
-taken_wider order limit as_given more taken b t = grind (arith, append_assoc)
 
 each_wider : (order : Order) (limit : Option ℕ) (as_given more taken seconds : List Feature) → TakenEach order limit as_given taken seconds → TakenEach order limit (as_given ++ more) taken seconds
 each_wider order limit as_given more taken [] each = tt
-each_wider order limit as_given more taken (b ∷ seconds) each = (taken_wider order limit as_given more taken b each.0, each_wider order limit as_given more (taken ++ b ∷ []) seconds each.1)
+each_wider order limit as_given more taken (b ∷ seconds) each = ((grind (arith, append_assoc)), each_wider order limit as_given more (taken ++ b ∷ []) seconds each.1)
 
 each_push : (order : Order) (limit : Option ℕ) (as_given : List Feature) (b : Feature) (taken seconds : List Feature) → TakenEach order limit as_given taken seconds → TakenFor order limit as_given (taken ++ seconds) b
     → TakenEach order limit as_given taken (seconds ++ b ∷ [])
@@ -126,9 +120,6 @@ module _ {A B R S : Type 0} {cursor_a : Cursor A R} {cursor_b : Cursor B S} {old
       both_settled : (newly2 : List Feature) → EndUpTo cur.chrom b.start newly2 → AreDecidedOn first.chrom (j.proceeds.newly ++ newly2) (j.proceeds.seconds ++ b ∷ [])
       both_settled newly2 end order total known = grind (arith, decided_both, decided_before, settled, ends_decided)
 
-      waits_on : (held : List Feature) (waiting : Option Feature) → WaitsOn cur.chrom held waiting → WaitsOn first.chrom held waiting
-      waits_on held waiting is = grind arith
-
       -- the same place, and that of the one that waits
       module _ (firsts2 : List Feature) (at : GivenLast IsTotal first (j.proceeds.firsts ++ firsts2) j.proceeds.seconds old) where
         abbrev here : GivenLast IsTotal first j.proceeds.firsts j.proceeds.seconds old
@@ -166,7 +157,7 @@ module _ {A B R S : Type 0} {cursor_a : Cursor A R} {cursor_b : Cursor B S} {old
       joins_write {s2} {to_a2} {rest} {now} {waiting} w = (
         record {
           proceeds = proceeds_on w.firsts w.newly waiting to_a2 w.given w.are w.end;
-          waits = waits_on s2.held waiting w.waits;
+          waits = grind arith;
           goes = λ at.
               let k = w.goes (there w.firsts at) in
               rw (split_more at.before j.proceeds.newly cur j.proceeds.are w.firsts)
@@ -261,7 +252,7 @@ module _ {A B R S : Type 0} {cursor_a : Cursor A R} {cursor_b : Cursor B S} {old
           writes = λ at. rw (same_lines new is room at) (j.writes (fewer new is room at));
         },
         refl,
-        leaves_push j.proceeds.seconds b cur (on ∙ sym j.waits.0) before_end,
+        grind (arith, common_steps),
       )
 
       cannot : (fault : Fault) (line : ℕ) (limit : Option ℕ) (taken : List Feature) → has_room limit (length (held_for (Some cur) taken)) ≡ has_room_in s → CannotHold (has_room_in s) line (fault_value fault) → CannotBeHeld limit cur taken line (fault_value fault)

@@ -1,5 +1,5 @@
 -- What is held is all that the lines of a record come from.
-use Rattle.bt_lines.proofs.Std.{common_steps, ◌≡◌, true, List, ap, ltb, arith, filter, and_from, ◌<◌, ℕ, Bool, cond, [], ◌∷◌, length, Option, Some, None, refl, sym, ◌∙◌, All, IfSome, slice_index_or, AllByRecursion, false≢true, All-filter, All-from_recursion, recursion_from_All, ◌⊎◌, false, ◌++◌, Ok, Err, Result, subst, append-nil, append_assoc, decimal, OnOk, is_ok, decimal_digit, ◌≤◌, not, IsTrue, list_all, and_parts, flat_map-append, list_any-append, list_all-append, ◌&&◌}
+use Rattle.bt_lines.proofs.Std.{common_steps, ◌≡◌, true, List, ap, ltb, arith, filter, and_from, ◌<◌, ℕ, Bool, cond, [], ◌∷◌, length, Option, Some, None, refl, sym, ◌∙◌, All, IfSome, slice_index_or, AllByRecursion, false≢true, All-filter, All-from_recursion, recursion_from_All, ◌⊎◌, false, ◌++◌, Ok, Err, Result, subst, append-nil, append_assoc, decimal, OnOk, is_ok, decimal_digit, ◌≤◌, not, list_all, and_parts, flat_map-append, list_any-append, list_all-append, ◌&&◌}
 use Rattle.bt_bed.specs.model.Feature.{Feature, intervals_of}
 use Rattle.bt_bed.specs.model.BedLine.{bed_text}
 use Rattle.bt_sweep.specs.model.Hits.{hits, decided, decides}
@@ -35,12 +35,9 @@ use Rattle.bt_bed.specs.declared.read.cursor.Single.{Single}
 use Rattle.bt_bed.specs.declared.order.ChromOrder.{Ghosts}
 use Rattle.bt_bed.specs.declared.read.records.Records.{Records}
 
-hit_is_held : (rule : HitRule) (a b : Feature) → hits rule a b ≡ true → is_held a b ≡ true
-hit_is_held rule a b e = grind (arith, hit_overlaps)
-
 pub held_lines : (shape : Shape) (rule : HitRule) (a : Feature) (taken : List Feature) → lines_for shape rule a (filter (is_held a) taken) ≡ lines_for shape rule a taken
 unfolding lines_for
-held_lines shape rule a taken = ap (lines_of shape a) (filter-wider (hits rule a) (is_held a) (hit_is_held rule a) taken)
+held_lines shape rule a taken = ap (lines_of shape a) (filter-wider (hits rule a) (is_held a) (grind (arith, hit_overlaps)) taken)
 
 -- Lemmas on what a sweep keeps.
 
@@ -94,10 +91,9 @@ module _ {T : Type 0} (a : Feature) (lines : List ℕ) (out grown : Output) (r :
 
   pub counted_adds : lines ≡ line_with (bed_text a ∷ decimal 0 ∷ []) → Puts out (bed_text a ++ 9 ∷ 48 ∷ 10 ∷ []) r grown → Adds out lines r grown
   counted_adds is puts =
-      let digit : decimal 0 ≡ 48 ∷ [] = decimal_digit 0 (omega arith) in
       subst (λ (l : List ℕ). Adds out l r grown) (sym is)
       (line_adds (bed_text a ∷ decimal 0 ∷ []) out grown r
-      (subst (λ (d : List ℕ). Puts out (line_with (bed_text a ∷ d ∷ [])) r grown) (sym digit)
+      (subst (λ (d : List ℕ). Puts out (line_with (bed_text a ∷ d ∷ [])) r grown) (sym (decimal_digit 0 (omega arith)))
       (subst (λ (l : List ℕ). Puts out l r grown) (sym (append_assoc (bed_text a) (9 ∷ []) (48 ∷ 10 ∷ []))) puts)))
 
 -- ---- lines after lines that are pending
@@ -141,9 +137,6 @@ fails_again left r fails adds = grind arith
 -- ---- lines and then those of a record
 
 module _ {T : Type 0} (out half : Output) (xs : List ℕ) (r : Result T Fault) (adds : Adds out xs r half) where
-  could_put : (r : Result T Fault) → is_ok r ≡ true → Adds out xs r half → Grown out xs half
-  could_put r e adds = grind arith
-
   not_put : (ys : List ℕ) (r : Result T Fault) → is_ok r ≡ false → Adds out xs r half → FailsToAdd out (xs ++ ys) write_failed half
   not_put ys (Ok t) e adds = absurd (false≢true (sym e))
   not_put ys (Err f) e adds = subst (λ (f : FaultValue). FailsToAdd out (xs ++ ys) f half) adds.puts.is (cut_off out half xs ys (fault_value f) adds)
@@ -151,27 +144,20 @@ module _ {T : Type 0} (out half : Output) (xs : List ℕ) (r : Result T Fault) (
   pub puts_not : (ys : List ℕ) (b : Bool) → b ≡ is_ok r → b ≡ false → PutsOr b out (xs ++ ys) half
   puts_not ys b is none = subst (λ (c : Bool). PutsOr c out (xs ++ ys) half) (sym none) (not_put ys r (sym is ∙ none) adds)
 
-  puts_second : {U : Type 0} (ys : List ℕ) (now : Output) (p : Result U Fault) → Grown out xs half → Adds half ys p now → PutsOr (is_ok p) out (xs ++ ys) now
-  puts_second ys now p first second = grind (arith, grown_more, fails_then)
-
   pub puts_then : {U : Type 0} (ys : List ℕ) (now : Output) (p : Result U Fault) (b : Bool) → is_ok r ≡ true → b ≡ is_ok p → Adds half ys p now → PutsOr b out (xs ++ ys) now
-  puts_then ys now p b could is second = subst (λ (c : Bool). PutsOr c out (xs ++ ys) now) (sym is) (puts_second ys now p (could_put r could adds) second)
+  puts_then ys now p b could is second = subst (λ (c : Bool). PutsOr c out (xs ++ ys) now) (sym is) (grind (arith, grown_more, fails_then))
 
 pub same_if_put : {T : Type 0} {P : Type 0} (r : Result T Fault) → is_ok r ≡ true → OnOk r P → P
 same_if_put r e h = grind arith
 
 -- ---- a record whose lines are put or left pending
 
-module _ (shape : Shape) (rule : HitRule) (a : Feature) (held : List Feature) (pending left : List ℕ) (out : Output) where
-  pub left_with : (line raw : List ℕ) → left ≡ pending ++ line → line ≡ raw → raw ≡ bed_text a ++ 10 ∷ [] → lines_of shape a [] ≡ line_with (bed_text a ∷ []) → length held ≡ 0 → GrownWith pending out (lines_for shape rule a held) left out
-  left_with line raw is on canonical alone empty = grind (arith, (none_against shape rule a held empty), (grown_none out))
-
 module _ (inside now : Sweeping) (same : inside ≡ now) (a : Feature) (pending left : List ℕ) (out : Output) where
   pub nothing_in : (NeedsHit now.shape → pending ≡ []) → left ≡ [] → NeedsHit inside.shape → length inside.held ≡ 0 → GrownWith pending out (lines_for now.shape now.rule a now.held) left out
   nothing_in quiet none needs empty = grind (arith, common_steps, none_against)
 
   pub left_in : (line raw : List ℕ) → left ≡ pending ++ line → line ≡ raw → raw ≡ bed_text a ++ 10 ∷ [] → lines_of inside.shape a [] ≡ line_with (bed_text a ∷ []) → length inside.held ≡ 0 → GrownWith pending out (lines_for now.shape now.rule a now.held) left out
-  left_in line raw is on canonical alone empty = grind (arith, left_with)
+  left_in line raw is on canonical alone empty = grind (arith, none_against, (grown_none out))
 
 -- Lemmas on what a sweep keeps as records are given and taken.
 
@@ -225,28 +211,23 @@ module _ (order : Order) (total : IsTotal order) (a b : Feature) (known : order.
 -- ---- the lines of what is decided stay
 
 module _ (order : Order) (total : IsTotal order) (shape : Shape) (rule : HitRule) (taken : List Feature) (b : Feature) (more : List Feature) (placed : ArePlaced order (intervals_of (taken ++ b ∷ more))) where
-  line_stays : (a : Feature) → IsTrue (order.knows a.chrom) → decided order a (taken ++ b ∷ []) ≡ true → lines_for shape rule a (taken ++ b ∷ more) ≡ lines_for shape rule a taken
-  line_stays a known some = grind (arith, stay_lines, before_lines, list_any-append)
-
   pub lines_stay_so : (newly : List Feature) → ArePlaced order (intervals_of newly) → AreDecided order newly (taken ++ b ∷ []) → intersect shape rule newly (taken ++ b ∷ more) ≡ intersect shape rule newly taken
   lines_stay_so [] known all = refl
   lines_stay_so (a ∷ newly) known all =
       let parts = and_parts (decided order a (taken ++ b ∷ [])) (list_all (λ x. decided order x (taken ++ b ∷ [])) newly) all in
-      grind (arith, (lines_stay_so newly known.2 parts.1), line_stays)
+      grind (arith, (lines_stay_so newly known.2 parts.1), stay_lines, before_lines, list_any-append)
 
 -- decided by these, after others too
 pub decided_behind : (order : Order) (newly taken bs : List Feature) → AreDecided order newly bs → AreDecided order newly (taken ++ bs)
 decided_behind order [] taken bs all = refl
 decided_behind order (a ∷ newly) taken bs all =
-    let parts = and_parts (decided order a bs) (list_all (λ x. decided order x bs) newly) all in
-    grind (arith, (decided_behind order newly taken bs parts.1), list_any-append)
+    grind (arith, (decided_behind order newly taken bs (and_parts (decided order a bs) (list_all (λ x. decided order x bs) newly) all).1), list_any-append)
 
 -- and before others
 pub decided_before : (order : Order) (newly bs more : List Feature) → AreDecided order newly bs → AreDecided order newly (bs ++ more)
 decided_before order [] bs more all = refl
 decided_before order (a ∷ newly) bs more all =
-    let parts = and_parts (decided order a bs) (list_all (λ x. decided order x bs) newly) all in
-    grind (arith, (decided_before order newly bs more parts.1), list_any-append)
+    grind (arith, (decided_before order newly bs more (and_parts (decided order a bs) (list_all (λ x. decided order x bs) newly) all).1), list_any-append)
 
 pub decided_both : (order : Order) (xs ys bs : List Feature) → AreDecided order xs bs → AreDecided order ys bs → AreDecided order (xs ++ ys) bs
 decided_both order xs ys bs first second = grind (arith, list_all-append)
@@ -365,10 +346,9 @@ module _ {A R : Type 0} {cursor : Cursor A R} {place : ℕ} {old : Sweeping} {fi
             let front = fewer_firsts so.firsts (r ∷ []) at in
             let whole : at.before ++ first ∷ (so.firsts ++ r ∷ []) ≡ ((at.before ++ so.newly) ++ cur ∷ []) ++ r ∷ [] =
             split_more at.before so.newly cur so.are (r ∷ []) ∙ sym (append_assoc (at.before ++ so.newly) (cur ∷ []) (r ∷ [])) in
-            let placed = rw whole at at.placed in
             rw (is, whole) (record {
               same = same_rules (so.goes front).same (same_as s (filter (λ b. ltb r.start b.stop) s.held));
-              holds = keeps_next (at.before ++ so.newly) cur (holds_so front) r at.is_for placed (so.waits.0 ∙ sym on);
+              holds = keeps_next (at.before ++ so.newly) cur (holds_so front) r at.is_for (rw whole at at.placed) (so.waits.0 ∙ sym on);
             });
         writes = λ at. written_one (fewer_firsts so.firsts (r ∷ []) at);
       }

@@ -1,5 +1,5 @@
 -- Lemmas on records of the second input on one chromosome beside those of the first on one.
-use Rattle.bt_lines.proofs.Std.{◌≡◌, inl, inr, ℕ, Bool, true, false, not, ◌&&◌, cond, List, [], ◌∷◌, ◌++◌, Option, Some, None, Ok, Err, Result, refl, sym, ap, ◌∙◌, subst, append-nil, append_assoc, arith, filter, ltb, option_map, option_to_list, All, IfSome}
+use Rattle.bt_lines.proofs.Std.{◌≡◌, inl, inr, ℕ, Bool, true, false, not, ◌&&◌, cond, List, [], ◌∷◌, ◌++◌, Option, Some, None, Ok, Err, Result, refl, sym, ap, ◌∙◌, subst, append-nil, append_assoc, arith, filter, ltb, option_to_list, All, filter-append, list_all-append, list_any-append}
 use Rattle.std.specs.declared.cmp.Ordering.{Ordering}
 use Rattle.std.specs.declared.cmp.Ordering.TheVariants.{Less, Greater}
 use Rattle.bt_lines.specs.model.Lines.{max_number}
@@ -13,12 +13,12 @@ use Rattle.bt_bed.proofs.lemmas.parse.NameLemmas.{name_ne}
 use Rattle.bt_sweep.specs.calls.Sweeping.{IsThis, Settles, AreDecided, ComesNext, LeavesLast, TakenEach, HoldsFor, is_held, Sweeping}
 use Rattle.bt_sweep.specs.model.Hits.{decides}
 use Rattle.bt_sweep.specs.calls.Held.{CanHit}
-use Rattle.bt_sweep.specs.inside.Joining.{AreDecidedOn, GivenLast, EndUpTo, Holds, Joins, Keeps, LeavesOn, LieOn, Proceeded, StopsAt, WaitsOn, SkipsAll, WritesUpTo, Compares, Relates, going_on}
+use Rattle.bt_sweep.specs.inside.Joining.{AreDecidedOn, GivenLast, EndUpTo, Holds, Joins, Keeps, LeavesOn, LieOn, Proceeded, SkipsAll, WritesUpTo, Compares, Relates, going_on}
 use Rattle.bt_sweep.specs.declared.sweep.phase.Phase.TheVariants.{First}
 use Rattle.bt_sweep.specs.declared.sweep.relation.Relation.TheVariants.{After}
-use Rattle.bt_sweep.proofs.lemmas.sweep.HoldLemmas.{holds_b}
 use Rattle.bt_sweep.proofs.lemmas.sweep.JoinLemmas.{joins_first, leaves_none}
 use Rattle.bt_sweep.proofs.lemmas.sweep.KeepLemmas.{keeps_held, same_as, with_none}
+use Rattle.bt_sweep.proofs.lemmas.definitions.HitLemmas.{last_given-push}
 
 lie_last : (name : List ℕ) (before : List Feature) (b : Feature) → LieOn name (before ++ b ∷ []) → b.chrom ≡ name
 lie_last name [] b on = on.0
@@ -27,21 +27,18 @@ lie_last name (x ∷ before) b on = lie_last name before b on.1
 -- ---- on a chromosome before theirs
 
 module _ (order : Order) (total : IsTotal order) (a : Feature) (known : order.knows a.chrom ≡ true) (name : List ℕ) (compared : order.compare name a.chrom ≡ Less) where
-  other_name : (b : Feature) → b.chrom ≡ name → a.chrom ≡ b.chrom → ⊥
-  other_name b on same = grind (arith)
-
   undecided_before : (b : Feature) → b.chrom ≡ name → decides order a b ≡ false
   undecided_before b on = ap (λ (c : Ordering). not (is_below_at c b.start a.stop)) (ap (λ (c : List ℕ). order.compare c a.chrom) on ∙ compared)
 
   none_kept : (b : Feature) → b.chrom ≡ name → filter (is_held a) (b ∷ []) ≡ []
-  none_kept b on = ap (λ (c : Bool). cond (c && ltb a.start b.stop) (b ∷ []) []) (name_ne a.chrom b.chrom (other_name b on))
+  none_kept b on = ap (λ (c : Bool). cond (c && ltb a.start b.stop) (b ∷ []) []) (name_ne a.chrom b.chrom (grind arith))
 
   -- taken, they change nothing
   holds_before : (gs taken held seconds : List Feature) → LieOn name seconds → HoldsFor order (gs ++ a ∷ []) taken held → HoldsFor order (gs ++ a ∷ []) (taken ++ seconds) held
   holds_before gs taken held [] on holds = subst (λ (t : List Feature). HoldsFor order (gs ++ a ∷ []) t held) (sym (append-nil taken)) holds
   holds_before gs taken held (b ∷ seconds) on holds =
       let one = subst (λ (h : List Feature). HoldsFor order (gs ++ a ∷ []) (taken ++ b ∷ []) h) (ap (λ (l : List Feature). held ++ l) (none_kept b on.0) ∙ append-nil held)
-      (holds_b order gs taken held a b holds (undecided_before b on.0)) in
+      (grind (arith, last_given-push, filter-append, list_all-append, list_any-append)) in
       subst (λ (t : List Feature). HoldsFor order (gs ++ a ∷ []) t held) (append_assoc taken (b ∷ []) seconds) (holds_before gs (taken ++ b ∷ []) held seconds on.1 one)
 
   -- each was taken for the first
@@ -110,13 +107,6 @@ module _ {A B R S : Type 0} (cursor_a : Cursor A R) (cursor_b : Cursor B S) (fea
     λ before b e. undecided_before order total first known (cursor_b.name from_b) lies.compared b (lie_last (cursor_b.name from_b) before b (subst (LieOn (cursor_b.name from_b)) e skip.on)),
   )
 
-  stops_beside : (waiting : Option R) (to_a : A) (to_b : B) → (old.phase ≡ First → ⊥)
-      → StopsAt cursor_a cursor_b (option_map feature waiting) to_a to_b → StopsAt cursor_a (going_on old.phase cursor_b) (option_map feature waiting) to_a to_b
-  stops_beside waiting to_a to_b going ended = grind arith
-
-  leaves_beside : (waiting : Option R) (held seconds : List Feature) → WaitsOn first.chrom held (option_map feature waiting) → IfSome (option_map feature waiting) (LeavesOn seconds) → IfSome (option_map feature waiting) (LeavesLast order seconds)
-  leaves_beside waiting held seconds waits leaves = grind arith
-
   abbrev proceeds_beside : {waiting : Option Feature} {to_a : A} {to_b : B} → Proceeded cursor_a cursor_b IsTotal (AreDecidedOn first.chrom) old first from_a from_b waiting to_a to_b
       → Proceeded cursor_a (going_on old.phase cursor_b) (IsThis order) (Settles order old.phase) old first from_a from_b waiting to_a to_b
   proceeds_beside p = record {
@@ -137,8 +127,8 @@ module _ {A B R S : Type 0} (cursor_a : Cursor A R) (cursor_b : Cursor B S) (fea
       → Joins cursor_a cursor_b IsTotal (AreDecidedOn first.chrom) LeavesOn feature old first from_a from_b [] out result new to_a to_b [] grown → Decides result new to_a to_b grown
   decides_beside (Ok waiting) new to_a to_b grown going (j, stops, leaves) = (
     record { proceeds = proceeds_beside j.proceeds; waits = j.waits; goes = λ at. j.goes (to_total total at); writes = λ at. j.writes (to_total total at) },
-    stops_beside waiting to_a to_b going stops,
-    leaves_beside waiting new.held j.proceeds.seconds j.waits leaves,
+    grind arith,
+    grind arith,
   )
   decides_beside (Err fault) new to_a to_b grown going b = record {
     proceeds = proceeds_beside b.proceeds;

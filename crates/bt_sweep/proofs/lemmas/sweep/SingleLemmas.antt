@@ -38,9 +38,6 @@ one_of : (fs left : List Feature) (a : Feature) → a ∷ [] ≡ fs ++ left → 
 one_of [] left a e = inl (refl, sym e)
 one_of (f ∷ fs) left a e = grind (arith, nothing_left)
 
-none_of : (newly : List Feature) (o : Option Feature) → [] ≡ newly ++ option_to_list o → (newly ≡ []) × (o ≡ None)
-none_of newly o e = grind (arith, nothing_left)
-
 -- it is written or waits
 one_written : (newly : List Feature) (o : Option Feature) (a : Feature) → a ∷ [] ≡ newly ++ option_to_list o → ((newly ≡ []) × (o ≡ Some a)) ⊎ ((newly ≡ a ∷ []) × (o ≡ None))
 one_written newly o a e = grind (arith, one_of)
@@ -114,7 +111,7 @@ module _ {order : Order} {stage : Stage} {old : Sweeping} (st : StandsAt order s
 
       -- it is written or waits, if it was given
       newly_are : ((p.newly ≡ []) × ((p.firsts ≡ []) ⊎ (waiting ≡ Some a))) ⊎ ((p.newly ≡ a ∷ []) × (waiting ≡ None))
-      newly_are = grind (arith, firsts_are, none_of, one_written)
+      newly_are = grind (arith, firsts_are, nothing_left, one_written)
 
       lines_are : p.newly ≡ a ∷ [] → intersect old.shape old.rule p.newly (stage.taken ++ p.seconds) ≡ lines
       lines_are n = one_line old.shape old.rule a p.newly stage.taken (stage.taken ++ p.seconds) n same_taken ∙ ap (λ (c : Bool). cond c (lines_for old.shape old.rule a stage.taken) []) (sym (ended n))
@@ -165,10 +162,6 @@ module _ {order : Order} {stage : Stage} {old : Sweeping} (st : StandsAt order s
   module _ (total : IsTotal order) (a b : Feature) (waits : stage.waiting ≡ Some a) (known : order.knows a.chrom ≡ true) (ordered : IsInOrder order (with_b stage b)) (empty : single_left from_a ≡ []) (one : single_left from_b ≡ b ∷ []) where
     some : old.current ≡ Some a
     some = st.current_is ∙ waits
-
-    -- if it decides that one, it doesn't leave it undecided
-    not_both : {T : Type 0} → decides order a b ≡ true → decides order a b ≡ false → T
-    not_both told undecided = absurd (false≢true (sym undecided ∙ told))
 
     module _ {waiting : Option Feature} {to_a to_b : Single} (p : Proceeded single_cursor single_cursor order old from_a from_b waiting to_a to_b) where
       none_given : p.firsts ≡ []
@@ -233,7 +226,7 @@ module _ {order : Order} {stage : Stage} {old : Sweeping} (st : StandsAt order s
               | inr written ↦
                   let told = decided_by f.proceeds written.0 in
                   elim (seconds_are f.proceeds) [
-                    | inr came ↦ not_both told (undecided_by f.proceeds came.0)
+                    | inr came ↦ absurd (false≢true (sym (undecided_by f.proceeds came.0) ∙ told))
                     | inl kept ↦ inl (record { decides = told; fails = rw (lines_by f.proceeds written.0 kept.0) at fails })
                   ]
             ]
@@ -247,14 +240,12 @@ module _ {order : Order} {stage : Stage} {old : Sweeping} (st : StandsAt order s
                   let is_a : lack.shares.last ≡ a = same_some lack.shares.last a (sym lack.shares.waits ∙ still.1) in
                   let is_b : lack.shares.b ≡ b = sym (heads b lack.shares.b [] (single_left lack.shares.after) (sym kept.1 ∙ lack.shares.gives.left)).0 in
                   let chrom : b.chrom ≡ a.chrom = rw (is_a, is_b) at lack.shares.chrom in
-                  let starts : b.start < a.stop = rw (is_a, is_b) at lack.shares.starts in
                   let ends : a.start < b.stop = rw (is_a, is_b) at lack.shares.ends in
-                  let on_line : single_line lack.shares.after ≡ line = lack.shares.gives.line ∙ f.proceeds.gives_seconds.line ∙ at_line in
                   let lacks = lack.lacks stage st (given_placed_b f.proceeds) (taken_placed_b f.proceeds) in
                   inr (record {
-                    undecided = undecided_beside order total a b known chrom starts;
+                    undecided = undecided_beside order total a b known chrom (rw (is_a, is_b) at lack.shares.starts);
                     to_hold = and_from (bytes_eq a.chrom b.chrom) (ltb a.start b.stop) (name_eq a.chrom b.chrom (sym chrom)) (lt-ltb a.start b.stop ends);
-                    lacks = rw (is_a, on_line, kept.0, append-nil stage.taken) at lacks;
+                    lacks = rw (is_a, lack.shares.gives.line ∙ f.proceeds.gives_seconds.line ∙ at_line, kept.0, append-nil stage.taken) at lacks;
                     same_output = same_output old.shape old.rule f.proceeds.newly (stage.taken ++ f.proceeds.seconds) out grown still.0 (lack.puts stage st (given_placed_b f.proceeds) (taken_placed_b f.proceeds));
                   })
             ]
@@ -284,13 +275,6 @@ module _ (order : Order) (stage : Stage) (a : Feature) (old : Sweeping) (st : St
   same : SameConfig old mid
   same = rw mid_is (record { shape_is = refl; rule_is = refl; limit_is = refl })
 
-  -- none is left
-  all_decided : (waiting : Option Feature) (to_a to_b : Single) → StopsAt single_cursor (going_on mid.phase single_cursor) waiting to_a to_b → waiting ≡ None
-  all_decided waiting to_a to_b stops = grind arith
-
-  written_is : (newly firsts : List Feature) (waiting : Option Feature) → firsts ≡ [] → waiting ≡ None → a ∷ firsts ≡ newly ++ option_to_list waiting → newly ≡ a ∷ []
-  written_is newly firsts waiting e w are = sym (append-nil newly) ∙ ap (λ (o : Option Feature). newly ++ option_to_list o) (sym w) ∙ sym are ∙ ap (λ (l : List Feature). a ∷ l) e
-
   -- where it is, if nothing more is given or taken
   abbrev place : (firsts seconds : List Feature) → firsts ≡ [] → seconds ≡ [] → GivenLast (IsThis order) a firsts seconds mid
   place firsts seconds none none_taken = record {
@@ -307,10 +291,8 @@ module _ (order : Order) (stage : Stage) (a : Feature) (old : Sweeping) (st : St
     pub ends_b : {final : Sweeping} (waiting : Option Feature) (j : JoinsSo single_cursor (going_on mid.phase single_cursor) (IsThis order) (Settles order mid.phase) mid a from_a from_b [] out waiting final to_a to_b [] grown)
         → StopsAt single_cursor (going_on mid.phase single_cursor) waiting to_a to_b → final.current ≡ None → final.phase ≡ mid.phase → EndsB {A = Unit {0}} order stage a old out (Ok tt) final grown
     ends_b {final} waiting j stops gone phase =
-        let no_firsts = single_none from_a to_a j.proceeds.firsts empty_a j.proceeds.gives_firsts in
         let no_seconds = single_none from_b to_b j.proceeds.seconds empty_b j.proceeds.gives_seconds in
-        let at = place j.proceeds.firsts j.proceeds.seconds no_firsts no_seconds in
-        let newly = written_is j.proceeds.newly j.proceeds.firsts waiting no_firsts (all_decided waiting to_a to_b stops) j.proceeds.are in
+        let at = place j.proceeds.firsts j.proceeds.seconds (single_none from_a to_a j.proceeds.firsts empty_a j.proceeds.gives_firsts) no_seconds in
         let k = j.goes at in
         let puts = with_no_pending out grown (intersect mid.shape mid.rule j.proceeds.newly (stage.taken ++ j.proceeds.seconds)) (j.writes at) in
         grind (arith, append-nil)

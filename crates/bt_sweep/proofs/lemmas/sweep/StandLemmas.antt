@@ -1,6 +1,6 @@
 -- Lemmas on where a sweep is once records of both inputs were given and taken.
 use Rattle.bt_lines.proofs.Std.{common_steps, rules}
-use Rattle.bt_lines.proofs.Std.{◌≡◌, inl, inr, Bool, true, false, List, [], ◌∷◌, ◌++◌, Option, Some, None, Ok, Err, Result, refl, sym, ap, ◌∙◌, subst, append-nil, append_assoc, option_to_list, arith, IfSome, is_some}
+use Rattle.bt_lines.proofs.Std.{◌≡◌, inl, inr, true, false, List, [], ◌∷◌, ◌++◌, Option, Some, None, Ok, Err, Result, refl, sym, ap, ◌∙◌, subst, append-nil, append_assoc, option_to_list, arith, IfSome, is_some}
 use Rattle.bt_lines.specs.model.Fault.{FaultValue}
 use Rattle.bt_lines.specs.declared.fault.Fault.{Fault}
 use Rattle.bt_lines.specs.calls.Output.{Output}
@@ -11,7 +11,7 @@ use Rattle.bt_bed.specs.model.Order.{Order, IsTotal}
 use Rattle.bt_bed.specs.calls.Bed.{GivesSingle, single_left}
 use Rattle.bt_bed.specs.declared.read.cursor.Cursor.{Ghosts as Cursor}
 use Rattle.bt_bed.specs.declared.read.cursor.Single.{Single}
-use Rattle.bt_sweep.specs.calls.Sweeping.{AdvancesOn, AdvancesSo, AtEach, FailsAt, IsThis, Proceeded, PutsEach, Settles, StopsFor, stage_after, LeavesLast, SameConfig, MovesTo, Stage, StandsAt, given, phase_of, Sweeping, is_over, want_in, want_of, no_cursor}
+use Rattle.bt_sweep.specs.calls.Sweeping.{AdvancesOn, AdvancesSo, AtEach, FailsAt, IsThis, Proceeded, PutsEach, Settles, StopsFor, stage_after, LeavesLast, SameConfig, MovesTo, Stage, StandsAt, given, Sweeping, is_over, want_in, want_of, no_cursor}
 use Rattle.bt_sweep.specs.model.Lines.{intersect}
 use Rattle.bt_sweep.specs.inside.Joining.{GivenLast, Breaks, Holds, JoinsSo, Keeps, Proceeded as Joined, WritesFor, KeepsOne, going_on, held_with}
 use Rattle.bt_sweep.specs.declared.sweep.phase.Phase.{Phase}
@@ -20,13 +20,6 @@ use Rattle.bt_sweep.specs.declared.sweep.want.Want.TheVariants.{A as WantA, B as
 use Rattle.bt_sweep.proofs.lemmas.sweep.JoinLemmas.{leaves_none}
 use Rattle.bt_sweep.proofs.lemmas.sweep.KeepLemmas.{keeps_first, same_as, with_no_pending}
 use Rattle.bt_sweep.proofs.lemmas.definitions.HitLemmas.{front_placed}
-
-pub holds_of : {order : Order} {stage : Stage} {s : Sweeping} → StandsAt order stage s → Holds order (given stage) stage.taken s
-holds_of st = record { holds = st.holds; within = st.within }
-
--- neither input has ended
-pub both_open : (a b : Bool) (phase : Phase) → phase ≡ phase_of a b → (phase ≡ First → ⊥) → (phase ≡ Over → ⊥) → (a ≡ false) × (b ≡ false)
-both_open a b phase e first over = grind arith
 
 -- both go on
 still_both : (phase : Phase) → (phase ≡ First → ⊥) → (phase ≡ Over → ⊥) → phase ≡ Both
@@ -46,9 +39,8 @@ pub starts_entered : {order : Order} {old mid : Sweeping} {first : Feature} → 
 starts_entered {order} {old} {mid} {first} total none is = rw is (record {
   pre_is = ap (λ (o : Option Feature). option_to_list o ++ first ∷ []) none;
   holds = λ stage st placed.
-      let gone : given stage ≡ stage.written = ap (λ (o : Option Feature). stage.written ++ option_to_list o) (sym st.current_is ∙ none) ∙ append-nil stage.written in
-      let now : Holds order (given stage) stage.taken old = holds_of st in
-      keeps_first first total placed (rw gone at now);
+      let now : Holds order (given stage) stage.taken old = record { holds = st.holds; within = st.within } in
+      keeps_first first total placed (rw (ap (λ (o : Option Feature). stage.written ++ option_to_list o) (sym st.current_is ∙ none) ∙ append-nil stage.written) at now);
   same = same_as old (held_with old.held first);
   phase = refl;
 })
@@ -59,30 +51,17 @@ starts_current some is = grind arith
 
 -- ---- what is asked for
 
-want_none : (current : Option Feature) (phase : Phase) → current ≡ None → (phase ≡ Over → ⊥) → want_of (is_some current) (is_over phase) ≡ WantA
-want_none current phase none going = grind arith
-
--- what waits, and that it isn't over, by what is asked for
-none_at : (current : Option Feature) (over : Bool) → want_of (is_some current) over ≡ WantA → current ≡ None
-none_at current over e = grind arith
-
-open_at : (some : Bool) (phase : Phase) → want_of some (is_over phase) ≡ WantA → phase ≡ Over → ⊥
-open_at some phase e over = grind arith
-
-some_at : (some over : Bool) → want_of some over ≡ WantB → some ≡ true
-some_at some over e = grind arith
-
 pub none_waits : (s : Sweeping) → want_in s ≡ WantA → s.current ≡ None
-none_waits s e = none_at s.current (is_over s.phase) e
+none_waits s e = grind arith
 
 pub not_over : (s : Sweeping) → want_in s ≡ WantA → s.phase ≡ Over → ⊥
-not_over s e = open_at (is_some s.current) s.phase e
+not_over s e = grind arith
 
 pub one_waits : (s : Sweeping) → want_in s ≡ WantB → is_some s.current ≡ true
-one_waits s e = some_at (is_some s.current) (is_over s.phase) e
+one_waits s e = grind arith
 
 pub want_a : (s : Sweeping) → s.current ≡ None → (s.phase ≡ Over → ⊥) → want_in s ≡ WantA
-want_a s none going = want_none s.current s.phase none going
+want_a s none going = grind arith
 
 pub want_b : (s : Sweeping) (a : Feature) → s.current ≡ Some a → want_in s ≡ WantB
 want_b s a some = ap (λ (o : Option Feature). want_of (is_some o) (is_over s.phase)) some
@@ -162,7 +141,7 @@ module _ {order : Order} {old mid : Sweeping} {first : Feature} {pre : List Feat
         → cursor_b.has_ended to_b → (mid.phase ≡ First → ⊥) → cursor_u.gives from_u (pre ++ j.proceeds.firsts) to_u → new.phase ≡ old.phase → (old.phase ≡ Over → ⊥) → LeavesLast order j.proceeds.seconds a → (result : Result T Fault) (final : Sweeping)
         → KeepsOne new a result final → AdvancesOn cursor_u cursor_b order old from_u from_b out result final to_u to_b grown
     kept_or_not a j none ended not_first gives same not_over leaves (Ok t) final is = (
-      advances_from (Some a) final j gives same is (λ w stage st. both_open stage.a_ended stage.b_ended old.phase st.phase_is (λ e. not_first (start.phase ∙ e)) not_over) leaves,
+      advances_from (Some a) final j gives same is (λ w stage st. grind arith) leaves,
       inl (rw (want_b final a (ap (λ (s : Sweeping). s.current) is)) ended),
     )
     kept_or_not a j none ended not_first gives same not_over leaves (Err fault) final is = record {
@@ -172,12 +151,6 @@ module _ {order : Order} {old mid : Sweeping} {first : Feature} {pre : List Feat
     }
 
 -- ---- where nothing is given or taken
-
-same_stands : {order : Order} {old : Sweeping} (stage : Stage) → StandsAt order stage old → MovesTo order old (stage_after stage [] old.current []) old
-same_stands stage st = search rules
-
-leaves_nothing : (order : Order) (current : Option Feature) → IfSome current (LeavesLast order [])
-leaves_nothing order current = grind (arith, leaves_none)
 
 pub advances_none : {A B R S : Type 0} {cursor_a : Cursor A R} {cursor_b : Cursor B S} {order : Order} {old : Sweeping} {from_a : A} {from_b : B} {out : Output} → cursor_a.gives from_a [] from_a → cursor_b.gives from_b [] from_b → AdvancesSo cursor_a cursor_b order old from_a from_b out old from_a from_b out
 advances_none {order = order} {old = old} {out = out} a_none b_none = record {
@@ -193,8 +166,8 @@ advances_none {order = order} {old = old} {out = out} a_none b_none = record {
     settles = inr refl;
     each = λ stage st pg pt. tt;
   };
-  leaves = leaves_nothing order old.current;
-  stands = λ stage st pg pt. same_stands stage st;
+  leaves = grind (arith, leaves_none);
+  stands = λ stage st pg pt. search rules;
   puts = λ stage st pg pt. grown_none out;
 }
 
@@ -240,8 +213,5 @@ module _ {A B R S : Type 0} (cursor_a : Cursor A R) (cursor_b : Cursor B S) (ord
 
 -- while none waits, an end isn't asked for that could still come
 module _ {B S : Type 0} (cursor_b : Cursor B S) (to_b : B) where
-  stops_over : (over : Bool) → StopsFor no_cursor cursor_b (want_of false over) tt to_b
-  stops_over over = grind arith
-
   pub stops_none : (new : Sweeping) → new.current ≡ None → StopsFor no_cursor cursor_b (want_in new) tt to_b
-  stops_none new none = rw none (stops_over (is_over new.phase))
+  stops_none new none = rw none (grind arith)

@@ -1,4 +1,4 @@
-use Rattle.bt_lines.proofs.Std.{common_steps, ◌-◌, arith}
+use Rattle.bt_lines.proofs.Std.{common_steps, arith}
 use Rattle.bt_sweep.proofs.lemmas.Output.{start_ahead}
 use Rattle.bt_sweep.proofs.hits.started.count_started.Goals as goal
 

@@ -15,19 +15,17 @@ returns-in_default-clause-decides g c =
 
 pub returns-in_err-decide-clause-decides : goal.returns-in_err-decide-clause-decides
 returns-in_err-decide-clause-decides g c =
-    let some : (state_of c.args.self.now).current ≡ Some (feature_lent c.as_bed-bed.result) = sym c.in-Some.ensures.is ∙ ap (λ (f : Feature). Some f) (sym c.as_bed-bed.ensures) in
     let e = err_from_is_err_and c.from_residual.result c.from_residual.ensures.1 in
     let b = c.in_err-decide.ensures.joins in
     rw (e.1, e.2)
-    (fails_from (starts_current some c.take_current.ensures.taken) b
+    (fails_from (starts_current (sym c.in-Some.ensures.is ∙ ap (λ (f : Feature). Some f) (sym c.as_bed-bed.ensures)) c.take_current.ensures.taken) b
     (single_none c.new-none.result.cursor c.decide.new.a.cursor b.proceeds.firsts (ap single_left c.new-none.ensures.cursor ∙ c.none.ensures.left) b.proceeds.gives_firsts))
 
 pub returns-in_default-2-clause-decides : goal.returns-in_default-2-clause-decides
 returns-in_default-2-clause-decides g c =
-    let some : (state_of c.args.self.now).current ≡ Some (feature_lent c.as_bed-bed.result) = sym c.in-Some.ensures.is ∙ ap (λ (f : Feature). Some f) (sym c.as_bed-bed.ensures) in
     let j = rw c.in_default-2.is at c.in_ok-decide.ensures.joins in
     let final = state_of c.decide.new.self in (
-      advances_from (starts_current some c.take_current.ensures.taken) None final j.0
+      advances_from (starts_current (sym c.in-Some.ensures.is ∙ ap (λ (f : Feature). Some f) (sym c.as_bed-bed.ensures)) c.take_current.ensures.taken) None final j.0
           (single_none c.new-none.result.cursor c.decide.new.a.cursor j.0.proceeds.firsts (ap single_left c.new-none.ensures.cursor ∙ c.none.ensures.left) j.0.proceeds.gives_firsts)
           (c.in_ok-decide.ensures.phase ∙ ap (λ (s : Sweeping). s.phase) c.take_current.ensures.taken) (ap (λ (o : Option Feature). record final { current = o }) c.decide.ensures.none) (λ bad. absurd (false≢true bad)) tt,
       inl (stops_none g.B.Cursor c.decide.new.b final c.decide.ensures.none),

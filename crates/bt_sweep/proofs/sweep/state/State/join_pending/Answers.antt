@@ -22,8 +22,7 @@ pub returns-in_err-write_up_to-clause-joins : goal.returns-in_err-write_up_to-cl
 returns-in_err-write_up_to-clause-joins g c =
     let inv = c.loop-next.invariant in
     let rest = pending_in (g.A.Cursor.consumed c.write_up_to.new.firsts.cursor) c.write_up_to.new.firsts.from c.write_up_to.new.firsts.to in
-    let b = g.B.Record.Record.feature c.in-Some.next in
-    let gives_b = subst (λ (x : g.row.B.Denot). g.B.Cursor.gives x (b ∷ []) c.next.new.self) inv.same c.in-Some.ensures.some in
+    let gives_b = subst (λ (x : g.row.B.Denot). g.B.Cursor.gives x ((g.B.Record.Record.feature c.in-Some.next) ∷ []) c.next.new.self) inv.same c.in-Some.ensures.some in
     let e = err_from_is_err_and c.from_residual.result c.from_residual.ensures.1 in
     let cut = rw c.start-then-stop-start.ensures at c.in_err-write_up_to.ensures.writes in
     rw (e.1, e.2) (breaks_write inv.going.0 gives_b (c.in-Some.ensures.on ∙ inv.beside ∙ c.requires.beside) g.met.A.Cursor.gives_more inv.going.1 rest cut)
@@ -31,8 +30,7 @@ returns-in_err-write_up_to-clause-joins g c =
 pub returns-then-not-branch-clause-joins : goal.returns-then-not-branch-clause-joins
 returns-then-not-branch-clause-joins g c =
     let inv = c.loop-next.invariant in
-    let b = g.B.Record.Record.feature c.in-Some.next in
-    let gives_b = subst (λ (x : g.row.B.Denot). g.B.Cursor.gives x (b ∷ []) c.next.new.self) inv.same c.in-Some.ensures.some in
+    let gives_b = subst (λ (x : g.row.B.Denot). g.B.Cursor.gives x ((g.B.Record.Record.feature c.in-Some.next) ∷ []) c.next.new.self) inv.same c.in-Some.ensures.some in
     let w = rw (c.start-then-stop-start.ensures, c.if-not-branch.true) at c.in_ok-write_up_to.ensures.writes in
     ((joins_write inv.going.0 gives_b (c.in-Some.ensures.on ∙ inv.beside ∙ c.requires.beside) g.met.A.Cursor.gives_more inv.going.1 w.0).0, w.1, tt)
 
@@ -40,10 +38,8 @@ pub returns-in_err-take-clause-joins : goal.returns-in_err-take-clause-joins
 returns-in_err-take-clause-joins g c =
     let inv = c.loop-next.invariant in
     let past = c.else-stop-start in
-    let left = pending_in (g.A.Cursor.consumed c.loop-next.firsts.cursor) c.loop-next.firsts.from c.loop-next.firsts.to in
     let rest = pending_in (g.A.Cursor.consumed past.firsts.cursor) past.firsts.from past.firsts.to in
     let b = g.B.Record.Record.feature c.in-Some.next in
-    let cur = g.A.Record.Record.feature c.loop-next.current in
     let cur2 = g.A.Record.Record.feature past.current in
     let gives_b = subst (λ (x : g.row.B.Denot). g.B.Cursor.gives x (b ∷ []) c.next.new.self) inv.same c.in-Some.ensures.some in
     let on = c.in-Some.ensures.on ∙ inv.beside ∙ c.requires.beside in
@@ -66,10 +62,8 @@ pub loop-next-preserved : goal.loop-next-preserved
 loop-next-preserved g c =
     let inv = c.loop-next.invariant in
     let past = c.else-stop-start in
-    let left = pending_in (g.A.Cursor.consumed c.loop-next.firsts.cursor) c.loop-next.firsts.from c.loop-next.firsts.to in
     let rest = pending_in (g.A.Cursor.consumed past.firsts.cursor) past.firsts.from past.firsts.to in
     let b = g.B.Record.Record.feature c.in-Some.next in
-    let cur = g.A.Record.Record.feature c.loop-next.current in
     let cur2 = g.A.Record.Record.feature past.current in
     let gives_b = subst (λ (x : g.row.B.Denot). g.B.Cursor.gives x (b ∷ []) c.next.new.self) inv.same c.in-Some.ensures.some in
     let on = c.in-Some.ensures.on ∙ inv.beside ∙ c.requires.beside in
