@@ -14,8 +14,7 @@ module _ (table : Table) (P : List Word → List Item → Type 0)
       → P (option ∷ []) (items_of table (option ∷ []))
   unfolding items_of
   divided-one-kind option kind true f g =
-      let item : Item = record { option = option; value = None } in
-      rw (f, g, items_of) (step item [] [] (kind, f, g) (stop []))
+      rw (f, g, items_of) (step (record { option = option; value = None }) [] [] (kind, f, g) (stop []))
   divided-one-kind option kind false f g = rw (f, g, items_of) (stop (option ∷ []))
 
   divided-one : (option : Word) (found : Option Takes) → takes table option ≡ found
@@ -31,12 +30,9 @@ module _ (table : Table) (P : List Word → List Item → Type 0)
       → P (option ∷ value ∷ rest) (items_of table (option ∷ value ∷ rest))
   unfolding items_of
   divided-more-kind option value rest kind true valued f g h one two =
-      let item : Item = record { option = option; value = None } in
-      let more = items_of table (value ∷ rest) in
-      rw (f, g, items_of) (step item (value ∷ rest) more (kind, f, g) one)
+      rw (f, g, items_of) (step (record { option = option; value = None }) (value ∷ rest) (items_of table (value ∷ rest)) (kind, f, g) one)
   divided-more-kind option value rest kind false true f g h one two =
-      let item : Item = record { option = option; value = Some value } in
-      rw (f, g, h, items_of) (step item rest (items_of table rest) (kind, f, h) two)
+      rw (f, g, h, items_of) (step (record { option = option; value = Some value }) rest (items_of table rest) (kind, f, h) two)
   divided-more-kind option value rest kind false false f g h one two = grind arith
 
   divided-more : (option value : Word) (rest : List Word) (found : Option Takes)
@@ -55,6 +51,5 @@ module _ (table : Table) (P : List Word → List Item → Type 0)
 
 pub allowed : (table : Table) (words : List Word) → All (IsItem table) (items_of table words)
 allowed table words =
-    let P : List Word → List Item → Type 0 = λ _ items. All (IsItem table) items in
-    divided table P (λ _. All-nil (IsItem table))
+    divided table (λ _ items. All (IsItem table) items) (λ _. All-nil (IsItem table))
     (λ item rest items h all. All-cons (IsItem table) item items h all) words

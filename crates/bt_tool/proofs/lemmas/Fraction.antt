@@ -1,10 +1,7 @@
 -- Lemmas on the fraction that digits denote.
-use Rattle.bt_lines.proofs.Std.{common_steps, ◌≡◌, ℕ, ◌+◌, ◌-◌, ◌*◌, ◌<◌, ◌≤◌, Bool, true, false, ◌&&◌, List, length, take, get_or, replicate, Option, Some, None, refl, sym, ◌∙◌, arith, zero, suc, ltb, leb, cond, get_or-append, get_or-eq_default, get_or-append_right, get_or_default_zero, and_right, and_left, get_or-replicate, length-append, length-replicate, take_all, list_all-append, list_all_at, is_ascii_digit, list_all, unwrap_or, digits_value}
+use Rattle.bt_lines.proofs.Std.{common_steps, ◌≡◌, ℕ, ◌+◌, ◌*◌, ◌<◌, ◌≤◌, Bool, true, false, ◌&&◌, List, length, take, get_or, replicate, Option, Some, None, refl, ◌∙◌, arith, zero, suc, ltb, leb, cond, get_or-append, get_or-eq_default, get_or-append_right, get_or_default_zero, and_right, and_left, get_or-replicate, length-append, length-replicate, take_all, list_all-append, list_all_at, is_ascii_digit, list_all, unwrap_or, digits_value}
 use Rattle.bt_lines.specs.model.Lines.{value_of as number_of}
 use Rattle.bt_tool.specs.model.Fraction.{are_digits_of_fraction, billionths_in, fraction_in, fraction_of, nine_decimals, one_in_billionths}
-
-pub if_none : (b : Bool) (v : ℕ) → cond b (Some v) None ≡ None → b ≡ false
-if_none b v e = grind arith
 
 none_if : (b : Bool) (v : ℕ) → b ≡ false → None ≡ cond b (Some v) None
 none_if b v e = rw e refl
@@ -32,16 +29,13 @@ module _ (decimals : List ℕ) where
   pub length_of_nine : length decimals ≤ 9 → length (nine_decimals decimals) ≡ 9
   length_of_nine few = grind (arith, length-append, length-replicate)
 
-  nine_at_by : (i : ℕ) → length decimals ≤ 9 → i < 9 → (b : Bool) → ltb i (length decimals) ≡ b → get_or decimals i 48 ≡ get_or (nine_decimals decimals) i 0
-  nine_at_by i few h b e = grind (arith, get_or_default_zero, get_or-append, get_or-eq_default, get_or-append_right, get_or-replicate)
-
   -- the byte at an index, or a zero
   pub nine_at : (i digit : ℕ) → length decimals ≤ 9 → i < 9 → digit ≡ get_or decimals i 48 → digit ≡ get_or (nine_decimals decimals) i 0
-  nine_at i digit few h e = e ∙ nine_at_by i few h (ltb i (length decimals)) refl
+  nine_at i digit few h e = e ∙ (grind (arith, get_or_default_zero, get_or-append, get_or-eq_default, get_or-append_right, get_or-replicate))
 
   pub other_decimal : (i : ℕ) → length decimals ≤ 9 → i < 9 → is_ascii_digit (get_or (nine_decimals decimals) i 0) ≡ false
       → None ≡ cond (list_all is_ascii_digit decimals) (Some (digits_value 10 (nine_decimals decimals))) None
-  other_decimal i few h other = grind (arith, common_steps, length_of_nine, list_all_at, list_all-append, zeros_are_digits)
+  other_decimal i few h other = grind (arith, common_steps, length-append, length-replicate, list_all_at, list_all-append, zeros_are_digits)
 
   pub nine_whole : (i value : ℕ) → length decimals ≤ 9 → 9 ≤ i → value ≡ digits_value 10 (take i (nine_decimals decimals)) → list_all is_ascii_digit (take i (nine_decimals decimals)) ≡ true
       → Some value ≡ cond (list_all is_ascii_digit decimals) (Some (digits_value 10 (nine_decimals decimals))) None
@@ -68,14 +62,11 @@ module _ (whole decimals : List ℕ) where
   pub many_decimals : 9 < length decimals → None ≡ fraction_in whole decimals
   many_decimals h = grind (arith, no_fraction)
 
-  other_ones : (b : Bool) → list_all is_ascii_digit whole ≡ b → (b && leb (digits_value 10 whole) 1) ≡ false → None ≡ fraction_in whole decimals
-  other_ones b e f = grind (arith, no_fraction)
-
   pub no_whole : None ≡ cond (list_all is_ascii_digit whole && leb (digits_value 10 whole) 1) (Some (digits_value 10 whole)) None → None ≡ fraction_in whole decimals
-  no_whole e = other_ones (whole_digits whole decimals) refl (if_none _ (digits_value 10 whole) (sym e))
+  no_whole e = grind (arith, no_fraction)
 
   pub no_decimals : None ≡ cond (list_all is_ascii_digit decimals) (Some (digits_value 10 (nine_decimals decimals))) None → None ≡ fraction_in whole decimals
-  no_decimals e = no_fraction (and_right (some_digit whole decimals) _ (and_right (whole_digits whole decimals) _ (and_left (decimal_digits whole decimals) _ (if_none _ (digits_value 10 (nine_decimals decimals)) (sym e)))))
+  no_decimals e = no_fraction (and_right (some_digit whole decimals) _ (and_right (whole_digits whole decimals) _ (and_left (decimal_digits whole decimals) _ (grind arith))))
 
   -- the parts of a fraction that isn't above one, or is
   module _ (ones billionths : ℕ)

@@ -1,5 +1,5 @@
 -- Lemmas on the words of a command line.
-use Rattle.bt_lines.proofs.Std.{common_steps, rules, ◌≡◌, ℕ, ◌+◌, ◌<◌, ◌≤◌, Bool, true, false, List, [], ◌∷◌, length, Option, Some, None, Err, drop, refl, sym, ap, ◌∙◌, arith, length-drop, Result, Ok, IsTrue, is_some, if◌then◌else◌, IfOk, IfErr, cond, subst, All, String, bytes_eq, option_and_then, string_bytes, unwrap_or, option_or, length-map, All-head, All-tail, ◌||◌, not, option_map, IsSome, IsNone, list_any, false≢true, or_parts, ◌++◌, add-zero, drop_of_length-le, drop-cons, get_or, drop-map}
+use Rattle.bt_lines.proofs.Std.{common_steps, rules, ◌≡◌, ℕ, ◌+◌, ◌<◌, ◌≤◌, Bool, true, false, List, [], ◌∷◌, length, Option, Some, None, Err, drop, refl, sym, ap, ◌∙◌, arith, length-drop, Result, Ok, is_some, if◌then◌else◌, IfOk, IfErr, cond, subst, All, String, bytes_eq, option_and_then, string_bytes, unwrap_or, option_or, length-map, All-head, All-tail, not, option_map, IsSome, list_any, false≢true, or_parts, ◌++◌, add-zero, drop_of_length-le, drop-cons, get_or, drop-map}
 use Rattle.bt_tool.specs.declared.planning.tool.Tool.{Tool}
 use Rattle.bt_tool.specs.declared.options.usage.Usage.{Usage}
 use Rattle.bt_tool.specs.model.Usage.{Item, items_of, IsTellable, no_command, unknown_option, required_missing, options_exclusive, input_named_twice, IsItem, words_of, value_missing, bad_value}
@@ -72,18 +72,14 @@ asked-tellable : (command : Tool) (words : List Word) (fault : Option Usage) (us
 asked-tellable command words None usage f e = grind (arith, (checked-tellable command (items_of (table_of command) words) usage (1 + length words) (rw (f, asked) at e)))
 asked-tellable command words (Some told) usage f e = grind (arith, (word_fault-tellable (table_of command) 1 words told f))
 
-no_command-tellable : (count : ℕ) → IsTellable no_command count
-no_command-tellable count = grind arith
-
 named-tellable : (words : List Word) (named : Option Tool) (usage : Usage)
     → command_of words ≡ named → options words ≡ Err usage → IsTellable usage (length words)
 named-tellable words None usage n e =
     let same : no_command ≡ usage = (let s = options-no_command words n in cc) in
-    rw (← same) (no_command-tellable (length words))
+    rw (← same) (grind arith)
 named-tellable words (Some command) usage n e =
     let rest = drop 1 words in
-    let fault = word_fault (table_of command) 1 rest in
-    let told = asked-tellable command rest fault usage refl
+    let told = asked-tellable command rest (word_fault (table_of command) 1 rest) usage refl
     (sym (options-command words command n) ∙ e) in
     rw (← command_of-some words command n) told
 
@@ -203,23 +199,11 @@ number-is_limit text = limits (number_of text) (number-limit text)
 
 -- Lemmas on the names of a plan: an option that is required names something.
 
-nothing-lacks : (table : Table) (items : List Item) → fault_together table items ≡ None
-    → list_any (λ option. not (is_given items option)) table.required ≡ false
-nothing-lacks table items e = grind arith
-
--- an option among those of which none is missing is given
-given-at : (items : List Item) (option other : Word) (same : Bool) (others : List Word)
-    → bytes_eq option other ≡ same
-    → (list_any (bytes_eq option) others ≡ true → is_given items option ≡ true)
-    → not (is_given items other) ≡ false
-    → (same || list_any (bytes_eq option) others) ≡ true → is_given items option ≡ true
-given-at items option other same others e rest h k = search rules
-
 given-among : (items : List Item) (option : Word) (required : List Word)
     → list_any (λ option. not (is_given items option)) required ≡ false
     → list_any (bytes_eq option) required ≡ true → is_given items option ≡ true
 given-among items option [] h k = absurd (false≢true k)
-given-among items option (other ∷ others) h k = grind (arith, (given-among items option others (or_parts (not (is_given items other)) _ h).1), given-at)
+given-among items option (other ∷ others) h k = grind (arith, (given-among items option others (or_parts (not (is_given items other)) _ h).1), rules)
 
 not-given : (items : List Item) (option : Word) → last_item option items ≡ None
     → is_given items option ≡ true → ⊥
@@ -232,25 +216,19 @@ some-copy : (copy : Option (String Global)) (value : Option Word)
     → option_map string_bytes copy ≡ value → IsSome value → IsSome copy
 some-copy copy value e h = grind arith
 
-none-copy : (copy : Option (String Global)) → option_map string_bytes copy ≡ None → IsNone copy
-none-copy copy e = grind arith
-
-true-is : (b : Bool) → IsTrue b → b ≡ true
-true-is b h = grind arith
-
 -- the copy of a name is there if its option is required, and isn't if there is no such option
 pub named : (given : Given) (table : Table) (option : Option Word) (copy : Option (String Global))
     → table_lent given.table.now ≡ table → fault_together table (items_in given) ≡ None
     → ((word : Word) → option ≡ Some word → takes table word ≡ Some FileName)
     → option_map string_bytes copy ≡ value_if_any (items_in given) option → IsNamedBy table option copy
-named given table None copy same none file e = ((λ h. absurd (false≢true h)), λ _. none-copy copy e)
+named given table None copy same none file e = ((λ h. absurd (false≢true h)), λ _. grind arith)
 named given table (Some option) copy same none file e = (
   (λ h. some-copy copy (value_of (items_in given) option) e
       (some-value (value_of (items_in given) option) (λ v.
       not-given (items_in given) option
       (valued given option (ap (λ t. takes t option) same ∙ file option refl) v)
-      (given-among (items_in given) option table.required (nothing-lacks table (items_in given) none)
-      (true-is _ h))))),
+      (given-among (items_in given) option table.required (grind arith)
+      (grind arith))))),
   λ h. absurd (false≢true (sym h)),
 )
 
@@ -259,14 +237,6 @@ pub named-output : (tool : Tool) (items : List Item) (copy : Option (String Glob
     → option_map string_bytes copy ≡ output_by (value_if_any items (table_of tool).output)
     → IsNamedBy (table_of tool) (table_of tool).output copy
 named-output tool items copy e = grind arith
-
-pub genome-file : (tool : Tool) (word : Word) → (table_of tool).genome ≡ Some word
-    → takes (table_of tool) word ≡ Some FileName
-genome-file tool word e = grind arith
-
-pub second-file : (tool : Tool) (word : Word) → (table_of tool).second ≡ Some word
-    → takes (table_of tool) word ≡ Some FileName
-second-file tool word e = grind arith
 
 pub tool-by : (tool : Tool) (items : List Item) → tool_of (command_by tool items) ≡ tool
 tool-by tool items = grind arith

@@ -1,8 +1,8 @@
-use Rattle.bt_lines.proofs.Std.{◌≡◌, ◌∙◌, ap}
+use Rattle.bt_lines.proofs.Std.{◌≡◌, ◌∙◌, ap, arith}
 use Rattle.bt_tool.specs.calls.Given.{items_in}
 use Rattle.bt_tool.specs.model.Options.{Named, named_by}
 use Rattle.bt_tool.specs.model.Table.{table_of, tool_of}
-use Rattle.bt_tool.proofs.lemmas.Options.{genome-file, named, named-output, second-file, tool-by}
+use Rattle.bt_tool.proofs.lemmas.Options.{named, named-output, tool-by}
 use Rattle.bt_tool.proofs.options.made.Goals as goal
 
 pub invariant_of-result : goal.invariant_of-result
@@ -14,9 +14,9 @@ invariant_of-result c =
     record {
       limits = c.command.ensures.limits;
       genome_named = rw is (named given (table_of tool) (table_of tool).genome c.in_ok-genome.genome c.requires.table c.requires.whole
-          (genome-file tool) (c.in_ok-genome.ensures ∙ ap (λ (n : Named). n.genome) names));
+          (grind arith) (c.in_ok-genome.ensures ∙ ap (λ (n : Named). n.genome) names));
       second_named = rw is (named given (table_of tool) (table_of tool).second c.in_ok-second.second c.requires.table c.requires.whole
-          (second-file tool) (c.in_ok-second.ensures ∙ ap (λ (n : Named). n.second) names));
+          (grind arith) (c.in_ok-second.ensures ∙ ap (λ (n : Named). n.second) names));
       output_named = rw is (named-output tool (items_in given) c.in_ok-output.output
           (c.in_ok-output.ensures ∙ ap (λ (n : Named). n.output) names));
     }

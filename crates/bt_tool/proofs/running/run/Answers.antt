@@ -1,7 +1,7 @@
-use Rattle.bt_lines.proofs.Std.{ap, option_map}
+use Rattle.bt_lines.proofs.Std.{ap, option_map, arith}
 use Rattle.bt_lines.specs.calls.Names.{fault_value}
 use Rattle.bt_tool.proofs.lemmas.running.whole.RunningLemmas.{runs_by}
-use Rattle.bt_tool.proofs.lemmas.running.whole.OwnFailureLemmas.{all_own, all_serve, flushed_no_read, flushed_own, genome_no_read}
+use Rattle.bt_tool.proofs.lemmas.running.whole.OwnFailureLemmas.{all_serve, flushed_no_read, genome_no_read}
 use Rattle.bt_tool.proofs.running.run.Goals as goal
 
 pub returns-clause-report : goal.returns-clause-report
@@ -15,9 +15,7 @@ returns-clause-report g c =
 
 pub returns-clause-own_failure : goal.returns-clause-own_failure
 returns-clause-own_failure g c =
-    flushed_own _ _ _ c.write_output-fault.new.out.output c.flushed-fault.new.out.output (option_map fault_value c.write_output-fault.result.0) (option_map fault_value c.flushed-fault.result) c.flushed-fault.ensures.ends
-    (all_own g.A.Source g.B.Source c.args.plan.now.command c.args.first c.args.second c.new-out.result.output (option_map fault_value c.write_output-fault.result.0) c.write_output-fault.result.1.first
-    c.write_output-fault.result.1.second c.write_output-fault.new.out.output _ c.read_genome-chromosomes.result.0 c.read_genome-chromosomes.ensures.own_failure c.write_output-fault.ensures.written)
+    grind arith
 
 pub returns-clause-reads : goal.returns-clause-reads
 returns-clause-reads g c = λ no_write never.

@@ -1,5 +1,5 @@
 -- Lemmas on driving an engine, from the records that it takes to the report on what its input hands over.
-use Rattle.bt_lines.proofs.Std.{◌≡◌, ℕ, suc, ◌-◌, true, List, [], ◌++◌, take, Option, None, Some, Ok, refl, sym, ap, ◌∙◌, subst, append-nil, append_assoc, arith, inl, inr, ◌⊎◌, ◌≢◌, ⊤, IfSome, map-append, Appends, Consumes, Bool, ◌∷◌, option_map, flat_map-append, Appends-nil}
+use Rattle.bt_lines.proofs.Std.{◌≡◌, ℕ, suc, ◌-◌, true, List, [], ◌++◌, take, Option, None, Some, Ok, refl, sym, ap, ◌∙◌, subst, append-nil, append_assoc, arith, inl, inr, ◌≢◌, ⊤, IfSome, map-append, Appends, Consumes, Bool, ◌∷◌, option_map, flat_map-append, Appends-nil}
 use Rattle.bt_lines.specs.declared.device.Source.{Ghosts as Source}
 use Rattle.bt_lines.proofs.lemmas.reader.block.ReadsLemmas.{some_is}
 use Rattle.bt_lines.proofs.lemmas.Writer.{grows_both}
@@ -23,13 +23,13 @@ use Rattle.bt_runs.specs.calls.Engine.{SettledBegins, SettledStays}
 use Rattle.bt_bed.specs.declared.order.ChromOrder.{Ghosts}
 use Rattle.bt_bed.specs.declared.read.records.Records.{Records}
 use Rattle.bt_bed.proofs.lemmas.Definitions.{placed_good, non_empty_good, placed_lines}
-use Rattle.bt_tool.specs.calls.Run.{IsFaultButWrite, IsReported, IsWithin, ReadsNoFurther, TellsDevice, TellsInput, WritesBy, IsOwnFailure, TellsOwnReads, RunsAlone}
+use Rattle.bt_tool.specs.calls.Run.{IsFaultButWrite, IsReported, IsWithin, ReadsNoFurther, WritesBy, IsOwnFailure, TellsOwnReads, RunsAlone}
 use Rattle.bt_tool.specs.model.Report.{of_members, Holds, OfBoth, of_records}
 use Rattle.bt_tool.proofs.lemmas.running.members.CursorLemmas.{Came, BeginsAt, at_whole, came_whole, good_whole, handed_to, says_fault, begins_over}
 use Rattle.bt_tool.specs.inside.Feed.{StopCause, CutsLines, PutsLines, FeedsAll, FeedsUpTo, TookButBlock, IsReadFor, member_items, LineRefused, sam_reader, IsFresh, KeepsOwnFault, Passes}
 use Rattle.bt_tool.specs.model.Written.{Report, members_report, members_settle, report_by, Written, IsOneOf, alignment_lines, alignments_written, merge_written, pooled_written, coverage_written}
-use Rattle.bt_tool.proofs.lemmas.running.feed.FeedLemmas.{GoesOn, front_all, text_grows, took_later, Fed, fails_writing, fed_all, fed_none, fed_up_to, goes_same, put_more}
-use Rattle.bt_tool.proofs.lemmas.running.feed.WritingLemmas.{is_whole, named_alone, alone_writes}
+use Rattle.bt_tool.proofs.lemmas.running.feed.FeedLemmas.{GoesOn, front_all, took_later, Fed, fails_writing, fed_all, fed_none, fed_up_to, goes_same, put_more}
+use Rattle.bt_tool.proofs.lemmas.running.feed.WritingLemmas.{is_whole, alone_writes}
 use Rattle.bt_tool.proofs.lemmas.running.members.SeenLemmas.{PutsFront, puts_front}
 use Rattle.std.specs.Option.{option_map_or}
 use Rattle.bt_lines.specs.declared.fault.Input.{Input}
@@ -148,10 +148,6 @@ module _ {S A State : Type 0} (written : Written A) (kinds : Kind → Type 0) (S
     cut_by : (past : List (Member A)) → Cause past → fault ≡ write_failed → CutsLines out (written.settled (member_items past)) grown
     cut_by past p1 e = grind arith
 
-    named_by : (past : List (Member A)) → (bytes : List ℕ) × Hands device.left old.below bytes new.below → Cause past
-        → TellsInput device kinds First first last fault ⊎ TellsDevice grown.sink_has_failed fault
-    named_by past hands p1 = grind arith
-
     pub drives_fault : FeedsUpTo written.settled kinds Sorted device old out fault new grown → WritesBy device device (of_members kinds written format) first None out (Some fault) last None grown
     drives_fault fed = record {
       whole = λ one two before reads others put write memory. reported_by fed.past one before (inl reads) put write memory fed.took.bytes fed.cause;
@@ -167,7 +163,7 @@ module _ {S A State : Type 0} (written : Written A) (kinds : Kind → Type 0) (S
       served = λ e. cc;
       near = λ one two before taken holds others put known. near_by one before taken holds put known fed.took.bytes fed.took.before fed.took.read grown fed.took.kept
           (IsFaultButWrite (Some fault)) (λ stops. fed.exact (λ is. stops.1 (ap Some is)));
-      named = λ told e. named_alone (subst (λ t. TellsInput device kinds First first last t ⊎ TellsDevice grown.sink_has_failed t) (some_is fault told e) (named_by fed.past fed.took.bytes fed.cause));
+      named = λ told e. grind arith;
     }
 
   module _ (Stands : List A → Type 0) (grown : Output) (fed : FeedsAll written.settled kinds Sorted device Stands old out new grown) (finished : Output) (goes : GoesOn grown finished) where
@@ -192,7 +188,7 @@ module _ {S A State : Type 0} (written : Written A) (kinds : Kind → Type 0) (S
     pub drives_all : (rest : List ℕ) → written.whole (member_items fed.past) ≡ written.settled (member_items fed.past) ++ rest → Appends grown.put finished.put rest → finished.sink_has_failed ≡ grown.sink_has_failed → Ends None
     drives_all rest is appends works =
         let put_all : (before : List ℕ) → out.put ≡ Some before → finished.put ≡ Some (before ++ written.whole (member_items fed.past)) =
-        λ before put. text_grows grown.put finished.put before (written.settled (member_items fed.past)) rest (written.whole (member_items fed.past)) is appends (fed.puts before put) in
+        λ before put. grind (arith, append_assoc) in
         let ends : (other : Option FaultValue) (handed : Handed) (before : List ℕ) → Came device first last other handed → out.put ≡ Some before → IsReported (report handed) before None finished =
         λ other handed before came put.
         let all = report_all other handed came in
@@ -386,10 +382,6 @@ pub merge_begins : (merge : MergeKind) → merge_engine.settled merge [] ≡ []
 unfolding settled_runs
 merge_begins merge = grind (arith, no_strand_settled)
 
--- nor does it write any of no records
-pub merge_settles_none : (order : Order) (d : ℕ) (strand : MergeStrand) → (merge_written order d strand).settled [] ≡ []
-merge_settles_none order d strand = grind (arith, no_strand_settled)
-
 -- what it has settled stays, and begins the whole
 pub merge_stays : (merge : MergeKind) → SettledStays (merge_engine.settled merge) AreTaken
 merge_stays (Unstranded merge) = lines_stay (settled_runs merge.rule.gap merge.rule.strand) AreTaken (runs_stay merge.rule.gap merge.rule.strand)
@@ -426,16 +418,7 @@ module _ (order : Order) (total : IsTotal order) where
 
   report_same : (d : ℕ) (strand : MergeStrand) (records : List Feature) (fault : Option FaultValue) → ArePlaced order (intervals_of records)
       → report_by (merge_as_they_come (merge_begun d strand)) records fault ≡ report_by (merge_written order d strand) records fault
-  report_same d strand records fault placed = grind (arith, settled_same, pooled_same)
-
-  -- so what a merge writes, chromosomes as they come, is the report
-  merge_reports : (d : ℕ) (strand : MergeStrand) (handed : Handed)
-      → members_report (merge_as_they_come (merge_begun d strand)) (bed_format (sorting_of order)) handed ≡ members_report (merge_written order d strand) (bed_format (sorting_of order)) handed
-  merge_reports d strand handed = grind (arith, report_same, placed_good)
-
-  merge_settles : (d : ℕ) (strand : MergeStrand) (lines : List TextLine)
-      → members_settle (merge_as_they_come (merge_begun d strand)) (bed_format (sorting_of order)) lines ≡ members_settle (merge_written order d strand) (bed_format (sorting_of order)) lines
-  merge_settles d strand lines = grind (arith, settled_same, placed_lines)
+  report_same d strand records fault placed = grind (arith, pooled_settled, pooled_same)
 
   -- a merge ran as the command says
   pub merge_runs : {A : Type 0} (device : Source A) (d : ℕ) (strand : MergeStrand) (merge : MergeKind) → merge ≡ merge_begun d strand
@@ -444,8 +427,8 @@ module _ (order : Order) (total : IsTotal order) where
       → RunsAlone device (of_records order (merge_written order d strand)) first out fault new grown
   merge_runs device d strand merge begun first out fault new grown runs = record {
     written = alone_writes device device (of_records order (merge_as_they_come merge)) (of_records order (merge_written order d strand))
-        (λ one two. ap (λ m. members_report (merge_as_they_come m) (bed_format (sorting_of order)) one) begun ∙ merge_reports d strand one)
-        (λ two lines. ap (λ m. members_settle (merge_as_they_come m) (bed_format (sorting_of order)) lines) begun ∙ merge_settles d strand lines)
+        (λ one two. ap (λ m. members_report (merge_as_they_come m) (bed_format (sorting_of order)) one) begun ∙ (grind (arith, report_same, placed_good)))
+        (λ two lines. ap (λ m. members_settle (merge_as_they_come m) (bed_format (sorting_of order)) lines) begun ∙ (grind (arith, settled_same, placed_lines)))
         first None out fault new grown (λ t tells. tells) runs.written;
     reads = runs.reads;
     own_failure = runs.own_failure;

@@ -25,7 +25,6 @@ use Rattle.bt_bed.specs.calls.CursorLaws.{batch_gives_more, batch_gives_none}
 use Rattle.bt_bed.specs.calls.CursorOf.{batch_cursor}
 use Rattle.bt_bed.specs.declared.read.batch.Batch.{Batch}
 use Rattle.bt_runs.specs.calls.Engine.{EngineDef, FailsAtGiven, FeedsBatch, NotTaken, TakesEach}
-use Rattle.bt_tool.specs.calls.Run.{IsPutTo}
 use Rattle.bt_tool.specs.inside.Feed.{HasPut, AreInOrder, IsFresh, Took, TookButBlock, FeedsAll, FeedsUpTo, ConsumesGiven, HasTaken, IsReadFor, Passes, member_items}
 use Rattle.bt_tool.proofs.lemmas.running.members.MemberLemmas.{IsFilled, IsOver, IsStopped, bytes_more, items_take, passes_all, passes_end, passes_fill, passes_start, passes_stop, passes_take, read_alone, read_at_stop, read_before, read_here}
 use Rattle.bt_tool.proofs.lemmas.running.feed.WritingLemmas.{begins_with}
@@ -62,17 +61,12 @@ goes_failed old new grows failed = record { took = grows; put = inl failed; stay
 pub goes_works : (old new : Output) → Grows old.took new.took → WorksAsBefore old new → GoesOn old new
 goes_works old new grows works = record { took = grows; put = inr works.put; stays_failed = λ was. works.served ∙ was }
 
-keeps_later : (out grown later : Output) (bytes : List ℕ) → GoesOn grown later
-    → (grown.has_failed ≡ true) ⊎ ((before : List ℕ) → out.put ≡ Some before → IsPutTo (length (before ++ bytes)) grown.put)
-    → (later.has_failed ≡ true) ⊎ ((before : List ℕ) → out.put ≡ Some before → IsPutTo (length (before ++ bytes)) later.put)
-keeps_later out grown later bytes goes p1 = grind (arith, common_steps)
-
 -- what the sink took stays taken, and what was put stays put
 pub took_later : (out grown later : Output) (bytes : List ℕ) → Grows out.took grown.took → GoesOn grown later → TookButBlock out bytes grown
     → TookButBlock out bytes later
 took_later out grown later bytes f goes h = record {
   took = λ before taken e t. took_more_than out.took grown.took later.took taken (length (before ++ bytes)) t f goes.took (h.took before taken e t);
-  put = keeps_later out grown later bytes goes h.put;
+  put = grind (arith, common_steps);
 }
 
 -- of lines that were put, the sink took all but a block
@@ -95,7 +89,7 @@ pub record Fed {S A State : Type 0} (settled : List A → List ℕ) (device : So
 -- none yet
 pub fed_none : {S A State : Type 0} (settled : List A → List ℕ) (device : Source S) (old : MemberReader S A State) (out : Output) → IsFresh device old → line_fault old.below ≡ None → settled [] ≡ [] → HoldsBlock out.took out.put
     → Fed settled device old out [] old out
-fed_none settled device old out fresh clear nothing block = grind (arith, (passes_start device old fresh clear), (put_none out block))
+fed_none settled device old out fresh clear nothing block = grind (arith, (passes_start device old fresh clear), rules)
 
 module _ {S A State : Type 0} {settled : List A → List ℕ} {device : Source S} {old : MemberReader S A State} {out : Output} {past : List (Member A)} {now : MemberReader S A State} {grown : Output}
     (g : Fed settled device old out past now grown) {new : MemberReader S A State} where
@@ -117,12 +111,11 @@ module _ {S A State : Type 0} {settled : List A → List ℕ} {device : Source S
         → FeedsUpTo settled Kinds Sorted device old out fault new grown
     unfolding taken
     fed_up_to {fault} of_format stopped sorted =
-        let stops = passes_stop device old past now g.passes Kinds of_format new fault stopped in
         record {
           past = past;
           took = taken stopped.answers.stays.bytes sorted (read_at_stop device old past now g.passes new fault stopped);
           begins = begins_with (good_coming device.left old) (good_coming device.left now) past g.passes.come;
-          cause = inl (record { cause = stops.cause; puts = g.put.puts; works = g.put.works });
+          cause = inl (record { cause = (passes_stop device old past now g.passes Kinds of_format new fault stopped).cause; puts = g.put.puts; works = g.put.works });
           exact = λ other. g.put.puts;
         }
 
@@ -161,8 +154,8 @@ module _ {S A State : Type 0} {settled : List A → List ℕ} {Kinds : Kind → 
   pub fails_growing : fault ≡ no_memory → Appends through.put later.put lines → WorksAsBefore through later → Grows through.took later.took → FeedsUpTo settled Kinds Sorted device old out fault new later
   fails_growing is appends works grows =
       let now : HasPut out (settled (member_items given)) later = record {
-        puts = λ bytes e. text_grows through.put later.put bytes (settled (member_items before)) lines (settled (member_items given)) (ap settled items ∙ more) appends (put.puts bytes e);
-        works = works_both out through later put.works works;
+        puts = λ bytes e. grind (arith, append_assoc);
+        works = grind (arith, (grows_both out.put through.put later.put put.works.put works.put));
         block = works.block put.block;
         grows = grows_both out.took through.took later.took put.grows grows;
       } in
@@ -237,7 +230,7 @@ module _ {S O E : Type 0} {ghosts : Ghosts O} (definition : EngineDef E) (first 
 module _ {S O E : Type 0} {ghosts : Ghosts O} {definition : EngineDef E} {first : E} {device : Source S} {old : Records S O ghosts} {out : Output} where
   -- before the first record
   pub going_start : IsFresh device (view_of old) → definition.is_after first [] first → definition.settled first [] ≡ [] → HoldsBlock out.took out.put → Going definition first device old out old first out
-  going_start fresh stands nothing block = grind (arith, (fed_none (definition.settled first) device (view_of old) out fresh (line_going old fresh.going) nothing block))
+  going_start fresh stands nothing block = grind (arith, (passes_start device (view_of old) fresh (line_going old fresh.going)), (put_none out block))
 
   module _ (is_bed : (view_of old).format ≡ bed_format (sorting_of (order_in old))) (total : IsTotal (order_in old)) (none_last : last_locus old ≡ None)
       (takes : (past : List Feature) → ArePlaced (order_in old) (intervals_of past) → AreNonEmpty (intervals_of past) → definition.takes first past)
@@ -255,14 +248,14 @@ module _ {S O E : Type 0} {ghosts : Ghosts O} {definition : EngineDef E} {first 
     -- after the last record
     pub feeds_all : (new : Records S O ghosts) → IsOver device (view_of now) (view_of new)
         → FeedsAll (definition.settled first) (IsBedKind (order_in old)) (AreInOrder (order_in old)) device (λ past. definition.is_after first past engine) (view_of old) out (view_of new) grown
-    feeds_all new over = grind (arith, fed_all, in_order)
+    feeds_all new over = grind (arith, fed_all, said_in_order)
 
     -- the reader reported a fault
     pub stops_reading : (new : Records S O ghosts) (fault : FaultValue) → IsStopped device (view_of now) fault (view_of new) → StopsUpTo fault new grown
     stops_reading new fault stopped =
         fed_up_to g.fed
         (λ state line kind says. wrong_of_bed (order_in old) state line.text kind (ap (λ (f : Format Feature (Option Locus)). f.says state line) (sym is_bed) ∙ says))
-        stopped (in_order g.past (view_of now) g.fed.passes)
+        stopped (grind (arith, said_in_order))
 
     at_now : EngineAt definition first out (member_items g.past) engine grown
     at_now = record { stands = g.stands; put = g.fed.put }
@@ -271,10 +264,9 @@ module _ {S O E : Type 0} {ghosts : Ghosts O} {definition : EngineDef E} {first 
     pub going_taken : (new : Records S O ghosts) (fed : E) (later : Output) (records : List Feature) → HasTaken device (view_of now) records (view_of new) → order_in new ≡ order_in now
         → TakesEach definition engine grown records fed later → Going definition first device old out new fed later
     going_taken new fed later records has same taken =
-        let more = members_from (suc (lines_given (below now))) records in
         let passes = passes_take device (view_of old) g.past (view_of now) g.fed.passes records (view_of new) has in
         let items = items_take g.past (suc (lines_given (below now))) records in
-        let at = at_each (order_in old) takes (member_items g.past) records engine fed grown later (subst (AreInOrder (order_in old)) items (in_order (g.past ++ more) (view_of new) passes)) at_now taken in
+        let at = at_each (order_in old) takes (member_items g.past) records engine fed grown later (subst (AreInOrder (order_in old)) items (grind (arith, said_in_order))) at_now taken in
         grind arith
 
     -- one of them wasn't

@@ -1,33 +1,24 @@
 -- What a command of one input writes, as what any command writes of its inputs.
-use Rattle.bt_lines.proofs.Std.{rules, ◌≡◌, ℕ, ◌+◌, ◌-◌, ◌≤◌, Bool, true, List, [], ◌++◌, length, Option, None, Some, take, sym, ap, ◌∙◌, subst, arith, inl, inr, ◌⊎◌, IfSome, suc, ◌^◌, ◌<◌, false, drop, All, take-append-add}
+use Rattle.bt_lines.proofs.Std.{◌≡◌, ℕ, ◌+◌, ◌-◌, ◌≤◌, true, List, ◌++◌, length, Option, None, Some, take, sym, ap, ◌∙◌, subst, arith, inl, inr, ◌⊎◌, IfSome, suc, ◌^◌, ◌<◌, false, drop, All, take-append-add}
 use Rattle.bt_lines.specs.declared.device.Source.{Ghosts as Source}
-use Rattle.bt_lines.specs.model.Fault.{FaultValue, write_failed, read_failed}
+use Rattle.bt_lines.specs.model.Fault.{FaultValue}
 use Rattle.bt_lines.specs.model.Lines.{Handed, TextLine, text_lines, bytes_in, line_feeds}
 use Rattle.bt_lines.specs.calls.Output.{Output, block_size}
 use Rattle.bt_lines.specs.declared.fault.Input.TheVariants.{First}
 use Rattle.bt_bed.specs.model.Genome.{Entry}
-use Rattle.bt_tool.specs.model.Report.{Behaviour, behaviour_of, HandsUpTo, Holds, OfBoth, ServesIf}
+use Rattle.bt_tool.specs.model.Report.{Behaviour, behaviour_of, HandsUpTo, Holds, OfBoth}
 use Rattle.bt_tool.proofs.lemmas.running.members.CursorLemmas.{IsWhole}
 use Rattle.bt_tool.specs.model.Written.{Report}
 use Rattle.bt_tool.specs.calls.Run.{IsFaultButWrite, IsOfInput, IsPutTo, IsReported, IsWithin, ReadsNoFurther, TellsInput, WritesBy}
 use Rattle.bt_tool.specs.declared.planning.plan_type.Command.{Command}
-use Rattle.bt_lines.specs.declared.fault.Input.{Input}
-use Rattle.bt_lines.specs.declared.fault.Kind.TheVariants.{ReadFailed, WriteFailed}
 use Rattle.bt_lines.specs.calls.Reader.{CutsOff, Hands, bytes_taken, end_told}
 use Rattle.bt_lines.specs.declared.reader.line_reader.LineReader.{LineReader}
 use Rattle.bt_lines.proofs.lemmas.reader.lines.TakingLemmas.{hands_both}
 use Rattle.bt_lines.proofs.lemmas.reader.lines.TextLemmas.{line_feeds-append}
-use Rattle.bt_bed.specs.model.Good.{Good, Member, ends_with}
+use Rattle.bt_bed.specs.model.Good.{Good, Member}
 use Rattle.bt_bed.proofs.lemmas.read.good.ReadingLemmas.{near_pass, pass_more}
 use Rattle.bt_bed.specs.calls.Reading.{IsBeyond}
 use Rattle.bt_tool.specs.inside.Feed.{ComeFirst}
-
--- an input that wasn't touched handed nothing over, and hasn't failed
-pub hands_none : {S : Type 0} (left : S → Option (List ℕ)) (source : Option S) (handed : Option Handed) (most : ℕ) → OfBoth (Holds left) source handed → OfBoth (HandsUpTo left most) source source
-hands_none left source handed most holds = grind arith
-
-serves_none : {S : Type 0} (failed : S → Bool) (source : Option S) → ServesIf failed source source
-serves_none failed source = grind arith
 
 -- how far an input was read, by lines that settle the same, more that is said beside it, and what was taken and put later
 pub near_as : (Beside More : ℕ → Type 0) → ((n : ℕ) → Beside n → More n) → (mine yours : List TextLine → List ℕ) → ((lines : List TextLine) → mine lines ≡ yours lines)
@@ -52,10 +43,6 @@ near_as Beside More adds mine yours same text left before took more Cut Failed S
       beside = adds near.n near.beside;
     }
 
--- a fault of one input or of a device, if there is no other input
-pub named_alone : {P D : Type 0} → P ⊎ D → (P ⊎ ⊥) ⊎ D
-named_alone p1 = grind arith
-
 -- the whole text is known of an input of which no failed read is reported
 pub is_whole : {S : Type 0} (device : Source S) (first last : S) (fault : Option FaultValue) (handed : Handed) → Holds device.left first handed → IsOfInput fault → IsWhole device first last fault handed
 is_whole device first last fault handed holds of_input = record { text = holds.text; known = holds.known; is = holds.is; no_read = of_input.no_read }
@@ -78,10 +65,10 @@ module _ {A B : Type 0} (source_a : Source A) (source_b : Source B) where
       grows = w.grows;
       served = λ none.
           let s = w.served none in
-          ((s.0.0, serves_none source_b.has_failed second), s.1);
+          ((s.0.0, grind arith), s.1);
       near = λ one two before taken holds others put known.
           near_as _ (λ n. IsWithin (source_a.end_told first_after) one.text n → OfBoth (HandsUpTo source_b.left (yours.reaches two (take n (text_lines one.text)) + block_size)) second second)
-          (λ n beside end. hands_none source_b.left second two (yours.reaches two (take n (text_lines one.text)) + block_size) others)
+          (λ n beside end. grind arith)
           (mine.settles None) (yours.settles two) (same_settle two) one.text (source_a.left first_after) before grown.took grown.took (grown.has_failed ≡ true) (grown.has_failed ≡ true) (IsFaultButWrite fault) (IsFaultButWrite fault) grown.put grown.put
           (λ size took. took) (λ size kept. kept) (λ bytes is stops. is stops) (w.near one None before taken holds tt put known);
       named = λ t e. elim (w.named t e) [
@@ -104,19 +91,7 @@ module _ {A B : Type 0} (source_a : Source A) (source_b : Source B) where
 
 -- Lemmas that tell faults apart.
 
-pub write_no_read : (input : Input) (line : ℕ) → write_failed ≡ read_failed input line → ⊥
-write_no_read input line e = let apart : WriteFailed ≡ ReadFailed = ap (λ (f : FaultValue). f.kind) e in cc
-
 -- Lemmas on what was taken of a reader's members and lines, and on what is still to come of them.
-
-pub come_none : {A : Type 0} (good : Option (Good A)) → ComeFirst good [] good
-come_none good = grind arith
-
--- nothing is to come but a fault, if there is one
-pub whole_with : {A : Type 0} (old now : Option (Good A)) (past : List (Member A)) (fault : Option FaultValue) → ComeFirst old past now
-    → IfSome now (λ good. good ≡ ends_with fault)
-    → IfSome old (λ good. (good.members ≡ past) × (good.fault ≡ fault))
-whole_with old now past fault c e = search rules
 
 -- the members that were taken begin those that were to come
 pub begins_with : {A : Type 0} (old now : Option (Good A)) (past : List (Member A)) → ComeFirst old past now
@@ -151,9 +126,6 @@ feeds_below bound front back h = grind (arith, (take-append-add front back (boun
 pub cuts_both : {S : Type 0} (left : S → Option (List ℕ)) (old now new : LineReader S) (first : List ℕ) → Hands left old first now
     → end_told now ≡ false → bytes_taken now < 2 ^ 63 → CutsOff left now new → CutsOff left old new
 cuts_both left old now new first hands told within cut = grind (arith, (feeds_below (2 ^ 63 - 1 - bytes_taken old) first cut.bytes (omega arith)), (hands_both left old now new first cut.bytes hands cut.hands))
-
-pub none_passed : (lines : Option (List TextLine)) (given : ℕ) → given ≡ 0 → IfSome lines (λ l. lines ≡ Some (drop given l))
-none_passed lines given e = grind arith
 
 pub up_to : {A : Type 0} (less more : ℕ) (past : List (Member A)) → less ≤ more → All (λ m. m.line ≤ less) past → All (λ m. m.line ≤ more) past
 up_to less more past h up k d i = omega (arith, up k d i)

@@ -1,7 +1,7 @@
 -- Lemmas on lines and records that were given to a masking engine together, over two readers.
-use Rattle.bt_lines.proofs.Std.{◌≡◌, ℕ, suc, Bool, true, false, List, [], ◌∷◌, ◌++◌, length, Option, None, Some, Err, refl, sym, ap, ◌∙◌, subst, append-nil, option_to_list, arith, nil_from_length, ◌⊎◌, IsTrue}
+use Rattle.bt_lines.proofs.Std.{◌≡◌, ℕ, suc, true, false, List, [], ◌∷◌, ◌++◌, length, Option, None, Some, Err, refl, sym, ap, ◌∙◌, subst, append-nil, option_to_list, arith, nil_from_length}
 use Rattle.bt_lines.specs.declared.device.Source.{Ghosts as Source}
-use Rattle.bt_lines.specs.model.Fault.{FaultValue, no_memory, read_failed}
+use Rattle.bt_lines.specs.model.Fault.{FaultValue, no_memory}
 use Rattle.bt_lines.specs.model.Lines.{AreNumbered, TextLine}
 use Rattle.bt_lines.specs.calls.Output.{Output, FailsToAdd, Grown}
 use Rattle.bt_lines.specs.calls.Reader.{TakenLines, TakesLines, buffered_in, has_ended, input_of, lines_given}
@@ -23,7 +23,7 @@ use Rattle.bt_seq.specs.model.Masked.{Reached, SequenceLine, line_says, sequence
 use Rattle.bt_tool.specs.inside.Feed.{member_items, HasTaken}
 use Rattle.bt_tool.specs.model.Written.{is_fasta_kind}
 use Rattle.bt_tool.specs.declared.loops.masking.MaskRun.{MaskRun}
-use Rattle.bt_tool.specs.inside.MaskLoop.{Masks, begun_pair, leaves_some, mask_join, line_members, nothing_reached, stage_of}
+use Rattle.bt_tool.specs.inside.MaskLoop.{Masks, begun_pair, mask_join, line_members, nothing_reached, stage_of}
 use Rattle.bt_tool.proofs.lemmas.running.mask.MaskedLemmas.{MaskEnds, asked, asks_for, come_so_far, ends_at, reached_behind, wrong_first}
 use Rattle.bt_tool.specs.inside.Pair.{IsKnown, JoinDef, Pair, SettlesPair, item_ahead, PairStage}
 use Rattle.bt_tool.proofs.lemmas.running.pair.PairTurns.{Follows, TakesFurther}
@@ -35,9 +35,6 @@ use Rattle.bt_tool.proofs.lemmas.running.pair.PairTurns as turned
 
 alone : {A : Type 0} (items : List A) (o : Option A) → o ≡ None → items ++ option_to_list o ≡ items
 alone items o none = ap (λ o. items ++ option_to_list o) none ∙ append-nil items
-
-asked_more : (lines more : List SequenceLine) (records : List Feature) → (records ≡ []) ⊎ IsTrue (leaves_some lines records) → (records ≡ []) ⊎ IsTrue (leaves_some (lines ++ more) records)
-asked_more lines more records asks = grind (arith, asked_of)
 
 -- masking has come so far, and more lines and records are given
 module _ {A B : Type 0} {source_a : Source A} {source_b : Source B} {start : MaskRun A B} {before : Output} {at : Reached} {lines : LineReader A} {second : MemberReader B Feature (Option Locus)}
@@ -157,7 +154,7 @@ module _ {A B : Type 0} {source_a : Source A} {source_b : Source B} {start : Mas
           → EndsAt (Some fault) new second_now now
       lacks_room mid newly follows put now settles adds fault is =
           ends_at s (state_behind (sequence_format start.mask.full) at items) (stop.lacks_memory (turned.goes_on s.comes more_first more_second first_now second_now takes_first takes_second ended_first ended_second newly mid follows put now settles adds)
-          (λ e. stop.asks_then s.comes (asked s (sym follows.first_is ∙ e)) (λ extra asks. asked_more (given stage) extra stage.taken asks) more_first more_second second_now takes_second)
+          (λ e. stop.asks_then s.comes (asked s (sym follows.first_is ∙ e)) (λ extra asks. grind (arith, asked_of)) more_first more_second second_now takes_second)
           (λ known. tt) fault is)
 
     -- they were taken, and one more line, which is at fault
@@ -173,17 +170,8 @@ module _ {A B : Type 0} {source_a : Source A} {source_b : Source B} {start : Mas
       no_end [] e = cc
       no_end (x ∷ xs) e = cc
 
-      going_by : (b : Bool) → stage.lines_ended ≡ b → stage.lines_ended ≡ false
-      going_by b e = grind (arith, no_end)
-
       going : stage.lines_ended ≡ false
-      going = going_by stage.lines_ended refl
-
-      all_written : final.written ≡ given stage ++ member_items more_first
-      all_written = sym (alone final.written final.waiting none) ∙ given_now
-
-      never_read : (input : Input) (number : ℕ) → Some fault ≡ Some (read_failed input number) → ⊥
-      never_read input number e = grind arith
+      going = grind (arith, no_end)
 
       pub refuses_line : {through : Output} → Grown grown bytes through → EndsAt (Some fault) new second_now through
       refuses_line {through} adds =
@@ -191,10 +179,10 @@ module _ {A B : Type 0} {source_a : Source A} {source_b : Source B} {start : Mas
             gone,
             refl,
             stop.first_fails s.comes (asks_for s) (λ known. tt) going more_first more_second second_now takes_second ended_second bytes
-                (λ known. rw (← all_written, ← taken_now) (settled known)) (λ known. tt)
-                (stop.asks_then s.comes (asked s going) (λ extra asks. asked_more (given stage) extra stage.taken asks) more_first more_second second_now takes_second) fault gone
+                (λ known. rw (← (sym (alone final.written final.waiting none) ∙ given_now), ← taken_now) (settled known)) (λ known. tt)
+                (stop.asks_then s.comes (asked s going) (λ extra asks. grind (arith, asked_of)) more_first more_second second_now takes_second) fault gone
                 (refuses source_a start.mask.full old_first s.past_first at lines new s.comes.first_passes texts line more items say_here kind says_now parts numbered consumed are takes fault is_now (λ k. is_fasta_kind k ≡ true)
                 (wrong_first start.mask.full (reached final) line kind says))
                 (refuses_read source_a start.mask.full old_first s.past_first at lines new s.comes.first_passes texts line more items say_here kind says_now parts numbered consumed are takes fault is_now) through adds,
-            λ input number e. absurd (never_read input number e),
+            λ input number e. absurd (grind arith),
           )

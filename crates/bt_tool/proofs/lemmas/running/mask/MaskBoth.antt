@@ -23,7 +23,7 @@ use Rattle.bt_seq.proofs.lemmas.mask.steps.BedStepLemmas.{goes_more, line_goes}
 use Rattle.bt_seq.proofs.lemmas.mask.steps.CopyLemmas.{wants_line}
 use Rattle.bt_seq.specs.calls.MaskStage.{GoesOn, IsNext, MaskStage, given, is_written_at_once, want_at, with_line}
 use Rattle.bt_seq.specs.calls.MaskState.{Masking}
-use Rattle.bt_seq.specs.calls.MaskSteps.{BothCome, ComesAfter, ComesNext, FailsAfter, FailsAtLines, FailsAtRecord, HasCome, StopsAt, MaskStandsAt, kept_line, FailsWithLine, RefusesLine, bytes_with}
+use Rattle.bt_seq.specs.calls.MaskSteps.{BothCome, ComesAfter, ComesNext, FailsAfter, FailsAtLines, FailsAtRecord, HasCome, StopsAt, MaskStandsAt, FailsWithLine, RefusesLine, bytes_with}
 use Rattle.bt_seq.specs.model.Masked.{Reached, SequenceLine}
 use Rattle.bt_seq.specs.declared.mask.mask_want.MaskWant.{MaskWant}
 use Rattle.bt_seq.specs.declared.mask.mask_want.MaskWant.TheVariants.{Line as WantLine, Bed as WantBed, Nothing}
@@ -32,7 +32,7 @@ use Rattle.bt_tool.specs.inside.MaskLoop.{Masks, mask_join, mask_rounds}
 use Rattle.bt_tool.proofs.lemmas.running.mask.MaskedLemmas.{AdvancesMask, IsMaskReady, MaskEnds, mask_left, fails_record}
 use Rattle.bt_tool.specs.inside.Pair.{SettlesPair, item_ahead, PairStage}
 use Rattle.bt_tool.specs.inside.Feed.{HasTaken}
-use Rattle.bt_tool.proofs.lemmas.running.members.MemberLemmas.{items_from, some_map}
+use Rattle.bt_tool.proofs.lemmas.running.members.MemberLemmas.{items_from}
 use Rattle.bt_tool.proofs.lemmas.running.mask.MaskAdvanced.{come_on, fails_write, lacks_room, refuses_line, settled}
 use Rattle.bt_tool.proofs.lemmas.running.pair.PairTurns.{none_new}
 
@@ -51,7 +51,7 @@ module _ {S State : Type 0} (second second_now : MemberReader S Feature State) (
 -- ---- how much is still wanted
 
 pub waits_is : {stage : MaskStage} {mask : Masking} → MaskStandsAt stage mask → is_some mask.waiting ≡ is_some stage.waiting
-waits_is {stage} {mask} stands = ap is_some stands.waiting_is ∙ some_map kept_line stage.waiting
+waits_is {stage} {mask} stands = ap is_some stands.waiting_is ∙ (grind arith)
 
 pub rounds_few : (waits : Bool) (want : MaskWant) → waits ≡ false → mask_rounds waits want ≤ 2
 rounds_few waits want e = grind arith
@@ -91,10 +91,6 @@ module _ {A B : Type 0} {source_a : Source A} {source_b : Source B} {start : Mas
     same_by : texts ≡ [] → s.stage.waiting ≡ None → final.waiting ≡ None
     same_by none waits = grind (arith, append-nil, none_new, append_cancel_left, append_assoc)
 
-    stays : texts ≡ [] → (mask_rounds (is_some masked.waiting) masked.want < mask_rounds (is_some mask.waiting) mask.want)
-        ⊎ ((masked.want ≡ mask.want) × (is_some masked.waiting ≡ is_some mask.waiting))
-    stays none = grind (arith, same_by)
-
     stuck_by : (want : MaskWant) → texts ≡ [] → taken ≡ [] → StopsAt batch_cursor want last_lines last_beds → IsMaskReady lines second want → ⊥
     stuck_by WantLine none unread stops there = some_buffered lines first_lines begins (parts ∙ ap (λ (l : List TextLine). l ++ lines_in last_lines) none ∙ stops) there
     stuck_by WantBed none unread stops there = grind arith
@@ -104,7 +100,7 @@ module _ {A B : Type 0} {source_a : Source A} {source_b : Source B} {start : Mas
     stuck none unread same there = stuck_by mask.want none unread (subst (λ (w : MaskWant). StopsAt batch_cursor w last_lines last_beds) same stops) there
 
     few_by : (n : ℕ) → length texts + length taken ≡ n → (mask_left new second_now masked ≤ mask_left lines second mask) × (IsMaskReady lines second mask.want → mask_left new second_now masked < mask_left lines second mask)
-    few_by zero e = grind (arith, (nil_from_length texts (omega (arith, e))), (nil_from_length taken (omega (arith, e))), (stays (nil_from_length texts (omega (arith, e)))), stuck)
+    few_by zero e = grind (arith, (nil_from_length texts (omega (arith, e))), (nil_from_length taken (omega (arith, e))), same_by, stuck)
     few_by (suc n) e = grind arith
 
     gave_both : ComesAfter batch_cursor s.stage.ahead first_beds taken final.ahead → {T : Type 0} (done : T) → AdvancesMask source_a source_b start before lines second mask (Ok done) new second_now masked now

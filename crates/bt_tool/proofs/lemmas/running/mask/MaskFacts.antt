@@ -1,5 +1,5 @@
 -- The facts of masking that its report and its reading rest on.
-use Rattle.bt_lines.proofs.Std.{◌≡◌, ℕ, suc, ◌<◌, ◌≤◌, Bool, true, false, List, [], ◌∷◌, ◌++◌, take, refl, sym, ap, ◌∙◌, subst, append-nil, append_assoc, inl, inr, Option, Some, None, Result, Err, cond, ◌⊎◌, ◌||◌, All, IsTrue, list_all, or_left, or_right, All-head, All-tail, list_any-append, flat_map, option_to_list, is_none, option_map, and_from, flat_map-append, list_all-append, arith}
+use Rattle.bt_lines.proofs.Std.{◌≡◌, ℕ, suc, ◌<◌, ◌≤◌, Bool, true, false, List, [], ◌∷◌, ◌++◌, take, refl, sym, ap, ◌∙◌, subst, append-nil, append_assoc, inl, inr, Option, Some, None, Result, Err, cond, ◌⊎◌, ◌||◌, All, IsTrue, list_all, or_left, or_right, All-head, All-tail, list_any-append, flat_map, option_to_list, is_none, and_from, flat_map-append, list_all-append, arith}
 use Rattle.bt_lines.specs.model.Lines.{TextLine, bytes_in}
 use Rattle.bt_bed.specs.model.Feature.{Feature}
 use Rattle.bt_bed.specs.model.BedLine.{is_record_kind, record_of}
@@ -16,7 +16,7 @@ use Rattle.bt_lines.specs.declared.fault.Kind.{Kind}
 use Rattle.bt_bed.specs.model.Sorted.{Locus, block_sorting}
 use Rattle.bt_bed.proofs.lemmas.read.good.SaidLemmas.{wrong_is_of_record}
 use Rattle.bt_lines.specs.model.Fault.{FaultValue}
-use Rattle.bt_bed.specs.calls.Reading.{MemberReader, first_from}
+use Rattle.bt_bed.specs.calls.Reading.{MemberReader}
 use Rattle.bt_seq.specs.calls.MaskStage.{GoesOn, MayFollow, seen_at, MaskStage}
 use Rattle.bt_tool.proofs.lemmas.running.pair.PairTurns.{all_or}
 use Rattle.bt_tool.specs.inside.Pair.{MayCome, SettlesPair, item_ahead}
@@ -33,8 +33,7 @@ needed_from lines before [] rest h = ap (λ (l : List Feature). last_needed line
 needed_from lines before (m ∷ ms) rest (inl none) = cc
 needed_from lines before (m ∷ ms) rest (inr some) =
     let parts : (before ++ m.item ∷ []) ++ member_items ms ≡ before ++ m.item ∷ member_items ms = append_assoc before (m.item ∷ []) (member_items ms) in
-    let more : leaves_some lines ((before ++ m.item ∷ []) ++ member_items ms) ≡ true = ap (leaves_some lines) parts ∙ some in
-    grind (arith, (needed_from lines (before ++ m.item ∷ []) ms rest (inr more)), not_all, fewer_leave)
+    grind (arith, (needed_from lines (before ++ m.item ∷ []) ms rest (inr (ap (leaves_some lines) parts ∙ some))), not_all, fewer_leave)
 
 -- who leave one of some lines undecided, leave one of more
 pub asked_of : (given extra : List SequenceLine) (records : List Feature) → IsTrue (leaves_some given records) → IsTrue (leaves_some (given ++ extra) records)
@@ -47,7 +46,7 @@ none_taken (m ∷ ms) e = cc
 asked_by : (given extra : List SequenceLine) (past : List (Member Feature)) → (member_items past ≡ []) ⊎ IsTrue (leaves_some given (member_items past))
     → (past ≡ []) ⊎ IsTrue (leaves_some (given ++ extra) (member_items past))
 asked_by given extra past (inl none) = inl (none_taken past none)
-asked_by given extra past (inr some) = inr (asked_of given extra (member_items past) some)
+asked_by given extra past (inr some) = inr (grind (arith, list_any-append))
 
 -- the last one needed is after the first lines
 reaches_least : (on : List SequenceLine) (before : List Feature) (rest : List (Member Feature)) (lines : List TextLine) (count : ℕ) → All (λ m. count < m.line) rest
@@ -88,11 +87,8 @@ abbrev pub first_of : List Feature → Option Feature
 first_of [] = None
 first_of (r ∷ records) = Some r
 
-first_by : (line : ℕ) (records : List Feature) → option_map (λ (m : Member Feature). m.item) (first_from line records) ≡ first_of records
-first_by line records = grind arith
-
 pub ahead_first : {S State : Type 0} (reader : MemberReader S Feature State) → item_ahead reader ≡ first_of reader.buffered
-ahead_first reader = first_by _ reader.buffered
+ahead_first reader = grind arith
 
 -- what may come after those that a reader has taken and the one ahead, follows what the engine has seen
 module _ (stage : MaskStage) (next : Option Feature) (kept : (r : Feature) → stage.ahead ≡ Some r → next ≡ Some r) (over : stage.bed_ended ≡ true → next ≡ None)

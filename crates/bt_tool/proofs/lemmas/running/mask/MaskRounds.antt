@@ -26,7 +26,7 @@ use Rattle.bt_tool.proofs.lemmas.running.members.MemberLemmas.{IsFilled, IsOver,
 use Rattle.bt_tool.specs.inside.MaskLoop.{GoesOn, MaskComes, MaskIsOver, mask_run, wanted_by, Masks, mask_rounds, line_members, mask_join, mask_pair, nothing_reached}
 use Rattle.bt_tool.proofs.lemmas.running.mask.MaskedLemmas.{AdvancesMask, MaskEnds, IsMaskReady, mask_left, finishes, stops_lines, stops_records, ends_alone, ends_lines, ends_waiting, fails_at_end, line_made, lines_done, record_made}
 use Rattle.bt_tool.specs.inside.Rounds.{IsLessOrReady, IsLessIfReady, LeadsTo}
-use Rattle.bt_tool.proofs.lemmas.running.members.BlockMembers.{block_filled, block_over, block_stopped, blocks_going, gives_over}
+use Rattle.bt_tool.proofs.lemmas.running.members.BlockMembers.{block_filled, block_over, block_stopped, blocks_going}
 use Rattle.bt_tool.proofs.lemmas.running.whole.OwnFailureLemmas.{kept_below, line_told_kept, none_kept, own_then, told_kept}
 use Rattle.bt_bed.proofs.lemmas.read.good.ReadingLemmas.{same_room}
 use Rattle.bt_bed.specs.model.Feature.{Feature}
@@ -63,7 +63,6 @@ module _ {A B : Type 0} {source_a : Source A} {source_b : Source B} {start : Mas
 
     pub lines_ended : GivesEnd source_a lines new → (masked : Masking) → MaskMovesTo mask.how mask.full (with_lines_ended s.stage) masked → Fills new second masked out
     lines_ended ends masked stands =
-        let over = gives_over source_a start.mask.full at lines new kept ends in
         grind (arith, (ends_lines s wants new masked ends kept stands))
 
   module _ (wants : mask.want ≡ WantBed) (second_now : MemberReader B Feature (Option Locus)) where

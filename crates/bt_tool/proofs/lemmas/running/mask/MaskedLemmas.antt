@@ -1,5 +1,5 @@
 -- What giving an engine that masks does, by the parts of a run.
-use Rattle.bt_lines.proofs.Std.{rules, ◌≡◌, arith, ℕ, ◌+◌, ◌*◌, ◌<◌, ◌≤◌, Option, Some, Result, Ok, Err, is_some, length, suc, Bool, true, false, not, List, [], ◌∷◌, ◌++◌, None, refl, sym, ap, ◌∙◌, subst, append-nil, append_assoc, option_to_list, inl, inr, ◌⊎◌, IfSome, IsTrue, false≢true, or_right, map-append}
+use Rattle.bt_lines.proofs.Std.{rules, ◌≡◌, arith, ℕ, ◌+◌, ◌*◌, ◌<◌, ◌≤◌, Option, Some, Result, Ok, Err, is_some, length, suc, Bool, true, false, not, List, [], ◌∷◌, ◌++◌, None, refl, sym, ap, ◌∙◌, subst, append-nil, append_assoc, option_to_list, inl, inr, IfSome, IsTrue, false≢true, or_right, map-append}
 use Rattle.bt_lines.specs.declared.device.Source.{Ghosts as Source}
 use Rattle.bt_lines.specs.model.Fault.{FaultValue}
 use Rattle.bt_lines.specs.calls.Names.{fault_value}
@@ -28,7 +28,7 @@ use Rattle.bt_lines.specs.declared.fault.Kind.TheVariants.{NoSequence}
 use Rattle.bt_bed.specs.calls.Blocks.{view_of}
 use Rattle.bt_bed.specs.model.Good.{Format, Good, Member}
 use Rattle.bt_seq.proofs.lemmas.definitions.MaskPrefixLemmas.{decided_stays, masked_before, first_is_told, lack_none}
-use Rattle.bt_seq.specs.calls.MaskSteps.{FailsAtRecord, IsOpen, MaskMovesTo}
+use Rattle.bt_seq.specs.calls.MaskSteps.{FailsAtRecord, MaskMovesTo}
 use Rattle.bt_seq.proofs.lemmas.mask.steps.CopyLemmas.{last_waits, wants_bed, wants_line}
 use Rattle.bt_seq.proofs.lemmas.mask.steps.AdvanceLemmas.{going}
 use Rattle.bt_seq.specs.declared.mask.mask_how.MaskHow.{MaskHow}
@@ -85,9 +85,6 @@ last_leaves [] line records e open_at = cc
 last_leaves (x ∷ []) line records e open_at = grind arith
 last_leaves (x ∷ next ∷ lines) line records e open_at = or_right (not (decided x records)) (leaves_some (next ∷ lines) records) (last_leaves (next ∷ lines) line records e open_at)
 
-open_leaves : (lines : List SequenceLine) (last : Option SequenceLine) (records : List Feature) → last_or None lines ≡ last → IsOpen last records → (records ≡ []) ⊎ IsTrue (leaves_some lines records)
-open_leaves lines last records e is_open = grind (arith, last_leaves)
-
 -- the first record without a sequence
 told_by : (names : List (List ℕ)) (good : Option (Good Feature)) (past : List (Member Feature)) (m : Member Feature) (fault : FaultValue) → fault ≡ fault_at_line Second m.line NoSequence
     → is_some (left_after names (member_items past)) ≡ true → left_after names (member_items (past ++ m ∷ [])) ≡ None
@@ -136,7 +133,7 @@ module _ {A B : Type 0} {source_a : Source A} {source_b : Source B} {start : Mas
   come_so_far = grind (arith, reached_behind)
 
   pub asked : stage.lines_ended ≡ false → join.Asks (given stage) stage.taken
-  asked going = open_leaves (given stage) (last_or None (given stage)) stage.taken refl (s.stands.is_open going)
+  asked going = grind (arith, last_leaves)
 
   pub asks_for : stage.lines_ended ≡ false → AsksFor join pair before s.past_first second
   asks_for going = stop.asks_now s.comes (asked going)
@@ -156,7 +153,7 @@ module _ {A B : Type 0} {source_a : Source A} {source_b : Source B} {start : Mas
     owned_alone = search rules
 
     none_lacks : join.last stage.written s.past_second ≡ None
-    none_lacks = lack_none (names_of stage.written) s.past_second owned_alone
+    none_lacks = lack_none (names_of stage.written) s.past_second (search rules)
 
   -- a line that waits isn't decided by what was taken
   undecided : (line : SequenceLine) → stage.waiting ≡ Some line → decided line stage.taken ≡ false
@@ -249,9 +246,6 @@ module _ {A B : Type 0} {source_a : Source A} {source_b : Source B} {start : Mas
         → SettlesPair join (stage.written ++ a ∷ []) (s.comes.bytes ++ masked_line start.mask.how stage.taken a) (stage.taken ++ option_to_list (item_ahead second)) stage.bed_ended
     settles_decided a decides known = grind (arith, settles_with, append_assoc, decided_stays, masked_before)
 
-    unowned_by : (none : stage.waiting ≡ None) → left_after (reached stage).names (stage.taken ++ r ∷ []) ≡ None → left_after (names_of stage.written) (member_items (s.past_second ++ m ∷ [])) ≡ None
-    unowned_by none e = grind (arith, map-append, append-nil)
-
     fails_by : (o : Option SequenceLine) → stage.waiting ≡ o → (fault : FaultValue) (now : Output) → FailsAtRecord start.mask.how start.mask.full o stage r (suc (lines_given second.below)) grown fault now → EndsAt (Some fault) lines second now
     fails_by None none fault now lacks =
         ends_at at (rw lacks.same_output
@@ -265,7 +259,7 @@ module _ {A B : Type 0} {source_a : Source A} {source_b : Source B} {start : Mas
             kind = NoSequence;
             is = lacks.is;
             of_kind = refl;
-            told = told_by (names_of stage.written) (good_coming source_b.left (view_of start.records)) s.past_second m fault lacks.is (owned_alone none) (unowned_by none lacks.unowned)
+            told = told_by (names_of stage.written) (good_coming source_b.left (view_of start.records)) s.past_second m fault lacks.is (owned_alone none) (grind (arith, map-append, append-nil))
                 (stop.seen_begins source_b.left (good_coming source_b.left (view_of start.records)) second s.past_second (Some m) m_ahead s.comes.second_passes.come s.comes.second_passes.ahead);
             serves = stop.second_serves s.comes;
           },

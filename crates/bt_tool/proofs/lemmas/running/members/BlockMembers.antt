@@ -1,5 +1,5 @@
 -- Lemmas on a reader of records in blocks as one of members, and on a reader of lines at its end.
-use Rattle.bt_lines.proofs.Std.{◌≡◌, ℕ, Bool, true, false, List, [], take, None, Ok, Err, refl, ap, ◌∙◌, subst, option_map, IfSome_then, suc, ◌+◌, ◌-◌, ◌≤◌, cond, ◌∷◌, ◌++◌, length, drop, Option, Some, sym, append_assoc, append-nil, length-append, arith, All, IfSome, drop-append_seam, All-append}
+use Rattle.bt_lines.proofs.Std.{◌≡◌, ℕ, Bool, true, false, List, [], take, None, Ok, Err, refl, ap, ◌∙◌, subst, option_map, IfSome_then, suc, ◌+◌, ◌-◌, ◌≤◌, ◌∷◌, ◌++◌, length, drop, Option, Some, sym, append_assoc, append-nil, length-append, arith, All, IfSome, drop-append_seam, All-append}
 use Rattle.bt_lines.specs.declared.device.Source.{Ghosts as Source}
 use Rattle.bt_lines.proofs.lemmas.reader.lines.BufferedLemmas.{none_left}
 use Rattle.bt_lines.specs.calls.Reader.{buffered_bytes, buffered_in, fault_kept as line_fault, has_ended, is_open, lines_given, DropsLines, GivesEnd, GivesFault, IsKept, MakesLine, TakenLines, TakesLines, bytes_left, held, input_of, lines_left, source_of}
@@ -18,7 +18,7 @@ use Rattle.bt_bed.specs.declared.read.batch.Batch.{Batch}
 use Rattle.bt_bed.specs.declared.read.blocks.Blocks.{Blocks}
 use Rattle.bt_tool.specs.inside.Feed.{HasTaken, ComeFirst, IsReadFor, Passes, StopsAfter}
 use Rattle.bt_tool.proofs.lemmas.running.members.MemberLemmas.{IsFilled, IsOver, IsStopped, members_low}
-use Rattle.bt_tool.proofs.lemmas.running.members.PassedLemmas.{consumed_of, or_none}
+use Rattle.bt_tool.proofs.lemmas.running.members.PassedLemmas.{consumed_of}
 use Rattle.bt_lines.proofs.lemmas.reader.lines.TakingLemmas.{hands_both, sound_near, is_prefix, near_next}
 use Rattle.bt_lines.specs.model.Fault.{FaultValue}
 use Rattle.bt_lines.specs.model.Lines.{AreNumbered, TextLine}
@@ -29,7 +29,7 @@ use Rattle.bt_lines.specs.declared.fault.Kind.TheVariants.{TextBeforeHeader}
 use Rattle.bt_bed.proofs.lemmas.read.good.ReadingLemmas.{near_pass, drops_pass, left_numbered, some_bytes, Going, going_end, going_start, going_unread}
 use Rattle.bt_bed.specs.model.Good.{Good, Member, good_from}
 use Rattle.bt_seq.specs.calls.MaskStage.{SayEach}
-use Rattle.bt_seq.specs.model.Masked.{Reached, SequenceLine, is_header, line_says, may_stand, sequence_format}
+use Rattle.bt_seq.specs.model.Masked.{Reached, SequenceLine, line_says, sequence_format}
 use Rattle.bt_tool.specs.inside.MaskLoop.{line_members}
 use Rattle.bt_tool.proofs.lemmas.running.feed.WritingLemmas.{lines_on, up_to}
 
@@ -41,7 +41,7 @@ none_over reader e = grind (arith, none_left)
 -- a reader of records without a fault has a reader of lines without one
 pub blocks_going : {S : Type 0} (records : Blocks S) → fault_kept records ≡ None → line_fault (below records) ≡ None
 unfolding view_of view_with
-blocks_going records e = or_none (option_map fault_value records.sorted.fault) (line_fault records.sorted.reader) e
+blocks_going records e = grind arith
 
 -- what was consumed of a batch is what was taken
 pub blocks_given : {S : Type 0} (records : Blocks S) (first last : Batch) (taken : List Feature) (consumed : Consumed) → Lends records first → PassesBatch first taken last → IsWhere last consumed → take (count_in records consumed) (records_in records) ≡ taken
@@ -74,12 +74,8 @@ blocks_taken device now new count records are comes takes = grind (arith, consum
 
 -- Lemmas on a reader of lines as one of lines of sequences.
 
--- what is wrong with a line is the text before the first header
-wrong_by : (header stands : Bool) (one two : SequenceLine) (kind : Kind) → cond header (Ok (Some one)) (cond stands (Ok (Some two)) (Err TextBeforeHeader)) ≡ Err kind → kind ≡ TextBeforeHeader
-wrong_by header stands one two kind e = grind arith
-
 pub wrong_is_text : (full : Bool) (reached : Reached) (line : TextLine) (kind : Kind) → line_says full reached line ≡ Err kind → kind ≡ TextBeforeHeader
-wrong_is_text full reached line kind e = wrong_by (is_header line.text) (may_stand reached.names line.text) _ _ kind e
+wrong_is_text full reached line kind e = grind arith
 
 -- ---- lines that each say a line of a sequence
 
@@ -194,7 +190,7 @@ module _ {S : Type 0} (device : Source S) (full : Bool) where
       good_then = grind (arith, good_lines, left_numbered, say_known, still_unknown, good_said)
 
       pub has_taken : HasTaken device (known_members reached items lines) items (line_members full reached_then new)
-      has_taken = grind (arith, append-nil, say_said, good_then)
+      has_taken = grind (arith, append-nil, say_said, good_lines, left_numbered, say_known, still_unknown, good_said)
 
       -- they were known to come
       pub passes_known : (old : MemberReader S SequenceLine Reached) (past : List (Member SequenceLine)) → Passes device old past (line_members full reached lines) → Passes device old past (known_members reached items lines)
@@ -223,9 +219,6 @@ module _ {S : Type 0} (device : Source S) (full : Bool) where
 
     abbrev count : ℕ
     count = lines_given lines + length items
-
-    number_is : line.number ≡ suc count
-    number_is = omega (arith, number_by (suc (lines_given lines)) before numbered, say_count full reached before items say)
 
     given_is : lines_given new ≡ suc count
     given_is = omega (arith, takes.given, are.given, length-append before (line ∷ []), say_count full reached before items say)
@@ -269,7 +262,7 @@ module _ {S : Type 0} (device : Source S) (full : Bool) where
 
     behind_by : (good : Option (Good SequenceLine)) → IfSome good (λ good. (good.members ≡ past ++ members) × (good.fault ≡ Some fault))
         → IfSome good (λ good. (rest : List (Member SequenceLine)) × (good.members ≡ (past ++ members) ++ rest) × IsBeyond count (record { members = rest; fault = good.fault }))
-    behind_by good w = grind (arith, append-nil, number_is)
+    behind_by good w = grind (arith, append-nil, number_by (suc (lines_given lines)) before numbered, say_count full reached before items say)
 
     low_then : All (λ m. m.line ≤ count) (past ++ members)
     low_then =

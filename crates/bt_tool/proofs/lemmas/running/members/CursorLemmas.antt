@@ -51,9 +51,6 @@ front_fed : (texts more : List TextLine) → All IsFed (texts ++ more) → is_fe
 front_fed [] more all = refl
 front_fed (line ∷ lines) more all = grind (arith, (front_fed lines more (All-tail IsFed line (lines ++ more) all)), fed_both_by, All-head, fed_last)
 
-flat_append : (xs ys : List TextLine) → flat_map spelled (xs ++ ys) ≡ flat_map spelled xs ++ flat_map spelled ys
-flat_append xs ys = grind (arith, common_steps)
-
 -- what was consumed are `count` complete lines
 pub record Front (bytes : List ℕ) (at count : ℕ) : Type 0 where
   pub fed : is_fed (take at bytes) ≡ true
@@ -65,14 +62,14 @@ module _ (n m at : ℕ) (bytes : List ℕ) (texts : List TextLine) (fed : is_fed
   whole_at : at ≡ length (flat_map spelled texts)
   whole_at =
       let parts : bytes ≡ flat_map spelled texts ++ drop at bytes =
-      sym (whole_spelled n bytes fed) ∙ ap (flat_map spelled) left ∙ flat_append texts (whole_lines_from m (drop at bytes))
+      sym (whole_spelled n bytes fed) ∙ ap (flat_map spelled) left ∙ (grind (arith, common_steps))
       ∙ ap (λ l. flat_map spelled texts ++ l) (whole_spelled m (drop at bytes) (fed_drop at bytes fed)) in
       omega (arith, within, ap length parts, length-append (flat_map spelled texts) (drop at bytes), length-drop at bytes)
 
   whole_bytes : take at bytes ≡ flat_map spelled texts
   whole_bytes =
       let parts : bytes ≡ flat_map spelled texts ++ drop at bytes =
-      sym (whole_spelled n bytes fed) ∙ ap (flat_map spelled) left ∙ flat_append texts (whole_lines_from m (drop at bytes))
+      sym (whole_spelled n bytes fed) ∙ ap (flat_map spelled) left ∙ (grind (arith, common_steps))
       ∙ ap (λ l. flat_map spelled texts ++ l) (whole_spelled m (drop at bytes) (fed_drop at bytes fed)) in
       ap (λ k. take k bytes) whole_at ∙ ap (take (length (flat_map spelled texts))) parts ∙ take-append_seam (flat_map spelled texts) (drop at bytes)
 
@@ -128,8 +125,7 @@ module _ (n m at : ℕ) (bytes : List ℕ) (fed : is_fed bytes ≡ true) (within
   all_gone line texts left =
       let few : length (line ∷ texts ++ lines_from m text_left) ≤ 1 = omega (arith, few_lines n text, feeds_text, ap length left) in
       let alone : length texts ≡ 0 = omega (arith, few, length-append texts (lines_from m text_left)) in
-      let none : length (lines_from m text_left) ≡ 0 = omega (arith, few, length-append texts (lines_from m text_left)) in
-      let gone : lines_from m text_left ≡ [] = none_of (lines_from m text_left) none in
+      let gone : lines_from m text_left ≡ [] = none_of (lines_from m text_left) (omega (arith, few, length-append texts (lines_from m text_left))) in
       let empty : length text_left ≡ 0 = omega (arith, bytes_in-lines m text_left, ap bytes_in gone) in
       grind (arith, length-drop, length-take, take-length, count)
     where
@@ -137,11 +133,8 @@ module _ (n m at : ℕ) (bytes : List ℕ) (fed : is_fed bytes ≡ true) (within
       none_of [] e = refl
       none_of (x ∷ xs) e = absurd (omega (arith, e))
 
-      lacking : line_feeds bytes ≡ 0 → ⊥
-      lacking e = grind (arith, fed_none, lines_from-nil)
-
       count : (k : ℕ) → line_feeds bytes ≡ k → k ≡ 1
-      count zero e = absurd (lacking e)
+      count zero e = absurd (grind (arith, fed_none, lines_from-nil))
       count (suc zero) e = refl
       count (suc (suc k)) e = absurd (omega (arith, e, one))
 
@@ -241,10 +234,6 @@ pub handed_past : (failed passed : Bool) (text bytes : List ℕ) → passed ≡ 
     → handed_by failed passed text bytes ≡ record { text = take (2 ^ 63 - 1) bytes; is_cut = true }
 handed_past failed passed text bytes p = grind arith
 
--- what was consumed of known bytes is determined
-pub consumes_same : (a b : Option (List ℕ)) (bytes other text : List ℕ) → a ≡ Some text → Consumes a b bytes → Consumes a b other → bytes ≡ other
-consumes_same a b bytes other text e c d = grind (arith, append_cancel_right)
-
 -- a text is what was consumed of it and what is left
 pub consumes_parts : (a b : Option (List ℕ)) (bytes text : List ℕ) → a ≡ Some text → Consumes a b bytes
     → (rest : List ℕ) × (b ≡ Some rest) × (bytes ++ rest ≡ text)
@@ -263,7 +252,7 @@ module _ {S : Type 0} (device : Source S) (first last : S) (old new : LineReader
 
   -- the bytes that a run was handed are those that the reader took
   pub taken_by : (handed : Handed) (reads : Reads device first last handed) (bytes : List ℕ) → Hands device.left old bytes new → (reads.bytes ≡ bytes) × (length reads.bytes ≡ bytes_taken new)
-  taken_by handed reads bytes hands = grind (arith, (consumes_same (device.left first) (device.left last) reads.bytes bytes reads.text reads.known reads.consumed (consumed_by bytes hands)))
+  taken_by handed reads bytes hands = grind (arith, append_cancel_right)
 
   -- an input that worked and passed no bound was handed over completely
   pub handed_all : (handed : Handed) (reads : Reads device first last handed) → (bytes : List ℕ) × Hands device.left old bytes new
@@ -285,11 +274,10 @@ module _ {S : Type 0} (device : Source S) (first last : S) (old new : LineReader
 
   pub cut_text : (handed : Handed) (reads : Reads device first last handed) → feeds_taken old ≡ 0 → CutsOff device.left old new → CutText handed reads
   cut_text handed reads fed cut =
-      let taken = taken_by handed reads cut.bytes cut.hands in
       let parts = consumes_parts (device.left first) (device.left last) reads.bytes reads.text reads.known reads.consumed in
       let front = take (2 ^ 63 - 1) reads.bytes in
       let same : line_feeds (take (2 ^ 63 - 1 - bytes_taken old) cut.bytes) ≡ line_feeds front =
-      ap (λ n. line_feeds (take (2 ^ 63 - 1 - n) cut.bytes)) fresh ∙ ap (λ l. line_feeds (take (2 ^ 63 - 1) l)) (sym taken.0) in
+      ap (λ n. line_feeds (take (2 ^ 63 - 1 - n) cut.bytes)) fresh ∙ ap (λ l. line_feeds (take (2 ^ 63 - 1) l)) (sym (taken_by handed reads cut.bytes cut.hands).0) in
       record {
         more = drop (2 ^ 63 - 1) reads.bytes ++ parts.0;
         text = sym (append_assoc front (drop (2 ^ 63 - 1) reads.bytes) parts.0) ∙ ap (λ l. l ++ parts.0) (take-append-drop (2 ^ 63 - 1) reads.bytes) ∙ parts.2;

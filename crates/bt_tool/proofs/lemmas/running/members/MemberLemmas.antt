@@ -1,22 +1,21 @@
 -- What a reader that was filled has become.
-use Rattle.bt_lines.proofs.Std.{◌≡◌, None, IfSome_then, ℕ, suc, ◌+◌, ◌-◌, ◌≤◌, Bool, true, false, List, [], ◌∷◌, ◌++◌, length, take, drop, Option, Some, Err, refl, sym, ap, ◌∙◌, subst, append_assoc, arith, inl, inr, is_some, ◌⊎◌, All, IfSome, IsSome, option_map, drop-drop, length-append, length-drop, map-append, take-append-drop, All-append, All-nil, Ok, All-push}
+use Rattle.bt_lines.proofs.Std.{◌≡◌, None, IfSome_then, ℕ, suc, ◌+◌, ◌-◌, ◌≤◌, Bool, true, false, List, [], ◌∷◌, ◌++◌, length, take, drop, Option, Some, Err, refl, sym, ap, ◌∙◌, subst, append_assoc, arith, inl, inr, ◌⊎◌, All, IfSome, IsSome, option_map, drop-drop, length-append, length-drop, map-append, take-append-drop, All-append, All-nil, Ok, All-push, rules}
 use Rattle.bt_lines.specs.declared.device.Source.{Ghosts as Source}
 use Rattle.bt_lines.specs.model.Fault.{FaultValue, read_failed}
 use Rattle.bt_lines.specs.calls.Reader.{IsKept, fault_kept as line_fault, Hands, bytes_left, end_told, has_ended, held, left_at, source_of, input_of, lines_given, lines_left, GivesLine}
 use Rattle.bt_bed.specs.model.Good.{Member, Format, Good, ends_with, good_from}
-use Rattle.bt_bed.specs.calls.Reading.{AnswersFault, EndsMembers, GivesMember, MemberReader, IsBeyond, AreSaid, Cause, Remains, ahead_in, first_from, good_coming, members_from, state_behind, with_members, LinesPass}
+use Rattle.bt_bed.specs.calls.Reading.{AnswersFault, EndsMembers, GivesMember, MemberReader, IsBeyond, AreSaid, Cause, ahead_in, first_from, good_coming, members_from, state_behind, LinesPass}
 use Rattle.bt_lines.specs.model.Lines.{TextLine, bytes_in, lines_from}
 use Rattle.bt_lines.specs.calls.Output.{block_size}
 use Rattle.bt_lines.specs.declared.fault.Input.{Input}
 use Rattle.bt_lines.specs.declared.fault.Kind.{Kind}
 use Rattle.bt_lines.specs.declared.reader.line_reader.LineReader.{LineReader}
-use Rattle.bt_lines.specs.declared.reader.line_reader.State.{State}
 use Rattle.bt_lines.specs.inside.ReadBuffer.{unread}
 use Rattle.bt_lines.proofs.lemmas.reader.lines.TakingLemmas.{hands_none, hands_both, sound_near}
 use Rattle.bt_lines.proofs.lemmas.reader.lines.TextLemmas.{bytes_in-append}
 use Rattle.bt_tool.specs.inside.Feed.{IsFresh, AreAll, ComeFirst, HasFaultBehind, HasTaken, IsReadFor, LacksMemory, Passes, StopsAfter, member_items}
 use Rattle.bt_bed.proofs.lemmas.read.good.ReadingLemmas.{near_pass, LineCame}
-use Rattle.bt_tool.proofs.lemmas.running.feed.WritingLemmas.{begins_beyond, begins_with, come_none, cuts_both, lines_on, near_from_start, none_passed, up_to, whole_with}
+use Rattle.bt_tool.proofs.lemmas.running.feed.WritingLemmas.{begins_beyond, begins_with, cuts_both, lines_on, near_from_start, up_to}
 use Rattle.bt_tool.proofs.lemmas.running.pair.StopLemmas.{beyond_now, stops_faulty, coming_is}
 use Rattle.bt_lines.specs.calls.Line.{GivesFirst}
 
@@ -47,11 +46,6 @@ nothing_ahead reader m none is = let apart : None ≡ Some m = sym (ap (first_fr
 
 one_ahead : {A : Type 0} {ahead : Option (Member A)} {m x : Member A} → ahead ≡ Some m → ahead ≡ Some x → m ≡ x
 one_ahead e f = let both = sym e ∙ f in cc
-
--- what came first still does
-still_first : {A : Type 0} (now new : Option (Good A)) (m : Member A) → Remains now new → IfSome now (λ good. (rest : List (Member A)) × (good.members ≡ m ∷ rest))
-    → IsSome now → IfSome new (λ good. (rest : List (Member A)) × (good.members ≡ m ∷ rest))
-still_first now new m r f k = grind arith
 
 -- ---- lists of items and of members
 
@@ -84,19 +78,6 @@ members_last : {A : Type 0} (from : ℕ) (xs : List A) (a : A) → members_from 
 members_last {A} from [] a = ap (λ (n : ℕ). record { line = n; item = a } ∷ []) (let none : from ≡ from + 0 = omega arith in none)
 members_last {A} from (x ∷ xs) a = grind (arith, (members_last (suc from) xs a))
 
--- the first members were taken of what was to come
-pub come_taken : {A : Type 0} (old now next : Option (Good A)) (past taken : List (Member A)) → ComeFirst old past now
-    → option_map (with_members taken) next ≡ now → ComeFirst old (past ++ taken) next
-come_taken old now next past taken c e = grind (arith, append_assoc)
-
--- nothing of what was to come is lost
-come_same : {A : Type 0} (old now peeked : Option (Good A)) (past : List (Member A)) → ComeFirst old past now → Remains now peeked → ComeFirst old past peeked
-come_same old now peeked past c r = grind arith
-
--- what is known stays known
-pub some_map : {A B : Type 0} (f : A → B) (o : Option A) → is_some (option_map f o) ≡ is_some o
-some_map f o = grind arith
-
 coming_known : {S A State : Type 0} (left : S → Option (List ℕ)) (old new : MemberReader S A State) (bytes : List ℕ) → Hands left old.below bytes new.below
     → IsSome (good_coming left old) → IsSome (good_coming left new)
 unfolding good_coming bytes_left
@@ -126,9 +107,6 @@ lines_end old new count e d = grind arith
 come_end : {A : Type 0} (old now new : Option (Good A)) (past : List (Member A)) → ComeFirst old past now → (IsSome now → IsSome new)
     → IfSome now (λ good. good ≡ ends_with None) → IfSome new (λ good. good ≡ ends_with None) → ComeFirst old past new
 come_end old now new past c k e f = grind arith
-
-come_known : {A : Type 0} (old now : Option (Good A)) (past : List (Member A)) → ComeFirst old past now → IsSome old → IsSome now
-come_known old now past c k = grind arith
 
 -- if no line is left after those given later, there are no more than these
 no_more : (start now : Option (List TextLine)) (given later : ℕ) → given ≤ later
@@ -177,9 +155,9 @@ module _ {S A State : Type 0} (device : Source S) (old : MemberReader S A State)
     bytes = ([], hands_none device.left old.below);
     said = tt;
     state = refl;
-    come = come_none (good_coming device.left old);
+    come = grind arith;
     behind = λ k d h. absurd (omega arith);
-    lines = none_passed (lines_left device.left old.below) (lines_given old.below) fresh.none_given.0;
+    lines = grind arith;
     going = fresh.going;
     clear = clear;
     kept = record { end = fresh.sound.end; within = fresh.sound.within };
@@ -200,7 +178,7 @@ module _ {S A State : Type 0} (device : Source S) (old : MemberReader S A State)
           format = gives.stays.format ∙ g.format;
           bytes = bytes_more new gives.stays.bytes;
           said = g.said;
-          come = come_same (good_coming device.left old) (good_coming device.left now) (good_coming device.left new) past g.come gives.good;
+          come = grind arith;
           behind = up_to (lines_given now.below) (lines_given new.below) past gives.rises g.behind;
           lines = lines_on (lines_left device.left old.below) (lines_left device.left now.below) (lines_left device.left new.below) (lines_given now.below) (lines_given new.below) gives.rises g.lines gives.lines;
           state = gives.state ∙ g.state;
@@ -209,7 +187,7 @@ module _ {S A State : Type 0} (device : Source S) (old : MemberReader S A State)
           kept = fills.kept g.kept;
           served = gives.served ∙ g.served;
           ahead = λ known m is. let same : fills.m ≡ m = one_ahead gives.ahead is in subst (λ (m : Member A). IfSome (good_coming device.left new) (λ good. (rest : List (Member A)) × (good.members ≡ m ∷ rest))) same
-              (still_first (good_coming device.left now) (good_coming device.left new) fills.m gives.good gives.first (come_known (good_coming device.left old) (good_coming device.left now) past g.come known));
+              (grind arith);
           near = near_from_start (lines_left device.left old.below) (lines_left device.left now.below) (device.left (source_of new.below)) (lines_given now.below) (lines_given new.below) gives.rises g.lines gives.near;
         }
 
@@ -226,7 +204,7 @@ module _ {S A State : Type 0} (device : Source S) (old : MemberReader S A State)
           said = rw items (said_more old.format old.state (member_items past) taken g.said
               (subst (λ (f : Format A State). AreSaid f (state_behind old.format old.state (member_items past)) taken) g.format
               (subst (λ (s : State). AreSaid now.format s taken) g.state takes.said)));
-          come = come_taken (good_coming device.left old) (good_coming device.left now) (good_coming device.left new) past (members_from (suc (lines_given now.below)) taken) g.come takes.good;
+          come = grind (arith, append_assoc);
           behind = All-append (λ (m : Member A). m.line ≤ lines_given new.below) past (members_from (suc (lines_given now.below)) taken)
               (up_to (lines_given now.below) (lines_given new.below) past rises g.behind)
               (up_to (lines_given now.below + length taken) (lines_given new.below) (members_from (suc (lines_given now.below)) taken) (omega (arith, takes.given)) (members_low (lines_given now.below) taken));
@@ -243,7 +221,7 @@ module _ {S A State : Type 0} (device : Source S) (old : MemberReader S A State)
 
     -- the input has ended
     pub passes_all : (new : MemberReader S A State) → IsOver device now new → AreAll device old past
-    passes_all new ended = whole_with (good_coming device.left old) (good_coming device.left now) past None g.come ended.ends.none_left
+    passes_all new ended = search rules
 
     pub passes_end : (new : MemberReader S A State) → IsOver device now new → Passes device old past new
     passes_end new ended = record {
@@ -269,16 +247,13 @@ module _ {S A State : Type 0} (device : Source S) (old : MemberReader S A State)
     pub fails_before_end : (new : MemberReader S A State) (fault : FaultValue) → IsStopped device now fault new → (input : Input) (line : ℕ) → fault ≡ read_failed input line → end_told now.below ≡ false
     fails_before_end new fault stopped input line e = grind arith
 
-    same_input : input_of now.below ≡ input_of old.below
-    same_input = g.bytes.1.same_input
-
     module _ (kinds : Kind → Type 0) (of_format : (state : State) (line : TextLine) (kind : Kind) → old.format.says state line ≡ Err kind → kinds kind) where
       cause_of : (new : MemberReader S A State) (fault : FaultValue) → IsKept device new.below → AnswersFault device now fault new
           → Cause device now fault new
           → HasFaultBehind device old kinds past fault new ⊎ LacksMemory device old fault new
-      cause_of new fault kept answers (inl at) = grind (arith, (whole_with (good_coming device.left old) (good_coming device.left now) past (Some fault) g.come at.none_left))
+      cause_of new fault kept answers (inl at) = grind (arith, rules)
       cause_of new fault kept answers (inr (inl unread)) = inl (inr (record {
-        is = unread.fails.is ∙ ap (λ input. read_failed input (suc (lines_given new.below))) same_input;
+        is = unread.fails.is ∙ ap (λ input. read_failed input (suc (lines_given new.below))) (g.bytes.1.same_input);
         kept = answers.kept;
         cause = unread.fails.cause;
         cut = cuts_both device.left old.below now.below new.below g.bytes.0 g.bytes.1 unread.fails.before_end (g.kept.within g.clear) (unread.fails.cut g.kept);
@@ -383,7 +358,7 @@ module _ {A State : Type 0} (format : Format A State) (input : Input) (state : S
   come_some : (old : Option (Good A)) (a b : Option (List TextLine)) (line : TextLine) (item : A) (past : List (Member A)) → ComeFirst old past (option_map (good_from format input state) a) → GivesFirst a line b
       → format.says state line ≡ Ok (Some item) → ComeFirst old (past ++ record { line = line.number; item = item } ∷ []) (option_map (good_from format input (format.after state item)) b)
   unfolding good_from
-  come_some old a b line item past c g e = grind (arith, come_taken)
+  come_some old a b line item past c g e = grind (arith, append_assoc)
 
 module _ {S A State : Type 0} (device : Source S) (old now : MemberReader S A State) (past : List (Member A)) (g : Passes device old past now) (new : MemberReader S A State) (line : TextLine)
     (gives : GivesLine device now.below line new.below) (kept : IsKept device now.below → IsKept device new.below) (format : new.format ≡ now.format) (none : new.buffered ≡ []) (going : new.fault ≡ None) where
@@ -429,7 +404,7 @@ module _ {S A State : Type 0} (device : Source S) (old now : MemberReader S A St
 
   -- the line says no member
   pub passes_none : now.format.says now.state line ≡ Ok None → new.state ≡ now.state → Passes device old past new
-  passes_none says same = grind (arith, passes_with, coming_after, none_comes, coming_before)
+  passes_none says same = grind (arith, passes_with, coming_is, none_comes, coming_before)
 
   -- the line says this one
   module _ (item : A) (says : now.format.says now.state line ≡ Ok (Some item)) (after : new.state ≡ now.format.after now.state item) where

@@ -1,14 +1,13 @@
 -- Lemmas on what a reader of records has consumed, in an order of the chromosomes.
 use Rattle.bt_lines.proofs.Std.{◌≡◌, ℕ, suc, ◌+◌, ◌<◌, true, false, List, [], ◌∷◌, ◌++◌, length, take, Option, None, Some, Ok, Err, refl, sym, ap, ◌∙◌, subst, append_assoc, append-nil, arith, IfSome, IsTrue, option_map, ForSome, append_cancel_left, map-append, All-push}
 use Rattle.bt_lines.specs.declared.device.Source.{Ghosts as Source}
-use Rattle.bt_lines.specs.model.Fault.{FaultValue}
 use Rattle.bt_lines.specs.calls.Names.{fault_value}
 use Rattle.bt_lines.specs.calls.Reader.{HasRead, fault_kept as line_fault, lines_given}
 use Rattle.bt_lines.proofs.lemmas.reader.block.ReadsLemmas.{counts_none}
 use Rattle.bt_lines.specs.declared.fault.Fault.{Fault}
 use Rattle.bt_bed.specs.model.Feature.{Feature, interval_of, intervals_of, Interval, last_of}
 use Rattle.bt_bed.specs.calls.SortedReader.{view_with}
-use Rattle.bt_bed.specs.model.Good.{Good, Member, or_else, bed_format, locus_at}
+use Rattle.bt_bed.specs.model.Good.{Good, Member, bed_format, locus_at}
 use Rattle.bt_bed.specs.model.Sorted.{IsUpTo, Locus, locus_of, sorting_of}
 use Rattle.bt_bed.specs.model.Order.{IsTotal, Order}
 use Rattle.bt_bed.specs.calls.Reading.{AreSaid, BeginsComing, MemberReader, Takes, first_from, good_coming, members_from, with_members}
@@ -20,13 +19,10 @@ use Rattle.bt_bed.proofs.lemmas.order.OrderLemmas.{last_of-push, grows_placed}
 use Rattle.bt_tool.specs.inside.Feed.{AreInOrder, HasTaken}
 use Rattle.bt_tool.proofs.lemmas.running.members.MemberLemmas.{IsFilled, IsOver, IsStopped}
 
-pub or_none : (a b : Option FaultValue) → or_else a b ≡ None → b ≡ None
-or_none a b e = grind arith
-
 -- a reader of records without a fault has a reader of lines without one
 pub line_going : {S O : Type 0} {ghosts : Ghosts O} (records : Records S O ghosts) → fault_kept records ≡ None → line_fault (below records) ≡ None
 unfolding view_of view_with
-line_going records e = or_none (option_map fault_value records.sorted.fault) (line_fault records.sorted.reader) e
+line_going records e = grind arith
 
 -- ---- what is buffered comes next
 

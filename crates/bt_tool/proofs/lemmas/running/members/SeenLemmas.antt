@@ -1,5 +1,5 @@
 -- Lemmas on the members that were seen and on the lines that were put, when a run stops.
-use Rattle.bt_lines.proofs.Std.{arith, ◌≡◌, ℕ, List, [], ◌++◌, Option, sym, ap, ◌∙◌, append-nil, append_assoc, option_to_list, IfSome, IsSome, option_map, map-append, IfSome_then}
+use Rattle.bt_lines.proofs.Std.{arith, ◌≡◌, ℕ, List, [], ◌++◌, Option, sym, ap, ◌∙◌, append-nil, append_assoc, IfSome, IsSome, map-append, IfSome_then}
 use Rattle.bt_lines.specs.model.Fault.{FaultValue}
 use Rattle.bt_lines.specs.calls.Output.{Output, FailsToAdd}
 use Rattle.bt_bed.specs.model.Good.{Good, Member, items_in}
@@ -22,10 +22,6 @@ items_first good written extra b = IfSome_then good b (λ good b. (extra ++ b.0,
 -- what holds if a value is known
 pub if_known : {T : Type 0} (o : Option T) (P : Type 0) → (IsSome o → P) → IfSome o (λ x. P)
 if_known o P h = grind arith
-
--- the records seen are those that were consumed and the one ahead
-pub seen_items : {A : Type 0} (past : List (Member A)) (o : Option (Member A)) → member_items (past ++ option_to_list o) ≡ member_items past ++ option_to_list (option_map (λ m. m.item) o)
-seen_items past o = grind (arith, map-append)
 
 -- the first of these lines were put
 pub record PutsFront (old : Output) (lines : List ℕ) (new : Output) : Type 0 where

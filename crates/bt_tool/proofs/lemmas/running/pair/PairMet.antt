@@ -7,7 +7,7 @@ use Rattle.bt_tool.specs.inside.Pair.{JoinDef, MayCome, Pair, Serves, PairEnds, 
 use Rattle.bt_lines.specs.declared.device.Source.{Ghosts as Source}
 use Rattle.bt_lines.proofs.lemmas.reader.block.ReadsLemmas.{some_is}
 use Rattle.bt_lines.specs.model.Lines.{Handed, whole_text, TextLine, text_lines}
-use Rattle.bt_lines.specs.calls.Output.{Output, IsPrefixOf, block_size}
+use Rattle.bt_lines.specs.calls.Output.{Output, block_size}
 use Rattle.bt_lines.specs.calls.Reader.{input_of, lines_given, source_of}
 use Rattle.bt_lines.specs.declared.fault.Input.TheVariants.{First, Second}
 use Rattle.bt_bed.specs.calls.Reading.{IsBeyond, MemberReader, good_coming}
@@ -97,21 +97,12 @@ module _ {Y : Type 0} where
   front_in [] (r ∷ rest) (m ∷ seen) more count e low high = grind (arith, All-head)
   front_in (p ∷ past) rest (m ∷ seen) more count e low high = grind (arith, (front_in past rest seen more count (cc) (All-tail (λ (m : Member Y). m.line ≤ count) m seen low) high))
 
-  pub may_come : (good : Option (Good Y)) (seen : List (Member Y)) (ended : Bool) → IfSome good (λ good. (rest : List (Member Y)) × (good.members ≡ seen ++ rest))
-      → (ended ≡ true → IfSome good (λ good. (good.members ≡ seen) × (good.fault ≡ None)))
-      → IfSome good (λ good. MayCome (member_items seen) ended (items_in good) good.fault)
-  may_come good seen ended b all = grind (arith, map-append)
-
   good_is : (good : Good Y) (members : List (Member Y)) (fault : Option FaultValue) → good.members ≡ members → good.fault ≡ fault → good ≡ record { members = members; fault = fault }
   good_is good members fault e f = ap (λ ms. record { members = ms; fault = good.fault }) e ∙ ap (λ (o : Option FaultValue). record { members = members; fault = o }) f
 
   -- the members that were seen of a second input come first, and are all if it has ended
   abbrev Sees : List (Member Y) → Bool → Good Y → Type 0
   Sees seen ended good = ((rest : List (Member Y)) × (good.members ≡ seen ++ rest)) × (ended ≡ true → (good.members ≡ seen) × (good.fault ≡ None))
-
-  sees_by : (good : Option (Good Y)) (seen : List (Member Y)) (ended : Bool) → IfSome good (λ good. (rest : List (Member Y)) × (good.members ≡ seen ++ rest))
-      → (ended ≡ true → IfSome good (λ good. (good.members ≡ seen) × (good.fault ≡ None))) → IfSome good (Sees seen ended)
-  sees_by good seen ended b all = grind arith
 
   -- the members seen are among those that came before a failed read
   pub seen_in : (good : Option (Good Y)) (past seen : List (Member Y)) (count : ℕ) → IsSome good
@@ -120,9 +111,6 @@ module _ {Y : Type 0} where
       → (k : List (Member Y)) × (past ≡ seen ++ k)
   seen_in None past seen count k f b low = absurd (false≢true k)
   seen_in (Some good) past seen count k f b low = front_in past f.0 seen b.0 count (sym f.1 ∙ b.1) low f.2.members
-
-pub from_known : {T : Type 0} (o : Option T) (P : Type 0) → IsSome o → IfSome o (λ x. P) → P
-from_known o P k h = grind arith
 
 module _ {A B X Y U V : Type 0} (join : JoinDef X Y) (pair : Pair A B X Y U V) (out : Output)
     (first_format : Format X U) (second_format : Format Y V) (in_order : (two : Handed) → join.InOrder (items_in (good_handed second_format Second two))) (limits : AreLimits join)
@@ -150,13 +138,13 @@ module _ {A B X Y U V : Type 0} (join : JoinDef X Y) (pair : Pair A B X Y U V) (
 
   -- what the second input may have
   second_may : IfSome (good_coming pair.source_b.left pair.second) MayBe
-  second_may = may_come (good_coming pair.source_b.left pair.second) w.wrote.seen w.wrote.ended w.wrote.second_begins w.wrote.second_all
+  second_may = grind (arith, map-append)
 
   abbrev SeesTwo : Good Y → Type 0
   SeesTwo = Sees w.wrote.seen w.wrote.ended
 
   second_sees : IfSome (good_coming pair.source_b.left pair.second) SeesTwo
-  second_sees = sees_by (good_coming pair.source_b.left pair.second) w.wrote.seen w.wrote.ended w.wrote.second_begins w.wrote.second_all
+  second_sees = grind arith
 
   abbrev Begins : Good X → Type 0
   Begins good = (rest : List X) × (items_in good ≡ w.wrote.given ++ rest)
@@ -197,21 +185,16 @@ module _ {A B X Y U V : Type 0} (join : JoinDef X Y) (pair : Pair A B X Y U V) (
 
     decided_all : w.wrote.ended ≡ false → firsts ≡ w.written → join.InOrder (member_items seen_all) → list_all (λ x. join.decided x (member_items seen_all)) firsts ≡ true
     decided_all e all ordered =
-        let seen_is : member_items w.wrote.seen ≡ member_items seen_all = ap member_items w.wrote.sees in
         let may : MayCome (member_items w.wrote.seen) w.wrote.ended (member_items seen_all) (Some no_memory) = record {
-          begins = ([], sym seen_is ∙ sym (append-nil (member_items w.wrote.seen)));
+          begins = ([], sym (ap member_items w.wrote.sees) ∙ sym (append-nil (member_items w.wrote.seen)));
           all = λ t. absurd (false≢true (sym e ∙ t));
         } in
         ap (list_all (λ x. join.decided x (member_items seen_all))) all ∙ ((w.wrote.settles known).whatever (member_items seen_all) (Some no_memory) ordered may).0
 
-    free_by : (b : Bool) → w.wrote.ended ≡ b → firsts ≡ w.written → join.InOrder (items_in second_good) → (rest : List (Member Y)) → second_good.members ≡ w.wrote.seen ++ rest
-        → (w.wrote.ended ≡ true → second_good.members ≡ w.wrote.seen) → join.limited firsts second_good ≡ second_good
-    free_by b e all ordered rest begins ends = grind (arith, whole_at, decided_all)
-
     -- if all of the first is written, the limit changes nothing
     free : firsts ≡ w.written → join.InOrder (items_in second_good) → (rest : List (Member Y)) → second_good.members ≡ w.wrote.seen ++ rest
         → (w.wrote.ended ≡ true → second_good.members ≡ w.wrote.seen) → join.limited firsts second_good ≡ second_good
-    free all ordered rest begins ends = free_by w.wrote.ended refl all ordered rest begins ends
+    free all ordered rest begins ends = grind (arith, whole_at, decided_all)
 
   first_whole : (other : Option FaultValue) (one : Handed) → CameOne other one → Serves pair.source_a.has_failed pair.first first → (P : Good X → Type 0) → IfSome (good_coming pair.source_a.left pair.first) P → P (good_one one)
   first_whole other one came serves =
@@ -223,9 +206,6 @@ module _ {A B X Y U V : Type 0} (join : JoinDef X Y) (pair : Pair A B X Y U V) (
 
   known_by : (two : List ℕ) → pair.source_b.left two_before ≡ Some two → IsSome (good_coming pair.source_b.left pair.second)
   known_by two e = is_known pair.source_b second_format Second two_before pair.second begins_second second two_after ended_second two e
-
-  known_two : (other : Option FaultValue) (two : Handed) → CameTwo other two → IsSome (good_coming pair.source_b.left pair.second)
-  known_two other two came = grind arith
 
   here_by : (one two : Handed) → IsSome (good_coming pair.source_b.left pair.second) → MayBe (limit one two) → HereAs join (limit one two) w.written w.bytes
   here_by one two known may = (w.wrote.settles known).whatever (items_in (limit one two)) (limit one two).fault (limits.ordered (items_in (good_one one)) (good_two two) (in_order two)) may
@@ -248,7 +228,7 @@ module _ {A B X Y U V : Type 0} (join : JoinDef X Y) (pair : Pair A B X Y U V) (
             (is.0, is.1, second_whole (Some other) two came serves MayBe second_may, sees.0, λ e. (sees.1 e).0)
         | inr unread ↦
             let is = came_cut pair.source_b second_format Second two_before pair.second begins_second second two_after ended_second past other two came unread in
-            let k = seen_in (good_coming pair.source_b.left pair.second) past w.wrote.seen (lines_given second.below) (known_two (Some other) two came) unread.members w.wrote.second_begins (w.wrote.low (subst IsSome (sym unread.kept) refl)) in
+            let k = seen_in (good_coming pair.source_b.left pair.second) past w.wrote.seen (lines_given second.below) (grind arith) unread.members w.wrote.second_begins (w.wrote.low (subst IsSome (sym unread.kept) refl)) in
             let may : MayCome (member_items w.wrote.seen) w.wrote.ended (member_items past) (Some other) = record {
               begins = (member_items k.0, ap member_items k.1 ∙ map-append (λ m. m.item) w.wrote.seen k.0);
               all = λ e. absurd (fails.before_end e (input_of pair.second.below) (suc (lines_given second.below)) unread.is);
@@ -264,7 +244,7 @@ module _ {A B X Y U V : Type 0} (join : JoinDef X Y) (pair : Pair A B X Y U V) (
   -- the inputs tell the end
   module _ (one two : Handed) (came : CameOne fault one) (came_second : CameTwo fault two) where
     known_now : IsSome (good_coming pair.source_b.left pair.second)
-    known_now = known_two fault two came_second
+    known_now = grind arith
 
     abbrev MeetsHere : Type 0
     MeetsHere = MeetsAs join (good_one one) (limit one two) w.bytes fault
@@ -287,7 +267,7 @@ module _ {A B X Y U V : Type 0} (join : JoinDef X Y) (pair : Pair A B X Y U V) (
         let undecided_by : join.decided stops.waiting (items_in (limit one two)) ≡ false =
         ap (λ (g : Good Y). join.decided stops.waiting (items_in g)) same
         ∙ ap (λ ms. join.decided stops.waiting (member_items ms)) says.0
-        ∙ from_known (good_coming pair.source_b.left pair.second) (join.decided stops.waiting (member_items stops.past) ≡ false) known_now stops.undecided in
+        ∙ (grind arith) in
         let told : (limit one two).fault ≡ Some other = ap (λ (g : Good Y). g.fault) same ∙ says.1 in
         let met = meets_stop join (good_one one) (limit one two) w.written w.bytes (here_by one two known_now (subst MayBe (sym same) says.2)) stops.waiting waits.0 other waits.1 told undecided_by in
         (met.0, met.1 ∙ sym is)
@@ -396,18 +376,11 @@ module _ {A B X Y U V : Type 0} (join : JoinDef X Y) (pair : Pair A B X Y U V) (
   named_by told e (inr (inl ran)) = inr (inr (some_is told no_memory (sym e ∙ ran.0)))
   named_by told e (inr (inr cut)) = inr (inl (some_is told write_failed (sym e ∙ cut.0), cut.1.sink_failed))
 
-  served_by : fault ≡ None → Because
-      → ((pair.source_a.has_failed one_after ≡ pair.source_a.has_failed one_before) × (pair.source_b.has_failed two_after ≡ pair.source_b.has_failed two_before)) × (grown.sink_has_failed ≡ out.sink_has_failed)
-  served_by e why = grind arith
-
   whole_by : (one two : Handed) (before : List ℕ) → CameOne fault one → CameTwo fault two → out.put ≡ Some before
       → fault ≢ Some write_failed → fault ≢ Some no_memory → Because → IsReported (met_report (met_by join (good_one one) (good_two two))) before fault grown
   whole_by one two before came came_second put write memory (inl (end, puts, works)) = reported one two came came_second before put end puts
   whole_by one two before came came_second put write memory (inr (inl ran)) = absurd (memory ran.0)
   whole_by one two before came came_second put write memory (inr (inr cut)) = absurd (write cut.0)
-
-  cut_by : fault ≡ Some write_failed → (before : List ℕ) → out.put ≡ Some before → Because → IsPrefixOf grown.took (Some (before ++ w.bytes)) []
-  cut_by is before put p1 = grind arith
 
   kept_by : fault ≢ Some write_failed → Because → PutsFront out w.bytes grown
   kept_by other p1 = grind (arith, puts_front)
@@ -436,13 +409,13 @@ module _ {A B X Y U V : Type 0} (join : JoinDef X Y) (pair : Pair A B X Y U V) (
           (inr (is_whole pair.source_b two_before two_after fault (or_empty two) (held_if pair.source_b two_before two others) is)) put is.no_write is.no_growth w.why;
       cut = λ is one two before holds others put.
           let more = front_of one (or_empty two) holds (held_if pair.source_b two_before two others) in
-          (w.bytes, more.0, more.1, cut_by is before put w.why);
+          (w.bytes, more.0, more.1, grind arith);
       kept = λ other one two before holds others put.
           let more = front_of one (or_empty two) holds (held_if pair.source_b two_before two others) in
           let part = kept_by other w.why in
           (part.front, part.rest ++ more.0, more.1 ∙ ap (λ l. l ++ more.0) part.parts ∙ append_assoc part.front part.rest more.0, part.puts before put);
       grows = w.wrote.grows;
-      served = λ e. served_by e w.why;
+      served = λ e. grind arith;
       near = λ one two before taken holds others put took.
           let held = held_if pair.source_b two_before two others in
           rw (holds.is, held.is) (near holds.text held.text before taken holds.known held.known put took);

@@ -1,5 +1,5 @@
 -- Lemmas on how far two inputs were read beside what was written.
-use Rattle.bt_lines.proofs.Std.{common_steps, ◌≡◌, ℕ, zero, suc, ◌+◌, ◌-◌, ◌<◌, ◌≤◌, Bool, true, false, not, List, [], ◌∷◌, ◌++◌, take, drop, Option, None, Some, Result, Ok, Err, refl, sym, ap, ◌∙◌, subst, arith, flat_map, inl, inr, ◌⊎◌, ◌&&◌, ◌||◌, All, IfSome, IsSome, if◌then◌else◌, length, Consumes, list_all, list_any, false≢true, map-append, take-append-drop, All-head, All-tail, append-nil, append_cancel_left}
+use Rattle.bt_lines.proofs.Std.{common_steps, ◌≡◌, ℕ, zero, suc, ◌+◌, ◌-◌, ◌<◌, ◌≤◌, Bool, true, false, not, List, [], ◌∷◌, ◌++◌, take, drop, Option, None, Some, Result, Ok, Err, refl, sym, ap, ◌∙◌, subst, arith, flat_map, inl, inr, ◌⊎◌, ◌&&◌, ◌||◌, All, IfSome, IsSome, if◌then◌else◌, Consumes, list_all, list_any, false≢true, map-append, take-append-drop, All-head, All-tail, append-nil, append_cancel_left}
 use Rattle.bt_lines.specs.model.Lines.{Handed, whole_text, AreNumbered, TextLine, bytes_in, text_lines}
 use Rattle.bt_lines.specs.model.Fault.{FaultValue}
 use Rattle.bt_lines.specs.calls.Output.{Output, block_size}
@@ -16,12 +16,10 @@ use Rattle.bt_tool.specs.model.Written.{bytes_up_to}
 use Rattle.bt_tool.specs.calls.Run.{IsFaultButWrite, IsWithin, ReadsNoFurther}
 use Rattle.bt_tool.specs.inside.Feed.{TookButBlock, member_items, ConsumesGiven, HasTaken}
 use Rattle.bt_tool.specs.model.Report.{HandsUpTo}
-use Rattle.bt_tool.specs.inside.Pair.{HasNoMore, JoinDef, MayCome, Pair, AsksFor, PairEnds, StaysNear, item_ahead}
+use Rattle.bt_tool.specs.inside.Pair.{HasNoMore, JoinDef, MayCome, Pair, AsksFor, PairEnds, StaysNear}
 use Rattle.bt_tool.proofs.lemmas.running.members.CursorLemmas.{BeginsAt, at_whole, good_whole, handed_to, is_known}
-use Rattle.bt_tool.proofs.lemmas.running.pair.PairMet.{may_come}
 use Rattle.bt_lines.specs.declared.device.Source.{Ghosts as Source}
-use Rattle.bt_bed.specs.calls.Batch.{IsWhere, Passes, batch_room, cursor_in, left as left_in, line_in}
-use Rattle.bt_bed.specs.calls.CursorOf.{batch_cursor}
+use Rattle.bt_bed.specs.calls.Batch.{IsWhere, Passes, cursor_in, left as left_in, line_in}
 use Rattle.bt_bed.specs.calls.SortedReader.{view_with}
 use Rattle.bt_bed.specs.calls.Records.{IsTaken, Lends, TakesRecords, below, buffered_in, count_in, view_of}
 use Rattle.bt_bed.specs.declared.read.batch.Batch.{Batch}
@@ -29,7 +27,6 @@ use Rattle.bt_bed.specs.declared.read.batch.Consumed.{Consumed}
 use Rattle.bt_bed.specs.declared.order.ChromOrder.{Ghosts}
 use Rattle.bt_bed.specs.declared.read.records.Records.{Records}
 use Rattle.bt_bed.proofs.lemmas.read.good.SaidRuns.{taken_are, token_is}
-use Rattle.bt_sweep.specs.calls.Sweeping.{ComesNext}
 use Rattle.bt_tool.proofs.lemmas.running.members.PassedLemmas.{has_taken}
 
 module _ {A State : Type 0} (format : Format A State) (input : Input) where
@@ -70,9 +67,6 @@ open_by b any all e h = grind arith
 pub not_all : {X : Type 0} (test : X → Bool) (xs : List X) → list_any (λ x. not (test x)) xs ≡ true → list_all test xs ≡ false
 not_all test [] e = absurd (false≢true e)
 not_all test (x ∷ xs) e = open_by (test x) (list_any (λ x. not (test x)) xs) (list_all test xs) e (not_all test xs)
-
-pub skip_by : {A : Type 0} (b : Bool) (m : A) (o : Option A) → b ≡ false → (if b then Some m else o) ≡ o
-skip_by b m o e = grind arith
 
 pub least_by : (b : Bool) (m : Member Feature) (o : Option (Member Feature)) (lines : List TextLine) (count : ℕ) → count < m.line → bytes_in (take (suc count) lines) ≤ bytes_up_to lines o
     → bytes_in (take (suc count) lines) ≤ bytes_up_to lines (if b then Some m else o)
@@ -121,10 +115,6 @@ module _ {A B X Y U V : Type 0} (join : JoinDef X Y) (pair : Pair A B X Y U V) (
     of_two : (P : Good Y → Type 0) → IfSome (good_coming pair.source_b.left pair.second) P → P good_two
     of_two P h = at_whole pair.source_b second_format Second two_before pair.second begins_second second two_after ended_second two f P h
 
-    -- the members on the first lines
-    on_lines : items_on (take count (text_lines one)) ≡ near.written
-    on_lines = grind (arith, first_from, (lines_are_numbered 1 one))
-
     -- those that were given are on them and the next
     given_on : (extra : List (Member X)) × (items_on (take (suc count) (text_lines one)) ≡ member_items near.given_first ++ member_items extra)
     given_on =
@@ -136,8 +126,8 @@ module _ {A B X Y U V : Type 0} (join : JoinDef X Y) (pair : Pair A B X Y U V) (
     settled : settles (whole_text two) (take count (text_lines one)) ≡ near.bytes
     settled =
         let may = of_two (λ good. MayCome (member_items near.wrote.seen) near.wrote.ended (items_in good) good.fault)
-        (may_come (good_coming pair.source_b.left pair.second) near.wrote.seen near.wrote.ended near.wrote.second_begins near.wrote.second_all) in
-        ap (flat_map (λ x. join.bytes x (items_in good_two))) on_lines
+        (grind (arith, map-append)) in
+        ap (flat_map (λ x. join.bytes x (items_in good_two))) (grind (arith, first_from, (lines_are_numbered 1 one)))
         ∙ ((near.wrote.settles known).whatever (items_in good_two) good_two.fault (in_order (whole_text two)) may).1
 
     -- the second input was read as far as they need
@@ -173,10 +163,6 @@ module _ {A B X Y U V : Type 0} (join : JoinDef X Y) (pair : Pair A B X Y U V) (
       }
 
 -- Lemmas on what is consumed of the records that a reader has buffered, once their batch was given.
-
--- a record less is left
-pub room_falls : (old new : Batch) (b : Feature) → Passes old (b ∷ []) new → batch_room new < batch_room old
-room_falls old new b passes = omega (arith, ap length passes.left_is)
 
 module _ {S O : Type 0} {g : Ghosts O} (now : Records S O g) (batch : Batch) (lends : Lends now batch) where
   lent_is : left_in batch ≡ buffered_in now
@@ -229,6 +215,3 @@ module _ {S O : Type 0} {g : Ghosts O} (device : Source S) (old new : Records S 
   pub line_then : (b : Feature) (after : Batch) → Passes last (b ∷ []) after → line_in after ≡ suc (lines_given (below new))
   unfolding line_in cursor_in
   line_then b after next = omega (arith, next.lines.given, consumes.line_is)
-
-  pub next_then : (next : Option Feature) → ComesNext batch_cursor last next → IfSome next (λ b. item_ahead (view_of new) ≡ Some b)
-  next_then next comes = grind arith

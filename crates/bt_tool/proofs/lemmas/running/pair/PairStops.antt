@@ -18,7 +18,7 @@ use Rattle.bt_tool.proofs.lemmas.running.pair.PairTurns.{TakesFurther, settles_e
 use Rattle.bt_tool.proofs.lemmas.running.members.MemberLemmas.{IsOver, IsStopped, passes_all, passes_end, passes_stop, read_at_stop, read_here}
 use Rattle.bt_tool.proofs.lemmas.running.feed.WritingLemmas.{begins_with, up_to}
 use Rattle.bt_tool.proofs.lemmas.running.feed.FeedLemmas.{GoesOn, goes_failed, goes_same, put_more, took_later, took_lines}
-use Rattle.bt_tool.proofs.lemmas.running.members.SeenLemmas.{cuts_more, if_known, items_begin, items_first, seen_items}
+use Rattle.bt_tool.proofs.lemmas.running.members.SeenLemmas.{cuts_more, if_known, items_begin, items_first}
 
 begins_more : {A : Type 0} (old : Good A) (now : Option (Good A)) (past : List (Member A)) (m : Member A) → ComeFirst (Some old) past now → IfSome now (λ good. (rest : List (Member A)) × (good.members ≡ m ∷ rest))
     → (rest : List (Member A)) × (old.members ≡ (past ++ m ∷ []) ++ rest)
@@ -36,10 +36,6 @@ seen_begins left (Some good) now past (Some m) e come first = begins_more good (
 -- if nothing is buffered, the members seen are on the lines given
 seen_low : {S A State : Type 0} (past : List (Member A)) (now : MemberReader S A State) (count : ℕ) → ahead_in now ≡ None → All (λ m. m.line ≤ count) past → All (λ m. m.line ≤ count) (past ++ option_to_list (ahead_in now))
 seen_low {S} {A} {State} past now count none low = subst (λ (l : List (Member A)). All (λ m. m.line ≤ count) l) (sym (ap (λ (o : Option (Member A)). past ++ option_to_list o) none ∙ append-nil past)) low
-
--- nothing more was taken
-takes_none : {S A State : Type 0} (device : Source S) (old : MemberReader S A State) (past : List (Member A)) (now : MemberReader S A State) → Passes device old past now → TakesFurther device old past [] now now
-takes_none device old past now p = grind (arith, append-nil, none_pushed)
 
 -- the good members of an input begin with some items
 abbrev BeginsWith : {S A State : Type 0} → Source S → MemberReader S A State → List A → Type 0
@@ -66,7 +62,7 @@ wrote_by : {A B X Y U V : Type 0} {join : JoinDef X Y} {pair : Pair A B X Y U V}
 wrote_by {Y} {join} {pair} {past} {now} {written} {bytes} p low handed first_bytes ended settles begins all grows given given_begin fits = record {
   seen = past ++ option_to_list (ahead_in now);
   ended = ended;
-  settles = λ known. subst (λ (l : List Y). SettlesPair join written bytes l ended) (sym (seen_items past (ahead_in now))) (settles known);
+  settles = λ known. subst (λ (l : List Y). SettlesPair join written bytes l ended) (sym (grind (arith, map-append))) (settles known);
   first_begins = begins;
   second_begins = seen_begins pair.source_b.left (good_coming pair.source_b.left pair.second) now past (ahead_in now) refl p.come p.ahead;
   low = low;
@@ -154,10 +150,6 @@ module _ {A B X Y U V : Type 0} {join : JoinDef X Y} {pair : Pair A B X Y U V} {
   ended_now : stage.second_ended ≡ true → AreAll pair.source_b pair.second past_second × (ahead_in second ≡ None)
   ended_now e = let all = s.second_all e in (all.0, none_buffered all.1)
 
-  ended_with : (more : List (Member Y)) (second_now : MemberReader B Y V) → (stage.second_ended ≡ true → (more ≡ []) × (second_now.buffered ≡ []))
-      → stage.second_ended ≡ true → AreAll pair.source_b pair.second (past_second ++ more) × (ahead_in second_now ≡ None)
-  ended_with more second_now ended e = grind (arith, append-nil)
-
   module _ (asks : stage.first_ended ≡ false → AsksFor join pair out past_first second) (fits : IsKnown pair → join.Fits (firsts_given stage) past_second) where
     -- the bytes so far, and what was read of the inputs later
     wrote_later : (first_now : MemberReader A X U) → HandsOver pair.source_a pair.first first_now → (second_now : MemberReader B Y V)
@@ -187,7 +179,7 @@ module _ {A B X Y U V : Type 0} {join : JoinDef X Y} {pair : Pair A B X Y U V} {
     beside_if b e second_now same = grind arith
 
     beside_now : (stage.first_ended ≡ true) ⊎ AsksFor join pair out past_first second
-    beside_now = beside_if stage.first_ended refl second refl
+    beside_now = grind arith
 
     no_more : GoesOn grown grown
     no_more = goes_same grown
@@ -236,7 +228,7 @@ module _ {A B X Y U V : Type 0} {join : JoinDef X Y} {pair : Pair A B X Y U V} {
           wrote_by takes_second.passes (none_low second_now takes_second.passes.going) takes_second.passes.bytes stops.bytes stage.second_ended
           (λ known. subst (λ (l : List Y). SettlesPair join written (s.bytes ++ more) (l ++ option_to_list (item_ahead second_now)) stage.second_ended) (taken_with more_second) (settles known))
           (begins_items pair.source_a pair.first (past_first ++ more_first) written [] (sym all_written_now ∙ sym (append-nil written)) read.begins)
-          (ended_with more_second second_now ended)
+          (grind (arith, append-nil))
           put_now.grows written (begins_items pair.source_a pair.first (past_first ++ more_first) written [] (sym all_written_now ∙ sym (append-nil written)) read.begins) fits_now
 
       stops_why : Why join pair out written (s.bytes ++ more) written stage.second_ended first_now second_now (Some fault) now
@@ -277,10 +269,8 @@ module _ {A B X Y U V : Type 0} {join : JoinDef X Y} {pair : Pair A B X Y U V} {
         let stops = passes_stop pair.source_a pair.first past_first first s.first_passes join.first_kinds wrong first_now fault stopped in
         let read = read_at_stop pair.source_a pair.first past_first first s.first_passes first_now fault stopped in
         let alone : firsts_given stage ++ [] ≡ stage.written = append-nil (firsts_given stage) ∙ ap (λ (o : Option X). stage.written ++ option_to_list o) none ∙ append-nil stage.written in
-        let bytes : s.bytes ++ [] ≡ s.bytes = append-nil s.bytes in
-        let taken : stage.taken ++ [] ≡ stage.taken = append-nil stage.taken in
-        first_fails going [] [] second (takes_none pair.source_b pair.second past_second second s.second_passes) (λ e. (refl, (s.second_all e).1)) []
-        (λ known. rw (alone, bytes, taken) (s.settles known))
+        first_fails going [] [] second (grind (arith, append-nil, none_pushed)) (λ e. (refl, (s.second_all e).1)) []
+        (λ known. rw (alone, append-nil s.bytes, append-nil stage.taken) (s.settles known))
         (λ known. subst (λ (l : List X). join.Fits l (past_second ++ [])) (sym (append-nil (firsts_given stage))) (subst (λ (l : List (Member Y)). join.Fits (firsts_given stage) l) (sym (append-nil past_second)) (fits known)))
         (subst (λ (l : List (Member X)). AsksFor join pair out l second) same (asks going)) fault first_now
         (subst (λ (l : List (Member X)). StopsAfter pair.source_a pair.first join.first_kinds l fault first_now) same stops)
@@ -309,7 +299,7 @@ module _ {A B X Y U V : Type 0} {join : JoinDef X Y} {pair : Pair A B X Y U V} {
           wrote = wrote_by takes_second.passes (none_low second_now takes_second.passes.going) takes_second.passes.bytes takes.passes.bytes stage.second_ended
               (λ known. subst (λ (l : List Y). SettlesPair join written (s.bytes ++ (puts ++ more)) (l ++ option_to_list (item_ahead second_now)) stage.second_ended) (taken_with more_second) (settles known))
               (begins_items pair.source_a pair.first (past_first ++ more_first) written rest (sym all ∙ sym parts) begun)
-              (ended_with more_second second_now ended)
+              (grind (arith, append-nil))
               grows (firsts_given stage ++ member_items more_first)
               (begins_items pair.source_a pair.first (past_first ++ more_first) (firsts_given stage ++ member_items more_first) [] (sym all ∙ sym (append-nil (firsts_given stage ++ member_items more_first))) begun)
               fits_now;
@@ -326,7 +316,7 @@ module _ {A B X Y U V : Type 0} {join : JoinDef X Y} {pair : Pair A B X Y U V} {
     pub fails_waiting : (a : X) → stage.waiting ≡ Some a → (more : List ℕ) → (IsKnown pair → SettlesPair join (stage.written ++ a ∷ []) (s.bytes ++ more) (stage.taken ++ option_to_list (item_ahead second)) stage.second_ended)
         → (fault : FaultValue) (now : Output) → FailsToAdd grown more fault now → Ends (Some fault) first second now
     fails_waiting a waits more settles fault now fails =
-        fails_to_write [] [] first second (takes_none pair.source_a pair.first past_first first s.first_passes) (takes_none pair.source_b pair.second past_second second s.second_passes)
+        fails_to_write [] [] first second (grind (arith, append-nil, none_pushed)) (grind (arith, append-nil, none_pushed))
         (stage.written ++ a ∷ []) [] (ap (λ l. l ++ []) (ap (λ (o : Option X). stage.written ++ option_to_list o) (sym waits)))
         (λ known. subst (λ (l : List X). join.Fits l (past_second ++ [])) (sym (append-nil (firsts_given stage))) (subst (λ (l : List (Member Y)). join.Fits (firsts_given stage) l) (sym (append-nil past_second)) (fits known)))
         (λ e. (refl, (s.second_all e).1)) [] more

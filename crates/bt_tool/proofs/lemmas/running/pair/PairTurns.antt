@@ -10,7 +10,7 @@ use Rattle.bt_lines.specs.model.Fault.{FaultValue}
 use Rattle.bt_lines.specs.model.Lines.{bytes_in, TextLine}
 use Rattle.bt_lines.specs.calls.Output.{Output, HoldsBlock, block_size, Grown}
 use Rattle.bt_tool.proofs.lemmas.running.members.MemberLemmas.{IsFilled, IsOver, ended_after_all, items_from, passes_all, passes_end, passes_fill, passes_take, read_before, read_here, IsStopped, fails_before_end, passes_stop}
-use Rattle.bt_tool.proofs.lemmas.running.feed.FeedLemmas.{put_more, put_none}
+use Rattle.bt_tool.proofs.lemmas.running.feed.FeedLemmas.{put_more}
 use Rattle.bt_lines.specs.declared.reader.line_reader.LineReader.{LineReader}
 use Rattle.bt_lines.specs.declared.fault.Kind.{Kind}
 use Rattle.bt_lines.proofs.lemmas.reader.lines.TakingLemmas.{hands_both}
@@ -128,10 +128,6 @@ module _ {S A State : Type 0} (device : Source S) (old : MemberReader S A State)
   abbrev n : ℕ
   n = suc (lines_given now.below)
 
-  read_last : (taken xs : List A) (a : A) → taken ≡ xs ++ a ∷ [] → (new : MemberReader S A State) → HasTaken device now taken new
-      → IsReadFor device old (past ++ members_from n xs) (past ++ members_from n taken) new
-  read_last taken xs a e new has = grind (arith, read_before)
-
   pub takes_further : (taken : List A) (new : MemberReader S A State) → HasTaken device now taken new → TakesFurther device old past (members_from n taken) now new
   takes_further taken new has = record {
     passes = passes_take device old past now p taken new has;
@@ -141,7 +137,7 @@ module _ {S A State : Type 0} (device : Source S) (old : MemberReader S A State)
         let push = from_push n xs m.item in
         let fronts : before ++ m ∷ [] ≡ members_from n xs ++ push.0 ∷ [] = sym e ∙ ap (members_from n) parts ∙ push.1 in
         subst (λ (l : List (Member A)). IsReadFor device old (past ++ l) (past ++ members_from n taken) new) (sym (same_from_push before (members_from n xs) m push.0 fronts).0)
-        (read_last taken xs m.item parts new has);
+        (grind (arith, read_before));
     source = has.takes.source;
     told = has.takes.hands.told_stays;
   }
@@ -202,7 +198,7 @@ module _ {A B X Y U V : Type 0} (join : JoinDef X Y) (pair : Pair A B X Y U V) (
     settles = λ known. settles_nothing join ([] ++ option_to_list (item_ahead pair.second)) false;
     first_all = λ e. absurd (false≢true e);
     second_all = λ e. absurd (false≢true e);
-    put = put_none out block;
+    put = search rules;
     near_first = ([], refl, read_here pair.source_a pair.first [] pair.first passes, λ e. absurd (false≢true e));
   }
 
@@ -267,9 +263,6 @@ module _ {A B X Y U V : Type 0} {join : JoinDef X Y} {pair : Pair A B X Y U V} {
     none_then : stage.first_ended ≡ true → (newly ≡ []) × (new.waiting ≡ None)
     none_then e = none_new newly new.waiting (sym (unless_more (ended e).0) ∙ ap (λ (o : Option X). option_to_list o) (s.first_all e).1)
 
-    same_written : newly ≡ [] → stage.written ≡ new.written
-    same_written e = none_more stage.written newly e ∙ sym follows.written_is
-
     abbrev Near : Type 0
     Near =
         (past : List (Member X)) × (member_items past ≡ new.written)
@@ -282,7 +275,7 @@ module _ {A B X Y U V : Type 0} {join : JoinDef X Y} {pair : Pair A B X Y U V} {
     near_same none unwritten =
         let was = s.near_first in (
           was.0,
-          was.1 ∙ same_written unwritten,
+          was.1 ∙ (none_more stage.written newly unwritten ∙ sym follows.written_is),
           read_same pair.source_a pair.first was.0 past_first (past_first ++ more_first) first first_now takes.source (none_more past_first more_first none) was.2,
           λ e. let all = was.3 (sym follows.first_is ∙ e) in (ap pair.source_a.end_told takes.source ∙ all.0, all.1),
         )
@@ -340,12 +333,8 @@ module _ {A B X Y U V : Type 0} {join : JoinDef X Y} {pair : Pair A B X Y U V} {
     pub ends_first : Comes join pair out (record stage { first_ended = true }) past_first past_second first_now second grown
     ends_first = with_first true none first_now ended_passes (λ e. (passes_all pair.source_a pair.first past_first first s.first_passes first_now over, over.ends.none_buffered, over.ends.told)) (λ e. no_more_first)
 
-  -- if a member waits, the first input hasn't ended
-  waits_by : (a : X) → stage.waiting ≡ Some a → (b : Bool) → stage.first_ended ≡ b → b ≡ false
-  waits_by a waits b e = grind arith
-
   pub first_waits : (a : X) → stage.waiting ≡ Some a → stage.first_ended ≡ false
-  first_waits a waits = waits_by a waits stage.first_ended refl
+  first_waits a waits = grind arith
 
   -- if the second input ends now
   module _ (goes : stage.second_ended ≡ false) (second_now : MemberReader B Y V) (over : IsOver pair.source_b second second_now) where
@@ -367,7 +356,7 @@ module _ {A B X Y U V : Type 0} {join : JoinDef X Y} {pair : Pair A B X Y U V} {
         let more = join.bytes a stage.taken in
         let with_waiting : firsts_given stage ≡ stage.written ++ a ∷ [] = ap (λ (o : Option X). stage.written ++ option_to_list o) waits in
         ends_by now (s.bytes ++ more)
-        (λ known. subst (λ (w : List X). SettlesPair join w (s.bytes ++ more) stage.taken true) (sym with_waiting) (settles_end join stage.written s.bytes stage.taken false a (settles_ended known)))
+        (λ known. subst (λ (w : List X). SettlesPair join w (s.bytes ++ more) stage.taken true) (sym with_waiting) (settles_end join stage.written s.bytes stage.taken false a (search rules)))
         (put_more out grown now s.bytes more s.put adds) (past_first, sym s.all_given, read_here pair.source_a pair.first past_first first s.first_passes, λ e. absurd (false≢true (sym (first_waits a waits) ∙ e)))
 
     -- or none waited
@@ -376,7 +365,7 @@ module _ {A B X Y U V : Type 0} {join : JoinDef X Y} {pair : Pair A B X Y U V} {
         let all : stage.written ≡ firsts_given stage = sym (append-nil stage.written) ∙ ap (λ (o : Option X). stage.written ++ option_to_list o) (sym none) in
         let near = s.near_first in
         ends_by grown s.bytes
-        (λ known. subst (λ (w : List X). SettlesPair join w s.bytes stage.taken true) all (settles_close join stage.written s.bytes stage.taken (settles_ended known)))
+        (λ known. subst (λ (w : List X). SettlesPair join w s.bytes stage.taken true) all (settles_close join stage.written s.bytes stage.taken (search rules)))
         s.put (near.0, near.1 ∙ all, near.2, near.3)
 
 -- Lemmas on reading an input to its end, from wherever its reader is.

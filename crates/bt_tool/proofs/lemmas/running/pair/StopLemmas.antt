@@ -11,7 +11,7 @@ use Rattle.bt_lines.specs.declared.reader.line_reader.LineReader.{LineReader}
 use Rattle.bt_lines.proofs.lemmas.reader.lines.TakingLemmas.{sound_near}
 use Rattle.bt_lines.proofs.lemmas.reader.lines.TextLemmas.{lines_are_numbered}
 use Rattle.bt_bed.specs.model.Good.{Format, Good, Member, ends_with, good_from, good_with}
-use Rattle.bt_bed.specs.calls.Reading.{AreAscending, IsBeyond, IsFaultBeyond, AnswersFault, Cause, LastUnkept, LineIsWrong, LinesPass, MemberReader, SaidNothing, good_behind, good_coming}
+use Rattle.bt_bed.specs.calls.Reading.{AreAscending, IsBeyond, IsFaultBeyond, AnswersFault, LastUnkept, LineIsWrong, LinesPass, MemberReader, SaidNothing, good_behind, good_coming}
 use Rattle.bt_bed.specs.model.BedLine.{fault_at_line}
 use Rattle.bt_bed.proofs.lemmas.read.good.SaidLemmas.{ascend_from, beyond_from}
 
@@ -41,13 +41,13 @@ module _ {A State : Type 0} (format : Format A State) (input : Input) where
       fault_with count line.number state (format.says state line) (λ now. good_from format input now lines) (omega (arith, n.0))
       (λ now. fault_from count (suc number) now lines n.1 (omega arith))
 
+  -- the fault lies after every member
   last_with : (line : ℕ) (state : State) (said : Result (Option A) Kind) (rest : State → Good A)
       → ((now : State) → All (λ m. FaultBeyond m.line (rest now).fault) (rest now).members)
       → ((now : State) → FaultBeyond line (rest now).fault)
       → All (λ m. FaultBeyond m.line (good_with format input line state said rest).fault) (good_with format input line state said rest).members
   last_with line state said rest h f = grind arith
 
-  -- the fault lies after every member
   fault_comes_last : (number : ℕ) (state : State) (lines : List TextLine) → AreNumbered number lines
       → All (λ m. FaultBeyond m.line (good_from format input state lines).fault) (good_from format input state lines).members
   unfolding good_from
@@ -73,11 +73,11 @@ pub coming_is : {S A State : Type 0} (left : S → Option (List ℕ)) (reader : 
 unfolding good_coming
 coming_is left reader going = ap (λ f. option_map (good_behind reader.format (input_of reader.below) f reader.state) (lines_left left reader.below)) going
 
+-- what is still to come lies after the lines given
 beyond_known : {A State : Type 0} (format : Format A State) (input : Input) (state : State) (given : ℕ) (bytes : Option (List ℕ)) (good : Option (Good A))
     → good ≡ option_map (good_from format input state) (option_map (lines_from (suc given)) bytes) → IfSome good (IsBeyond given)
 beyond_known format input state given bytes good e = grind (arith, beyond_from, lines_are_numbered)
 
--- what is still to come lies after the lines given
 pub beyond_now : {S A State : Type 0} (left : S → Option (List ℕ)) (reader : MemberReader S A State) → reader.fault ≡ None
     → IfSome (good_coming left reader) (IsBeyond (lines_given reader.below))
 beyond_now left reader going = beyond_known reader.format (input_of reader.below) reader.state (lines_given reader.below) _ (good_coming left reader) (coming_is left reader going)
@@ -144,11 +144,7 @@ module _ {S A State : Type 0} (device : Source S) (old : MemberReader S A State)
             (answers.lines unkept.going) next unkept.going unkept.near,
       )
 
-  stops_by : (new : MemberReader S A State) (fault : FaultValue) → AnswersFault device old fault new → IsKept device new.below
-      → Cause device old fault new → (count : ℕ) × StopsBehind device.left old count new.below
-  stops_by new fault answers next p1 = grind (arith, stops_wrong, stops_out)
-
   -- at a fault
   pub stops_faulty : (new : MemberReader S A State) (fault : FaultValue) → AnswersFault device old fault new → IsKept device new.below
       → (count : ℕ) × StopsBehind device.left old count new.below
-  stops_faulty new fault answers next = stops_by new fault answers next (answers.first going)
+  stops_faulty new fault answers next = grind (arith, stops_wrong, stops_out)

@@ -1,19 +1,19 @@
 -- The facts of a sweep that its report and its reading rest on.
-use Rattle.bt_lines.proofs.Std.{◌≡◌, ap, ℕ, Option, suc, ◌<◌, ◌≤◌, not, List, [], ◌∷◌, ◌++◌, take, refl, sym, ◌∙◌, subst, ◌+◌, Bool, true, false, cond, Some, None, arith, append_assoc, append-nil, filter, length, length-append, option_to_list, ◌||◌, inl, inr, All, IsTrue, IfSome, is_some, is_none, list_all, list_any, and_from, or_left, and_parts, false≢true, le-ltb, lt-ltb, ltb-false, or_right, cases_Bool, All-head, All-tail, filter-append, list_any-append, list_all-append, map-append}
+use Rattle.bt_lines.proofs.Std.{◌≡◌, ap, ℕ, Option, suc, ◌<◌, ◌≤◌, not, List, [], ◌∷◌, ◌++◌, take, refl, sym, ◌∙◌, subst, ◌+◌, Bool, true, false, cond, Some, None, arith, append_assoc, append-nil, filter, length, length-append, option_to_list, ◌||◌, inl, inr, All, IsTrue, IfSome, is_none, list_all, list_any, and_from, or_left, and_parts, false≢true, le-ltb, lt-ltb, ltb-false, or_right, cases_Bool, All-head, All-tail, filter-append, list_any-append, list_all-append, map-append}
 use Rattle.bt_lines.specs.model.Lines.{TextLine, bytes_in}
 use Rattle.bt_bed.specs.model.Feature.{Feature, intervals_of}
 use Rattle.bt_bed.specs.model.BedLine.{fault_at_line}
 use Rattle.bt_bed.specs.model.Good.{Member, Good, items_in}
 use Rattle.bt_bed.specs.model.Order.{Order, IsTotal}
 use Rattle.bt_sweep.specs.model.Hits.{decides, decided, are_too_many, cut_behind, is_held, limited}
-use Rattle.bt_sweep.specs.calls.Sweeping.{leaves_some, SameConfig, Sweeping, Settles, AreDecided, TakenEach, has_room}
+use Rattle.bt_sweep.specs.calls.Sweeping.{leaves_some, Settles, AreDecided, TakenEach, has_room}
 use Rattle.bt_sweep.specs.declared.hits.hit_rule.HitRule.{HitRule}
 use Rattle.bt_sweep.specs.declared.output.shape.Shape.{Shape}
 use Rattle.bt_tool.specs.declared.loops.sweeping.SweepConfig.{SweepConfig}
 use Rattle.bt_tool.specs.model.Written.{bytes_up_to, decider}
 use Rattle.bt_tool.specs.inside.Feed.{member_items}
-use Rattle.bt_tool.specs.inside.SweepLoop.{config_of, sweep_join, AreWithin}
-use Rattle.bt_tool.proofs.lemmas.running.pair.PairNear.{AreNeeded, least_by, not_all, skip_by, take_whole}
+use Rattle.bt_tool.specs.inside.SweepLoop.{sweep_join, AreWithin}
+use Rattle.bt_tool.proofs.lemmas.running.pair.PairNear.{AreNeeded, least_by, not_all, take_whole}
 use Rattle.bt_lines.specs.model.Fault.{FaultValue}
 use Rattle.bt_lines.specs.declared.fault.Input.TheVariants.{Second}
 use Rattle.bt_lines.specs.declared.fault.Kind.TheVariants.{TooManyHeld}
@@ -29,16 +29,11 @@ use Rattle.bt_tool.specs.inside.Pair.{JoinDef, SettlesPair}
 use Rattle.bt_tool.proofs.lemmas.running.pair.PairTurns.{all_or, settles_list}
 use Rattle.bt_tool.proofs.lemmas.running.pair.PairTurns as turned
 
--- it goes by the same shape, rule and limit
-pub same_config : (old new : Sweeping) → SameConfig old new → config_of new ≡ config_of old
-same_config old new same = grind arith
-
 module _ (order : Order) where
   -- who leaves one of some records undecided, leaves one of more undecided
   pub leaves_more : (as_given extra taken : List Feature) → IsTrue (list_all (leaves_some order as_given) taken) → IsTrue (list_all (leaves_some order (as_given ++ extra)) taken)
   leaves_more as_given extra [] h = refl
   leaves_more as_given extra (b ∷ bs) h =
-      let here = (and_parts (leaves_some order as_given b) (list_all (leaves_some order as_given) bs) h).0 in
       let rest = (and_parts (leaves_some order as_given b) (list_all (leaves_some order as_given) bs) h).1 in
       grind (arith, (leaves_more as_given extra bs rest), and_from, list_any-append, or_left)
 
@@ -47,9 +42,8 @@ module _ (order : Order) where
       → decider order as_given (past ++ rest) ≡ decider order as_given rest
   decider_behind as_given [] rest h = refl
   decider_behind as_given (m ∷ ms) rest h =
-      let here = (and_parts (leaves_some order as_given m.item) (list_all (leaves_some order as_given) (member_items ms)) h).0 in
       let more = (and_parts (leaves_some order as_given m.item) (list_all (leaves_some order as_given) (member_items ms)) h).1 in
-      grind (arith, (decider_behind as_given ms rest more), skip_by, not_all)
+      grind (arith, (decider_behind as_given ms rest more), not_all)
 
   -- the record that decides all is after the first lines
   reaches_least : (as_given : List Feature) (rest : List (Member Feature)) (lines : List TextLine) (count : ℕ) → All (λ m. count < m.line) rest
@@ -60,9 +54,6 @@ module _ (order : Order) where
   -- what records of the first need lies after those that were taken for them
   pub sweep_needs : (config : SweepConfig) → AreNeeded (sweep_join order config)
   sweep_needs config given extra past rest lines count reached high = grind (arith, decider_behind, leaves_more, reaches_least)
-
-pub some_limit : (limit : Option ℕ) (count : ℕ) → has_room limit count ≡ false → is_some limit ≡ true
-some_limit limit count full = grind arith
 
 module _ (order : Order) where
   -- at the start
@@ -165,7 +156,7 @@ module _ (order : Order) where
 
   -- what a run owes for the limit
   pub sweep_limits : (config : SweepConfig) → AreLimits (sweep_join order config)
-  sweep_limits config = grind (arith, within_given, whole_limited, keeps_limited, done_limited, ordered_limited)
+  sweep_limits config = grind (arith, append_assoc, whole_limited, keeps_limited, done_limited, ordered_limited)
 
 -- ---- the record that waits is undecided, if the second input gives no more
 
@@ -252,8 +243,7 @@ module _ (order : Order) (total : IsTotal order) where
       let t = each.0 in
       let m : Member Feature = record { line = n; item = b } in
       let items : member_items (past ++ m ∷ []) ≡ taken ++ b ∷ [] = map-append (λ m. m.item) past (m ∷ []) ∙ ap (λ l. l ++ b ∷ []) e in
-      let both : (taken ++ b ∷ []) ++ seconds ≡ taken ++ b ∷ seconds = append_assoc taken (b ∷ []) seconds in
-      let placed_both = subst (λ (l : List Feature). ArePlaced order (intervals_of l)) (sym both) placed_taken in
+      let placed_both = subst (λ (l : List Feature). ArePlaced order (intervals_of l)) (sym (append_assoc taken (b ∷ []) seconds)) placed_taken in
       let whole : written ++ rest ≡ (written ++ t.before) ++ t.a ∷ t.after = ap (λ (l : List Feature). written ++ l) t.parts ∙ sym (append_assoc written t.before (t.a ∷ t.after)) in
       let known = (placed_back order (written ++ t.before) (t.a ∷ t.after) (subst (λ (l : List Feature). ArePlaced order (intervals_of l)) whole placed)).0 in
       let decided_now = first b seconds refl in

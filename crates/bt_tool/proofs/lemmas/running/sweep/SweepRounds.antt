@@ -1,5 +1,5 @@
 -- Lemmas on the rounds of a sweep over two readers: how far each comes, what it reads, and how much is still wanted.
-use Rattle.bt_lines.proofs.Std.{◌≡◌, ℕ, zero, ◌+◌, ◌*◌, ◌≤◌, ◌<◌, Bool, true, false, List, length, length-append, Option, None, Some, Ok, Err, refl, sym, ap, ◌∙◌, subst, arith, inl, inr, option_to_list, [], ◌⊎◌, IsErrAnd, Result, is_some}
+use Rattle.bt_lines.proofs.Std.{◌≡◌, ℕ, ◌+◌, ◌*◌, ◌≤◌, ◌<◌, Bool, true, false, List, length, length-append, Option, None, Some, Ok, Err, refl, sym, ap, ◌∙◌, subst, arith, inl, inr, option_to_list, [], ◌⊎◌, IsErrAnd, Result, is_some}
 use Rattle.bt_lines.specs.calls.Output.{HoldsBlock, Output}
 use Rattle.bt_sweep.specs.calls.Sweeping.{first_stage, IsInOrder, MovesTo, Stage, StandsAt, with_a_ended, AdvancesOn, AdvancesSo, HasWritten, StopsFor, EndsB, Sweeping, is_over as is_done, want_in}
 use Rattle.bt_sweep.specs.calls.SweepView.{order_of as sweep_order, state_of}
@@ -31,7 +31,7 @@ use Rattle.bt_tool.specs.declared.loops.sweeping.SweepRun.{SweepRun}
 use Rattle.bt_tool.specs.calls.Run.{AnswersNoRead, TellsNoRead}
 use Rattle.bt_tool.specs.inside.Pair.{HaveRead, PairEnds}
 use Rattle.bt_tool.specs.inside.Rounds.{IsBuffered, IsLessIfReady, IsLessOrReady, LeadsTo}
-use Rattle.bt_tool.proofs.lemmas.running.sweep.SweptLemmas.{TakesBoth, ends_first, ends_second, fails_at_end, fails_both, fills_first, fills_second, finishes_both, goes_both, none_waits, over_is, placed_first, placed_second, in_order, stops_first, stops_second, takes_both, waiting, wants_first, wants_nothing, wants_second}
+use Rattle.bt_tool.proofs.lemmas.running.sweep.SweptLemmas.{TakesBoth, ends_first, ends_second, fails_at_end, fails_both, fills_first, fills_second, finishes_both, goes_both, none_waits, placed_first, placed_second, in_order, stops_first, stops_second, takes_both, waiting, wants_first, wants_second}
 use Rattle.bt_tool.proofs.lemmas.running.whole.OwnFailureLemmas.{none_kept, own_then, told_kept}
 
 module _ {A B O : Type 0} {g : Ghosts O} (source_a : Source A) (source_b : Source B)
@@ -170,7 +170,7 @@ module _ {A B O : Type 0} {g : Ghosts O} {source_a : Source A} {source_b : Sourc
           let moves : MovesTo (order_in start.first) sweep (with_a_ended s.sweeps.stage) (state_of now.sweep) =
           subst (λ (o : Order). (stage : Stage) → StandsAt o stage sweep → MovesTo o sweep (with_a_ended stage) (state_of now.sweep)) s.order_is ends s.sweeps.stage s.sweeps.stands in
           let none : (state_of now.sweep).current ≡ None = moves.stands.current_is ∙ none_waits s wants in
-          let done : is_done (state_of now.sweep).phase ≡ true = ap is_done moves.stands.phase_is ∙ over_is true s.sweeps.stage.b_ended in (
+          let done : is_done (state_of now.sweep).phase ≡ true = ap is_done moves.stands.phase_is ∙ (grind arith) in (
             comes_to now grown (rw (same, same_second_now) (ends_first s wants first_now (state_of now.sweep) fills moves)) same_order (rw same fills.own_failure, rw same_second_now same_second),
             inl (rw (same, same_second_now) (omega (
               arith,
@@ -230,8 +230,7 @@ module _ {A B O : Type 0} {g : Ghosts O} {source_a : Source A} {source_b : Sourc
             ))),
           )
       second_over {T} (Err fault) same_order ends =
-          let ended = ending {T = T} (Err fault) ends in
-          ends_with fault now later (rw (same_first_now, same) (fails_at_end s wants (fault_value fault) second_now later fills ended.1))
+          ends_with fault now later (rw (same_first_now, same) (fails_at_end s wants (fault_value fault) second_now later fills (ending {T = T} (Err fault) ends).1))
           (λ never. (rw same_first_now same_first, rw same fills.own_failure)) (rw same_first_now own_first)
           (rw same (none_kept source_b.is_read (below old.second) (view_of second_now).fault (below second_now) fills.answers.goes))
 
@@ -279,18 +278,15 @@ module _ {A B O : Type 0} {g : Ghosts O} {source_a : Source A} {source_b : Sourc
 
       -- none of the first was taken, though one was buffered
       stopped_a : (w : Want) → want_in swept ≡ w → 0 < length (view_of old.first).buffered → want_in sweep ≡ WantA → waits sweep ≡ 0 → length gives.proceeds.firsts ≡ 0 → Stops w → IsLess new
-      stopped_a w e some wants none taken none_left = grind (arith, first_left, wants_second, counted, rooms, wants_nothing, wants_first)
+      stopped_a w e some wants none taken none_left = grind (arith, first_left, counted, rooms, wants_first)
 
       stopped_b : (w : Want) → want_in swept ≡ w → 0 < length (view_of old.second).buffered → want_in sweep ≡ WantB → length gives.proceeds.seconds ≡ 0 → Stops w → IsLess new
-      stopped_b w e some wants taken none_left = grind (arith, second_left, rooms, wants_first, wants_second, wants_nothing)
-
-      less_by : Stops (want_in swept) ⊎ HasWritten sweep swept → (w : Want) → want_in sweep ≡ w → IsBuffered w (length (view_of old.first).buffered) (length (view_of old.second).buffered) → IsLess new
-      less_by stops w wants some = grind (arith, none_of, wants_first, number_cases, stopped_a, some_waits, rooms, most, counted, stopped_b)
+      stopped_b w e some wants taken none_left = grind (arith, second_left, rooms, wants_first)
 
       came_further : Stops (want_in swept) ⊎ HasWritten sweep swept → sweep_order new.sweep ≡ order → Goes new later × Given new
       came_further stops same = (
         comes_to new later (goes_both s consumes consumes_second swept later gives) same (have_read takes),
-        (few, less_by stops (want_in sweep) refl),
+        (few, grind (arith, none_of, wants_first, number_cases, stopped_a, some_waits, rooms, most, counted, stopped_b)),
       )
 
     gave : {T : Type 0} (answer : Result T Fault) → sweep_order new.sweep ≡ order

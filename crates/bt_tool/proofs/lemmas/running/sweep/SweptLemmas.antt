@@ -1,5 +1,5 @@
 -- Lemmas on records that a sweep is given of what two readers have buffered.
-use Rattle.bt_lines.proofs.Std.{rules, arith, ◌≡◌, inl, inr, ℕ, suc, true, ◌&&◌, not, List, [], ◌∷◌, ◌++◌, Option, None, Some, Ok, Err, Result, refl, sym, ap, ◌∙◌, subst, append-nil, append_assoc, option_to_list, ForSome, IfSome, IsTrue, option_map, list_all, and_parts, not-true, map-append, Bool, false, filter, length, bytes_eq, ltb, ◌<◌, is_some, false≢true, and_from, lt-ltb}
+use Rattle.bt_lines.proofs.Std.{rules, arith, ◌≡◌, inl, inr, ℕ, suc, true, ◌&&◌, not, List, [], ◌∷◌, ◌++◌, Option, None, Some, Ok, Err, Result, refl, sym, ap, ◌∙◌, subst, append-nil, append_assoc, option_to_list, IfSome, option_map, list_all, and_parts, not-true, map-append, Bool, false, filter, length, bytes_eq, ltb, ◌<◌, is_some, false≢true, and_from, lt-ltb}
 use Rattle.bt_lines.specs.declared.device.Source.{Ghosts as Source}
 use Rattle.bt_lines.specs.calls.Output.{Output, FailsToAdd, Grown}
 use Rattle.bt_lines.specs.calls.Reader.{lines_given}
@@ -25,7 +25,7 @@ use Rattle.bt_sweep.specs.declared.sweep.phase.Phase.{Phase}
 use Rattle.bt_sweep.proofs.lemmas.sweep.KeepLemmas.{decided_before, undecided_beside}
 use Rattle.bt_tool.specs.inside.Pair.{item_ahead, IsKnown, JoinDef, Pair, SettlesPair, Comes, AsksFor, PairEnds}
 use Rattle.bt_tool.specs.inside.Feed.{HasTaken, ConsumesGiven, member_items, Passes, StopsAfter}
-use Rattle.bt_tool.proofs.lemmas.running.pair.PairNear.{next_then, first_then, line_then}
+use Rattle.bt_tool.proofs.lemmas.running.pair.PairNear.{first_then, line_then}
 use Rattle.bt_tool.proofs.lemmas.running.members.PassedLemmas.{last_up_to, is_filled, is_over, is_stopped, said_in_order}
 use Rattle.bt_lines.specs.model.Fault.{FaultValue, no_memory}
 use Rattle.bt_lines.specs.model.Lines.{TextLine}
@@ -44,7 +44,7 @@ use Rattle.bt_tool.specs.declared.loops.sweeping.SweepConfig.{SweepConfig}
 use Rattle.bt_tool.specs.declared.loops.sweeping.SweepRun.{SweepRun}
 use Rattle.bt_tool.proofs.lemmas.running.pair.PairTurns.{TakesFurther, settles_seen}
 use Rattle.bt_tool.specs.inside.SweepLoop.{AreWithin, SweepComes, ReadsRest, Sweeps, config_of, records_pair, stage_of, sweep_join, sweep_rounds}
-use Rattle.bt_tool.proofs.lemmas.running.sweep.SweepFacts.{leaves_more, same_config, cuts_at, some_limit, within_given, fits_each, open_last, settles_newly}
+use Rattle.bt_tool.proofs.lemmas.running.sweep.SweepFacts.{leaves_more, cuts_at, within_given, fits_each, open_last, settles_newly}
 use Rattle.bt_tool.proofs.lemmas.running.members.MemberLemmas.{items_from}
 use Rattle.bt_tool.proofs.lemmas.running.pair.PairStops as stop
 use Rattle.bt_tool.proofs.lemmas.running.pair.PairTurns as turned
@@ -65,19 +65,15 @@ some_first : (line : ℕ) (items : List Feature) (m : Member Feature) → first_
 some_first line [] m e = absurd (let apart : None ≡ Some m = e in cc)
 some_first line (x ∷ items) m e = let same : record { line = line; item = x } ≡ m = cc in (items, ap (λ (m : Member Feature). m.item ∷ items) same)
 
-known_last : (order : Order) (last : Option Locus) → ForSome last (λ place. IsTrue (order.knows place.chrom)) → IfSome last (λ place. IsTrue (order.knows place.chrom))
-known_last order last known = grind arith
-
 pub ahead_placed : {S O : Type 0} {g : Ghosts O} (now : Records S O g) (order : Order) → order_in now ≡ order → (past : List Feature) (m : Member Feature) → IsTotal order
     → (view_of now).state ≡ state_behind (bed_format (sorting_of order)) None past → ahead_in (view_of now) ≡ Some m → ArePlaced order (intervals_of past) → ArePlaced order (intervals_of (past ++ m.item ∷ []))
 unfolding view_of order_in
 ahead_placed now order is past m total state ahead placed =
     let some = some_first (suc (lines_given (below now))) (buffered_in now) m ahead in
-    let known = subst (λ (o : Order). ForSome (view_of now).state (λ place. IsTrue (o.knows place.chrom))) is now.placed.last in
     let fits = subst (λ (o : Order). are_in_order (sorting_of o) (view_of now).state (m.item ∷ some.0) ≡ true) is (ap (are_in_order (sorting_of (order_in now)) (view_of now).state) (sym some.1) ∙ now.placed.in_order) in
     let all = and_parts (order.knows m.item.chrom && not (falls_in (sorting_of order) (view_of now).state (locus_at m.item))) (are_in_order (sorting_of order) (Some (locus_at m.item)) some.0) fits in
     let here = and_parts (order.knows m.item.chrom) (not (falls_in (sorting_of order) (view_of now).state (locus_at m.item))) all.0 in
-    let up = sorted_up_to order (view_of now).state (locus_at m.item) total (known_last order (view_of now).state known) here.0 (not-true (falls_in (sorting_of order) (view_of now).state (locus_at m.item)) here.1) in
+    let up = sorted_up_to order (view_of now).state (locus_at m.item) total (grind arith) here.0 (not-true (falls_in (sorting_of order) (view_of now).state (locus_at m.item)) here.1) in
     let last : (view_of now).state ≡ option_map locus_of (last_of (intervals_of past)) = state ∙ state_last order past [] None refl in
     let above = last_up_to (last_of (intervals_of past)) (λ place. IsUpTo order place (locus_at m.item)) (subst (λ (l : Option Locus). IfSome l (λ place. IsUpTo order place (locus_at m.item))) last up) in
     subst (ArePlaced order) (sym (map-append interval_of past (m.item ∷ []))) (grows_placed order (intervals_of past) (interval_of m.item) placed here.0 above)
@@ -87,10 +83,6 @@ pub passed_both : {T : Type 0} (order : Order) (sweep : Sweeping) (firsts second
     → AdvancesOn batch_cursor batch_cursor order sweep firsts seconds out result swept last_firsts last_seconds grown
     → ((records : List Feature) × PassesBatch firsts records last_firsts) × ((records : List Feature) × PassesBatch seconds records last_seconds)
 passed_both order sweep firsts seconds out result swept last_firsts last_seconds grown fails = search rules
-
--- what comes next is seen too
-settles_ahead : (order : Order) (phase : Phase) (newly seconds : List Feature) (next ahead : Option Feature) → IfSome next (λ b. ahead ≡ Some b) → Settles order phase newly (seconds ++ option_to_list next) → Settles order phase newly (seconds ++ option_to_list ahead)
-settles_ahead order phase newly seconds next ahead is all = grind (arith, decided_before, append-nil)
 
 -- records of both that were buffered are taken
 pub record TakesBoth {A B O : Type 0} {g : Ghosts O} (source_a : Source A) (source_b : Source B) (first : Records A O g) (second : Records B O g) (firsts seconds : List Feature) (new_first : Records A O g) (new_second : Records B O g) : Type 0 where
@@ -103,7 +95,7 @@ pub record TakesBoth {A B O : Type 0} {g : Ghosts O} (source_a : Source A) (sour
 pub seen_then : {S O : Type 0} {g : Ghosts O} (device : Source S) (old new : Records S O g) (first last : Batch) → ConsumesGiven device old first last new → (order : Order) (phase : Phase) (newly seconds : List Feature) (next : Option Feature)
     → ComesNext batch_cursor last next → Settles order phase newly (seconds ++ option_to_list next) → Settles order phase newly (seconds ++ option_to_list (item_ahead (view_of new)))
 seen_then device old new first last consumes order phase newly seconds next comes settles =
-    grind (arith, (settles_ahead order phase newly seconds next (item_ahead (view_of new)) (next_then device old new first last consumes next comes) settles))
+    grind (arith, decided_before, append-nil)
 
 -- Lemmas on a sweep over two readers: how far it comes in a round, and how it stops.
 
@@ -118,9 +110,6 @@ wants_second w done e = grind arith
 pub wants_nothing : (w : Option Feature) (done : Bool) → want_of (is_some w) done ≡ Nothing → (done ≡ true) × (sweep_rounds (is_some w) done ≡ 0)
 wants_nothing w done e = grind arith
 
-pub over_is : (a b : Bool) → is_done (phase_of a b) ≡ a
-over_is a b = grind arith
-
 first_is : (a b : Bool) → phase_of a b ≡ First → b ≡ true
 first_is a b e = grind arith
 
@@ -132,12 +121,9 @@ stops_wider : {S A State : Type 0} (device : Source S) (old : MemberReader S A S
     → (past : List (Member A)) (fault : FaultValue) (new : MemberReader S A State) → StopsAfter device old Narrow past fault new → StopsAfter device old Wide past fault new
 stops_wider device old Narrow Wide wider past fault new stops = grind arith
 
-item_any : (m n : ℕ) (xs : List Feature) → option_map (λ (m : Member Feature). m.item) (first_from m xs) ≡ option_map (λ m. m.item) (first_from n xs)
-item_any m n xs = grind arith
-
 -- the first of the same records
 item_same : (m n : ℕ) (xs ys : List Feature) → xs ≡ ys → option_map (λ (m : Member Feature). m.item) (first_from m xs) ≡ option_map (λ m. m.item) (first_from n ys)
-item_same m n xs ys e = item_any m n xs ∙ ap (λ (l : List Feature). option_map (λ (m : Member Feature). m.item) (first_from n l)) e
+item_same m n xs ys e = (grind arith) ∙ ap (λ (l : List Feature). option_map (λ (m : Member Feature). m.item) (first_from n l)) e
 
 module _ {A B O : Type 0} {g : Ghosts O} {source_a : Source A} {source_b : Source B} {start : SweepRun A B O g} {out : Output} {run : SweepRun A B O g} {grown : Output} (c : SweepComes source_a source_b start out run grown) where
   abbrev config : SweepConfig
@@ -198,7 +184,7 @@ module _ {A B O : Type 0} {g : Ghosts O} {source_a : Source A} {source_b : Sourc
       let parts : given later ≡ later.written ++ last ∷ [] = ap (λ (o : Option Feature). later.written ++ option_to_list o) waits in
       let held : is_held last m.item ≡ true = and_from (bytes_eq last.chrom m.item.chrom) (ltb last.start m.item.stop) (name_eq last.chrom m.item.chrom (sym on)) (lt-ltb last.start m.item.stop ends) in
       stop.passes_limit comes asks fits last waits m ahead TooManyHeld
-      (inr (some_limit config.limit (length (held_for (Some last) later.taken)) full, refl)) fault is undecided
+      (inr ((grind arith), refl)) fault is undecided
       (λ known_now.
       cuts_at order config.limit later.written last past_second m fault is (subst (λ (l : List Feature). AreWithin order config.limit l past_second) parts (fits known_now))
       (subst (λ (l : List Feature). list_all (λ x. decided order x l) later.written ≡ true) (sym items)
@@ -229,7 +215,7 @@ module _ {A B O : Type 0} {g : Ghosts O} {source_a : Source A} {source_b : Sourc
   stage = s.stage
 
   placed_given : ArePlaced order (intervals_of (given stage))
-  placed_given = subst (λ (l : List Feature). ArePlaced order (intervals_of l)) (sym s.comes.all_given) (first_placed s.past_first (view_of first) s.comes.first_passes)
+  placed_given = subst (λ (l : List Feature). ArePlaced order (intervals_of l)) (sym s.comes.all_given) (grind (arith, said_in_order))
 
   placed_taken : ArePlaced order (intervals_of stage.taken)
   placed_taken = subst (λ (l : List Feature). ArePlaced order (intervals_of l)) (sym s.comes.all_taken) (second_placed s.past_second (view_of second) s.comes.second_passes)
@@ -242,7 +228,7 @@ module _ {A B O : Type 0} {g : Ghosts O} {source_a : Source A} {source_b : Sourc
   by_config P p = subst P s.config_is p
 
   moved : (swept : Sweeping) (next : Stage) → MovesTo order sweep next swept → config_of swept ≡ config
-  moved swept next moves = same_config sweep swept moves.same ∙ s.config_is
+  moved swept next moves = (grind arith) ∙ s.config_is
 
   abbrev asked : join.Asks (given stage) stage.taken
   asked = s.stands.holds.reached
@@ -263,7 +249,7 @@ module _ {A B O : Type 0} {g : Ghosts O} {source_a : Source A} {source_b : Sourc
     none_waits = sym s.stands.current_is ∙ (wants_first sweep.current (is_done sweep.phase) wants).0
 
     not_ended : stage.a_ended ≡ false
-    not_ended = sym (over_is stage.a_ended stage.b_ended) ∙ ap is_done (sym s.stands.phase_is) ∙ (wants_first sweep.current (is_done sweep.phase) wants).1
+    not_ended = sym (grind arith) ∙ ap is_done (sym s.stands.phase_is) ∙ (wants_first sweep.current (is_done sweep.phase) wants).1
 
     pub fills_first : (first_now : Records A O g) → FillsRecords source_a first (Ok true) first_now → Going first_now second sweep grown
     fills_first first_now fills =
@@ -380,8 +366,6 @@ module _ {A B O : Type 0} {g : Ghosts O} {source_a : Source A} {source_b : Sourc
     seen_by true e xs is settles = grind (arith, none_second, append-nil)
     seen_by false e [] is settles = grind (arith, item_same, append-nil)
     seen_by false e (x ∷ xs) is settles =
-        let same : (view_of second).buffered ≡ x ∷ (xs ++ (view_of second_now).buffered) = takes.second_taken.takes.buffered ∙ ap (λ (l : List Feature). l ++ (view_of second_now).buffered) is in
-        let ahead : item_ahead (view_of second) ≡ Some x = item_same (suc (lines_given (below second))) 0 (view_of second).buffered (x ∷ (xs ++ (view_of second_now).buffered)) same in
         let rest = xs ++ option_to_list (item_ahead (view_of second_now)) in
         grind (arith, (append_assoc stage.taken (x ∷ []) rest), (append_assoc stage.taken (x ∷ xs) (option_to_list (item_ahead (view_of second_now)))), settles_seen)
 
@@ -389,7 +373,7 @@ module _ {A B O : Type 0} {g : Ghosts O} {source_a : Source A} {source_b : Sourc
     settled_seen known = seen_by stage.b_ended refl ss refl (s.comes.settles known)
 
     ends_then : sweep.phase ≡ First → (stage.b_ended ≡ true) × (item_ahead (view_of second_now) ≡ None)
-    ends_then first_is_left = grind (arith, first_is, option_map, none_second)
+    ends_then first_is_left = grind (arith, option_map, none_second)
 
     -- so far are the lines of some more settled
     settled_more : (written newly : List Feature) (bytes : List ℕ) → ArePlaced order (intervals_of newly) → Settles order sweep.phase newly (ss ++ option_to_list (item_ahead (view_of second_now)))
@@ -517,9 +501,8 @@ module _ {A B O : Type 0} {g : Ghosts O} {source_a : Source A} {source_b : Sourc
                 ]
             | inr keep ↦
                 let are = fails.proceeds.are ∙ ap (λ (o : Option Feature). fails.proceeds.newly ++ option_to_list o) keep.waits in
-                let comes = comes_later takes fails.proceeds.newly (Some keep.last) are settles now keep.puts in
                 let fits = fits_later takes fails.proceeds.newly (Some keep.last) are each in
-                stop.lacks_memory comes asks fits fault keep.is
+                stop.lacks_memory (comes_later takes fails.proceeds.newly (Some keep.last) are settles now keep.puts) asks fits fault keep.is
           ]
         ]
 
@@ -527,7 +510,7 @@ module _ {A B O : Type 0} {g : Ghosts O} {source_a : Source A} {source_b : Sourc
 
   module _ (wants : want_in sweep ≡ Nothing) where
     done : stage.a_ended ≡ true
-    done = sym (over_is stage.a_ended stage.b_ended) ∙ ap is_done (sym s.stands.phase_is) ∙ (wants_nothing sweep.current (is_done sweep.phase) wants).0
+    done = sym (grind arith) ∙ ap is_done (sym s.stands.phase_is) ∙ (wants_nothing sweep.current (is_done sweep.phase) wants).0
 
     pub finishes_both : {T : Type 0} (result : Result T Fault) (second_now : Records B O g) → ReadsRest source_b (IsBedKind (order_in second)) (view_of second) result (view_of second_now)
         → Ends (fault_in result) first second_now grown

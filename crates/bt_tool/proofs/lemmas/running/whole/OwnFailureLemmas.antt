@@ -1,5 +1,5 @@
 -- Lemmas on failed reads that are reported: each is of a read that failed in the run, whatever its source did before.
-use Rattle.bt_lines.proofs.Std.{rules, ◌≡◌, ℕ, Option, None, Some, Err, List, ap, sym, subst, ◌∙◌, inl, inr, arith, ◌≢◌, ⊤, MatchResult, Ok, Result, false≢true, option_map, suc, ◌-◌, ◌^◌, true, ◌++◌, take, IfSome}
+use Rattle.bt_lines.proofs.Std.{rules, ◌≡◌, ℕ, Option, None, Some, Err, List, ap, sym, subst, ◌∙◌, inl, inr, arith, ◌≢◌, MatchResult, Ok, Result, false≢true, option_map, ◌-◌, ◌^◌, ◌++◌, take, IfSome}
 use Rattle.bt_lines.specs.declared.device.Source.{Ghosts as Source}
 use Rattle.bt_lines.proofs.lemmas.reader.block.ReadsLemmas.{memory_no_read, some_is, unread_then}
 use Rattle.bt_lines.specs.model.Fault.{FaultValue, no_memory, read_failed, write_failed}
@@ -19,22 +19,18 @@ use Rattle.bt_bed.specs.model.BedLine.{IsBedKind, is_genome_kind}
 use Rattle.bt_bed.specs.model.Order.{Order}
 use Rattle.bt_bed.specs.calls.Reading.{MemberReader, TellsOwnFailure}
 use Rattle.bt_bed.specs.declared.order.genome.Genome.{Genome as GenomeTable}
-use Rattle.bt_bed.specs.model.Genome.{Entry, genome_handed, genome_of}
-use Rattle.bt_lines.specs.model.Lines.{Handed, TextLine, whole_text, line_feeds, text_lines}
-use Rattle.bt_bed.specs.calls.GenomeTable.{entries, EntryIsWrong, EntryUnread, ReadsAll, ReadingStops, StopCause}
+use Rattle.bt_bed.specs.model.Genome.{Entry, genome_of}
+use Rattle.bt_lines.specs.model.Lines.{Handed, TextLine, line_feeds, text_lines}
+use Rattle.bt_bed.specs.calls.GenomeTable.{entries, EntryUnread, ReadsAll, ReadingStops, StopCause}
 use Rattle.bt_tool.specs.model.Report.{behaviour_of, OfBoth, Reads, chromosomes_of}
-use Rattle.bt_tool.specs.calls.Run.{RunsAlone, RunsBy, AnswersNoRead, IsOwnFailure, IsOwnFailureIf, ReadsServe, TellsNoRead, TellsOwnReads, KnowsChromosomes, LacksChromosomes}
-use Rattle.bt_tool.proofs.lemmas.running.feed.WritingLemmas.{behaves_alone, write_no_read}
+use Rattle.bt_tool.specs.calls.Run.{RunsAlone, RunsBy, AnswersNoRead, IsOwnFailure, ReadsServe, TellsNoRead, TellsOwnReads, KnowsChromosomes, LacksChromosomes}
+use Rattle.bt_tool.proofs.lemmas.running.feed.WritingLemmas.{behaves_alone}
 use Rattle.bt_tool.specs.inside.Feed.{FeedsUpTo, Flushes, IsKeptBelow, IsOwnFault, KeepsOwnFault}
 use Rattle.bt_tool.specs.inside.Pair.{JoinDef, Pair, PairEnds}
 use Rattle.bt_tool.specs.model.Written.{IsSweptKind}
 use Rattle.bt_tool.specs.declared.planning.plan_type.Command.{Command}
 use Rattle.bt_tool.proofs.lemmas.running.members.CursorLemmas.{BeginsAt, some_of, cut_text, handed_all, handed_part}
 use Rattle.bt_lines.proofs.lemmas.reader.lines.TextLemmas.{whole_count, whole_front}
-
--- a failed read is of one input
-pub same_input : (one other : Input) (m n : ℕ) → read_failed one m ≡ read_failed other n → one ≡ other
-same_input one other m n e = grind arith
 
 pub bed_no_read : (order : Order) → IsBedKind order ReadFailed → ⊥
 bed_no_read order kind = false≢true kind.0
@@ -77,18 +73,11 @@ served_of IsRead first last old new starts ends read = grind arith
 pub serve_same : {S : Type 0} (IsRead : S → Option ℕ → S → Type 0) (source : S) → ReadsServe IsRead source source
 serve_same IsRead source = record { given = 0; served = begun }
 
-pub serve_same_if : {S : Type 0} (IsRead : S → Option ℕ → S → Type 0) (source : Option S) → OfBoth (ReadsServe IsRead) source source
-serve_same_if IsRead source = grind (arith, serve_same)
-
--- no failed read is reported
-pub tells_none : (G F S : Type 0) (fault : Option FaultValue) → ((input : Input) (line : ℕ) → fault ≡ Some (read_failed input line) → ⊥) → TellsOwnReads G F S fault
-tells_none G F S fault never = grind arith
-
 pub tells_nothing : (G F S : Type 0) (fault : Option FaultValue) → fault ≡ None → TellsOwnReads G F S fault
-tells_nothing G F S fault none = tells_none G F S fault (λ input line e. let apart : None ≡ Some (read_failed input line) = sym none ∙ e in cc)
+tells_nothing G F S fault none = grind arith
 
 pub tells_write : (G F S : Type 0) (fault : FaultValue) → fault ≡ write_failed → TellsOwnReads G F S (Some fault)
-tells_write G F S fault is = tells_none G F S (Some fault) (λ input line e. write_no_read input line (sym is ∙ some_is fault (read_failed input line) e))
+tells_write G F S fault is = grind arith
 
 -- one input of several
 tells_first : (S F : Type 0) (fault : Option FaultValue) → TellsOwnReads ⊥ F ⊥ fault → TellsOwnReads ⊥ F S fault
@@ -102,7 +91,7 @@ pub runs_alone : {A B : Type 0} (source_a : Source A) (source_b : Source B) (com
     → RunsAlone source_a (behaviour_of command chromosomes) first out fault first_after grown → RunsBy source_a source_b (behaviour_of is chromosomes) first second out fault first_after second grown
 runs_alone source_a source_b command chromosomes same same_settle is e first second out fault first_after grown runs = record {
   written = behaves_alone source_a source_b command chromosomes same same_settle is e first second out fault first_after grown runs.written;
-  reads = λ never. ((runs.reads never).0, serve_same_if source_b.is_read second);
+  reads = λ never. ((runs.reads never).0, grind (arith, serve_same));
   own_failure = tells_first _ _ fault runs.own_failure;
 }
 
@@ -121,9 +110,6 @@ module _ {A B X Y U V : Type 0} (join : JoinDef X Y) (pair : Pair A B X Y U V) (
   pub both_own : TellsOwnReads ⊥ (IsOwnFailure pair.source_a.is_read one_before one_after) (IsOwnFailure pair.source_b.is_read two_before two_after) fault
   both_own = grind arith
 
-pub flushed_own : (G F S : Type 0) (old new : Output) (fault answer : Option FaultValue) → Flushes old fault answer new → TellsOwnReads G F S fault → TellsOwnReads G F S answer
-flushed_own G F S old new fault answer flush own = grind arith
-
 -- nor hides it one, unless a write failed
 pub flushed_no_read : (old new : Output) (fault answer : Option FaultValue) → Flushes old fault answer new → answer ≢ Some write_failed → TellsNoRead answer → TellsNoRead fault
 flushed_no_read old new fault answer flush no_write never = grind arith
@@ -137,10 +123,6 @@ module _ {A B : Type 0} (source_a : Source A) (source_b : Source B) (command : C
       (λ table. RunsBy source_a source_b (behaviour_of command (option_map entries table)) first second out fault first_after second_after grown)
       (λ wrong. (fault ≡ Some (fault_value wrong)) × (first_after ≡ first) × (second_after ≡ second) × (grown ≡ out))
 
-  pub all_own : (G : Type 0) (chromosomes : Result (Option GenomeTable) Fault) → MatchResult chromosomes (λ _. ⊤) (λ fault. TellsOwnReads G ⊥ ⊥ (Some (fault_value fault)))
-      → WritesOutput chromosomes → TellsOwnReads G (IsOwnFailure source_a.is_read first first_after) (IsOwnFailureIf source_b.is_read second second_after) fault
-  all_own G chromosomes read written = grind arith
-
   -- if no failed read is reported, the genome file has none
   pub genome_no_read : (chromosomes : Result (Option GenomeTable) Fault) → WritesOutput chromosomes → TellsNoRead fault → AnswersNoRead chromosomes
   genome_no_read chromosomes written never = grind arith
@@ -152,11 +134,6 @@ module _ {A B : Type 0} (source_a : Source A) (source_b : Source B) (command : C
 
 -- Lemmas on the genome file of a run, if it has one.
 
--- a genome file that was cut off after lines that made entries
-cut_genome : (cut more : List ℕ) (made : List Entry) → genome_of FromGenome (take (line_feeds cut) (text_lines (cut ++ more))) ≡ Ok made
-    → genome_handed FromGenome (record { text = cut; is_cut = true }) ≡ Err (read_failed FromGenome (suc (line_feeds cut)))
-cut_genome cut more made e = grind (arith, whole_front, whole_count)
-
 module _ {G : Type 0} (device : Source G) (genome after : G) (old new : LineReader G) (source : source_of old ≡ genome) (ended : source_of new ≡ after) (input : input_of old ≡ FromGenome)
     (fresh : bytes_taken old ≡ 0) (unfed : feeds_taken old ≡ 0) (none_given : lines_given old ≡ 0) (clear : fault_kept old ≡ None) (lines : lines_left device.left old ≡ option_map text_lines (device.left genome)) (sound : IsSound device old) where
   at_genome : (text : List ℕ) (P : List TextLine → Type 0) → device.left genome ≡ Some text → IfSome (lines_left device.left old) P → P (text_lines text)
@@ -166,25 +143,20 @@ module _ {G : Type 0} (device : Source G) (genome after : G) (old new : LineRead
   knows_read table reads next = search rules
 
   module _ (fault : FaultValue) (bytes : (bytes : List ℕ) × Hands device.left old bytes new) (next : IsSound device new) where
-    wrong_text : EntryIsWrong device old new fault → (text : List ℕ) → device.left genome ≡ Some text → chromosomes_of (Some (whole_text text)) ≡ Err fault
-    wrong_text wrong text e = grind arith
-
     unread_text : EntryUnread device old new fault → (handed : Handed) → Reads device genome after handed → chromosomes_of (Some handed) ≡ Err fault
     unread_text unread handed reads =
-        let cut = unread.fails.cut (record { end = sound.end; within = sound.within }) in
-        let texts = cut_text device genome after old new source ended fresh handed reads unfed cut in
+        let texts = cut_text device genome after old new source ended fresh handed reads unfed (unread.fails.cut (record { end = sound.end; within = sound.within })) in
         let front = take (2 ^ 63 - 1) reads.bytes in
-        let size : lines_given new - lines_given old ≡ line_feeds front = omega (arith, texts.given, none_given) in
         let made = at_genome reads.text (λ lines. (entries : List Entry) × (genome_of (input_of old) (take (lines_given new - lines_given old) lines) ≡ Ok entries)) reads.known unread.passed in
         let first : genome_of FromGenome (take (line_feeds front) (text_lines (front ++ texts.more))) ≡ Ok made.0 =
         ap (λ t. genome_of FromGenome (take (line_feeds front) (text_lines t))) texts.text
-        ∙ ap (λ n. genome_of FromGenome (take n (text_lines reads.text))) (sym size)
+        ∙ ap (λ n. genome_of FromGenome (take n (text_lines reads.text))) (sym (omega (arith, texts.given, none_given)))
         ∙ ap (λ i. genome_of i (take (lines_given new - lines_given old) (text_lines reads.text))) (sym input) ∙ made.1 in
-        grind (arith, (handed_part device genome after old new source ended fresh handed reads bytes unread.fails.cause), (cut_genome front texts.more made.0 first))
+        grind (arith, (handed_part device genome after old new source ended fresh handed reads bytes unread.fails.cause), whole_front, whole_count)
 
     whole_by : StopCause device old new fault → fault ≢ no_memory → (handed : Handed) → Reads device genome after handed → chromosomes_of (Some handed) ≡ Err fault
     whole_by (inl wrong) memory handed reads =
-        subst (λ h. chromosomes_of (Some h) ≡ Err fault) (sym (handed_all device genome after old new source ended fresh handed reads bytes wrong.served (next.within wrong.going))) (wrong_text wrong reads.text reads.known)
+        subst (λ h. chromosomes_of (Some h) ≡ Err fault) (sym (handed_all device genome after old new source ended fresh handed reads bytes wrong.served (next.within wrong.going))) (grind arith)
     whole_by (inr (inl unread)) memory handed reads = unread_text unread handed reads
     whole_by (inr (inr ran)) memory handed reads = absurd (memory ran.is)
 
@@ -199,7 +171,7 @@ module _ {G : Type 0} (device : Source G) (genome after : G) (old new : LineRead
     own_by : StopCause device old new fault → (other : Input) (line : ℕ) → fault ≡ read_failed other line → (other ≡ FromGenome) × IsOwnFailure device.is_read genome after
     own_by (inl wrong) other line e = absurd (false≢true (ap (λ (f : FaultValue). is_genome_kind f.kind) (sym e ∙ wrong.place) ∙ wrong.of_line))
     own_by (inr (inl unread)) other line e = (
-      sym (same_input (input_of old) other (suc (lines_given new)) line (sym unread.fails.is ∙ e)) ∙ input,
+      sym (grind arith) ∙ input,
       own_failure_of device.is_read genome after old new source ended fresh (own other line e),
     )
     own_by (inr (inr ran)) other line e = absurd (memory_no_read other line (sym ran.is ∙ e))

@@ -26,11 +26,11 @@ use Rattle.bt_tool.specs.inside.Feed.{Flushes, FlushesAll, FlushFails, StaysFail
 use Rattle.bt_tool.specs.model.Report.{HandsUpTo, Inputs, OfBoth, behaviour_of, behaviour_on, chromosomes_of, report_of, report_on, ReportsAnswer, answer_of, report, texts_of}
 use Rattle.bt_tool.specs.declared.planning.plan_type.Command.{Command}
 use Rattle.bt_tool.proofs.lemmas.running.whole.OwnFailureLemmas.{WritesOutput}
-use Rattle.bt_tool.proofs.lemmas.running.feed.DrivingLemmas.{merge_settles_none}
-use Rattle.bt_tool.proofs.lemmas.running.feed.WritingLemmas.{hands_none, near_as}
+use Rattle.bt_tool.proofs.lemmas.running.feed.WritingLemmas.{near_as}
 use Rattle.bt_tool.specs.model.Options.{options}
 use Rattle.bt_tool.specs.model.Table.{Word}
 use Rattle.bt_tool.specs.declared.options.usage.Usage.{Usage}
+use Rattle.bt_runs.proofs.lemmas.merge.StrandSettling.{no_strand_settled}
 
 -- whether a fault lies in the genome file
 abbrev is_of_genome : Input → Bool
@@ -102,7 +102,7 @@ module _ (out mid new : Output) (fault answer : Option FaultValue) where
 -- no line settles nothing
 none_settle : (command : Command) (chromosomes : Option (List Entry)) (second : Option Handed) → (behaviour_of command chromosomes).settles second [] ≡ []
 unfolding good_from settled_gaps settled_depths
-none_settle command chromosomes second = grind (arith, merge_settles_none)
+none_settle command chromosomes second = grind (arith, no_strand_settled)
 
 -- chromosomes that were read aren't at fault
 other_chromosomes : (chromosomes : Result (Option (List Entry)) FaultValue) (entries : Option (List Entry)) (wrong : FaultValue) → chromosomes ≡ Ok entries → chromosomes ≡ Err wrong → ⊥
@@ -176,10 +176,9 @@ module _ {G A B K : Type 0} (source_g : Source G) (source_a : Source A) (source_
           (λ of_input. writes.told inputs.first inputs.second before holds.first_input holds.second_input (put ∙ known) of_input) is flushes.ends in
           subst (λ (r : Report). (answer ≡ r.fault) × (sink.took out_after ≡ Some (before ++ r.output))) (sym same) (w.0, took_after ∙ w.1);
       prefix = λ inputs before holds known.
-          let same = report_is inputs (knows.told inputs.genome holds.genome_file) in
           let f = front_by begun mid new fault answer before (reported inputs).output (took ∙ known) writes.grows flushes.grows
           (λ other. writes.kept other inputs.first inputs.second before holds.first_input holds.second_input (put ∙ known)) (λ is. writes.cut is inputs.first inputs.second before holds.first_input holds.second_input (put ∙ known)) flushes.ends in
-          (f.0, f.1, took_after ∙ f.2, ap (λ (r : Report). r.output) same ∙ f.3);
+          (f.0, f.1, took_after ∙ f.2, ap (λ (r : Report). r.output) (report_is inputs (knows.told inputs.genome holds.genome_file)) ∙ f.3);
       near = λ inputs before holds known.
           let near = writes.near inputs.first inputs.second before before holds.first_input holds.second_input (put ∙ known) (took ∙ known) in
           rw (knows.told inputs.genome holds.genome_file, took_after)
@@ -235,13 +234,12 @@ module _ {G A B K : Type 0} (source_g : Source G) (source_a : Source A) (source_
       near = λ inputs before holds known.
           let text = holds.first_input in
           rw (text.is, stops.1, stops.2, took_after)
-          (near_untouched _ (λ n within. hands_none source_b.left second inputs.second _ holds.second_input)
+          (near_untouched _ (λ n within. grind arith)
           command (chromosomes_of inputs.genome) inputs.second text.text before (source_a.left first) begun.took new.took text.known (took ∙ known) (grows_both begun.took mid.took new.took mid_grows flushes.grows)
           (answer ≡ Some write_failed) (IsFaultButWrite answer) new.took (kept_by begun mid new fault answer (length (before ++ [])) (inr (before ++ [], begun_put before known, omega arith)) flushes.ends)
           (λ other. exact_by begun mid new fault answer (before ++ []) (λ was. begun_put before known) other flushes.ends));
       served = λ none.
-          let was = served_by begun mid new fault answer flushes.ends none in
-          absurd (let apart : None ≡ Some wrong = sym was.0 ∙ stops.0 in cc);
+          absurd (let apart : None ≡ Some wrong = sym (served_by begun mid new fault answer flushes.ends none).0 ∙ stops.0 in cc);
       after_genome = λ file holds wrong e. (stops.1, stops.2);
       untouched = λ t e place at is. (stops.1, stops.2);
       named = λ t e.
@@ -262,6 +260,5 @@ module _ {G A B K : Type 0} (source_g : Source G) (source_a : Source A) (source_
   pub shows_report : ShowsReport source_g source_a source_b sink
   unfolding report
   shows_report words plan genome first second out fault genome_after first_after second_after out_after genome_text first_text second_text bytes asked runs read empty served memory took =
-      let inputs = texts_of plan genome_text first_text second_text in
-      let gives = runs.whole inputs [] read empty served memory in
+      let gives = runs.whole (texts_of plan genome_text first_text second_text) [] read empty served memory in
       grind arith

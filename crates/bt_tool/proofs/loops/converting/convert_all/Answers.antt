@@ -48,8 +48,7 @@ returns-in_err-line-clause-own_failure g c =
 
 pub loop-line-smaller : goal.loop-line-smaller
 loop-line-smaller g c =
-    let gives = rw (c.in_ok-line.was, c.in-Some.is) at c.next.follows.holds-at-none in
-    omega (arith, gives.answers.shrinks)
+    omega (arith, (rw (c.in_ok-line.was, c.in-Some.is) at c.next.follows.holds-at-none).answers.shrinks)
 
 pub loop-line-preserved : goal.loop-line-preserved
 loop-line-preserved g c =
@@ -94,8 +93,7 @@ returns-in_err-convert_line-clause-converts g c =
 pub returns-in_err-convert_line-clause-reads : goal.returns-in_err-convert_line-clause-reads
 returns-in_err-convert_line-clause-reads g c = λ never.
     let gives = rw (c.in_ok-line.was, c.in-Some.is) at c.next.follows.holds-at-none in
-    let now = c.loop-line.invariant in
-    has_read_then g.S.Source.is_read c.args.lines.now c.loop-line.lines c.next.follows.lender-at-none now.read gives.own_failure
+    has_read_then g.S.Source.is_read c.args.lines.now c.loop-line.lines c.next.follows.lender-at-none c.loop-line.invariant.read gives.own_failure
 
 pub returns-clause-converts : goal.returns-clause-converts
 returns-clause-converts g c =
@@ -110,5 +108,4 @@ returns-clause-converts g c =
 pub returns-clause-reads : goal.returns-clause-reads
 returns-clause-reads g c = λ never.
     let gives = rw (c.in_ok-line.was, c.in_default.is) at c.next.follows.holds-at-none in
-    let now = c.loop-line.invariant in
-    has_read_then g.S.Source.is_read c.args.lines.now c.loop-line.lines c.next.follows.lender-at-none now.read gives.own_failure
+    has_read_then g.S.Source.is_read c.args.lines.now c.loop-line.lines c.next.follows.lender-at-none c.loop-line.invariant.read gives.own_failure

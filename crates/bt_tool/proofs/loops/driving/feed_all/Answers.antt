@@ -86,9 +86,8 @@ returns-in_err-feed_buffered-clause-reads g c = λ never.
 
 pub returns-clause-feeds : goal.returns-clause-feeds
 returns-clause-feeds g c =
-    let fills = rw c.if-branch.false at c.in_ok-fill.ensures in
     feeds_all c.requires.sorted c.requires.total c.requires.none_last c.requires.takes
-    c.loop-records.invariant.0 c.fill.new.self (is_over g.S.Source c.loop-records.records c.fill.new.self fills)
+    c.loop-records.invariant.0 c.fill.new.self (is_over g.S.Source c.loop-records.records c.fill.new.self (rw c.if-branch.false at c.in_ok-fill.ensures))
 
 pub returns-clause-reads : goal.returns-clause-reads
 returns-clause-reads g c = λ never.

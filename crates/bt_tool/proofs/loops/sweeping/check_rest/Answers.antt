@@ -43,9 +43,8 @@ loop-second-preserved g c =
 
 pub returns-clause-reads : goal.returns-clause-reads
 returns-clause-reads g c = λ old past p wrong.
-    let fills = rw c.if-branch.false at c.in_ok-fill.ensures in
     reads_end g.B.Source (view_of c.args.second.now) (view_of c.loop-second.second) c.loop-second.invariant.0 (view_of c.fill.new.self)
-    (is_over g.B.Source c.loop-second.second c.fill.new.self fills) old past p
+    (is_over g.B.Source c.loop-second.second c.fill.new.self (rw c.if-branch.false at c.in_ok-fill.ensures)) old past p
 
 pub returns-clause-rest : goal.returns-clause-rest
 returns-clause-rest g c = λ none never. has_read_then g.B.Source.is_read (below c.args.second.now) (below c.loop-second.second) (below c.fill.new.self) c.loop-second.invariant.1 c.in_ok-fill.ensures.own_failure

@@ -1,9 +1,9 @@
-use Rattle.bt_lines.proofs.Std.{◌≡◌, [], ◌∷◌, ◌++◌, subst, sym}
+use Rattle.bt_lines.proofs.Std.{◌≡◌, [], ◌∷◌, ◌++◌, subst, sym, ap, arith, length}
 use Rattle.bt_bed.specs.calls.Batch.{Passes, left}
 use Rattle.bt_bed.specs.declared.read.batch.Batch.{Batch}
 use Rattle.bt_bed.specs.calls.CursorLaws.{batch_gives_more, batch_gives_none}
 use Rattle.bt_bed.specs.calls.Bed.{record_in}
-use Rattle.bt_tool.proofs.lemmas.running.pair.PairNear.{all_taken, batch_taken, room_falls}
+use Rattle.bt_tool.proofs.lemmas.running.pair.PairNear.{all_taken, batch_taken}
 use Rattle.bt_tool.proofs.loops.sweeping.consume_buffered.Goals as goal
 
 pub loop-next-init : goal.loop-next-init
@@ -15,7 +15,7 @@ loop-next-preserved g c =
     (so.0 ++ record_in c.in-Some._next ∷ [], batch_gives_more c.buffered-seconds.result c.loop-next.seconds c.next.new.self so.0 (record_in c.in-Some._next ∷ []) so.1 c.in-Some.ensures.some)
 
 pub loop-next-smaller : goal.loop-next-smaller
-loop-next-smaller g c = room_falls c.loop-next.seconds c.next.new.self (record_in c.in-Some._next) c.in-Some.ensures.some
+loop-next-smaller g c = omega (arith, ap length c.in-Some.ensures.some.left_is)
 
 pub consume-requires : goal.consume-requires
 consume-requires g c =

@@ -20,8 +20,7 @@ returns-in_err-fill_wanted g c =
 
 pub give_buffered-requires : goal.give_buffered-requires
 give_buffered-requires g c =
-    let filled = (rw c.if-branch.true at c.in_ok-fill_wanted.ensures) c.args.engine.now c.args.out.now.output c.loop-engine.invariant in
-    (c.args.engine.now, c.args.out.now.output, filled.0)
+    (c.args.engine.now, c.args.out.now.output, ((rw c.if-branch.true at c.in_ok-fill_wanted.ensures) c.args.engine.now c.args.out.now.output c.loop-engine.invariant).0)
 
 pub loop-engine-smaller : goal.loop-engine-smaller
 loop-engine-smaller g c =

@@ -22,10 +22,9 @@ loop-at-preserved c =
     let is = nine_at decimals at c.unwrap_or-digit.result c.requires c.loop-at-test.true read in
     let digit : is_ascii_digit (get_or text at 0) ≡ true = ap is_ascii_digit (sym is) ∙ sym c.is_ascii_digit.ensures.value ∙ c.if-not-is_ascii_digit.false in
     let within : at < length text = omega (arith, length_of_nine decimals c.requires, c.loop-at-test.true) in
-    let more = value_more text at c.loop-at.billionths within c.loop-at.invariant.0 digit in
     let below = value_below at c.loop-at.billionths _ c.loop-at.invariant.2 (digit_small _ digit) in
     let added : c.from.result ≡ get_or text at 0 - 48 = c.from.ensures ∙ ap (λ d. d - 48) is in
-    (rw added more, digits_more text at within c.loop-at.invariant.1 digit, rw added below)
+    (rw added (value_more text at c.loop-at.billionths within c.loop-at.invariant.0 digit), digits_more text at within c.loop-at.invariant.1 digit, rw added below)
 
 pub returns-clause-value : goal.returns-clause-value
 returns-clause-value c =

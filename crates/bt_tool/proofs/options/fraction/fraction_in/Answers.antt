@@ -5,9 +5,8 @@ use Rattle.bt_tool.proofs.options.fraction.fraction_in.Goals.{else-is_empty-via-
 
 pub returns-then-is_empty-2 : goal.returns-then-is_empty-2
 returns-then-is_empty-2 c =
-    let none : length c.args.whole.now ≡ 0 = grind (arith, nat_tests, c.is_empty.ensures, c.if-is_empty.true) in
     let none_behind : length c.args.decimals.now ≡ 0 = grind (arith, nat_tests, c.is_empty-then-is_empty.ensures, c.if-is_empty-2.true) in
-    no_digit c.args.whole.now c.args.decimals.now none none_behind
+    no_digit c.args.whole.now c.args.decimals.now (grind (arith, nat_tests, c.is_empty.ensures, c.if-is_empty.true)) none_behind
 
 pub returns-then-decimals-gt-DECIMALS : goal.returns-then-decimals-gt-DECIMALS
 returns-then-decimals-gt-DECIMALS c = many_decimals c.args.whole.now c.args.decimals.now c.if-decimals-gt-DECIMALS.true

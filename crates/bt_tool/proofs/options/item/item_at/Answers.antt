@@ -15,17 +15,15 @@ returns-in_default-clause-fault c =
 
 pub returns-then-stands_alone-clause-here : goal.returns-then-stands_alone-clause-here
 returns-then-stands_alone-clause-here c =
-    let here = words-from c.args.words.now c.args.at c.index-words-at.result c.requires c.index-words-at.is in
-    cc (here, c.as_str-option.ensures.value)
+    cc ((words-from c.args.words.now c.args.at c.index-words-at.result c.requires c.index-words-at.is), c.as_str-option.ensures.value)
 
 pub returns-in_default-get-clause-fault : goal.returns-in_default-get-clause-fault
 returns-in_default-get-clause-fault c =
     let word = c.index-words-at.result in
     let has : takes (table_lent c.args.table.now) (string_bytes word) ≡ Some c.in-Some.takes =
     rw c.as_str-option.ensures.value at (sym c.takes.ensures ∙ c.in-Some.is) in
-    let more : fits c.in-Some.takes None ≡ false = sym c.stands_alone.ensures ∙ c.if-stands_alone.false in
     let fault = missing-at (table_lent c.args.table.now) c.args.words.now c.args.at word
-    c.index-words-at.is c.in-Some.takes has more c.requires c.in_default-get.ensures.lookup.3 in
+    c.index-words-at.is c.in-Some.takes has (sym c.stands_alone.ensures ∙ c.if-stands_alone.false) c.requires c.in_default-get.ensures.lookup.3 in
     cc
 
 pub returns-then-not-fits-clause-fault : goal.returns-then-not-fits-clause-fault
@@ -35,10 +33,9 @@ returns-then-not-fits-clause-fault c =
     let found = c.in-Some-get.ensures.lookup in
     let has : takes (table_lent c.args.table.now) (string_bytes word) ≡ Some c.in-Some.takes =
     rw c.as_str-option.ensures.value at (sym c.takes.ensures ∙ c.in-Some.is) in
-    let more : fits c.in-Some.takes None ≡ false = sym c.stands_alone.ensures ∙ c.if-stands_alone.false in
     let bad : fits c.in-Some.takes (Some (string_bytes value)) ≡ false = rw c.as_str.ensures.value at (sym c.fits.ensures ∙ c.if-not-fits.true) in
     let fault = bad-at (table_lent c.args.table.now) c.args.words.now c.args.at word
-    c.index-words-at.is c.in-Some.takes has more value found.3.0 found.1 bad in
+    c.index-words-at.is c.in-Some.takes has (sym c.stands_alone.ensures ∙ c.if-stands_alone.false) value found.3.0 found.1 bad in
     cc
 
 pub returns-clause-here : goal.returns-clause-here

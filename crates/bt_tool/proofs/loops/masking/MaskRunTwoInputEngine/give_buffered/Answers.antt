@@ -26,7 +26,6 @@ returns g c = λ start out begun.
     let gives = c.advance-masked.ensures.gives in
     let lines = c.args.self.now.lines in
     let records = c.args.self.now.records in
-    let second = view_of records in
     let first_lines = c.buffered-texts.result in
     let last_lines = c.advance-masked.new.lines in
     let begins = c.buffered-texts.ensures.begins in
@@ -38,7 +37,7 @@ returns g c = λ start out begun.
     gave_both begun
     (record { lines = c.consume.new.self; records = c.consume-2.new.self; mask = c.advance-masked.new.self }) c.advance-masked.new.out.output
     (counts_none g.A.Source.is_read (source_of lines) (source_of c.consume.new.self) (bytes_taken lines) (bytes_taken c.consume.new.self) c.consume.ensures.source_is c.consume.ensures.taken_is)
-    (taken_reads g.B.Source second gives.taken (view_of c.consume-2.new.self) has) c.consume.ensures.fault_is has.takes.goes
+    (taken_reads g.B.Source (view_of records) gives.taken (view_of c.consume-2.new.self) has) c.consume.ensures.fault_is has.takes.goes
     c.advance-masked.result (λ start before going.
     let s = going.1 in
     gives_both s begins last_lines gives.texts parts numbered (lent_are records c.buffered-beds.result c.buffered-beds.ensures.lends) (lent_at records c.buffered-beds.result c.buffered-beds.ensures.lends)
