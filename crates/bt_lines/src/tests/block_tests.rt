@@ -1,22 +1,37 @@
 //! Lines round the borders of blocks.
 
-use crate::tests::drawn::{Draws, drawn_text, long_line};
-use crate::tests::{Want, first_misdivided, gives_some, reader_of};
+use crate::tests::{Want, gives_some, has_ended, holds, is_divided, is_it, reader_of};
 use crate::{BLOCK, Line, LineEnd, LineReader, Source};
 use std::alloc::{AllocError, Global};
 use std::test::Fail;
 
+// This many bytes `x`, and then an ending.
+pub(crate) fn long_line(
+    alloc: Global,
+    length: usize,
+    ending: &[u8],
+) -> Result<Vec<u8>, AllocError> {
+    let mut text = Vec::new(alloc);
+    text.resize(length, b'x')?;
+    text.extend_from_slice(ending)?;
+    Ok(text)
+}
+
+// What follows a long line, how that line ends, and how many lines the text has: the second is `b`.
 #[rattlefmt::skip]
-const ENDINGS: [Want; 4] =
-    [(b"\r\n", LineEnd::CrLf), (b"\r", LineEnd::Cr), (b"\n", LineEnd::Lf), (b"", LineEnd::Absent)];
+const ENDINGS: [(&[u8], LineEnd, usize); 4] = [
+    (b"\r\nb", LineEnd::CrLf, 2), (b"\nb", LineEnd::Lf, 2),
+    (b"\r", LineEnd::Cr, 1), (b"", LineEnd::Absent, 1),
+];
 
 // Whether a line of this many bytes is given with each ending, in pieces of each size.
 fn is_given(alloc: Global, length: usize) -> Result<bool, AllocError> {
-    let want = long_line(alloc, length, b"")?;
-    for (ending, kind) in &ENDINGS {
+    let long = long_line(alloc, length, b"")?;
+    for (ending, kind, count) in &ENDINGS {
         let text = long_line(alloc, length, ending)?;
-        let lines = [(want.as_slice(), *kind)];
-        if first_misdivided(alloc, text.as_slice(), &lines, &[1, 7, 8192]).is_some() {
+        let lines: [Want; 2] = [(long.as_slice(), *kind), (b"b", LineEnd::Absent)];
+        let lines = lines.get(..*count).unwrap_or(&[]);
+        if !is_divided(alloc, text.as_slice(), lines, &[1, 7, 8192]) {
             return Ok(false);
         }
     }
@@ -51,61 +66,20 @@ fn nothing_is_read_while_a_whole_line_is_held(rt: HostRuntime) -> Result<(), Fai
     Ok(())
 }
 
-// The first line of a text by a plain search, and what follows it.
-fn split_first(text: &[u8]) -> (&[u8], LineEnd, &[u8]) {
-    let feed = text.iter().position(|byte| *byte == b'\n');
-    let (piece, rest) = match feed {
-        Some(at) => (&text[..at], &text[at + 1..]),
-        None => (text, &text[text.len()..]),
-    };
-    match (piece.strip_suffix(b"\r"), feed) {
-        (Some(stripped), Some(_)) => (stripped, LineEnd::CrLf, rest),
-        (Some(stripped), None) => (stripped, LineEnd::Cr, rest),
-        (None, Some(_)) => (piece, LineEnd::Lf, rest),
-        (None, None) => (piece, LineEnd::Absent, rest),
+// Whether a line is this one, counted from 1, or there is none if none is wanted.
+fn is_wanted(line: Option<Line<'_>>, want: Option<(u64, Want<'_>)>) -> bool {
+    match (line, want) {
+        (Some(line), Some((number, want))) => is_it(&line, number, want),
+        (None, None) => true,
+        _ => false,
     }
-}
-
-// All lines of a text by a plain search.
-fn split(alloc: Global, text: &[u8]) -> Result<Vec<Want<'_>>, AllocError> {
-    let mut lines = Vec::new(alloc);
-    let mut rest = text;
-    for _ in 0..text.len() {
-        if rest.is_empty() {
-            break;
-        }
-        let (line, ending, behind) = split_first(rest);
-        lines.push((line, ending))?;
-        rest = behind;
-    }
-    Ok(lines)
-}
-
-#[test]
-fn drawn_texts_by_a_plain_split(rt: HostRuntime) -> Result<(), Fail> {
-    let mut draws = Draws { state: 2026 };
-    for count in 0..12 {
-        let text = drawn_text(rt.alloc(), &mut draws)?;
-        let lines = split(rt.alloc(), text.as_slice())?;
-        let steps = [1, 7, 8191, 8192, 8193];
-        let found = first_misdivided(rt.alloc(), text.as_slice(), lines.as_slice(), &steps);
-        assert_eq!(rt; found, None, "text {count}");
-    }
-    Ok(())
-}
-
-// A line's number, its text and how it ends.
-type Numbered<'a> = (u64, &'a [u8], LineEnd);
-
-fn is_wanted(line: Option<Line<'_>>, want: Option<Numbered<'_>>) -> bool {
-    line.map(|line| (line.number, line.text, line.ending)) == want
 }
 
 // Whether these two lines, or none, are the next ones that are buffered. They are consumed.
 fn takes_two<S: Source>(
     reader: &mut LineReader<S>,
-    first: Option<Numbered<'_>>,
-    second: Option<Numbered<'_>>,
+    first: Option<(u64, Want<'_>)>,
+    second: Option<(u64, Want<'_>)>,
 ) -> bool {
     let mut lines = reader.buffered();
     let is_first = is_wanted(lines.next(), first);
@@ -115,34 +89,42 @@ fn takes_two<S: Source>(
     is_first && is_second
 }
 
+// Whether a line is read, and then the buffered lines are these bytes.
+fn is_rest<S: Source>(reader: &mut LineReader<S>, rest: &[u8]) -> bool {
+    matches!(reader.fill(), Ok(true)) && reader.buffered().rest() == rest
+}
+
+// Whether a line of this many bytes is given next.
+fn gives_length<S: Source>(reader: &mut LineReader<S>, length: usize) -> bool {
+    matches!(reader.next(), Ok(Some(line)) if line.text.len() == length)
+}
+
 #[test]
-fn buffered_lines_are_given_in_order(rt: HostRuntime) -> Result<(), Fail> {
+fn buffered_lines_are_given_in_order(rt: HostRuntime) {
     let mut reader = reader_of(rt.alloc(), b"a\nbc\r\n\nd\n", BLOCK);
-    let is_filled = reader.fill()?;
-    let first = Some((1, b"a".as_slice(), LineEnd::Lf));
-    let second = Some((2, b"bc".as_slice(), LineEnd::CrLf));
-    let are_given = takes_two(&mut reader, first, second);
-    let given = reader.lines();
-    let third = matches!(reader.next()?, Some(line) if line.text.is_empty() && line.number == 3);
-    let is_still_filled = reader.fill()?;
-    let rest = reader.buffered().rest() == b"d\n".as_slice();
+    let first: (u64, Want) = (1, (b"a", LineEnd::Lf));
+    let second: (u64, Want) = (2, (b"bc", LineEnd::CrLf));
+    let are_given = is_rest(&mut reader, b"a\nbc\r\n\nd\n")
+        && takes_two(&mut reader, Some(first), Some(second))
+        && reader.lines() == 2
+        && gives_length(&mut reader, 0)
+        && is_rest(&mut reader, b"d\n");
     let _ = reader.into_source();
-    assert!(rt; is_filled && are_given && third && is_still_filled && rest);
-    assert_eq!(rt; given, 2);
-    Ok(())
+    holds(&rt, are_given, "four lines");
 }
 
 // A last line without a line feed is buffered like another, and then comes the end.
 #[test]
-fn a_last_line_is_buffered(rt: HostRuntime) -> Result<(), Fail> {
+fn a_last_line_is_buffered(rt: HostRuntime) {
     let mut reader = reader_of(rt.alloc(), b"a\nb\r", BLOCK);
-    let is_first = matches!(reader.next()?, Some(line) if line.text == b"a".as_slice());
-    let is_filled = reader.fill()?;
-    let is_last = takes_two(&mut reader, Some((2, b"b", LineEnd::Cr)), None);
-    let has_ended = !reader.fill()? && reader.next()?.is_none();
+    let last: (u64, Want) = (2, (b"b", LineEnd::Cr));
+    let are_given = gives_length(&mut reader, 1)
+        && matches!(reader.fill(), Ok(true))
+        && takes_two(&mut reader, Some(last), None)
+        && matches!(reader.fill(), Ok(false))
+        && has_ended(&mut reader);
     let _ = reader.into_source();
-    assert!(rt; is_first && is_filled && is_last && has_ended);
-    Ok(())
+    holds(&rt, are_given, "two lines");
 }
 
 // A line that is longer than a block is buffered alone, and the lines after it come next.
@@ -150,12 +132,10 @@ fn a_last_line_is_buffered(rt: HostRuntime) -> Result<(), Fail> {
 fn a_long_line_is_buffered_alone(rt: HostRuntime) -> Result<(), Fail> {
     let text = long_line(rt.alloc(), 20000, b"\nb\nc\n")?;
     let mut reader = reader_of(rt.alloc(), text.as_slice(), 8192);
-    let is_filled = reader.fill()?;
-    let is_alone = reader.buffered().rest().len() == 20001;
-    let is_long = matches!(reader.next()?, Some(line) if line.text.len() == 20000);
-    let is_more = reader.fill()?;
-    let rest = reader.buffered().rest() == b"b\nc\n".as_slice();
+    let are_given = is_rest(&mut reader, long_line(rt.alloc(), 20000, b"\n")?.as_slice())
+        && gives_length(&mut reader, 20000)
+        && is_rest(&mut reader, b"b\nc\n");
     let _ = reader.into_source();
-    assert!(rt; is_filled && is_alone && is_long && is_more && rest);
+    holds(&rt, are_given, "a long line");
     Ok(())
 }

@@ -1,30 +1,37 @@
 ghost use Rattle.std.specs.Prelude.{None, true, ⊤};
 
-use crate::tests::{gives_some, has_ended};
+use crate::tests::output_tests::fails_again;
+use crate::tests::{Want, gives_all, gives_some, has_ended, holds};
 use crate::{
-    BLOCK, DeviceFailed, FromRead, Input, LineReader, Out, Sink, Source, ToWrite, write_failed,
+    BLOCK, DeviceFailed, FromRead, Input, LineEnd, LineReader, Out, Sink, Source, ToWrite,
 };
+use std::alloc::Global;
 use std::io;
 use std::io::{BufWriter, Read, Write};
 use std::test::Fail;
 
-// A device whose first call fails, and whose second would serve. It counts its calls.
+// A device whose call of this number fails, while each other serves. It counts its calls.
 #[derive(Drop)]
-struct FailsFirst {
+struct FailsOnce {
+    failing: u8,
     calls: u8,
 }
 
-impl FailsFirst {
+impl FailsOnce {
     fn call(&mut self) -> io::Result<()> {
         self.calls = self.calls.saturating_add(1);
-        if self.calls == 1 {
+        if self.calls == self.failing {
             return Err(io::ErrorKind::Interrupted.into());
         }
         Ok(())
     }
 }
 
-impl Read for FailsFirst {
+fn fails_at(failing: u8) -> FailsOnce {
+    FailsOnce { failing, calls: 0 }
+}
+
+impl Read for FailsOnce {
     fn read(&mut self, buf: &mut [u8]) -> io::Result<usize> {
         self.call()?;
         if buf.is_empty() {
@@ -35,7 +42,7 @@ impl Read for FailsFirst {
     }
 }
 
-impl Write for FailsFirst {
+impl Write for FailsOnce {
     fn write(&mut self, buf: &[u8]) -> io::Result<usize> {
         self.call()?;
         Ok(buf.len())
@@ -46,36 +53,47 @@ impl Write for FailsFirst {
     }
 }
 
-#[test]
-fn a_reader_that_failed_is_asked_no_more(rt: HostRuntime) {
-    let mut source = FromRead::new(FailsFirst { calls: 0 });
+// Whether each read fails, and the reader was asked once.
+fn is_asked_once() -> bool {
+    let mut source = FromRead::new(fails_at(1));
     let mut block = [0u8; 4];
     for _ in 0..3 {
-        assert_eq!(rt; source.read(&mut block), Err(DeviceFailed));
+        if source.read(&mut block).is_ok() {
+            return false;
+        }
     }
-    assert!(rt; source.failed());
-    assert_eq!(rt; source.into_inner().calls, 1);
+    source.failed() && source.into_inner().calls == 1
+}
+
+#[test]
+fn a_reader_that_failed_is_asked_no_more(rt: HostRuntime) {
+    holds(&rt, is_asked_once(), "asked once");
 }
 
 // Whether a sink whose first call fails is asked once, and all these flushes and writes fail.
 fn asks_once(are_flushes: &[bool]) -> bool {
-    let mut sink = ToWrite::new(FailsFirst { calls: 0 });
-    let mut is_told = true;
+    let mut sink = ToWrite::new(fails_at(1));
     for is_flush in are_flushes {
-        let told = if *is_flush {
-            sink.flush().err()
+        let is_served = if *is_flush {
+            sink.flush().is_ok()
         } else {
-            sink.write(b"chr1").err()
+            sink.write(b"chr1").is_ok()
         };
-        is_told = is_told && told == Some(DeviceFailed);
+        if is_served {
+            return false;
+        }
     }
-    is_told && sink.failed() && sink.into_inner().calls == 1
+    sink.failed() && sink.into_inner().calls == 1
 }
 
 #[test]
 fn a_writer_that_failed_is_asked_no_more(rt: HostRuntime) {
-    assert!(rt; asks_once(&[false, false, false, true]));
-    assert!(rt; asks_once(&[true, true, true, false]));
+    holds(
+        &rt,
+        asks_once(&[false, false, false, true]),
+        "a write fails",
+    );
+    holds(&rt, asks_once(&[true, true, true, false]), "a flush fails");
 }
 
 // A source that failed before, and serves now.
@@ -113,98 +131,74 @@ impl Source for ServesAgain {
 }
 
 #[test]
-fn a_failure_of_before_is_no_failed_read(rt: HostRuntime) -> Result<(), Fail> {
+fn a_failure_of_before_is_no_failed_read(rt: HostRuntime) {
     let (bytes, end_told) = (b"a\nb".as_slice(), false);
     let mut reader = LineReader::new(rt.alloc(), ServesAgain { bytes, end_told }, Input::First);
-    assert_eq!(rt; reader.next()?.ok_or("a line")?.text, b"a".as_slice());
-    assert_eq!(rt; reader.next()?.ok_or("a line")?.text, b"b".as_slice());
-    assert!(rt; reader.next()?.is_none());
-    assert!(rt; reader.into_source().failed());
-    Ok(())
-}
-
-// A sink that takes everything, and whose first flush fails.
-#[derive(Drop)]
-struct FlushFails {
-    flushes: u8,
-    has_failed: bool,
-}
-
-impl Sink for FlushFails {
-    ghost took = { λ _. None };
-
-    ghost has_failed = { λ s. s.has_failed };
-
-    ghost is_flushed = { λ _. true };
-
-    fn write(&mut self, bytes: &[u8]) -> Result<usize, DeviceFailed> {
-        Ok(bytes.len())
-    }
-
-    fn flush(&mut self) -> Result<(), DeviceFailed> {
-        self.flushes = self.flushes.saturating_add(1);
-        self.has_failed = true;
-        Err(DeviceFailed)
-    }
-
-    fn failed(&self) -> bool {
-        self.has_failed
-    }
+    let lines: [Want; 2] = [(b"a", LineEnd::Lf), (b"b", LineEnd::Absent)];
+    let are_given = gives_all(&mut reader, &lines) && has_ended(&mut reader);
+    holds(&rt, are_given && reader.into_source().failed(), "two lines");
 }
 
 #[test]
 fn a_flush_that_fails(rt: HostRuntime) {
-    let (flushes, has_failed) = (0, false);
-    let mut output = Out::new(FlushFails {
-        flushes,
-        has_failed,
-    });
-    assert_eq!(rt; output.put(b"chr1"), Ok(()));
-    assert_eq!(rt; output.flush(), Err(write_failed()));
-    assert_eq!(rt; output.put(b"more"), Err(write_failed()));
-    assert_eq!(rt; output.flush(), Err(write_failed()));
-    assert_eq!(rt; output.into_sink().flushes, 1, "the sink was asked once");
+    let mut output = Out::new(ToWrite::new(fails_at(2)));
+    let is_put = output.put(b"chr1").is_ok();
+    let has_failed = fails_again(&mut output);
+    holds(&rt, is_put && has_failed, "the flush fails");
+    holds(
+        &rt,
+        output.into_sink().into_inner().calls == 2,
+        "a write and a flush",
+    );
 }
 
 #[test]
-fn devices_of_std(rt: HostRuntime) -> Result<(), Fail> {
+fn a_reader_of_std(rt: HostRuntime) {
     let bytes = b"ab\ncd\n";
     let mut reader = LineReader::new(rt.alloc(), FromRead::new(bytes.as_slice()), Input::First);
-    assert!(rt; gives_some(&mut reader, 2) && has_ended(&mut reader));
-    assert_eq!(rt; reader.into_source().into_inner().len(), 0);
-    let mut output = Out::new(ToWrite::new(Vec::new(rt.alloc())));
-    output.put(b"ab")?;
-    output.put(b"c")?;
-    output.flush()?;
-    let written = output.into_sink().into_inner();
-    assert_eq!(rt; written.as_slice(), b"abc".as_slice());
-    Ok(())
+    let are_given = gives_some(&mut reader, 2) && has_ended(&mut reader);
+    let left = reader.into_source().into_inner().len();
+    holds(&rt, are_given && left == 0, "two lines");
 }
 
+// A flush reaches what the writer writes to.
 #[test]
-fn whole_blocks_are_served(rt: HostRuntime) {
-    let bytes = [b'x'; 3 * BLOCK];
-    let mut sink = ToWrite::new(Vec::new(rt.alloc()));
-    assert_eq!(rt; sink.write(&bytes), Ok(bytes.len()));
-    assert_eq!(rt; sink.flush(), Ok(()));
-    assert!(rt; !sink.failed());
-    assert_eq!(rt; sink.into_inner().as_slice(), bytes.as_slice());
-    let mut source = FromRead::new(bytes.as_slice());
-    let mut block = [0u8; BLOCK];
-    // The end is returned again, and isn't taken for a failure.
-    for count in [BLOCK, BLOCK, BLOCK, 0, 0] {
-        assert_eq!(rt; source.read(&mut block), Ok(count));
-    }
-    assert!(rt; !source.failed());
-}
-
-#[test]
-fn a_flush_reaches_the_writer(rt: HostRuntime) -> Result<(), Fail> {
+fn a_writer_of_std(rt: HostRuntime) -> Result<(), Fail> {
     let writer = BufWriter::new(rt.alloc(), Vec::new(rt.alloc()))?;
     let mut output = Out::new(ToWrite::new(writer));
-    output.put(b"abc")?;
-    output.flush()?;
+    let is_put = output.put(b"ab").is_ok() && output.put(b"c").is_ok() && output.flush().is_ok();
     let writer = output.into_sink().into_inner();
-    assert_eq!(rt; writer.get_ref().as_slice(), b"abc".as_slice());
+    holds(
+        &rt,
+        is_put && writer.get_ref().as_slice() == b"abc".as_slice(),
+        "abc",
+    );
     Ok(())
+}
+
+// Whether three whole blocks are written by one call.
+fn is_written(alloc: Global) -> bool {
+    let mut sink = ToWrite::new(Vec::new(alloc));
+    let is_written = matches!(sink.write(&[b'x'; 3 * BLOCK]), Ok(count) if count == 3 * BLOCK);
+    is_written && sink.flush().is_ok() && sink.into_inner().len() == 3 * BLOCK
+}
+
+// Whether reads of a block of three whole ones give so many bytes.
+fn are_read(counts: &[usize]) -> bool {
+    let bytes = [b'x'; 3 * BLOCK];
+    let mut source = FromRead::new(bytes.as_slice());
+    let mut block = [0u8; BLOCK];
+    for count in counts {
+        if !matches!(source.read(&mut block), Ok(read) if read == *count) {
+            return false;
+        }
+    }
+    !source.failed()
+}
+
+// The end is returned again, and isn't taken for a failure.
+#[test]
+fn whole_blocks_are_served(rt: HostRuntime) {
+    holds(&rt, is_written(rt.alloc()), "written");
+    holds(&rt, are_read(&[BLOCK, BLOCK, BLOCK, 0, 0]), "read");
 }

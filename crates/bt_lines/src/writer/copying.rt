@@ -131,36 +131,25 @@ fn copy_ends<const N: usize>(to: &mut [u8], piece: &[u8])
 mod tests {
     use super::*;
 
-    const LETTERS: &[u8] =
-        b"abcdefghijklmnopqrstuvwxyz0123456789abcdefghijklmnopqrstuvwxyz0123456789";
-
-    // No byte, as many as each way copies, and more than all of them.
-    const LENGTHS: [usize; 9] = [0, 1, 2, 3, 4, 9, 17, 36, 72];
-
-    // Whether a piece was copied after the first byte of a text, and nothing else was changed.
-    fn is_copied(text: &[u8; 80], piece: &[u8]) -> bool {
-        let behind = &text[piece.len().min(72) + 1..];
-        text[0] == b'.' && text.get(1..piece.len() + 1) == Some(piece) && behind[0] == b'.'
+    // Copies a piece into a text of points, and returns the text.
+    fn copied(piece: &[u8]) -> [u8; 40] {
+        let mut text = [b'.'; 40];
+        if let Some(room) = text.get_mut(..piece.len()) {
+            copy_piece(room, piece);
+        }
+        text
     }
 
-    // Whether a piece is copied, and also as a short one if it has 1 to 64 bytes.
-    fn copies(piece: &[u8]) -> bool {
-        let (mut any, mut short) = ([b'.'; 80], [b'.'; 80]);
-        if let Some(to) = any.get_mut(1..piece.len() + 1) {
-            copy_piece(to, piece);
-        }
-        if let Some(to) = short.get_mut(1..piece.len() + 1) {
-            if is_short(piece.len()) {
-                copy_short(to, piece);
-            }
-        }
-        is_copied(&any, piece) && (piece.len() > 64 || is_copied(&short, piece))
-    }
-
+    // A piece that is copied by vectors, and one that is copied by a call.
     #[test]
-    fn pieces_of_each_way_are_copied(rt: HostRuntime) {
-        for length in &LENGTHS {
-            assert!(rt; LETTERS.get(..*length).is_some_and(copies), "of {length}");
-        }
+    fn pieces_are_copied(rt: HostRuntime) {
+        assert_eq!(rt;
+            copied(b"a piece of twenty-one"),
+            *b"a piece of twenty-one..................."
+        );
+        assert_eq!(rt;
+            copied(b"abc"),
+            *b"abc....................................."
+        );
     }
 }

@@ -72,21 +72,22 @@ pub fn put_number<K: Sink>(number: u64, end: &[u8], out: &mut Out<K>) -> Result<
 mod tests {
     use super::*;
     use crate::device::script_sink::ScriptSink;
-    use std::test::Fail;
+
+    fn put_all<K: Sink>(out: &mut Out<K>) -> Result<(), Fault> {
+        put_column(b"chr1", b"\t", out)?;
+        put_number(0, b"\t", out)?;
+        put_number(999, b"\t", out)?;
+        put_number(999999999999, b"\n", out)?;
+        put_both(b"chr1", b"\t", out)?;
+        put_line(b"ACGT", b"\r\n", out)?;
+        out.flush()
+    }
 
     #[test]
-    fn columns_numbers_and_lines_are_put_with_what_ends_them(rt: HostRuntime) -> Result<(), Fail> {
+    fn columns_numbers_and_lines_are_put_with_what_ends_them(rt: HostRuntime) {
         let mut out = Out::new(ScriptSink::new(rt.alloc(), 2, None));
-        let put = put_column(b"chr1", b"\t", &mut out).is_ok()
-            && put_number(0, b"\t", &mut out).is_ok()
-            && put_number(999, b"\t", &mut out).is_ok()
-            && put_number(1000, b"\t", &mut out).is_ok()
-            && put_number(999999999999, b"\n", &mut out).is_ok()
-            && put_line(b"ACGT", b"\r\n", &mut out).is_ok()
-            && out.flush().is_ok();
-        assert!(rt; put);
-        let want: &[u8] = b"chr1\t0\t999\t1000\t999999999999\nACGT\r\n";
-        assert_eq!(rt; out.into_sink().taken(), want);
-        Ok(())
+        let put = put_all(&mut out);
+        let want: &[u8] = b"chr1\t0\t999\t999999999999\nchr1\tACGT\r\n";
+        assert_eq!(rt; (put, out.into_sink().taken()), (Ok(()), want));
     }
 }
