@@ -2,13 +2,14 @@
 """Checks that each link of the pages leads to a file, and to a heading of it where it names one, that what is said
 to be in a file of definitions is and each such file exists, that the paths in code spans of ARCHITECTURE.md, PROVED.md
 and the crates' pages exist, that the pages that name a version name the same one, that PROVED.md says how many files
-define the report, and that ARCHITECTURE.md lists them, and the modules of each crate.
+define the report, that ARCHITECTURE.md lists them, and the modules of each crate, and that the report names each
+definition of the model.
 
     docs/links.py [--write]
 
 The pages are the Markdown files of this repository. Links to other hosts aren't followed. With --write the list of
 ARCHITECTURE.md and the numbers of PROVED.md are written anew. Ends with 1 if a link or a path leads nowhere,
-a definition is elsewhere, or a number or the list is another.
+a definition is elsewhere or isn't named, or a number or the list is another.
 """
 
 import re
@@ -45,6 +46,11 @@ VERSIONS = {
 # Where PROVED.md says in how many files and lines the report is defined, and the file that names the others.
 DEFINITIONS = re.compile(r"definitions that it names: (\d+) files with about ([\d,]+) lines")
 REPORT = TOP / "crates" / "bt_tool" / "specs" / "model" / "Report.antt"
+
+# In a file of the model: where a definition begins, with its name, a word that isn't a field, and what is imported from the model.
+BEGINS = re.compile(r"^(?:(?:  )?(?:abbrev |unfoldable )pub|pub(?: record)?) (\w+)", re.MULTILINE)
+WORD = re.compile(r"(?<![.\w])\w+")
+FROM_MODEL = re.compile(r"^use Rattle\.(bt_\w+)\.specs\.model\.(\w+)\.\{(.*)\}", re.MULTILINE)
 
 # Where ARCHITECTURE.md lists these files: from one line to another.
 LIST_BEGINS = "<!-- docs/links.py --write writes this list -->\n"
@@ -181,6 +187,40 @@ def strays():
         yield f"{file.relative_to(TOP)} is of the model, and the report doesn't name it"
 
 
+def words_of(file):
+    """The words of each definition of a file of the model, without comments, texts and imports."""
+    text = re.sub(r'--.*|"[^"\n]*"|^use .*', "", file.read_text(encoding="utf-8"), flags=re.MULTILINE)
+    begins = list(BEGINS.finditer(text))
+    ends = [begin.start() for begin in begins[1:]] + [len(text)]
+    return {begin[1]: set(WORD.findall(text[begin.end():end])) for begin, end in zip(begins, ends)}
+
+
+def imports_of(file):
+    """The names that a file imports from the model: the file and the name that each has there."""
+    found = {}
+    for crate, module, items in FROM_MODEL.findall(file.read_text(encoding="utf-8")):
+        for item in items.split(", "):
+            name, _, here = item.partition(" as ")
+            found[here or name] = (TOP / "crates" / crate / "specs" / "model" / f"{module}.antt", name)
+    return found
+
+
+def unnamed():
+    """The definitions of the model that the report doesn't name, directly or through others."""
+    words = {file: words_of(file) for file in sorted(model())}
+    places = {file: {**{name: (file, name) for name in words[file]}, **imports_of(file)} for file in words}
+    found, open_ones = set(), [(REPORT, "report")]
+    while open_ones:
+        file, name = open_ones.pop()
+        if (file, name) not in found:
+            found.add((file, name))
+            open_ones += [places[file][word] for word in words[file][name] if word in places[file]]
+    for file in words:
+        for name in words[file]:
+            if (file, name) not in found:
+                yield f"{file.relative_to(TOP)}: {name} is of the model, and the report doesn't name it"
+
+
 def definitions():
     """The files that say what the report is: the one that has it, and all that it names in turn."""
     found, open_ones = set(), [REPORT]
@@ -244,7 +284,7 @@ def main():
     absent = [*missing(), *lost_paths()]
     for page, number, name in absent:
         print(f"{page.relative_to(TOP)}:{number}: {name} isn't there")
-    outside = [*strays(), *other_modules()]
+    outside = [*strays(), *unnamed(), *other_modules()]
     for line in outside:
         print(line)
     found = versions()

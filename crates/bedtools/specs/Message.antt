@@ -1,7 +1,8 @@
 -- The lines that the program itself reports, and the exit statuses that go with them.
 use Rattle.std.specs.Prelude.{ℕ, List, [], ◌++◌, ◌≡◌, ◌⊎◌, codes, length}
 use Rattle.bt_tool.specs.calls.Plan.{words_seen}
-use Rattle.bt_tool.specs.model.Usage.{IsTellable, usage_text}
+use Rattle.bt_tool.specs.model.Usage.{usage_text}
+use Rattle.bt_tool.specs.calls.CommandLine.{IsTellable}
 use Rattle.bedtools.specs.declared.message.Obstacle.{Obstacle}
 use Rattle.bedtools.specs.declared.message.Obstacle.TheVariants.{NotUnicode, Usage, ClosedStream, CannotOpen}
 use Rattle.bedtools.specs.declared.message.Message.{Message}

@@ -4,7 +4,10 @@ pub mod Bed
 pub mod Blocks
 pub mod CursorLaws
 pub mod CursorOf
+pub mod Features
 pub mod GenomeTable
+pub mod Orders
 pub mod Reading
 pub mod Records
 pub mod SortedReader
+pub mod Stretches

@@ -1,16 +1,17 @@
 -- Sums, pairs and bases.
 use Rattle.std.specs.Prelude.{◌≡◌, ◌-◌, ◌*◌, ℕ, false, List, filter, min, sum_by, Option, Some, ◌⊎◌, true, [], ◌∷◌, map, flat_map, IsPermutation, None}
 use Rattle.bt_bed.specs.model.Feature.{Feature, intervals_of, Interval, spans_on}
-use Rattle.bt_bed.specs.model.Positions.{IsCovered}
+use Rattle.bt_bed.specs.calls.Stretches.{IsCovered}
 use Rattle.bt_bed.specs.model.BedLine.{bed_text}
 use Rattle.bt_bed.specs.model.Genome.{Entry}
 use Rattle.bt_bed.specs.declared.record.strand.Strand.{Strand}
 use Rattle.bt_runs.specs.model.Depth.{DepthInterval, coverage, depth_lines, is_counted_by}
-use Rattle.bt_runs.specs.model.Gaps.{length_in}
+use Rattle.bt_runs.specs.calls.Complementing.{length_in}
 use Rattle.bt_tool.specs.model.Report.{Inputs, or_empty, order_of, report_of}
 use Rattle.bt_tool.specs.declared.planning.plan_type.Command.TheVariants.{Coverage, Intersect, Subtract}
 use Rattle.bt_laws.specs.WholeRuns.{RunWrites, RunsWithoutFault, first_records, second_records}
-use Rattle.bt_sweep.specs.model.Hits.{hits_among, any_overlap}
+use Rattle.bt_sweep.specs.model.Hits.{hits_among}
+use Rattle.bt_sweep.specs.calls.Sweeping.{any_overlap}
 use Rattle.bt_sweep.specs.model.Lines.{line_with}
 use Rattle.bt_sweep.specs.declared.hits.hit_rule.HitRule.{HitRule}
 use Rattle.bt_sweep.specs.declared.output.shape.Shape.TheVariants.{OrigBoth, Cut, Pieces}

@@ -1,13 +1,15 @@
 -- What a merge keeps, and the order of its runs.
 use Rattle.std.specs.Prelude.{◌≡◌, ℕ, ◌≤◌, List, ◌++◌, filter, length, map, Option, Some, option_map}
-use Rattle.bt_bed.specs.model.Feature.{Feature, is_strand, interval_of, intervals_of, AreNonEmpty}
+use Rattle.bt_bed.specs.model.Feature.{Feature, is_strand, interval_of, intervals_of}
+use Rattle.bt_bed.specs.calls.Orders.{AreNonEmpty, ArePlaced, IsTotal}
 use Rattle.bt_bed.specs.declared.record.strand.Strand.{Strand}
-use Rattle.bt_runs.specs.model.Merged.{AreTaken, kept_runs, merged_runs, settled_runs, kept_strand_runs, runs_of_strand, settled_strand_runs, strand_runs, StrandRun, is_in, places_of}
+use Rattle.bt_runs.specs.model.Merged.{merged_runs, runs_of_strand, settled_strand_runs, strand_runs, StrandRun, is_in, places_of}
+use Rattle.bt_runs.specs.calls.MergedRuns.{AreTaken, kept_runs, settled_runs, kept_strand_runs}
 use Rattle.bt_runs.specs.declared.merge.merge_strand.MergeStrand.{MergeStrand}
 use Rattle.std.specs.List.{find, position_or_len}
 use Rattle.std.specs.List.Sorted.{IsStrictlyIncreasing}
-use Rattle.bt_bed.specs.model.Sorted.{ArePlaced, Locus, locus_of}
-use Rattle.bt_bed.specs.model.Order.{Order, IsTotal}
+use Rattle.bt_bed.specs.model.Sorted.{Locus, locus_of}
+use Rattle.bt_bed.specs.model.Order.{Order}
 
 -- What a merge keeps beside its settled runs.
 

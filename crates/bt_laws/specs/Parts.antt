@@ -18,7 +18,8 @@ use Rattle.bt_tool.specs.declared.planning.plan_type.Command.{Command}
 use Rattle.bt_tool.specs.declared.planning.plan_type.Command.TheVariants.{BamToBed, Intersect, Merge, Subtract, Complement, Coverage, MaskFasta}
 use Rattle.bt_bed.specs.declared.record.strand.Strand.{Strand}
 use Rattle.bt_lines.specs.declared.fault.Kind.TheVariants.{NoSequence}
-use Rattle.bt_seq.specs.model.Masked.{left_after, is_header, name_in}
+use Rattle.bt_seq.specs.model.Masked.{is_header, name_in}
+use Rattle.bt_seq.specs.calls.MaskState.{left_after}
 use Rattle.bt_seq.specs.declared.mask.mask_how.MaskHow.{MaskHow}
 
 -- Inputs divided into parts, as by chromosome: what a part is, and what the runs of the parts have

@@ -1,15 +1,18 @@
 -- Outputs that are inputs of the next command.
 use Rattle.std.specs.Prelude.{◌≡◌, ℕ, ◌<◌, ◌≤◌, Bool, not, List, [], ◌++◌, None, codes, decimal, zero, suc, true, false, ⊤, ◌∷◌, flat_map, length, map, replicate, ◌≢◌, filter, Option, if◌then◌else◌, Some}
-use Rattle.bt_lines.specs.model.Lines.{whole_text}
+use Rattle.bt_lines.specs.model.Lines.{whole_text, Handed}
 use Rattle.bt_lines.specs.declared.fault.Input.{Input}
 use Rattle.bt_bed.specs.model.Feature.{Feature, Interval, intervals_of}
-use Rattle.bt_bed.specs.model.BedLine.{is_header, bed_text, columns_in, cut_to, strand_named, strand_of, interval_lines, kept_columns, fault_at_line}
-use Rattle.bt_bed.specs.model.Good.{items_in, bed_good}
-use Rattle.bt_bed.specs.model.Order.{Order, IsTotal, byte_order}
+use Rattle.bt_bed.specs.model.BedLine.{is_header, bed_text, cut_to, strand_named, strand_of, interval_lines, kept_columns, fault_at_line}
+use Rattle.bt_bed.specs.calls.Features.{columns_in}
+use Rattle.bt_bed.specs.model.Good.{items_in, bed_good, Good, good_handed}
+use Rattle.bt_bed.specs.model.Order.{Order, byte_order}
+use Rattle.bt_bed.specs.calls.Orders.{IsTotal, ArePlaced}
 use Rattle.bt_bed.specs.declared.record.strand.Strand.TheVariants.{Dot, Plus, Minus}
 use Rattle.bt_runs.specs.model.Depth.{DepthInterval, coverage, depth_lines}
 use Rattle.std.specs.Io.BufRead.{ends_with_byte, strip_last}
-use Rattle.bt_sweep.specs.model.Hits.{hits_among, shared_bases, any_overlap}
+use Rattle.bt_sweep.specs.model.Hits.{hits_among, shared_bases}
+use Rattle.bt_sweep.specs.calls.Sweeping.{any_overlap}
 use Rattle.bt_sweep.specs.model.Lines.{cut, pieces}
 use Rattle.bt_sweep.specs.declared.hits.hit_rule.HitRule.{HitRule}
 use Rattle.bt_sweep.specs.declared.output.shape.Shape.{Shape}
@@ -27,8 +30,7 @@ use Rattle.bt_tool.specs.declared.planning.plan_type.Command.TheVariants.{Merge,
 use Rattle.bt_laws.specs.WholeRuns.{RunsWithoutFault, first_records, second_records, piped, two_texts}
 use Rattle.bt_tool.specs.declared.planning.plan_type.Command.{Command}
 use Rattle.bt_lines.specs.declared.fault.Input.TheVariants.{First}
-use Rattle.bt_bed.specs.model.Sorted.{ArePlaced}
-use Rattle.bt_seq.specs.model.Alignment.{Alignment, read_name, strand_sign, sam_good}
+use Rattle.bt_seq.specs.model.Alignment.{Alignment, read_name, strand_sign, sam_format}
 use Rattle.bt_lines.specs.declared.fault.Kind.TheVariants.{OutOfOrder}
 
 -- What a text is as an input of the next command, in an order of the chromosomes.
@@ -313,6 +315,11 @@ genomecov_writes_disjoint =
 -- where an alignment lies
 abbrev pub aligned_at : Alignment → Interval
 aligned_at a = record { chrom = a.chrom; start = a.start; stop = a.stop }
+
+-- what is good of a SAM input: the alignments before the first line at fault,
+-- and the fault of that line
+abbrev pub sam_good : Input → Handed → Good Alignment
+sam_good input handed = good_handed sam_format input handed
 
 abbrev pub alignments_of : Inputs → List Alignment
 alignments_of inputs = items_in (sam_good First inputs.first)

@@ -1,8 +1,10 @@
 -- Lines, records and their orders.
 use Rattle.std.specs.Prelude.{◌≡◌, ℕ, ◌<◌, ◌≤◌, List, max, min, Bool, IsTrue, false, Some, Ok, All, ◌++◌, length, take, Option, None, ◌≢◌, IfSome, IfErr, ◌∷◌, ◌⊎◌, IsFalse, []}
-use Rattle.bt_bed.specs.model.Feature.{Interval, Span, Feature, intervals_of, AreNonEmpty, last_of}
-use Rattle.bt_bed.specs.model.Positions.{AreStretchesOf}
-use Rattle.bt_bed.specs.model.BedLine.{is_header, IsFeature, bed_text, record_of, IsBedKind}
+use Rattle.bt_bed.specs.model.Feature.{Interval, Span, Feature, intervals_of, last_of}
+use Rattle.bt_bed.specs.calls.Orders.{AreNonEmpty, AreDistinct, AreContiguous}
+use Rattle.bt_bed.specs.calls.Stretches.{AreStretchesOf}
+use Rattle.bt_bed.specs.model.BedLine.{is_header, bed_text, record_of, IsBedKind}
+use Rattle.bt_bed.specs.calls.Features.{IsFeature}
 use Rattle.bt_lines.specs.model.Lines.{Handed, text_lines, TextLine}
 use Rattle.bt_lines.specs.model.Fault.{FaultValue}
 use Rattle.bt_lines.specs.declared.fault.Input.{Input}
@@ -10,8 +12,8 @@ use Rattle.bt_lines.specs.declared.fault.Kind.TheVariants.{UnknownChrom}
 use Rattle.bt_bed.specs.model.Good.{Member, good, items_in, bed_format, block_format, block_good}
 use Rattle.bt_bed.specs.model.Meeting.{Rule, join_report, written}
 use Rattle.bt_bed.specs.calls.Reading.{AreAscending, IsBeyond, IsFaultBeyond}
-use Rattle.bt_bed.specs.model.Order.{Order, AreDistinct, byte_order}
-use Rattle.bt_bed.specs.model.Sorted.{sorting_of, AreContiguous, has_records}
+use Rattle.bt_bed.specs.model.Order.{Order, byte_order}
+use Rattle.bt_bed.specs.model.Sorted.{sorting_of, has_records}
 use Rattle.bt_bed.specs.model.Genome.{Entry, genome_names, genome_of}
 use Rattle.std.specs.declared.cmp.Ordering.TheVariants.{Less}
 use Rattle.bt_lines.specs.declared.fault.Kind.{Kind}

@@ -1,8 +1,9 @@
 -- What holds of every command line.
 use Rattle.std.specs.Prelude.{◌≡◌, ◌≢◌, ◌↔◌, List, ◌∷◌, ◌++◌, ℕ, None, Some, Err, Result, All, length}
 use Rattle.bt_tool.specs.declared.options.usage.Usage.{Usage}
-use Rattle.bt_tool.specs.model.Usage.{Item, items_of, spelled, IsLongestDivision, IsTellable}
-use Rattle.bt_tool.specs.model.Options.{AnswersAll, PlanSeen, last_item, options, word_fault}
+use Rattle.bt_tool.specs.model.Usage.{Item, items_of, spelled}
+use Rattle.bt_tool.specs.calls.CommandLine.{IsLongestDivision, IsTellable, AnswersAll}
+use Rattle.bt_tool.specs.model.Options.{PlanSeen, last_item, options, word_fault}
 use Rattle.bt_tool.specs.model.Table.{Word, Table}
 
 -- the longest prefix that divides into items divides in one way, the one that is read

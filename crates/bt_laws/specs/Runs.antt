@@ -1,16 +1,17 @@
 -- Merged runs, gaps and depths.
 use Rattle.std.specs.Prelude.{◌≡◌, ℕ, ◌<◌, ◌≤◌, Bool, cond, ◌⊎◌, ⊤, IsTrue, List, [], ◌∷◌, map, Option, Some, None, true, false, not, nat_lt, ◌==◌, filter, ◌++◌, length, ◌+◌}
 use Rattle.bt_bed.specs.model.Feature.{Span, Feature, Interval, intervals_of}
-use Rattle.bt_bed.specs.model.Positions.{AreStretchesOf}
+use Rattle.bt_bed.specs.calls.Stretches.{AreStretchesOf}
 use Rattle.bt_runs.specs.model.Depth.{Level, levels_of, DepthInterval, coverage, depth_at, settled_depths}
 use Rattle.bt_bed.specs.model.Genome.{Entry}
-use Rattle.bt_runs.specs.model.Gaps.{complement, gaps_of, AreTaken, kept_place, settled_gaps}
+use Rattle.bt_runs.specs.model.Gaps.{complement, gaps_of, settled_gaps}
+use Rattle.bt_runs.specs.calls.Complementing.{AreTaken, kept_place}
 use Rattle.bt_runs.specs.model.Merged.{end_of, is_bridged, is_covered, runs_of, counted, chromosomes, merged, in_order, ordered_runs}
 use Rattle.bt_bed.specs.declared.record.strand.Strand.{Strand}
 use Rattle.std.specs.List.{AllByRecursion}
 use Rattle.std.specs.declared.cmp.Ordering.TheVariants.{Less}
-use Rattle.bt_bed.specs.model.Sorted.{ArePlaced}
-use Rattle.bt_bed.specs.model.Order.{Order, IsTotal, AreDistinct, is_among, rank_order}
+use Rattle.bt_bed.specs.calls.Orders.{ArePlaced, IsTotal, AreDistinct}
+use Rattle.bt_bed.specs.model.Order.{Order, is_among, rank_order}
 use Rattle.bt_runs.specs.declared.merge.merge_strand.MergeStrand.{MergeStrand}
 
 -- Laws of levels: which list of intervals makes up the values of positions, and that a set of

@@ -5,7 +5,8 @@ use Rattle.bt_bed.specs.model.BedLine.{interval_lines, is_header, bed_text}
 use Rattle.bt_bed.specs.model.Genome.{Entry}
 use Rattle.bt_bed.specs.declared.record.strand.Strand.{Strand}
 use Rattle.bt_runs.specs.model.Depth.{DepthInterval, coverage, depth_lines}
-use Rattle.bt_runs.specs.model.Gaps.{complement, length_in}
+use Rattle.bt_runs.specs.model.Gaps.{complement}
+use Rattle.bt_runs.specs.calls.Complementing.{length_in}
 use Rattle.bt_tool.specs.model.Report.{entries_in, Inputs, report_of, order_of, or_empty}
 use Rattle.bt_runs.specs.declared.merge.merge_strand.MergeStrand.{MergeStrand}
 use Rattle.bt_runs.specs.declared.merge.merge_strand.MergeStrand.TheVariants.{All, Each}
@@ -13,7 +14,7 @@ use Rattle.bt_tool.specs.declared.planning.plan_type.Command.{Command}
 use Rattle.bt_tool.specs.declared.planning.plan_type.Command.TheVariants.{Merge, Complement, Coverage, Intersect, Subtract, MaskFasta}
 use Rattle.bt_laws.specs.WholeRuns.{RunWrites, RunsWithoutFault, first_records, piped, with_second, second_alone, two_texts}
 use Rattle.std.specs.List.{AllByRecursion, list_any}
-use Rattle.bt_sweep.specs.model.Hits.{any_overlap}
+use Rattle.bt_sweep.specs.calls.Sweeping.{any_overlap}
 use Rattle.bt_sweep.specs.declared.hits.hit_rule.HitRule.{HitRule}
 use Rattle.bt_sweep.specs.declared.output.shape.Shape.TheVariants.{Cut, Missing, Once, Count, OrigA}
 use Rattle.bt_runs.specs.model.Merged.{ordered_runs}

@@ -2,19 +2,22 @@
 use Rattle.std.specs.Prelude.{◌≡◌, ℕ, ◌+◌, ◌<◌, ◌≤◌, Bool, true, not, List, [], ◌∷◌, ◌++◌, flat_map, Some, ◌&&◌, IsTrue, Option, None, ◌⊎◌, false, Result, Ok, ◌≢◌, ◌↔◌, All, length, ⊤, bytes_eq}
 use Rattle.std.specs.List.{list_all, last_or, AllByRecursion}
 use Rattle.bt_bed.specs.model.Feature.{Span, Feature}
-use Rattle.bt_seq.specs.model.Alignment.{Alignment, EndsAt, reference_length, Part, each_operation, is_letter, operations_in, alignment_blocks, blocks_of, is_skip, with_bases}
+use Rattle.bt_seq.specs.model.Alignment.{Alignment, reference_length, Part, each_operation, is_letter, operations_in, alignment_blocks, blocks_of, is_skip, with_bases}
+use Rattle.bt_seq.specs.calls.Alignments.{EndsAt}
 use Rattle.bt_seq.specs.declared.sam.operation.Operation.{Operation}
-use Rattle.bt_lines.specs.model.Lines.{is_number}
-use Rattle.bt_bed.specs.model.Good.{Good, items_in, AreInBlocks}
-use Rattle.bt_bed.specs.model.Meeting.{Rule, join_report, written}
+use Rattle.bt_lines.specs.model.Lines.{is_number, whole_text}
+use Rattle.bt_bed.specs.model.Good.{Good, items_in, block_good}
+use Rattle.bt_bed.specs.calls.Orders.{AreInBlocks}
+use Rattle.bt_bed.specs.model.Meeting.{Rule, join_report, written, Met}
 use Rattle.bt_lines.specs.model.Fault.{FaultValue}
-use Rattle.bt_seq.specs.model.Masked.{decided, mask_rule, masked_line, held_for, SequenceLine, Block, blocks_by, left_after, names_behind}
+use Rattle.bt_seq.specs.model.Masked.{decided, mask_rule, masked_line, SequenceLine, Block, blocks_by, names_behind, sequence_good, mask_met}
 use Rattle.bt_seq.specs.declared.mask.mask_how.MaskHow.{MaskHow}
-use Rattle.bt_seq.specs.calls.MaskStage.{MaskStage}
-use Rattle.bt_seq.specs.calls.MaskState.{Masking}
+use Rattle.bt_seq.specs.calls.MaskStage.{MaskStage, held_for}
+use Rattle.bt_seq.specs.calls.MaskState.{Masking, left_after}
 use Rattle.bt_seq.specs.calls.MaskSteps.{IsOpen, GivesBed}
 use Rattle.bt_lines.specs.calls.Output.{Output}
 use Rattle.bt_lines.specs.declared.fault.Fault.{Fault}
+use Rattle.bt_lines.specs.declared.fault.Input.TheVariants.{First, Second}
 use Rattle.bt_bed.specs.declared.record.taken.Taken.{Taken}
 use Rattle.bt_bed.specs.declared.record.taken.Taken.TheVariants.{Yes}
 
@@ -171,3 +174,10 @@ abbrev pub owners_were : Type 0
 owners_were = (names more : List (List ℕ)) (records : List Feature) (rest : List (List ℕ))
     → left_after (names ++ more) records ≡ Some (rest ++ more)
     → left_after names records ≡ Some rest
+
+-- What maskfasta writes of two texts.
+
+-- the bytes that maskfasta writes of two whole texts, and the fault that it tells
+abbrev pub mask_texts : MaskHow → Bool → List ℕ → List ℕ → Met ℕ FaultValue
+mask_texts how full fasta bed =
+    mask_met how (sequence_good full First (whole_text fasta)) (block_good Second (whole_text bed))

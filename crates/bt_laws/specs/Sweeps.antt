@@ -7,13 +7,14 @@ use Rattle.bt_bed.specs.model.Feature.{Feature, intervals_of}
 use Rattle.bt_bed.specs.model.BedLine.{fault_at_line}
 use Rattle.bt_bed.specs.model.Good.{Good, Member, items_in}
 use Rattle.bt_bed.specs.model.Meeting.{Rule, join_report, written, Met}
-use Rattle.bt_bed.specs.model.Order.{Order, IsTotal, rank_order}
-use Rattle.bt_sweep.specs.model.Hits.{decided, is_held, limited, decides, held_for, hits, any_overlap}
-use Rattle.bt_sweep.specs.model.Lines.{intersect, intersect_met, sweep_rule, subtract}
+use Rattle.bt_bed.specs.model.Order.{Order, rank_order}
+use Rattle.bt_bed.specs.calls.Orders.{IsTotal, ArePlaced}
+use Rattle.bt_sweep.specs.model.Hits.{decided, is_held, limited, decides, held_for, hits}
+use Rattle.bt_sweep.specs.model.Lines.{intersect, intersect_met, sweep_rule}
+use Rattle.bt_sweep.specs.calls.LineLaws.{subtract}
 use Rattle.bt_sweep.specs.declared.hits.hit_rule.HitRule.{HitRule}
 use Rattle.bt_sweep.specs.declared.output.shape.Shape.{Shape}
-use Rattle.bt_bed.specs.model.Sorted.{ArePlaced}
-use Rattle.bt_sweep.specs.calls.Sweeping.{Sweeping, leaves_some, Stage, GivesB}
+use Rattle.bt_sweep.specs.calls.Sweeping.{Sweeping, leaves_some, Stage, GivesB, any_overlap}
 use Rattle.bt_lines.specs.model.Fault.{FaultValue}
 use Rattle.bt_lines.specs.calls.Output.{Output}
 use Rattle.bt_lines.specs.declared.fault.Fault.{Fault}

@@ -1,7 +1,7 @@
 //! Laws of what a sweep decides, takes and writes.
 
 ghost use Rattle.bt_laws.specs.Sweeps.{decided_stays, both_of_nothing, taken_are_first, quiet_are_taken, written_are_a_prefix, limit_is_kept, limit_stops, decided_before_the_limit, fault_behind_undecided, fault_of_first, fault_within_the_limit, first_is_too_many, half_is_taken, limit_before_the_fault, none_is_held, parts_are_left, third_is_too_many, three_are_enough, whole_is_left};
-ghost use Rattle.bt_sweep.specs.model.Lines.{lines_are_before, lines_stay, pieces_are, pieces_only, left_are_lines, subtract_is_met, faultless_are_all};
+ghost use Rattle.bt_sweep.specs.calls.LineLaws.{lines_are_before, lines_stay, pieces_are, pieces_only, left_are_lines, subtract_is_met, faultless_are_all};
 
 /// What is decided stays decided, and its lines stay as they are, whatever comes after in order: the
 /// record that decides it included.

@@ -5,3 +5,4 @@ pub mod Names
 pub mod Output
 pub mod Reader
 pub mod Line
+pub mod Faults

@@ -2,6 +2,7 @@
 pub mod Complementing
 pub mod Covering
 pub mod Engine
+pub mod MergedRuns
 pub mod Merging
 pub mod Stranding
 pub mod Unstranded

@@ -1,7 +1,8 @@
 //! The merged runs of one chromosome, by a scan of its positions: slow, and plainly what the
 //! definition says. Tests compare the merge with it.
 
-ghost use Rattle.bt_runs.specs.model.Merged.{runs_of, Bridged};
+ghost use Rattle.bt_runs.specs.model.Merged.{runs_of};
+ghost use Rattle.bt_runs.specs.calls.MergedRuns.{Bridged};
 ghost use Rattle.bt_runs.specs.inside.PlainRuns.{spans_in, with_next, HasRight};
 ghost use Rattle.std.specs.List.{list_any};
 ghost use Rattle.std.specs.Prelude.{◌≡◌, ◌↔◌, ◌+◌, ◌<◌, ◌≤◌, ◌&&◌, nat_le, nat_lt, All, IfOk, ◌^◌, IsTrue, OnOk};

@@ -3,3 +3,4 @@ pub mod MaskStage
 pub mod MaskSteps
 pub mod Sam
 pub mod MaskState
+pub mod Alignments

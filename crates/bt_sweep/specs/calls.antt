@@ -4,3 +4,4 @@ pub mod HeldIndex
 pub mod HeldList
 pub mod Sweeping
 pub mod SweepView
+pub mod LineLaws

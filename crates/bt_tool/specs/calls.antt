@@ -4,3 +4,5 @@ pub mod Lent
 pub mod Plan
 pub mod Run
 pub mod Limits
+pub mod Inputs
+pub mod CommandLine

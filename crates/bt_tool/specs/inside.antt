@@ -4,3 +4,4 @@ pub mod MaskLoop
 pub mod Pair
 pub mod Rounds
 pub mod SweepLoop
+pub mod UsageKinds

@@ -3,7 +3,7 @@
 
 ghost use Rattle.std.specs.Prelude.{List, ◌≡◌, Err};
 ghost use Rattle.bt_tool.specs.calls.Run.{ShowsReport};
-ghost use Rattle.bt_tool.specs.model.Report.{ReportsAnswer};
+ghost use Rattle.bt_tool.specs.calls.CommandLine.{ReportsAnswer};
 ghost use Rattle.bt_tool.specs.model.Table.{Word};
 ghost use Rattle.bt_tool.specs.model.Options.{options};
 ghost use Rattle.bt_tool.specs.declared.options.usage.Usage.{Usage};

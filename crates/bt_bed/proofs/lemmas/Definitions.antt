@@ -3,13 +3,15 @@ use Rattle.bt_lines.proofs.Std.{rules, ◌≡◌, ℕ, ◌<◌, Bool, true, fals
 use Rattle.bt_lines.specs.model.Lines.{lines_handed, TextLine}
 use Rattle.bt_lines.specs.declared.fault.Input.{Input}
 use Rattle.bt_lines.specs.declared.fault.Kind.{Kind}
-use Rattle.bt_bed.specs.model.Feature.{Feature, interval_of, intervals_of, AreNonEmpty, Span}
-use Rattle.bt_bed.specs.model.Positions.{IsCovered, AreApartFrom, with_position, stretches_from, scan_finds_stretches, AreStretchesOf}
+use Rattle.bt_bed.specs.model.Feature.{Feature, interval_of, intervals_of, Span}
+use Rattle.bt_bed.specs.calls.Orders.{AreNonEmpty, good_are_placed, good_are_non_empty, AreInBlocks, IsBlockUpTo, good_are_in_blocks, IsTotal, IsUpTo, ArePlaced, IsPlacedBefore}
+use Rattle.bt_bed.specs.model.Positions.{with_position, stretches_from}
+use Rattle.bt_bed.specs.calls.Stretches.{IsCovered, AreApartFrom, scan_finds_stretches, AreStretchesOf}
 use Rattle.bt_bed.specs.model.BedLine.{record_of}
-use Rattle.bt_bed.specs.model.Good.{good, Good, good_from, good_with, items_in, bed_format, good_are_placed, good_are_non_empty, line_says, locus_at, AreInBlocks, IsBlockUpTo, block_format, good_are_in_blocks}
+use Rattle.bt_bed.specs.model.Good.{good, Good, good_from, good_with, items_in, bed_format, line_says, locus_at, block_format}
 use Rattle.bt_bed.specs.model.Meeting.{Rule, Met, join_report, written}
-use Rattle.bt_bed.specs.model.Order.{Order, IsTotal}
-use Rattle.bt_bed.specs.model.Sorted.{Locus, IsUpTo, ArePlaced, IsPlacedBefore, Sorting, falls_in, sorting_of, block_sorting}
+use Rattle.bt_bed.specs.model.Order.{Order}
+use Rattle.bt_bed.specs.model.Sorted.{Locus, Sorting, falls_in, sorting_of, block_sorting}
 use Rattle.bt_bed.proofs.lemmas.read.good.SaidLemmas.{said_features}
 use Rattle.bt_bed.proofs.lemmas.order.OrderLemmas.{sorted_up_to}
 

@@ -1,11 +1,13 @@
 -- Lemmas on records and intervals as lines.
 use Rattle.bt_lines.proofs.Std.{common_steps, ◌≡◌, ℕ, [], ◌∷◌, ◌++◌, List, Result, false, true, ◌∙◌, append_assoc, arith, drop, length, take, ◌-◌, length-drop, take_all, is_ok}
-use Rattle.bt_lines.specs.model.Fault.{write_failed, FaultValue}
+use Rattle.bt_lines.specs.model.Fault.{FaultValue}
+use Rattle.bt_lines.specs.calls.Faults.{write_failed}
 use Rattle.bt_lines.specs.calls.Output.{Output, FailsToPut, Puts, PutsAll, span_text}
 use Rattle.bt_lines.specs.declared.fault.Fault.{Fault}
 use Rattle.bt_lines.proofs.lemmas.Writer.{fails_before, puts_more}
 use Rattle.bt_bed.specs.model.Feature.{Interval, Feature}
-use Rattle.bt_bed.specs.model.BedLine.{interval_line, bounds_text, bed_text}
+use Rattle.bt_bed.specs.model.BedLine.{interval_line, bed_text}
+use Rattle.bt_bed.specs.inside.FirstColumns.{bounds_text}
 
 -- The line of an interval, put column by column, and the lines of intervals one after another.
 

@@ -2,7 +2,8 @@
 use Rattle.std.specs.Prelude.{ℕ, ◌≤◌, List, drop, length, take, Option, Result, Ok, Err, option_map, ◌≡◌, ◌+◌, ◌++◌, ◌∷◌, [], Some, Bool, true, false, None, bytes_eq, nat_lt, if◌then◌else◌, option_to_list}
 use Rattle.bt_lines.specs.declared.fault.Kind.{Kind}
 use Rattle.bt_bed.specs.model.Feature.{Feature}
-use Rattle.bt_bed.specs.model.BedLine.{IsFeature, strand_of, kept_columns, columns_in, record_of}
+use Rattle.bt_bed.specs.model.BedLine.{strand_of, kept_columns, record_of}
+use Rattle.bt_bed.specs.calls.Features.{IsFeature, columns_in}
 use Rattle.bt_bed.specs.declared.record.bed.BedRef.{BedRef}
 use Rattle.bt_bed.specs.declared.record.strand.Strand.{Strand}
 use Rattle.std.specs.Io.BufRead.{strip_last}

@@ -6,7 +6,8 @@ use Rattle.bt_lines.specs.declared.fault.Fault.{Fault}
 use Rattle.bt_lines.specs.declared.reader.line_reader.LineReader.{LineReader}
 use Rattle.bt_bed.specs.calls.SortedReader.{FillsSorted, IsTaken as IsTakenIn, Lends as LendsFrom, PeeksSorted, TakesSorted, count_in as count_from, view_in}
 use Rattle.bt_bed.specs.model.Feature.{Feature}
-use Rattle.bt_bed.specs.model.Good.{locus_at, IsBlockUpTo}
+use Rattle.bt_bed.specs.model.Good.{locus_at}
+use Rattle.bt_bed.specs.calls.Orders.{IsBlockUpTo}
 use Rattle.bt_bed.specs.model.Sorted.{Locus, block_sorting}
 use Rattle.bt_bed.specs.calls.Reading.{MemberReader}
 use Rattle.bt_bed.specs.declared.read.batch.Batch.{Batch}

@@ -1,5 +1,5 @@
 -- What a table of chromosomes holds, and what reading one does.
-use Rattle.std.specs.Prelude.{◌≡◌, ℕ, ◌-◌, ◌⊎◌, true, List, ◌++◌, take, map, Option, Some, None, Result, Ok, Err, IfSome, Vec, option_map}
+use Rattle.std.specs.Prelude.{◌≡◌, ℕ, ◌-◌, ◌⊎◌, true, List, ◌++◌, take, map, Option, Some, None, Result, Ok, Err, IfSome, Vec, option_map, Bool, false}
 use Rattle.std.specs.Option.{option_to_list}
 use Rattle.std.specs.declared.alloc.Global.{Global}
 use Rattle.bt_lines.specs.declared.device.Source.{Ghosts as Source}
@@ -9,9 +9,10 @@ use Rattle.bt_lines.specs.calls.Reader.{Hands, IsNear, IsSound, end_told, source
 use Rattle.bt_lines.specs.declared.fault.Fault.{Fault}
 use Rattle.bt_lines.specs.declared.fault.Kind.{Kind}
 use Rattle.bt_lines.specs.declared.reader.line_reader.LineReader.{LineReader}
+use Rattle.bt_lines.specs.declared.fault.Kind.TheVariants.{TooFewColumns, EmptyName, BadLength, RepeatedChrom}
 use Rattle.bt_bed.specs.model.Genome.{Entry, entry_of, genome_names, genome_of, new_entry}
-use Rattle.bt_bed.specs.model.BedLine.{fault_at_line, is_genome_kind}
-use Rattle.bt_bed.specs.model.Order.{AreDistinct}
+use Rattle.bt_bed.specs.model.BedLine.{fault_at_line}
+use Rattle.bt_bed.specs.calls.Orders.{AreDistinct}
 use Rattle.bt_bed.specs.calls.Reading.{ReadingFails, MemoryRanOut, TellsOwnFailure}
 use Rattle.bt_bed.specs.declared.order.entry.EntryRef.{EntryRef}
 use Rattle.bt_bed.specs.declared.order.genome.Genome.{Genome}
@@ -41,6 +42,14 @@ pub record LineAdded (text : List ℕ) (old new : Genome) : Type 0 where
   pub entry : Option Entry
   pub says : new_entry (names_of old) (entry_of text) ≡ Ok entry
   pub added : entries new ≡ entries old ++ option_to_list entry
+
+-- whether a line of a genome file can be at fault so
+abbrev pub is_genome_kind : Kind → Bool
+is_genome_kind TooFewColumns = true
+is_genome_kind EmptyName = true
+is_genome_kind BadLength = true
+is_genome_kind RepeatedChrom = true
+is_genome_kind _ = false
 
 module _ {S : Type 0} where
   -- the whole genome file was read

@@ -1,7 +1,8 @@
 -- What a reader of the members of an input holds, and what its calls do.
 use Rattle.std.specs.Prelude.{◌≡◌, ℕ, suc, ◌+◌, ◌-◌, ◌^◌, ◌<◌, ◌≤◌, ◌⊎◌, Bool, true, false, List, [], ◌∷◌, ◌++◌, drop, length, Option, Some, None, option_map, Result, Ok, All, Err, IsSome, IfSome, ⊤}
 use Rattle.bt_lines.specs.declared.device.Source.{Ghosts as Source}
-use Rattle.bt_lines.specs.model.Fault.{FaultValue, read_failed, no_memory}
+use Rattle.bt_lines.specs.model.Fault.{FaultValue, read_failed}
+use Rattle.bt_lines.specs.calls.Faults.{no_memory}
 use Rattle.bt_lines.specs.model.Lines.{TextLine}
 use Rattle.bt_lines.specs.calls.Names.{fault_value}
 use Rattle.bt_lines.specs.calls.Output.{block_size}
@@ -11,8 +12,16 @@ use Rattle.bt_lines.specs.declared.fault.Input.{Input}
 use Rattle.bt_lines.specs.declared.fault.Kind.{Kind}
 use Rattle.bt_lines.specs.declared.fault.Place.{Place}
 use Rattle.bt_lines.specs.declared.reader.line_reader.LineReader.{LineReader}
+use Rattle.bt_lines.specs.declared.fault.Kind.TheVariants.{ReadFailed, WriteFailed, NoMemory}
 use Rattle.bt_bed.specs.model.Good.{Format, Good, Member, ends_with, good_from}
-use Rattle.bt_bed.specs.model.BedLine.{fault_at_line, is_of_line}
+use Rattle.bt_bed.specs.model.BedLine.{fault_at_line}
+
+-- whether a line can be at fault so by what it says, and not by a device that failed or by running out of memory
+abbrev pub is_of_line : Kind → Bool
+is_of_line ReadFailed = false
+is_of_line WriteFailed = false
+is_of_line NoMemory = false
+is_of_line _ = true
 
 -- each member's line comes after that of the one before, and none before the line given
 abbrev pub AreAscending : {A : Type 0} → ℕ → List (Member A) → Type 0

@@ -8,7 +8,8 @@ use Rattle.bt_bed.specs.calls.SortedReader.{FillsSorted, IsTaken as IsTakenIn, L
 use Rattle.bt_bed.specs.model.Feature.{Feature}
 use Rattle.bt_bed.specs.model.Good.{locus_at}
 use Rattle.bt_bed.specs.model.Order.{Order}
-use Rattle.bt_bed.specs.model.Sorted.{Locus, IsUpTo, sorting_of}
+use Rattle.bt_bed.specs.model.Sorted.{Locus, sorting_of}
+use Rattle.bt_bed.specs.calls.Orders.{IsUpTo}
 use Rattle.bt_bed.specs.calls.Reading.{MemberReader, room as room_in}
 use Rattle.bt_bed.specs.declared.read.batch.Batch.{Batch}
 use Rattle.bt_bed.specs.declared.read.batch.Consumed.{Consumed}

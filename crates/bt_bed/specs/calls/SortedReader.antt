@@ -2,7 +2,7 @@
 use Rattle.std.specs.Prelude.{◌≡◌, ℕ, List, [], ◌∷◌, drop, length, take, ◌-◌, ◌≤◌, ◌&&◌, not, Bool, true, false, Option, Some, None, Result, Ok, Err, IsTrue, option_map, IfSome}
 use Rattle.bt_lines.specs.calls.Reader.{BeginsLines, IsKept, TakenLines, TakesLines, buffered_bytes, buffered_in as lines_buffered, input_of, is_open, fault_kept as line_fault, lines_given}
 use Rattle.bt_bed.specs.model.Feature.{Feature}
-use Rattle.bt_bed.specs.model.BedLine.{IsFeature}
+use Rattle.bt_bed.specs.calls.Features.{IsFeature}
 use Rattle.bt_bed.specs.calls.Bed.{is_some_left, last_start, feature_lent}
 use Rattle.bt_bed.specs.declared.read.batch.Batch.{Batch}
 use Rattle.bt_bed.specs.declared.read.batch.Consumed.{Consumed}

@@ -1,10 +1,11 @@
--- The first columns of a line, packed names, and texts that are kept.
-use Rattle.std.specs.Prelude.{◌≡◌, ℕ, ◌<◌, ◌≤◌, ◌+◌, ◌==◌, true, false, List, ◌∷◌, ◌++◌, length, take, drop, get_or, Some, ◌*◌, ◌%◌, ◌^◌, []}
+-- The first columns of a line, packed names, texts that are kept, and columns that are written.
+use Rattle.std.specs.Prelude.{◌≡◌, ℕ, ◌<◌, ◌≤◌, ◌+◌, ◌==◌, true, false, List, ◌∷◌, ◌++◌, length, take, drop, get_or, Some, ◌*◌, ◌%◌, ◌^◌, [], codes, decimal}
 use Rattle.std.specs.Char.{is_ascii_digit}
 use Rattle.std.specs.List.{All, list_all}
 use Rattle.std.specs.Str.Parse.{digits_value}
 use Rattle.bt_lines.specs.model.Lines.{value_of}
-use Rattle.bt_bed.specs.model.BedLine.{is_header, IsName}
+use Rattle.bt_bed.specs.model.BedLine.{is_header}
+use Rattle.bt_bed.specs.calls.Features.{IsName}
 use Rattle.bt_bed.specs.declared.parse.parsed_number.ParsedNumber.{ParsedNumber}
 use Rattle.std.specs.Int.{from_le_bytes, w64}
 use Rattle.bt_bed.specs.declared.parse.packed_name.PackedName.{PackedName}
@@ -85,3 +86,9 @@ HasKey name key = length name ≤ 7 → IsKey name key
 abbrev pub bytes_of : InlineText → List ℕ
 bytes_of (Short bytes) = bytes
 bytes_of (Long text) = text.items
+
+-- The columns that follow a name, as they are written.
+
+-- the bounds after the name: a tab, the start, a tab and the stop
+abbrev pub bounds_text : ℕ → ℕ → List ℕ
+bounds_text start stop = codes "\t" ++ (decimal start ++ (codes "\t" ++ decimal stop))

@@ -6,7 +6,8 @@ use Rattle.std.specs.Cmp.Lexicographic.{bytes_decides}
 use Rattle.std.specs.declared.cmp.Ordering.TheVariants.{Less, Equal}
 use Rattle.std.proofs.Common.{sym, ap, subst}
 use Rattle.std.proofs.lemmas.Bool.{false≢true}
-use Rattle.bt_bed.specs.model.Order.{rank_of, compare_ranks, ranks_are_total}
+use Rattle.bt_bed.specs.model.Order.{rank_of, compare_ranks}
+use Rattle.bt_bed.specs.calls.Orders.{ranks_are_total}
 
 compared_same : (o : Option ℕ) → compare_ranks o o ≡ Equal
 compared_same None = refl

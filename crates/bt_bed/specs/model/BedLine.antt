@@ -1,13 +1,13 @@
 -- What a line of a BED file says: headers, features, faults; and the lines that intervals are written as.
-use Rattle.std.specs.Prelude.{ℕ, ◌<◌, List, [], ◌∷◌, All, bytes_eq, Option, Some, None, Bool, true, ◌==◌, ◌||◌, not, codes, ◌++◌, decimal, flat_map, ◌≡◌, false, ◌≤◌, IsTrue, length, Result, Ok, Err, nat_lt, if◌then◌else◌}
+use Rattle.std.specs.Prelude.{ℕ, List, [], ◌∷◌, bytes_eq, Option, Some, None, Bool, true, ◌==◌, ◌||◌, not, codes, ◌++◌, decimal, flat_map, ◌≡◌, false, Result, Ok, Err, nat_lt, if◌then◌else◌}
 use Rattle.bt_bed.specs.declared.record.strand.Strand.{Strand}
 use Rattle.std.specs.List.{take_while}
 use Rattle.bt_lines.specs.model.Fault.{FaultValue}
 use Rattle.bt_lines.specs.declared.fault.Input.{Input}
 use Rattle.bt_lines.specs.declared.fault.Kind.{Kind}
-use Rattle.bt_lines.specs.declared.fault.Kind.TheVariants.{TooFewColumns, EmptyName, BadStart, BadStop, EmptyFeature, UnknownChrom, OutOfOrder, BadLength, RepeatedChrom, ReadFailed, WriteFailed, NoMemory}
+use Rattle.bt_lines.specs.declared.fault.Kind.TheVariants.{TooFewColumns, EmptyName, BadStart, BadStop, EmptyFeature, UnknownChrom, OutOfOrder}
 use Rattle.bt_bed.specs.model.Order.{Order}
-use Rattle.bt_lines.specs.model.Lines.{pieces, max_number, value_of}
+use Rattle.bt_lines.specs.model.Lines.{pieces, value_of}
 use Rattle.bt_bed.specs.declared.record.strand.Strand.TheVariants.{Plus, Minus, Dot}
 use Rattle.bt_bed.specs.model.Feature.{Interval, Feature}
 
@@ -35,10 +35,6 @@ is_header (byte ∷ bytes) = (byte == 35) || is_header_word (first_word (byte �
 -- The lines that intervals are written as: columns with tabs between them (UCSC BED description,
 -- fields chrom, chromStart and chromEnd).
 
--- the bounds after the name: a tab, the start, a tab and the stop
-abbrev pub bounds_text : ℕ → ℕ → List ℕ
-bounds_text start stop = codes "\t" ++ (decimal start ++ (codes "\t" ++ decimal stop))
-
 -- chromosome, start and stop
 abbrev pub interval_line : Interval → List ℕ
 interval_line r =
@@ -49,13 +45,6 @@ abbrev pub interval_lines : List Interval → List ℕ
 interval_lines intervals = flat_map interval_line intervals
 
 -- Faults of a line.
-
--- whether a line can be at fault so by what it says, and not by a device that failed or by running out of memory
-abbrev pub is_of_line : Kind → Bool
-is_of_line ReadFailed = false
-is_of_line WriteFailed = false
-is_of_line NoMemory = false
-is_of_line _ = true
 
 -- whether a line of a BED input can be at fault so on its own, whatever its chromosome and its place
 abbrev pub is_record_kind : Kind → Bool
@@ -78,14 +67,6 @@ abbrev pub IsBedKind : Order → Kind → Type 0
 IsBedKind order kind =
     (is_bed_kind kind ≡ true)
     × (kind ≡ UnknownChrom → (name : List ℕ) × (order.knows name ≡ false))
-
--- whether a line of a genome file can be
-abbrev pub is_genome_kind : Kind → Bool
-is_genome_kind TooFewColumns = true
-is_genome_kind EmptyName = true
-is_genome_kind BadLength = true
-is_genome_kind RepeatedChrom = true
-is_genome_kind _ = false
 
 -- a fault of this kind at a line of the input
 abbrev pub fault_at_line : Input → ℕ → Kind → FaultValue
@@ -161,31 +142,3 @@ cut_to start stop feature =
       strand = feature.strand;
       rest = feature.rest;
     }
-
--- the columns that a kept rest has
-abbrev pub columns_in : List ℕ → List (List ℕ)
-columns_in [] = []
-columns_in (byte ∷ bytes) = pieces 9 bytes
-
--- whether a rest is empty, or begins with a tab
-abbrev pub is_kept : List ℕ → Bool
-is_kept [] = true
-is_kept (byte ∷ bytes) = byte == 9
-
--- a name of a chromosome: it isn't empty and has no tab
-pub record IsName (name : List ℕ) : Type 0 where
-  pub some : 0 < length name
-  pub one_column : All (λ byte. (byte == 9) ≡ false) name
-
--- a feature that a line can say
-pub record IsFeature (feature : Feature) : Type 0 where
-  pub named : IsName feature.chrom
-  pub non_empty : feature.start < feature.stop
-  pub in_range : feature.stop ≤ max_number
-  pub kept : IsTrue (is_kept feature.rest)
-  pub stranded : feature.strand ≡ strand_of (columns_in feature.rest)
-
--- what a line says is such a feature
-abbrev pub said_are_features : Type 0
-said_are_features =
-    (text : List ℕ) (feature : Feature) → record_of text ≡ Ok (Some feature) → IsFeature feature

@@ -1,5 +1,5 @@
 -- Intervals and features: where they lie, their strands and bases.
-use Rattle.std.specs.Prelude.{ℕ, ◌<◌, List, [], ◌∷◌, All, cond, bytes_eq, Option, Some, None, map, ◌-◌, max, min, Bool, true, false}
+use Rattle.std.specs.Prelude.{ℕ, List, [], ◌∷◌, cond, bytes_eq, Option, Some, None, map, ◌-◌, max, min, Bool, true, false}
 use Rattle.bt_bed.specs.declared.record.strand.Strand.{Strand}
 use Rattle.bt_bed.specs.declared.record.strand.Strand.TheVariants.{Plus, Minus, Dot}
 
@@ -17,10 +17,6 @@ pub record Interval : Type 0 where
 pub record Span : Type 0 where
   pub start : ℕ
   pub stop : ℕ
-
--- each record has at least one position
-abbrev pub AreNonEmpty : List Interval → Type 0
-AreNonEmpty records = All (λ r. r.start < r.stop) records
 
 -- a record without its chromosome
 abbrev pub span_of : Interval → Span

@@ -1,14 +1,14 @@
 -- What a complete input gives: its good members, and the first line at fault.
-use Rattle.std.specs.Prelude.{ℕ, List, [], ◌∷◌, map, Option, Some, None, Result, Ok, Err, ◌≡◌, if◌then◌else◌, ◌≤◌, ⊤}
+use Rattle.std.specs.Prelude.{ℕ, List, [], ◌∷◌, map, Option, Some, None, Result, Ok, Err, if◌then◌else◌}
 use Rattle.bt_lines.specs.model.Fault.{FaultValue}
 use Rattle.bt_lines.specs.model.Lines.{Handed, cut_fault, lines_handed, TextLine}
 use Rattle.bt_lines.specs.declared.fault.Input.{Input}
 use Rattle.bt_lines.specs.declared.fault.Kind.{Kind}
-use Rattle.bt_bed.specs.model.Feature.{Feature, interval_of, intervals_of, AreNonEmpty}
-use Rattle.bt_bed.specs.model.BedLine.{fault_at_line, IsBedKind, record_of}
+use Rattle.bt_bed.specs.model.Feature.{Feature, interval_of}
+use Rattle.bt_bed.specs.model.BedLine.{fault_at_line, record_of}
 use Rattle.bt_lines.specs.declared.fault.Kind.TheVariants.{UnknownChrom, OutOfOrder}
-use Rattle.bt_bed.specs.model.Order.{Order, IsTotal}
-use Rattle.bt_bed.specs.model.Sorted.{Locus, locus_of, ArePlaced, Sorting, falls_in, sorting_of, block_sorting}
+use Rattle.bt_bed.specs.model.Order.{Order}
+use Rattle.bt_bed.specs.model.Sorted.{Locus, locus_of, Sorting, falls_in, sorting_of, block_sorting}
 
 -- What an input gives: its members (records, sequences' lines, alignments) up to its first line at
 -- fault.
@@ -106,12 +106,6 @@ said_after sorting last (Ok (Some r)) = in_order sorting last r
 unfoldable pub line_says : Sorting → Option Locus → List ℕ → Result (Option Feature) Kind
 line_says sorting last text = said_after sorting last (record_of text)
 
--- what is wrong with a line is of those kinds, by the order of the chromosomes
-abbrev pub wrong_lines_are_of_bed : Type 0
-wrong_lines_are_of_bed =
-    (order : Order) (last : Option Locus) (text : List ℕ) (kind : Kind)
-    → line_says (sorting_of order) last text ≡ Err kind → IsBedKind order kind
-
 -- sorted records, of which the place of the last is known
 abbrev pub bed_format : Sorting → Format Feature (Option Locus)
 bed_format sorting = record {
@@ -124,16 +118,6 @@ bed_format sorting = record {
 abbrev pub bed_good : Input → Order → Handed → Good Feature
 bed_good input order handed = good_handed (bed_format (sorting_of order)) input handed
 
--- the good records are in the order of their chromosomes
-abbrev pub good_are_placed : Type 0
-good_are_placed = (input : Input) (order : Order) (handed : Handed) → IsTotal order
-    → ArePlaced order (intervals_of (items_in (bed_good input order handed)))
-
--- each has at least one base
-abbrev pub good_are_non_empty : Type 0
-good_are_non_empty = (input : Input) (order : Order) (handed : Handed)
-    → AreNonEmpty (intervals_of (items_in (bed_good input order handed)))
-
 -- The good records of a BED input whose chromosomes come in any order. A block is a maximal run of
 -- records of one chromosome; in each block the starts don't fall, and a chromosome may have several
 -- blocks (bedtools manual, maskfasta).
@@ -145,19 +129,3 @@ block_format = bed_format block_sorting
 -- what is good of a BED input in blocks
 abbrev pub block_good : Input → Handed → Good Feature
 block_good input handed = good_handed block_format input handed
-
--- a place isn't below another that it follows: on one chromosome the starts don't fall
-abbrev pub IsBlockUpTo : Locus → Locus → Type 0
-IsBlockUpTo place next = place.chrom ≡ next.chrom → place.start ≤ next.start
-
--- no record of a chromosome starts before the one right before it,
--- if that is of the same chromosome
-abbrev pub AreInBlocks : List Feature → Type 0
-AreInBlocks [] = ⊤
-AreInBlocks (r ∷ []) = ⊤
-AreInBlocks (r ∷ s ∷ rs) = IsBlockUpTo (locus_at r) (locus_at s) × AreInBlocks (s ∷ rs)
-
--- the good records are so
-abbrev pub good_are_in_blocks : Type 0
-good_are_in_blocks = (input : Input) (handed : Handed)
-    → AreInBlocks (items_in (block_good input handed))

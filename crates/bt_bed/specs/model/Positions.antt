@@ -1,23 +1,6 @@
--- Sets of positions of one chromosome, and the one list of intervals that makes each of them up.
-use Rattle.std.specs.Prelude.{ℕ, ◌<◌, List, [], ◌∷◌, cond, Bool, ◌==◌, ◌≤◌, IsTrue, zero, suc, ◌+◌, ◌⊎◌, ⊤}
+-- The list of intervals that makes up a set of positions of one chromosome.
+use Rattle.std.specs.Prelude.{ℕ, List, [], ◌∷◌, cond, Bool, ◌==◌, zero, suc, ◌+◌}
 use Rattle.bt_bed.specs.model.Feature.{Span}
-
--- the position lies in one of the spans
-abbrev pub IsCovered : List Span → ℕ → Type 0
-IsCovered [] p = ⊥
-IsCovered (s ∷ ss) p = ((s.start ≤ p) × (p < s.stop)) ⊎ IsCovered ss p
-
--- ascending, from a first position on: none is empty, and each ends below the start of the next,
--- so that no two touch
-abbrev pub AreApartFrom : ℕ → List Span → Type 0
-AreApartFrom first [] = ⊤
-AreApartFrom first (s ∷ ss) = (first ≤ s.start) × (s.start < s.stop) × AreApartFrom (s.stop + 1) ss
-
--- the list of intervals that makes up the set
-pub record AreStretchesOf (S : ℕ → Type 0) (spans : List Span) : Type 0 where
-  pub apart : AreApartFrom 0 spans
-  pub within : (p : ℕ) → IsCovered spans p → S p
-  pub whole : (p : ℕ) → S p → IsCovered spans p
 
 -- the position as one more stretch before the others,
 -- or as the first position of the first if they touch
@@ -33,9 +16,3 @@ stretches_from test first zero = []
 stretches_from test first (suc n) =
     cond (test first) (with_position first (stretches_from test (first + 1) n))
     (stretches_from test (first + 1) n)
-
--- a scan of the positions below n finds the stretches of those that pass
-abbrev pub scan_finds_stretches : Type 0
-scan_finds_stretches =
-    (test : ℕ → Bool) (n : ℕ)
-    → AreStretchesOf (λ p. (p < n) × IsTrue (test p)) (stretches_from test 0 n)

@@ -1,7 +1,8 @@
 //! The order of chromosomes by the bytes of their names.
 
 ghost use Rattle.std.specs.Prelude.{◌≡◌};
-ghost use Rattle.bt_bed.specs.model.Order.{byte_order, bytes_total};
+ghost use Rattle.bt_bed.specs.model.Order.{byte_order};
+ghost use Rattle.bt_bed.specs.calls.Orders.{bytes_total};
 
 use crate::order::ChromOrder;
 use crate::parse::names::is_same_name;

@@ -21,7 +21,7 @@ pub struct Genome {
 #[tactic(auto, unfolding(crate::specs::calls::GenomeTable::entries))]
 impl Genome {
     ghost use Rattle.std.specs.Prelude.{◌≡◌, false, [], ◌∷◌, ◌++◌, length, slice_get, Some, IfErr, OnOk, option_map};
-    ghost use Rattle.bt_lines.specs.model.Fault.{no_memory};
+    ghost use Rattle.bt_lines.specs.calls.Faults.{no_memory};
     ghost use Rattle.bt_lines.specs.calls.Names.{fault_value};
     ghost use Rattle.bt_bed.specs.model.Genome.{entry_of, new_entry};
     ghost use Rattle.bt_bed.specs.calls.Reading.{IsLost};

@@ -7,7 +7,8 @@ pub(crate) mod genome_line;
 pub(crate) mod genome_order;
 
 ghost use Rattle.std.specs.Prelude.{◌≡◌, IsTrue};
-ghost use Rattle.bt_bed.specs.model.Order.{IsTotal, Order};
+ghost use Rattle.bt_bed.specs.model.Order.{Order};
+ghost use Rattle.bt_bed.specs.calls.Orders.{IsTotal};
 
 use std::cmp::Ordering;
 

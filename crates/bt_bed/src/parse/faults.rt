@@ -1,7 +1,8 @@
 //! Faults of a line.
 
 ghost use Rattle.std.specs.Prelude.{◌≡◌, true};
-ghost use Rattle.bt_bed.specs.model.BedLine.{fault_at_line, is_of_line};
+ghost use Rattle.bt_bed.specs.model.BedLine.{fault_at_line};
+ghost use Rattle.bt_bed.specs.calls.Reading.{is_of_line};
 ghost use Rattle.bt_lines.specs.calls.Names.{fault_value};
 
 use bt_lines::{Fault, Kind, Place};

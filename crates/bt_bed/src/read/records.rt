@@ -32,7 +32,7 @@ impl<'o, S: Source, O: ChromOrder> Records<'o, S, O> {
     ghost use Rattle.bt_lines.specs.calls.Reader.{fault_kept as line_fault, input_of, lines_left};
     ghost use Rattle.bt_bed.specs.contracts.read.records.Records.{the_row};
     ghost use Rattle.bt_bed.specs.model.Good.{good, bed_format, locus_at};
-    ghost use Rattle.bt_bed.specs.model.Order.{IsTotal};
+    ghost use Rattle.bt_bed.specs.calls.Orders.{IsTotal};
     ghost use Rattle.bt_bed.specs.calls.Reading.{BeginsComing, ahead_in, good_coming, line_of_ahead};
     ghost use Rattle.bt_bed.specs.calls.Records.{FillsRecords, IsTaken, Lends, PeeksRecord, TakesRecords, below, buffered_in, count_in, fault_kept, last_locus, order_in, view_of};
 

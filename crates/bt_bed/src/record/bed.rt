@@ -2,7 +2,8 @@
 
 ghost use Rattle.std.specs.Prelude.{◌≡◌, ◌<◌, ◌≤◌, IsTrue};
 ghost use Rattle.bt_lines.specs.model.Lines.{max_number};
-ghost use Rattle.bt_bed.specs.model.BedLine.{IsName, columns_in, is_kept, strand_of};
+ghost use Rattle.bt_bed.specs.model.BedLine.{strand_of};
+ghost use Rattle.bt_bed.specs.calls.Features.{IsName, columns_in, is_kept};
 
 use crate::record::strand::Strand;
 

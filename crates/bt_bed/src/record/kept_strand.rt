@@ -2,7 +2,8 @@
 
 ghost use Rattle.std.specs.Prelude.{◌≡◌, ◌≤◌, ◌∷◌, [], List, ℕ, drop, length};
 ghost use Rattle.bt_lines.specs.model.Lines.{pieces};
-ghost use Rattle.bt_bed.specs.model.BedLine.{columns_in, strand_named, strand_of};
+ghost use Rattle.bt_bed.specs.model.BedLine.{strand_named, strand_of};
+ghost use Rattle.bt_bed.specs.calls.Features.{columns_in};
 
 use crate::parse::parsing::behind;
 use crate::record::strand::Strand;

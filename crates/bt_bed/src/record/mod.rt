@@ -11,7 +11,8 @@ pub(crate) mod taken;
 ghost use Rattle.std.specs.Prelude.{◌≡◌, ◌∷◌, ◌++◌, ℕ, List, [], IfSome, IsTrue};
 ghost use Rattle.bt_bed.specs.calls.Bed.{feature_lent, raw_in, record_in};
 ghost use Rattle.bt_bed.specs.model.Feature.{Feature};
-ghost use Rattle.bt_bed.specs.model.BedLine.{IsFeature, bed_text};
+ghost use Rattle.bt_bed.specs.model.BedLine.{bed_text};
+ghost use Rattle.bt_bed.specs.calls.Features.{IsFeature};
 
 use crate::record::bed::BedRef;
 use crate::record::kept_strand::kept_strand;

@@ -1,9 +1,10 @@
 //! The line of an interval in BED output.
 
 ghost use Rattle.std.specs.Prelude.{◌≡◌, ◌+◌, ◌≤◌, ◌++◌, codes, decimal, drop, false, true};
-ghost use Rattle.bt_lines.specs.model.Fault.{write_failed};
+ghost use Rattle.bt_lines.specs.calls.Faults.{write_failed};
 ghost use Rattle.bt_lines.specs.calls.Output.{FailsToPut, Puts, PutsAll, span_text};
-ghost use Rattle.bt_bed.specs.model.BedLine.{bounds_text, interval_line};
+ghost use Rattle.bt_bed.specs.model.BedLine.{interval_line};
+ghost use Rattle.bt_bed.specs.inside.FirstColumns.{bounds_text};
 
 use bt_lines::{COLUMN, Fault, Out, Sink, put_both, put_column, write_column, write_failed};
 

@@ -2,9 +2,9 @@
 
 ghost use Rattle.std.specs.Prelude.{◌≡◌, [], ◌∷◌, ◌++◌, Some, None, Ok, Err, codes};
 ghost use Rattle.bt_laws.specs.Records.{shared_are_common, read_are_rewritten, written_are_read, stretches_are_one, first_lines_have_the_first, good_stand_on_lines, EarlyLinesBegin};
-ghost use Rattle.bt_bed.specs.model.Good.{wrong_lines_are_of_bed};
-ghost use Rattle.bt_bed.specs.model.Positions.{scan_finds_stretches};
-ghost use Rattle.bt_bed.specs.model.BedLine.{record_of, said_are_features};
+ghost use Rattle.bt_bed.specs.calls.Features.{wrong_lines_are_of_bed, said_are_features};
+ghost use Rattle.bt_bed.specs.calls.Stretches.{scan_finds_stretches};
+ghost use Rattle.bt_bed.specs.model.BedLine.{record_of};
 
 use bt_bed::Strand;
 use bt_lines::Kind;

@@ -1,7 +1,8 @@
 //! Laws of lines, columns and numbers.
 
 ghost use Rattle.std.specs.Prelude.{◌≡◌, ℕ, [], ◌∷◌, ◌++◌, List, Some, None, codes, flat_map, length, take};
-ghost use Rattle.bt_lines.specs.model.Lines.{AreNumbered, line_feeds, pieces, spelled, text_lines, whole_lines, value_of};
+ghost use Rattle.bt_lines.specs.model.Lines.{pieces, spelled, text_lines, whole_lines, value_of};
+ghost use Rattle.bt_lines.specs.calls.Line.{AreNumbered, line_feeds};
 ghost use Rattle.bt_lines.specs.calls.Output.{block_size};
 
 use bt_lines::{BLOCK, LineEnd};

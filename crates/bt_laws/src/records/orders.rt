@@ -2,10 +2,9 @@
 
 ghost use Rattle.std.specs.Prelude.{◌≡◌, [], ◌∷◌, ◌++◌, codes};
 ghost use Rattle.std.specs.declared.cmp.Ordering.TheVariants.{Less};
-ghost use Rattle.bt_bed.specs.model.Order.{byte_order, bytes_are_total, ranks_are_total};
+ghost use Rattle.bt_bed.specs.model.Order.{byte_order};
+ghost use Rattle.bt_bed.specs.calls.Orders.{bytes_are_total, ranks_are_total, good_are_non_empty, good_are_placed, good_are_in_blocks, prefixes_are_placed, placed_grows, sorted_by_places, prefixes_are_contiguous, placed_are_contiguous};
 ghost use Rattle.bt_laws.specs.Records.{bytes_know_each_chromosome, first_difference_decides, prefixes_come_first, contiguous_grows, first_lines_make_entries, genome_names_are_distinct, blocks_know_each_chromosome, good_in_blocks_are_non_empty, good_in_blocks_stand_on_lines};
-ghost use Rattle.bt_bed.specs.model.Good.{good_are_non_empty, good_are_placed, good_are_in_blocks};
-ghost use Rattle.bt_bed.specs.model.Sorted.{prefixes_are_placed, placed_grows, sorted_by_places, prefixes_are_contiguous, placed_are_contiguous};
 
 /// Records in order stay so with a next one that isn't below the last, and so do the first of them. In a total order
 /// of the chromosomes the records of each are contiguous, and records are sorted by their places.
@@ -41,7 +40,7 @@ pub fn chromosomes_come_once()
 /// The ranks of names give a total order of them, in which only equal names compare as equal, and so do the bytes of
 /// all names. By bytes a name comes before the longer ones that it begins, and else the first byte that differs decides. No
 /// chromosome is unknown to it.
-#[tactic(auto, using(bt_bed::specs::model::Order::bytes_total, crate::proofs::lemmas::single::Records::prefix_first, crate::proofs::lemmas::single::Records::difference_decides, crate::proofs::lemmas::single::Records::know_each, bt_bed::specs::inside::RankTotal::ranks_total))]
+#[tactic(auto, using(bt_bed::specs::calls::Orders::bytes_total, crate::proofs::lemmas::single::Records::prefix_first, crate::proofs::lemmas::single::Records::difference_decides, crate::proofs::lemmas::single::Records::know_each, bt_bed::specs::inside::RankTotal::ranks_total))]
 pub fn names_are_ordered()
     ensures ranks { ranks_are_total }
     ensures total { bytes_are_total }

@@ -2,8 +2,9 @@
 
 ghost use Rattle.std.specs.Prelude.{◌≡◌, ℕ, List};
 ghost use Rattle.bt_bed.specs.model.Feature.{Span};
-ghost use Rattle.bt_bed.specs.model.Positions.{AreStretchesOf};
-ghost use Rattle.bt_runs.specs.model.Gaps.{IsBare, gaps_of};
+ghost use Rattle.bt_bed.specs.calls.Stretches.{AreStretchesOf};
+ghost use Rattle.bt_runs.specs.model.Gaps.{gaps_of};
+ghost use Rattle.bt_runs.specs.calls.Complementing.{IsBare};
 ghost use Rattle.bt_laws.specs.Runs.{one_place_is_kept, settled_gaps_begin, settled_gaps_stay};
 
 /// The gaps of a chromosome are the stretches of its bare positions, and no other list is.

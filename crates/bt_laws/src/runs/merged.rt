@@ -2,12 +2,13 @@
 
 ghost use Rattle.std.specs.Prelude.{◌≡◌, ℕ, List};
 ghost use Rattle.bt_bed.specs.model.Feature.{Feature, intervals_of, Span};
-ghost use Rattle.bt_bed.specs.model.Positions.{AreStretchesOf};
-ghost use Rattle.bt_bed.specs.model.Sorted.{ArePlaced};
-ghost use Rattle.bt_bed.specs.model.Order.{IsTotal, Order, AreDistinct, rank_order};
+ghost use Rattle.bt_bed.specs.calls.Stretches.{AreStretchesOf};
+ghost use Rattle.bt_bed.specs.calls.Orders.{ArePlaced, IsTotal, AreDistinct};
+ghost use Rattle.bt_bed.specs.model.Order.{Order, rank_order};
 ghost use Rattle.bt_runs.specs.calls.Engine.{SettledBegins, SettledStays};
 ghost use Rattle.bt_runs.specs.declared.merge.merge_strand.MergeStrand.{MergeStrand};
-ghost use Rattle.bt_runs.specs.model.Merged.{counted, Bridged, merged, runs_of, AreTaken, merged_runs, settled_runs, ordered_runs, settled_strand_runs, strand_runs};
+ghost use Rattle.bt_runs.specs.model.Merged.{counted, merged, runs_of, merged_runs, ordered_runs, settled_strand_runs, strand_runs};
+ghost use Rattle.bt_runs.specs.calls.MergedRuns.{Bridged, AreTaken, settled_runs};
 ghost use Rattle.bt_laws.specs.Merges.{one_run_is_kept, strand_runs_divide, strands_stay_in_order};
 ghost use Rattle.bt_laws.specs.Runs.{chromosomes_are_named_once, file_runs_are_ordered, names_come_in_order};
 

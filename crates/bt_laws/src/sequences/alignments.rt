@@ -1,7 +1,8 @@
 //! Laws of alignments and of their blocks.
 
 ghost use Rattle.std.specs.Prelude.{◌≡◌, [], ◌∷◌, Some, None, Ok, Err, codes, true, false};
-ghost use Rattle.bt_seq.specs.model.Alignment.{alignment_of, blocks_in, length_of, operations_of, sam_kinds_are_of_lines, wrong_have_sam_kinds};
+ghost use Rattle.bt_seq.specs.model.Alignment.{alignment_of, blocks_in, length_of, operations_of};
+ghost use Rattle.bt_seq.specs.calls.Alignments.{sam_kinds_are_of_lines, wrong_have_sam_kinds};
 ghost use Rattle.bt_laws.specs.Sequences.{blocks_are_within, unskipped_are_one_block, division_is_found, division_is_one, operations_are_divided};
 
 use bt_lines::Kind;

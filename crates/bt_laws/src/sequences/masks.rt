@@ -3,9 +3,8 @@
 ghost use Rattle.std.specs.Prelude.{◌≡◌, [], ◌∷◌, Some, None, codes, true, false};
 ghost use Rattle.bt_bed.specs.model.BedLine.{fault_at_line};
 ghost use Rattle.bt_seq.specs.calls.MaskStage.{decided_lines_stay, first_unowned_is_told, held_mask_alone, masked_lines_are_before, masked_lines_stay, owned_lack_none};
-ghost use Rattle.bt_seq.specs.calls.MaskState.{owners_are_found};
-ghost use Rattle.bt_laws.specs.Sequences.{faultless_are_masked, masked_are_a_prefix, taken_are_first, quiet_records_are_taken, blocks_are_maximal_runs, owners_are_first, owners_stay, owners_were, unowned_find_no_name};
-ghost use Rattle.bt_seq.specs.model.Masked.{mask_texts, next_goes_on_or_begins};
+ghost use Rattle.bt_seq.specs.calls.MaskState.{owners_are_found, next_goes_on_or_begins};
+ghost use Rattle.bt_laws.specs.Sequences.{faultless_are_masked, masked_are_a_prefix, taken_are_first, quiet_records_are_taken, blocks_are_maximal_runs, owners_are_first, owners_stay, owners_were, unowned_find_no_name, mask_texts};
 
 use bt_lines::{Input, Kind};
 use bt_seq::MaskHow;

@@ -2,7 +2,8 @@
 use Rattle.bt_lines.proofs.Std.{rules, ◌≡◌, ℕ, ◌+◌, ◌-◌, ◌*◌, ◌/◌, ◌≤◌, List, [], ◌∷◌, ◌++◌, set, slice_index, length, take, drop, refl, sym, ap, ◌∙◌, append_assoc, arith, length-append, length-take-le, take-add, take-take, take_all, length-chunk, length-put_chunk, take_more_put_chunk, take-put_mid, chunk, put_chunk, Option, None, Some, take-append-drop, Appends-trans, Appends, Keeps, append_known, Bool, Result, Ok, Err, true, false, append-nil, OnOk, OnErr, IfErr, IsErr, flat_map, flat_map-append, Appends-nil, ◌^◌, ◌<◌, decimal, length-decimal-le, drop-set, drop_at, length-drop, take-append-le, take_at}
 use borrow.Rule.Slice.PartMut.{put_mid}
 use Rattle.bt_lines.specs.calls.Output.{IsPrefixOf, Grows, HoldsBlock, block_size, Output, WorksAsBefore, PutsAll, FailsToPut, Puts, Grown, FailsToAdd, Adds, span_text}
-use Rattle.bt_lines.specs.model.Fault.{FaultValue, write_failed}
+use Rattle.bt_lines.specs.model.Fault.{FaultValue}
+use Rattle.bt_lines.specs.calls.Faults.{write_failed}
 use Rattle.bt_lines.specs.calls.Names.{fault_value}
 use Rattle.bt_lines.specs.declared.fault.Fault.{Fault}
 

@@ -1,5 +1,5 @@
--- Lines: those that are borrowed, and the first of some bytes.
-use Rattle.std.specs.Prelude.{◌≡◌, ℕ, ◌+◌, List, ◌∷◌, take, drop, Option, Some, None, ◌==◌, false, ◌++◌, length, ⊤, Bool, true, nat_lt, if◌then◌else◌}
+-- Lines: those that are borrowed, the first of some bytes, and the numbers of those of a text.
+use Rattle.std.specs.Prelude.{◌≡◌, ℕ, ◌+◌, List, ◌∷◌, take, drop, Option, Some, None, ◌==◌, false, ◌++◌, length, ⊤, Bool, true, nat_lt, if◌then◌else◌, suc, [], count_by}
 use Rattle.bt_lines.specs.model.Lines.{TextLine}
 use Rattle.std.specs.List.{All}
 use Rattle.bt_lines.specs.declared.reader.line.Line.{Line}
@@ -56,3 +56,14 @@ IsFirst bytes (Some line) = Cut bytes line
 abbrev pub ending_at : Bool → Bool → LineEnd
 ending_at false has_return = if has_return then CrLf else Lf
 ending_at true has_return = if has_return then Cr else Absent
+
+-- How many lines a text has, and how they are numbered.
+
+-- how many line feeds some bytes have, which is how many complete lines they have
+abbrev pub line_feeds : List ℕ → ℕ
+line_feeds bytes = count_by (λ byte. byte == 10) bytes
+
+-- lines whose numbers count up from the number given
+abbrev pub AreNumbered : ℕ → List TextLine → Type 0
+AreNumbered number [] = ⊤
+AreNumbered number (line ∷ rest) = (line.number ≡ number) × AreNumbered (suc number) rest

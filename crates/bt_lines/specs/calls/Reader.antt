@@ -1,7 +1,7 @@
 -- What a reader of lines holds, what its calls do, and the lines that are left of those buffered.
 use Rattle.std.specs.Prelude.{◌≡◌, ℕ, suc, ◌+◌, ◌-◌, ◌≤◌, Bool, true, false, List, ◌∷◌, drop, length, nat_lt, take, ◌≢◌, ◌^◌, ◌<◌, ◌⊎◌, [], ◌++◌, Option, Some, None, option_map, Result, Ok, Err, IfSome, ⊤, ◌&&◌, if◌then◌else◌}
-use Rattle.bt_lines.specs.calls.Line.{Shown, ending_at, line_seen, GivesFirst}
-use Rattle.bt_lines.specs.model.Lines.{TextLine, line_feeds, lines_from, whole_lines_from, bytes_in, spelled}
+use Rattle.bt_lines.specs.calls.Line.{Shown, ending_at, line_seen, GivesFirst, line_feeds}
+use Rattle.bt_lines.specs.model.Lines.{TextLine, lines_from, whole_lines_from, bytes_in, spelled}
 use Rattle.bt_lines.specs.inside.Shape.{is_fed, held_at}
 use Rattle.bt_lines.specs.declared.reader.buffered_lines.BufferedLines.{BufferedLines}
 use Rattle.bt_lines.specs.declared.reader.buffered_lines.ConsumedLines.{ConsumedLines}
@@ -10,7 +10,8 @@ use Rattle.bt_lines.specs.declared.device.Source.{Ghosts as Source}
 use Rattle.bt_lines.specs.inside.ReadBuffer.{complete, text_in, unread, ended_at, fault_at, lends_at, open_at, taken_at, told_at}
 use Rattle.bt_lines.specs.calls.Device.{ReadsCounted, ReadsFail}
 use Rattle.bt_lines.specs.calls.Output.{block_size}
-use Rattle.bt_lines.specs.model.Fault.{FaultValue, read_failed, no_memory}
+use Rattle.bt_lines.specs.model.Fault.{FaultValue, read_failed}
+use Rattle.bt_lines.specs.calls.Faults.{no_memory}
 use Rattle.bt_lines.specs.calls.Names.{fault_value}
 use Rattle.bt_lines.specs.declared.fault.Input.{Input}
 use Rattle.bt_lines.specs.declared.fault.Fault.{Fault}

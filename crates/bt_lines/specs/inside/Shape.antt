@@ -1,7 +1,6 @@
 -- Bytes that are complete lines.
 use Rattle.std.specs.Prelude.{◌≡◌, ℕ, ◌-◌, ◌≤◌, ◌==◌, Bool, true, false, List, [], ◌∷◌, nat_eq, ◌++◌, length, take}
-use Rattle.bt_lines.specs.calls.Line.{NoLineFeed}
-use Rattle.bt_lines.specs.model.Lines.{line_feeds}
+use Rattle.bt_lines.specs.calls.Line.{NoLineFeed, line_feeds}
 
 -- whether the last byte, if there is one, is a line feed
 abbrev pub is_fed : List ℕ → Bool

@@ -1,5 +1,5 @@
 -- The texts of faults, and the line that tells one.
-use Rattle.std.specs.Prelude.{ℕ, List, [], ◌++◌, Bool, true, false, Option, Some, None, codes, decimal}
+use Rattle.std.specs.Prelude.{ℕ, List, [], ◌++◌, Option, Some, None, codes, decimal}
 use Rattle.bt_lines.specs.declared.fault.Kind.{Kind}
 use Rattle.bt_lines.specs.declared.fault.Kind.TheVariants.{TooFewColumns, EmptyName, BadStart, BadStop, EmptyFeature, UnknownChrom, OutOfOrder, BadLength, RepeatedChrom, BadFlag, BadPosition, BadQuality, BadCigar, StopTooLarge, TextBeforeHeader, NoSequence, TooManyHeld, ReadFailed, WriteFailed, NoMemory}
 use Rattle.bt_lines.specs.declared.fault.Input.{Input}
@@ -10,12 +10,6 @@ use Rattle.bt_lines.specs.declared.fault.Place.{Place}
 pub record FaultValue : Type 0 where
   pub kind : Kind
   pub place : Option Place
-
--- a fault of this kind lies at a line of an input; a failed write and running out of memory don't
-abbrev pub has_place : Kind → Bool
-has_place WriteFailed = false
-has_place NoMemory = false
-has_place _ = true
 
 -- the words for each kind
 abbrev pub text_of : Kind → List ℕ
@@ -62,14 +56,6 @@ abbrev pub line_of : List ℕ → InputNames → FaultValue → List ℕ
 line_of command names fault =
     codes "bedtools " ++ command ++ codes ": " ++ place_text names fault.place ++ text_of fault.kind
     ++ codes "\n"
-
--- the fault of a failed write
-abbrev pub write_failed : FaultValue
-write_failed = record { kind = WriteFailed; place = None }
-
--- the fault of a refused growth
-abbrev pub no_memory : FaultValue
-no_memory = record { kind = NoMemory; place = None }
 
 -- the fault of a failed read, at a line of an input
 abbrev pub read_failed : Input → ℕ → FaultValue

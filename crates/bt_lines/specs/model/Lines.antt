@@ -1,5 +1,5 @@
 -- Texts: their lines, what an input handed over, and numbers.
-use Rattle.std.specs.Prelude.{◌≡◌, ℕ, suc, ⊤, List, [], ◌∷◌, ◌++◌, ◌==◌, count_by, flat_map, length, if◌then◌else◌, Bool, false, Option, Some, None, ◌&&◌, nat_lt, nat_le}
+use Rattle.std.specs.Prelude.{ℕ, suc, List, [], ◌∷◌, ◌++◌, ◌==◌, flat_map, length, if◌then◌else◌, Bool, false, Option, Some, None, ◌&&◌, nat_lt, nat_le}
 use Rattle.std.specs.List.{slice_split, list_all}
 use Rattle.std.specs.Io.BufRead.{ends_with_byte, strip_last}
 use Rattle.bt_lines.specs.declared.reader.line.LineEnd.{LineEnd}
@@ -71,10 +71,6 @@ whole_lines_from number bytes = numbered_whole number (pieces 10 bytes)
 abbrev pub whole_lines : List ℕ → List TextLine
 whole_lines bytes = whole_lines_from 1 bytes
 
--- how many line feeds some bytes have, which is how many complete lines they have
-abbrev pub line_feeds : List ℕ → ℕ
-line_feeds bytes = count_by (λ byte. byte == 10) bytes
-
 -- the bytes of a line end
 abbrev pub end_bytes : LineEnd → List ℕ
 end_bytes Absent = []
@@ -89,11 +85,6 @@ spelled line = line.text ++ end_bytes line.ending
 -- how many bytes lines have, their line ends included
 abbrev pub bytes_in : List TextLine → ℕ
 bytes_in lines = length (flat_map spelled lines)
-
--- lines whose numbers count up from the number given
-abbrev pub AreNumbered : ℕ → List TextLine → Type 0
-AreNumbered number [] = ⊤
-AreNumbered number (line ∷ rest) = (line.number ≡ number) × AreNumbered (suc number) rest
 
 -- What an input handed over: its whole text, or what came of it before a read failed.
 

@@ -1,7 +1,7 @@
 //! The faults that lie at no line.
 
 ghost use Rattle.std.specs.Prelude.{◌≡◌};
-ghost use Rattle.bt_lines.specs.model.Fault.{no_memory, write_failed};
+ghost use Rattle.bt_lines.specs.calls.Faults.{no_memory, write_failed};
 ghost use Rattle.bt_lines.specs.calls.Names.{fault_value};
 
 use crate::fault::{Fault, Kind};

@@ -4,7 +4,8 @@ pub(crate) mod faults;
 pub(crate) mod report;
 
 ghost use Rattle.std.specs.Prelude.{◌≡◌, is_some};
-ghost use Rattle.bt_lines.specs.model.Fault.{has_place, text_of};
+ghost use Rattle.bt_lines.specs.model.Fault.{text_of};
+ghost use Rattle.bt_lines.specs.calls.Faults.{has_place};
 
 /// What went wrong.
 #[derive(Clone, Copy, Debug, PartialEq, Eq)]

@@ -44,7 +44,7 @@ impl ReadBuffer {
     ghost use Rattle.std.specs.Prelude.{◌≡◌, ℕ, List, ◌<◌, ◌≤◌, ◌++◌, ◌∷◌, [], drop, false, length, nat_eq, take, IfOk, OnOk, OnErr, Some, None};
     ghost use Rattle.bt_lines.specs.inside.ReadBuffer.{FindsLines, MovesPiece, complete, text_in, unread};
     ghost use Rattle.bt_lines.specs.inside.Shape.{is_fed};
-    ghost use Rattle.bt_lines.specs.model.Lines.{line_feeds};
+    ghost use Rattle.bt_lines.specs.calls.Line.{line_feeds};
     ghost use Rattle.bt_lines.specs.inside.Spill.{closed};
 
     // No byte.

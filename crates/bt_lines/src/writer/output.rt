@@ -3,7 +3,7 @@
 ghost use Rattle.std.specs.Prelude.{◌≡◌, ◌++◌, ◌+◌, ◌%◌, ℕ, ◌≤◌, ◌<◌, false, true, List, [], length, OnOk, OnErr, IfErr, IsErr, Some, None};
 ghost use Rattle.std.specs.Io.KnownBytes.{Appends, Keeps, append_known};
 ghost use Rattle.bt_lines.specs.calls.Output.{HoldsBlock, IsPrefixOf, Grows, block_size, PutsAll, span_text};
-ghost use Rattle.bt_lines.specs.model.Fault.{write_failed};
+ghost use Rattle.bt_lines.specs.calls.Faults.{write_failed};
 ghost use Rattle.bt_lines.specs.calls.Names.{fault_value};
 
 use crate::device::{DeviceFailed, Sink};

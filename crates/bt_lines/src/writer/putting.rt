@@ -1,7 +1,7 @@
 //! Columns put to an output.
 
 ghost use Rattle.std.specs.Prelude.{◌≡◌, ◌++◌, decimal, false, true};
-ghost use Rattle.bt_lines.specs.model.Fault.{write_failed};
+ghost use Rattle.bt_lines.specs.calls.Faults.{write_failed};
 ghost use Rattle.bt_lines.specs.calls.Output.{FailsToPut, Puts, PutsAll};
 
 use crate::device::Sink;

@@ -1,17 +1,64 @@
 -- A count of depths as its callers see it.
-use Rattle.std.specs.Prelude.{◌≡◌, ℕ, ◌<◌, Bool, true, false, List, [], length, Option, Some, None, cond, nat_lt}
-use Rattle.bt_bed.specs.model.Feature.{Feature, Span}
+use Rattle.std.specs.Prelude.{◌≡◌, ℕ, ◌<◌, Bool, true, false, List, [], length, Option, Some, None, cond, nat_lt, ◌∷◌, ◌&&◌, nat_le, min, map, filter}
+use Rattle.std.specs.Option.{option_map_or}
+use Rattle.bt_bed.specs.model.Feature.{Feature, Span, intervals_of, Interval, last_of}
 use Rattle.bt_bed.specs.model.Genome.{Entry, genome_names}
 use Rattle.bt_bed.specs.declared.record.strand.Strand.{Strand}
 use Rattle.bt_bed.specs.model.Order.{rank_of}
+use Rattle.bt_bed.specs.model.Sorted.{Locus}
 use Rattle.bt_runs.specs.calls.Engine.{EngineDef, ruled}
 use Rattle.bt_runs.specs.inside.Coverage.{begun_seen, Known, begun_to, depth_walk, still_open}
-use Rattle.bt_runs.specs.model.Depth.{DepthInterval, coverage, depth_lines, is_counted_by, kept_records, known_place, settled_depths, unfinished, Begun}
-use Rattle.bt_runs.specs.model.Gaps.{AreTaken, length_in}
+use Rattle.bt_runs.specs.model.Depth.{DepthInterval, coverage, depth_lines, is_counted_by, settled_depths, Begun, Level, levels_of, depth_of, counted_on}
+use Rattle.bt_runs.specs.calls.Complementing.{AreTaken, length_in}
 use Rattle.bt_runs.specs.inside.Walk.{AreReached, Place, RuleDef, entry_at, is_on, places, walk_step}
 use Rattle.bt_runs.specs.declared.coverage.depth_rule.CurrentChrom.{CurrentChrom}
 use Rattle.bt_runs.specs.declared.coverage.depths.OpenInterval.{OpenInterval}
 use Rattle.bt_runs.specs.declared.engine.rule.Ruled.{Ruled}
+
+-- What a count of depths keeps.
+
+-- a span cut at a length
+abbrev pub cut_at : ℕ → Span → Span
+cut_at size s = record { start = s.start; stop = min s.stop size }
+
+-- the spans that start below a length, cut there, of which those are left that end at a position
+-- or past it
+abbrev pub open_at : ℕ → ℕ → List Span → List Span
+open_at size p spans =
+    filter (λ s. nat_le p s.stop) (map (cut_at size) (filter (λ s. nat_lt s.start size) spans))
+
+-- the records that are kept: the counted ones on the last record's chromosome that start below its
+-- length, cut there, and that end at the last start or past it
+unfoldable pub kept_records : Option Strand → List Entry → List Feature → List Span
+kept_records strand entries records =
+    option_map_or (λ (last : Interval).
+    open_at (length_in entries last.chrom) last.start (counted_on strand last.chrom records))
+    (last_of (intervals_of records)) []
+
+-- the first of the intervals that begins below a position and ends there or past it,
+-- with its depth
+abbrev pub begun_across : ℕ → List Level → Option Begun
+begun_across p [] = None
+begun_across p (l ∷ ls) =
+    let begun : Begun = record { start = l.start; value = l.value } in
+    cond (nat_lt l.start p && nat_le p l.stop) (Some begun) (begun_across p ls)
+
+-- the interval that is unfinished: it begins below the last start, and isn't settled
+unfoldable pub unfinished : Bool → Option Strand → List Entry → List Feature → Option Begun
+unfinished zeros strand entries records =
+    let values = λ (name : List ℕ). depth_of zeros (counted_on strand name records) in
+    option_map_or (λ (last : Interval).
+    begun_across last.start (levels_of (values last.chrom) (length_in entries last.chrom)))
+    (last_of (intervals_of records)) None
+
+-- how far the last record's chromosome is known: up to the last start, cut at its length
+unfoldable pub known_place : List Entry → List Feature → List Locus
+known_place entries records =
+    option_map_or (λ (last : Interval).
+    record { chrom = last.chrom; start = min last.start (length_in entries last.chrom) } ∷ [])
+    (last_of (intervals_of records)) []
+
+-- The rule of a count of depths.
 
 -- The chromosomes, whether depth 0 is reported, the strand that is counted. Then the chromosome that was
 -- reached with what is known of it, whether the last record lies there, and its name and length.

@@ -1,6 +1,7 @@
 -- What the calls of an engine do.
 use Rattle.std.specs.Prelude.{◌≡◌, ℕ, ◌≤◌, ◌⊎◌, true, List, [], ◌∷◌, ◌++◌, Option, Some, None, Result, Ok, Err, IsOk, ⊤, IfErr, IfOk, MatchResult, option_map}
-use Rattle.bt_lines.specs.model.Fault.{FaultValue, no_memory, write_failed}
+use Rattle.bt_lines.specs.model.Fault.{FaultValue}
+use Rattle.bt_lines.specs.calls.Faults.{no_memory, write_failed}
 use Rattle.bt_lines.specs.calls.Names.{fault_value}
 use Rattle.bt_lines.specs.calls.Output.{Output, Grows, WorksAsBefore, PutsRest, CutsRest}
 use Rattle.bt_lines.specs.declared.fault.Fault.{Fault}

@@ -3,7 +3,8 @@
 use Rattle.std.specs.Prelude.{ℕ, List, [], None}
 use Rattle.bt_bed.specs.model.Feature.{Feature, Interval}
 use Rattle.bt_runs.specs.calls.Engine.{EngineDef, ruled}
-use Rattle.bt_runs.specs.model.Merged.{AreTaken, places_of}
+use Rattle.bt_runs.specs.model.Merged.{places_of}
+use Rattle.bt_runs.specs.calls.MergedRuns.{AreTaken}
 use Rattle.bt_runs.specs.inside.merge.StrandStep.{stranding}
 use Rattle.bt_runs.specs.calls.Unstranded.{unstranded}
 use Rattle.bt_runs.specs.declared.merge.merge_strand.MergeStrand.{MergeStrand}

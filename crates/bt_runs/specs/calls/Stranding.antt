@@ -3,7 +3,8 @@ use Rattle.std.specs.Prelude.{◌≡◌, ℕ, List, [], ◌∷◌, ◌++◌, len
 use Rattle.bt_bed.specs.model.Feature.{Feature}
 use Rattle.bt_bed.specs.model.BedLine.{interval_lines}
 use Rattle.bt_runs.specs.calls.Engine.{EngineDef, IsOnLast, IsQuiet}
-use Rattle.bt_runs.specs.model.Merged.{AreTaken, StrandRun, kept_strand_runs, places_of, settled_strand_runs, strand_runs}
+use Rattle.bt_runs.specs.model.Merged.{StrandRun, places_of, settled_strand_runs, strand_runs}
+use Rattle.bt_runs.specs.calls.MergedRuns.{AreTaken, kept_strand_runs}
 
 -- the gap that it bridges, the chromosome that it is on, and the runs that it keeps
 pub record Stranding : Type 0 where

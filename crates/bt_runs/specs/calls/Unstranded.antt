@@ -3,7 +3,8 @@ use Rattle.std.specs.Prelude.{◌≡◌, ℕ, List, [], ◌∷◌, ◌++◌, len
 use Rattle.bt_bed.specs.model.Feature.{Feature, Interval}
 use Rattle.bt_bed.specs.model.BedLine.{interval_lines}
 use Rattle.bt_runs.specs.calls.Engine.{EngineDef, IsOnLast, IsQuiet}
-use Rattle.bt_runs.specs.model.Merged.{AreTaken, kept_runs, merged_runs, settled_runs}
+use Rattle.bt_runs.specs.model.Merged.{merged_runs}
+use Rattle.bt_runs.specs.calls.MergedRuns.{AreTaken, kept_runs, settled_runs}
 use Rattle.bt_runs.specs.declared.merge.merge_strand.MergeStrand.{MergeStrand}
 
 -- the gap that it bridges, the records that it counts, the chromosome that it is on, and the run that it keeps, if

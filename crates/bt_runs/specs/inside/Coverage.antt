@@ -8,7 +8,7 @@ use Rattle.bt_runs.specs.inside.Walk.{Walk, Place}
 use Rattle.std.specs.BinaryHeap.{IsHeap}
 use Rattle.std.specs.Ordering.{nat_cmp}
 use Rattle.std.specs.declared.cmp.Reverse.{Reverse}
-use Rattle.bt_lines.specs.model.Fault.{write_failed}
+use Rattle.bt_lines.specs.calls.Faults.{write_failed}
 use Rattle.bt_lines.specs.calls.Output.{Output, FailsToAdd, Grown}
 use Rattle.bt_runs.specs.declared.coverage.open_records.OpenSpan.{OpenSpan}
 use Rattle.bt_runs.specs.declared.coverage.depths.DepthCursor.{DepthCursor}

@@ -5,8 +5,7 @@ use Rattle.bt_bed.specs.model.BedLine.{interval_lines}
 use Rattle.bt_bed.specs.model.Genome.{genome_names}
 use Rattle.bt_bed.specs.calls.GenomeTable.{entries}
 use Rattle.bt_bed.specs.model.Order.{rank_of}
-use Rattle.bt_runs.specs.calls.Complementing.{Complementing, complementing}
-use Rattle.bt_runs.specs.model.Gaps.{length_in}
+use Rattle.bt_runs.specs.calls.Complementing.{Complementing, complementing, length_in}
 use Rattle.bt_runs.specs.inside.Walk.{is_on, walk_step, Place, RuleDef}
 use Rattle.bt_runs.specs.inside.GapStep.{gap_walk}
 use Rattle.bt_runs.specs.declared.complement.gap_cursor.GapCursor.{GapCursor}

@@ -2,7 +2,7 @@
 use Rattle.std.specs.Prelude.{ℕ, ◌+◌, ◌-◌, ◌≤◌, cond, ◌==◌, List, [], ◌∷◌, map}
 use Rattle.bt_runs.specs.declared.plain.PlainSpan.{PlainSpan}
 use Rattle.bt_bed.specs.model.Feature.{Span}
-use Rattle.bt_bed.specs.model.Positions.{IsCovered}
+use Rattle.bt_bed.specs.calls.Stretches.{IsCovered}
 
 -- a span of the program as one of the definitions
 abbrev pub span_in : PlainSpan → Span

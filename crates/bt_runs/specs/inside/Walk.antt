@@ -4,7 +4,7 @@ use Rattle.bt_bed.specs.model.Feature.{Feature}
 use Rattle.bt_bed.specs.model.Genome.{Entry, genome_names}
 use Rattle.bt_bed.specs.model.Sorted.{Locus}
 use Rattle.bt_bed.specs.model.Order.{rank_of}
-use Rattle.bt_lines.specs.model.Fault.{no_memory}
+use Rattle.bt_lines.specs.calls.Faults.{no_memory}
 use Rattle.bt_lines.specs.calls.Names.{fault_value}
 use Rattle.bt_lines.specs.calls.Output.{Output, Adds, FailsToAdd, Grown}
 use Rattle.bt_lines.specs.declared.fault.Fault.{Fault}

@@ -1,12 +1,11 @@
 -- What `bedtools genomecov` gives, and intervals of equal value.
-use Rattle.std.specs.Prelude.{ℕ, zero, suc, ◌+◌, Bool, true, false, cond, List, [], ◌∷◌, ◌++◌, ◌==◌, Option, Some, None, ◌&&◌, ◌||◌, nat_le, nat_lt, min, length, map, filter, flat_map, codes, decimal}
+use Rattle.std.specs.Prelude.{ℕ, zero, suc, ◌+◌, Bool, true, false, cond, List, [], ◌∷◌, ◌++◌, ◌==◌, Option, Some, None, ◌&&◌, ◌||◌, nat_le, nat_lt, length, map, filter, flat_map, codes, decimal}
 use Rattle.std.specs.Option.{option_map_or}
 use Rattle.bt_bed.specs.model.Feature.{Feature, intervals_of, Interval, Span, last_of, spans_on, is_strand}
 use Rattle.bt_bed.specs.model.Genome.{Entry, genome_names}
-use Rattle.bt_bed.specs.model.Sorted.{Locus}
 use Rattle.bt_bed.specs.model.Order.{rank_order}
 use Rattle.bt_bed.specs.declared.record.strand.Strand.{Strand}
-use Rattle.bt_runs.specs.model.Gaps.{is_over_at, length_in}
+use Rattle.bt_runs.specs.model.Gaps.{is_over_at}
 
 -- Positions of one chromosome of which some have a value, and the one list of intervals of equal
 -- value that they make up. bt_laws says that no other list is (`AreLevelsOf`), and that a set of
@@ -141,45 +140,4 @@ unfoldable pub settled_depths : Bool → Option Strand → List Entry → List F
     → List DepthInterval
 settled_depths zeros strand entries records =
     option_map_or (λ last. filter (is_ended_by (genome_names entries) last) (coverage zeros strand entries records))
-    (last_of (intervals_of records)) []
-
--- a span cut at a length
-abbrev pub cut_at : ℕ → Span → Span
-cut_at size s = record { start = s.start; stop = min s.stop size }
-
--- the spans that start below a length, cut there, of which those are left that end at a position
--- or past it
-abbrev pub open_at : ℕ → ℕ → List Span → List Span
-open_at size p spans =
-    filter (λ s. nat_le p s.stop) (map (cut_at size) (filter (λ s. nat_lt s.start size) spans))
-
--- the records that are kept: the counted ones on the last record's chromosome that start below its
--- length, cut there, and that end at the last start or past it
-unfoldable pub kept_records : Option Strand → List Entry → List Feature → List Span
-kept_records strand entries records =
-    option_map_or (λ (last : Interval).
-    open_at (length_in entries last.chrom) last.start (counted_on strand last.chrom records))
-    (last_of (intervals_of records)) []
-
--- the first of the intervals that begins below a position and ends there or past it,
--- with its depth
-abbrev pub begun_across : ℕ → List Level → Option Begun
-begun_across p [] = None
-begun_across p (l ∷ ls) =
-    let begun : Begun = record { start = l.start; value = l.value } in
-    cond (nat_lt l.start p && nat_le p l.stop) (Some begun) (begun_across p ls)
-
--- the interval that is unfinished: it begins below the last start, and isn't settled
-unfoldable pub unfinished : Bool → Option Strand → List Entry → List Feature → Option Begun
-unfinished zeros strand entries records =
-    let values = λ (name : List ℕ). depth_of zeros (counted_on strand name records) in
-    option_map_or (λ (last : Interval).
-    begun_across last.start (levels_of (values last.chrom) (length_in entries last.chrom)))
-    (last_of (intervals_of records)) None
-
--- how far the last record's chromosome is known: up to the last start, cut at its length
-unfoldable pub known_place : List Entry → List Feature → List Locus
-known_place entries records =
-    option_map_or (λ (last : Interval).
-    record { chrom = last.chrom; start = min last.start (length_in entries last.chrom) } ∷ [])
     (last_of (intervals_of records)) []

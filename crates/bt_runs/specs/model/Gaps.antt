@@ -1,21 +1,16 @@
 -- What `bedtools complement` gives: the parts of each chromosome that no feature covers, in the
 -- order of the genome file. With -L it gives only those of chromosomes that
 -- have records (bedtools manual, complement).
-use Rattle.std.specs.Prelude.{ℕ, ◌<◌, Bool, true, false, not, ◌||◌, List, [], ◌∷◌, map, filter, flat_map, cond, min, nat_le, bytes_eq}
+use Rattle.std.specs.Prelude.{ℕ, Bool, true, false, not, ◌||◌, List, [], map, filter, flat_map, nat_le}
 use Rattle.std.specs.Option.{option_map_or}
 use Rattle.std.specs.declared.cmp.Ordering.{Ordering}
 use Rattle.std.specs.declared.cmp.Ordering.TheVariants.{Less, Equal, Greater}
-use Rattle.bt_bed.specs.model.Feature.{Feature, intervals_of, Interval, Span, AreNonEmpty, last_of, placed_on, spans_on}
-use Rattle.bt_bed.specs.model.Positions.{IsCovered, stretches_from}
+use Rattle.bt_bed.specs.model.Feature.{Feature, intervals_of, Interval, Span, last_of, placed_on, spans_on}
+use Rattle.bt_bed.specs.model.Positions.{stretches_from}
 use Rattle.bt_bed.specs.model.Genome.{Entry, genome_names}
-use Rattle.bt_bed.specs.model.Sorted.{Locus, ArePlaced, has_records}
-use Rattle.bt_bed.specs.model.Order.{AreDistinct, rank_order}
-use Rattle.bt_runs.specs.model.Merged.{is_covered, end_of}
-
--- a position of a chromosome of this length that none of the spans covers
-pub record IsBare (size : ℕ) (spans : List Span) (p : ℕ) : Type 0 where
-  pub within : p < size
-  pub bare : IsCovered spans p → ⊥
+use Rattle.bt_bed.specs.model.Sorted.{has_records}
+use Rattle.bt_bed.specs.model.Order.{rank_order}
+use Rattle.bt_runs.specs.model.Merged.{is_covered}
 
 -- the gaps of a chromosome: the stretches of its bare positions
 unfoldable pub gaps_of : ℕ → List Span → List Span
@@ -52,24 +47,3 @@ unfoldable pub settled_gaps : Bool → List Entry → List Feature → List Inte
 settled_gaps limit entries records =
     option_map_or (λ last. filter (is_over (genome_names entries) last) (complement limit entries records))
     (last_of (intervals_of records)) []
-
--- the length of the chromosome of this name
-abbrev pub length_in : List Entry → List ℕ → ℕ
-length_in [] name = 0
-length_in (entry ∷ entries) name =
-    cond (bytes_eq entry.name name) entry.length (length_in entries name)
-
--- the place that is kept: the greatest end on the last record's chromosome, cut at its length
-unfoldable pub kept_place : List Entry → List Feature → List Locus
-kept_place entries records =
-    option_map_or (λ (last : Interval). record {
-      chrom = last.chrom;
-      start = min (end_of (spans_on last.chrom (intervals_of records))) (length_in entries last.chrom);
-    } ∷ []) (last_of (intervals_of records)) []
-
--- records that a complement or a coverage may take: they are in the order of the genome file, which
--- has each chromosome once, and each has a base
-pub record AreTaken (entries : List Entry) (records : List Feature) : Type 0 where
-  pub distinct : AreDistinct (genome_names entries)
-  pub placed : ArePlaced (rank_order (genome_names entries)) (intervals_of records)
-  pub full : AreNonEmpty (intervals_of records)

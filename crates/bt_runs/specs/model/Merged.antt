@@ -1,27 +1,16 @@
 -- What `bedtools merge` gives, with its options.
-use Rattle.std.specs.Prelude.{ℕ, zero, suc, ◌+◌, ◌-◌, ◌≤◌, Bool, false, not, ◌&&◌, ◌||◌, List, [], ◌∷◌, map, filter, flat_map, max, nat_le, nat_lt, bytes_eq, true, drop, length, Option, Some, None, if◌then◌else◌, ◌++◌}
-use Rattle.bt_bed.specs.model.Feature.{Interval, Span, spans_on, placed_on, Feature, intervals_of, is_strand, AreNonEmpty, last_of}
-use Rattle.bt_bed.specs.model.Positions.{IsCovered, stretches_from}
+use Rattle.std.specs.Prelude.{ℕ, zero, suc, ◌+◌, Bool, false, not, ◌&&◌, ◌||◌, List, [], ◌∷◌, map, filter, flat_map, max, nat_le, nat_lt, bytes_eq, true, Option, Some, None, if◌then◌else◌, ◌++◌}
+use Rattle.bt_bed.specs.model.Feature.{Interval, Span, spans_on, placed_on, Feature, intervals_of, is_strand, last_of}
+use Rattle.bt_bed.specs.model.Positions.{stretches_from}
 use Rattle.bt_bed.specs.declared.record.strand.Strand.{Strand}
 use Rattle.bt_runs.specs.declared.merge.merge_strand.MergeStrand.{MergeStrand}
 use Rattle.bt_runs.specs.declared.merge.merge_strand.MergeStrand.TheVariants.{All, Each, One}
-use Rattle.bt_bed.specs.model.Sorted.{AreContiguous}
 use Rattle.std.specs.Ordering.{is_lt}
 use Rattle.bt_bed.specs.model.Order.{Order}
 use Rattle.std.specs.List.{list_any, take_while}
 
 -- What `bedtools merge` gives: overlapping and touching features become one, and with -d also those
 -- up to a gap apart (bedtools manual, merge).
-
--- covered positions lie on both sides, or here, with at most `gap` positions between them
-pub record Bridged (gap : ℕ) (spans : List Span) (p : ℕ) : Type 0 where
-  pub left : ℕ
-  pub right : ℕ
-  pub left_covered : IsCovered spans left
-  pub right_covered : IsCovered spans right
-  pub from_left : left ≤ p
-  pub to_right : p ≤ right
-  pub near : right - left ≤ gap + 1
 
 -- some number below n passes the test
 abbrev pub some_below : ℕ → (ℕ → Bool) → Bool
@@ -95,22 +84,6 @@ abbrev pub passed_by : ℕ → List Interval → Option Interval → List Interv
 passed_by gap runs None = []
 passed_by gap runs (Some last) = filter (is_closed gap last) runs
 
--- the runs that are settled after the records
-unfoldable pub settled_runs : ℕ → MergeStrand → List Feature → List Interval
-settled_runs gap strand records =
-    passed_by gap (merged_runs gap strand records) (last_of (intervals_of records))
-
--- the runs that come after the settled ones
-unfoldable pub kept_runs : ℕ → MergeStrand → List Feature → List Interval
-kept_runs gap strand records =
-    drop (length (settled_runs gap strand records)) (merged_runs gap strand records)
-
--- records that a merge may take: those of one chromosome are contiguous, their starts don't fall,
--- and each has a base
-pub record AreTaken (records : List Feature) : Type 0 where
-  pub contiguous : AreContiguous (intervals_of records)
-  pub full : AreNonEmpty (intervals_of records)
-
 -- The merged runs in an order of the chromosomes, as that of a genome file or of the names' bytes.
 
 -- a name among names in order: it is put before the first that comes after it
@@ -173,11 +146,6 @@ closed_prefix gap items (Some last) = take_while (λ item. is_closed gap last it
 unfoldable pub settled_strand_runs : ℕ → List Feature → List StrandRun
 settled_strand_runs gap records =
     closed_prefix gap (strand_runs gap records) (last_of (intervals_of records))
-
--- the runs that come after the settled ones
-unfoldable pub kept_strand_runs : ℕ → List Feature → List StrandRun
-kept_strand_runs gap records =
-    drop (length (settled_strand_runs gap records)) (strand_runs gap records)
 
 -- where the runs lie
 abbrev pub places_of : List StrandRun → List Interval

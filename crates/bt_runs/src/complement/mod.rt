@@ -4,7 +4,8 @@ pub(crate) mod gap_cursor;
 pub(crate) mod gap_rule;
 
 ghost use Rattle.std.specs.Prelude.{◌≡◌, [], length, true, IfErr, None, Some};
-ghost use Rattle.bt_lines.specs.model.Fault.{FaultValue, write_failed};
+ghost use Rattle.bt_lines.specs.model.Fault.{FaultValue};
+ghost use Rattle.bt_lines.specs.calls.Faults.{write_failed};
 ghost use Rattle.bt_lines.specs.calls.Names.{fault_value};
 ghost use Rattle.bt_lines.specs.calls.Output.{Grows};
 ghost use Rattle.bt_bed.specs.calls.Bed.{feature_lent};

@@ -1,7 +1,7 @@
 //! What ends an engine.
 
 ghost use Rattle.std.specs.Prelude.{◌≡◌, ◌⊎◌};
-ghost use Rattle.bt_lines.specs.model.Fault.{no_memory, write_failed};
+ghost use Rattle.bt_lines.specs.calls.Faults.{no_memory, write_failed};
 ghost use Rattle.bt_lines.specs.calls.Names.{fault_value};
 ghost use Rattle.bt_runs.specs.calls.Engine.{fault_of};
 

@@ -1,7 +1,8 @@
 -- Lemmas on SAM lines and on blocks.
 use Rattle.bt_lines.proofs.Std.{common_steps, ◌≡◌, ℕ, ◌+◌, ◌≤◌, Bool, true, false, List, [], ◌∷◌, ◌++◌, length, Option, Some, None, refl, sym, ap, ◌∙◌, arith, cond, append-nil, add-zero, flat_map, false≢true, nat_tests, sum_by_push, ◌<◌, take, drop, get_or, length-append, length-take, IfSome, is_ascii_digit, list_all, list_all_more, digits_value, and_parts, take-append-drop, take_more, drop_more, take-append-le, get_or_append_left, take_all, ◌-◌, zero, suc, min, ◌||◌, map, list_any, list_any-append, Ok, Err, nat_le, bytes_decides, ⊤, flat_map-append}
 use Rattle.bt_bed.specs.model.Feature.{Span, Feature}
-use Rattle.bt_seq.specs.model.Alignment.{begins_block, block_at, blocks_in, blocks_of, cuts, is_skip, up_to_skip, with_bases, covered_by, operations_in, reference_length, with_operation, Part, is_letter, onto_part, operation_of, each_operation, parts_of, span_with, Fields, alignment_of, columns_say, fields_of, fields_say, is_skipped, is_sam_kind, sam_kinds_are_of_lines, wrong_have_sam_kinds}
+use Rattle.bt_seq.specs.model.Alignment.{begins_block, block_at, blocks_in, blocks_of, cuts, is_skip, up_to_skip, with_bases, covered_by, operations_in, reference_length, with_operation, Part, is_letter, onto_part, operation_of, each_operation, parts_of, Fields, alignment_of, columns_say, fields_of, fields_say, is_skipped, is_sam_kind}
+use Rattle.bt_seq.specs.calls.Alignments.{span_with, sam_kinds_are_of_lines, wrong_have_sam_kinds}
 use Rattle.bt_seq.specs.inside.Sam.{none_left, FitBehind}
 use Rattle.bt_seq.specs.declared.sam.operation.Operation.{Operation}
 use Rattle.std.specs.Prelude.{option_and_then}

@@ -1,9 +1,10 @@
 -- How far a masking engine has come, and what its lines decide.
-use Rattle.std.specs.Prelude.{◌≡◌, ℕ, ◌&&◌, not, Bool, true, false, List, [], ◌∷◌, ◌++◌, Option, Some, None, ◌||◌, length, Ok, cond, is_some, ⊤, option_to_list, ◌+◌, flat_map, map}
+use Rattle.std.specs.Prelude.{◌≡◌, ℕ, ◌&&◌, not, Bool, true, false, List, [], ◌∷◌, ◌++◌, Option, Some, None, ◌||◌, length, Ok, cond, is_some, ⊤, option_to_list, ◌+◌, flat_map, map, filter, nat_lt}
 use Rattle.std.specs.List.{last_or, list_all}
 use Rattle.bt_bed.specs.model.Feature.{Feature}
 use Rattle.bt_bed.specs.model.BedLine.{fault_at_line}
-use Rattle.bt_seq.specs.model.Masked.{left_after, is_header, decided, held_for, is_unnamed, Reached, SequenceLine, bases_up_to, masked_line, line_says, masked_text, no_sequence}
+use Rattle.bt_seq.specs.model.Masked.{is_header, decided, is_unnamed, Reached, SequenceLine, bases_up_to, masked_line, line_says, masked_text, no_sequence, own_records}
+use Rattle.bt_seq.specs.calls.MaskState.{left_after}
 use Rattle.bt_lines.specs.model.Lines.{TextLine}
 use Rattle.bt_lines.specs.declared.fault.Input.TheVariants.{Second}
 use Rattle.bt_lines.specs.declared.fault.Kind.TheVariants.{NoSequence}
@@ -11,7 +12,8 @@ use Rattle.bt_seq.specs.inside.Window.{masked_in}
 use Rattle.bt_seq.specs.declared.mask.mask_how.MaskHow.{MaskHow}
 use Rattle.bt_seq.specs.declared.mask.mask_want.MaskWant.{MaskWant}
 use Rattle.bt_seq.specs.declared.mask.mask_want.MaskWant.TheVariants.{Line, Bed, Nothing}
-use Rattle.bt_bed.specs.model.Good.{AreInBlocks, Member}
+use Rattle.bt_bed.specs.model.Good.{Member}
+use Rattle.bt_bed.specs.calls.Orders.{AreInBlocks}
 use Rattle.bt_lines.specs.calls.Reader.{lines_in}
 use Rattle.bt_lines.specs.declared.reader.buffered_lines.BufferedLines.{BufferedLines}
 use Rattle.bt_seq.specs.declared.sam.extent.Extent.{Extent}
@@ -70,6 +72,13 @@ want_at stage = want_of (is_some stage.waiting) stage.lines_ended stage.bed_ende
 abbrev pub IsNext : Option Feature → Feature → Type 0
 IsNext None r = ⊤
 IsNext (Some ahead) r = ahead ≡ r
+
+-- what is held by a line: of the records of its sequence's block those that start before its end
+-- and reach past its start
+abbrev pub held_for : SequenceLine → List Feature → List Feature
+held_for line records =
+    filter (λ r. nat_lt r.start (bases_up_to line) && nat_lt line.before r.stop)
+    (own_records line.names records)
 
 -- what is held by the line that was given last
 abbrev pub held_by : Option SequenceLine → List Feature → List Feature

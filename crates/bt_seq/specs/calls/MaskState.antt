@@ -1,14 +1,15 @@
 -- What a masking engine keeps, and its steps.
 use Rattle.std.specs.Prelude.{◌≡◌, ◌⊎◌, ℕ, ◌&&◌, not, Bool, true, false, List, [], ◌∷◌, ◌++◌, Option, Some, None, bytes_eq, option_map, if◌then◌else◌, ◌||◌, length, nat_lt, is_none, nat_le, Result, Ok, Err, cond, is_some, nat_eq}
 use Rattle.std.specs.List.{last_or}
+use Rattle.std.specs.Option.{option_map_or}
 use Rattle.bt_bed.specs.model.Feature.{Feature}
 use Rattle.bt_bed.specs.model.BedLine.{fault_at_line}
-use Rattle.bt_seq.specs.model.Masked.{goes_on, left_after, names_behind, is_header, name_in}
+use Rattle.bt_seq.specs.model.Masked.{names_behind, is_header, name_in, left_by, Owned, owned}
 use Rattle.bt_seq.specs.declared.mask.matching.Owner.{Owner}
 use Rattle.bt_seq.specs.declared.mask.matching.Owner.TheVariants.{Own, Earlier, Nobody}
 use Rattle.bt_bed.specs.declared.record.taken.Taken.TheVariants.{Yes, No}
 use Rattle.bt_bed.specs.declared.record.taken.Taken.{Taken}
-use Rattle.bt_lines.specs.model.Fault.{no_memory}
+use Rattle.bt_lines.specs.calls.Faults.{no_memory}
 use Rattle.bt_lines.specs.model.Lines.{end_bytes}
 use Rattle.bt_lines.specs.calls.Names.{fault_value}
 use Rattle.bt_lines.specs.calls.Output.{Output, FailsToAdd, Grown}
@@ -57,6 +58,27 @@ named m name = record { name = Some name; last = m.last; own = false }
 -- the chromosome of the last record, if there is one
 abbrev pub last_chrom : List Feature → Option (List ℕ)
 last_chrom records = option_map (λ r. r.chrom) (last_or None records)
+
+-- the names after the sequence of the last block: these, if there is none
+abbrev pub left_at_last : {A : Type 0} → Option (List (List ℕ)) → List (Owned A)
+    → Option (List (List ℕ))
+left_at_last left [] = left
+left_at_last left (o ∷ os) = left_at_last o.left os
+
+abbrev pub left_after : List (List ℕ) → List Feature → Option (List (List ℕ))
+left_after names records = left_at_last (Some names) (owned names records)
+
+-- whether a record goes on with the block of the last of the records
+abbrev pub goes_on : List Feature → Feature → Bool
+goes_on records r = option_map_or (λ s. bytes_eq s.chrom r.chrom) (last_or None records) false
+
+-- one more record goes on with the last block, or begins one, whose sequence comes after that of
+-- the last one
+abbrev pub next_goes_on_or_begins : Type 0
+next_goes_on_or_begins = (names : List (List ℕ)) (records : List Feature) (r : Feature)
+    → left_after names (records ++ r ∷ [])
+    ≡ (if goes_on records r then left_after names records
+    else left_by (left_after names records) r.chrom)
 
 -- the last block belongs to the last of the names
 pub record KnowsOwn (names : List (List ℕ)) (records : List Feature) (m : Matched) : Type 0 where

@@ -3,13 +3,14 @@ use Rattle.std.specs.Prelude.{◌≡◌, ◌⊎◌, Bool, true, false, List, [],
 use Rattle.std.specs.List.{last_or}
 use Rattle.bt_bed.specs.model.Feature.{Feature}
 use Rattle.bt_bed.specs.model.BedLine.{fault_at_line}
-use Rattle.bt_bed.specs.model.Good.{AreInBlocks}
-use Rattle.bt_seq.specs.calls.MaskStage.{extent_of, MaskStage, given, held_by, reached_by, want_at, is_written_at_once, reached, with_bed_ended, with_decided, with_line, with_record, LineBefore, GoesOn, PassesLines, IsNext}
-use Rattle.bt_seq.specs.calls.MaskState.{Masking, Waiting}
+use Rattle.bt_bed.specs.calls.Orders.{AreInBlocks}
+use Rattle.bt_seq.specs.calls.MaskStage.{extent_of, MaskStage, given, held_by, reached_by, want_at, is_written_at_once, reached, with_bed_ended, with_decided, with_line, with_record, LineBefore, GoesOn, PassesLines, IsNext, held_for}
+use Rattle.bt_seq.specs.calls.MaskState.{Masking, Waiting, left_after}
 use Rattle.bt_seq.specs.inside.Masking.{KnowsStage}
-use Rattle.bt_seq.specs.model.Masked.{decided, is_unnamed, left_after, SequenceLine, is_header, held_for, masked_line, line_says}
+use Rattle.bt_seq.specs.model.Masked.{decided, is_unnamed, SequenceLine, is_header, masked_line, line_says}
 use Rattle.bt_seq.specs.declared.mask.mask_how.MaskHow.{MaskHow}
-use Rattle.bt_lines.specs.model.Fault.{FaultValue, no_memory}
+use Rattle.bt_lines.specs.model.Fault.{FaultValue}
+use Rattle.bt_lines.specs.calls.Faults.{no_memory}
 use Rattle.bt_lines.specs.model.Lines.{TextLine}
 use Rattle.bt_lines.specs.calls.Names.{fault_value}
 use Rattle.bt_lines.specs.calls.Output.{Output, FailsToAdd, Grown}

@@ -5,8 +5,8 @@ use Rattle.std.specs.Option.{option_map_or}
 use Rattle.bt_bed.specs.model.Feature.{Feature}
 use Rattle.bt_lines.specs.model.Lines.{max_number, TextLine, spelled}
 use Rattle.bt_seq.specs.calls.MaskStage.{MaskStage, reached_by, want_at, PassesLines}
-use Rattle.bt_seq.specs.calls.MaskState.{Knows, KnowsEarlier, Matched, Masking, passed, stays_as_given}
-use Rattle.bt_seq.specs.model.Masked.{decided, is_unnamed, goes_on, left_after, names_behind, SequenceLine, is_header}
+use Rattle.bt_seq.specs.calls.MaskState.{Knows, KnowsEarlier, Matched, Masking, passed, stays_as_given, goes_on, left_after}
+use Rattle.bt_seq.specs.model.Masked.{decided, is_unnamed, names_behind, SequenceLine, is_header}
 use Rattle.bt_seq.specs.inside.Window.{Bounds, limit, gone_on}
 use Rattle.bt_seq.specs.declared.mask.mask_want.MaskWant.TheVariants.{Line, Nothing, Bed}
 use Rattle.bt_lines.specs.calls.Reader.{PassesLine, rest_in}

@@ -1,14 +1,12 @@
 -- Alignments of a SAM input, their blocks, and their BED lines.
-use Rattle.std.specs.Prelude.{◌≡◌, ℕ, ◌+◌, ◌==◌, ◌||◌, Bool, List, [], ◌∷◌, codes, bytes_eq, min, sum_by, Option, Some, None, option_and_then, option_map, if◌then◌else◌, ◌-◌, true, length, bit_and, nat_le, nat_lt, not, Result, Ok, Err, ◌++◌, flat_map, decimal, ⊤, false}
-use Rattle.bt_lines.specs.model.Lines.{value_of, pieces, max_number, Handed}
+use Rattle.std.specs.Prelude.{ℕ, ◌+◌, ◌==◌, ◌||◌, Bool, List, [], ◌∷◌, codes, bytes_eq, sum_by, Option, Some, None, option_and_then, option_map, if◌then◌else◌, ◌-◌, true, length, bit_and, nat_le, nat_lt, not, Result, Ok, Err, ◌++◌, flat_map, decimal, ⊤, false}
+use Rattle.bt_lines.specs.model.Lines.{value_of, pieces, max_number}
 use Rattle.bt_seq.specs.declared.sam.operation.Operation.{Operation}
 use Rattle.bt_lines.specs.declared.fault.Kind.{Kind}
 use Rattle.bt_lines.specs.declared.fault.Kind.TheVariants.{TooFewColumns, EmptyName, BadFlag, BadPosition, BadQuality, BadCigar, StopTooLarge}
 use Rattle.std.specs.List.{take_while, join_with_byte}
 use Rattle.bt_bed.specs.model.Feature.{Span}
-use Rattle.bt_bed.specs.model.BedLine.{is_of_line}
-use Rattle.bt_lines.specs.declared.fault.Input.{Input}
-use Rattle.bt_bed.specs.model.Good.{Format, Good, good_handed}
+use Rattle.bt_bed.specs.model.Good.{Format}
 
 -- CIGAR strings (Sequence Alignment/Map Format Specification, section 1.4, field 6): `*`, or one or
 -- more operations, each a number and a letter. The laws on them are in `sequences` of bt_laws.
@@ -85,15 +83,6 @@ operations_of (byte ∷ bytes) =
 -- the reference length of a CIGAR, if it is well formed
 abbrev pub length_of : List ℕ → Option ℕ
 length_of cigar = option_map reference_length (operations_of cigar)
-
--- the smaller of a reference length, with `more` bases beside it, and a million million
-abbrev pub span_with : ℕ → Option (List Operation) → Option ℕ
-span_with more operations =
-    option_map (λ os. min (more + reference_length os) 1000000000000) operations
-
--- the CIGAR is well formed, and the end is the start and its reference length
-abbrev pub EndsAt : List ℕ → ℕ → ℕ → Type 0
-EndsAt cigar start stop = option_map (λ length. start + length) (length_of cigar) ≡ Some stop
 
 -- What a line of a SAM file says: nothing, an alignment, or what is wrong with it (Sequence
 -- Alignment/Map Format Specification, section 1.3 for header lines, 1.4 for the mandatory fields).
@@ -303,11 +292,6 @@ sam_format = record {
   after = λ known a. known;
 }
 
--- what is good of a SAM input: the alignments before the first line at fault,
--- and the fault of that line
-abbrev pub sam_good : Input → Handed → Good Alignment
-sam_good input handed = good_handed sam_format input handed
-
 -- Faults of a line of a SAM file.
 
 -- whether a line of a SAM file can be at fault so
@@ -320,12 +304,3 @@ is_sam_kind BadQuality = true
 is_sam_kind BadCigar = true
 is_sam_kind StopTooLarge = true
 is_sam_kind _ = false
-
--- what is wrong with a line is such a kind
-abbrev pub wrong_have_sam_kinds : Type 0
-wrong_have_sam_kinds =
-    (text : List ℕ) (kind : Kind) → alignment_of text ≡ Err kind → is_sam_kind kind ≡ true
-
--- and lies at a line
-abbrev pub sam_kinds_are_of_lines : Type 0
-sam_kinds_are_of_lines = (kind : Kind) → is_sam_kind kind ≡ true → is_of_line kind ≡ true

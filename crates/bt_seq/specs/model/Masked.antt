@@ -1,19 +1,19 @@
 -- FASTA inputs, which records mask which sequence, and the masked lines.
-use Rattle.std.specs.Prelude.{◌++◌, ◌≡◌, ℕ, Bool, true, false, List, [], ◌∷◌, Option, Some, None, bytes_eq, flat_map, nat_le, option_and_then, if◌then◌else◌, ◌+◌, ◌==◌, ◌||◌, not, drop, length, Result, Ok, Err, suc, ◌&&◌, filter, find, is_none, nat_lt}
+use Rattle.std.specs.Prelude.{◌++◌, ℕ, Bool, true, false, List, [], ◌∷◌, Option, Some, None, bytes_eq, flat_map, nat_le, option_and_then, if◌then◌else◌, ◌+◌, ◌==◌, ◌||◌, not, drop, length, Result, Ok, Err, suc, ◌&&◌, find, is_none, nat_lt}
 use Rattle.std.specs.List.{last_or, list_any, take_while}
 use Rattle.std.specs.Option.{option_map_or}
 use Rattle.bt_bed.specs.model.Feature.{Feature}
 use Rattle.bt_bed.specs.model.BedLine.{fault_at_line}
-use Rattle.bt_bed.specs.model.Good.{Format, Good, good_handed, Member, items_in, or_else, block_good}
+use Rattle.bt_bed.specs.model.Good.{Format, Good, good_handed, Member, items_in, or_else}
 use Rattle.bt_bed.specs.model.Meeting.{Met, Rule, join_report}
-use Rattle.bt_lines.specs.model.Lines.{Handed, TextLine, whole_text, end_bytes}
+use Rattle.bt_lines.specs.model.Lines.{Handed, TextLine, end_bytes}
 use Rattle.bt_lines.specs.declared.fault.Input.{Input}
 use Rattle.bt_lines.specs.declared.fault.Kind.{Kind}
 use Rattle.bt_lines.specs.declared.fault.Kind.TheVariants.{TextBeforeHeader, NoSequence}
 use Rattle.bt_lines.specs.declared.reader.line.LineEnd.{LineEnd}
 use Rattle.std.specs.Char.{is_ascii_uppercase}
 use Rattle.bt_lines.specs.model.Fault.{FaultValue}
-use Rattle.bt_lines.specs.declared.fault.Input.TheVariants.{First, Second}
+use Rattle.bt_lines.specs.declared.fault.Input.TheVariants.{Second}
 use Rattle.bt_seq.specs.declared.mask.mask_how.MaskHow.{MaskHow}
 use Rattle.bt_seq.specs.declared.mask.mask_how.MaskHow.TheVariants.{Soft, Hard}
 
@@ -81,27 +81,6 @@ abbrev pub block_decides : ℕ → Option (List (List ℕ)) → List Feature →
 block_decides bases None records = true
 block_decides bases (Some []) records = list_any (λ r. nat_le bases r.start) records
 block_decides bases (Some (name ∷ names)) records = false
-
--- the names after the sequence of the last block: these, if there is none
-abbrev pub left_at_last : {A : Type 0} → Option (List (List ℕ)) → List (Owned A)
-    → Option (List (List ℕ))
-left_at_last left [] = left
-left_at_last left (o ∷ os) = left_at_last o.left os
-
-abbrev pub left_after : List (List ℕ) → List Feature → Option (List (List ℕ))
-left_after names records = left_at_last (Some names) (owned names records)
-
--- whether a record goes on with the block of the last of the records
-abbrev pub goes_on : List Feature → Feature → Bool
-goes_on records r = option_map_or (λ s. bytes_eq s.chrom r.chrom) (last_or None records) false
-
--- one more record goes on with the last block, or begins one, whose sequence comes after that of
--- the last one
-abbrev pub next_goes_on_or_begins : Type 0
-next_goes_on_or_begins = (names : List (List ℕ)) (records : List Feature) (r : Feature)
-    → left_after names (records ++ r ∷ [])
-    ≡ (if goes_on records r then left_after names records
-    else left_by (left_after names records) r.chrom)
 
 -- The lines of a FASTA input (bedtools manual, maskfasta; getfasta for names). A line that begins
 -- with `>` is a header, and begins a sequence. Every other line after a header holds bases, one for
@@ -216,13 +195,6 @@ masked_text how records line =
 abbrev pub masked_line : MaskHow → List Feature → SequenceLine → List ℕ
 masked_line how records line = masked_text how records line ++ end_bytes line.ending
 
--- what is held by a line: of the records of its sequence's block those that start before its end
--- and reach past its start
-abbrev pub held_for : SequenceLine → List Feature → List Feature
-held_for line records =
-    filter (λ r. nat_lt r.start (bases_up_to line) && nat_lt line.before r.stop)
-    (own_records line.names records)
-
 -- whether there is no name: a line comes before the first header, where it is decided at once
 abbrev pub is_unnamed : List (List ℕ) → Bool
 is_unnamed [] = true
@@ -264,8 +236,3 @@ mask_rule how names second = record {
 abbrev pub mask_met : MaskHow → Good SequenceLine → Good Feature → Met ℕ FaultValue
 mask_met how first second =
     join_report (mask_rule how (names_of (items_in first)) second) (items_in first) first.fault
-
--- the same of two whole texts
-abbrev pub mask_texts : MaskHow → Bool → List ℕ → List ℕ → Met ℕ FaultValue
-mask_texts how full fasta bed =
-    mask_met how (sequence_good full First (whole_text fasta)) (block_good Second (whole_text bed))

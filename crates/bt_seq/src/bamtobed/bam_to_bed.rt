@@ -1,7 +1,8 @@
 //! The engine of `bedtools bamtobed`.
 
 ghost use Rattle.std.specs.Prelude.{◌≡◌, flat_map, IfErr, IsErr, OnOk, None, Some, true};
-ghost use Rattle.bt_lines.specs.model.Fault.{FaultValue, write_failed};
+ghost use Rattle.bt_lines.specs.model.Fault.{FaultValue};
+ghost use Rattle.bt_lines.specs.calls.Faults.{write_failed};
 ghost use Rattle.bt_lines.specs.calls.Names.{fault_value};
 ghost use Rattle.bt_lines.specs.calls.Output.{Adds};
 ghost use Rattle.bt_seq.specs.model.Alignment.{bed_lines};
@@ -27,7 +28,7 @@ pub struct BamToBed {
 
 impl Model for BamToBed {
     ghost use Rattle.std.specs.Prelude.{None, Some, if◌then◌else◌};
-    ghost use Rattle.bt_lines.specs.model.Fault.{write_failed};
+    ghost use Rattle.bt_lines.specs.calls.Faults.{write_failed};
     ghost use Rattle.bt_seq.specs.calls.Sam.{Converting};
 
     ghost Value = { Converting };

@@ -1,7 +1,7 @@
 //! What a masking engine keeps, and its steps.
 
 ghost use Rattle.std.specs.Prelude.{◌≡◌, ◌<◌, ◌&&◌, None, Some, [], OnErr, OnOk, IfErr, IsErr, IsOk, cond, false, not, true, is_some, length, nat_eq, nat_le, nat_lt, if◌then◌else◌};
-ghost use Rattle.bt_lines.specs.model.Fault.{no_memory};
+ghost use Rattle.bt_lines.specs.calls.Faults.{no_memory};
 ghost use Rattle.bt_lines.specs.calls.Names.{fault_value};
 ghost use Rattle.bt_bed.specs.calls.Bed.{feature_lent};
 ghost use Rattle.bt_bed.specs.model.BedLine.{fault_at_line};

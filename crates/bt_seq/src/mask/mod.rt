@@ -12,7 +12,7 @@ pub(crate) mod window;
 ghost use Rattle.std.specs.Prelude.{◌≡◌, ◌<◌, ◌⊎◌, [], Bool, None, OnErr, OnOk, Some, false, length, true};
 ghost use Rattle.std.specs.List.{last_or};
 ghost use Rattle.bt_bed.specs.calls.Bed.{feature_lent};
-ghost use Rattle.bt_bed.specs.model.Good.{AreInBlocks};
+ghost use Rattle.bt_bed.specs.calls.Orders.{AreInBlocks};
 ghost use Rattle.bt_lines.specs.calls.Line.{line_seen};
 ghost use Rattle.bt_lines.specs.declared.reader.buffered_lines.BufferedLines.{BufferedLines};
 ghost use Rattle.bt_seq.specs.calls.MaskStage.{IsNext, MaskStage, first_stage, given, held_by, want_at, with_lines_ended};

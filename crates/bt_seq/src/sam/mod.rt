@@ -11,7 +11,7 @@ pub(crate) mod splitting;
 
 ghost use Rattle.std.specs.Prelude.{◌<◌, ◌≤◌};
 ghost use Rattle.bt_lines.specs.model.Lines.{max_number};
-ghost use Rattle.bt_seq.specs.model.Alignment.{EndsAt};
+ghost use Rattle.bt_seq.specs.calls.Alignments.{EndsAt};
 
 /// An alignment, which borrows its columns from its line. `name` is QNAME alone, without `/1` or `/2`.
 /// `first` and `last` say whether the read is the first or the last segment of its template, and

@@ -9,22 +9,28 @@ use Rattle.bt_sweep.specs.declared.output.shape.Shape.{Shape}
 use Rattle.bt_sweep.specs.declared.sweep.want.Want.{Want}
 use Rattle.bt_sweep.specs.declared.sweep.want.Want.TheVariants.{A as WantA, B as WantB, Nothing}
 use Rattle.std.specs.List.{list_any, list_all}
-use Rattle.bt_bed.specs.model.Sorted.{ArePlaced}
+use Rattle.bt_bed.specs.calls.Orders.{ArePlaced}
 use Rattle.bt_bed.specs.model.Order.{Order}
 use Rattle.bt_sweep.specs.model.Hits.{decides, decided}
 pub use Rattle.bt_sweep.specs.model.Hits.{is_held, held_for}
-use Rattle.bt_lines.specs.model.Fault.{FaultValue, no_memory}
+use Rattle.bt_lines.specs.model.Fault.{FaultValue}
+use Rattle.bt_lines.specs.calls.Faults.{no_memory}
 use Rattle.bt_lines.specs.declared.fault.Input.TheVariants.{Second}
 use Rattle.bt_lines.specs.declared.fault.Kind.TheVariants.{TooManyHeld}
 use Rattle.bt_lines.specs.calls.Names.{fault_value}
 use Rattle.bt_lines.specs.calls.Output.{Output, FailsToAdd, Grown}
 use Rattle.bt_lines.specs.declared.fault.Fault.{Fault}
-use Rattle.bt_sweep.specs.model.Lines.{LinesBefore, lines_for, intersect}
+use Rattle.bt_sweep.specs.model.Lines.{lines_for, intersect}
+use Rattle.bt_sweep.specs.calls.LineLaws.{LinesBefore}
 use Rattle.bt_bed.specs.declared.read.cursor.Cursor.{Ghosts as Cursor}
 use Rattle.bt_bed.specs.declared.record.taken.Taken.{Taken}
 use Rattle.bt_bed.specs.declared.record.taken.Taken.TheVariants.{Yes, No}
 
 -- What a sweep holds between calls.
+
+-- the rule that one common base satisfies
+abbrev pub any_overlap : HitRule
+any_overlap = record { billionths = 0; both = false; same_strand = false }
 
 -- The shape of what it writes, the rule of what hits a record, and how many records may be held, if
 -- that is limited. Then the record of the first input that waits, if one does, the records of the second

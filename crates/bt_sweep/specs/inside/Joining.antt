@@ -1,7 +1,8 @@
 -- Steps of a sweep over records of both inputs.
 use Rattle.std.specs.Prelude.{◌≡◌, ◌⊎◌, ℕ, ◌<◌, ◌≤◌, ⊤, Bool, true, All, IfSome, List, [], ◌∷◌, ◌++◌, Option, None, Some, Result, Ok, Err, length, option_map, option_to_list, false, cond, decimal, filter, nat_lt, bytes_eq, drop, take}
 use Rattle.std.specs.Bool.{then_some}
-use Rattle.bt_lines.specs.model.Fault.{FaultValue, no_memory, write_failed}
+use Rattle.bt_lines.specs.model.Fault.{FaultValue}
+use Rattle.bt_lines.specs.calls.Faults.{no_memory, write_failed}
 use Rattle.bt_lines.specs.calls.Names.{fault_value}
 use Rattle.bt_lines.specs.model.Lines.{max_number}
 use Rattle.bt_lines.specs.calls.Output.{Output, FailsToAdd, Grown}
@@ -9,8 +10,8 @@ use Rattle.bt_lines.specs.declared.fault.Fault.{Fault}
 use Rattle.bt_bed.specs.model.Feature.{Feature, intervals_of}
 use Rattle.bt_bed.specs.declared.read.cursor.Cursor.{Ghosts as Cursor}
 use Rattle.bt_bed.specs.model.BedLine.{bed_text}
-use Rattle.bt_bed.specs.model.Sorted.{ArePlaced}
-use Rattle.bt_bed.specs.model.Order.{Order, IsTotal}
+use Rattle.bt_bed.specs.calls.Orders.{ArePlaced, IsTotal}
+use Rattle.bt_bed.specs.model.Order.{Order}
 use Rattle.bt_sweep.specs.calls.Sweeping.{Proceeds, SharesBase, AreDecided, CannotBeHeld, LeavesLast, TakenEach, HoldsFor, SameConfig, Sweeping, is_held, CannotHold, has_room}
 use Rattle.bt_sweep.specs.calls.Held.{CanHit}
 use Rattle.bt_sweep.specs.model.Lines.{intersect, line_with, lines_of}

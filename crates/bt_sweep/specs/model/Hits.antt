@@ -1,5 +1,5 @@
 -- Which records hit one another, which decide one, and which are held.
-use Rattle.std.specs.Prelude.{ℕ, ◌*◌, Bool, false, not, ◌&&◌, ◌||◌, List, filter, nat_le, nat_lt, [], ◌∷◌, ◌++◌, Option, None, Some, bytes_eq, if◌then◌else◌, length, map}
+use Rattle.std.specs.Prelude.{ℕ, ◌*◌, Bool, not, ◌&&◌, ◌||◌, List, filter, nat_le, nat_lt, [], ◌∷◌, ◌++◌, Option, None, Some, bytes_eq, if◌then◌else◌, length, map}
 use Rattle.bt_bed.specs.model.Feature.{length_of, shared, Feature, interval_of, is_strand}
 use Rattle.bt_bed.specs.model.BedLine.{fault_at_line}
 use Rattle.bt_sweep.specs.declared.hits.hit_rule.HitRule.{HitRule}
@@ -36,10 +36,6 @@ strands_agree rule a b = not rule.same_strand || is_strand a.strand b.strand
 unfoldable pub hits : HitRule → Feature → Feature → Bool
 hits rule a b =
     nat_lt 0 (shared_bases a b) && (strands_agree rule a b && is_enough rule (shared_bases a b) a b)
-
--- the rule that one common base satisfies
-abbrev pub any_overlap : HitRule
-any_overlap = record { billionths = 0; both = false; same_strand = false }
 
 -- the records that hit a, in file order
 abbrev pub hits_among : HitRule → Feature → List Feature → List Feature

@@ -1,7 +1,7 @@
 //! What makes a hit.
 
 ghost use Rattle.std.specs.Prelude.{◌≡◌, false, true};
-ghost use Rattle.bt_sweep.specs.model.Hits.{any_overlap};
+ghost use Rattle.bt_sweep.specs.calls.Sweeping.{any_overlap};
 
 /// Which records hit one another: they share a base, and what the rule requires beside that (bedtools
 /// manual, intersect, options -f, -r and -s). Each pair of records is judged separately.

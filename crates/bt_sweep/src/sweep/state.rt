@@ -5,7 +5,7 @@ ghost use Rattle.bt_lines.specs.calls.Names.{fault_value};
 ghost use Rattle.bt_lines.specs.model.Lines.{max_number};
 ghost use Rattle.bt_lines.specs.calls.Output.{Adds};
 ghost use Rattle.bt_bed.specs.model.BedLine.{fault_at_line};
-ghost use Rattle.bt_bed.specs.model.Order.{IsTotal};
+ghost use Rattle.bt_bed.specs.calls.Orders.{IsTotal};
 ghost use Rattle.bt_sweep.specs.calls.Held.{AreReady, AreRising, CanHit, CanHitAt};
 ghost use Rattle.bt_sweep.specs.model.Lines.{lines_for};
 ghost use Rattle.bt_sweep.specs.inside.Joining.{AddsWith, AreDecidedOn, Joins, LeavesOn, SkipsAll, WritesUpTo, waiting_in, IsQuiet, PutsOr, line_in, pending_in, KeepsOne, Takes, are_on, has_room_in, held_with, stopped};

@@ -1,6 +1,7 @@
 -- The words of a command line divide into items in one way.
 use Rattle.bt_lines.proofs.Std.{arith, ◌≡◌, Bool, true, false, List, [], ◌∷◌, ◌++◌, Option, Some, None, refl, All, All-nil, All-cons}
-use Rattle.bt_tool.specs.model.Usage.{Item, IsItem, items_of, words_of}
+use Rattle.bt_tool.specs.model.Usage.{Item, items_of, words_of}
+use Rattle.bt_tool.specs.calls.CommandLine.{IsItem}
 use Rattle.bt_tool.specs.model.Table.{Word, Table, fits, takes}
 use Rattle.bt_tool.specs.declared.options.takes.Takes.{Takes}
 

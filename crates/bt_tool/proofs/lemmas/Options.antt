@@ -2,18 +2,19 @@
 use Rattle.bt_lines.proofs.Std.{common_steps, rules, ◌≡◌, ℕ, ◌+◌, ◌<◌, ◌≤◌, Bool, true, false, List, [], ◌∷◌, length, Option, Some, None, Err, drop, refl, sym, ap, ◌∙◌, arith, length-drop, Result, Ok, is_some, if◌then◌else◌, IfOk, IfErr, cond, subst, All, String, bytes_eq, option_and_then, string_bytes, unwrap_or, option_or, length-map, All-head, All-tail, not, option_map, IsSome, list_any, false≢true, or_parts, ◌++◌, add-zero, drop_of_length-le, drop-cons, get_or, drop-map}
 use Rattle.bt_tool.specs.declared.planning.tool.Tool.{Tool}
 use Rattle.bt_tool.specs.declared.options.usage.Usage.{Usage}
-use Rattle.bt_tool.specs.model.Usage.{Item, items_of, IsTellable, no_command, unknown_option, required_missing, options_exclusive, input_named_twice, IsItem, words_of, value_missing, bad_value}
+use Rattle.bt_tool.specs.model.Usage.{Item, items_of, no_command, unknown_option, required_missing, options_exclusive, input_named_twice, words_of, value_missing, bad_value}
+use Rattle.bt_tool.specs.calls.CommandLine.{IsTellable, IsItem, ReportsAnswer, ReportsRefusal}
 use Rattle.bt_tool.specs.model.Options.{asked, checked, command_of, fault_together, options, word_fault, last_item, plan_of, value_of, command_by, is_given, output_by, value_if_any}
-use Rattle.bt_tool.specs.model.Table.{Word, Table, table_of, takes, fits, IsNamedBy, tool_of}
+use Rattle.bt_tool.specs.model.Table.{Word, Table, table_of, takes, fits, tool_of}
 use Rattle.bt_tool.specs.calls.Plan.{plan_seen, IsRefusalOf, words_seen}
-use Rattle.bt_tool.specs.model.Report.{ReportsAnswer, ReportsRefusal, report}
+use Rattle.bt_tool.specs.model.Report.{report}
 use Rattle.bt_tool.specs.declared.planning.plan_type.Plan.{Plan}
 use Rattle.bt_tool.specs.declared.options.usage.Refusal.{Refusal}
 use Rattle.std.specs.declared.alloc.Global.{Global}
 use Rattle.bt_lines.specs.model.Lines.{max_number, value_of as number_of}
 use Rattle.bt_tool.specs.calls.Given.{items_in}
 use Rattle.bt_tool.specs.calls.Lent.{table_lent}
-use Rattle.bt_tool.specs.calls.Limits.{is_limit}
+use Rattle.bt_tool.specs.calls.Limits.{is_limit, IsNamedBy}
 use Rattle.bt_tool.specs.declared.options.given.Given.{Given}
 use Rattle.bt_tool.specs.declared.options.table.Table.{Table as Lent}
 use Rattle.bt_tool.specs.declared.options.takes.Takes.TheVariants.{FileName}

@@ -1,6 +1,8 @@
--- The limits of the numbers of a plan.
-use Rattle.std.specs.Prelude.{ℕ, Bool, true, ◌&&◌, Option, None, Some, nat_le}
-use Rattle.bt_tool.specs.model.Table.{is_printable}
+-- The limits of the numbers of a plan, and which of its names are there.
+use Rattle.std.specs.Prelude.{ℕ, Bool, true, ◌&&◌, Option, None, Some, nat_le, false, bytes_eq, IsTrue, IsSome, IsNone}
+use Rattle.std.specs.List.{list_any}
+use Rattle.std.specs.Option.{option_map_or}
+use Rattle.bt_tool.specs.model.Table.{is_printable, Word, Table}
 use Rattle.bt_lines.specs.model.Lines.{max_number}
 use Rattle.bt_seq.specs.declared.mask.mask_how.MaskHow.{MaskHow}
 use Rattle.bt_seq.specs.declared.mask.mask_how.MaskHow.TheVariants.{Soft, Hard}
@@ -29,3 +31,15 @@ is_within_limits (Subtract whole rule held) =
 is_within_limits (Coverage zeros strand) = true
 is_within_limits (BamToBed split cigar) = true
 is_within_limits (MaskFasta how full) = is_shown_as how
+
+-- The names of a plan.
+
+-- whether the command requires the option, of which it may have none
+abbrev pub is_required : Table → Option Word → Bool
+is_required table option =
+    option_map_or (λ word. list_any (bytes_eq word) table.required) option false
+
+-- a name is there if its option is required, and never if the command has no such option
+abbrev pub IsNamedBy : {A : Type 0} → Table → Option Word → Option A → Type 0
+IsNamedBy table option name =
+    (IsTrue (is_required table option) → IsSome name) × (IsNone option → IsNone name)

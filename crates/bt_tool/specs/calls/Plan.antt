@@ -6,7 +6,7 @@ use Rattle.bt_tool.specs.declared.options.usage.Refusal.{Refusal}
 use Rattle.bt_tool.specs.declared.options.usage.Refusal.TheVariants.{Usage, NoMemory}
 use Rattle.bt_tool.specs.model.Options.{PlanSeen, options}
 use Rattle.bt_tool.specs.model.Table.{Word}
-use Rattle.bt_tool.specs.model.Usage.{IsTellable}
+use Rattle.bt_tool.specs.calls.CommandLine.{IsTellable}
 
 -- the words, as their bytes
 abbrev pub words_seen : List (String Global) → List Word

@@ -2,20 +2,22 @@
 use Rattle.std.specs.Prelude.{◌≡◌, ◌≢◌, ℕ, ◌+◌, ◌-◌, ◌^◌, ◌≤◌, ◌⊎◌, Bool, true, List, ◌++◌, length, false, take, Option, Some, None, IfSome, Ok, Err, Result, is_some, option_map, ⊤, []}
 use Rattle.std.specs.Io.KnownBytes.{Consumes}
 use Rattle.bt_lines.specs.declared.device.Source.{Ghosts as Source}
-use Rattle.bt_lines.specs.model.Fault.{FaultValue, read_failed, no_memory, write_failed}
+use Rattle.bt_lines.specs.model.Fault.{FaultValue, read_failed}
+use Rattle.bt_lines.specs.calls.Faults.{no_memory, write_failed}
 use Rattle.bt_lines.specs.model.Lines.{TextLine, bytes_in, text_lines, Handed}
 use Rattle.bt_lines.specs.calls.Output.{Output, block_size, IsPrefixOf, Grows}
 use Rattle.bt_lines.specs.declared.fault.Input.{Input}
 use Rattle.bt_lines.specs.declared.fault.Kind.{Kind}
-use Rattle.bt_bed.specs.model.BedLine.{fault_at_line, is_genome_kind}
+use Rattle.bt_bed.specs.model.BedLine.{fault_at_line}
 use Rattle.bt_tool.specs.model.Written.{Report, IsOneOf}
 use Rattle.bt_lines.specs.calls.Names.{fault_value}
 use Rattle.bt_lines.specs.declared.fault.Fault.{Fault}
 use Rattle.bt_lines.specs.declared.fault.Input.TheVariants.{Genome as FromGenome, Genome, First, Second}
-use Rattle.bt_bed.specs.calls.GenomeTable.{entries, names_of}
-use Rattle.bt_bed.specs.model.Order.{AreDistinct}
+use Rattle.bt_bed.specs.calls.GenomeTable.{entries, names_of, is_genome_kind}
+use Rattle.bt_bed.specs.calls.Orders.{AreDistinct}
 use Rattle.bt_bed.specs.declared.order.genome.Genome.{Genome as GenomeTable}
-use Rattle.bt_tool.specs.model.Report.{Holds, OfBoth, ReadsIf, ServesIf, chromosomes_of, Behaviour, HandsUpTo, Reads, behaviour_of, Inputs, behaviour_on, report_of, report, seen_of, texts_of}
+use Rattle.bt_tool.specs.model.Report.{chromosomes_of, Behaviour, behaviour_of, Inputs, behaviour_on, report_of, report, seen_of, texts_of}
+use Rattle.bt_tool.specs.calls.Inputs.{Holds, OfBoth, ReadsIf, ServesIf, HandsUpTo, Reads}
 use Rattle.bt_lines.specs.calls.Device.{ReadsFail, ReadsOn}
 use Rattle.bt_lines.specs.declared.device.Sink.{Ghosts as Sink}
 use Rattle.bt_lines.specs.declared.fault.Place.{Place}

@@ -1,7 +1,8 @@
 -- Loops over one reader.
 use Rattle.std.specs.Prelude.{◌≡◌, ℕ, suc, ◌+◌, ◌^◌, ◌<◌, ◌≤◌, ◌⊎◌, ⊤, All, true, List, [], ◌∷◌, ◌++◌, drop, length, map, Option, Some, None, IfSome, IsSome, ◌≢◌, Result, Ok, Err, false}
 use Rattle.bt_lines.specs.declared.device.Source.{Ghosts as Source}
-use Rattle.bt_lines.specs.model.Fault.{FaultValue, read_failed, no_memory, write_failed}
+use Rattle.bt_lines.specs.model.Fault.{FaultValue, read_failed}
+use Rattle.bt_lines.specs.calls.Faults.{no_memory, write_failed}
 use Rattle.bt_lines.specs.model.Lines.{bytes_in, TextLine}
 use Rattle.bt_lines.specs.calls.Output.{block_size, Output, IsPrefixOf, Grows, HoldsBlock, WorksAsBefore, FailsToAdd, Grown}
 use Rattle.bt_lines.specs.calls.Reader.{CutsOff, Hands, IsKept, IsUnread, source_of, input_of, bytes_taken, fault_kept as line_fault, lines_given, lines_left, IsSound, feeds_taken}
@@ -10,11 +11,11 @@ use Rattle.bt_lines.specs.declared.fault.Kind.{Kind}
 use Rattle.bt_lines.specs.declared.reader.line_reader.LineReader.{LineReader}
 use Rattle.bt_bed.specs.model.Good.{Format, Good, Member}
 use Rattle.bt_bed.specs.calls.Reading.{IsBeyond, AreSaid, MemberReader, Takes, ahead_in, good_coming, state_behind}
-use Rattle.bt_bed.specs.model.Feature.{Feature, intervals_of, AreNonEmpty}
+use Rattle.bt_bed.specs.model.Feature.{Feature, intervals_of}
+use Rattle.bt_bed.specs.calls.Orders.{AreNonEmpty, ArePlaced}
 use Rattle.bt_bed.specs.model.BedLine.{fault_at_line}
 use Rattle.bt_lines.specs.calls.Names.{fault_value}
 use Rattle.bt_lines.specs.declared.fault.Fault.{Fault}
-use Rattle.bt_bed.specs.model.Sorted.{ArePlaced}
 use Rattle.bt_bed.specs.model.Order.{Order}
 use Rattle.bt_bed.specs.calls.Batch.{Passes as PassesBatch, left, line_in}
 use Rattle.bt_bed.specs.calls.Records.{below, order_in, view_of}

@@ -9,14 +9,15 @@ use Rattle.bt_lines.specs.calls.Reader.{buffered_bytes, has_ended, input_of, roo
 use Rattle.bt_lines.specs.declared.fault.Input.TheVariants.{First}
 use Rattle.bt_lines.specs.declared.reader.line_reader.LineReader.{LineReader}
 use Rattle.bt_bed.specs.model.Feature.{Feature}
-use Rattle.bt_bed.specs.model.Good.{Member, AreInBlocks, block_format}
+use Rattle.bt_bed.specs.model.Good.{Member, block_format}
+use Rattle.bt_bed.specs.calls.Orders.{AreInBlocks}
 use Rattle.bt_bed.specs.model.Sorted.{Locus}
 use Rattle.bt_bed.specs.calls.Blocks.{view_of}
 use Rattle.bt_bed.specs.calls.Reading.{MemberReader, room}
 use Rattle.bt_seq.specs.calls.MaskStage.{MaskStage}
-use Rattle.bt_seq.specs.calls.MaskState.{Masking}
+use Rattle.bt_seq.specs.calls.MaskState.{Masking, left_after}
 use Rattle.bt_seq.specs.calls.MaskSteps.{MaskStandsAt}
-use Rattle.bt_seq.specs.model.Masked.{decided, masked_line, names_of, no_sequence, left_after, Reached, SequenceLine, sequence_format}
+use Rattle.bt_seq.specs.model.Masked.{decided, masked_line, names_of, no_sequence, Reached, SequenceLine, sequence_format}
 use Rattle.bt_seq.specs.declared.mask.mask_how.MaskHow.{MaskHow}
 use Rattle.bt_seq.specs.declared.mask.mask_want.MaskWant.{MaskWant}
 use Rattle.bt_seq.specs.declared.mask.mask_want.MaskWant.TheVariants.{Line as WantLine, Bed as WantBed, Nothing}

@@ -2,7 +2,8 @@
 use Rattle.std.specs.Prelude.{◌≡◌, ℕ, ◌^◌, ◌<◌, ◌≤◌, ◌||◌, Bool, true, List, [], ◌++◌, flat_map, length, Option, None, IfSome, IsSome, is_none, option_map, option_to_list, ◌⊎◌, All, false, ◌∷◌, Some}
 use Rattle.std.specs.List.{list_all}
 use Rattle.bt_lines.specs.declared.device.Source.{Ghosts as Source}
-use Rattle.bt_lines.specs.model.Fault.{FaultValue, no_memory, read_failed, write_failed}
+use Rattle.bt_lines.specs.model.Fault.{FaultValue, read_failed}
+use Rattle.bt_lines.specs.calls.Faults.{no_memory, write_failed}
 use Rattle.bt_lines.specs.model.Lines.{TextLine}
 use Rattle.bt_lines.specs.calls.Output.{Output, Grows, WorksAsBefore}
 use Rattle.bt_lines.specs.calls.Reader.{bytes_taken, end_told, lines_left, source_of, HasRead, Hands, lines_given}

@@ -13,8 +13,9 @@ use Rattle.bt_lines.specs.declared.fault.Kind.{Kind}
 use Rattle.bt_bed.specs.model.Feature.{Feature, intervals_of}
 use Rattle.bt_bed.specs.model.BedLine.{IsBedKind}
 use Rattle.bt_bed.specs.model.Good.{Member, bed_format}
-use Rattle.bt_bed.specs.model.Sorted.{ArePlaced, Locus, sorting_of}
-use Rattle.bt_bed.specs.model.Order.{IsTotal, Order}
+use Rattle.bt_bed.specs.model.Sorted.{Locus, sorting_of}
+use Rattle.bt_bed.specs.calls.Orders.{ArePlaced, IsTotal}
+use Rattle.bt_bed.specs.model.Order.{Order}
 use Rattle.bt_bed.specs.calls.Reading.{MemberReader, ahead_in}
 use Rattle.bt_bed.specs.calls.Records.{last_locus, order_in, room, view_of}
 use Rattle.bt_bed.specs.declared.order.ChromOrder.{Ghosts}

@@ -1,5 +1,5 @@
 -- What a list of words means: the plan, or the fault of its usage.
-use Rattle.std.specs.Prelude.{◌≡◌, ℕ, ◌+◌, Bool, List, [], ◌∷◌, ◌++◌, ◌||◌, ◌&&◌, false, true, not, Option, Some, None, Result, Ok, Err, MatchOption, bytes_eq, codes, count_by, drop, if◌then◌else◌, is_some, length, nat_lt, option_and_then, option_map, option_to_list, unwrap_or}
+use Rattle.std.specs.Prelude.{ℕ, ◌+◌, Bool, List, [], ◌∷◌, ◌++◌, ◌||◌, ◌&&◌, false, true, not, Option, Some, None, Result, Ok, Err, bytes_eq, codes, count_by, drop, if◌then◌else◌, is_some, length, nat_lt, option_and_then, option_map, option_to_list, unwrap_or}
 use Rattle.std.specs.List.{list_any}
 use Rattle.std.specs.Option.{option_map_or, option_or}
 use Rattle.bt_bed.specs.model.BedLine.{strand_named}
@@ -17,7 +17,7 @@ use Rattle.bt_tool.specs.declared.planning.tool.Tool.TheVariants.{Merge, Complem
 use Rattle.bt_tool.specs.declared.options.usage.Usage.{Usage}
 use Rattle.bt_tool.specs.model.Table.{character_of, Word, Table, command_named, table_of, takes}
 use Rattle.bt_tool.specs.model.Fraction.{fraction_of}
-use Rattle.bt_tool.specs.model.Usage.{Item, IsLongestDivision, items_of, spelled, no_command, unknown_option, value_missing, bad_value, required_missing, options_exclusive, input_named_twice}
+use Rattle.bt_tool.specs.model.Usage.{Item, items_of, spelled, no_command, unknown_option, value_missing, bad_value, required_missing, options_exclusive, input_named_twice}
 use Rattle.bt_tool.specs.declared.planning.plan_type.Command.TheVariants as does
 
 -- the names of the inputs and of the output
@@ -217,19 +217,3 @@ options words = elim (command_of words) [
   | None ↦ Err no_command
   | Some tool ↦ asked tool (drop 1 words)
 ]
-
--- the result for the words after a command, by the items of their longest division
-pub record AnswersPlan (tool : Tool) (words : List Word) (answer : Result PlanSeen Usage)
-    : Type 0 where
-  pub items : List Item
-  pub division : IsLongestDivision (table_of tool) words items
-  pub at_fault : (usage : Usage) → fault_past (table_of tool) 1 items words ≡ Some usage
-      → answer ≡ Err usage
-  pub all_divided : fault_past (table_of tool) 1 items words ≡ None
-      → answer ≡ checked tool items
-
--- the result for all the words
-abbrev pub AnswersAll : List Word → Result PlanSeen Usage → Type 0
-AnswersAll words answer =
-    MatchOption (command_of words) (answer ≡ Err no_command)
-    (λ tool. AnswersPlan tool (drop 1 words) answer)

@@ -1,7 +1,5 @@
 -- What a run gives. Its top is `report`, near the end.
-use Rattle.std.specs.Prelude.{◌≡◌, ℕ, ◌-◌, ◌^◌, ◌≤◌, Bool, true, false, ⊤, List, [], length, nat_le, take, Option, Some, None, unwrap_or, Result, Ok, Err, option_map}
-use Rattle.std.specs.Io.KnownBytes.{Consumes}
-use Rattle.bt_lines.specs.declared.device.Source.{Ghosts as Source}
+use Rattle.std.specs.Prelude.{ℕ, Bool, List, [], Option, Some, None, unwrap_or, Result, Ok, Err, option_map}
 use Rattle.bt_lines.specs.model.Lines.{Handed, whole_text, TextLine}
 use Rattle.bt_lines.specs.declared.fault.Kind.{Kind}
 use Rattle.bt_bed.specs.model.Order.{byte_order, Order, rank_order}
@@ -24,8 +22,6 @@ use Rattle.bt_tool.specs.model.Options.{Named, PlanSeen, options}
 use Rattle.bt_tool.specs.model.Table.{Word, tool_name, tool_of}
 use Rattle.bt_tool.specs.model.Usage.{usage_text}
 use Rattle.bt_tool.specs.declared.options.usage.Usage.{Usage}
-use Rattle.bt_tool.specs.declared.options.usage.Refusal.{Refusal}
-use Rattle.bt_tool.specs.declared.options.usage.Refusal.TheVariants.{Usage as InWords, NoMemory}
 
 -- What the inputs of a run hand over to it.
 
@@ -38,51 +34,6 @@ pub record Inputs : Type 0 where
 -- a missing input is as an empty one
 abbrev pub or_empty : Option Handed → Handed
 or_empty handed = unwrap_or handed (whole_text [])
-
--- this holds of two, both of which may be missing
-abbrev pub OfBoth : {S T : Type 0} → (S → T → Type 0) → Option S → Option T → Type 0
-OfBoth P None None = ⊤
-OfBoth P (Some one) (Some other) = P one other
-OfBoth P _ _ = ⊥
-
--- a source handed over at most this many bytes
-pub record HandsUpTo {S : Type 0} (left : S → Option (List ℕ)) (most : ℕ)
-    (before after : S) : Type 0 where
-  pub handed : List ℕ
-  pub consumed : Consumes (left before) (left after) handed
-  pub read : length handed ≤ most
-
--- an input that may be missing hasn't failed since
-abbrev pub ServesIf : {S : Type 0} → (S → Bool) → Option S → Option S → Type 0
-ServesIf failed = OfBoth (λ before after. failed after ≡ failed before)
-
--- what came of a text, of which these bytes were handed over: all of it, or if a read failed or
--- 2^63 bytes came, what came before that
-abbrev pub handed_by : Bool → Bool → List ℕ → List ℕ → Handed
-handed_by false false text bytes = whole_text text
-handed_by _ _ text bytes = record { text = take (2 ^ 63 - 1) bytes; is_cut = true }
-
-module _ {S : Type 0} (device : Source S) where
-  -- the source told its bytes and worked before the run, and in it this came of its text
-  pub record Reads (before after : S) (handed : Handed) : Type 0 where
-    pub text : List ℕ
-    pub known : device.left before ≡ Some text
-    pub worked : device.has_failed before ≡ false
-    pub bytes : List ℕ
-    pub consumed : Consumes (device.left before) (device.left after) bytes
-    pub is : handed ≡ handed_by (device.has_failed after) (nat_le (2 ^ 63) (length bytes)) text bytes
-
-  -- the same of an input that may not be there
-  abbrev pub ReadsIf : Option S → Option S → Option Handed → Type 0
-  ReadsIf None None None = ⊤
-  ReadsIf (Some before) (Some after) (Some handed) = Reads before after handed
-  ReadsIf _ _ _ = ⊥
-
--- this is the whole text of a source, what it never hands over included
-pub record Holds {S : Type 0} (left : S → Option (List ℕ)) (source : S) (handed : Handed) : Type 0 where
-  pub text : List ℕ
-  pub known : left source ≡ Some text
-  pub is : handed ≡ whole_text text
 
 -- What a command does with its inputs: the report on what they hand over, what the first lines of
 -- the first input settle and need. Then which faults a line of each can have.
@@ -242,13 +193,3 @@ answer_of words (Ok plan) genome first second =
 -- what the words and the whole texts of the inputs give
 unfoldable pub report : List Word → List ℕ → List ℕ → List ℕ → Seen
 report words genome first second = answer_of words (options words) genome first second
-
--- what a user sees of these words is what such an answer gives, whatever the texts of the inputs
-abbrev pub ReportsAnswer : List Word → Result PlanSeen Usage → Type 0
-ReportsAnswer words answer = (genome first second : List ℕ)
-    → report words genome first second ≡ answer_of words answer genome first second
-
--- a refusal answers so, unless memory ran out
-abbrev pub ReportsRefusal : List Word → Refusal → Type 0
-ReportsRefusal words (InWords usage) = ReportsAnswer words (Err usage)
-ReportsRefusal words NoMemory = Unit {0}

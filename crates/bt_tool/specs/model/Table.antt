@@ -2,9 +2,7 @@
 -- The options are those of the tool's page in the bedtools manual; that merge has `-g`, and intersect
 -- and subtract `-held`, is this program's own rule. A later command is a name, a place in
 -- the list of `command_named`, and a table.
-use Rattle.std.specs.Prelude.{ℕ, Bool, false, true, ◌&&◌, ◌||◌, List, [], ◌∷◌, Option, Some, None, bytes_eq, codes, find, if◌then◌else◌, is_some, length, nat_le, nat_lt, option_map, IsTrue, IsSome, IsNone}
-use Rattle.std.specs.List.{list_any}
-use Rattle.std.specs.Option.{option_map_or}
+use Rattle.std.specs.Prelude.{ℕ, Bool, false, true, ◌&&◌, ◌||◌, List, [], ◌∷◌, Option, Some, None, bytes_eq, codes, find, if◌then◌else◌, is_some, length, nat_le, nat_lt, option_map}
 use Rattle.bt_lines.specs.model.Lines.{value_of as number_of}
 use Rattle.bt_tool.specs.model.Fraction.{fraction_of}
 use Rattle.bt_tool.specs.declared.planning.plan_type.Command.{Command}
@@ -65,16 +63,6 @@ pub record Table : Type 0 where
 abbrev pub takes : Table → Word → Option Takes
 takes table option =
     option_map (λ row. row.takes) (find (λ row. bytes_eq option row.option) table.options)
-
--- whether the command requires the option, of which it may have none
-abbrev pub is_required : Table → Option Word → Bool
-is_required table option =
-    option_map_or (λ word. list_any (bytes_eq word) table.required) option false
-
--- a name is there if its option is required, and never if the command has no such option
-abbrev pub IsNamedBy : {A : Type 0} → Table → Option Word → Option A → Type 0
-IsNamedBy table option name =
-    (IsTrue (is_required table option) → IsSome name) × (IsNone option → IsNone name)
 
 abbrev pub row : Word → Takes → Row
 row option takes = record { option = option; takes = takes }

@@ -1,21 +1,9 @@
 -- The items of a command line, and its faults.
-use Rattle.std.specs.Prelude.{ℕ, ◌<◌, ◌≤◌, Bool, List, [], ◌∷◌, ◌++◌, ◌&&◌, IsTrue, codes, if◌then◌else◌, nat_eq, nat_le, slice_index_or, ◌≡◌, false, true, Option, Some, None, All, flat_map, length, option_to_list}
+use Rattle.std.specs.Prelude.{ℕ, Bool, List, [], ◌∷◌, ◌++◌, ◌&&◌, codes, if◌then◌else◌, nat_eq, nat_le, slice_index_or, false, true, Option, Some, None, flat_map, option_to_list}
 use Rattle.bt_tool.specs.declared.options.usage.Usage.{Usage}
-use Rattle.bt_tool.specs.declared.options.usage.UsageKind.{UsageKind}
-use Rattle.bt_tool.specs.declared.options.usage.UsageKind.TheVariants.{BadValue, InputNamedTwice, NoCommand, OptionsExclusive, RequiredMissing, UnknownOption, ValueMissing}
 use Rattle.bt_tool.specs.model.Table.{Word, Table, fits, takes}
-use Rattle.bt_tool.specs.declared.options.takes.Takes.{Takes}
 
 -- The faults of a command line, and what is reported of each.
-
-abbrev pub number_of : UsageKind → ℕ
-number_of NoCommand = 1
-number_of UnknownOption = 2
-number_of ValueMissing = 3
-number_of BadValue = 4
-number_of RequiredMissing = 5
-number_of OptionsExclusive = 6
-number_of InputNamedTwice = 7
 
 abbrev pub no_command : Usage
 no_command = record { number = 1; word = 0 }
@@ -42,12 +30,6 @@ input_named_twice = record { number = 7; word = 0 }
 -- whether a fault of this number is that of one word
 abbrev pub names_word : ℕ → Bool
 names_word number = nat_le 2 number && nat_le number 4
-
--- a fault that can be reported of this many words
-pub record IsTellable (usage : Usage) (count : ℕ) : Type 0 where
-  pub at_least : 1 ≤ usage.number
-  pub at_most : usage.number ≤ 7
-  pub in_words : IsTrue (names_word usage.number) → usage.word < count
 
 abbrev pub text_of : ℕ → List ℕ
 text_of number =
@@ -80,18 +62,6 @@ words_of item = item.option ∷ option_to_list item.value
 -- the words of some items, one after another
 abbrev pub spelled : List Item → List Word
 spelled items = flat_map words_of items
-
--- the table has the option, and it may have this value or none
-abbrev pub IsItem : Table → Item → Type 0
-IsItem table item =
-    (kind : Takes) × (takes table item.option ≡ Some kind) × IsTrue (fits kind item.value)
-
--- the longest prefix of the words that divides into items is divided into these
-pub record IsLongestDivision (table : Table) (words : List Word) (items : List Item) : Type 0 where
-  pub allowed : All (IsItem table) items
-  pub front : (rest : List Word) × (words ≡ spelled items ++ rest)
-  pub longest : (others : List Item) (rest : List Word) → All (IsItem table) others
-      → words ≡ spelled others ++ rest → length (spelled others) ≤ length (spelled items)
 
 -- the items into which the longest such prefix is divided
 unfoldable pub items_of : Table → List Word → List Item

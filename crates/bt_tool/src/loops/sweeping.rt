@@ -5,7 +5,7 @@ ghost use Rattle.bt_lines.specs.calls.Names.{fault_value};
 ghost use Rattle.bt_lines.specs.calls.Output.{HoldsBlock};
 ghost use Rattle.bt_lines.specs.calls.Reader.{HasRead};
 ghost use Rattle.bt_bed.specs.model.BedLine.{IsBedKind};
-ghost use Rattle.bt_bed.specs.model.Order.{IsTotal};
+ghost use Rattle.bt_bed.specs.calls.Orders.{IsTotal};
 ghost use Rattle.bt_bed.specs.calls.Records.{below, buffered_in, fault_kept, order_in, view_of};
 ghost use Rattle.bt_bed.specs.calls.CursorOf.{batch_cursor};
 ghost use Rattle.bt_bed.specs.declared.read.batch.Batch.{Batch};

@@ -2,7 +2,8 @@
 
 ghost use Rattle.std.specs.Prelude.{◌≡◌, ◌+◌, ◌<◌, ◌≤◌, ◌++◌, Some, IfOk, IfErr, drop, length};
 ghost use Rattle.bt_tool.specs.calls.Lent.{item_lent, table_lent};
-ghost use Rattle.bt_tool.specs.model.Usage.{IsItem, words_of};
+ghost use Rattle.bt_tool.specs.model.Usage.{words_of};
+ghost use Rattle.bt_tool.specs.calls.CommandLine.{IsItem};
 ghost use Rattle.bt_tool.specs.model.Options.{word_fault};
 ghost use Rattle.bt_tool.specs.calls.Plan.{words_seen};
 

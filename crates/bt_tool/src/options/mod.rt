@@ -17,7 +17,7 @@ ghost use Rattle.bt_tool.specs.model.Fraction.{fraction_of, one_in_billionths};
 ghost use Rattle.bt_tool.specs.calls.Given.{items_in};
 ghost use Rattle.bt_tool.specs.model.Options.{command_by, command_of, denoted, fault_together, hit_shape, mask_how_by, options, plan_of, rule_by, shape_by, strand_by};
 ghost use Rattle.bt_tool.specs.calls.Plan.{plan_seen, words_seen, CanBeTold, IsRefusalOf};
-ghost use Rattle.bt_tool.specs.model.Report.{ReportsAnswer, ReportsRefusal};
+ghost use Rattle.bt_tool.specs.calls.CommandLine.{ReportsAnswer, ReportsRefusal};
 ghost use Rattle.bt_tool.specs.model.Usage.{no_command};
 ghost use Rattle.bt_bed.specs.model.BedLine.{strand_named};
 ghost use Rattle.bt_lines.specs.model.Lines.{max_number, value_of};

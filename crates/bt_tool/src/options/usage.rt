@@ -2,7 +2,8 @@
 
 ghost use Rattle.std.specs.Prelude.{◌≡◌, IfOk, length};
 ghost use Rattle.bt_tool.specs.calls.Plan.{words_seen};
-ghost use Rattle.bt_tool.specs.model.Usage.{IsTellable, usage_text};
+ghost use Rattle.bt_tool.specs.model.Usage.{usage_text};
+ghost use Rattle.bt_tool.specs.calls.CommandLine.{IsTellable};
 
 use std::alloc::{AllocError, Global};
 
@@ -58,7 +59,8 @@ pub(crate) enum UsageKind {
 
 impl UsageKind {
     ghost use Rattle.std.specs.Prelude.{◌≡◌, ◌≤◌};
-    ghost use Rattle.bt_tool.specs.model.Usage.{names_word, number_of, text_of};
+    ghost use Rattle.bt_tool.specs.model.Usage.{names_word, text_of};
+    ghost use Rattle.bt_tool.specs.inside.UsageKinds.{number_of};
 
     fn numbered(number: u8) -> UsageKind
         requires at_least { 1 ≤ number }
@@ -103,7 +105,7 @@ impl UsageKind {
 
 impl Usage {
     ghost use Rattle.std.specs.Prelude.{◌≡◌};
-    ghost use Rattle.bt_tool.specs.model.Usage.{number_of};
+    ghost use Rattle.bt_tool.specs.inside.UsageKinds.{number_of};
 
     /// A fault of the words as a whole.
     pub(crate) fn new(kind: UsageKind) -> Usage

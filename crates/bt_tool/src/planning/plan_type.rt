@@ -1,7 +1,7 @@
 //! What the words of a command line mean.
 
-ghost use Rattle.bt_tool.specs.calls.Limits.{is_within_limits};
-ghost use Rattle.bt_tool.specs.model.Table.{table_of, tool_of, IsNamedBy};
+ghost use Rattle.bt_tool.specs.calls.Limits.{is_within_limits, IsNamedBy};
+ghost use Rattle.bt_tool.specs.model.Table.{table_of, tool_of};
 ghost use Rattle.std.specs.Prelude.{IsTrue};
 
 use crate::planning::tool::Tool;

@@ -1,7 +1,7 @@
 //! How a run ends at its output.
 
 ghost use Rattle.std.specs.Prelude.{◌≡◌, ◌⊎◌, true, Some, option_map};
-ghost use Rattle.bt_lines.specs.model.Fault.{write_failed};
+ghost use Rattle.bt_lines.specs.calls.Faults.{write_failed};
 ghost use Rattle.bt_lines.specs.calls.Names.{fault_value};
 ghost use Rattle.bt_tool.specs.inside.Feed.{Flushes};
 

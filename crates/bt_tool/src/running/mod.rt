@@ -5,16 +5,17 @@ pub(crate) mod outcome;
 
 ghost use Rattle.std.specs.Prelude.{IfSome, IsSome, IsTrue, MatchResult, ◌≡◌, ◌≢◌, ◌≤◌, ◌⊎◌, ⊤, true, Some, is_some, option_map};
 ghost use Rattle.bt_lines.specs.model.Lines.{max_number};
-ghost use Rattle.bt_lines.specs.model.Fault.{write_failed};
+ghost use Rattle.bt_lines.specs.calls.Faults.{write_failed};
 ghost use Rattle.bt_lines.specs.calls.Names.{fault_value};
 ghost use Rattle.bt_lines.specs.calls.Output.{HoldsBlock};
 ghost use Rattle.bt_bed.specs.calls.GenomeTable.{entries, names_of};
-ghost use Rattle.bt_bed.specs.model.Order.{AreDistinct};
+ghost use Rattle.bt_bed.specs.calls.Orders.{AreDistinct};
 ghost use Rattle.bt_sweep.specs.model.Lines.{subtract_shape};
-ghost use Rattle.bt_tool.specs.model.Report.{behaviour_of, entries_in, of_intersect, of_maskfasta, of_records, order_of, OfBoth};
+ghost use Rattle.bt_tool.specs.model.Report.{behaviour_of, entries_in, of_intersect, of_maskfasta, of_records, order_of};
+ghost use Rattle.bt_tool.specs.calls.Inputs.{OfBoth};
 ghost use Rattle.bt_tool.specs.calls.Run.{ReadsChromosomes, Runs, AnswersNoRead, IsOwnFailure, IsOwnFailureIf, ReadsServe, TellsNoRead, TellsOwnReads, RunsAlone, RunsBy};
-ghost use Rattle.bt_tool.specs.calls.Limits.{is_within_limits};
-ghost use Rattle.bt_tool.specs.model.Table.{IsNamedBy, table_of, tool_of};
+ghost use Rattle.bt_tool.specs.calls.Limits.{is_within_limits, IsNamedBy};
+ghost use Rattle.bt_tool.specs.model.Table.{table_of, tool_of};
 ghost use Rattle.bt_tool.specs.model.Written.{complement_written, coverage_written, merge_written};
 
 use crate::loops::converting::convert;

@@ -2,8 +2,9 @@
 use Rattle.bt_lines.proofs.Std.{rules, ◌≡◌, ℕ, ◌≤◌, ◌⊎◌, inl, inr, List, [], ◌∷◌, ◌++◌, refl, ◌∙◌, subst, true, false, bytes_eq, Some, IsTrue, or_parts, or_from, or_left, or_right, Option, arith, IfSome, ◌||◌, ap, is_some, tied_itself, nat_list_cmp_total}
 use Rattle.std.specs.declared.cmp.Ordering.TheVariants.{Less, Equal}
 use Rattle.bt_bed.specs.model.Feature.{last_from, last_of, Interval}
-use Rattle.bt_bed.specs.model.Order.{Order, IsTotal, is_among, rank_of, byte_order}
-use Rattle.bt_bed.specs.model.Sorted.{locus_of, IsUpTo, ArePlaced, placed_grows, prefixes_are_placed, has_records, IsFollowed, AreContiguous, placed_are_contiguous, prefixes_are_contiguous, Locus, falls_in, sorted_by_places, sorting_of}
+use Rattle.bt_bed.specs.model.Order.{Order, is_among, rank_of, byte_order}
+use Rattle.bt_bed.specs.calls.Orders.{IsTotal, IsUpTo, ArePlaced, placed_grows, prefixes_are_placed, IsFollowed, AreContiguous, placed_are_contiguous, prefixes_are_contiguous, sorted_by_places}
+use Rattle.bt_bed.specs.model.Sorted.{locus_of, has_records, Locus, falls_in, sorting_of}
 use Rattle.bt_bed.proofs.lemmas.parse.NameLemmas.{name_eq, name_ne, name_ne-sym, same_name}
 
 -- Lemmas on contiguous records, and on records in a total order of their chromosomes.

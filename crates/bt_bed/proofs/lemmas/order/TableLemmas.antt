@@ -1,15 +1,17 @@
 -- Lemmas on the entries of a genome file.
 use Rattle.bt_lines.proofs.Std.{common_steps, rules, ◌≡◌, ℕ, arith, false, List, [], ◌∷◌, ◌++◌, Option, Some, None, Result, Ok, Err, refl, sym, ap, ◌∙◌, append_assoc, append-nil, bytes_eq, or_parts, ◌⊎◌, IsErrAnd, OnOk, OnErr, inl, inr, suc, ◌+◌, ◌-◌, ◌^◌, ◌<◌, ◌≤◌, length, take, drop, IfSome, zero, true, map, subst, length-append, All-head, All-tail, All, Vec, is_some, option_map, position, slice_get, option_to_list, map-append, slice_get-map, position_from, keys_of, position_from-zero}
-use Rattle.bt_lines.specs.model.Fault.{FaultValue, no_memory, read_failed}
+use Rattle.bt_lines.specs.model.Fault.{FaultValue, read_failed}
+use Rattle.bt_lines.specs.calls.Faults.{no_memory}
 use Rattle.bt_lines.specs.model.Lines.{TextLine, bytes_in}
 use Rattle.bt_lines.specs.declared.fault.Input.{Input}
 use Rattle.bt_lines.specs.declared.fault.Kind.{Kind}
-use Rattle.bt_bed.specs.model.Order.{is_among, AreDistinct, rank_of}
+use Rattle.bt_bed.specs.model.Order.{is_among, rank_of}
+use Rattle.bt_bed.specs.calls.Orders.{AreDistinct}
 use Rattle.bt_bed.specs.model.Genome.{Entry, genome_names, genome_from, genome_with, new_entry, entry_of, with_entry, genome_of}
 use Rattle.bt_bed.proofs.lemmas.parse.NameLemmas.{name_ne-sym, name_eq-sym}
 use Rattle.bt_lines.specs.declared.fault.Place.{Place}
 use Rattle.bt_bed.specs.calls.Reading.{IsLost, LinesPass}
-use Rattle.bt_bed.specs.model.BedLine.{fault_at_line, is_genome_kind}
+use Rattle.bt_bed.specs.model.BedLine.{fault_at_line}
 use Rattle.bt_lines.specs.declared.device.Source.{Ghosts as Source}
 use Rattle.bt_lines.proofs.lemmas.reader.lines.TakingLemmas.{given_drops, hands_both, sound_near, taken_below, not_told}
 use Rattle.bt_lines.proofs.lemmas.reader.lines.TextLemmas.{line_feeds-append}
@@ -21,7 +23,7 @@ use Rattle.bt_lines.specs.calls.Line.{GivesFirst}
 use Rattle.bt_bed.proofs.lemmas.order.OrderLemmas.{among_ranked}
 use Rattle.std.specs.declared.alloc.Global.{Global}
 use Rattle.indexmap.specs.IndexMap.{insert_entry}
-use Rattle.bt_bed.specs.calls.GenomeTable.{entries, names_of, entry_seen, LineAdded, ReadsAll, EntryIsWrong, ReadingStops, StopCause}
+use Rattle.bt_bed.specs.calls.GenomeTable.{entries, names_of, entry_seen, LineAdded, ReadsAll, EntryIsWrong, ReadingStops, StopCause, is_genome_kind}
 use Rattle.bt_bed.specs.declared.order.genome.Genome.{Genome}
 
 -- a name that isn't among names is none of them

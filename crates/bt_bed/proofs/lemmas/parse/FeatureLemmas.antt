@@ -3,7 +3,8 @@ use Rattle.bt_lines.proofs.Std.{common_steps, ◌≡◌, ℕ, ◌+◌, ◌≤◌
 use Rattle.bt_lines.specs.model.Lines.{pieces, value_of}
 use Rattle.bt_lines.proofs.lemmas.reader.lines.TextLemmas.{IsColumn}
 use Rattle.bt_bed.specs.model.Feature.{Feature}
-use Rattle.bt_bed.specs.model.BedLine.{kept_columns, is_header, IsFeature, IsName, is_kept, record_of, not_skipped, columns_in, columns_say, feature_of, strand_of, ends_word, first_word, is_header_word}
+use Rattle.bt_bed.specs.model.BedLine.{kept_columns, is_header, record_of, not_skipped, columns_say, feature_of, strand_of, ends_word, first_word, is_header_word}
+use Rattle.bt_bed.specs.calls.Features.{IsFeature, IsName, is_kept, columns_in}
 use Rattle.bt_lines.specs.declared.fault.Kind.{Kind}
 use Rattle.bt_bed.specs.calls.Bed.{feature_between}
 use Rattle.bt_bed.specs.declared.record.strand.Strand.{Strand}

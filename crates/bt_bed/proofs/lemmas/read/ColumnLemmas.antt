@@ -5,7 +5,8 @@ use Rattle.bt_lines.proofs.lemmas.numbers.NumberLemmas.{digits_below, value_of_d
 use Rattle.bt_lines.specs.model.Lines.{pieces, value_of}
 use Rattle.bt_bed.proofs.lemmas.parse.FeatureLemmas.{cut_and_kept, record_said, said_is_feature, said_stands, header_before_tab, pieces_are_columns, IsWhole, of_whole, said_by_columns}
 use Rattle.bt_bed.specs.model.Feature.{Feature}
-use Rattle.bt_bed.specs.model.BedLine.{is_header, IsName, columns_in, columns_say, is_kept, kept_columns, record_of, strand_of, IsFeature, bed_text}
+use Rattle.bt_bed.specs.model.BedLine.{is_header, columns_say, kept_columns, record_of, strand_of, bed_text}
+use Rattle.bt_bed.specs.calls.Features.{IsName, columns_in, is_kept, IsFeature}
 use Rattle.bt_bed.specs.inside.FirstColumns.{AreBounds, BeginsWith, BeginsWithName, EndsName, IsRecordName, Leads, EndsFirst, HasColumns}
 use Rattle.bt_bed.specs.declared.parse.parsed_number.ParsedNumber.{ParsedNumber}
 use Rattle.bt_bed.specs.declared.record.strand.Strand.{Strand}

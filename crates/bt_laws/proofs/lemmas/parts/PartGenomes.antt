@@ -1,7 +1,8 @@
 -- Records of parts, each with its own part of the genome file.
 use Rattle.bt_lines.proofs.Std.{rules, ◌≡◌, ℕ, suc, ◌+◌, ◌<◌, Bool, true, false, cond, List, [], ◌∷◌, ◌++◌, ◌||◌, ◌⊎◌, length, Option, Some, None, inl, inr, refl, sym, ap, ◌∙◌, arith, Result, subst, IsTrue, bytes_eq, is_some, option_map, or_parts, cases_Bool, AllByRecursion, map-append, flat_map-append, append-nil, ⊤, list_any, list_any-append}
 use Rattle.std.specs.declared.cmp.Ordering.TheVariants.{Less}
-use Rattle.bt_bed.specs.model.Order.{Order, AreDistinct, is_among, rank_of, rank_order, IsTotal}
+use Rattle.bt_bed.specs.model.Order.{Order, is_among, rank_of, rank_order}
+use Rattle.bt_bed.specs.calls.Orders.{AreDistinct, IsTotal, ArePlaced, IsPlacedBefore}
 use Rattle.bt_bed.proofs.lemmas.parse.NameLemmas.{same_name, name_ne-sym}
 use Rattle.bt_bed.proofs.lemmas.order.OrderLemmas.{among_ranked}
 use Rattle.bt_runs.proofs.lemmas.order.FileOrder.{spans_on-append, spans_on-none}
@@ -13,7 +14,7 @@ use Rattle.bt_bed.specs.model.Feature.{Feature, interval_of, intervals_of, Inter
 use Rattle.bt_bed.specs.model.BedLine.{record_of}
 use Rattle.bt_bed.specs.model.Genome.{Entry, genome_names}
 use Rattle.bt_bed.specs.model.Good.{Good, good_from, good_with, bed_format, line_says, said_after}
-use Rattle.bt_bed.specs.model.Sorted.{Locus, sorting_of, ArePlaced, IsPlacedBefore, has_records}
+use Rattle.bt_bed.specs.model.Sorted.{Locus, sorting_of, has_records}
 use Rattle.bt_laws.specs.Parts.{LiesWithin, ComeBefore, StandsBefore, said_record, said_records}
 use Rattle.bt_laws.proofs.lemmas.parts.PartBed.{alike_records, records_on, Earlier}
 use Rattle.bt_laws.proofs.lemmas.parts.PartLines.{alike_lines, lines_join}

@@ -1,11 +1,13 @@
 -- Merged runs of records of two parts, and those of each strand.
 use Rattle.bt_lines.proofs.Std.{arith, ◌≡◌, ℕ, Bool, false, List, [], ◌∷◌, ◌++◌, map, filter, append-nil, refl, sym, ap, ap₂, ◌∙◌, subst, true, ◌&&◌, not, cond, append_assoc, bytes_eq, flat_map, nat_le, AllByRecursion, list_any, take_while, flat_map-append, map-append, filter-append, take_while-cons, and_left}
-use Rattle.bt_bed.specs.model.Feature.{Feature, interval_of, intervals_of, AreNonEmpty, Interval, last_from, last_of, placed_on, spans_on, is_strand}
+use Rattle.bt_bed.specs.model.Feature.{Feature, interval_of, intervals_of, Interval, last_from, last_of, placed_on, spans_on, is_strand}
+use Rattle.bt_bed.specs.calls.Orders.{AreNonEmpty, ArePlaced, IsTotal}
 use Rattle.bt_bed.specs.model.BedLine.{interval_lines, interval_line}
-use Rattle.bt_bed.specs.model.Sorted.{ArePlaced, has_records}
-use Rattle.bt_bed.specs.model.Order.{Order, IsTotal}
+use Rattle.bt_bed.specs.model.Sorted.{has_records}
+use Rattle.bt_bed.specs.model.Order.{Order}
 use Rattle.bt_bed.proofs.lemmas.order.OrderLemmas.{placed_contiguous}
-use Rattle.bt_runs.specs.model.Merged.{counted, is_counted, chromosomes, merged, runs_of, runs_on, AreTaken, is_closed, merged_runs, passed_by, settled_runs, ordered_runs, StrandRun, begun_by, is_in, listed_behind, closed_prefix, places_of, runs_of_strand, settled_strand_runs, strand_runs, kept_strand_runs}
+use Rattle.bt_runs.specs.model.Merged.{counted, is_counted, chromosomes, merged, runs_of, runs_on, is_closed, merged_runs, passed_by, ordered_runs, StrandRun, begun_by, is_in, listed_behind, closed_prefix, places_of, runs_of_strand, settled_strand_runs, strand_runs}
+use Rattle.bt_runs.specs.calls.MergedRuns.{AreTaken, settled_runs, kept_strand_runs}
 use Rattle.bt_runs.specs.declared.merge.merge_strand.MergeStrand.{MergeStrand}
 use Rattle.bt_runs.proofs.lemmas.order.FileOrder.{among_chromosomes, without_absent, ordered_come}
 use Rattle.bt_runs.proofs.lemmas.definitions.Standing.{placed_elsewhere, counted-append, passed_elsewhere}

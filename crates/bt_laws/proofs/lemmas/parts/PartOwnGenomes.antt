@@ -10,7 +10,8 @@ use Rattle.bt_bed.specs.model.Genome.{Entry, genome_names}
 use Rattle.bt_bed.specs.model.Good.{Good, good, items_in, good_from, good_with, bed_format, line_says, said_after}
 use Rattle.bt_bed.specs.model.Meeting.{join_report}
 use Rattle.bt_bed.specs.model.Sorted.{is_below_at, Locus, sorting_of}
-use Rattle.bt_bed.specs.model.Order.{AreDistinct, is_among, rank_order, Order}
+use Rattle.bt_bed.specs.model.Order.{is_among, rank_order, Order}
+use Rattle.bt_bed.specs.calls.Orders.{AreDistinct}
 use Rattle.bt_bed.specs.inside.RankTotal.{ranks_total}
 use Rattle.bt_bed.proofs.lemmas.order.OrderLemmas.{among_ranked}
 use Rattle.bt_sweep.specs.model.Hits.{decided, decides}

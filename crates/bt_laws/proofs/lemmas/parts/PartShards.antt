@@ -5,12 +5,14 @@ use Rattle.std.specs.declared.cmp.Ordering.TheVariants.{Less, Greater}
 use Rattle.bt_bed.specs.model.Feature.{Feature, interval_of, intervals_of, Interval, last_from, last_of}
 use Rattle.bt_bed.specs.model.BedLine.{interval_line, interval_lines}
 use Rattle.bt_bed.specs.model.Genome.{Entry, genome_names}
-use Rattle.bt_bed.specs.model.Order.{AreDistinct, is_among, rank_order, IsTotal, Order}
+use Rattle.bt_bed.specs.model.Order.{is_among, rank_order, Order}
+use Rattle.bt_bed.specs.calls.Orders.{AreDistinct, IsTotal, ArePlaced}
 use Rattle.bt_bed.specs.inside.RankTotal.{ranks_total}
-use Rattle.bt_bed.specs.model.Sorted.{has_records, ArePlaced, sorting_of}
+use Rattle.bt_bed.specs.model.Sorted.{has_records, sorting_of}
 use Rattle.bt_bed.proofs.lemmas.parse.NameLemmas.{name_eq, name_ne}
 use Rattle.bt_bed.proofs.lemmas.order.OrderLemmas.{among_ranked}
-use Rattle.bt_runs.specs.model.Gaps.{is_over_at, AreTaken, complement, gaps_on, is_asked, settled_gaps}
+use Rattle.bt_runs.specs.model.Gaps.{is_over_at, complement, gaps_on, is_asked, settled_gaps}
+use Rattle.bt_runs.specs.calls.Complementing.{AreTaken}
 use Rattle.bt_tool.specs.model.Written.{Written, complement_written, coverage_written, merge_written, pooled_written, Report, good_report}
 use Rattle.bt_laws.proofs.lemmas.parts.PartGenomes.{agree_first, agree_second, apart_both, entry_less, names_both, among_append, no_first, agree_good, records_both, within_before, last_behind, last_is, none_has, has_append, records_away, spans_first, spans_second}
 use Rattle.bt_laws.proofs.lemmas.Lists.{all_flat_map, all_so, filter_all, filter_none, filter_same, flat_map_same, all_any, all_both, all_map, map_same}

@@ -6,7 +6,8 @@ use Rattle.bt_sweep.proofs.lemmas.definitions.HitLemmas.{apart_misses}
 use Rattle.bt_lines.specs.model.Fault.{FaultValue}
 use Rattle.bt_bed.specs.model.Feature.{Feature}
 use Rattle.bt_bed.specs.model.Meeting.{Rule, join_report, written}
-use Rattle.bt_bed.specs.model.Order.{Order, IsTotal}
+use Rattle.bt_bed.specs.model.Order.{Order}
+use Rattle.bt_bed.specs.calls.Orders.{IsTotal}
 use Rattle.bt_bed.proofs.lemmas.Definitions.{all_written, met_fault_all, met_lines, written_past}
 use Rattle.bt_sweep.specs.model.Hits.{decided, decides, hits}
 use Rattle.bt_sweep.specs.model.Lines.{intersect, lines_for, sweep_rule}

@@ -12,10 +12,11 @@ use Rattle.bt_laws.proofs.lemmas.parts.PartLines.{IsJoint, good_joint}
 use Rattle.bt_laws.proofs.lemmas.parts.PartReports.{Splits, parts_both, Joins, good_joins, nothing, together, parts_add, stop_more, stop_none, stop_one}
 use Rattle.bt_laws.proofs.lemmas.Lists.{all_any, all_back, all_front, all_so, all_unmap}
 use Rattle.bt_lines.specs.declared.fault.Input.{Input}
-use Rattle.bt_bed.specs.model.Order.{bytes_total, Order, IsTotal}
+use Rattle.bt_bed.specs.model.Order.{Order}
+use Rattle.bt_bed.specs.calls.Orders.{bytes_total, IsTotal, ArePlaced}
 use Rattle.bt_bed.specs.model.Feature.{Feature, intervals_of}
 use Rattle.bt_bed.specs.model.Genome.{Entry, genome_names}
-use Rattle.bt_bed.specs.model.Sorted.{ArePlaced, sorting_of}
+use Rattle.bt_bed.specs.model.Sorted.{sorting_of}
 use Rattle.bt_bed.specs.inside.RankTotal.{ranks_total}
 use Rattle.bt_bed.proofs.lemmas.Definitions.{non_empty_from, placed_lines}
 use Rattle.bt_runs.specs.model.Merged.{merged, ordered_runs, strand_runs}

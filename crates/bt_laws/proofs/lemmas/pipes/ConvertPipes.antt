@@ -9,14 +9,15 @@ use Rattle.bt_lines.specs.declared.fault.Input.TheVariants.{First}
 use Rattle.bt_lines.specs.declared.fault.Kind.{Kind}
 use Rattle.bt_lines.proofs.lemmas.reader.lines.TextLemmas.{IsColumn, IsInside, strip_last-other, lines_from-fed, lines_from-last, lines_from-nil, by_lines}
 use Rattle.bt_bed.specs.model.Good.{Good, good_from, good_with, items_in}
-use Rattle.bt_bed.specs.model.BedLine.{IsName, columns_in, kept_columns, strand_named, strand_of}
+use Rattle.bt_bed.specs.model.BedLine.{kept_columns, strand_named, strand_of}
+use Rattle.bt_bed.specs.calls.Features.{IsName, columns_in}
 use Rattle.bt_bed.specs.declared.record.strand.Strand.TheVariants.{Plus, Minus}
 use Rattle.bt_bed.proofs.lemmas.parse.FeatureLemmas.{kept_is_cut, pieces_are_columns}
-use Rattle.bt_seq.specs.model.Alignment.{Alignment, Fields, alignment_of, columns_say, fields_of, fields_say, is_skipped, value_up_to, bed_lines, read_name, strand_sign, length_of, operations_in, each_operation, parts_of, sam_format, sam_good}
+use Rattle.bt_seq.specs.model.Alignment.{Alignment, Fields, alignment_of, columns_say, fields_of, fields_say, is_skipped, value_up_to, bed_lines, read_name, strand_sign, length_of, operations_in, each_operation, parts_of, sam_format}
 use Rattle.bt_tool.specs.model.Written.{alignment_lines, alignments_written, report_by}
 use Rattle.bt_tool.specs.model.Report.{Inputs, chromosomes_of, report_of, report_on}
 use Rattle.bt_tool.specs.declared.planning.plan_type.Command.TheVariants.{BamToBed}
-use Rattle.bt_laws.specs.Pipes.{aligned_at, aligned_record, alignments_of, bamtobed_is_input, IsInput, is_no_header}
+use Rattle.bt_laws.specs.Pipes.{aligned_at, aligned_record, alignments_of, bamtobed_is_input, IsInput, is_no_header, sam_good}
 use Rattle.bt_laws.proofs.lemmas.pipes.LinesBack.{AreClear, clear_back, clear_both, clear_front, clear_tab, clear_number, number_column, Columns, IsColumns, record_back, text_of_columns, written_back, ends_both, strip_both, clear_handed, clear_strip}
 use Rattle.bt_laws.proofs.lemmas.Lists.{all_so}
 use Rattle.bt_lines.specs.declared.reader.line.LineEnd.{LineEnd}

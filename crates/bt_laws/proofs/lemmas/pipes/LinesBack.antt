@@ -6,13 +6,15 @@ use Rattle.bt_lines.proofs.lemmas.reader.lines.TextLemmas.{lines_from-fed, lines
 use Rattle.std.specs.Fmt.{digits}
 use Rattle.bt_laws.proofs.lemmas.Lists.{all_so, all_any, all_map, map_map, flat_map_same}
 use Rattle.bt_bed.specs.model.Feature.{Feature, interval_of, intervals_of, Interval}
-use Rattle.bt_bed.specs.model.BedLine.{ends_word, first_word, is_header, is_header_word, IsName, columns_in, is_kept, record_of, strand_of, IsFeature, not_skipped}
+use Rattle.bt_bed.specs.model.BedLine.{ends_word, first_word, is_header, is_header_word, record_of, strand_of, not_skipped}
+use Rattle.bt_bed.specs.calls.Features.{IsName, columns_in, is_kept, IsFeature}
 use Rattle.bt_bed.proofs.lemmas.parse.FeatureLemmas.{header_says, of_word, record_said, said_is_feature, said_stands, pieces_are_columns}
 use Rattle.bt_laws.proofs.lemmas.single.Records.{written_feature}
 use Rattle.bt_lines.specs.declared.fault.Input.{Input}
 use Rattle.bt_bed.specs.model.Good.{Good, good, good_from, good_with, items_in, bed_format, line_says, locus_at, said_after, bed_good}
-use Rattle.bt_bed.specs.model.Sorted.{ArePlaced, IsPlacedBefore, IsUpTo, Locus, falls_in, sorting_of, Sorting}
-use Rattle.bt_bed.specs.model.Order.{Order, IsTotal}
+use Rattle.bt_bed.specs.model.Sorted.{Locus, falls_in, sorting_of, Sorting}
+use Rattle.bt_bed.specs.calls.Orders.{ArePlaced, IsPlacedBefore, IsUpTo, IsTotal}
+use Rattle.bt_bed.specs.model.Order.{Order}
 use Rattle.bt_runs.proofs.lemmas.order.FileOrder.{some_placed}
 use Rattle.bt_laws.specs.Pipes.{IsInput, is_no_header}
 use Rattle.bt_lines.specs.model.Fault.{FaultValue}

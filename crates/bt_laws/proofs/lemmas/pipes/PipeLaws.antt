@@ -3,21 +3,22 @@ use Rattle.bt_lines.proofs.Std.{append-nil, append_assoc, ◌≡◌, ℕ, Bool, 
 use Rattle.bt_lines.specs.model.Fault.{FaultValue}
 use Rattle.bt_lines.specs.model.Lines.{Handed}
 use Rattle.bt_lines.specs.declared.fault.Input.TheVariants.{First, Second}
-use Rattle.bt_bed.specs.model.Order.{byte_order, bytes_total, Order, IsTotal, AreDistinct}
+use Rattle.bt_bed.specs.model.Order.{byte_order, Order}
+use Rattle.bt_bed.specs.calls.Orders.{bytes_total, IsTotal, AreDistinct, ArePlaced}
 use Rattle.bt_bed.specs.model.Feature.{Feature, intervals_of, interval_of, Interval, Span}
-use Rattle.bt_bed.specs.model.Positions.{IsCovered}
+use Rattle.bt_bed.specs.calls.Stretches.{IsCovered}
 use Rattle.bt_bed.specs.model.BedLine.{interval_lines, fault_at_line}
 use Rattle.bt_bed.specs.model.Genome.{Entry, genome_names}
 use Rattle.bt_bed.specs.model.Good.{Good, Member, items_in, bed_good}
 use Rattle.bt_bed.specs.model.Meeting.{join_report, written}
-use Rattle.bt_bed.specs.model.Sorted.{ArePlaced}
 use Rattle.bt_lines.specs.declared.fault.Kind.TheVariants.{TooManyHeld}
 use Rattle.bt_bed.specs.declared.record.strand.Strand.{Strand}
 use Rattle.bt_bed.proofs.lemmas.Definitions.{non_empty_good, placed_good}
 use Rattle.bt_laws.specs.Runs.{interval_at}
 use Rattle.bt_runs.specs.model.Depth.{coverage, depth_lines, DepthInterval, covers, depth_at, levels_of}
 use Rattle.bt_runs.specs.model.Gaps.{complement, gaps_of}
-use Rattle.bt_runs.specs.model.Merged.{ordered_runs, Bridged, runs_of}
+use Rattle.bt_runs.specs.model.Merged.{ordered_runs, runs_of}
+use Rattle.bt_runs.specs.calls.MergedRuns.{Bridged}
 use Rattle.bt_runs.specs.declared.merge.merge_strand.MergeStrand.{MergeStrand}
 use Rattle.bt_runs.specs.declared.merge.merge_strand.MergeStrand.TheVariants.{All, Each, One}
 use Rattle.bt_laws.proofs.lemmas.single.StrandOrder.{in_order}

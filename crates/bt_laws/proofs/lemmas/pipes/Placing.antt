@@ -2,9 +2,9 @@
 use Rattle.bt_lines.proofs.Std.{◌≡◌, ℕ, ◌+◌, ◌<◌, ◌≤◌, Bool, false, cond, List, [], ◌∷◌, ◌++◌, map, filter, refl, sym, subst, inr, arith, IsTrue, flat_map, bytes_eq, AllByRecursion, or_parts}
 use Rattle.std.specs.declared.cmp.Ordering.TheVariants.{Less}
 use Rattle.bt_bed.specs.model.Feature.{Interval, Span, placed_on}
-use Rattle.bt_bed.specs.model.Positions.{AreApartFrom}
-use Rattle.bt_bed.specs.model.Sorted.{ArePlaced, IsPlacedBefore}
-use Rattle.bt_bed.specs.model.Order.{Order, IsTotal, AreDistinct, is_among, rank_order}
+use Rattle.bt_bed.specs.calls.Stretches.{AreApartFrom}
+use Rattle.bt_bed.specs.calls.Orders.{ArePlaced, IsPlacedBefore, IsTotal, AreDistinct}
+use Rattle.bt_bed.specs.model.Order.{Order, is_among, rank_order}
 use Rattle.bt_bed.proofs.lemmas.parse.NameLemmas.{name_ne-sym}
 use Rattle.bt_laws.specs.Runs.{AreAscending, AreKnown}
 use Rattle.bt_runs.proofs.lemmas.order.FileOrder.{rank_of-here}

@@ -2,10 +2,12 @@
 use Rattle.bt_lines.proofs.Std.{◌≡◌, ℕ, ◌+◌, ◌-◌, ◌<◌, ◌≤◌, Bool, true, false, not, List, [], ◌∷◌, ◌++◌, map, filter, refl, sym, ap, subst, inl, inr, arith, eqb, append-nil, decimal, Option, append_assoc, IsTrue, codes, flat_map, AllByRecursion, All-nil, map-id, map-append, slice_split_none}
 use Rattle.bt_lines.specs.calls.Line.{NoLineFeed}
 use Rattle.bt_bed.specs.model.Feature.{Feature, intervals_of, Interval, Span, placed_on, spans_on}
-use Rattle.bt_bed.specs.model.Positions.{AreApartFrom, IsCovered, stretches_from}
-use Rattle.bt_bed.specs.model.BedLine.{is_header, interval_line, interval_lines, IsName}
-use Rattle.bt_bed.specs.model.Sorted.{ArePlaced, IsPlacedBefore}
-use Rattle.bt_bed.specs.model.Order.{Order, IsTotal, AreDistinct, rank_order}
+use Rattle.bt_bed.specs.model.Positions.{stretches_from}
+use Rattle.bt_bed.specs.calls.Stretches.{AreApartFrom, IsCovered}
+use Rattle.bt_bed.specs.model.BedLine.{is_header, interval_line, interval_lines}
+use Rattle.bt_bed.specs.calls.Features.{IsName}
+use Rattle.bt_bed.specs.calls.Orders.{ArePlaced, IsPlacedBefore, IsTotal, AreDistinct}
+use Rattle.bt_bed.specs.model.Order.{Order, rank_order}
 use Rattle.bt_bed.proofs.lemmas.Definitions.{scan_finds}
 use Rattle.bt_runs.specs.model.Merged.{counted, is_counted, chromosomes, end_of, merged, runs_of, runs_on, in_order, ordered_runs, put_in_order, StrandRun, places_of, runs_of_strand, strand_runs}
 use Rattle.bt_runs.specs.declared.merge.merge_strand.MergeStrand.{MergeStrand}

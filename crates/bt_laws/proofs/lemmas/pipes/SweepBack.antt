@@ -2,13 +2,16 @@
 use Rattle.bt_lines.proofs.Std.{◌≡◌, ℕ, zero, suc, ◌+◌, ◌-◌, ◌<◌, ◌≤◌, Bool, true, false, cond, not, List, [], ◌∷◌, ◌++◌, map, filter, length, max, min, refl, sym, ap, ap₂, ◌∙◌, subst, inl, inr, arith, append_assoc, append-nil, decimal, IsTrue, flat_map, replicate, AllByRecursion, bytes_decides, flat_map-append}
 use Rattle.bt_lines.specs.calls.Line.{NoLineFeed}
 use Rattle.bt_bed.specs.model.Feature.{Feature, interval_of, intervals_of, Interval, Span}
-use Rattle.bt_bed.specs.model.Positions.{AreApartFrom, IsCovered}
-use Rattle.bt_bed.specs.model.BedLine.{is_header, bed_text, cut_to, is_kept}
-use Rattle.bt_bed.specs.model.Sorted.{ArePlaced, IsPlacedBefore, IsUpTo, locus_of}
-use Rattle.bt_bed.specs.model.Order.{Order, IsTotal}
+use Rattle.bt_bed.specs.calls.Stretches.{AreApartFrom, IsCovered}
+use Rattle.bt_bed.specs.model.BedLine.{is_header, bed_text, cut_to}
+use Rattle.bt_bed.specs.calls.Features.{is_kept}
+use Rattle.bt_bed.specs.model.Sorted.{locus_of}
+use Rattle.bt_bed.specs.calls.Orders.{ArePlaced, IsPlacedBefore, IsUpTo, IsTotal}
+use Rattle.bt_bed.specs.model.Order.{Order}
 use Rattle.bt_runs.proofs.lemmas.order.FileOrder.{skips}
 use Rattle.bt_sweep.specs.model.Hits.{hits, hits_among, shared_bases}
-use Rattle.bt_sweep.specs.model.Lines.{cut, hit_line, intersect, line_with, lines_for, lines_of, piece_line, IsLeft, pieces}
+use Rattle.bt_sweep.specs.model.Lines.{cut, hit_line, intersect, line_with, lines_for, lines_of, piece_line, pieces}
+use Rattle.bt_sweep.specs.calls.LineLaws.{IsLeft}
 use Rattle.bt_sweep.specs.declared.hits.hit_rule.HitRule.{HitRule}
 use Rattle.bt_sweep.specs.declared.output.shape.Shape.{Shape}
 use Rattle.bt_sweep.specs.declared.output.shape.Shape.TheVariants.{Count, Cut, CutAndB, Missing, Once, OrigA, OrigBoth, Overlap, Pieces, Whole}

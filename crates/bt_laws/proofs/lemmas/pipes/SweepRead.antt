@@ -3,7 +3,8 @@ use Rattle.bt_lines.proofs.Std.{rules, ◌≡◌, ℕ, ◌<◌, true, false, Lis
 use Rattle.bt_lines.specs.model.Lines.{pieces as columns_of}
 use Rattle.bt_lines.proofs.lemmas.reader.lines.TextLemmas.{IsColumn}
 use Rattle.bt_bed.specs.model.Feature.{Span, Feature, intervals_of}
-use Rattle.bt_bed.specs.model.BedLine.{IsName, bed_text, columns_in, cut_to, is_kept, kept_columns, strand_named, strand_of}
+use Rattle.bt_bed.specs.model.BedLine.{bed_text, cut_to, kept_columns, strand_named, strand_of}
+use Rattle.bt_bed.specs.calls.Features.{IsName, columns_in, is_kept}
 use Rattle.bt_bed.specs.declared.record.strand.Strand.TheVariants.{Dot}
 use Rattle.bt_bed.proofs.lemmas.parse.FeatureLemmas.{kept_is_cut, pieces_are_columns}
 use Rattle.bt_bed.proofs.lemmas.read.ColumnLemmas.{kept_again}

@@ -3,17 +3,22 @@ use Rattle.bt_lines.proofs.Std.{rules, ◌≡◌, ℕ, ◌+◌, ◌<◌, ◌≤�
 use Rattle.bt_lines.specs.model.Lines.{whole_text}
 use Rattle.bt_lines.specs.declared.fault.Input.TheVariants.{First, Second}
 use Rattle.bt_bed.specs.model.Feature.{Feature, interval_of, intervals_of, Interval, Span, spans_on}
-use Rattle.bt_bed.specs.model.Positions.{AreApartFrom, IsCovered, stretches_from}
+use Rattle.bt_bed.specs.model.Positions.{stretches_from}
+use Rattle.bt_bed.specs.calls.Stretches.{AreApartFrom, IsCovered}
 use Rattle.bt_bed.specs.model.BedLine.{is_header, interval_lines}
 use Rattle.bt_bed.specs.model.Genome.{Entry, genome_names}
 use Rattle.bt_bed.specs.model.Good.{bed_good}
-use Rattle.bt_bed.specs.model.Order.{Order, AreDistinct, is_among}
+use Rattle.bt_bed.specs.model.Order.{Order, is_among}
+use Rattle.bt_bed.specs.calls.Orders.{AreDistinct}
 use Rattle.bt_bed.proofs.lemmas.parse.NameLemmas.{cases_name}
-use Rattle.bt_runs.specs.model.Gaps.{complement, gaps_of, gaps_on, is_asked, length_in}
+use Rattle.bt_runs.specs.model.Gaps.{complement, gaps_of, gaps_on, is_asked}
+use Rattle.bt_runs.specs.calls.Complementing.{length_in}
 use Rattle.bt_runs.proofs.lemmas.order.FileOrder.{spans_on-append}
 use Rattle.bt_runs.proofs.lemmas.complement.Walks.{are_gaps}
-use Rattle.bt_sweep.specs.model.Hits.{any_overlap, hits_among}
-use Rattle.bt_sweep.specs.model.Lines.{intersect, lines_for, piece_line, pieces, spans_of}
+use Rattle.bt_sweep.specs.model.Hits.{hits_among}
+use Rattle.bt_sweep.specs.calls.Sweeping.{any_overlap}
+use Rattle.bt_sweep.specs.model.Lines.{intersect, lines_for, piece_line, pieces}
+use Rattle.bt_sweep.specs.calls.LineLaws.{spans_of}
 use Rattle.bt_sweep.specs.declared.output.shape.Shape.TheVariants.{Cut, Pieces}
 use Rattle.bt_sweep.proofs.lemmas.definitions.PieceLemmas.{only_pieces}
 use Rattle.bt_tool.specs.model.Report.{order_of, Inputs, or_empty, chromosomes_of}

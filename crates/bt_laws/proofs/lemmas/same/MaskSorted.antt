@@ -6,7 +6,8 @@ use Rattle.bt_bed.specs.model.Feature.{Feature}
 use Rattle.bt_bed.specs.model.Genome.{Entry}
 use Rattle.bt_bed.specs.model.Order.{is_among}
 use Rattle.bt_bed.proofs.lemmas.parse.NameLemmas.{cases_name, name_eq, name_ne-sym}
-use Rattle.bt_seq.specs.model.Masked.{covers, names_of, no_sequence, Block, Owned, blocks_by, items_if_last, left_at_last, names_behind, own_records, owned_from, SequenceLine, bases_up_to}
+use Rattle.bt_seq.specs.model.Masked.{covers, names_of, no_sequence, Block, Owned, blocks_by, items_if_last, names_behind, own_records, owned_from, SequenceLine, bases_up_to}
+use Rattle.bt_seq.specs.calls.MaskState.{left_at_last}
 use Rattle.bt_laws.specs.Sequences.{AreOfChrom, items_of}
 use Rattle.bt_seq.specs.declared.mask.mask_how.MaskHow.{MaskHow}
 use Rattle.bt_seq.proofs.lemmas.definitions.KnowsLemmas.{leave, leave_all}

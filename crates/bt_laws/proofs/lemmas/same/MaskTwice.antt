@@ -26,8 +26,9 @@ use Rattle.bt_laws.proofs.lemmas.Lists.{all_any, flat_map_same, all_so}
 use Rattle.bt_laws.proofs.lemmas.same.SameSweeps.{cut_none, leave_alike, own_alike}
 use Rattle.bt_lines.specs.declared.fault.Input.{Input}
 use Rattle.bt_lines.specs.declared.fault.Kind.{Kind}
-use Rattle.bt_bed.specs.model.Sorted.{AreContiguous, ArePlaced, Locus, block_sorting, sorting_of}
-use Rattle.bt_bed.specs.model.Order.{Order, IsTotal}
+use Rattle.bt_bed.specs.model.Sorted.{Locus, block_sorting, sorting_of}
+use Rattle.bt_bed.specs.calls.Orders.{AreContiguous, ArePlaced, IsTotal}
+use Rattle.bt_bed.specs.model.Order.{Order}
 use Rattle.bt_bed.proofs.lemmas.Definitions.{placed_good}
 use Rattle.bt_bed.proofs.lemmas.order.OrderLemmas.{placed_contiguous}
 use Rattle.bt_runs.specs.model.Merged.{counted, chromosomes, ordered_runs}

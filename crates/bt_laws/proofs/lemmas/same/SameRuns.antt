@@ -1,7 +1,8 @@
 -- Records that differ in their order, or in one that comes twice.
 use Rattle.bt_lines.proofs.Std.{common_steps, ◌≡◌, inl, inr, ◌||◌, ℕ, ◌+◌, ◌<◌, Bool, true, false, cond, not, List, [], ◌∷◌, ◌++◌, map, filter, Option, refl, sym, ap, ◌∙◌, subst, arith, ◌≢◌, bytes_eq, flat_map, sum_by, IsPermutation, IsTrue, map-append, filter-append, AllByRecursion, list_any, cases_Bool, list_any-IsPermutation, sum_by-IsPermutation, sum_by-cons, append-nil, None, Ok, ap₂, length, or_parts}
 use Rattle.bt_lines.specs.declared.fault.Input.TheVariants.{First}
-use Rattle.bt_bed.specs.model.Sorted.{ArePlaced, has_records}
+use Rattle.bt_bed.specs.model.Sorted.{has_records}
+use Rattle.bt_bed.specs.calls.Orders.{ArePlaced, IsTotal, AreDistinct}
 use Rattle.bt_bed.proofs.lemmas.Definitions.{placed_good}
 use Rattle.bt_bed.proofs.lemmas.parse.NameLemmas.{cases_name, name_eq, name_ne-sym}
 use Rattle.bt_laws.proofs.lemmas.single.StrandOrder.{names_in_order}
@@ -11,10 +12,10 @@ use Rattle.bt_laws.proofs.lemmas.pipes.RunsBack.{ordered_all, merge_back, merge_
 use Rattle.bt_laws.proofs.lemmas.parts.PartMerge.{named_all}
 use Rattle.bt_laws.proofs.lemmas.pipes.Placing.{Earlier, ascending_pairs}
 use Rattle.bt_bed.specs.model.Feature.{Feature, interval_of, intervals_of, Interval, placed_on, spans_on, Span, span_of}
-use Rattle.bt_bed.specs.model.Positions.{IsCovered}
+use Rattle.bt_bed.specs.calls.Stretches.{IsCovered}
 use Rattle.bt_bed.specs.model.BedLine.{interval_lines}
 use Rattle.bt_bed.specs.model.Genome.{Entry}
-use Rattle.bt_bed.specs.model.Order.{Order, IsTotal, is_among, AreDistinct}
+use Rattle.bt_bed.specs.model.Order.{Order, is_among}
 use Rattle.bt_bed.specs.declared.record.strand.Strand.{Strand}
 use Rattle.bt_runs.specs.model.Merged.{counted, is_counted, chromosomes, merged, runs_on, in_order, ordered_runs, without, runs_of}
 use Rattle.bt_runs.specs.model.Depth.{coverage, depth_at, depth_lines, depth_of, depth_on, depths_on, is_counted_by, reported}

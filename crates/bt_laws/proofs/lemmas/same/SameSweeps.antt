@@ -4,14 +4,16 @@ use Rattle.bt_lines.specs.model.Fault.{FaultValue}
 use Rattle.bt_lines.specs.model.Lines.{Handed, cut_fault, lines_handed, whole_text, TextLine}
 use Rattle.bt_lines.specs.declared.fault.Input.TheVariants.{First, Second}
 use Rattle.bt_bed.specs.model.Feature.{Feature, interval_of, intervals_of, Interval, span_of, spans_on}
-use Rattle.bt_bed.specs.model.Positions.{IsCovered}
+use Rattle.bt_bed.specs.calls.Stretches.{IsCovered}
 use Rattle.bt_bed.specs.model.BedLine.{bed_text, interval_lines}
 use Rattle.bt_bed.specs.model.Genome.{Entry}
 use Rattle.bt_bed.specs.model.Good.{Good, items_in, good, good_from, good_with, or_else, bed_good, bed_format, line_says}
 use Rattle.bt_bed.specs.model.Meeting.{join_report, written}
 use Rattle.bt_bed.specs.model.Order.{Order, is_among}
-use Rattle.bt_sweep.specs.model.Hits.{hits_among, any_overlap, hits, strands_agree}
-use Rattle.bt_sweep.specs.model.Lines.{hit_line, intersect, line_with, lines_for, lines_of, piece_line, sweep_rule, IsLeft, pieces, spans_of}
+use Rattle.bt_sweep.specs.model.Hits.{hits_among, hits, strands_agree}
+use Rattle.bt_sweep.specs.calls.Sweeping.{any_overlap}
+use Rattle.bt_sweep.specs.model.Lines.{hit_line, intersect, line_with, lines_for, lines_of, piece_line, sweep_rule, pieces}
+use Rattle.bt_sweep.specs.calls.LineLaws.{IsLeft, spans_of}
 use Rattle.bt_sweep.specs.declared.hits.hit_rule.HitRule.{HitRule}
 use Rattle.bt_sweep.specs.declared.output.shape.Shape.{Shape}
 use Rattle.bt_sweep.specs.declared.output.shape.Shape.TheVariants.{Count, Missing, Once, OrigA, Whole, Pieces}
@@ -25,7 +27,8 @@ use Rattle.bt_laws.proofs.lemmas.parts.PartSweep.{all_true}
 use Rattle.bt_laws.proofs.lemmas.pipes.PipeLaws.{intersect_whole, limit_whole, subtract_whole, well_there, SameCover, runs_cover, same_sym}
 use Rattle.bt_lines.specs.declared.fault.Input.{Input}
 use Rattle.bt_lines.specs.declared.fault.Kind.{Kind}
-use Rattle.bt_bed.specs.model.Sorted.{Locus, Sorting, sorting_of, AreContiguous, IsFollowed, has_records}
+use Rattle.bt_bed.specs.model.Sorted.{Locus, Sorting, sorting_of, has_records}
+use Rattle.bt_bed.specs.calls.Orders.{AreContiguous, IsFollowed}
 use Rattle.bt_bed.proofs.lemmas.Definitions.{placed_good}
 use Rattle.bt_bed.proofs.lemmas.parse.NameLemmas.{cases_name, name_eq, name_ne-sym}
 use Rattle.bt_runs.specs.model.Merged.{ordered_runs, chromosomes, is_covered, without}
@@ -42,7 +45,8 @@ use Rattle.bt_laws.proofs.lemmas.pipes.LinesBack.{IsSaid, good_are_said}
 use Rattle.bt_laws.proofs.lemmas.pipes.SweepBack.{Hit, all_hits, cut_bounds, same_name}
 use Rattle.bt_laws.proofs.lemmas.parts.PartTexts.{order_total}
 use Rattle.bt_runs.proofs.lemmas.merge.Bridging.{is_covered-Decides}
-use Rattle.bt_seq.specs.model.Masked.{covers, Block, Owned, blocks_by, items_if_last, left_at_last, left_by, own_records, owned_from}
+use Rattle.bt_seq.specs.model.Masked.{covers, Block, Owned, blocks_by, items_if_last, left_by, own_records, owned_from}
+use Rattle.bt_seq.specs.calls.MaskState.{left_at_last}
 use Rattle.bt_seq.proofs.lemmas.definitions.KnowsLemmas.{leave, leave_all}
 use Rattle.bt_laws.proofs.lemmas.pipes.Placing.{others}
 

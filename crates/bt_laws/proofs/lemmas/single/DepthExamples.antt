@@ -4,7 +4,8 @@ use Rattle.bt_bed.specs.model.Feature.{Feature, Span}
 use Rattle.bt_bed.specs.model.Genome.{Entry}
 use Rattle.bt_bed.specs.declared.record.strand.Strand.{Strand}
 use Rattle.bt_bed.specs.declared.record.strand.Strand.TheVariants.{Plus, Minus, Dot}
-use Rattle.bt_runs.specs.model.Depth.{DepthInterval, coverage, depth_of, kept_records, settled_depths, unfinished, Begun, begun_after, ended_after}
+use Rattle.bt_runs.specs.model.Depth.{DepthInterval, coverage, depth_of, settled_depths, Begun, begun_after, ended_after}
+use Rattle.bt_runs.specs.calls.Covering.{kept_records, unfinished}
 
 -- on the chromosome whose name is one byte
 abbrev on : ℕ → ℕ → ℕ → Strand → Feature

@@ -5,7 +5,8 @@ use Rattle.bt_bed.specs.model.Positions.{with_position, stretches_from}
 use Rattle.bt_bed.specs.model.Genome.{Entry}
 use Rattle.bt_bed.specs.model.Sorted.{Locus}
 use Rattle.bt_bed.specs.declared.record.strand.Strand.TheVariants.{Dot}
-use Rattle.bt_runs.specs.model.Gaps.{gaps_of, complement, settled_gaps, kept_place}
+use Rattle.bt_runs.specs.model.Gaps.{gaps_of, complement, settled_gaps}
+use Rattle.bt_runs.specs.calls.Complementing.{kept_place}
 
 -- on the chromosome whose name is one byte
 abbrev on : ℕ → ℕ → ℕ → Feature

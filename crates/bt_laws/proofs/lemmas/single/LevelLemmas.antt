@@ -1,13 +1,15 @@
 -- A scan of the positions finds the intervals of equal value, and no other list has them; scans in parts, and scans that see the same values.
 use Rattle.bt_lines.proofs.Std.{◌≡◌, ℕ, zero, suc, ◌+◌, ◌<◌, ◌≤◌, inl, inr, List, [], ◌∷◌, ◌++◌, refl, sym, ap, ◌∙◌, subst, arith, map, Bool, true, ◌==◌, Option, Some, None, cases_Bool, cases_lt, eq-eqb, eqb-true, filter, flat_map, map-append, filter-append}
 use Rattle.bt_bed.specs.model.Feature.{Span, Feature, intervals_of, Interval, placed_on}
-use Rattle.bt_bed.specs.model.Positions.{AreApartFrom, IsCovered}
+use Rattle.bt_bed.specs.calls.Stretches.{AreApartFrom, IsCovered}
 use Rattle.bt_laws.specs.Runs.{AreDisjointFrom, DiffersFromNext, HasValue, level_on, levels_are, levels_only, stretches_are_levels, covered_have_depth, gaps_are_levels, gaps_have_depth_0, interval_at, is_bare, one_value, touching_runs_are_levels, runs_are_levels, one_place_is_kept}
 use Rattle.bt_runs.specs.model.Depth.{Begun, Level, begun_after, ended_after, levels_from, levels_of, next_begun, next_ended, DepthInterval, coverage, depth_of, depth_on, depths_on}
 use Rattle.bt_runs.proofs.lemmas.coverage.LevelLemmas.{levels_more}
 use Rattle.bt_bed.specs.model.Genome.{Entry}
-use Rattle.bt_runs.specs.model.Gaps.{complement, gaps_of, gaps_on, kept_place}
-use Rattle.bt_runs.specs.model.Merged.{Bridged, is_covered, runs_of}
+use Rattle.bt_runs.specs.model.Gaps.{complement, gaps_of, gaps_on}
+use Rattle.bt_runs.specs.calls.Complementing.{kept_place}
+use Rattle.bt_runs.specs.model.Merged.{is_covered, runs_of}
+use Rattle.bt_runs.specs.calls.MergedRuns.{Bridged}
 use Rattle.bt_runs.proofs.lemmas.complement.Walks.{are_gaps, is_bare-Decides}
 use Rattle.bt_runs.proofs.lemmas.merge.Bridging.{are_runs, covered_below_end, is_bridged-Decides, is_covered-Decides, bridged_here}
 use Rattle.bt_runs.proofs.lemmas.definitions.Standing.{each_all, filter_keeps}

@@ -1,21 +1,24 @@
 -- Lemmas on lines, records and their orders.
 use Rattle.bt_lines.proofs.Std.{◌≡◌, ℕ, Bool, true, false, cond, List, [], ◌∷◌, Option, Some, None, Result, Ok, Err, refl, sym, ap, ◌∙◌, ⊤, ◌≢◌, IfSome, length, arith, zero, suc, ◌+◌, ◌<◌, ◌≤◌, take, ◌++◌, append_assoc, append-nil, IfErr, decimal, lt-ltb, decimal_is_IsNumeral, All-cons, digit_from_value, is_ascii_digit, IsInRange, AllByRecursion, list_all, AllDigits, digits_value, false≢true, nat_cmp_total, tied_itself, slice_cmp, nat_cmp, ordering_then, IsTrue, ◌⊎◌, inl, inr, bytes_eq, or_parts, or_from}
 use Rattle.bt_lines.specs.model.Fault.{FaultValue}
-use Rattle.bt_lines.specs.model.Lines.{lines_handed, TextLine, pieces, value_of, text_lines, AreNumbered}
+use Rattle.bt_lines.specs.model.Lines.{lines_handed, TextLine, pieces, value_of, text_lines}
+use Rattle.bt_lines.specs.calls.Line.{AreNumbered}
 use Rattle.bt_lines.specs.declared.fault.Input.{Input}
 use Rattle.bt_lines.specs.declared.fault.Kind.{Kind}
 use Rattle.bt_lines.specs.declared.fault.Kind.TheVariants.{OutOfOrder, UnknownChrom}
 use Rattle.bt_bed.specs.model.Feature.{Feature, Interval, last_from}
-use Rattle.bt_bed.specs.model.BedLine.{is_header, columns_say, not_skipped, record_of, ends_word, first_word, IsFeature, bed_text, columns_in, kept_columns, said_are_features}
+use Rattle.bt_bed.specs.model.BedLine.{is_header, columns_say, not_skipped, record_of, ends_word, first_word, bed_text, kept_columns}
+use Rattle.bt_bed.specs.calls.Features.{IsFeature, columns_in, said_are_features}
 use Rattle.bt_bed.specs.model.Good.{Good, good_from, good_with, line_says, said_after, block_format, bed_format}
 use Rattle.bt_bed.specs.model.Meeting.{Rule, join_report, written}
 use Rattle.bt_laws.specs.Records.{blocks_know_each_chromosome, good_stand_on_lines, first_lines_have_the_first, good_in_blocks_are_non_empty, good_in_blocks_stand_on_lines, genome_names_are_distinct, first_lines_make_entries, read_are_rewritten, written_are_read, StaysDecided, bytes_know_each_chromosome, first_difference_decides, prefixes_come_first, HasBase, HasShared, shared_are_common, stretches_are_one, contiguous_grows}
-use Rattle.bt_bed.specs.model.Sorted.{Locus, block_sorting, sorting_of, has_records, AreContiguous}
+use Rattle.bt_bed.specs.model.Sorted.{Locus, block_sorting, sorting_of, has_records}
+use Rattle.bt_bed.specs.calls.Orders.{AreContiguous, AreDistinct}
 use Rattle.bt_lines.proofs.lemmas.reader.lines.TextLemmas.{lines_are_numbered, IsColumn, IsInside}
 use Rattle.bt_bed.proofs.lemmas.read.good.SaidLemmas.{ascend_from, first_from, within_from}
 use Rattle.bt_bed.proofs.lemmas.Definitions.{non_empty_from, met_lines, written_at, stretches_are_same}
 use Rattle.bt_bed.specs.calls.Reading.{IsFaultBeyond}
-use Rattle.bt_bed.specs.model.Order.{AreDistinct, byte_order}
+use Rattle.bt_bed.specs.model.Order.{byte_order}
 use Rattle.bt_bed.specs.model.Genome.{Entry, genome_names, genome_from, genome_with, new_entry, entry_of, with_entry}
 use Rattle.bt_bed.proofs.lemmas.order.TableLemmas.{distinct_push, is_new, ok_entries}
 use Rattle.bt_bed.proofs.lemmas.read.ColumnLemmas.{kept_again}

@@ -1,8 +1,9 @@
 -- The words of a command line divide into items in one way.
 use Rattle.bt_lines.proofs.Std.{rules, ◌≡◌, ◌≢◌, ℕ, ◌+◌, ◌≤◌, Bool, false, List, [], ◌∷◌, ◌++◌, length, Option, Some, None, refl, arith, append_assoc, length-append, All, bytes_eq, Result, ◌↔◌, flat_map-append, All-head, All-tail, drop-append_seam, drop-length, bytes_eq-Decides}
-use Rattle.bt_tool.specs.model.Usage.{Item, IsItem, items_of, words_of, spelled, IsLongestDivision}
+use Rattle.bt_tool.specs.model.Usage.{Item, items_of, words_of, spelled}
+use Rattle.bt_tool.specs.calls.CommandLine.{IsItem, IsLongestDivision, AnswersPlan, AnswersAll}
 use Rattle.bt_laws.specs.Reports.{AnswerIsUnique, FaultIsOfWhatIsLeft, LastItemCounts, LongestDivisionIsUnique}
-use Rattle.bt_tool.specs.model.Options.{AnswersPlan, AnswersAll, PlanSeen, asked, command_of, last_item, options, word_fault}
+use Rattle.bt_tool.specs.model.Options.{PlanSeen, asked, command_of, last_item, options, word_fault}
 use Rattle.bt_tool.specs.model.Table.{Word, Table, table_of}
 use Rattle.bt_tool.specs.declared.options.usage.Usage.{Usage}
 use Rattle.bt_tool.proofs.lemmas.Options.{items_of-item}

@@ -4,7 +4,8 @@ use Rattle.bt_bed.specs.model.Feature.{Feature, Interval, Span}
 use Rattle.bt_bed.specs.model.Positions.{with_position, stretches_from}
 use Rattle.bt_bed.specs.declared.record.strand.Strand.{Strand}
 use Rattle.bt_bed.specs.declared.record.strand.Strand.TheVariants.{Plus, Minus, Dot}
-use Rattle.bt_runs.specs.model.Merged.{is_bridged, runs_of, merged, merged_runs, settled_runs, kept_runs, StrandRun, kept_strand_runs, settled_strand_runs, strand_runs}
+use Rattle.bt_runs.specs.model.Merged.{is_bridged, runs_of, merged, merged_runs, StrandRun, settled_strand_runs, strand_runs}
+use Rattle.bt_runs.specs.calls.MergedRuns.{settled_runs, kept_runs, kept_strand_runs}
 use Rattle.bt_runs.specs.declared.merge.merge_strand.MergeStrand.TheVariants.{All, One}
 
 abbrev span : ℕ → ℕ → Span

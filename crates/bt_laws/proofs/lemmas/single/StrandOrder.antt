@@ -1,10 +1,12 @@
 -- The runs of several strands come in the order of their first records.
 use Rattle.bt_lines.proofs.Std.{rules, ◌≡◌, ℕ, zero, suc, ◌+◌, ◌<◌, ◌≤◌, inl, inr, refl, sym, ap, ap₂, ◌∙◌, arith, subst, List, [], ◌∷◌, ◌++◌, append_assoc, append-nil, length, map, Bool, true, false, Some, IsTrue, find, list_any, position_or_len, IsStrictlyIncreasing, cases_Bool, map-append, ◌||◌, or_parts, is_lt, bytes_eq, if◌then◌else◌}
 use Rattle.bt_bed.specs.model.Feature.{Feature, interval_of, intervals_of, Interval}
-use Rattle.bt_bed.specs.model.Sorted.{ArePlaced, IsPlacedBefore, IsUpTo, Locus, locus_of}
-use Rattle.bt_bed.specs.model.Order.{IsTotal, Order, AreDistinct, is_among, rank_order}
+use Rattle.bt_bed.specs.model.Sorted.{Locus, locus_of}
+use Rattle.bt_bed.specs.calls.Orders.{ArePlaced, IsPlacedBefore, IsUpTo, IsTotal, AreDistinct}
+use Rattle.bt_bed.specs.model.Order.{Order, is_among, rank_order}
 use Rattle.bt_bed.proofs.lemmas.order.OrderLemmas.{placed_contiguous}
-use Rattle.bt_runs.specs.model.Merged.{AreTaken, StrandRun, is_in, places_of, strand_runs, in_order as runs_in_order, put_in_order}
+use Rattle.bt_runs.specs.model.Merged.{StrandRun, is_in, places_of, strand_runs, in_order as runs_in_order, put_in_order}
+use Rattle.bt_runs.specs.calls.MergedRuns.{AreTaken}
 use Rattle.bt_laws.specs.Merges.{first_place, first_start, strand_runs_come_in_order, strand_runs_come_in_turn, strand_runs_start_with_records}
 use Rattle.bt_runs.specs.inside.merge.StrandStep.{run_from}
 use Rattle.bt_runs.proofs.lemmas.definitions.Standing.{Each, Some_of, each_append, each_map, each_weaker, each_both, none_each, some_weaker}

@@ -3,8 +3,8 @@ use Rattle.bt_lines.proofs.Std.{arith, false, List, [], ◌∷◌, ◌++◌, Opt
 use Rattle.bt_lines.specs.model.Fault.{FaultValue}
 use Rattle.bt_bed.specs.model.Feature.{Feature, intervals_of}
 use Rattle.bt_bed.specs.model.BedLine.{fault_at_line}
-use Rattle.bt_bed.specs.model.Sorted.{ArePlaced}
-use Rattle.bt_bed.specs.model.Order.{Order, IsTotal}
+use Rattle.bt_bed.specs.calls.Orders.{ArePlaced, IsTotal}
+use Rattle.bt_bed.specs.model.Order.{Order}
 use Rattle.bt_laws.proofs.lemmas.single.Records.{written_begins}
 use Rattle.bt_sweep.specs.model.Hits.{decided, decides, hits, strands_agree, are_too_many, cut_behind, held_for, is_held, limited}
 use Rattle.bt_sweep.specs.model.Lines.{sweep_rule, intersect, intersect_met}

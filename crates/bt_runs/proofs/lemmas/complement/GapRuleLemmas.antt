@@ -5,9 +5,10 @@ use Rattle.std.specs.declared.cmp.Ordering.TheVariants.{Equal}
 use Rattle.bt_bed.specs.model.Feature.{Feature, intervals_of, interval_of, Interval, Span, placed_on, spans_on, span_of}
 use Rattle.bt_bed.specs.model.BedLine.{interval_line, interval_lines}
 use Rattle.bt_bed.specs.model.Genome.{Entry, genome_names}
-use Rattle.bt_bed.specs.model.Order.{rank_order, AreDistinct, rank_of}
+use Rattle.bt_bed.specs.model.Order.{rank_order, rank_of}
+use Rattle.bt_bed.specs.calls.Orders.{AreDistinct}
 use Rattle.bt_bed.specs.model.Sorted.{has_records, Locus}
-use Rattle.bt_runs.specs.model.Gaps.{gaps_of, gaps_on, is_asked, is_over, complement, settled_gaps, AreTaken, kept_place, length_in}
+use Rattle.bt_runs.specs.model.Gaps.{gaps_of, gaps_on, is_asked, is_over, complement, settled_gaps}
 use Rattle.bt_runs.specs.inside.Walk.{AreReached, Place, left_before, places, Does, EnterAnswers, FitsPast, PutsRestAtEnd, IsNamed, IsPlaced, entry_at, going, is_on, walk_step}
 use Rattle.bt_runs.specs.inside.GapStep.{bare_gap, gap_between, gap_walk, last_gap}
 use Rattle.bt_runs.proofs.lemmas.definitions.Standing.{filter_map_all, filter_map_none, has_records-push, compare_same, apart, found}
@@ -21,7 +22,7 @@ use Rattle.bt_lines.specs.declared.fault.Fault.{Fault}
 use Rattle.bt_lines.proofs.lemmas.Writer.{grown_none}
 use Rattle.bt_bed.specs.calls.GenomeTable.{entries}
 use Rattle.bt_bed.proofs.lemmas.parse.NameLemmas.{name_eq, name_ne, same_name}
-use Rattle.bt_runs.specs.calls.Complementing.{Complementing, IsAfter, complementing, kept_in, settled_lines}
+use Rattle.bt_runs.specs.calls.Complementing.{Complementing, IsAfter, complementing, kept_in, settled_lines, AreTaken, kept_place, length_in}
 use Rattle.bt_runs.specs.inside.GapRule.{Covers, seen, IsOnChrom, complement_at, gap_rule, next_lines}
 use Rattle.bt_runs.specs.declared.complement.gap_cursor.GapCursor.{GapCursor}
 use Rattle.bt_runs.proofs.lemmas.Engine.{enters, enters_cut, none_more}

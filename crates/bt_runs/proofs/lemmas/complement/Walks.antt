@@ -1,11 +1,13 @@
 -- An engine that goes through the chromosomes of a genome file. One more record moves what is settled and what is reached as its walk's step says. At the end what its walk leaves is left. Complement and coverage are such engines; `GapRuleLemmas` and `DepthSteps` have what each owes of one chromosome.
 use Rattle.bt_lines.proofs.Std.{common_steps, ◌≡◌, ℕ, ◌+◌, ◌≤◌, inl, inr, List, [], ◌∷◌, ◌++◌, refl, sym, ap, ap₂, ◌∙◌, subst, arith, append-nil, append_assoc, flat_map, length, length-append, slice_range, true, false, Option, Some, None, not, Decides, ◌<◌, max, min, cond, nat_lt, Decides-not, ⊤, drop_at, take_at}
 use Rattle.bt_bed.specs.model.Feature.{Feature, interval_of, intervals_of, Interval, Span}
-use Rattle.bt_bed.specs.model.Positions.{IsCovered, AreApartFrom, AreStretchesOf}
+use Rattle.bt_bed.specs.calls.Stretches.{IsCovered, AreApartFrom, AreStretchesOf}
 use Rattle.bt_bed.specs.model.Genome.{Entry, genome_names}
-use Rattle.bt_bed.specs.model.Order.{AreDistinct, rank_of}
+use Rattle.bt_bed.specs.model.Order.{rank_of}
+use Rattle.bt_bed.specs.calls.Orders.{AreDistinct}
 use Rattle.bt_bed.proofs.lemmas.parse.NameLemmas.{name_eq}
-use Rattle.bt_runs.specs.model.Gaps.{AreTaken, IsBare, gaps_of}
+use Rattle.bt_runs.specs.model.Gaps.{gaps_of}
+use Rattle.bt_runs.specs.calls.Complementing.{AreTaken, IsBare}
 use Rattle.bt_runs.specs.calls.Engine.{Settles}
 use Rattle.bt_runs.specs.inside.Walk.{AreReached, Place, Walk, entry_at, going, going_at, is_on, left_before, step_from, taking, walk_step}
 use Rattle.bt_runs.proofs.lemmas.order.ByChromosome.{Begun, Form, InOrder, Moves, Owes, Standing, Written, begun, full_last, goes_first, goes_next, goes_on, goes_to, order_front, settling, whole_left, entry_there, name_at}

@@ -3,14 +3,16 @@ use Rattle.bt_lines.proofs.Std.{rules, max, ◌≡◌, ℕ, ◌<◌, ◌≤◌, 
 use Rattle.std.specs.declared.cmp.Ordering.TheVariants.{Equal}
 use Rattle.bt_bed.specs.model.Feature.{Feature, interval_of, intervals_of, Interval, span_of, Span}
 use Rattle.bt_bed.specs.model.Genome.{Entry, genome_names}
-use Rattle.bt_bed.specs.model.Order.{rank_order, AreDistinct, rank_of}
+use Rattle.bt_bed.specs.model.Order.{rank_order, rank_of}
+use Rattle.bt_bed.specs.calls.Orders.{AreDistinct}
 use Rattle.bt_bed.specs.model.Sorted.{has_records}
 use Rattle.bt_bed.specs.declared.record.strand.Strand.{Strand}
-use Rattle.bt_runs.specs.model.Depth.{DepthInterval, counted_on, coverage, depth_of, depth_on, depths_on, is_counted_by, is_ended_by, settled_depths, Level, levels_of, depth_lines, kept_records, known_place, unfinished, depth_line, Begun, reported, begun_after, ended_after, next_begun, next_ended}
+use Rattle.bt_runs.specs.model.Depth.{DepthInterval, counted_on, coverage, depth_of, depth_on, depths_on, is_counted_by, is_ended_by, settled_depths, Level, levels_of, depth_lines, depth_line, Begun, reported, begun_after, ended_after, next_begun, next_ended}
 use Rattle.bt_runs.specs.inside.Coverage.{Known, depth_walk, known_by, levels_by, levels_left, levels_on, bare_of, depths_left, known_seen, place_seen, seen, CountAnswers, OpenAt, depth_text, still_open}
 use Rattle.bt_runs.proofs.lemmas.order.ByChromosome.{Divides, Owes, Written, found_at, size_there, size_ranked, found_entry, name_at}
 use Rattle.bt_runs.proofs.lemmas.coverage.OpenLemmas.{counted_elsewhere, counted_append, counted_none, bare_levels, known_at, known_first, known_next, left_end, settled_and_left, settled_at, settled_end, settled_first, settled_next, with_counted, across_known, none_open, all_open, walk_depth}
-use Rattle.bt_runs.specs.model.Gaps.{is_over_at, AreTaken}
+use Rattle.bt_runs.specs.model.Gaps.{is_over_at}
+use Rattle.bt_runs.specs.calls.Complementing.{AreTaken}
 use Rattle.bt_runs.proofs.lemmas.definitions.Standing.{filter_map_all, filter_map_none, compare_same, apart, found}
 use Rattle.bt_runs.proofs.lemmas.coverage.LevelLemmas.{StopIn, scan_run, scan_split}
 use Rattle.bt_runs.proofs.lemmas.complement.Walks.{Walked, form_of, Held, Steps, ends, reaches, settles_items, steps, rank_entry, taken_front}
@@ -20,7 +22,7 @@ use Rattle.bt_lines.proofs.lemmas.Writer.{grown_none, line_alone, adds_lines, cu
 use Rattle.bt_lines.specs.calls.Output.{Output, Adds, FailsToAdd, Grown, Puts}
 use Rattle.bt_lines.specs.calls.Names.{fault_value}
 use Rattle.bt_lines.specs.declared.fault.Fault.{Fault}
-use Rattle.bt_runs.specs.calls.Covering.{Covering, IsAfter, IsOnBy, begun_of, depth_rule, depth_step, held_of, next_lines, wants_memory, IsOnChrom, with_begun, with_chrom}
+use Rattle.bt_runs.specs.calls.Covering.{Covering, IsAfter, IsOnBy, begun_of, depth_rule, depth_step, held_of, next_lines, wants_memory, IsOnChrom, with_begun, with_chrom, kept_records, known_place, unfinished}
 use Rattle.bt_runs.proofs.lemmas.Engine.{enters, enters_cut}
 use Rattle.bt_bed.specs.declared.parse.bounds.Bounds.{Bounds}
 use Rattle.bt_bed.proofs.lemmas.parse.NameLemmas.{same_name, name_eq}

@@ -2,8 +2,9 @@
 use Rattle.bt_lines.proofs.Std.{◌≡◌, ℕ, ◌+◌, ◌-◌, ◌<◌, ◌≤◌, ◌⊎◌, inl, inr, List, [], ◌∷◌, ◌++◌, append_assoc, refl, sym, ap, ◌∙◌, arith, Bool, true, false, ◌&&◌, Decides, nat_le, nat_lt, All, list_any, false≢true, Decides-and, Decides-or, Decides-ltb, map-append, All-head, All-tail}
 use Rattle.bt_runs.specs.declared.plain.PlainSpan.{PlainSpan}
 use Rattle.bt_bed.specs.model.Feature.{Span}
-use Rattle.bt_bed.specs.model.Positions.{IsCovered, AreApartFrom, AreStretchesOf}
-use Rattle.bt_runs.specs.model.Merged.{Bridged, runs_of}
+use Rattle.bt_bed.specs.calls.Stretches.{IsCovered, AreApartFrom, AreStretchesOf}
+use Rattle.bt_runs.specs.model.Merged.{runs_of}
+use Rattle.bt_runs.specs.calls.MergedRuns.{Bridged}
 use Rattle.bt_runs.specs.inside.PlainRuns.{spans_in, with_next_after, with_next}
 use Rattle.bt_runs.proofs.lemmas.merge.Bridging.{Decides-le, only_runs}
 

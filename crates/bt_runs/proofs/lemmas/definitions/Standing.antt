@@ -2,10 +2,11 @@
 use Rattle.bt_lines.proofs.Std.{◌≡◌, ℕ, suc, ◌+◌, ◌<◌, ◌≤◌, inl, inr, List, [], ◌∷◌, ◌++◌, append_assoc, refl, sym, ap, ◌∙◌, subst, arith, length, length-append, map, true, false, bytes_eq, Option, Some, option_map, ◌⊎◌, ◌||◌, ⊤, is_some, nat_cmp, cases_Bool, cond-true, cond-false, lt-ltb, le-ltb, ne_eqb, or_parts, or_from, or_left, or_right, map-append, ap₂, filter, Bool, AllByRecursion, list_any, or_cases, not, nat_lt, append-nil, not_from_true, not_from_false, filter-append}
 use Rattle.std.specs.declared.cmp.Ordering.{Ordering}
 use Rattle.std.specs.declared.cmp.Ordering.TheVariants.{Less, Equal, Greater}
-use Rattle.bt_bed.specs.model.Order.{is_among, AreDistinct, compare_ranks, rank_of, rank_order}
+use Rattle.bt_bed.specs.model.Order.{is_among, compare_ranks, rank_of, rank_order}
+use Rattle.bt_bed.specs.calls.Orders.{AreDistinct, ArePlaced, IsUpTo}
 use Rattle.bt_bed.proofs.lemmas.parse.NameLemmas.{same_name, name_eq, name_ne-sym, name_ne}
 use Rattle.bt_bed.specs.model.Feature.{Interval, last_from, last_of, Span, placed_on, Feature, interval_of, intervals_of}
-use Rattle.bt_bed.specs.model.Sorted.{ArePlaced, IsUpTo, locus_of, has_records}
+use Rattle.bt_bed.specs.model.Sorted.{locus_of, has_records}
 use Rattle.bt_bed.proofs.lemmas.order.OrderLemmas.{last_of-push}
 use Rattle.bt_runs.specs.model.Merged.{is_closed, is_counted, counted}
 use Rattle.bt_runs.proofs.lemmas.merge.Bridging.{AreApartBy}

@@ -1,6 +1,6 @@
 -- What a merge that keeps the strands apart does with one more record is what the definitions say, whatever the past.
 use Rattle.bt_lines.proofs.Std.{common_steps, codes, decimal, ◌≡◌, ◌⊎◌, ℕ, ◌+◌, ◌-◌, ◌<◌, ◌≤◌, List, [], ◌∷◌, ◌++◌, append-nil, length-append, inl, inr, not, cond, ◌||◌, get_or, map, Bool, true, false, bytes_eq, nat_lt, Option, None, Some, Result, Ok, Err, refl, sym, ap, ◌∙◌, subst, arith, prefix_len, slice_get, is_err, OnOk, cond-false, flat_map-append, drop-map, get_or-map, length-map, map-append, map-set, take-map, get_or_from_slice_get, slice_get-get_or, slice_get_within}
-use Rattle.bt_lines.specs.model.Fault.{no_memory}
+use Rattle.bt_lines.specs.calls.Faults.{no_memory}
 use Rattle.bt_lines.specs.calls.Names.{fault_value}
 use Rattle.bt_lines.specs.calls.Output.{Output, Adds, FailsToAdd, FailsToPut, Grown}
 use Rattle.bt_lines.specs.declared.fault.Fault.{Fault}
@@ -8,7 +8,8 @@ use Rattle.bt_bed.specs.model.Feature.{Feature, Interval, is_strand}
 use Rattle.bt_bed.specs.model.BedLine.{interval_line, interval_lines}
 use Rattle.bt_bed.proofs.lemmas.parse.NameLemmas.{name_eq, other_name}
 use Rattle.bt_runs.specs.calls.Engine.{AfterEach, fault_of}
-use Rattle.bt_runs.specs.model.Merged.{StrandRun, kept_strand_runs, places_of, settled_strand_runs}
+use Rattle.bt_runs.specs.model.Merged.{StrandRun, places_of, settled_strand_runs}
+use Rattle.bt_runs.specs.calls.MergedRuns.{kept_strand_runs}
 use Rattle.bt_runs.specs.inside.merge.StrandStep.{left_runs, passed_runs, place_of, placed_run, placed_runs, with_joined, kept_in, added_at, left_unsettled, settled_prefix, last_place, place_among, run_from, with_added, JoinsAmong, joined_among, lines_by, strand_rule, stranding}
 use Rattle.bt_runs.specs.inside.Walk.{Does, EnterAnswers, FitsPast, PutsRestAtEnd}
 use Rattle.bt_runs.specs.calls.Stranding.{Stranding, held_count, settled_lines, strand_lines}

@@ -1,16 +1,18 @@
 -- What a merge says of one chromosome, and what it owes of it: the runs that are done by the last start, and the one that it keeps.
 use Rattle.bt_lines.proofs.Std.{◌≡◌, ℕ, ◌+◌, ◌<◌, ◌≤◌, ◌⊎◌, inl, inr, List, [], ◌∷◌, ◌++◌, append-nil, refl, sym, ap, ap₂, ◌∙◌, arith, length, map, filter, not, false, bytes_eq, cases_Bool, cases_lt, cond-true, cond-false, not_from_true, not_from_false, map-append, filter-append, subst, cond, drop, drop_at}
 use Rattle.bt_bed.specs.model.Feature.{Feature, interval_of, intervals_of, Interval, Span, placed_on, span_of, spans_on}
-use Rattle.bt_bed.specs.model.Sorted.{has_records, ArePlaced, AreContiguous}
+use Rattle.bt_bed.specs.model.Sorted.{has_records}
+use Rattle.bt_bed.specs.calls.Orders.{ArePlaced, AreContiguous, AreDistinct}
 use Rattle.bt_bed.proofs.lemmas.parse.NameLemmas.{name_ne}
-use Rattle.bt_runs.specs.model.Merged.{is_counted, counted, runs_of, runs_on, is_closed, merged_runs, settled_runs, chromosomes, merged, kept_runs, AreTaken}
+use Rattle.bt_runs.specs.model.Merged.{is_counted, counted, runs_of, runs_on, is_closed, merged_runs, chromosomes, merged}
+use Rattle.bt_runs.specs.calls.MergedRuns.{settled_runs, kept_runs, AreTaken}
 use Rattle.bt_runs.specs.inside.merge.UnstrandedStep.{kept_by, left_by, settled_by, with_record}
 use Rattle.bt_runs.specs.declared.merge.merge_strand.MergeStrand.{MergeStrand}
 use Rattle.bt_runs.proofs.lemmas.order.ByChromosome.{Divides, Form, NoRecords, Owes, Begun, InOrder, Moves, Ordered, Standing, Written, bares, begun, full_front, full_last, goes_first, goes_next, goes_on, goes_to, order_front, settling, whole_left}
 use Rattle.bt_runs.proofs.lemmas.order.FileOrder.{runs_on-push_elsewhere, spans_on-none, spans_on-push_here, runs_of-nil, runs_on-none, in_file_order, distinct_chromosomes, placed_own}
 use Rattle.bt_runs.proofs.lemmas.definitions.Standing.{counted_absent, counted_next, not_passed, passed_before, passed_far, placed_elsewhere, not_less, stays, begins, begins_at, counted-append}
 use Rattle.bt_runs.proofs.lemmas.merge.Bridging.{OneOpen, join_open, longer, next_open, open_runs}
-use Rattle.bt_bed.specs.model.Order.{AreDistinct, rank_order}
+use Rattle.bt_bed.specs.model.Order.{rank_order}
 use Rattle.bt_bed.proofs.lemmas.order.OrderLemmas.{placed_prefix, contiguous_prefix}
 use Rattle.bt_runs.specs.calls.Engine.{SettledBegins, SettledStays, Settles}
 

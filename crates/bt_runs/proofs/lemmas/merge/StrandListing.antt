@@ -1,10 +1,12 @@
 -- The runs of several strands, listed by their first records: what one more record does to the list.
 use Rattle.bt_lines.proofs.Std.{rules, ◌≡◌, ℕ, ◌≤◌, inl, inr, List, [], ◌∷◌, ◌++◌, append-nil, refl, sym, ap, ap₂, ◌∙◌, subst, arith, cond, filter, length, map, Bool, true, false, not, ◌&&◌, ◌||◌, list_any, cases_Bool, cond-true, cond-false, false≢true, not_from_true, not_from_false, length-map, map-append, ◌+◌, ◌<◌, ◌⊎◌, append_assoc, and_parts, false_from_ne_true, filter-append, recursion_from_All, any-filter_same}
 use Rattle.bt_bed.specs.model.Feature.{Feature, interval_of, intervals_of, Interval, last_from, last_of, is_strand}
-use Rattle.bt_bed.specs.model.Sorted.{has_records, AreContiguous}
+use Rattle.bt_bed.specs.model.Sorted.{has_records}
+use Rattle.bt_bed.specs.calls.Orders.{AreContiguous}
 use Rattle.bt_bed.specs.declared.record.strand.Strand.{Strand}
 use Rattle.bt_bed.proofs.lemmas.order.OrderLemmas.{last_of-push}
-use Rattle.bt_runs.specs.model.Merged.{merged, AreTaken, is_closed, merged_runs, settled_runs, StrandRun, runs_of_strand, begun_by, is_in, listed_behind, strand_runs}
+use Rattle.bt_runs.specs.model.Merged.{merged, is_closed, merged_runs, StrandRun, runs_of_strand, begun_by, is_in, listed_behind, strand_runs}
+use Rattle.bt_runs.specs.calls.MergedRuns.{AreTaken, settled_runs}
 use Rattle.bt_runs.specs.inside.merge.UnstrandedStep.{joined_run, left_by, settled_by, with_record}
 use Rattle.bt_runs.specs.inside.merge.StrandStep.{run_from, run_with}
 use Rattle.bt_runs.specs.declared.merge.merge_strand.MergeStrand.TheVariants.{One}

@@ -2,10 +2,11 @@
 use Rattle.bt_lines.proofs.Std.{common_steps, ◌≡◌, ℕ, ◌+◌, ◌≤◌, inl, inr, List, [], ◌∷◌, ◌++◌, append_assoc, append-nil, refl, sym, ap, ◌∙◌, subst, arith, drop, filter, get_or, length, map, set, take, Bool, true, false, not, ◌||◌, bytes_eq, nat_lt, Option, Some, None, list_any, prefix_len, take_while, ⊤, is_some, and_left, cases_Bool, cond-true, cond-false, false≢true, ltb-true, not-true, not_from_true, or_cases, drop_at, map-append, take-append-drop, take_at, length-prefix_len, list_any-append, take_while-cons, ◌<◌, ◌-◌, le-ltb, zero, suc, ◌⊎◌, Result, Err, slice_get, or_from, set-get_or, get_or_from_slice_get, slice_get_read, slice_get_within}
 use Rattle.bt_bed.specs.model.Feature.{Feature, interval_of, intervals_of, Interval, last_from, last_of, is_strand}
 use Rattle.bt_bed.specs.model.BedLine.{interval_line}
-use Rattle.bt_bed.specs.model.Sorted.{AreContiguous}
+use Rattle.bt_bed.specs.calls.Orders.{AreContiguous}
 use Rattle.bt_bed.proofs.lemmas.parse.NameLemmas.{cases_name, name_eq}
 use Rattle.bt_bed.proofs.lemmas.order.OrderLemmas.{last_of-push}
-use Rattle.bt_runs.specs.model.Merged.{AreTaken, is_closed, StrandRun, kept_strand_runs, closed_prefix, settled_strand_runs, strand_runs, places_of}
+use Rattle.bt_runs.specs.model.Merged.{is_closed, StrandRun, closed_prefix, settled_strand_runs, strand_runs, places_of}
+use Rattle.bt_runs.specs.calls.MergedRuns.{AreTaken, kept_strand_runs}
 use Rattle.bt_runs.specs.calls.Engine.{SettledBegins, SettledStays, Settles}
 use Rattle.bt_runs.specs.inside.merge.StrandStep.{added_at, left_unsettled, settled_prefix, last_place, place_among, run_from, run_with, with_added, count_up_to, counts_up_to_last, place_of, slot_of, lengthened, with_joined, left_runs, passed_runs, placed_run, placed_runs}
 use Rattle.bt_runs.proofs.lemmas.order.ByChromosome.{intervals_next}

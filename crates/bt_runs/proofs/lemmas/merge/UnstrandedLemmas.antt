@@ -1,13 +1,13 @@
 -- From the exact step of a merge of all its records together to what it writes after the records of the past.
 use Rattle.bt_lines.proofs.Std.{arith, ◌≡◌, ℕ, false, List, [], ◌∷◌, ◌++◌, Result, Ok, Err, refl, sym, ap, ◌∙◌, append-nil, bytes_eq, flat_map-append}
-use Rattle.bt_lines.specs.model.Fault.{no_memory}
+use Rattle.bt_lines.specs.calls.Faults.{no_memory}
 use Rattle.bt_lines.specs.calls.Names.{fault_value}
 use Rattle.bt_lines.specs.calls.Output.{Output, Adds, FailsToAdd, Grown}
 use Rattle.bt_lines.specs.declared.fault.Fault.{Fault}
 use Rattle.bt_bed.specs.model.Feature.{Feature, interval_of}
 use Rattle.bt_bed.specs.model.BedLine.{interval_line, interval_lines}
 use Rattle.bt_runs.specs.calls.Engine.{AfterEach}
-use Rattle.bt_runs.specs.model.Merged.{kept_runs, settled_runs}
+use Rattle.bt_runs.specs.calls.MergedRuns.{kept_runs, settled_runs}
 use Rattle.bt_runs.specs.inside.merge.UnstrandedStep.{left_by, settled_by, kept_at, lines_by, unstranded_rule}
 use Rattle.bt_runs.specs.inside.Walk.{EnterAnswers, FitsPast, PutsRestAtEnd}
 use Rattle.bt_runs.specs.calls.Unstranded.{Unstranded, settled_lines, unstranded}

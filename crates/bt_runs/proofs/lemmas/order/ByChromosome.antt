@@ -11,15 +11,16 @@
 -- The engines' forms are in `SettledRuns` (merge), `GapRuleLemmas` (complement) and `DepthSteps` (coverage); the last two take `Walks` from here.
 use Rattle.bt_lines.proofs.Std.{common_steps, ◌≡◌, ◌⊎◌, ℕ, ◌<◌, ◌≤◌, inl, inr, List, [], ◌∷◌, ◌++◌, append_assoc, append-nil, refl, sym, ap, ap₂, ◌∙◌, subst, arith, length, length-append, map, flat_map, true, false, bytes_eq, Some, ⊤, or_parts, flat_map-append, map-append, take_at, Contains-push, zero, suc, ◌+◌, ◌-◌, length-drop, drop, option_map, slice_range, min, Option, Result, Ok, Err, slice_get, cond-true, cond-false, take_at_read, get_or-drop, drop-drop, get_or-append_seam, take-add}
 use Rattle.std.specs.declared.cmp.Ordering.TheVariants.{Less, Greater}
-use Rattle.bt_bed.specs.model.Feature.{Feature, interval_of, intervals_of, Interval, AreNonEmpty, last_of}
-use Rattle.bt_bed.specs.model.Sorted.{ArePlaced, has_records}
-use Rattle.bt_bed.specs.model.Order.{is_among, AreDistinct, rank_order, rank_of}
+use Rattle.bt_bed.specs.model.Feature.{Feature, interval_of, intervals_of, Interval, last_of}
+use Rattle.bt_bed.specs.calls.Orders.{AreNonEmpty, ArePlaced, AreDistinct}
+use Rattle.bt_bed.specs.model.Sorted.{has_records}
+use Rattle.bt_bed.specs.model.Order.{is_among, rank_order, rank_of}
 use Rattle.bt_bed.proofs.lemmas.parse.NameLemmas.{name_ne-sym, name_eq}
 use Rattle.bt_bed.proofs.lemmas.order.OrderLemmas.{placed_prefix}
 use Rattle.bt_runs.specs.calls.Engine.{Settles}
 use Rattle.bt_runs.proofs.lemmas.definitions.Standing.{AllCompare, all_after, all_before, Arrives, GoesTo, NoneOn, Stand, begins_at, elsewhere_of, goes, last_rank, none_at_first, stand_at, Found, found}
 use Rattle.bt_bed.specs.model.Genome.{Entry, genome_names}
-use Rattle.bt_runs.specs.model.Gaps.{length_in}
+use Rattle.bt_runs.specs.calls.Complementing.{length_in}
 use Rattle.bt_runs.specs.inside.Walk.{IsPlaced, entry_at, Place, begun as names_begun, left_before, left_of}
 use Rattle.bt_lines.specs.calls.Output.{Output, Adds, Grown}
 use Rattle.bt_lines.specs.declared.fault.Fault.{Fault}

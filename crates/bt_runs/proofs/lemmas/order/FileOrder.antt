@@ -2,8 +2,9 @@
 use Rattle.bt_lines.proofs.Std.{◌≡◌, ℕ, inl, inr, List, [], ◌∷◌, ◌++◌, append-nil, refl, sym, ap, ◌∙◌, map, false, not, ◌||◌, bytes_eq, cond-true, cond-false, or_parts, not_from_true, not_from_false, suc, ◌<◌, ◌≤◌, ◌⊎◌, subst, arith, filter, Bool, true, Option, Some, option_map, or_from, is_some}
 use Rattle.bt_bed.specs.model.Feature.{Interval, span_of, placed_on, spans_on, Feature, interval_of, intervals_of}
 use Rattle.bt_bed.specs.model.Positions.{stretches_from}
-use Rattle.bt_bed.specs.model.Order.{is_among, Order, IsTotal, AreDistinct, rank_of, compare_ranks, rank_order}
-use Rattle.bt_bed.specs.model.Sorted.{has_records, IsPlacedBefore, ArePlaced, AreContiguous}
+use Rattle.bt_bed.specs.model.Order.{is_among, Order, rank_of, compare_ranks, rank_order}
+use Rattle.bt_bed.specs.calls.Orders.{IsTotal, AreDistinct, IsPlacedBefore, ArePlaced, AreContiguous}
+use Rattle.bt_bed.specs.model.Sorted.{has_records}
 use Rattle.bt_bed.proofs.lemmas.parse.NameLemmas.{name_eq, name_ne, other_name, cases_name, name_ne-sym}
 use Rattle.bt_runs.specs.model.Merged.{runs_of, runs_on, without, chromosomes, is_counted, counted, merged, merged_runs, in_order, ordered_runs}
 use Rattle.std.specs.declared.cmp.Ordering.TheVariants.{Less}

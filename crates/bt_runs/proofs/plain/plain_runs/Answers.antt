@@ -1,5 +1,5 @@
 use Rattle.bt_lines.proofs.Std.{arith, false≢true}
-use Rattle.bt_runs.specs.model.Merged.{Bridged}
+use Rattle.bt_runs.specs.calls.MergedRuns.{Bridged}
 use Rattle.bt_runs.specs.inside.PlainRuns.{spans_in}
 use Rattle.bt_runs.proofs.lemmas.definitions.PlainSpans.{below_with, runs_below-all}
 use Rattle.bt_runs.proofs.plain.plain_runs.Goals as goal

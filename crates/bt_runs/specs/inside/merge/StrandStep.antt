@@ -7,7 +7,7 @@ use Rattle.bt_bed.specs.declared.record.strand.Strand.TheVariants.{Plus, Minus, 
 use Rattle.bt_runs.specs.model.Merged.{is_closed, StrandRun, closed_prefix}
 use Rattle.bt_runs.specs.inside.merge.UnstrandedStep.{joined_run}
 use Rattle.bt_runs.specs.declared.merge.pending_runs.PendingRun.{PendingRun}
-use Rattle.bt_lines.specs.model.Fault.{write_failed}
+use Rattle.bt_lines.specs.calls.Faults.{write_failed}
 use Rattle.bt_lines.specs.calls.Output.{Output, FailsToAdd, Grown}
 use Rattle.bt_runs.specs.calls.Engine.{EngineDef}
 use Rattle.bt_runs.specs.calls.Stranding.{Stranding, strand_lines, stranding_with}

@@ -5,12 +5,14 @@ use Rattle.bt_bed.specs.model.BedLine.{fault_at_line}
 use Rattle.bt_sweep.specs.model.Hits.{has_fraction, hits, is_enough, shared_bases, strands_agree, decides, decided, hits_among, are_too_many, cut_behind, first_open, held_for, is_held}
 use Rattle.bt_sweep.specs.declared.hits.hit_rule.HitRule.{HitRule}
 use Rattle.std.specs.declared.cmp.Ordering.TheVariants.{Greater}
-use Rattle.bt_bed.specs.model.Order.{Order, IsTotal}
+use Rattle.bt_bed.specs.model.Order.{Order}
+use Rattle.bt_bed.specs.calls.Orders.{IsTotal, IsUpTo, ArePlaced}
 use Rattle.bt_bed.specs.model.Good.{locus_at, Good, Member}
-use Rattle.bt_bed.specs.model.Sorted.{IsUpTo, ArePlaced, has_records}
+use Rattle.bt_bed.specs.model.Sorted.{has_records}
 use Rattle.bt_bed.proofs.lemmas.parse.NameLemmas.{same_name}
 use Rattle.bt_sweep.specs.calls.Held.{StartFrom}
-use Rattle.bt_sweep.specs.model.Lines.{lines_of, lines_for, lines_stay, lines_are_before, left_are_lines, subtract_is_met, subtract_shape, faultless_are_all, sweep_rule}
+use Rattle.bt_sweep.specs.model.Lines.{lines_of, lines_for, subtract_shape, sweep_rule}
+use Rattle.bt_sweep.specs.calls.LineLaws.{lines_stay, lines_are_before, left_are_lines, subtract_is_met, faultless_are_all}
 use Rattle.bt_sweep.specs.declared.output.shape.Shape.{Shape}
 use Rattle.bt_bed.proofs.lemmas.order.OrderLemmas.{has_records-last, next_place, placed_prefix, placed_contiguous}
 use Rattle.bt_sweep.specs.calls.Sweeping.{last_after, last_given, has_room}

@@ -1,9 +1,10 @@
 -- Lemmas on what is held.
 use Rattle.bt_lines.proofs.Std.{rules, ◌≡◌, ◌≤◌, inl, inr, Bool, true, false, not, ◌&&◌, ◌||◌, cond, List, [], ◌∷◌, ◌++◌, Option, None, Some, refl, sym, ap, ◌∙◌, ltb, arith, filter, bytes_eq, IsTrue, list_all, false≢true, and_parts, or_parts, cases_Bool, filter-append, list_any-append, list_all-append}
 use Rattle.bt_bed.specs.model.Feature.{Feature, intervals_of}
-use Rattle.bt_bed.specs.model.Order.{Order, IsTotal}
+use Rattle.bt_bed.specs.model.Order.{Order}
+use Rattle.bt_bed.specs.calls.Orders.{IsTotal, IsUpTo, ArePlaced}
 use Rattle.bt_bed.specs.model.Good.{locus_at}
-use Rattle.bt_bed.specs.model.Sorted.{IsUpTo, ArePlaced, has_records}
+use Rattle.bt_bed.specs.model.Sorted.{has_records}
 use Rattle.bt_bed.proofs.lemmas.parse.NameLemmas.{name_eq, name_ne, other_name}
 use Rattle.bt_sweep.specs.model.Hits.{decides}
 use Rattle.bt_sweep.specs.calls.Sweeping.{is_held, last_given, leaves_some, HoldsFor}

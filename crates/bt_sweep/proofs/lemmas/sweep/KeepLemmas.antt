@@ -12,7 +12,8 @@ use Rattle.bt_sweep.proofs.lemmas.definitions.HitLemmas.{hit_overlaps, before_li
 use Rattle.bt_bed.proofs.lemmas.parse.NameLemmas.{same_name, name_eq}
 use Rattle.bt_sweep.specs.calls.Held.{AreReady, AreOnOne, CanHit, CanHitAt, AreRising}
 use Rattle.bt_sweep.specs.inside.Joining.{are_on, GrownWith, PutsOr, NeedsHit, GivenLast, GoesToFor, Holds, has_room_in, held_with, holding, CutsOff, EndUpTo, WritesFor, WritesSo}
-use Rattle.bt_lines.specs.model.Fault.{FaultValue, write_failed}
+use Rattle.bt_lines.specs.model.Fault.{FaultValue}
+use Rattle.bt_lines.specs.calls.Faults.{write_failed}
 use Rattle.bt_lines.specs.calls.Names.{fault_value}
 use Rattle.bt_lines.specs.calls.Output.{Output, Adds, FailsToAdd, Grown, Puts}
 use Rattle.bt_lines.specs.declared.fault.Fault.{Fault}
@@ -20,8 +21,9 @@ use Rattle.bt_lines.proofs.lemmas.Writer.{cut_off, fails_then, grown_more, grown
 use Rattle.bt_sweep.specs.declared.output.shape.Shape.TheVariants.{Missing, Pieces, Whole}
 use Rattle.bt_sweep.proofs.lemmas.definitions.PieceLemmas.{walked_alone, rising_held}
 use Rattle.bt_sweep.proofs.lemmas.Output.{line_adds, open_kept}
-use Rattle.bt_bed.specs.model.Sorted.{ArePlaced, Locus, Sorting, falls_in, sorting_of}
-use Rattle.bt_bed.specs.model.Order.{Order, IsTotal}
+use Rattle.bt_bed.specs.model.Sorted.{Locus, Sorting, falls_in, sorting_of}
+use Rattle.bt_bed.specs.calls.Orders.{ArePlaced, IsTotal}
+use Rattle.bt_bed.specs.model.Order.{Order}
 use Rattle.bt_sweep.proofs.lemmas.sweep.HoldLemmas.{held_behind, held_is_behind, holds_a, holds_b}
 use Rattle.bt_bed.specs.calls.Batch.{left as records_left}
 use Rattle.bt_bed.specs.calls.SortedReader.{are_in_order, view_with}

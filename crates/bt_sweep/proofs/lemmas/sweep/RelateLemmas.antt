@@ -8,7 +8,8 @@ use Rattle.bt_lines.specs.declared.fault.Fault.{Fault}
 use Rattle.bt_bed.specs.model.Feature.{Feature}
 use Rattle.bt_bed.specs.declared.read.cursor.Cursor.{Ghosts as Cursor}
 use Rattle.bt_bed.specs.model.Sorted.{is_below_at}
-use Rattle.bt_bed.specs.model.Order.{Order, IsTotal}
+use Rattle.bt_bed.specs.model.Order.{Order}
+use Rattle.bt_bed.specs.calls.Orders.{IsTotal}
 use Rattle.bt_bed.proofs.lemmas.parse.NameLemmas.{name_ne}
 use Rattle.bt_sweep.specs.calls.Sweeping.{IsThis, Settles, AreDecided, ComesNext, LeavesLast, TakenEach, HoldsFor, is_held, Sweeping}
 use Rattle.bt_sweep.specs.model.Hits.{decides}

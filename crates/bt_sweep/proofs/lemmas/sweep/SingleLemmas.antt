@@ -6,8 +6,8 @@ use Rattle.bt_lines.specs.calls.Names.{fault_value}
 use Rattle.bt_lines.specs.calls.Output.{Output, FailsToAdd, Grown}
 use Rattle.bt_lines.specs.declared.fault.Fault.{Fault}
 use Rattle.bt_bed.specs.model.Feature.{Feature, intervals_of}
-use Rattle.bt_bed.specs.model.Sorted.{ArePlaced}
-use Rattle.bt_bed.specs.model.Order.{Order, IsTotal}
+use Rattle.bt_bed.specs.calls.Orders.{ArePlaced, IsTotal}
+use Rattle.bt_bed.specs.model.Order.{Order}
 use Rattle.bt_bed.specs.calls.Bed.{single_left, single_line}
 use Rattle.bt_bed.specs.calls.CursorOf.{single_cursor}
 use Rattle.bt_bed.specs.declared.read.cursor.Single.{Single}

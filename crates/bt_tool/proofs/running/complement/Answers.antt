@@ -1,4 +1,5 @@
-use Rattle.bt_runs.specs.model.Gaps.{AreTaken, complement as whole_gaps, settled_gaps}
+use Rattle.bt_runs.specs.model.Gaps.{complement as whole_gaps, settled_gaps}
+use Rattle.bt_runs.specs.calls.Complementing.{AreTaken}
 use Rattle.bt_runs.proofs.lemmas.complement.GapRuleLemmas.{settles_gaps}
 use Rattle.bt_runs.proofs.lemmas.definitions.Standing.{begins, stays}
 use Rattle.bt_tool.proofs.lemmas.running.feed.DrivingLemmas.{complement_begins, lines_begin, lines_stay}

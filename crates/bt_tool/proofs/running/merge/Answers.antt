@@ -1,6 +1,7 @@
 use Rattle.bt_lines.proofs.Std.{option_map}
 use Rattle.bt_lines.specs.calls.Names.{fault_value}
-use Rattle.bt_bed.specs.model.Order.{byte_order, bytes_total, rank_order}
+use Rattle.bt_bed.specs.model.Order.{byte_order, rank_order}
+use Rattle.bt_bed.specs.calls.Orders.{bytes_total}
 use Rattle.bt_bed.specs.model.Feature.{intervals_of}
 use Rattle.bt_bed.specs.calls.GenomeTable.{names_of}
 use Rattle.bt_bed.specs.inside.RankTotal.{ranks_total}

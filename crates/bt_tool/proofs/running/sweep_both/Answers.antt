@@ -1,4 +1,4 @@
-use Rattle.bt_bed.specs.model.Order.{bytes_total}
+use Rattle.bt_bed.specs.calls.Orders.{bytes_total}
 use Rattle.bt_bed.specs.calls.GenomeTable.{names_of}
 use Rattle.bt_bed.specs.inside.RankTotal.{ranks_total}
 use Rattle.bt_tool.proofs.running.sweep_both.Goals as goal

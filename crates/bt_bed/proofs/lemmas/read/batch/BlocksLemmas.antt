@@ -8,7 +8,7 @@ use Rattle.bt_bed.proofs.lemmas.read.batch.RecordsLemmas.{ahead_is}
 use Rattle.bt_bed.specs.calls.Blocks.{FillsBlocks, IsNext, TakesBlocks, view_of}
 use Rattle.bt_bed.specs.calls.SortedReader.{buffered_in as records_in, view_in, view_with}
 use Rattle.bt_bed.specs.model.Feature.{Feature}
-use Rattle.bt_bed.specs.model.BedLine.{IsFeature}
+use Rattle.bt_bed.specs.calls.Features.{IsFeature}
 use Rattle.bt_bed.specs.model.Good.{Member, locus_at}
 use Rattle.bt_bed.specs.calls.Reading.{Fills, FillAnswers, GivesMember, Takes, TellsOwnFailure, ahead_in}
 use Rattle.bt_bed.specs.model.Sorted.{block_sorting}

@@ -11,11 +11,13 @@ use Rattle.bt_bed.proofs.lemmas.order.OrderLemmas.{sorted_up_to}
 use Rattle.bt_bed.specs.calls.Batch.{StandsFirst, chrom_in, cursor_in, left, left_after, start_in}
 use Rattle.bt_bed.specs.calls.SortedReader.{IsPlaced, buffered_in as records_in, view_in, view_with}
 use Rattle.bt_bed.specs.model.Feature.{Feature}
-use Rattle.bt_bed.specs.model.BedLine.{IsFeature, is_bed_kind, is_record_kind, record_of}
-use Rattle.bt_bed.specs.model.Good.{Member, good, bed_format, line_says, locus_at, said_after, in_order, wrong_lines_are_of_bed}
+use Rattle.bt_bed.specs.model.BedLine.{is_bed_kind, is_record_kind, record_of}
+use Rattle.bt_bed.specs.calls.Features.{IsFeature, wrong_lines_are_of_bed}
+use Rattle.bt_bed.specs.model.Good.{Member, good, bed_format, line_says, locus_at, said_after, in_order}
 use Rattle.bt_bed.specs.inside.OrderedLookahead.{last_in, start_after}
-use Rattle.bt_bed.specs.model.Order.{Order, IsTotal}
-use Rattle.bt_bed.specs.model.Sorted.{Locus, IsUpTo, Sorting, sorting_of}
+use Rattle.bt_bed.specs.model.Order.{Order}
+use Rattle.bt_bed.specs.calls.Orders.{IsTotal, IsUpTo}
+use Rattle.bt_bed.specs.model.Sorted.{Locus, Sorting, sorting_of}
 use Rattle.bt_bed.specs.calls.Reading.{Fills, FillAnswers, GivesMember, MemberReader, Takes, TellsOwnFailure, ahead_in, first_from, good_coming}
 use Rattle.bt_bed.specs.calls.Records.{FillsRecords, IsNext, TakesRecords, order_in, view_of}
 use Rattle.bt_bed.specs.calls.Bed.{is_on, record_on, run_of, run_then, IsOnLine, raw_in, record_in, text_in}

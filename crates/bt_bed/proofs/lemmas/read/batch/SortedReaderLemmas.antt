@@ -3,7 +3,8 @@ use Rattle.bt_lines.proofs.Std.{◌≡◌, ℕ, suc, ◌-◌, ◌<◌, ◌≤◌
 use Rattle.bt_lines.specs.declared.device.Source.{Ghosts as Source}
 use Rattle.bt_lines.proofs.lemmas.reader.lines.TakingLemmas.{is_prefix, next_bytes, next_number}
 use Rattle.bt_lines.specs.calls.Reader.{DropsLines, TakesLines, bytes_left, buffered_in as lines_buffered, fault_kept as line_fault, input_of, lines_given, lines_left, source_of, GivesEnd, GivesFault, HasRead, IsKept, MakesLine, bytes_taken}
-use Rattle.bt_lines.specs.model.Lines.{AreNumbered, TextLine}
+use Rattle.bt_lines.specs.model.Lines.{TextLine}
+use Rattle.bt_lines.specs.calls.Line.{AreNumbered}
 use Rattle.bt_lines.specs.calls.Names.{fault_value}
 use Rattle.bt_lines.specs.declared.fault.Input.{Input}
 use Rattle.bt_lines.specs.declared.reader.line_reader.LineReader.{LineReader}

@@ -3,19 +3,20 @@ use Rattle.bt_lines.proofs.Std.{◌≡◌, ℕ, suc, ◌+◌, ◌-◌, ◌^◌, 
 use Rattle.bt_lines.specs.declared.device.Source.{Ghosts as Source}
 use Rattle.bt_lines.proofs.lemmas.reader.lines.TakingLemmas.{hands_both, hands_none, is_prefix, near_next, not_told, next_below}
 use Rattle.bt_lines.proofs.lemmas.reader.lines.TextLemmas.{line_feeds-append, lines_are_numbered}
-use Rattle.bt_lines.specs.model.Fault.{FaultValue, read_failed, no_memory}
-use Rattle.bt_lines.specs.calls.Line.{GivesFirst}
-use Rattle.bt_lines.specs.model.Lines.{TextLine, AreNumbered, bytes_in, line_feeds}
+use Rattle.bt_lines.specs.model.Fault.{FaultValue, read_failed}
+use Rattle.bt_lines.specs.calls.Faults.{no_memory}
+use Rattle.bt_lines.specs.calls.Line.{GivesFirst, AreNumbered, line_feeds}
+use Rattle.bt_lines.specs.model.Lines.{TextLine, bytes_in}
 use Rattle.bt_lines.specs.calls.Output.{block_size}
 use Rattle.bt_lines.specs.calls.Reader.{CutsOff, DropsLines, GivesFault, Hands, IsKept, IsNear, MakesLine, TakenLines, TakesLines, buffered_bytes, buffered_in, bytes_taken, fault_kept, has_ended, held, input_of, lines_given, lines_left, room, source_of, FailsToRead, GivesEnd, end_told, room as line_room, fault_kept as line_fault, HasRead, TellsOwnFailure as LineTellsOwnFailure}
 use Rattle.bt_lines.specs.declared.reader.buffered_lines.ConsumedLines.{ConsumedLines}
 use Rattle.bt_lines.specs.declared.reader.line_reader.LineReader.{LineReader}
-use Rattle.bt_bed.specs.calls.Reading.{LinesPass, IsBeyond, MemberReader, Remains, first_from, good_behind, good_coming, Stays, GivesMember, EndsMembers, LineIsWrong, RunsOut, Cause, AnswersFault, IsLost, TellsOwnFailure}
+use Rattle.bt_bed.specs.calls.Reading.{LinesPass, IsBeyond, MemberReader, Remains, first_from, good_behind, good_coming, Stays, GivesMember, EndsMembers, LineIsWrong, RunsOut, Cause, AnswersFault, IsLost, TellsOwnFailure, is_of_line}
 use Rattle.bt_lines.specs.declared.fault.Input.{Input}
 use Rattle.bt_lines.specs.declared.fault.Kind.{Kind}
 use Rattle.bt_bed.proofs.lemmas.read.good.SaidLemmas.{beyond_from}
 use Rattle.bt_bed.specs.model.Good.{with_member, Format, Good, Member, ends_with, good, good_from}
-use Rattle.bt_bed.specs.model.BedLine.{fault_at_line, is_of_line}
+use Rattle.bt_bed.specs.model.BedLine.{fault_at_line}
 use Rattle.bt_lines.proofs.lemmas.reader.block.ReadsLemmas.{tells_no_memory, tells_read, tells_then}
 use Rattle.bt_lines.specs.calls.Names.{fault_value}
 use Rattle.bt_lines.specs.declared.fault.Fault.{Fault}

@@ -2,12 +2,15 @@
 use Rattle.bt_lines.proofs.Std.{arith, ◌≡◌, ℕ, true, List, Err, zero, suc, ◌+◌, ◌<◌, ◌≤◌, [], ◌∷◌, ◌++◌, take, length, Option, Some, None, Result, Ok, refl, sym, subst, All, IfSome, All-nil, All-head, All-tail}
 use Rattle.bt_lines.specs.declared.fault.Kind.{Kind}
 use Rattle.bt_bed.proofs.lemmas.parse.FeatureLemmas.{said_is_feature, record_said}
-use Rattle.bt_bed.specs.model.BedLine.{is_bed_kind, is_genome_kind, is_of_line, is_record_kind, record_of, said_are_features}
+use Rattle.bt_bed.specs.model.BedLine.{is_bed_kind, is_record_kind, record_of}
+use Rattle.bt_bed.specs.calls.GenomeTable.{is_genome_kind}
+use Rattle.bt_bed.specs.calls.Features.{said_are_features}
 use Rattle.bt_lines.specs.model.Fault.{FaultValue}
-use Rattle.bt_lines.specs.model.Lines.{TextLine, AreNumbered}
+use Rattle.bt_lines.specs.model.Lines.{TextLine}
+use Rattle.bt_lines.specs.calls.Line.{AreNumbered}
 use Rattle.bt_lines.specs.declared.fault.Input.{Input}
 use Rattle.bt_bed.specs.model.Good.{Format, Good, Member, good_from, good_with}
-use Rattle.bt_bed.specs.calls.Reading.{AreAscending, IsBeyond, IsFaultBeyond}
+use Rattle.bt_bed.specs.calls.Reading.{AreAscending, IsBeyond, IsFaultBeyond, is_of_line}
 
 -- what a line says is a feature that a line can say
 pub said_features : said_are_features

@@ -2,7 +2,8 @@
 use Rattle.bt_lines.proofs.Std.{rules, ◌≡◌, ℕ, suc, ◌≤◌, Bool, true, false, List, [], ◌∷◌, ◌++◌, length, take, drop, Option, Some, None, Ok, refl, sym, ap, ◌∙◌, subst, arith, ⊤, IsTrue, length-append, IfNone, IfSome, take-append_seam, drop_at, length-drop}
 use Rattle.bt_bed.specs.calls.Batch.{IsWhere, Passes, cursor_in, left}
 use Rattle.bt_bed.specs.calls.SortedReader.{are_in_order, IsTaken, Lends, buffered_in, count_in}
-use Rattle.bt_lines.specs.model.Lines.{AreNumbered, TextLine}
+use Rattle.bt_lines.specs.model.Lines.{TextLine}
+use Rattle.bt_lines.specs.calls.Line.{AreNumbered}
 use Rattle.bt_lines.specs.declared.fault.Input.{Input}
 use Rattle.bt_bed.proofs.lemmas.Definitions.{line_said}
 use Rattle.bt_bed.specs.model.Feature.{Feature}

@@ -1,7 +1,8 @@
 use Rattle.bt_lines.proofs.Std.{ℕ, List, Err, ◌∙◌, sym, ap, arith, rules, err_from_is_err_and}
 use Rattle.bt_lines.specs.declared.fault.Kind.TheVariants.{TooFewColumns}
 use Rattle.bt_bed.proofs.lemmas.parse.FeatureLemmas.{taken_in_turn, taken_are_within, header_says, made_is_feature, made_is_said, said_by_columns}
-use Rattle.bt_bed.specs.model.BedLine.{columns_in, columns_say, strand_of}
+use Rattle.bt_bed.specs.model.BedLine.{columns_say, strand_of}
+use Rattle.bt_bed.specs.calls.Features.{columns_in}
 use Rattle.bt_bed.proofs.parse.parsing.parse_bed.Goals as goal
 
 pub returns-then-is_header-clause-said : goal.returns-then-is_header-clause-said

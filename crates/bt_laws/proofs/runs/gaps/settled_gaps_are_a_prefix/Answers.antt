@@ -1,4 +1,5 @@
-use Rattle.bt_runs.specs.model.Gaps.{AreTaken, complement, settled_gaps}
+use Rattle.bt_runs.specs.model.Gaps.{complement, settled_gaps}
+use Rattle.bt_runs.specs.calls.Complementing.{AreTaken}
 use Rattle.bt_laws.proofs.lemmas.single.LevelLemmas.{one_kept}
 use Rattle.bt_runs.proofs.lemmas.complement.GapRuleLemmas.{settles_gaps}
 use Rattle.bt_runs.proofs.lemmas.definitions.Standing.{begins, stays}

@@ -6,8 +6,7 @@ use Rattle.bt_lines.specs.calls.Output.{block_size}
 use Rattle.memchr.specs.Find.{IsLastByte, is_byte}
 use Rattle.bt_lines.proofs.lemmas.reader.lines.TextLemmas.{line_feeds-append, line_feeds-none}
 use Rattle.bt_lines.specs.calls.Columns.{IsBefore}
-use Rattle.bt_lines.specs.calls.Line.{NoLineFeed}
-use Rattle.bt_lines.specs.model.Lines.{line_feeds}
+use Rattle.bt_lines.specs.calls.Line.{NoLineFeed, line_feeds}
 use Rattle.bt_lines.specs.inside.Shape.{AreComplete, IsSearched, is_fed}
 use Rattle.bt_lines.specs.declared.device.Source.{Ghosts as Source}
 use Rattle.bt_lines.proofs.lemmas.reader.block.ReadsLemmas.{counts_then, fails_then}

@@ -1,7 +1,8 @@
 -- Lemmas on what the reads of a source gave.
 use Rattle.bt_lines.proofs.Std.{◌∙◌, ◌≡◌, ℕ, ◌+◌, inl, Option, Some, None, sym, ap, add-zero, add_assoc, arith}
 use Rattle.bt_lines.specs.calls.Device.{ReadsCounted, ReadsFail, ReadsOn, begun, gave}
-use Rattle.bt_lines.specs.model.Fault.{FaultValue, no_memory, read_failed}
+use Rattle.bt_lines.specs.model.Fault.{FaultValue, read_failed}
+use Rattle.bt_lines.specs.calls.Faults.{no_memory}
 use Rattle.bt_lines.specs.declared.fault.Input.{Input}
 use Rattle.bt_lines.specs.declared.fault.Kind.TheVariants.{NoMemory as OutOfMemory, ReadFailed}
 use Rattle.bt_lines.specs.calls.Reader.{HasRead, IsUnread, TellsReads, bytes_taken, source_of}

@@ -5,8 +5,8 @@ use Rattle.bt_lines.proofs.lemmas.reader.block.BufferLemmas.{unread_fits, fed_no
 use Rattle.bt_lines.proofs.lemmas.reader.lines.StepLemmas.{some_state, goes, told_last, gives_fed, sound_fed, gives_last, sound_last}
 use Rattle.bt_lines.proofs.lemmas.reader.lines.TextLemmas.{line_feeds-fed, lines_from-last, lines_from-nil, strip_last-other, strip_last-push, whole_lines_from-fed, whole_lines_from-last}
 use Rattle.bt_lines.specs.calls.Columns.{IsBefore}
-use Rattle.bt_lines.specs.calls.Line.{Cut, Shown, ending_at, NoLineFeed, line_seen, IsFirst, shown_of}
-use Rattle.bt_lines.specs.model.Lines.{TextLine, fed_line, line_feeds}
+use Rattle.bt_lines.specs.calls.Line.{Cut, Shown, ending_at, NoLineFeed, line_seen, IsFirst, shown_of, line_feeds}
+use Rattle.bt_lines.specs.model.Lines.{TextLine, fed_line}
 use Rattle.bt_lines.specs.calls.Output.{block_size}
 use Rattle.bt_lines.specs.inside.ReadBuffer.{complete, text_in, unread, lends_at, open_at, told_at}
 use Rattle.bt_lines.specs.calls.Reader.{GivesLine, IsKept, IsSound, has_ended, held, input_of, line_at, lines_given, source_of, BeginsLines, buffered_lines, line_of, lines_after, lines_in, rest_in, IsWhere, PassesLines, TakenLines, buffered_bytes, is_open}

@@ -5,8 +5,8 @@ use Rattle.bt_lines.proofs.lemmas.reader.block.BufferLemmas.{fed_clear, fed_drop
 use Rattle.bt_lines.proofs.lemmas.reader.lines.BufferedLemmas.{are_fed, lines_fit}
 use Rattle.bt_lines.proofs.lemmas.reader.lines.TextLemmas.{lines_from-fed, lines_from-last, lines_from-nil, by_lines, bytes_in-drop, bytes_in-lines, lines_are_numbered, whole_lines_from-last, line_feeds-append, line_feeds-fed, whole_count, whole_front}
 use Rattle.bt_lines.specs.calls.Reader.{buffered_lines, DropsLines, Hands, IsKept, IsPrefix, TakesLines, bytes_taken, buffered_in, fault_kept, feeds_taken, has_ended, input_of, buffered_bytes, bytes_left, is_open, end_told, held, left_at, lines_given, lines_left, source_of, IsSound}
-use Rattle.bt_lines.specs.calls.Line.{NoLineFeed, GivesFirst}
-use Rattle.bt_lines.specs.model.Lines.{TextLine, bytes_in, last_line, line_feeds, lines_from, whole_lines_from}
+use Rattle.bt_lines.specs.calls.Line.{NoLineFeed, GivesFirst, line_feeds}
+use Rattle.bt_lines.specs.model.Lines.{TextLine, bytes_in, last_line, lines_from, whole_lines_from}
 use Rattle.bt_lines.specs.calls.Output.{block_size}
 use Rattle.bt_lines.specs.inside.ReadBuffer.{complete, unread, ended_at, fault_at, lends_at, open_at, taken_at, told_at}
 use Rattle.bt_lines.specs.inside.Shape.{IsLast, held_at, is_fed}

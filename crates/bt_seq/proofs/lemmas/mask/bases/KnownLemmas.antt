@@ -5,9 +5,9 @@ use Rattle.bt_bed.specs.model.Feature.{Feature}
 use Rattle.bt_seq.proofs.lemmas.definitions.KnowsLemmas.{owners_found, goes_on_or_begins}
 use Rattle.bt_seq.proofs.lemmas.mask.steps.CopyLemmas.{left_grows, last_more}
 use Rattle.bt_seq.specs.calls.MaskStage.{IsNext}
-use Rattle.bt_seq.specs.calls.MaskState.{Knows, KnowsEarlier, last_chrom, owner_by, Matched, is_it, matched_with, named, owner_of}
+use Rattle.bt_seq.specs.calls.MaskState.{Knows, KnowsEarlier, last_chrom, owner_by, Matched, is_it, matched_with, named, owner_of, goes_on, left_after}
 use Rattle.bt_seq.specs.inside.Masking.{KnowsAhead, KnowsLast, KnowsNext, KnowsNone}
-use Rattle.bt_seq.specs.model.Masked.{is_unnamed, goes_on, left_after, left_by, names_behind}
+use Rattle.bt_seq.specs.model.Masked.{is_unnamed, left_by, names_behind}
 use Rattle.bt_seq.specs.declared.mask.matching.Owner.TheVariants.{Nobody}
 
 pub never : false ≡ true → ⊥

@@ -13,11 +13,11 @@ use Rattle.bt_seq.proofs.lemmas.mask.steps.LineStepLemmas.{range_more, line_mask
 use Rattle.bt_seq.proofs.lemmas.mask.bases.KnownLemmas.{MayTake, never, next_can_be, none_ahead, own_ahead, owner_next, take_next}
 use Rattle.bt_seq.proofs.lemmas.definitions.MaskPrefixLemmas.{blocks_front, decided_stays, held_before, masked_before, masked_stay}
 use Rattle.bt_seq.proofs.lemmas.mask.steps.CopyLemmas.{decided_more, own_more, last_waits, stands_at, wants_bed, last_more}
-use Rattle.bt_seq.specs.calls.MaskStage.{extent_of, IsNext, MaskStage, given, reached, want_of, with_decided, with_record, SayEach, GoesOn, MayFollow, SettlesLines, is_written_ahead, is_written_at_once, reached_by, with_line}
-use Rattle.bt_seq.specs.calls.MaskState.{owner_by, owner_of, Masking, TakesBed, Writes, decides, decides_up_to, holding, holds, holds_by, line_bytes, with_owner, with_extent}
+use Rattle.bt_seq.specs.calls.MaskStage.{extent_of, IsNext, MaskStage, given, reached, want_of, with_decided, with_record, SayEach, GoesOn, MayFollow, SettlesLines, is_written_ahead, is_written_at_once, reached_by, with_line, held_for}
+use Rattle.bt_seq.specs.calls.MaskState.{owner_by, owner_of, Masking, TakesBed, Writes, decides, decides_up_to, holding, holds, holds_by, line_bytes, with_owner, with_extent, left_after}
 use Rattle.bt_seq.specs.inside.Masking.{Counts, IsDecided, KnowsLast, KnowsNone, decided_up_to}
 use Rattle.bt_seq.specs.calls.MaskSteps.{MaskMovesTo, IsAtStage, Waits, kept_line, ChecksRecord, EndsRecords, GivesBed, LacksSequence, WritesLine, bytes_with}
-use Rattle.bt_seq.specs.model.Masked.{decided, held_for, masked_line, block_decides, items_if_last, left_after, own_records, SequenceLine, bases_up_to, is_unnamed, Reached, line_says}
+use Rattle.bt_seq.specs.model.Masked.{decided, masked_line, block_decides, items_if_last, own_records, SequenceLine, bases_up_to, is_unnamed, Reached, line_says}
 use Rattle.bt_seq.specs.inside.Window.{Bounds, limit}
 use Rattle.bt_seq.specs.declared.mask.mask_how.MaskHow.{MaskHow}
 use Rattle.bt_seq.specs.declared.mask.mask_want.MaskWant.TheVariants.{Line, Bed}

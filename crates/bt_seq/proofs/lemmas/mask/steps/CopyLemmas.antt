@@ -8,8 +8,8 @@ use Rattle.bt_lines.specs.declared.reader.buffered_lines.BufferedLines.{Buffered
 use Rattle.bt_lines.specs.declared.fault.Fault.{Fault}
 use Rattle.bt_seq.specs.inside.Masking.{CopiesLine, CopiesLines, CopiesThrough, StayEach, bounds_of, passed_all}
 use Rattle.bt_seq.specs.calls.MaskStage.{PassesLines, MaskStage, given, want_of}
-use Rattle.bt_seq.specs.calls.MaskState.{Masking, passed, stays_as_given}
-use Rattle.bt_seq.specs.model.Masked.{is_header, decided, is_unnamed, block_decides, items_if_last, left_after, names_behind, own_records, SequenceLine, bases_up_to}
+use Rattle.bt_seq.specs.calls.MaskState.{Masking, passed, stays_as_given, left_after}
+use Rattle.bt_seq.specs.model.Masked.{is_header, decided, is_unnamed, block_decides, items_if_last, names_behind, own_records, SequenceLine, bases_up_to}
 use Rattle.bt_seq.specs.inside.Window.{Bounds, gone_on, limit}
 use Rattle.bt_seq.specs.declared.mask.copy_through.CopyThrough.{CopyThrough}
 use Rattle.bt_seq.specs.declared.mask.mask_want.MaskWant.TheVariants.{Line, Nothing, Bed}

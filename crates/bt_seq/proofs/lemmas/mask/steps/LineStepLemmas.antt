@@ -4,10 +4,10 @@ use Rattle.bt_bed.specs.model.Feature.{Feature}
 use Rattle.bt_lines.specs.model.Lines.{max_number, end_bytes, TextLine}
 use Rattle.bt_seq.proofs.lemmas.definitions.MaskPrefixLemmas.{held_alone, chrom_of, decided_by_tags, masked_before}
 use Rattle.bt_seq.proofs.lemmas.Sam.{none_masked, next_left, own_in, own_tagged, tag_decides, tags, tags_of}
-use Rattle.bt_seq.specs.calls.MaskStage.{extent_of, MaskStage, given, held_by, is_written_ahead, is_written_at_once, reached, reached_by, want_of, with_line}
-use Rattle.bt_seq.specs.calls.MaskState.{Masking, line_bytes, TakesLine, Waiting, bytes_at_once, is_stray, may_grow, moved_to, writes_at_once, Matched, named}
+use Rattle.bt_seq.specs.calls.MaskStage.{extent_of, MaskStage, given, held_by, is_written_ahead, is_written_at_once, reached, reached_by, want_of, with_line, held_for}
+use Rattle.bt_seq.specs.calls.MaskState.{Masking, line_bytes, TakesLine, Waiting, bytes_at_once, is_stray, may_grow, moved_to, writes_at_once, Matched, named, left_after}
 use Rattle.bt_seq.specs.calls.MaskSteps.{kept_line, IsOpen, MaskMovesTo, FailsWithLine, GivesNextLine, RefusesLine, TakesNextLine, bytes_with, may_need_memory}
-use Rattle.bt_seq.specs.model.Masked.{held_for, masked_from, masked_line, masked_text, block_decides, items_if_last, own_records, SequenceLine, bases_up_to, is_header, decided, is_unnamed, left_after, bases_in, header_behind, line_behind, line_says, may_stand, name_in}
+use Rattle.bt_seq.specs.model.Masked.{masked_from, masked_line, masked_text, block_decides, items_if_last, own_records, SequenceLine, bases_up_to, is_header, decided, is_unnamed, bases_in, header_behind, line_behind, line_says, may_stand, name_in}
 use Rattle.bt_seq.specs.inside.Masking.{AreInRange, Counts, KnowsNext, decided_up_to}
 use Rattle.bt_seq.specs.inside.Window.{has_position, masked_in, limit, Bounds, gone_on, no_bases}
 use Rattle.bt_seq.specs.declared.mask.mask_how.MaskHow.{MaskHow}

@@ -1,5 +1,6 @@
 use Rattle.bt_lines.proofs.Std.{◌≡◌, length, ◌≤◌}
-use Rattle.bt_seq.specs.model.Alignment.{operations_in, span_with}
+use Rattle.bt_seq.specs.model.Alignment.{operations_in}
+use Rattle.bt_seq.specs.calls.Alignments.{span_with}
 use Rattle.bt_seq.proofs.sam.cigar.operations_span.Given as goal
 
 -- the total and the span of the rest are that of the whole

@@ -3,20 +3,22 @@ use Rattle.bt_lines.proofs.Std.{◌≡◌, ℕ, suc, ◌-◌, true, List, [], �
 use Rattle.bt_lines.specs.declared.device.Source.{Ghosts as Source}
 use Rattle.bt_lines.proofs.lemmas.reader.block.ReadsLemmas.{some_is}
 use Rattle.bt_lines.proofs.lemmas.Writer.{grows_both}
-use Rattle.bt_lines.specs.model.Fault.{FaultValue, write_failed, no_memory, read_failed}
+use Rattle.bt_lines.specs.model.Fault.{FaultValue, read_failed}
+use Rattle.bt_lines.specs.calls.Faults.{write_failed, no_memory}
 use Rattle.bt_lines.specs.model.Lines.{Handed, whole_text, text_lines, TextLine}
 use Rattle.bt_lines.specs.calls.Output.{Output, IsPrefixOf, HoldsBlock, FailsToAdd, Grown}
 use Rattle.bt_lines.specs.calls.Reader.{Hands, source_of, input_of, lines_given, GivesEnd, GivesFault, GivesLine, IsKept, IsSound, bytes_taken, fault_kept, feeds_taken, lines_left}
 use Rattle.bt_lines.specs.declared.fault.Input.TheVariants.{First}
 use Rattle.bt_lines.specs.declared.fault.Kind.{Kind}
-use Rattle.bt_bed.specs.model.Feature.{Feature, intervals_of, AreNonEmpty, Interval}
+use Rattle.bt_bed.specs.model.Feature.{Feature, intervals_of, Interval}
+use Rattle.bt_bed.specs.calls.Orders.{AreNonEmpty, IsTotal, ArePlaced}
 use Rattle.bt_bed.specs.model.BedLine.{fault_at_line, interval_line, interval_lines}
 use Rattle.bt_bed.specs.model.Good.{Format, Good, Member, good, good_handed, items_in, bed_format}
 use Rattle.bt_bed.proofs.lemmas.read.good.SaidLemmas.{first_from}
 use Rattle.bt_lines.proofs.lemmas.reader.lines.TextLemmas.{lines_are_numbered}
 use Rattle.bt_bed.specs.calls.Reading.{IsBeyond, MemberReader, good_coming}
-use Rattle.bt_bed.specs.model.Order.{Order, IsTotal}
-use Rattle.bt_bed.specs.model.Sorted.{ArePlaced, sorting_of}
+use Rattle.bt_bed.specs.model.Order.{Order}
+use Rattle.bt_bed.specs.model.Sorted.{sorting_of}
 use Rattle.bt_bed.specs.calls.SortedReader.{view_with}
 use Rattle.bt_bed.specs.calls.Records.{order_in, view_of}
 use Rattle.bt_runs.specs.calls.Engine.{SettledBegins, SettledStays}
@@ -24,7 +26,8 @@ use Rattle.bt_bed.specs.declared.order.ChromOrder.{Ghosts}
 use Rattle.bt_bed.specs.declared.read.records.Records.{Records}
 use Rattle.bt_bed.proofs.lemmas.Definitions.{placed_good, non_empty_good, placed_lines}
 use Rattle.bt_tool.specs.calls.Run.{IsFaultButWrite, IsReported, IsWithin, ReadsNoFurther, WritesBy, IsOwnFailure, TellsOwnReads, RunsAlone}
-use Rattle.bt_tool.specs.model.Report.{of_members, Holds, OfBoth, of_records}
+use Rattle.bt_tool.specs.model.Report.{of_members, of_records}
+use Rattle.bt_tool.specs.calls.Inputs.{Holds, OfBoth}
 use Rattle.bt_tool.proofs.lemmas.running.members.CursorLemmas.{Came, BeginsAt, at_whole, came_whole, good_whole, handed_to, says_fault, begins_over}
 use Rattle.bt_tool.specs.inside.Feed.{StopCause, CutsLines, PutsLines, FeedsAll, FeedsUpTo, TookButBlock, IsReadFor, member_items, LineRefused, sam_reader, IsFresh, KeepsOwnFault, Passes}
 use Rattle.bt_tool.specs.model.Written.{Report, members_report, members_settle, report_by, Written, IsOneOf, alignment_lines, alignments_written, merge_written, pooled_written, coverage_written}
@@ -40,8 +43,10 @@ use Rattle.bt_seq.proofs.lemmas.Sam.{kinds_of_lines, wrong_kinds}
 use Rattle.bt_tool.proofs.lemmas.running.members.MemberLemmas.{IsStopped, came, passes_none, passes_some, read_line}
 use Rattle.bt_bed.proofs.lemmas.read.good.ReadingLemmas.{Going as Steps, going_end, going_start as steps_start, going_unread, going_wrong, good_at_first}
 use Rattle.bt_bed.specs.model.Genome.{Entry}
-use Rattle.bt_runs.specs.model.Gaps.{settled_gaps, AreTaken as AreTakenBy}
-use Rattle.bt_runs.specs.model.Merged.{AreTaken, merged_runs, settled_runs, places_of, settled_strand_runs, strand_runs}
+use Rattle.bt_runs.specs.model.Gaps.{settled_gaps}
+use Rattle.bt_runs.specs.calls.Complementing.{AreTaken as AreTakenBy}
+use Rattle.bt_runs.specs.model.Merged.{merged_runs, places_of, settled_strand_runs, strand_runs}
+use Rattle.bt_runs.specs.calls.MergedRuns.{AreTaken, settled_runs}
 use Rattle.bt_runs.specs.calls.Merging.{merge_begun, merge_engine}
 use Rattle.bt_runs.specs.declared.merge.Kind.{Kind as MergeKind}
 use Rattle.bt_runs.specs.declared.merge.Kind.TheVariants.{PerStrand, Unstranded}

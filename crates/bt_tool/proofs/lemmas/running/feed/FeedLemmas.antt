@@ -2,20 +2,22 @@
 use Rattle.bt_lines.proofs.Std.{common_steps, rules, ◌≡◌, ℕ, suc, ◌+◌, ◌<◌, ◌≤◌, true, List, [], ◌∷◌, ◌++◌, length, Option, None, Some, Result, Ok, Err, sym, ap, ◌∙◌, subst, append-nil, append_assoc, length-append, arith, inl, inr, ◌⊎◌, IfSome, map-append, All-head, All-nil, All-tail, Appends}
 use Rattle.bt_lines.specs.declared.device.Source.{Ghosts as Source}
 use Rattle.bt_lines.proofs.lemmas.Writer.{grown_works, grows_nothing, grows_both}
-use Rattle.bt_lines.specs.model.Fault.{FaultValue, write_failed, no_memory}
+use Rattle.bt_lines.specs.model.Fault.{FaultValue}
+use Rattle.bt_lines.specs.calls.Faults.{write_failed, no_memory}
 use Rattle.bt_lines.specs.model.Lines.{TextLine}
 use Rattle.bt_lines.specs.calls.Output.{Output, HoldsBlock, IsPrefixOf, Grows, block_size, Grown, WorksAsBefore}
 use Rattle.bt_lines.specs.calls.Reader.{Hands, fault_kept as line_fault, lines_given}
 use Rattle.bt_lines.specs.declared.fault.Kind.{Kind}
 use Rattle.bt_lines.specs.declared.fault.Fault.{Fault}
 use Rattle.bt_lines.specs.calls.Names.{fault_value}
-use Rattle.bt_bed.specs.model.Feature.{Feature, interval_of, intervals_of, AreNonEmpty, Interval}
+use Rattle.bt_bed.specs.model.Feature.{Feature, interval_of, intervals_of, Interval}
+use Rattle.bt_bed.specs.calls.Orders.{AreNonEmpty, ArePlaced, IsTotal}
 use Rattle.bt_bed.specs.model.BedLine.{IsBedKind}
 use Rattle.bt_bed.specs.model.Good.{Format, Member, bed_format}
-use Rattle.bt_bed.specs.model.Sorted.{sorting_of, ArePlaced, Locus}
+use Rattle.bt_bed.specs.model.Sorted.{sorting_of, Locus}
 use Rattle.bt_bed.proofs.lemmas.read.batch.RecordsLemmas.{wrong_of_bed}
 use Rattle.bt_bed.proofs.lemmas.order.OrderLemmas.{placed_prefix}
-use Rattle.bt_bed.specs.model.Order.{IsTotal, Order}
+use Rattle.bt_bed.specs.model.Order.{Order}
 use Rattle.bt_bed.specs.calls.Reading.{MemberReader, good_coming, members_from}
 use Rattle.bt_bed.specs.calls.Records.{below, last_locus, order_in, view_of}
 use Rattle.bt_bed.specs.declared.order.ChromOrder.{Ghosts}

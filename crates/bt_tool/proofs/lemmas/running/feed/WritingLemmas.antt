@@ -2,11 +2,13 @@
 use Rattle.bt_lines.proofs.Std.{◌≡◌, ℕ, ◌+◌, ◌-◌, ◌≤◌, true, List, ◌++◌, length, Option, None, Some, take, sym, ap, ◌∙◌, subst, arith, inl, inr, ◌⊎◌, IfSome, suc, ◌^◌, ◌<◌, false, drop, All, take-append-add}
 use Rattle.bt_lines.specs.declared.device.Source.{Ghosts as Source}
 use Rattle.bt_lines.specs.model.Fault.{FaultValue}
-use Rattle.bt_lines.specs.model.Lines.{Handed, TextLine, text_lines, bytes_in, line_feeds}
+use Rattle.bt_lines.specs.model.Lines.{Handed, TextLine, text_lines, bytes_in}
+use Rattle.bt_lines.specs.calls.Line.{line_feeds}
 use Rattle.bt_lines.specs.calls.Output.{Output, block_size}
 use Rattle.bt_lines.specs.declared.fault.Input.TheVariants.{First}
 use Rattle.bt_bed.specs.model.Genome.{Entry}
-use Rattle.bt_tool.specs.model.Report.{Behaviour, behaviour_of, HandsUpTo, Holds, OfBoth}
+use Rattle.bt_tool.specs.model.Report.{Behaviour, behaviour_of}
+use Rattle.bt_tool.specs.calls.Inputs.{HandsUpTo, Holds, OfBoth}
 use Rattle.bt_tool.proofs.lemmas.running.members.CursorLemmas.{IsWhole}
 use Rattle.bt_tool.specs.model.Written.{Report}
 use Rattle.bt_tool.specs.calls.Run.{IsFaultButWrite, IsOfInput, IsPutTo, IsReported, IsWithin, ReadsNoFurther, TellsInput, WritesBy}

@@ -4,8 +4,10 @@ use Rattle.bt_lines.specs.declared.device.Source.{Ghosts as Source}
 use Rattle.bt_lines.proofs.lemmas.reader.block.BufferLemmas.{fed_none}
 use Rattle.bt_lines.proofs.lemmas.reader.lines.TextLemmas.{bytes_in-lines, whole_count}
 use Rattle.bt_lines.specs.calls.Reader.{BeginsLines, buffered_lines, lines_in, TakenLines, TakesLines, buffered_bytes, buffered_in, has_ended, is_open, lines_given}
-use Rattle.bt_lines.specs.model.Fault.{FaultValue, no_memory}
-use Rattle.bt_lines.specs.model.Lines.{AreNumbered, TextLine}
+use Rattle.bt_lines.specs.model.Fault.{FaultValue}
+use Rattle.bt_lines.specs.calls.Faults.{no_memory}
+use Rattle.bt_lines.specs.model.Lines.{TextLine}
+use Rattle.bt_lines.specs.calls.Line.{AreNumbered}
 use Rattle.bt_lines.specs.calls.Names.{fault_value}
 use Rattle.bt_lines.specs.calls.Output.{Output, FailsToAdd}
 use Rattle.bt_lines.specs.inside.Shape.{IsLast, is_fed}

@@ -12,8 +12,8 @@ use Rattle.bt_bed.specs.model.BedLine.{fault_at_line}
 use Rattle.bt_bed.specs.model.Sorted.{Locus}
 use Rattle.bt_bed.specs.calls.Reading.{MemberReader, room, ahead_in, first_from, good_coming, state_behind}
 use Rattle.bt_seq.specs.calls.MaskStage.{MaskStage, given, reached, reached_by, want_of, with_bed_ended, with_lines_ended}
-use Rattle.bt_seq.specs.calls.MaskState.{Masking}
-use Rattle.bt_seq.specs.model.Masked.{Reached, SequenceLine, decided, masked_line, names_of, no_sequence, left_after, line_says, sequence_format}
+use Rattle.bt_seq.specs.calls.MaskState.{Masking, left_after}
+use Rattle.bt_seq.specs.model.Masked.{Reached, SequenceLine, decided, masked_line, names_of, no_sequence, line_says, sequence_format}
 use Rattle.bt_seq.specs.declared.mask.mask_want.MaskWant.{MaskWant}
 use Rattle.bt_tool.specs.declared.loops.masking.MaskRun.{MaskRun}
 use Rattle.bt_tool.specs.inside.Feed.{IsKeptBelow, member_items}

@@ -4,7 +4,8 @@ use Rattle.bt_lines.proofs.lemmas.reader.block.BufferLemmas.{fed_clear, fed_drop
 use Rattle.bt_lines.proofs.lemmas.reader.lines.TextLemmas.{lines_from-fed, lines_from-last, lines_from-nil, spelled-fed, by_lines, lines_are_numbered, whole_lines_are_numbered, bytes_in-lines, line_feeds-append, line_feeds-fed, whole_count, whole_lines_from-fed, whole_lines_from-last, bytes_in-append, whole_front}
 use Rattle.bt_lines.proofs.lemmas.reader.lines.BufferedLemmas.{lines_taken}
 use Rattle.bt_lines.specs.calls.Reader.{BeginsLines, IsWhere, PassesLines, buffered_lines, lines_in, rest_in, TakenLines, buffered_bytes, is_open, lines_given, CutsOff, Hands, source_of, bytes_taken, feeds_taken, IsSound, fault_kept, input_of, lines_left}
-use Rattle.bt_lines.specs.model.Lines.{AreNumbered, TextLine, bytes_in, fed_line, last_line, line_feeds, lines_from, spelled, whole_lines_from, Handed, whole_text, text_lines}
+use Rattle.bt_lines.specs.model.Lines.{TextLine, bytes_in, fed_line, last_line, lines_from, spelled, whole_lines_from, Handed, whole_text, text_lines}
+use Rattle.bt_lines.specs.calls.Line.{AreNumbered, line_feeds}
 use Rattle.bt_lines.specs.inside.Shape.{IsLast, is_fed}
 use Rattle.bt_lines.specs.declared.reader.buffered_lines.BufferedLines.{BufferedLines}
 use Rattle.bt_lines.specs.declared.reader.buffered_lines.ConsumedLines.{ConsumedLines}
@@ -12,7 +13,7 @@ use Rattle.bt_lines.specs.declared.reader.line_reader.LineReader.{LineReader}
 use Rattle.bt_lines.specs.declared.device.Source.{Ghosts as Source}
 use Rattle.bt_lines.specs.model.Fault.{FaultValue, read_failed}
 use Rattle.bt_lines.specs.declared.fault.Input.{Input}
-use Rattle.bt_tool.specs.model.Report.{Reads, handed_by}
+use Rattle.bt_tool.specs.calls.Inputs.{Reads, handed_by}
 use Rattle.bt_lines.specs.calls.Output.{block_size}
 use Rattle.bt_bed.specs.model.Good.{Format, Member, good, good_handed, Good}
 use Rattle.bt_bed.specs.calls.Reading.{IsBeyond, MemberReader, good_coming}

@@ -8,8 +8,9 @@ use Rattle.bt_lines.specs.declared.fault.Fault.{Fault}
 use Rattle.bt_bed.specs.model.Feature.{Feature, interval_of, intervals_of, Interval, last_of}
 use Rattle.bt_bed.specs.calls.SortedReader.{view_with}
 use Rattle.bt_bed.specs.model.Good.{Good, Member, bed_format, locus_at}
-use Rattle.bt_bed.specs.model.Sorted.{IsUpTo, Locus, locus_of, sorting_of}
-use Rattle.bt_bed.specs.model.Order.{IsTotal, Order}
+use Rattle.bt_bed.specs.model.Sorted.{Locus, locus_of, sorting_of}
+use Rattle.bt_bed.specs.calls.Orders.{IsUpTo, IsTotal}
+use Rattle.bt_bed.specs.model.Order.{Order}
 use Rattle.bt_bed.specs.calls.Reading.{AreSaid, BeginsComing, MemberReader, Takes, first_from, good_coming, members_from, with_members}
 use Rattle.bt_bed.specs.calls.Records.{FillsRecords, TakesRecords, below, buffered_in, fault_kept, view_of}
 use Rattle.bt_bed.specs.declared.order.ChromOrder.{Ghosts}

@@ -1,6 +1,7 @@
 -- What all members of two inputs give.
 use Rattle.bt_lines.proofs.Std.{ℕ, ◌||◌, List, is_none, ◌≡◌, suc, ◌+◌, ◌≤◌, ◌<◌, Bool, true, false, [], ◌∷◌, ◌++◌, Option, None, Some, refl, sym, ap, ◌∙◌, subst, append_assoc, append-nil, arith, flat_map, inl, inr, ◌⊎◌, ◌≢◌, All, IfSome, IsSome, option_to_list, take, list_all, false≢true, or_from, map-append, All-head, All-tail}
-use Rattle.bt_lines.specs.model.Fault.{FaultValue, no_memory, write_failed}
+use Rattle.bt_lines.specs.model.Fault.{FaultValue}
+use Rattle.bt_lines.specs.calls.Faults.{no_memory, write_failed}
 use Rattle.bt_bed.specs.model.Good.{Good, items_in, or_else, Format, Member, good_handed}
 use Rattle.bt_bed.specs.model.Meeting.{Met, Rule, join_report, written}
 use Rattle.bt_tool.specs.inside.Pair.{JoinDef, MayCome, Pair, Serves, PairEnds, FirstStops, InputsEnd, LimitStops, RestStops, SecondFails, SecondStops, Why}
@@ -12,7 +13,8 @@ use Rattle.bt_lines.specs.calls.Reader.{input_of, lines_given, source_of}
 use Rattle.bt_lines.specs.declared.fault.Input.TheVariants.{First, Second}
 use Rattle.bt_bed.specs.calls.Reading.{IsBeyond, MemberReader, good_coming}
 use Rattle.bt_bed.proofs.lemmas.Definitions.{all_stop, met_fault_stop, met_lines, written_past, written_stop}
-use Rattle.bt_tool.specs.model.Report.{Behaviour, HandsUpTo, Holds, OfBoth, Reads, ReadsIf, or_empty}
+use Rattle.bt_tool.specs.model.Report.{Behaviour, or_empty}
+use Rattle.bt_tool.specs.calls.Inputs.{HandsUpTo, Holds, OfBoth, Reads, ReadsIf}
 use Rattle.bt_tool.specs.model.Written.{met_report}
 use Rattle.bt_tool.specs.calls.Run.{WritesBy, IsFaultButWrite, IsReported, IsWithin, ReadsNoFurther, TellsDevice, TellsInput}
 use Rattle.bt_tool.proofs.lemmas.running.members.CursorLemmas.{Came, BeginsAt, at_whole, came_cut, came_whole, is_known, says_fault}

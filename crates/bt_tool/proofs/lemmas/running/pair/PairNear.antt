@@ -1,6 +1,7 @@
 -- Lemmas on how far two inputs were read beside what was written.
 use Rattle.bt_lines.proofs.Std.{common_steps, ◌≡◌, ℕ, zero, suc, ◌+◌, ◌-◌, ◌<◌, ◌≤◌, Bool, true, false, not, List, [], ◌∷◌, ◌++◌, take, drop, Option, None, Some, Result, Ok, Err, refl, sym, ap, ◌∙◌, subst, arith, flat_map, inl, inr, ◌⊎◌, ◌&&◌, ◌||◌, All, IfSome, IsSome, if◌then◌else◌, Consumes, list_all, list_any, false≢true, map-append, take-append-drop, All-head, All-tail, append-nil, append_cancel_left}
-use Rattle.bt_lines.specs.model.Lines.{Handed, whole_text, AreNumbered, TextLine, bytes_in, text_lines}
+use Rattle.bt_lines.specs.model.Lines.{Handed, whole_text, TextLine, bytes_in, text_lines}
+use Rattle.bt_lines.specs.calls.Line.{AreNumbered}
 use Rattle.bt_lines.specs.model.Fault.{FaultValue}
 use Rattle.bt_lines.specs.calls.Output.{Output, block_size}
 use Rattle.bt_lines.specs.calls.Reader.{source_of, lines_given}
@@ -15,7 +16,7 @@ use Rattle.bt_bed.proofs.lemmas.read.good.SaidLemmas.{ascend_from, first_from}
 use Rattle.bt_tool.specs.model.Written.{bytes_up_to}
 use Rattle.bt_tool.specs.calls.Run.{IsFaultButWrite, IsWithin, ReadsNoFurther}
 use Rattle.bt_tool.specs.inside.Feed.{TookButBlock, member_items, ConsumesGiven, HasTaken}
-use Rattle.bt_tool.specs.model.Report.{HandsUpTo}
+use Rattle.bt_tool.specs.calls.Inputs.{HandsUpTo}
 use Rattle.bt_tool.specs.inside.Pair.{HasNoMore, JoinDef, MayCome, Pair, AsksFor, PairEnds, StaysNear}
 use Rattle.bt_tool.proofs.lemmas.running.members.CursorLemmas.{BeginsAt, at_whole, good_whole, handed_to, is_known}
 use Rattle.bt_lines.specs.declared.device.Source.{Ghosts as Source}

@@ -2,7 +2,8 @@
 use Rattle.bt_lines.proofs.Std.{◌≡◌, ℕ, suc, ◌+◌, ◌≤◌, Bool, true, false, List, [], ◌∷◌, ◌++◌, Option, None, Some, Err, refl, sym, ap, ◌∙◌, subst, append-nil, append_assoc, option_to_list, inl, inr, drop, length, ◌⊎◌, All, IfSome, IsSome, is_some, false≢true, map-append, arith}
 use Rattle.bt_lines.specs.declared.device.Source.{Ghosts as Source}
 use Rattle.bt_lines.proofs.lemmas.Writer.{grows_both, grown_none}
-use Rattle.bt_lines.specs.model.Fault.{FaultValue, no_memory, read_failed}
+use Rattle.bt_lines.specs.model.Fault.{FaultValue, read_failed}
+use Rattle.bt_lines.specs.calls.Faults.{no_memory}
 use Rattle.bt_lines.specs.model.Lines.{TextLine, bytes_in}
 use Rattle.bt_lines.specs.calls.Output.{Output, Grows, block_size, FailsToAdd, Grown}
 use Rattle.bt_lines.specs.calls.Reader.{Hands, lines_given, lines_left, source_of}

@@ -1,8 +1,10 @@
 -- How far a reader of members has come when it stops at a fault.
 use Rattle.bt_lines.proofs.Std.{IfSome_then, ◌≡◌, ℕ, suc, ◌+◌, ◌-◌, ◌<◌, ◌≤◌, List, [], ◌∷◌, length, drop, Option, Some, None, Result, refl, sym, ap, ◌∙◌, subst, arith, ◌⊎◌, All, IfSome, option_map, inl, inr, All-nil}
 use Rattle.bt_lines.specs.declared.device.Source.{Ghosts as Source}
-use Rattle.bt_lines.specs.model.Fault.{FaultValue, no_memory}
-use Rattle.bt_lines.specs.model.Lines.{AreNumbered, TextLine, bytes_in, lines_from}
+use Rattle.bt_lines.specs.model.Fault.{FaultValue}
+use Rattle.bt_lines.specs.calls.Faults.{no_memory}
+use Rattle.bt_lines.specs.model.Lines.{TextLine, bytes_in, lines_from}
+use Rattle.bt_lines.specs.calls.Line.{AreNumbered}
 use Rattle.bt_lines.specs.calls.Output.{block_size}
 use Rattle.bt_lines.specs.calls.Reader.{IsKept, held, input_of, lines_given, lines_left, source_of, fault_kept as line_fault}
 use Rattle.bt_lines.specs.declared.fault.Input.{Input}

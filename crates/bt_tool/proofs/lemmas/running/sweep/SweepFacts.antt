@@ -4,7 +4,8 @@ use Rattle.bt_lines.specs.model.Lines.{TextLine, bytes_in}
 use Rattle.bt_bed.specs.model.Feature.{Feature, intervals_of}
 use Rattle.bt_bed.specs.model.BedLine.{fault_at_line}
 use Rattle.bt_bed.specs.model.Good.{Member, Good, items_in}
-use Rattle.bt_bed.specs.model.Order.{Order, IsTotal}
+use Rattle.bt_bed.specs.model.Order.{Order}
+use Rattle.bt_bed.specs.calls.Orders.{IsTotal, ArePlaced}
 use Rattle.bt_sweep.specs.model.Hits.{decides, decided, are_too_many, cut_behind, is_held, limited}
 use Rattle.bt_sweep.specs.calls.Sweeping.{leaves_some, Settles, AreDecided, TakenEach, has_room}
 use Rattle.bt_sweep.specs.declared.hits.hit_rule.HitRule.{HitRule}
@@ -17,7 +18,6 @@ use Rattle.bt_tool.proofs.lemmas.running.pair.PairNear.{AreNeeded, least_by, not
 use Rattle.bt_lines.specs.model.Fault.{FaultValue}
 use Rattle.bt_lines.specs.declared.fault.Input.TheVariants.{Second}
 use Rattle.bt_lines.specs.declared.fault.Kind.TheVariants.{TooManyHeld}
-use Rattle.bt_bed.specs.model.Sorted.{ArePlaced}
 use Rattle.bt_sweep.proofs.lemmas.definitions.HitLemmas.{cut_front, cut_here, cut_keeps, cut_next, cut_none, cut_on, few_decided, many_by, none_before, placed_back, front_placed}
 use Rattle.bt_tool.proofs.lemmas.running.pair.PairMet.{AreLimits}
 use Rattle.bt_bed.specs.calls.Reading.{members_from}

@@ -10,8 +10,9 @@ use Rattle.bt_bed.specs.calls.SortedReader.{are_in_order, fault_in}
 use Rattle.bt_bed.specs.model.Feature.{Feature, interval_of, intervals_of, last_of}
 use Rattle.bt_bed.specs.model.BedLine.{IsBedKind, fault_at_line}
 use Rattle.bt_bed.specs.model.Good.{Member, bed_format, locus_at, Format}
-use Rattle.bt_bed.specs.model.Sorted.{ArePlaced, IsUpTo, Locus, locus_of, falls_in, sorting_of}
-use Rattle.bt_bed.specs.model.Order.{IsTotal, Order}
+use Rattle.bt_bed.specs.model.Sorted.{Locus, locus_of, falls_in, sorting_of}
+use Rattle.bt_bed.specs.calls.Orders.{ArePlaced, IsUpTo, IsTotal}
+use Rattle.bt_bed.specs.model.Order.{Order}
 use Rattle.bt_bed.specs.calls.Reading.{ahead_in, first_from, state_behind, MemberReader, members_from}
 use Rattle.bt_bed.specs.calls.Records.{below, buffered_in, order_in, view_of, FillsRecords}
 use Rattle.bt_bed.specs.declared.read.batch.Batch.{Batch}
@@ -27,7 +28,8 @@ use Rattle.bt_tool.specs.inside.Pair.{item_ahead, IsKnown, JoinDef, Pair, Settle
 use Rattle.bt_tool.specs.inside.Feed.{HasTaken, ConsumesGiven, member_items, Passes, StopsAfter}
 use Rattle.bt_tool.proofs.lemmas.running.pair.PairNear.{first_then, line_then}
 use Rattle.bt_tool.proofs.lemmas.running.members.PassedLemmas.{last_up_to, is_filled, is_over, is_stopped, said_in_order}
-use Rattle.bt_lines.specs.model.Fault.{FaultValue, no_memory}
+use Rattle.bt_lines.specs.model.Fault.{FaultValue}
+use Rattle.bt_lines.specs.calls.Faults.{no_memory}
 use Rattle.bt_lines.specs.model.Lines.{TextLine}
 use Rattle.bt_lines.specs.calls.Names.{fault_value}
 use Rattle.bt_lines.proofs.lemmas.Writer.{grown_none}

@@ -2,7 +2,8 @@
 use Rattle.bt_lines.proofs.Std.{rules, ◌≡◌, ℕ, Option, None, Some, Err, List, ap, sym, subst, ◌∙◌, inl, inr, arith, ◌≢◌, MatchResult, Ok, Result, false≢true, option_map, ◌-◌, ◌^◌, ◌++◌, take, IfSome}
 use Rattle.bt_lines.specs.declared.device.Source.{Ghosts as Source}
 use Rattle.bt_lines.proofs.lemmas.reader.block.ReadsLemmas.{memory_no_read, some_is, unread_then}
-use Rattle.bt_lines.specs.model.Fault.{FaultValue, no_memory, read_failed, write_failed}
+use Rattle.bt_lines.specs.model.Fault.{FaultValue, read_failed}
+use Rattle.bt_lines.specs.calls.Faults.{no_memory, write_failed}
 use Rattle.bt_lines.specs.calls.Device.{begun}
 use Rattle.bt_lines.specs.calls.Names.{fault_value}
 use Rattle.bt_lines.specs.calls.Output.{Output}
@@ -15,14 +16,16 @@ use Rattle.bt_lines.specs.declared.fault.Kind.TheVariants.{ReadFailed}
 use Rattle.bt_lines.specs.declared.reader.line.Line.{Line}
 use Rattle.bt_lines.specs.declared.reader.line_reader.LineReader.{LineReader}
 use Rattle.bt_bed.specs.model.Good.{Format}
-use Rattle.bt_bed.specs.model.BedLine.{IsBedKind, is_genome_kind}
+use Rattle.bt_bed.specs.model.BedLine.{IsBedKind}
 use Rattle.bt_bed.specs.model.Order.{Order}
 use Rattle.bt_bed.specs.calls.Reading.{MemberReader, TellsOwnFailure}
 use Rattle.bt_bed.specs.declared.order.genome.Genome.{Genome as GenomeTable}
 use Rattle.bt_bed.specs.model.Genome.{Entry, genome_of}
-use Rattle.bt_lines.specs.model.Lines.{Handed, TextLine, line_feeds, text_lines}
-use Rattle.bt_bed.specs.calls.GenomeTable.{entries, EntryUnread, ReadsAll, ReadingStops, StopCause}
-use Rattle.bt_tool.specs.model.Report.{behaviour_of, OfBoth, Reads, chromosomes_of}
+use Rattle.bt_lines.specs.model.Lines.{Handed, TextLine, text_lines}
+use Rattle.bt_lines.specs.calls.Line.{line_feeds}
+use Rattle.bt_bed.specs.calls.GenomeTable.{entries, EntryUnread, ReadsAll, ReadingStops, StopCause, is_genome_kind}
+use Rattle.bt_tool.specs.model.Report.{behaviour_of, chromosomes_of}
+use Rattle.bt_tool.specs.calls.Inputs.{OfBoth, Reads}
 use Rattle.bt_tool.specs.calls.Run.{RunsAlone, RunsBy, AnswersNoRead, IsOwnFailure, ReadsServe, TellsNoRead, TellsOwnReads, KnowsChromosomes, LacksChromosomes}
 use Rattle.bt_tool.proofs.lemmas.running.feed.WritingLemmas.{behaves_alone}
 use Rattle.bt_tool.specs.inside.Feed.{FeedsUpTo, Flushes, IsKeptBelow, IsOwnFault, KeepsOwnFault}

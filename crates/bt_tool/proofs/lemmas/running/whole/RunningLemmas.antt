@@ -5,7 +5,8 @@ use Rattle.bt_lines.specs.declared.device.Source.{Ghosts as Source}
 use Rattle.bt_lines.proofs.lemmas.reader.block.ReadsLemmas.{some_is}
 use Rattle.bt_tool.proofs.lemmas.running.feed.FeedLemmas.{took_more_than}
 use Rattle.bt_lines.proofs.lemmas.Writer.{grows_both}
-use Rattle.bt_lines.specs.model.Fault.{FaultValue, write_failed, no_memory}
+use Rattle.bt_lines.specs.model.Fault.{FaultValue}
+use Rattle.bt_lines.specs.calls.Faults.{write_failed, no_memory}
 use Rattle.bt_lines.specs.model.Lines.{Handed, text_lines}
 use Rattle.bt_lines.specs.calls.Names.{fault_value}
 use Rattle.bt_lines.specs.calls.Output.{Output, IsPrefixOf, Grows, block_size}
@@ -14,16 +15,17 @@ use Rattle.bt_lines.specs.declared.fault.Input.{Input}
 use Rattle.bt_lines.specs.declared.fault.Input.TheVariants.{First, Second, Genome as FromGenome}
 use Rattle.bt_lines.specs.declared.fault.Place.{Place}
 use Rattle.bt_bed.specs.model.Genome.{Entry}
-use Rattle.bt_bed.specs.calls.GenomeTable.{entries}
+use Rattle.bt_bed.specs.calls.GenomeTable.{entries, is_genome_kind}
 use Rattle.bt_bed.specs.model.Good.{good_from}
-use Rattle.bt_bed.specs.model.BedLine.{is_genome_kind}
 use Rattle.bt_bed.specs.declared.order.genome.Genome.{Genome}
 use Rattle.bt_runs.specs.model.Depth.{settled_depths}
 use Rattle.bt_runs.specs.model.Gaps.{settled_gaps}
 use Rattle.bt_tool.specs.model.Written.{IsOneOf, Report}
 use Rattle.bt_tool.specs.calls.Run.{KnowsChromosomes, LacksChromosomes, ReadsChromosomes, IsFaultButWrite, IsOfInput, IsPutTo, IsWithin, ReadsNoFurther, TellsDevice, TellsInput, TellsInputIf, WritesBy, Runs, TellsOther, ShowsReport}
 use Rattle.bt_tool.specs.inside.Feed.{Flushes, FlushesAll, FlushFails, StaysFailed}
-use Rattle.bt_tool.specs.model.Report.{HandsUpTo, Inputs, OfBoth, behaviour_of, behaviour_on, chromosomes_of, report_of, report_on, ReportsAnswer, answer_of, report, texts_of}
+use Rattle.bt_tool.specs.model.Report.{Inputs, behaviour_of, behaviour_on, chromosomes_of, report_of, report_on, answer_of, report, texts_of}
+use Rattle.bt_tool.specs.calls.Inputs.{HandsUpTo, OfBoth}
+use Rattle.bt_tool.specs.calls.CommandLine.{ReportsAnswer}
 use Rattle.bt_tool.specs.declared.planning.plan_type.Command.{Command}
 use Rattle.bt_tool.proofs.lemmas.running.whole.OwnFailureLemmas.{WritesOutput}
 use Rattle.bt_tool.proofs.lemmas.running.feed.WritingLemmas.{near_as}

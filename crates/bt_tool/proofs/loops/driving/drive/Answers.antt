@@ -5,7 +5,8 @@ use Rattle.bt_lines.specs.declared.fault.Input.TheVariants.{First}
 use Rattle.bt_bed.specs.model.Feature.{Feature, intervals_of}
 use Rattle.bt_bed.specs.model.BedLine.{IsBedKind}
 use Rattle.bt_bed.specs.model.Good.{bed_format}
-use Rattle.bt_bed.specs.model.Sorted.{ArePlaced, sorting_of}
+use Rattle.bt_bed.specs.model.Sorted.{sorting_of}
+use Rattle.bt_bed.specs.calls.Orders.{ArePlaced}
 use Rattle.bt_bed.specs.calls.Records.{below, order_in, view_of}
 use Rattle.bt_tool.specs.inside.Feed.{AreInOrder, member_items}
 use Rattle.bt_tool.specs.model.Written.{Written}

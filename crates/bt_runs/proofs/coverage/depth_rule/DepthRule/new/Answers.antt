@@ -1,5 +1,5 @@
 use Rattle.bt_lines.proofs.Std.{refl}
-use Rattle.bt_runs.specs.model.Depth.{kept_records, known_place, unfinished}
+use Rattle.bt_runs.specs.calls.Covering.{kept_records, known_place, unfinished}
 use Rattle.bt_runs.proofs.coverage.depth_rule.DepthRule.new.Goals as goal
 
 pub returns-clause-stands : goal.returns-clause-stands

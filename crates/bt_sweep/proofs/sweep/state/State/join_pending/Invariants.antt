@@ -1,5 +1,5 @@
 use Rattle.bt_lines.proofs.Std.{◌≡◌, Some, None}
-use Rattle.bt_bed.specs.model.Order.{IsTotal}
+use Rattle.bt_bed.specs.calls.Orders.{IsTotal}
 use Rattle.bt_sweep.specs.inside.Joining.{AreDecidedOn, JoinsSo, LeavesOn, IsQuiet, line_in, pending_in}
 use Rattle.bt_sweep.proofs.sweep.state.State.join_pending.Given as goal
 
