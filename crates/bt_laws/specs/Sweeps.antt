@@ -9,7 +9,7 @@ use Rattle.bt_bed.specs.model.Good.{Good, Member, items_in}
 use Rattle.bt_bed.specs.model.Meeting.{Rule, join_report, written, Met}
 use Rattle.bt_bed.specs.model.Order.{Order, rank_order}
 use Rattle.bt_bed.specs.calls.Orders.{IsTotal, ArePlaced}
-use Rattle.bt_sweep.specs.model.Hits.{decided, is_held, limited, decides, held_for, hits}
+use Rattle.bt_sweep.specs.model.Hits.{decided, is_held, limited, decides, hits}
 use Rattle.bt_sweep.specs.model.Lines.{intersect, intersect_met, sweep_rule}
 use Rattle.bt_sweep.specs.calls.LineLaws.{subtract}
 use Rattle.bt_sweep.specs.declared.hits.hit_rule.HitRule.{HitRule}

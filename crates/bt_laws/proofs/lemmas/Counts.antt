@@ -1,5 +1,5 @@
 -- Sums, pairs and bases.
-use Rattle.bt_lines.proofs.Std.{common_steps, rules, ◌≡◌, ℕ, zero, suc, ◌+◌, ◌-◌, ◌*◌, ◌<◌, ◌≤◌, Bool, false, cond, List, [], ◌∷◌, map, filter, length, max, min, Option, Some, None, inl, inr, refl, sym, ap, ap₂, ◌∙◌, arith, eqb, ◌⊎◌, bytes_eq, flat_map, nat_lt, sum_by, or_parts, mul-suc, sum_by-append, sum_by-cons, ◌++◌, append_assoc, subst, IsPermutation, flat_map-append, map-append, IsPermutation-append_comm, IsPermutation-append_left, IsPermutation-append_right, IsPermutation-refl, IsPermutation-trans, flat_map-map, cases_Bool, false≢true}
+use Rattle.bt_lines.proofs.Std.{common_steps, rules, ◌≡◌, ℕ, zero, suc, ◌+◌, ◌-◌, ◌*◌, ◌<◌, ◌≤◌, Bool, false, cond, List, [], ◌∷◌, map, filter, max, min, Option, Some, None, inl, inr, refl, sym, ap, ap₂, ◌∙◌, arith, ◌⊎◌, bytes_eq, flat_map, sum_by, or_parts, mul-suc, sum_by-append, sum_by-cons, ◌++◌, append_assoc, subst, IsPermutation, flat_map-append, map-append, IsPermutation-append_comm, IsPermutation-append_left, IsPermutation-append_right, IsPermutation-refl, IsPermutation-trans, flat_map-map, cases_Bool, false≢true}
 use Rattle.bt_bed.specs.model.Feature.{Feature, interval_of, intervals_of, Interval, Span, span_of, spans_on, placed_on}
 use Rattle.bt_bed.specs.calls.Stretches.{IsCovered}
 use Rattle.bt_bed.specs.model.BedLine.{cut_to}
@@ -8,11 +8,11 @@ use Rattle.bt_bed.specs.model.Order.{is_among, Order}
 use Rattle.bt_bed.specs.calls.Orders.{AreDistinct}
 use Rattle.bt_bed.specs.declared.record.strand.Strand.{Strand}
 use Rattle.bt_bed.proofs.lemmas.parse.NameLemmas.{cases_name, name_eq, name_eq-sym}
-use Rattle.bt_runs.specs.model.Depth.{coverage, covers, depth_at, depth_of, depths_on, is_counted_by, Begun, Level, begun_after, begun_at, ended_after, ended_at, levels_from, levels_of, next_begun, next_ended}
+use Rattle.bt_runs.specs.model.Depth.{coverage, covers, depth_at, depth_of, depths_on, is_counted_by, Begun, Level, begun_after, ended_after, levels_from, levels_of, next_begun, next_ended}
 use Rattle.bt_runs.specs.calls.Complementing.{length_in}
 use Rattle.bt_runs.proofs.lemmas.order.FileOrder.{spans_on-append}
 use Rattle.bt_runs.proofs.lemmas.coverage.LevelLemmas.{levels_more}
-use Rattle.bt_laws.specs.Counts.{bases_below, depth_bases, depths_sum, IsMutual, HitPair, exchanged, pair_line, pairs_have_two_sides, pairs_of, with_sides_exchanged, PartBases, intersect_and_subtract_part}
+use Rattle.bt_laws.specs.Counts.{depth_bases, depths_sum, IsMutual, HitPair, exchanged, pair_line, pairs_have_two_sides, pairs_of, with_sides_exchanged, PartBases, intersect_and_subtract_part}
 use Rattle.bt_laws.specs.WholeRuns.{first_records, second_records, RunWrites, RunsWithoutFault}
 use Rattle.bt_laws.proofs.lemmas.pipes.PipeLaws.{depth_both, chroms_of, genomecov_whole, intersect_whole, well_there, cut_intersect_input, subtract_input}
 use Rattle.bt_lines.specs.model.Lines.{Handed, cut_fault, lines_handed}
@@ -28,7 +28,7 @@ use Rattle.bt_sweep.specs.declared.output.shape.Shape.TheVariants.{OrigBoth, Cut
 use Rattle.bt_sweep.proofs.lemmas.definitions.HitLemmas.{enough_of_nothing}
 use Rattle.bt_tool.specs.model.Report.{order_of, or_empty}
 use Rattle.bt_tool.specs.declared.planning.plan_type.Command.TheVariants.{Intersect, Subtract}
-use Rattle.bt_laws.proofs.lemmas.same.SameSweeps.{writes_lines, cut_none, like_from, met_faultless, met_none, other_input, sweeps_from, other_shape, hit_back, hit_to}
+use Rattle.bt_laws.proofs.lemmas.same.SameSweeps.{writes_lines, cut_none, like_from, met_faultless, other_input, sweeps_from, other_shape, hit_back, hit_to}
 use Rattle.bt_runs.specs.model.Merged.{is_covered}
 use Rattle.bt_runs.proofs.lemmas.merge.Bridging.{covered_left, covered_parts, covered_right, is_covered-Decides}
 use Rattle.bt_sweep.proofs.lemmas.definitions.PieceLemmas.{are_pieces}
@@ -70,25 +70,18 @@ just_one v p = grind arith
 sum_one : (l : Level) → sum_by weight (l ∷ []) ≡ weight l
 sum_one l = sum_by-cons weight l [] ∙ omega arith
 
-goes_by : (same : Bool) (b : Begun) (v p t : ℕ) → eqb b.value v ≡ same → b.start ≤ p
-    → sum_by weight (cond same [] (ended_at (Some b) p)) + (pending (cond same (Some b) (begun_at p (Some v))) (p + 1) + t) ≡ pending (Some b) p + (v + t)
-goes_by same b v p t e low = grind (arith, one_longer)
-
 step_by : (g : Option Begun) (v : Option ℕ) (p t : ℕ) → IsLow g p → sum_by weight (next_ended p v g) + (pending (next_begun p v g) (p + 1) + t) ≡ pending g p + (value_in v + t)
 step_by None None p t low = refl
 step_by None (Some v) p t low = let next = just_one v p in omega (arith, next)
 step_by (Some b) None p t low = let done = sum_one (record { start = b.start; stop = p; value = b.value }) in omega (arith, done)
-step_by (Some b) (Some v) p t low = goes_by (eqb b.value v) b v p t refl low
-
-low_next : (g : Option Begun) (v : Option ℕ) (p : ℕ) → IsLow g p → IsLow (next_begun p v g) (p + 1)
-low_next g v p low = grind arith
+step_by (Some b) (Some v) p t low = grind (arith, one_longer)
 
 levels_sum : (value : ℕ → Option ℕ) (n p : ℕ) (g : Option Begun) → IsLow g p → sum_by weight (levels_from value p n g) ≡ pending g p + total (λ q. value_in (value q)) p n
 unfolding total ended_after begun_after
 levels_sum value zero p g low = grind arith
 levels_sum value (suc n) p g low =
     ap (sum_by weight) (levels_more value p n g) ∙ sum_by-append weight (next_ended p (value p) g) (levels_from value (p + 1) n (next_begun p (value p) g))
-    ∙ ap (λ k. sum_by weight (next_ended p (value p) g) + k) (levels_sum value n (p + 1) (next_begun p (value p) g) (low_next g (value p) p low))
+    ∙ ap (λ k. sum_by weight (next_ended p (value p) g) + k) (levels_sum value n (p + 1) (next_begun p (value p) g) (grind arith))
     ∙ step_by g (value p) p (total (λ q. value_in (value q)) (p + 1) n) low
 
 -- ---- depths
@@ -102,18 +95,12 @@ unfolding total
 total_both f h zero p = refl
 total_both f h (suc n) p = let more = total_both f h n (p + 1) in omega (arith, more)
 
-shown_by : (b : Bool) (d : ℕ) → nat_lt 0 d ≡ b → value_in (cond b (Some d) None) ≡ d
-shown_by b d e = grind arith
-
 depth_value : (spans : List Span) (q : ℕ) → value_in (depth_of false spans q) ≡ depth_at spans q
 unfolding depth_of
-depth_value spans q = shown_by (nat_lt 0 (depth_at spans q)) (depth_at spans q) refl
+depth_value spans q = grind arith
 
 abbrev one_if : Bool → ℕ
 one_if b = cond b 1 0
-
-one_depth : (s : Span) (q : ℕ) → depth_at (s ∷ []) q ≡ one_if (covers q s)
-one_depth s q = grind arith
 
 span_step : (s : Span) (p n t : ℕ) → t ≡ min s.stop ((p + 1) + n) - max s.start (p + 1) → one_if (covers p s) + t ≡ min s.stop (p + suc n) - max s.start p
 span_step s p n t e = grind arith
@@ -121,7 +108,7 @@ span_step s p n t e = grind arith
 span_sum : (s : Span) (n p : ℕ) → total (λ q. depth_at (s ∷ []) q) p n ≡ min s.stop (p + n) - max s.start p
 unfolding total
 span_sum s zero p = omega arith
-span_sum s (suc n) p = ap (λ k. k + total (λ q. depth_at (s ∷ []) q) (p + 1) n) (one_depth s p) ∙ span_step s p n (total (λ q. depth_at (s ∷ []) q) (p + 1) n) (span_sum s n (p + 1))
+span_sum s (suc n) p = ap (λ k. k + total (λ q. depth_at (s ∷ []) q) (p + 1) n) (grind arith) ∙ span_step s p n (total (λ q. depth_at (s ∷ []) q) (p + 1) n) (span_sum s n (p + 1))
 
 abbrev below : ℕ → Span → ℕ
 below size s = min s.stop size - s.start
@@ -170,30 +157,20 @@ module _ (strand : Option Strand) (records : List Feature) where
   entries_sum [] distinct = sym (no_entries (intervals_of used))
   entries_sum (entry ∷ entries) distinct = grind (arith, (entries_sum entries distinct.1), level_sum, one_entry, common_steps)
 
-features_sum : (entries : List Entry) (rs : List Feature) → sum_by (bases_in entries) (intervals_of rs) ≡ sum_by (bases_below entries) rs
-features_sum entries rs = grind (arith, common_steps)
-
 pub sum_depths : depths_sum
 unfolding coverage
 sum_depths strand inputs entries well =
-    let records = first_records (Some entries) inputs in
     let known = chroms_of inputs.genome entries well.genome in (
       record { output = genomecov_whole false strand inputs (Some entries) well; faultless = well.faultless },
-      entries_sum strand records entries known.1 ∙ features_sum entries (filter (λ r. is_counted_by strand r.strand) records),
+      entries_sum strand (first_records (Some entries) inputs) entries known.1 ∙ (grind (arith, common_steps)),
     )
 
 -- Pairs of records that hit one another, from both sides.
 
 -- ---- a rule that asks the same of both
 
-min_swap : (a b : ℕ) → min a b ≡ min b a
-min_swap a b = omega arith
-
-max_swap : (a b : ℕ) → max a b ≡ max b a
-max_swap a b = omega arith
-
 shared_swap : (a b : Feature) → shared_bases a b ≡ shared_bases b a
-shared_swap a b = ap₂ (λ t n. cond t n 0) (name_eq-sym a.chrom b.chrom) (ap₂ (λ x y. x - y) (min_swap a.stop b.stop) (max_swap a.start b.start))
+shared_swap a b = ap₂ (λ t n. cond t n 0) (name_eq-sym a.chrom b.chrom) (ap₂ (λ x y. x - y) (omega arith) (omega arith))
 
 enough_swap : (rule : HitRule) (bases : ℕ) (a b : Feature) → IsMutual rule → is_enough rule bases a b ≡ is_enough rule bases b a
 unfolding is_enough
@@ -229,9 +206,6 @@ module _ (rule : HitRule) (even : IsMutual rule) where
   unfolding one_pair
   one_more a as_read b = grind arith
 
-  all_more : (a : Feature) (as_read bs : List Feature) → flat_map (λ b. turned_of b (a ∷ as_read)) bs ≡ flat_map (λ b. one_pair a b ++ turned_of b as_read) bs
-  all_more a as_read bs = grind (arith, one_more)
-
   of_one : (a : Feature) (bs : List Feature) → map with_sides_exchanged (map (λ (b : Feature). record { left = a; right = b }) (hits_among rule a bs)) ≡ flat_map (one_pair a) bs
   unfolding one_pair
   of_one a [] = refl
@@ -248,7 +222,7 @@ module _ (rule : HitRule) (even : IsMutual rule) where
       let front : map with_sides_exchanged (pairs_of rule (a ∷ as_read) bs) ≡ flat_map (one_pair a) bs ++ map with_sides_exchanged (pairs_of rule as_read bs) =
       map-append with_sides_exchanged (map (λ (b : Feature). record { left = a; right = b }) (hits_among rule a bs)) (pairs_of rule as_read bs) ∙ ap (λ l. l ++ map with_sides_exchanged (pairs_of rule as_read bs)) (of_one a bs) in
       subst (λ l. IsPermutation l (pairs_of rule bs (a ∷ as_read))) (sym front)
-      (subst (IsPermutation (flat_map (one_pair a) bs ++ map with_sides_exchanged (pairs_of rule as_read bs))) (sym (all_more a as_read bs))
+      (subst (IsPermutation (flat_map (one_pair a) bs ++ map with_sides_exchanged (pairs_of rule as_read bs))) (sym (grind (arith, one_more)))
       (IsPermutation-trans (flat_map (one_pair a) bs ++ map with_sides_exchanged (pairs_of rule as_read bs)) (flat_map (one_pair a) bs ++ pairs_of rule bs as_read) (flat_map (λ b. one_pair a b ++ turned_of b as_read) bs)
       (IsPermutation-append_right (flat_map (one_pair a) bs) (map with_sides_exchanged (pairs_of rule as_read bs)) (pairs_of rule bs as_read) rest) (both_maps (one_pair a) (λ b. turned_of b as_read) bs)))
 
@@ -263,9 +237,7 @@ pair_lines rule (a ∷ first) second = grind (arith, (pair_lines rule first seco
 other_second : (order : Order) (handed : Handed) → (bed_good First order handed).fault ≡ None → (items_in (bed_good Second order handed) ≡ items_in (bed_good First order handed)) × ((bed_good Second order handed).fault ≡ None)
 other_second order handed e =
     let lines = lines_handed handed in
-    let format = bed_format (sorting_of order) in
-    let parts = cut_none (good format First lines).fault (cut_fault First handed) e in
-    grind (arith, (like_from (sorting_of order) First Second None lines parts.0))
+    grind (arith, (like_from (sorting_of order) First Second None lines (cut_none (good (bed_format (sorting_of order)) First lines).fault (cut_fault First handed) e).0))
 
 pub two_sides : pairs_have_two_sides
 two_sides rule held inputs chromosomes even well =
@@ -279,7 +251,7 @@ two_sides rule held inputs chromosomes even well =
     ap₂ (intersect OrigBoth rule) one.0 two.0 ∙ pair_lines rule seconds firsts in (
       subst (RunWrites (Intersect OrigBoth rule held) inputs) (pair_lines rule firsts seconds) (writes_lines OrigBoth rule held inputs chromosomes well),
       sweeps_from (Intersect OrigBoth rule None) (exchanged inputs) chromosomes (flat_map pair_line (pairs_of rule seconds firsts)) well.genome
-          (met_none order OrigBoth rule (bed_good First order (or_empty inputs.second)) (bed_good Second order inputs.first) one.1 two.1)
+          (grind arith)
           (λ there. intersect_whole OrigBoth rule None (exchanged inputs) chromosomes there ∙ lines),
       turned_pairs rule even firsts seconds,
     )

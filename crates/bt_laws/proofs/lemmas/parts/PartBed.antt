@@ -7,7 +7,7 @@ use Rattle.bt_lines.specs.declared.fault.Input.{Input}
 use Rattle.bt_lines.specs.declared.fault.Kind.{Kind}
 use Rattle.bt_bed.specs.model.Feature.{Feature}
 use Rattle.bt_bed.specs.model.BedLine.{record_of}
-use Rattle.bt_bed.specs.model.Good.{Good, good, good_from, good_with, items_in, bed_format, line_says, said_after}
+use Rattle.bt_bed.specs.model.Good.{Good, good, good_from, good_with, items_in, bed_format, line_says}
 use Rattle.bt_bed.specs.model.Sorted.{Locus, sorting_of}
 use Rattle.bt_bed.specs.model.Order.{Order}
 use Rattle.bt_bed.specs.calls.Orders.{IsTotal}
@@ -35,16 +35,11 @@ module _ (order : Order) (total : IsTotal order) where
   Leading name records = AllByRecursion (λ s. IsTrue (order.knows name) → IsTrue (order.knows s.chrom) → order.compare name s.chrom ≡ Less) records
 
   module _ (input : Input) (last : Locus) (was : IsTrue (order.knows last.chrom)) where
-    fresh_with : (n : ℕ) (said : Result (Option Feature) Kind) (rest : Option Locus → Good Feature) → Leading last.chrom (said_record said) → rest (Some last) ≡ rest None
-        → good_with (bed_format (sorting_of order)) input n (Some last) (said_after (sorting_of order) (Some last) said) rest
-        ≡ good_with (bed_format (sorting_of order)) input n None (said_after (sorting_of order) None said) rest
-    fresh_with n said rest leads same = search rules
-
     -- records on later chromosomes are as good as without those before
     pub fresh_from : (ms : List TextLine) → Leading last.chrom (records_on ms) → good_from (bed_format (sorting_of order)) input (Some last) ms ≡ good_from (bed_format (sorting_of order)) input None ms
     unfolding good_from line_says
     fresh_from [] leads = refl
-    fresh_from (m ∷ ms) leads = grind (arith, (fresh_from ms (all_back _ (said_record (record_of m.text)) (records_on ms) leads)), fresh_with)
+    fresh_from (m ∷ ms) leads = grind (arith, (fresh_from ms (all_back _ (said_record (record_of m.text)) (records_on ms) leads)), rules)
 
   -- the members are among the records that the lines say, and their chromosomes are known
   module _ (input : Input) (Q : Feature → Type 0) where

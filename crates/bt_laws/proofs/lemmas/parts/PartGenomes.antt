@@ -28,16 +28,10 @@ use Rattle.bt_seq.specs.model.Masked.{items_if_last, names_behind as sequences_b
 abbrev shifted : ℕ → Option ℕ → Option ℕ
 shifted k rank = option_map (λ r. k + r) rank
 
-shift_none : (rank : Option ℕ) → shifted 0 rank ≡ rank
-shift_none rank = grind arith
-
-pub or_assoc : (a b c : Bool) → (a || (b || c)) ≡ ((a || b) || c)
-or_assoc a b c = grind arith
-
 -- whether a name is among two lists of names
 pub among_append : (xs ys : List (List ℕ)) (name : List ℕ) → is_among (xs ++ ys) name ≡ (is_among xs name || is_among ys name)
 among_append [] ys name = refl
-among_append (x ∷ xs) ys name = ap (λ b. bytes_eq x name || b) (among_append xs ys name) ∙ or_assoc (bytes_eq x name) (is_among xs name) (is_among ys name)
+among_append (x ∷ xs) ys name = ap (λ b. bytes_eq x name || b) (among_append xs ys name) ∙ (grind arith)
 
 rank_none : (xs : List (List ℕ)) (name : List ℕ) → is_among xs name ≡ false → rank_of xs name ≡ None
 rank_none xs name e = none_by (rank_of xs name) (among_ranked xs name ∙ e)
@@ -48,7 +42,7 @@ rank_none xs name e = none_by (rank_of xs name) (among_ranked xs name ∙ e)
 
 -- the rank of a name that isn't among the first names
 pub rank_behind : (xs ys : List (List ℕ)) (name : List ℕ) → is_among xs name ≡ false → rank_of (xs ++ ys) name ≡ shifted (length xs) (rank_of ys name)
-rank_behind [] ys name e = sym (shift_none (rank_of ys name))
+rank_behind [] ys name e = sym (grind arith)
 rank_behind (x ∷ xs) ys name e = grind (arith, (rank_behind xs ys name (or_parts (bytes_eq x name) (is_among xs name) e).1))
 
 -- of one that isn't among the later ones
@@ -209,22 +203,12 @@ abbrev pub IsLost : Names → List Feature → List Feature → Type 0
 IsLost names ones [] = ⊤
 IsLost names ones (r ∷ twos) = leave (Some names) None (ones ++ r ∷ []) ≡ None
 
-lost_tags : (names : Names) (ones twos : List Feature) → IsLost names ones twos → tags chrom_of (leave (Some names) None ones) (last_tagged None ones) twos ≡ tag_items None twos
-lost_tags names ones twos lost = grind (arith, leave_append, none_tags)
-
 pub tags_first : (names : Names) (ones twos : List Feature) → IsLost names ones twos → tags_of names (ones ++ twos) ≡ tags_of names ones ++ tag_items None twos
-tags_first names ones twos lost = tags_append (Some names) None ones twos ∙ ap (λ ts. tags_of names ones ++ ts) (lost_tags names ones twos lost)
+tags_first names ones twos lost = tags_append (Some names) None ones twos ∙ ap (λ ts. tags_of names ones ++ ts) (grind (arith, leave_append, none_tags))
 
 -- the later records mask no sequence of the first part
 pub own_first : (names : Names) (ones twos : List Feature) → IsLost names ones twos → own_records names (ones ++ twos) ≡ own_records names ones
 own_first names ones twos lost = grind (arith, own_tagged, tags_first, flat_map-append, none_own, append-nil)
-
-pub or_true : (b : Bool) → (b || true) ≡ true
-or_true b = grind arith
-
--- and the first of them decides each of its lines
-pub any_first : (bases : ℕ) (names : Names) (ones : List Feature) (r : Feature) (rs : List Feature) → IsLost names ones (r ∷ rs) → list_any (tag_decides bases) (tags_of names (ones ++ r ∷ rs)) ≡ true
-any_first bases names ones r rs lost = grind (arith, tags_first, list_any-append)
 
 -- ---- after more names
 
@@ -302,7 +286,7 @@ module _ (names rest : Names) (ones : List Feature) (kept : leave (Some names) N
   -- whether all belong to a sequence
   pub both_owned : (more : Names) (twos : List Feature) → IsLost names ones twos → is_some (leave (Some (names ++ more)) None (ones ++ twos)) ≡ is_some (leave (Some more) None twos)
   both_owned more [] lost = ap (λ rs. is_some (leave (Some (names ++ more)) None rs)) (append-nil ones) ∙ ap is_some (stays_from more rest names None ones kept).leaves
-  both_owned more (r ∷ rs) lost = ap is_some (later_leave more r rs lost)
+  both_owned more (r ∷ rs) lost = ap is_some (grind (arith, (stays_from more rest names None ones kept), next_enters, leave_append))
 
   module _ (n : List ℕ) (ns : Names) (twos : List Feature) (lost : IsLost names ones twos) where
     tags_second : tags_of (names ++ n ∷ ns) (ones ++ twos) ≡ tags_of (names ++ n ∷ ns) ones ++ tags_of (n ∷ ns) twos
@@ -369,9 +353,6 @@ lost_fewer names more ones twos lost = grind (arith, left_fewer)
 pub none_behind : (names : Names) (ones more : List Feature) → leave (Some names) None ones ≡ None → leave (Some names) None (ones ++ more) ≡ None
 none_behind names ones more e = grind (arith, leave_append, none_leaves)
 
-pub lost_behind : (names : Names) (ones more : List Feature) → leave (Some names) None ones ≡ None → IsLost names ones more
-lost_behind names ones more e = grind (arith, none_behind)
-
 -- a record that belongs to none decides each line
 any_none : (bases : ℕ) (left : Names) (last : Option (List ℕ)) (rs : List Feature) → leave (Some left) last rs ≡ None → list_any (tag_decides bases) (tags chrom_of (Some left) last rs) ≡ true
 any_none bases left last [] e = cc
@@ -426,15 +407,12 @@ spans_second name ones twos e = spans_on-append name ones twos ∙ ap (λ l. l +
 
 pub has_append : (name : List ℕ) (xs ys : List Interval) → has_records name (xs ++ ys) ≡ (has_records name xs || has_records name ys)
 has_append name [] ys = refl
-has_append name (x ∷ xs) ys = ap (λ b. bytes_eq x.chrom name || b) (has_append name xs ys) ∙ or_assoc (bytes_eq x.chrom name) (has_records name xs) (has_records name ys)
+has_append name (x ∷ xs) ys = ap (λ b. bytes_eq x.chrom name || b) (has_append name xs ys) ∙ (grind arith)
 
 module _ (order : Order) (total : IsTotal order) where
-  apart_names : (a b : List ℕ) → IsTrue (order.knows a) → order.compare a b ≡ Less → bytes_eq a b ≡ false
-  apart_names a b known less = search rules
-
   earlier_away : (ones twos : List Feature) → ArePlaced order (intervals_of ones) → Earlier order total ones twos → AllByRecursion (λ r. AllByRecursion (λ s. bytes_eq r.chrom s.chrom ≡ false) (intervals_of twos)) (intervals_of ones)
   earlier_away [] twos placed early = tt
-  earlier_away (r ∷ ones) twos placed early = grind (arith, (earlier_away ones twos placed.2 early.1), all_map, all_so, apart_names)
+  earlier_away (r ∷ ones) twos placed early = grind (arith, (earlier_away ones twos placed.2 early.1), all_map, all_so, rules)
 
   pub records_away : (ones twos : List Feature) → ArePlaced order (intervals_of ones) → Earlier order total ones twos → Away (intervals_of ones) (intervals_of twos)
   records_away ones twos placed early = away_by (intervals_of ones) (intervals_of twos) (earlier_away ones twos placed early)
@@ -450,7 +428,7 @@ module _ (order : Order) (total : IsTotal order) where
 
   pub names_apart : (ones twos : List Feature) → AllByRecursion (λ r. IsTrue (order.knows r.chrom)) ones → Earlier order total ones twos → AllByRecursion (λ a. AllByRecursion (λ b. bytes_eq a.chrom b.chrom ≡ false) twos) ones
   names_apart [] twos known early = tt
-  names_apart (a ∷ ones) twos known early = (all_so _ _ twos (λ b less. apart_names a.chrom b.chrom known.0 less) early.0, names_apart ones twos known.1 early.1)
+  names_apart (a ∷ ones) twos known early = (all_so _ _ twos (λ b less. search rules) early.0, names_apart ones twos known.1 early.1)
 
   pub names_behind : (ones twos : List Feature) → AllByRecursion (λ r. IsTrue (order.knows r.chrom)) ones → Earlier order total ones twos → AllByRecursion (λ a. AllByRecursion (λ b. bytes_eq a.chrom b.chrom ≡ false) ones) twos
   names_behind ones twos known early =

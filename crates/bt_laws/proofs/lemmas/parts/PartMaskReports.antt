@@ -1,5 +1,5 @@
 -- The reports of maskfasta on two parts, and on both.
-use Rattle.bt_lines.proofs.Std.{arith, ◌≡◌, ℕ, Bool, true, false, List, [], ◌∷◌, ◌++◌, map, Option, Some, None, refl, sym, ap, ap₂, ◌∙◌, subst, ◌||◌, ◌⊎◌, append-nil, inl, inr, IsTrue, flat_map, is_some, is_none, option_map, AllByRecursion, list_all, list_any, flat_map-append}
+use Rattle.bt_lines.proofs.Std.{arith, ◌≡◌, ℕ, Bool, true, false, List, [], ◌∷◌, ◌++◌, map, Option, Some, None, refl, sym, ap, ap₂, ◌∙◌, subst, ◌||◌, ◌⊎◌, append-nil, inl, inr, IsTrue, flat_map, is_some, is_none, option_map, AllByRecursion, list_all, list_any, flat_map-append, list_any-append}
 use Rattle.bt_laws.proofs.lemmas.parts.PartLines.{none_like}
 use Rattle.bt_seq.proofs.lemmas.mask.steps.LineStepLemmas.{some_list}
 use Rattle.bt_lines.specs.model.Fault.{FaultValue}
@@ -11,13 +11,13 @@ use Rattle.bt_bed.specs.model.Meeting.{Rule, written}
 use Rattle.bt_seq.proofs.lemmas.definitions.KnowsLemmas.{leave, leave_all}
 use Rattle.bt_seq.proofs.lemmas.definitions.MaskPrefixLemmas.{none_leaves, decided_by_tags, unnamed_own}
 use Rattle.bt_seq.proofs.lemmas.Sam.{last_from, tag_decides, tags_of}
-use Rattle.bt_seq.specs.model.Masked.{masked_line, names_of, decided, is_unnamed, mask_rule, SequenceLine, sequence_format, bases_up_to, owned}
+use Rattle.bt_seq.specs.model.Masked.{masked_line, names_of, decided, is_unnamed, mask_rule, SequenceLine, sequence_format, bases_up_to}
 use Rattle.bt_seq.specs.declared.mask.mask_how.MaskHow.{MaskHow}
 use Rattle.bt_laws.specs.Parts.{BelongsToNone, MasksNone, begins_sequence, sequence_names, StandsBefore, said_records, Texts}
 use Rattle.bt_tool.specs.model.Written.{Report}
 use Rattle.bt_laws.proofs.lemmas.parts.PartSequences.{BeginsElsewhere, calm_joint, fresh_joint, sound_from, among_from, faulty_same, first_front, AreBothBy, fasta_both, line_after, names_begin, names_both, names_grown, second_named, second_sound, unnamed_from}
 use Rattle.bt_laws.proofs.lemmas.parts.PartMasked.{IsSound, lines_both, mask_good, report_sound, sound_output, sound_report, line_second, lines_first, told_lost}
-use Rattle.bt_laws.proofs.lemmas.parts.PartGenomes.{AreOff, IsLost, apart_next, both_owned, leave_append, lost_more, lost_off, any_behind, any_first, any_lost, any_second, later_leave, lost_behind, lost_fewer, none_behind}
+use Rattle.bt_laws.proofs.lemmas.parts.PartGenomes.{AreOff, IsLost, apart_next, both_owned, leave_append, lost_more, lost_off, any_behind, any_lost, any_second, later_leave, none_behind, left_fewer, tags_first}
 use Rattle.bt_laws.proofs.lemmas.parts.PartReports.{Adds, Stops}
 use Rattle.bt_lines.specs.declared.fault.Kind.TheVariants.{NoSequence}
 use Rattle.bt_bed.proofs.lemmas.Definitions.{all_written, met_lines, written_at, written_past}
@@ -85,7 +85,7 @@ module _ (how : MaskHow) (full : Bool) where
       records_both : (block_records (one.second ++ two.second) ≡ block_records one.second ++ block_records two.second) × ((blocks_of (one.second ++ two.second)).fault ≡ None)
       records_both =
           let joint = fresh_joint Second one.second two.second are.second first.records (subst (BeginsElsewhere (last_from None (block_records one.second))) records_two (elsewhere (block_records two.second) lost)) in
-          (joint.0, none_like (blocks_of two.second).fault (blocks_of (one.second ++ two.second)).fault (sym joint.1) second.records)
+          (joint.0, grind arith)
 
       pub whole_sound : IsSound (fasta_of (one.first ++ two.first)) (blocks_of (one.second ++ two.second))
       whole_sound = grind (arith, lines_of_both, records_both, names_of_both, both_owned)
@@ -231,22 +231,16 @@ module _ (how : MaskHow) (full : Bool) where
     abbrev both : Texts
     both = joined_two how full one two
 
-    sound_two : (F two.first).fault ≡ None
-    sound_two = second_sound full First one.first two.first are.first are.begins
-
     named_two : AllByRecursion (λ line. is_unnamed line.names ≡ false) (items_in (F two.first))
     named_two = second_named full First one.first two.first are.first are.begins
 
     ones_away : AreOff (N two.first) (R one.second)
     ones_away =
-        subst (λ names. AreOff names (R one.second)) (sym (names_grown full First two.first sound_two))
+        subst (λ names. AreOff names (R one.second)) (sym (names_grown full First two.first (second_sound full First one.first two.first are.first are.begins)))
         (among_from Second _ None (text_lines one.second) off_two)
 
     lost_on : (F one.first).fault ≡ None → (twos : List Feature) → AreOff (sequence_names full one.first) twos → IsLost (N one.first) (R one.second) twos
     lost_on e twos off = lost_off (N one.first) (R one.second) twos (subst (λ names. AreOff names twos) (sym (names_grown full First one.first e)) off)
-
-    twos_gone : (F one.first).fault ≡ None → IsLost (N one.first) (R one.second) (R two.second)
-    twos_gone e = lost_on e (R two.second) (among_from Second _ None (text_lines two.second) off_one)
 
     -- ---- the first part lacks a sequence
 
@@ -269,7 +263,7 @@ module _ (how : MaskHow) (full : Bool) where
                 ∙ ap₂ (λ records lines. flat_map (masked_line how records) lines) more.1 (lines_of_both how full one two are lacks.lines).0
                 ∙ flat_map-append (masked_line how (R one.second ++ more.0)) (items_in (F one.first)) later
                 ∙ ap (λ l. l ++ flat_map (masked_line how (R one.second ++ more.0)) later)
-                (lines_first how (N one.first) (R one.second) more.0 (items_in (F one.first)) (lost_behind (N one.first) (R one.second) more.0 lacks.lost) (names_begin full First (text_lines one.first))
+                (lines_first how (N one.first) (R one.second) more.0 (items_in (F one.first)) (grind (arith, none_behind)) (names_begin full First (text_lines one.first))
                 ∙ sym (lacks_output one lacks)),
           )
 
@@ -318,7 +312,7 @@ module _ (how : MaskHow) (full : Bool) where
 
       module _ (records : (B one.second).fault ≡ None) where
         lost : IsLost (N one.first) (R one.second) (R two.second)
-        lost = twos_gone lines
+        lost = lost_on lines (R two.second) (among_from Second _ None (text_lines two.second) off_one)
 
         others_begin : (twos : List Feature) → IsLost (N one.first) (R one.second) twos → BeginsElsewhere (last_from None (R one.second)) twos
         others_begin [] gone = tt
@@ -374,7 +368,7 @@ module _ (how : MaskHow) (full : Bool) where
             ∙ sym (met_lines (rule_on two) (items_in (F two.first)) (F two.first).fault))
           where
             each : (line : SequenceLine) → (more : List (List ℕ)) × (N one.first ≡ line.names ++ more) → W.decided line ≡ true
-            each line begins = grind (arith, joint, decided_by_tags, any_first, lost_fewer, lost)
+            each line begins = grind (arith, joint, decided_by_tags, tags_first, list_any-append, left_fewer, lost)
 
             named : (names : List (List ℕ)) (n : List ℕ) (ns : List (List ℕ)) → is_unnamed (names ++ n ∷ ns) ≡ false
             named [] n ns = refl

@@ -45,14 +45,10 @@ module _ (how : MaskHow) where
   both_none : (fault other : Option FaultValue) → option_or fault (or_else other None) ≡ None → (fault ≡ None) × (other ≡ None)
   both_none fault other e = grind arith
 
-  some_by : (names : List (List ℕ)) (lines : List SequenceLine) (fault : Option FaultValue) (members : List (Member Feature)) (f : FaultValue) (b : Bool) → list_all (rule_of names members (Some f)).decided lines ≡ b
-      → (join_report (rule_of names members (Some f)) lines fault).fault ≡ None → ⊥
-  some_by names lines fault members f b e none = grind arith
-
   sound_by : (names : List (List ℕ)) (lines : List SequenceLine) (fault : Option FaultValue) (members : List (Member Feature)) (second : Option FaultValue)
       → (join_report (rule_of names members second) lines fault).fault ≡ None → (fault ≡ None) × (second ≡ None) × (no_sequence names members ≡ None)
   sound_by names lines fault members None e = grind (arith, (both_none fault (no_sequence names members) (sym (met_fault_all (rule_of names members None) lines fault (all_decided names members lines)) ∙ e)))
-  sound_by names lines fault members (Some f) e = absurd (some_by names lines fault members f (list_all (rule_of names members (Some f)).decided lines) refl e)
+  sound_by names lines fault members (Some f) e = absurd (grind arith)
 
   none_by : (names : List (List ℕ)) (lines : List SequenceLine) (fault : Option FaultValue) (members : List (Member Feature)) (second : Option FaultValue)
       → fault ≡ None → second ≡ None → no_sequence names members ≡ None → (join_report (rule_of names members second) lines fault).fault ≡ None
@@ -121,11 +117,6 @@ module _ (how : MaskHow) (first : Good SequenceLine) (second : Good Feature) whe
 -- ---- masked lines of both parts
 
 module _ (how : MaskHow) where
-  -- of the first part
-  pub line_first : (names : List (List ℕ)) (ones twos : List Feature) (line : SequenceLine) → IsLost names ones twos → (more : List (List ℕ)) × (names ≡ line.names ++ more)
-      → masked_line how (ones ++ twos) line ≡ masked_line how ones line
-  line_first names ones twos line lost begins = grind (arith, own_first, lost_fewer)
-
   -- of the second
   pub line_second : (names rest : List (List ℕ)) (ones twos : List Feature) → leave (Some names) None ones ≡ Some rest → IsLost names ones twos → (line : SequenceLine) → is_unnamed line.names ≡ false
       → masked_line how (ones ++ twos) (line_after names line) ≡ masked_line how twos line
@@ -134,7 +125,7 @@ module _ (how : MaskHow) where
   -- the lines of the first part
   pub lines_first : (names : List (List ℕ)) (ones twos : List Feature) (ls : List SequenceLine) → IsLost names ones twos → AllByRecursion (λ line. (more : List (List ℕ)) × (names ≡ line.names ++ more)) ls
       → flat_map (masked_line how (ones ++ twos)) ls ≡ flat_map (masked_line how ones) ls
-  lines_first names ones twos ls lost begins = flat_map_same _ _ ls (all_so _ _ ls (λ line b. line_first names ones twos line lost b) begins)
+  lines_first names ones twos ls lost begins = flat_map_same _ _ ls (all_so _ _ ls (λ line b. grind (arith, own_first, lost_fewer)) begins)
 
   -- the lines of both parts
   pub lines_both : (names rest : List (List ℕ)) (ones twos : List Feature) (ls ms : List SequenceLine) → leave (Some names) None ones ≡ Some rest → IsLost names ones twos
@@ -143,4 +134,4 @@ module _ (how : MaskHow) where
   lines_both names rest ones twos ls ms kept lost begins named =
       flat_map-append (masked_line how (ones ++ twos)) ls (map (line_after names) ms)
       ∙ ap₂ (λ a b. a ++ b) (lines_first names ones twos ls lost begins)
-      (flat_map-map (masked_line how (ones ++ twos)) (line_after names) ms ∙ flat_map_same _ _ ms (all_so _ _ ms (λ line n. line_second names rest ones twos kept lost line n) named))
+      (flat_map-map (masked_line how (ones ++ twos)) (line_after names) ms ∙ flat_map_same _ _ ms (all_so _ _ ms (λ line n. grind (arith, own_second)) named))

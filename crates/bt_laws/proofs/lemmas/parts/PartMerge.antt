@@ -1,6 +1,6 @@
 -- Merged runs of records of two parts, and those of each strand.
-use Rattle.bt_lines.proofs.Std.{arith, ◌≡◌, ℕ, Bool, false, List, [], ◌∷◌, ◌++◌, map, filter, append-nil, refl, sym, ap, ap₂, ◌∙◌, subst, true, ◌&&◌, not, cond, append_assoc, bytes_eq, flat_map, nat_le, AllByRecursion, list_any, take_while, flat_map-append, map-append, filter-append, take_while-cons, and_left}
-use Rattle.bt_bed.specs.model.Feature.{Feature, interval_of, intervals_of, Interval, last_from, last_of, placed_on, spans_on, is_strand}
+use Rattle.bt_lines.proofs.Std.{arith, ◌≡◌, ℕ, Bool, false, List, [], ◌∷◌, ◌++◌, map, filter, append-nil, refl, sym, ap, ap₂, ◌∙◌, subst, true, ◌&&◌, not, cond, append_assoc, bytes_eq, flat_map, AllByRecursion, list_any, take_while, flat_map-append, map-append, filter-append, take_while-cons, and_left}
+use Rattle.bt_bed.specs.model.Feature.{Feature, interval_of, intervals_of, Interval, last_from, last_of, placed_on, spans_on}
 use Rattle.bt_bed.specs.calls.Orders.{AreNonEmpty, ArePlaced, IsTotal}
 use Rattle.bt_bed.specs.model.BedLine.{interval_lines, interval_line}
 use Rattle.bt_bed.specs.model.Sorted.{has_records}
@@ -70,10 +70,6 @@ module _ (gap : ℕ) where
         passed_all last (chromosomes (counted strand ones)) (counted strand ones)
         (named_all (λ n. bytes_eq n last.chrom ≡ false) (counted strand ones) (has_none last.chrom (counted strand ones) (fewer (λ r. is_counted strand r.strand) last.chrom ones e)))
 
-    passed_both : (ones : List Feature) (s : Feature) (twos : List Feature) → Away (intervals_of ones) (intervals_of (s ∷ twos))
-        → passed_by gap (merged_runs gap strand (ones ++ s ∷ twos)) (last_of (intervals_of (ones ++ s ∷ twos))) ≡ merged_runs gap strand ones ++ passed_by gap (merged_runs gap strand (s ∷ twos)) (last_of (intervals_of (s ∷ twos)))
-    passed_both ones s twos away = grind (arith, map-append, last_behind, runs_both, filter-append, passed_first, last_is)
-
     settled_is : (records : List Feature) → settled_runs gap strand records ≡ passed_by gap (merged_runs gap strand records) (last_of (intervals_of records))
     unfolding settled_runs
     settled_is records = refl
@@ -90,7 +86,7 @@ module _ (gap : ℕ) where
           append-nil (interval_lines (merged_runs gap strand ones)) ∙ ap interval_lines front.1 ∙ flat_map-append interval_line _ front.0
               ∙ ap (λ rs. interval_lines (passed_by gap (merged_runs gap strand rs) (last_of (intervals_of rs))) ++ interval_lines front.0) (sym (append-nil ones)),
         )
-    begin_by ones (s ∷ twos) taken away = grind (arith, append-nil, passed_both, flat_map-append)
+    begin_by ones (s ∷ twos) taken away = grind (arith, append-nil, map-append, last_behind, runs_both, filter-append, passed_first, last_is, flat_map-append)
 
     module _ (order : Order) (total : IsTotal order) (ones twos : List Feature) (one : ArePlaced order (intervals_of ones)) (two : ArePlaced order (intervals_of twos))
         (full : AreNonEmpty (intervals_of ones)) (early : Earlier order total ones twos) where
@@ -112,11 +108,8 @@ module _ (gap : ℕ) where
 abbrev Elsewhere : List ℕ → StrandRun → Type 0
 Elsewhere name item = bytes_eq item.run.chrom name ≡ false
 
-in_no : (a b c : Bool) → b ≡ false → (a && (b && c)) ≡ false
-in_no a b c e = grind arith
-
 not_in : (item : StrandRun) (r : Feature) → Elsewhere r.chrom item → is_in item r ≡ false
-not_in item r e = in_no (is_strand item.strand r.strand) (bytes_eq item.run.chrom r.chrom) (nat_le item.run.start r.start && nat_le r.stop item.run.stop) e
+not_in item r e = grind arith
 
 -- what is listed is among the runs of the strands
 pub listed_all : (P : StrandRun → Type 0) (runs : Strand → List StrandRun) (before rs : List Feature) → ((strand : Strand) → AllByRecursion P (runs strand)) → AllByRecursion P (listed_behind runs before rs)
@@ -138,11 +131,8 @@ module _ (gap : ℕ) where
       (all_filter (λ r. bytes_eq r.chrom name ≡ false) (λ r. is_counted (One strand) r.strand) rs (all_unmap (λ r. bytes_eq r.chrom name ≡ false) interval_of rs (has_none name (intervals_of rs) e))))))
 
   module _ (ones twos : List Feature) (away : Away (intervals_of ones) (intervals_of twos)) where
-    all_strand : (strand : Strand) → runs_of_strand gap (ones ++ twos) strand ≡ runs_of_strand gap ones strand ++ runs_of_strand gap twos strand
-    all_strand strand = grind (arith, runs_both, map-append)
-
     begun_first : (before : List Feature) (r : Feature) → has_records r.chrom (intervals_of twos) ≡ false → begun_by (runs_of_strand gap (ones ++ twos) r.strand) before r ≡ begun_by (runs_of_strand gap ones r.strand) before r
-    begun_first before r e = grind (arith, all_strand, filter-append, filter_none, all_so, items_elsewhere, append-nil)
+    begun_first before r e = grind (arith, runs_both, map-append, filter-append, filter_none, all_so, items_elsewhere, append-nil)
 
     listed_first : (before rs : List Feature) → AllByRecursion (λ r. has_records r.chrom (intervals_of twos) ≡ false) rs → listed_behind (runs_of_strand gap (ones ++ twos)) before rs ≡ listed_behind (runs_of_strand gap ones) before rs
     listed_first before [] h = refl
@@ -164,7 +154,7 @@ module _ (gap : ℕ) where
     begun_second before r e =
         let test : StrandRun → Bool = λ item. is_in item r && not (list_any (is_in item) (ones ++ before)) in
         let here : StrandRun → Bool = λ item. is_in item r && not (list_any (is_in item) before) in
-        ap (filter test) (all_strand r.strand)
+        ap (filter test) (grind (arith, runs_both, map-append))
         ∙ filter-append test (runs_of_strand gap ones r.strand) (runs_of_strand gap twos r.strand)
         ∙ ap₂ (λ a b. a ++ b)
         (filter_none test (runs_of_strand gap ones r.strand)

@@ -8,7 +8,6 @@ use Rattle.bt_bed.specs.model.Feature.{Feature}
 use Rattle.bt_bed.specs.model.BedLine.{record_of}
 use Rattle.bt_bed.specs.model.Genome.{Entry, genome_names}
 use Rattle.bt_bed.specs.model.Good.{Good, good, items_in, good_from, good_with, bed_format, line_says, said_after}
-use Rattle.bt_bed.specs.model.Meeting.{join_report}
 use Rattle.bt_bed.specs.model.Sorted.{is_below_at, Locus, sorting_of}
 use Rattle.bt_bed.specs.model.Order.{is_among, rank_order, Order}
 use Rattle.bt_bed.specs.calls.Orders.{AreDistinct}
@@ -19,7 +18,7 @@ use Rattle.bt_sweep.specs.model.Lines.{subtract_shape}
 use Rattle.bt_sweep.specs.declared.hits.hit_rule.HitRule.{HitRule}
 use Rattle.bt_sweep.specs.declared.output.shape.Shape.{Shape}
 use Rattle.bt_laws.specs.Parts.{LiesWithin, AreShards, Shard, ShardsAddUp, all_entries, PairShard, intersect_genomes_divide, pair_entries, pair_texts, subtract_genomes_divide, PairShardsAddUp, PairShardsSuffice, ShardsSuffice, complement_shards_suffice, genomecov_shards_suffice, intersect_shards_suffice, merge_shards_suffice, subtract_shards_suffice, AddUp, AreOfLines, ComeBefore, StopWithin, joined, said_records, said_record, ArePairs, PairsAscend, Texts, joined_texts, on_texts, records_of, PairsAddUp, on_text}
-use Rattle.bt_tool.specs.model.Written.{Report, good_report, report_by, Written, complement_written, coverage_written, merge_written}
+use Rattle.bt_tool.specs.model.Written.{Report, good_report, Written, complement_written, coverage_written, merge_written}
 use Rattle.bt_tool.specs.model.Report.{chromosomes_of, report_of, report_on, order_of}
 use Rattle.bt_tool.specs.declared.planning.plan_type.Command.TheVariants.{Intersect, Subtract, Complement, Coverage, Merge}
 use Rattle.bt_laws.proofs.lemmas.parts.PartBed.{items_all, records_on}
@@ -41,11 +40,6 @@ all_same t u (x ∷ xs) h = ap₂ (λ a b. a && b) h.0 (all_same t u xs h.1)
 any_same : {A : Type 0} (t u : A → Bool) (xs : List A) → AllByRecursion (λ x. t x ≡ u x) xs → list_any t xs ≡ list_any u xs
 any_same t u [] h = refl
 any_same t u (x ∷ xs) h = ap₂ (λ a b. a || b) h.0 (any_same t u xs h.1)
-
--- rules that write the same lines, and decide the same of these members
-meet_same : {A : Type 0} (t u : A → Bool) (lines : A → List ℕ) (told last : Option FaultValue) (xs : List A) (fault : Option FaultValue) → AllByRecursion (λ x. t x ≡ u x) xs
-    → join_report (record { decided = t; lines = lines; fault = told; last = last }) xs fault ≡ join_report (record { decided = u; lines = lines; fault = told; last = last }) xs fault
-meet_same t u lines told last xs fault h = grind (arith, all_same, take_same)
 
 -- ---- names of a part in the middle
 
@@ -93,7 +87,7 @@ module _ (mine yours : List (List ℕ)) (agree : Agree (rank_order mine) (rank_o
 
   sweep_same : (given : List Feature) (fa : Option FaultValue) (bs : List Feature) (fb : Option FaultValue) → AllByRecursion In given → AllByRecursion In bs
       → sweep_report (rank_order mine) shape rule given fa bs fb ≡ sweep_report (rank_order yours) shape rule given fa bs fb
-  sweep_same given fa bs fb one two = grind (arith, meet_same, all_so, decided_same)
+  sweep_same given fa bs fb one two = grind (arith, all_same, take_same, all_so, decided_same)
 
   pub own_report : (texts : Texts) → AllByRecursion In (records_of texts)
       → pair_report (rank_order mine) (ranks_total mine) shape rule texts.first texts.second ≡ pair_report (rank_order yours) (ranks_total yours) shape rule texts.first texts.second
@@ -116,18 +110,12 @@ module _ (whole : List Entry) (distinct : AreDistinct (genome_names whole)) wher
   abbrev Lies : PairShard → Type 0
   Lies shard = AllByRecursion (LiesWithin shard.entries whole) (records_of shard.texts)
 
-  among_more : (shard : PairShard) (shards : List PairShard) (name : List ℕ) → IsTrue (is_among (genome_names (pair_entries shards)) name) → IsTrue (is_among (genome_names (pair_entries (shard ∷ shards))) name)
-  among_more shard shards name e = grind (arith, names_both, among_append)
-
-  among_here : (shard : PairShard) (shards : List PairShard) (name : List ℕ) → IsTrue (is_among (genome_names shard.entries) name) → IsTrue (is_among (genome_names (pair_entries (shard ∷ shards))) name)
-  among_here shard shards name e = grind (arith, names_both, among_append)
-
   -- the records of all parts lie on the chromosomes of these parts
   lie_all : (shards : List PairShard) → AllByRecursion Lies shards → AllByRecursion (λ shard. AllByRecursion (LiesWithin (pair_entries shards) whole) (records_of shard.texts)) shards
   lie_all [] h = tt
   lie_all (t ∷ ts) h = (
-    all_so _ _ (records_of t.texts) (λ r k here. among_here t ts r.chrom (k here)) h.0,
-    all_so _ _ ts (λ s l. all_so _ _ (records_of s.texts) (λ r k here. among_more t ts r.chrom (k here)) l) (lie_all ts h.1),
+    all_so _ _ (records_of t.texts) (λ r k here. grind (arith, names_both, among_append)) h.0,
+    all_so _ _ ts (λ s l. all_so _ _ (records_of s.texts) (λ r k here. grind (arith, names_both, among_append)) l) (lie_all ts h.1),
   )
 
   lie_joined : (shards : List PairShard) → ArePairs (pair_texts shards) → AllByRecursion Lies shards → AllByRecursion (LiesWithin (pair_entries shards) whole) (records_of (joined_texts (pair_texts shards)))
@@ -220,16 +208,12 @@ lies own whole input text e =
 module _ (W : List Entry → Written Feature) (command : Command)
     (is : (entries : List Entry) (text : List ℕ) → report_on command (Ok (Some entries)) (whole_text text) None ≡ good_report (W entries) (good (bed_format (sorting_of (rank_order (genome_names entries)))) First (text_lines text)))
     (add : (genome : Handed) (shards : List Shard) → AreShards genome shards → ShardsAddUp command genome shards) where
-  report_fault : (written : Written Feature) (rs : List Feature) (fault : Option FaultValue) → (report_by written rs fault).fault ≡ fault
-  report_fault written rs fault = grind arith
-
   shard_lies : (whole : List Entry) (shard : Shard) → chromosomes_of (Some shard.genome) ≡ Ok (Some shard.entries) → (on_text command (Some shard.genome) shard.text).fault ≡ None
       → AllByRecursion (LiesWithin shard.entries whole) (said_records shard.text)
   unfolding report_of
   shard_lies whole shard has e =
-      let text_good = good (bed_format (sorting_of (rank_order (genome_names shard.entries)))) First (text_lines shard.text) in
       lies shard.entries whole First shard.text
-      (sym (report_fault (W shard.entries) (items_in text_good) text_good.fault)
+      (sym (grind arith)
       ∙ ap (λ (r : Report). r.fault) (sym (ap (λ c. report_on command c (whole_text shard.text) None) has ∙ is shard.entries shard.text)) ∙ e)
 
   shards_suffice : ShardsSuffice command

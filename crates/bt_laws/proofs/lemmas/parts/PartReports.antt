@@ -28,11 +28,8 @@ stop_none whole output = ([], sym (append-nil whole.output ∙ output))
 pub add_one : (part : Report) → AddUp (part ∷ []) part
 add_one part = record { faultless = (λ e. (e, tt), λ all. all.0); output = λ e. sym (append-nil part.output) }
 
-one_stop : (fault : Option FaultValue) (output : List ℕ) → (rest : List ℕ) × (output ++ unless_fault fault [] ≡ output ++ rest)
-one_stop fault output = grind arith
-
 pub stop_one : (part : Report) → StopWithin (part ∷ []) part
-stop_one part = one_stop part.fault part.output
+stop_one part = grind arith
 
 stop_by : (fault : Option FaultValue) (first whole output outputs left : List ℕ) → outputs ≡ output ++ left
     → (rest : List ℕ) × (first ++ unless_fault fault output ≡ whole ++ rest) → (rest : List ℕ) × (first ++ unless_fault fault outputs ≡ whole ++ rest)
@@ -52,9 +49,6 @@ abbrev pub Contiguous : {A : Type 0} → Option FaultValue → Option FaultValue
 Contiguous None g h ones twos all = (all ≡ ones ++ twos) × (is_none h ≡ is_none g)
 Contiguous (Some f) g h ones twos all = (all ≡ ones) × (is_none h ≡ false)
 
-pub together_all : {A : Type 0} (f g h : Option FaultValue) (ones twos all : List A) → Contiguous f g h ones twos all → f ≡ None → all ≡ ones ++ twos
-together_all f g h ones twos all is e = grind arith
-
 module _ {A : Type 0} (one two whole : Written A) (ones twos all : List A) (splits : Splits one two whole ones twos) where
   pub joins_by : (f g h : Option FaultValue) → Contiguous f g h ones twos all → Joins (report_by one ones f) (report_by two twos g) (report_by whole all h)
   joins_by f g h is = search rules
@@ -64,7 +58,7 @@ together f one two whole is = grind arith
 
 module _ {A : Type 0} (one two whole : Written A) (first second all : Good A) (joint : IsJoint first second all) (splits : Splits one two whole (items_in first) (items_in second)) where
   pub good_joins : Joins (good_report one first) (good_report two second) (good_report whole all)
-  good_joins = joins_by one two whole (items_in first) (items_in second) (items_in all) splits first.fault second.fault all.fault (together first.fault first second all joint)
+  good_joins = joins_by one two whole (items_in first) (items_in second) (items_in all) splits first.fault second.fault all.fault (grind arith)
 
 -- a run that wrote nothing, without a fault
 abbrev pub nothing : Report

@@ -1,7 +1,7 @@
 -- What is good of two concatenated FASTA texts.
-use Rattle.bt_lines.proofs.Std.{common_steps, ◌≡◌, ℕ, suc, ◌-◌, Bool, true, false, cond, List, [], ◌∷◌, ◌++◌, map, append-nil, append_assoc, Option, Some, None, Result, Ok, Err, refl, sym, ap, ap₂, ◌∙◌, subst, arith, IsTrue, ⊤, flat_map, AllByRecursion, map-append, is_none, option_map}
+use Rattle.bt_lines.proofs.Std.{common_steps, ◌≡◌, ℕ, Bool, true, false, cond, List, [], ◌∷◌, ◌++◌, map, append-nil, append_assoc, Option, Some, None, Result, Ok, Err, refl, sym, ap, ap₂, ◌∙◌, subst, arith, IsTrue, ⊤, flat_map, AllByRecursion, map-append, is_none, option_map}
 use Rattle.bt_lines.specs.model.Fault.{FaultValue}
-use Rattle.bt_lines.specs.model.Lines.{TextLine, fed_line, last_line, lines_from, text_lines}
+use Rattle.bt_lines.specs.model.Lines.{TextLine, lines_from, text_lines}
 use Rattle.bt_lines.specs.declared.fault.Input.{Input}
 use Rattle.bt_lines.specs.declared.fault.Kind.{Kind}
 use Rattle.bt_lines.specs.declared.fault.Kind.TheVariants.{TextBeforeHeader}
@@ -189,16 +189,10 @@ module _ (full : Bool) (input : Input) where
 
   -- ---- two texts
 
-  fed_header : (n : ℕ) (piece rest : List ℕ) (ls : List TextLine) → IsTrue (begins_sequence (piece ++ 10 ∷ rest)) → BeginsAtHeader (fed_line n piece ∷ ls)
-  fed_header n piece rest ls e = grind (arith, common_steps)
-
-  last_header : (n : ℕ) (piece : List ℕ) → IsTrue (begins_sequence piece) → BeginsAtHeader (last_line n piece)
-  last_header n piece e = grind arith
-
   header_first : (n : ℕ) (text : List ℕ) → IsTrue (begins_sequence text) → BeginsAtHeader (lines_from n text)
   header_first n text = by_lines (λ n bytes. IsTrue (begins_sequence bytes) → BeginsAtHeader (lines_from n bytes))
-      (λ n piece clear e. subst BeginsAtHeader (sym (lines_from-last n piece clear)) (last_header n piece e))
-      (λ n piece rest clear is e. subst BeginsAtHeader (sym (lines_from-fed n piece rest clear)) (fed_header n piece rest (lines_from (suc n) rest) e))
+      (λ n piece clear e. subst BeginsAtHeader (sym (lines_from-last n piece clear)) (grind arith))
+      (λ n piece rest clear is e. subst BeginsAtHeader (sym (lines_from-fed n piece rest clear)) (grind (arith, common_steps)))
       n text
 
   -- the lines of the second text, whatever the numbers of its lines
@@ -216,12 +210,9 @@ module _ (full : Bool) (input : Input) where
       (items_in whole ≡ items_in one ++ map (line_after (names_of (items_in one))) (items_in two)) × (whole.fault ≡ None)
   AreBothBy (Some fault) one two whole = whole ≡ one
 
-  both_by : (fault : Option FaultValue) (one two behind : Good SequenceLine) → AreMoved (names_of (items_in one)) behind two → AreBothBy fault one two (put_on Fasta fault one behind)
-  both_by fault one two behind moved = grind (arith, map-append)
-
   module _ (one two : List ℕ) (ends : StandsBefore one two) (begins : IsTrue (begins_sequence two)) where
     pub fasta_both : AreBothBy (good Fasta input (text_lines one)).fault (good Fasta input (text_lines one)) (good Fasta input (text_lines two)) (good Fasta input (text_lines (one ++ two)))
-    fasta_both = grind (arith, (lines_join 1 one two ends), moved_lines, go_from, both_by, begin_names)
+    fasta_both = grind (arith, (lines_join 1 one two ends), moved_lines, go_from, map-append, begin_names)
 
     pub second_sound : (good Fasta input (text_lines two)).fault ≡ None
     second_sound = (moved_lines Fasta.begin 1 two begins).same
@@ -318,12 +309,9 @@ module _ (input : Input) where
     abbrev pub AreJoint : Type 0
     AreJoint = (items_in Whole-good ≡ items_in First-good ++ items_in Second-good) × (is_none Whole-good.fault ≡ is_none Second-good.fault)
 
-    elsewhere : BeginsElsewhere (last_from None (items_in First-good)) (said_records two) → BeginsElsewhere (name_at Last) (records_on Lines-behind)
-    elsewhere h = grind (arith, reached_last, alike_records, alike_lines)
-
     -- if those of the second text begin on another chromosome
     pub fresh_joint : First-good.fault ≡ None → BeginsElsewhere (last_from None (items_in First-good)) (said_records two) → AreJoint
-    fresh_joint none h = grind (arith, like_two, whole_is, fresh_from, elsewhere, map-append)
+    fresh_joint none h = grind (arith, like_two, whole_is, fresh_from, reached_last, alike_records, alike_lines, map-append)
 
     -- or if both texts have no fault
     pub calm_joint : Whole-good.fault ≡ None → (First-good.fault ≡ None) × (Second-good.fault ≡ None) × (items_in Whole-good ≡ items_in First-good ++ items_in Second-good)

@@ -1,7 +1,6 @@
 -- What intersect and subtract write of inputs of two parts.
-use Rattle.bt_lines.proofs.Std.{common_steps, arith, ◌≡◌, ℕ, Bool, true, false, ◌&&◌, ◌||◌, cond, List, [], ◌∷◌, ◌++◌, append-nil, append_assoc, Option, Some, None, refl, sym, ap, ap₂, ◌∙◌, ltb, min, max, ◌-◌, IsTrue, bytes_eq, flat_map, is_none, AllByRecursion, list_all, list_any, take_while, option_or, flat_map-append, filter-append, take_while-cons}
+use Rattle.bt_lines.proofs.Std.{common_steps, arith, ◌≡◌, ℕ, Bool, true, false, ◌&&◌, ◌||◌, cond, List, [], ◌∷◌, ◌++◌, append-nil, append_assoc, Option, Some, None, refl, sym, ap, ap₂, ◌∙◌, IsTrue, bytes_eq, flat_map, is_none, AllByRecursion, list_all, list_any, take_while, flat_map-append, filter-append, take_while-cons}
 use Rattle.std.specs.declared.cmp.Ordering.TheVariants.{Less}
-use Rattle.bt_laws.proofs.lemmas.parts.PartGenomes.{or_true}
 use Rattle.bt_sweep.proofs.lemmas.definitions.HitLemmas.{apart_misses}
 use Rattle.bt_lines.specs.model.Fault.{FaultValue}
 use Rattle.bt_bed.specs.model.Feature.{Feature}
@@ -17,7 +16,7 @@ use Rattle.bt_laws.specs.Parts.{unless_fault}
 use Rattle.bt_tool.specs.model.Written.{Report, met_report}
 use Rattle.bt_laws.proofs.lemmas.parts.PartBed.{Earlier}
 use Rattle.bt_laws.proofs.lemmas.Lists.{all_any, all_so, all_swapped, filter_none, flat_map_same}
-use Rattle.bt_laws.proofs.lemmas.parts.PartReports.{Adds, Stops, Contiguous, together_all, Joins}
+use Rattle.bt_laws.proofs.lemmas.parts.PartReports.{Adds, Stops, Contiguous, Joins}
 
 -- ---- lists up to the first that fails a test
 
@@ -52,22 +51,16 @@ pub any_behind : {A : Type 0} (t : A → Bool) (xs ys : List A) → AllByRecursi
 any_behind t [] ys h = refl
 any_behind t (x ∷ xs) ys h = ap (λ b. b || list_any t (xs ++ ys)) h.0 ∙ any_behind t xs ys h.1
 
-all_kept : {A : Type 0} (P : A → Type 0) (t : A → Bool) (xs : List A) → AllByRecursion P xs → AllByRecursion P (take_while t xs)
-all_kept P t xs h = grind (arith, common_steps)
-
 pub written_same : {A : Type 0} (mine yours : Rule A ℕ FaultValue) (xs : List A) → AllByRecursion (λ x. (mine.decided x ≡ yours.decided x) × (mine.lines x ≡ yours.lines x)) xs → written mine xs ≡ written yours xs
-written_same mine yours xs h = grind (arith, take_same, all_so, flat_map_same, all_kept)
+written_same mine yours xs h = grind (arith, take_same, all_so, flat_map_same, common_steps)
 
 pub written_before : {A : Type 0} (rule : Rule A ℕ FaultValue) (xs ys : List A) → AllByRecursion (λ y. rule.decided y ≡ false) ys → written rule (xs ++ ys) ≡ written rule xs
 written_before rule xs ys h = ap (flat_map rule.lines) (take_before rule.decided xs ys h)
 
 -- ---- what decides, and what hits
 
-apart_shares : (c : Bool) (n : ℕ) → c ≡ false → ltb 0 (cond c n 0) ≡ false
-apart_shares c n e = grind arith
-
 elsewhere_misses : (rule : HitRule) (a b : Feature) → bytes_eq a.chrom b.chrom ≡ false → hits rule a b ≡ false
-elsewhere_misses rule a b e = apart_misses rule a b (apart_shares (bytes_eq a.chrom b.chrom) (min a.stop b.stop - max a.start b.start) e)
+elsewhere_misses rule a b e = apart_misses rule a b (grind arith)
 
 module _ (shape : Shape) (rule : HitRule) where
   pub lines_first : (a : Feature) (bones btwos : List Feature) → AllByRecursion (λ b. bytes_eq a.chrom b.chrom ≡ false) btwos → lines_for shape rule a (bones ++ btwos) ≡ lines_for shape rule a bones
@@ -80,14 +73,8 @@ module _ (shape : Shape) (rule : HitRule) where
 
 -- ---- the faults of a meeting
 
-or_none : (fa : Option FaultValue) → option_or fa None ≡ fa
-or_none fa = grind arith
-
 unless_some : (f : Option FaultValue) (output : List ℕ) → (f ≡ None → ⊥) → unless_fault f output ≡ []
 unless_some f output h = grind arith
-
-pub unless_none : (f : Option FaultValue) (output : List ℕ) → f ≡ None → unless_fault f output ≡ output
-unless_none f output h = grind arith
 
 module _ (order : Order) (shape : Shape) (rule : HitRule) where
   -- the report on records and their faults
@@ -99,13 +86,10 @@ module _ (order : Order) (shape : Shape) (rule : HitRule) where
   decided_none bs (a ∷ given) = decided_none bs given
 
   fault_none : (given : List Feature) (fa : Option FaultValue) (bs : List Feature) → (sweep_report given fa bs None).fault ≡ fa
-  fault_none given fa bs = met_fault_all (sweep_rule order shape rule bs None) given fa (decided_none bs given) ∙ or_none fa
+  fault_none given fa bs = met_fault_all (sweep_rule order shape rule bs None) given fa (decided_none bs given) ∙ (grind arith)
 
   pub report_none : (given : List Feature) (fa : Option FaultValue) (bs : List Feature) (fb : Option FaultValue) → (sweep_report given fa bs fb).fault ≡ None → (fa ≡ None) × (fb ≡ None)
   report_none given fa bs fb e = grind (arith, fault_none)
-
-  pub none_report : (given : List Feature) (fa : Option FaultValue) (bs : List Feature) (fb : Option FaultValue) → fa ≡ None → fb ≡ None → (sweep_report given fa bs fb).fault ≡ None
-  none_report given fa bs fb e d = grind arith
 
   lines_none : (given : List Feature) (fa : Option FaultValue) (bs : List Feature) → (sweep_report given fa bs None).output ≡ intersect shape rule given bs
   lines_none given fa bs = met_lines (sweep_rule order shape rule bs None) given fa ∙ sym (all_written (sweep_rule order shape rule bs None) given (decided_none bs given))
@@ -120,10 +104,6 @@ pub record AreSplit (order : Order) (total : IsTotal order) (aones atwos bones b
   pub apart_second : AllByRecursion (λ a. AllByRecursion (λ b. bytes_eq a.chrom b.chrom ≡ false) bones) atwos
 
 module _ (order : Order) (total : IsTotal order) (shape : Shape) (rule : HitRule) (aones atwos bones btwos : List Feature) (split : AreSplit order total aones atwos bones btwos) where
-  -- the lines of both parts
-  pub lines_both : intersect shape rule (aones ++ atwos) (bones ++ btwos) ≡ intersect shape rule aones bones ++ intersect shape rule atwos btwos
-  lines_both = grind (arith, flat_map-append, flat_map_same, all_so, lines_first, lines_second)
-
   none_second : AllByRecursion (λ a. AllByRecursion (λ b. decides order a b ≡ false) bones) atwos
   none_second = grind (arith, all_so, (all_swapped (λ b a. order.compare b.chrom a.chrom ≡ Less) bones atwos split.second_first))
 
@@ -149,24 +129,20 @@ module _ (order : Order) (total : IsTotal order) (shape : Shape) (rule : HitRule
     Whole = sweep_report order shape rule all fa bs fb
 
     pub sweep_adds : Adds One Two Whole
-    sweep_adds = grind (arith, report_none, lines_both, lines_none)
+    sweep_adds = grind (arith, fault_none, flat_map-append, flat_map_same, all_so, lines_first, lines_second, lines_none)
 
   -- if the second input of the first part is at fault, nothing after it is written
   module _ (f : FaultValue) (fa1 fa2 fa fb2 fb : Option FaultValue) (all bs : List Feature) (ja : Contiguous fa1 fa2 fa aones atwos all) (jb : Contiguous (Some f) fb2 fb bones btwos bs) where
-    same_rule : (xs : List Feature) → written (sweep_rule order shape rule bs fb) xs ≡ written (sweep_rule order shape rule bones (Some f)) xs
-    same_rule xs = grind arith
-
     written_one : (fa1 : Option FaultValue) → Contiguous fa1 fa2 fa aones atwos all → written (sweep_rule order shape rule bones (Some f)) all ≡ written (sweep_rule order shape rule bones (Some f)) aones
     written_one None j = grind (arith, (written_before (sweep_rule order shape rule bones (Some f)) aones atwos (all_so _ _ atwos (λ a h. any_false (decides order a) bones h) none_second)))
     written_one (Some g) j = ap (written (sweep_rule order shape rule bones (Some f))) j.0
 
     stops_second : Stops (sweep_report order shape rule aones fa1 bones (Some f)) (sweep_report order shape rule atwos fa2 btwos fb2) (sweep_report order shape rule all fa bs fb)
     stops_second =
-        let one = sweep_report order shape rule aones fa1 bones (Some f) in
         let whole = sweep_report order shape rule all fa bs fb in (
           [],
-          ap (λ l. one.output ++ l) (unless_some one.fault _ (λ e. let none = (report_none order shape rule aones fa1 bones (Some f) e).1 in cc))
-              ∙ ap (λ l. l ++ []) (met_lines (sweep_rule order shape rule bones (Some f)) aones fa1 ∙ sym (written_one fa1 ja) ∙ sym (same_rule all) ∙ sym (met_lines (sweep_rule order shape rule bs fb) all fa)),
+          ap (λ l. (sweep_report order shape rule aones fa1 bones (Some f)).output ++ l) (grind arith)
+              ∙ ap (λ l. l ++ []) (met_lines (sweep_rule order shape rule bones (Some f)) aones fa1 ∙ sym (written_one fa1 ja) ∙ sym (grind arith) ∙ sym (met_lines (sweep_rule order shape rule bs fb) all fa)),
         )
 
   module _ (fa1 fa2 fa fb2 fb : Option FaultValue) (all bs : List Feature) (ja : Contiguous fa1 fa2 fa aones atwos all) (jb : Contiguous None fb2 fb bones btwos bs) where
@@ -183,7 +159,7 @@ module _ (order : Order) (total : IsTotal order) (shape : Shape) (rule : HitRule
     first_lines = grind (arith, flat_map_same, all_so, lines_first, lines_none)
 
     front : (rest : List ℕ) × (first_report.output ≡ written Rule-of-both aones ++ rest)
-    front = let some = take_front Rule-of-both.decided Rule-of-both.lines aones in (some.0, first_lines ∙ some.1)
+    front = let some = take_front Rule-of-both.decided Rule-of-both.lines aones in (some.0, (grind (arith, flat_map_same, all_so, lines_first, lines_none)) ∙ some.1)
 
     second_same : written Rule-of-both atwos ≡ written (sweep_rule order shape rule btwos fb2) atwos
     second_same = written_same Rule-of-both (sweep_rule order shape rule btwos fb2) atwos (each atwos none_second split.apart_second)
@@ -210,7 +186,7 @@ module _ (order : Order) (total : IsTotal order) (shape : Shape) (rule : HitRule
     before_second h is = grind (arith, (append_assoc (written Rule-of-both aones) front.0 second_report.output), (met_lines Rule-of-both all fa), (written_before Rule-of-both aones atwos h))
 
     or_decided : (a : Feature) → decided order a (bones ++ btwos) ≡ true → Rule-of-both.decided a ≡ true
-    or_decided a e = ap (λ d. is_none fb || d) (ap (decided order a) jb.0 ∙ e) ∙ or_true (is_none fb)
+    or_decided a e = ap (λ d. is_none fb || d) (ap (decided order a) jb.0 ∙ e) ∙ (grind arith)
 
     either : (g : Option FaultValue) → fb2 ≡ g → (ts : List Feature) → btwos ≡ ts → all ≡ aones ++ atwos → (rest : List ℕ) × (first_report.output ++ second_report.output ≡ (sweep_report order shape rule all fa bs fb).output ++ rest)
     either None e ts d is = past_first (all_any _ aones (λ a. ap (λ b. b || decided order a bs) (jb.1 ∙ ap is_none e))) is
@@ -219,8 +195,8 @@ module _ (order : Order) (total : IsTotal order) (shape : Shape) (rule : HitRule
 
     stops_by : (g : Option FaultValue) → fa1 ≡ g → Stops first_report second_report (sweep_report order shape rule all fa bs fb)
     stops_by None e =
-        let more = either fb2 refl btwos refl (together_all fa1 fa2 fa aones atwos all ja e) in
-        (more.0, ap (λ l. first_report.output ++ l) (unless_none first_report.fault second_report.output (none_report order shape rule aones fa1 bones None e refl)) ∙ more.1)
+        let more = either fb2 refl btwos refl (grind arith) in
+        (more.0, ap (λ l. first_report.output ++ l) (grind arith) ∙ more.1)
     stops_by (Some g) e = (
       front.0,
       ap (λ l. first_report.output ++ l) (unless_some first_report.fault second_report.output (λ none. let no = (report_none order shape rule aones fa1 bones None none).0 in cc)) ∙ append-nil first_report.output

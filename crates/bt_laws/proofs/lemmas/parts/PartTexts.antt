@@ -4,7 +4,7 @@ use Rattle.bt_lines.specs.model.Lines.{lines_from, text_lines, Handed}
 use Rattle.bt_lines.specs.declared.fault.Input.TheVariants.{First, Second}
 use Rattle.bt_bed.specs.model.Good.{Good, good, good_from, items_in, bed_format}
 use Rattle.bt_seq.specs.model.Alignment.{Alignment, alignment_of, sam_format}
-use Rattle.bt_laws.specs.Parts.{AreOfLines, StandsBefore, joined, ComeBefore, said_records, bamtobed_divides, on_text, ArePairs, PairsAscend, Texts, TextsAscend, intersect_divides, joined_texts, merge_divides, on_texts, subtract_divides, PairsAddUp, AreAtHeaders, WritesOn, MaskTheirOwn, NoneMoves, begins_sequence, maskfasta_divides, repeated_names_divide, AddUp, StopWithin, outputs_to_fault, unless_fault}
+use Rattle.bt_laws.specs.Parts.{AreOfLines, StandsBefore, joined, ComeBefore, said_records, bamtobed_divides, on_text, ArePairs, PairsAscend, Texts, TextsAscend, intersect_divides, joined_texts, merge_divides, on_texts, subtract_divides, PairsAddUp, AreAtHeaders, WritesOn, MaskTheirOwn, NoneMoves, begins_sequence, maskfasta_divides, repeated_names_divide, AddUp, StopWithin, outputs_to_fault}
 use Rattle.bt_tool.specs.model.Written.{Report, good_report, alignments_written, merge_written}
 use Rattle.bt_tool.specs.model.Report.{report_of, chromosomes_of, order_of}
 use Rattle.bt_tool.specs.declared.planning.plan_type.Command.TheVariants.{BamToBed, Intersect, Merge, Subtract, MaskFasta}
@@ -103,18 +103,13 @@ module _ (order : Order) (total : IsTotal order) where
   abbrev pub pair_report : Shape → HitRule → List ℕ → List ℕ → Report
   pair_report shape rule first second = sweep_report order shape rule (text_records First first) (bed_text_good First first).fault (text_records Second second) (bed_text_good Second second).fault
 
-  -- the records of a part of the first input, or of the second, among those of both
-  came : (one_first one_second two_first two_second : List Feature) → ComeBefore order (one_first ++ one_second) (two_first ++ two_second)
-      → (ComeBefore order one_first two_first × ComeBefore order one_first two_second × ComeBefore order one_second two_first × ComeBefore order one_second two_second)
-  came one_first one_second two_first two_second h = grind (arith, all_front, all_back, all_so)
-
   known_all : (input : Input) (text : List ℕ) → AllByRecursion (λ r. IsTrue (order.knows r.chrom)) (text_records input text)
   known_all input text = items_all order total input (λ r. IsTrue (order.knows r.chrom)) None (text_lines text) (all_any _ _ (λ r known. known))
 
   module _ (shape : Shape) (rule : HitRule) (a_one b_one a_two b_two : List ℕ) (a_ends : StandsBefore a_one a_two) (b_ends : StandsBefore b_one b_two)
       (before : ComeBefore order (said_records a_one ++ said_records b_one) (said_records a_two ++ said_records b_two)) where
     parts : ComeBefore order (said_records a_one) (said_records a_two) × ComeBefore order (said_records a_one) (said_records b_two) × ComeBefore order (said_records b_one) (said_records a_two) × ComeBefore order (said_records b_one) (said_records b_two)
-    parts = came (said_records a_one) (said_records b_one) (said_records a_two) (said_records b_two) before
+    parts = grind (arith, all_front, all_back, all_so)
 
     split : AreSplit order total (text_records First a_one) (text_records First a_two) (text_records Second b_one) (text_records Second b_two)
     split =
@@ -161,9 +156,6 @@ pub record ArePairsFit (order : Order) (parts : List Texts) : Type 0 where
   pub lines : ArePairs parts
   pub ascend : PairsAscend order parts
 
-pairs_less : (order : Order) (part : Texts) (parts : List Texts) → ArePairsFit order (part ∷ parts) → ArePairsFit order parts
-pairs_less order part parts fit = grind arith
-
 pub join_one : (part : Texts) → joined_texts (part ∷ []) ≡ part
 join_one part = ap₂ (λ a b. record { first = a; second = b }) (append-nil part.first) (append-nil part.second)
 
@@ -191,7 +183,7 @@ merge_parts d strand genome chromosomes texts has lines ascend =
 sweep_parts : (command : Command) (shape : Shape) (rule : HitRule) (genome : Option Handed) (order : Order) (total : IsTotal order) → ((texts : Texts) → on_texts command genome texts ≡ pair_report order total shape rule texts.first texts.second)
     → (parts : List Texts) → ArePairs parts → PairsAscend order parts → PairsAddUp command genome parts
 sweep_parts command shape rule genome order total is parts lines ascend =
-    parts_both joined_texts (on_texts command genome) (ArePairsFit order) (is (joined_texts []) ∙ pair_empty order total shape rule) (λ t. ap (on_texts command genome) (join_one t)) (pairs_less order)
+    parts_both joined_texts (on_texts command genome) (ArePairsFit order) (is (joined_texts []) ∙ pair_empty order total shape rule) (λ t. ap (on_texts command genome) (join_one t)) (grind arith)
     (λ t u ts f.
     let more = joined_texts (u ∷ ts) in
     rw (is t, is more, is (joined_texts (t ∷ u ∷ ts))) (pair_joins order total shape rule t.first t.second more.first more.second f.lines.0.0 f.lines.1.0 f.ascend.0))
@@ -234,9 +226,6 @@ module _ (how : MaskHow) (full : Bool) where
       by_first [] e more = more
       by_first (byte ∷ bytes) e more = e
 
-  masked_less : (t : Texts) (ts : List Texts) → AreMasked (t ∷ ts) → AreMasked ts
-  masked_less t ts fit = grind arith
-
   are_two : (t u : Texts) (ts : List Texts) → AreMasked (t ∷ u ∷ ts) → AreTwo how full t (joined_texts (u ∷ ts))
   are_two t u ts fit = record { first = fit.lines.0.0; second = fit.lines.1.0; begins = begins_joined (u ∷ ts) fit.headers }
 
@@ -247,7 +236,7 @@ module _ (how : MaskHow) (full : Bool) where
     own : MaskTheirOwn full parts
 
   own_less : (t : Texts) (ts : List Texts) → OwnFit (t ∷ ts) → OwnFit ts
-  own_less t ts own = record { fit = masked_less t ts own.fit; own = own.own.2 }
+  own_less t ts own = record { fit = grind arith; own = own.own.2 }
 
   own_add : (parts : List Texts) → OwnFit parts → AddUp (map T parts) (T (joined_texts parts))
   own_add = parts_add joined_texts T OwnFit empty alone own_less
@@ -268,11 +257,8 @@ module _ (how : MaskHow) (full : Bool) where
     two : AreTwo how full t (joined_texts (u ∷ ts))
     two = are_two t u ts own.fit
 
-    faulty : (fault : Option FaultValue) (outputs : List ℕ) → (fault ≡ None → ⊥) → (T t).output ++ unless_fault fault outputs ≡ (T t).output
-    faulty fault outputs some = search rules
-
     end_faulty : ((T t).fault ≡ None → ⊥) → Ends (t ∷ u ∷ ts)
-    end_faulty some = grind (arith, (faulty_first how full t (joined_texts (u ∷ ts)) two own.own.0 own.own.1 some), (faulty (T t).fault Outputs some))
+    end_faulty some = grind (arith, (faulty_first how full t (joined_texts (u ∷ ts)) two own.own.0 own.own.1 some), rules)
 
     end_sound : (T t).fault ≡ None → Ends (u ∷ ts) → Ends (t ∷ u ∷ ts)
     end_sound none ends = elim ends [
@@ -305,7 +291,7 @@ module _ (how : MaskHow) (full : Bool) where
   suffice_all [] cut all = (ap (λ (r : Report). r.fault) empty, ap (λ (r : Report). r.output) empty)
   suffice_all (t ∷ []) cut all = (ap (λ (r : Report). r.fault) (alone t) ∙ all.0, ap (λ (r : Report). r.output) (alone t) ∙ sym (append-nil (T t).output))
   suffice_all (t ∷ u ∷ ts) cut all =
-      let more = suffice_all (u ∷ ts) (record { fit = masked_less t (u ∷ ts) cut.fit; none = cut.none.1 }) all.1 in
+      let more = suffice_all (u ∷ ts) (record { fit = grind arith; none = cut.none.1 }) all.1 in
       grind (arith, (two_suffice how full t (joined_texts (u ∷ ts)) (are_two t u ts cut.fit) cut.none.0 all.0 more.0))
 
 pub mask_divides : maskfasta_divides
@@ -315,7 +301,6 @@ mask_divides how full parts lines headers own =
 
 pub repeated_divide : repeated_names_divide
 repeated_divide how full parts lines headers none all =
-    let fit : CutFit how full parts = record { fit = record { lines = lines; headers = headers }; none = none } in
     let sound = all_unmap _ (texts_report how full) parts (rw (on_is how full parts) at all) in
-    let whole = suffice_all how full parts fit sound in
+    let whole = suffice_all how full parts (record { fit = record { lines = lines; headers = headers }; none = none }) sound in
     rw (on_is how full parts, mask_is how full (joined_texts parts)) (whole.0, whole.1 ∙ sym (flat_map-map (λ (part : Report). part.output) (texts_report how full) parts))

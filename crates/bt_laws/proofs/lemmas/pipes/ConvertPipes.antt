@@ -1,6 +1,5 @@
 -- The lines of alignments that are sorted are an input.
-use Rattle.bt_lines.proofs.Std.{common_steps, rules, ◌≡◌, ℕ, ◌+◌, ◌-◌, ◌<◌, ◌≤◌, Bool, true, false, cond, List, [], ◌∷◌, ◌++◌, append-nil, append_assoc, map, filter, length, Option, Some, None, Result, Ok, refl, sym, ap, ◌∙◌, subst, arith, eqb, decimal, codes, if◌then◌else◌, AllByRecursion, join_with_byte, ends_with_byte, strip_last, All-append, All-cons, All-from_recursion, All-nil, join_with_byte-slice_split, suc, ap₂, flat_map}
-use Rattle.bt_lines.specs.model.Fault.{FaultValue}
+use Rattle.bt_lines.proofs.Std.{common_steps, rules, ◌≡◌, ℕ, ◌<◌, ◌≤◌, Bool, true, false, cond, List, [], ◌∷◌, ◌++◌, append-nil, append_assoc, map, filter, length, Option, Some, None, Result, Ok, refl, sym, ap, ◌∙◌, subst, arith, eqb, decimal, codes, if◌then◌else◌, AllByRecursion, join_with_byte, ends_with_byte, strip_last, All-append, All-cons, All-from_recursion, All-nil, join_with_byte-slice_split, suc, ap₂, flat_map, get_or-append-add, length-append}
 use Rattle.std.specs.Prelude.{option_and_then}
 use Rattle.bt_lines.specs.model.Lines.{lines_handed, TextLine, pieces, end_bytes, fed_line, last_line, lines_from}
 use Rattle.bt_lines.specs.calls.Line.{NoLineFeed}
@@ -9,15 +8,15 @@ use Rattle.bt_lines.specs.declared.fault.Input.TheVariants.{First}
 use Rattle.bt_lines.specs.declared.fault.Kind.{Kind}
 use Rattle.bt_lines.proofs.lemmas.reader.lines.TextLemmas.{IsColumn, IsInside, strip_last-other, lines_from-fed, lines_from-last, lines_from-nil, by_lines}
 use Rattle.bt_bed.specs.model.Good.{Good, good_from, good_with, items_in}
-use Rattle.bt_bed.specs.model.BedLine.{kept_columns, strand_named, strand_of}
+use Rattle.bt_bed.specs.model.BedLine.{kept_columns, strand_of}
 use Rattle.bt_bed.specs.calls.Features.{IsName, columns_in}
 use Rattle.bt_bed.specs.declared.record.strand.Strand.TheVariants.{Plus, Minus}
 use Rattle.bt_bed.proofs.lemmas.parse.FeatureLemmas.{kept_is_cut, pieces_are_columns}
-use Rattle.bt_seq.specs.model.Alignment.{Alignment, Fields, alignment_of, columns_say, fields_of, fields_say, is_skipped, value_up_to, bed_lines, read_name, strand_sign, length_of, operations_in, each_operation, parts_of, sam_format}
-use Rattle.bt_tool.specs.model.Written.{alignment_lines, alignments_written, report_by}
+use Rattle.bt_seq.specs.model.Alignment.{Alignment, Fields, alignment_of, columns_say, fields_of, fields_say, value_up_to, bed_lines, read_name, strand_sign, length_of, operations_in, each_operation, parts_of, sam_format}
+use Rattle.bt_tool.specs.model.Written.{alignment_lines}
 use Rattle.bt_tool.specs.model.Report.{Inputs, chromosomes_of, report_of, report_on}
 use Rattle.bt_tool.specs.declared.planning.plan_type.Command.TheVariants.{BamToBed}
-use Rattle.bt_laws.specs.Pipes.{aligned_at, aligned_record, alignments_of, bamtobed_is_input, IsInput, is_no_header, sam_good}
+use Rattle.bt_laws.specs.Pipes.{aligned_at, aligned_record, alignments_of, bamtobed_is_input, IsInput, is_no_header}
 use Rattle.bt_laws.proofs.lemmas.pipes.LinesBack.{AreClear, clear_back, clear_both, clear_front, clear_tab, clear_number, number_column, Columns, IsColumns, record_back, text_of_columns, written_back, ends_both, strip_both, clear_handed, clear_strip}
 use Rattle.bt_laws.proofs.lemmas.Lists.{all_so}
 use Rattle.bt_lines.specs.declared.reader.line.LineEnd.{LineEnd}
@@ -50,11 +49,8 @@ record IsPlain (text : List ℕ) : Type 0 where
   some : 0 < length text
   plain : ends_with_byte 13 text ≡ false
 
-plain_by : (text : List ℕ) (span : ℕ) (b : Bool) → ends_with_byte 13 text ≡ b → length_of text ≡ Some span → b ≡ false
-plain_by text span b ends e = grind (arith, common_steps, none_in)
-
 plain_cigar : (text : List ℕ) (span : ℕ) → length_of text ≡ Some span → IsPlain text
-plain_cigar text span e = grind (arith, plain_by)
+plain_cigar text span e = grind (arith, common_steps, none_in)
 
 -- ---- an alignment that a line said
 
@@ -91,13 +87,10 @@ said_by None a h e = cc
 said_by (Some fields) a h e =
     columns_by fields (h fields refl) (value_up_to 65535 fields.flag) fields.chrom (value_up_to 2147483647 fields.position) (value_up_to 255 fields.quality) (length_of fields.cigar) a refl refl e
 
-skipped_by : (skipped : Bool) (said : Result (Option Alignment) Kind) (a : Alignment) → cond skipped (Ok None) said ≡ Ok (Some a) → said ≡ Ok (Some a)
-skipped_by skipped said a e = grind arith
-
 line_aligned : (text : List ℕ) (a : Alignment) → NoLineFeed text → alignment_of text ≡ Ok (Some a) → IsAligned a
 unfolding alignment_of
 line_aligned text a clear e =
-    said_by (fields_of (pieces 9 text)) a (λ f is. fields_columns (pieces 9 text) f (pieces_are_columns text) (clear_columns text clear) is) (skipped_by (is_skipped text) (fields_say (fields_of (pieces 9 text))) a e)
+    said_by (fields_of (pieces 9 text)) a (λ f is. fields_columns (pieces 9 text) f (pieces_are_columns text) (clear_columns text clear) is) (grind arith)
 
 aligned_with : (input : Input) (n : ℕ) (text : List ℕ) (said : Result (Option Alignment) Kind) (rest : Unit {0} → Good Alignment) → NoLineFeed text → alignment_of text ≡ said
     → AllByRecursion IsAligned (items_in (rest tt)) → AllByRecursion IsAligned (items_in (good_with sam_format input n tt said rest))
@@ -127,14 +120,11 @@ line_as cigar a = grind (arith, append_assoc)
 clear_if : (b : Bool) (text : List ℕ) → NoLineFeed text → NoLineFeed (if b then text else [])
 clear_if b text h = grind arith
 
-clear_sign : (reverse : Bool) → NoLineFeed (strand_sign reverse)
-clear_sign reverse = grind arith
-
 clear_segment : (number : ℕ) → eqb number 10 ≡ false → NoLineFeed (47 ∷ number ∷ [])
 clear_segment number e = All-cons (λ c. eqb c 10 ≡ false) 47 (number ∷ []) refl (All-cons (λ c. eqb c 10 ≡ false) number [] e (All-nil (λ c. eqb c 10 ≡ false)))
 
 clear_read : (a : Alignment) → NoLineFeed a.name → NoLineFeed (read_name a)
-clear_read a h = clear_both a.name _ h (clear_both _ _ (clear_if a.first (codes "/1") (clear_segment 49 refl)) (clear_if a.last (codes "/2") (clear_segment 50 refl)))
+clear_read a h = clear_both a.name _ h (clear_both _ _ (grind arith) (clear_if a.last (codes "/2") (clear_segment 50 refl)))
 
 clear_cigar_tail : (cigar : Bool) (a : Alignment) → NoLineFeed a.cigar → NoLineFeed (cigar_tail cigar a)
 unfolding cigar_tail
@@ -151,7 +141,7 @@ columns_aligned cigar a is = record {
       (clear_both (read_name a) (9 ∷ (decimal a.quality ++ 9 ∷ (strand_sign a.reverse ++ cigar_tail cigar a))) (clear_read a is.clear_name)
       (clear_tab (decimal a.quality ++ 9 ∷ (strand_sign a.reverse ++ cigar_tail cigar a))
       (clear_both (decimal a.quality) (9 ∷ (strand_sign a.reverse ++ cigar_tail cigar a)) (clear_number a.quality)
-      (clear_tab (strand_sign a.reverse ++ cigar_tail cigar a) (clear_both (strand_sign a.reverse) (cigar_tail cigar a) (clear_sign a.reverse) (clear_cigar_tail cigar a is.clear_cigar))))));
+      (clear_tab (strand_sign a.reverse ++ cigar_tail cigar a) (clear_both (strand_sign a.reverse) (cigar_tail cigar a) (grind arith) (clear_cigar_tail cigar a is.clear_cigar))))));
 }
 
 -- ---- the record that is read of it
@@ -159,18 +149,12 @@ columns_aligned cigar a is = record {
 whole_tail : (front back tail : List ℕ) → tail ≡ front ++ back → 0 < length back → strip_last 13 back ≡ back → strip_last 13 tail ≡ tail
 whole_tail front back tail e some plain = ap (strip_last 13) e ∙ strip_both 13 front back some ∙ ap (λ l. front ++ l) plain ∙ sym e
 
-sign_some : (reverse : Bool) → 0 < length (strand_sign reverse)
-sign_some reverse = grind arith
-
-sign_plain : (reverse : Bool) → strip_last 13 (strand_sign reverse) ≡ strand_sign reverse
-sign_plain reverse = grind arith
-
 tail_plain : (cigar : Bool) (a : Alignment) → IsAligned a → strip_last 13 (tail_of cigar a) ≡ tail_of cigar a
 unfolding cigar_tail
-tail_plain false a is = whole_tail (9 ∷ (read_name a ++ 9 ∷ (decimal a.quality ++ 9 ∷ []))) (strand_sign a.reverse) (tail_of false a) (simp (append_assoc, append-nil)) (sign_some a.reverse) (sign_plain a.reverse)
+tail_plain false a is = whole_tail (9 ∷ (read_name a ++ 9 ∷ (decimal a.quality ++ 9 ∷ []))) (strand_sign a.reverse) (tail_of false a) (simp (append_assoc, append-nil)) (grind arith) (grind arith)
 tail_plain true a is =
     whole_tail (9 ∷ (read_name a ++ 9 ∷ (decimal a.quality ++ 9 ∷ strand_sign a.reverse))) (9 ∷ a.cigar) (tail_of true a) (simp append_assoc) (omega arith)
-    (strip_last-other 13 (9 ∷ a.cigar) (ends_both 13 (9 ∷ []) a.cigar is.some_cigar ∙ is.plain_cigar))
+    (strip_last-other 13 (9 ∷ a.cigar) ((grind (arith, length-append, get_or-append-add)) ∙ is.plain_cigar))
 
 abbrev columns_after : Bool → Alignment → List (List ℕ)
 columns_after cigar a = decimal a.quality ∷ strand_sign a.reverse ∷ (if cigar then a.cigar ∷ [] else [])
@@ -189,26 +173,17 @@ segment_column : (number : ℕ) → IsInside number → IsColumn (47 ∷ number 
 segment_column number inside = All-from_recursion IsInside (47 ∷ number ∷ []) (refl, (inside, tt))
 
 name_column : (a : Alignment) → IsColumn a.name → IsColumn (read_name a)
-name_column a h = column_both a.name _ h (column_both _ _ (column_if a.first (codes "/1") (segment_column 49 refl)) (column_if a.last (codes "/2") (segment_column 50 refl)))
-
-after_columns : (cigar : Bool) (a : Alignment) → IsAligned a → AllByRecursion IsColumn (columns_after cigar a)
-after_columns cigar a is = grind (arith, number_column)
-
-sign_named : (reverse : Bool) → strand_named (strand_sign reverse) ≡ (if reverse then Minus else Plus)
-sign_named reverse = grind arith
+name_column a h = column_both a.name _ h (column_both _ _ (grind arith) (column_if a.last (codes "/2") (segment_column 50 refl)))
 
 strand_is : (cigar : Bool) (a : Alignment) → IsAligned a → strand_of (columns_in (kept_columns (read_name a ∷ columns_after cigar a))) ≡ (if a.reverse then Minus else Plus)
-strand_is cigar a is = ap strand_of (kept_is_cut (read_name a) (columns_after cigar a) (name_column a is.one_name) (after_columns cigar a is)) ∙ sign_named a.reverse
+strand_is cigar a is = ap strand_of (kept_is_cut (read_name a) (columns_after cigar a) (name_column a is.one_name) (grind (arith, number_column))) ∙ (grind arith)
 
 record_is : (cigar : Bool) (a : Alignment) → IsAligned a → record_back (aligned_columns cigar a) ≡ aligned_record cigar a
 record_is cigar a is = grind (arith, tail_plain, tail_kept, strand_is)
 
-told_lines : (cigar : Bool) (members : List Alignment) (fault : Option FaultValue) → (report_by (alignments_written false cigar) members fault).output ≡ alignment_lines false cigar members
-told_lines cigar members fault = grind arith
-
 output_is : (inputs : Inputs) (cigar : Bool) → inputs.genome ≡ None → (report_of (BamToBed false cigar) inputs).output ≡ alignment_lines false cigar (alignments_of inputs)
 unfolding report_of
-output_is inputs cigar none = ap (λ g. (report_on (BamToBed false cigar) (chromosomes_of g) inputs.first inputs.second).output) none ∙ told_lines cigar (alignments_of inputs) (sam_good First inputs.first).fault
+output_is inputs cigar none = ap (λ g. (report_on (BamToBed false cigar) (chromosomes_of g) inputs.first inputs.second).output) none ∙ (grind arith)
 
 pub bamtobed_input : bamtobed_is_input
 unfolding report_of

@@ -7,7 +7,6 @@ use Rattle.bt_bed.specs.model.Good.{items_in, bed_good}
 use Rattle.bt_bed.specs.declared.record.strand.Strand.{Strand}
 use Rattle.bt_laws.specs.Runs.{interval_at, AreDisjointFrom, DiffersFromNext, HasValue}
 use Rattle.bt_runs.specs.model.Depth.{DepthInterval, counted_on, coverage, depth_lines, depth_of, depth_on, depths_on, Level, levels_of}
-use Rattle.bt_runs.specs.model.Gaps.{complement}
 use Rattle.bt_laws.proofs.lemmas.single.LevelLemmas.{gaps_depth_0, are_levels, looser, only_levels}
 use Rattle.bt_tool.specs.model.Report.{entries_in, order_of}
 use Rattle.bt_tool.specs.model.Written.{complement_written, coverage_written}
@@ -51,11 +50,8 @@ value_deep [] p v some h = absurd h
 value_deep (l ∷ ls) p v some (inl here) = subst (λ b. HasValue (cond b (l ∷ filter is_deep ls) (filter is_deep ls)) p v) (sym (lt-ltb 0 l.value (omega (arith, some, here.2)))) (inl here)
 value_deep (l ∷ ls) p v some (inr there) = grind (arith, (value_deep ls p v some there))
 
-shown_by : (b : Bool) (d v : ℕ) → nat_lt 0 d ≡ b → cond b (Some d) None ≡ Some v → (d ≡ v) × (0 < v)
-shown_by b d v t e = grind arith
-
 pub shown : (d v : ℕ) → cond (nat_lt 0 d) (Some d) None ≡ Some v → (d ≡ v) × (0 < v)
-shown d v e = shown_by (nat_lt 0 d) d v refl e
+shown d v e = grind arith
 
 module _ (spans : List Span) (size : ℕ) where
   deep_levels : levels_of (depth_of false spans) size ≡ filter is_deep (levels_of (depth_of true spans) size)
@@ -89,7 +85,6 @@ zero_depths inputs chromosomes well =
     let records = first_records chromosomes inputs in
     let entries = entries_in chromosomes in
     let good = bed_good First (order_of chromosomes) inputs.first in
-    let gaps = complement false entries records in
     let other = fault_as (Coverage true None) (Complement false) inputs chromosomes well (told_same (coverage_written entries true None) (complement_written entries false) (items_in good) good.fault) in (
       record { output = genomecov_whole true None inputs chromosomes well; faultless = well.faultless },
       record { output = complement_whole false inputs chromosomes other; faultless = other.faultless },

@@ -1,25 +1,25 @@
 -- Lines and numbers have no line feed.
-use Rattle.bt_lines.proofs.Std.{common_steps, rules, ◌≡◌, ℕ, Bool, true, false, List, [], ◌∷◌, ◌++◌, refl, sym, subst, eqb, zero, suc, ◌+◌, ◌/◌, ◌%◌, ◌<◌, ◌≤◌, cond, arith, decimal, AllByRecursion, ends_with_byte, strip_last, All-append, All-cons, All-head, All-tail, All-nil, All-from_recursion, digit_glyph, digits_onto, lt-ltb, ◌-◌, ◌||◌, length, Option, Some, None, Ok, ap, ◌∙◌, append_assoc, append-nil, IsTrue, ◌==◌, codes, decimal_is_IsNumeral, get_or-append-add, length-append, Err, map, filter, flat_map, flat_map-map, Result, join_with_byte, join_with_byte-slice_split}
+use Rattle.bt_lines.proofs.Std.{common_steps, rules, ◌≡◌, ℕ, Bool, true, false, List, [], ◌∷◌, ◌++◌, refl, sym, subst, eqb, zero, suc, ◌+◌, ◌/◌, ◌%◌, ◌<◌, ◌≤◌, cond, arith, decimal, AllByRecursion, ends_with_byte, strip_last, All-append, All-cons, All-head, All-tail, All-nil, All-from_recursion, digit_glyph, digits_onto, lt-ltb, ◌||◌, length, Option, Some, None, Ok, ap, ◌∙◌, append_assoc, append-nil, IsTrue, ◌==◌, codes, decimal_is_IsNumeral, get_or-append-add, length-append, Err, map, filter, flat_map, flat_map-map, Result, join_with_byte, join_with_byte-slice_split}
 use Rattle.bt_lines.specs.calls.Line.{NoLineFeed}
-use Rattle.bt_lines.specs.model.Lines.{TextLine, last_line, lines_from, whole_lines_from, fed_line, text_lines, Handed, lines_handed, pieces, whole_lines, value_of}
+use Rattle.bt_lines.specs.model.Lines.{TextLine, last_line, lines_from, whole_lines_from, fed_line, text_lines, Handed, lines_handed, pieces, value_of}
 use Rattle.bt_lines.proofs.lemmas.reader.lines.TextLemmas.{lines_from-fed, lines_from-last, by_lines, whole_lines_from-fed, whole_lines_from-last, IsColumn, IsInside, lines_from-nil}
 use Rattle.std.specs.Fmt.{digits}
 use Rattle.bt_laws.proofs.lemmas.Lists.{all_so, all_any, all_map, map_map, flat_map_same}
 use Rattle.bt_bed.specs.model.Feature.{Feature, interval_of, intervals_of, Interval}
-use Rattle.bt_bed.specs.model.BedLine.{ends_word, first_word, is_header, is_header_word, record_of, strand_of, not_skipped}
+use Rattle.bt_bed.specs.model.BedLine.{ends_word, first_word, is_header, is_header_word, record_of, strand_of}
 use Rattle.bt_bed.specs.calls.Features.{IsName, columns_in, is_kept, IsFeature}
 use Rattle.bt_bed.proofs.lemmas.parse.FeatureLemmas.{header_says, of_word, record_said, said_is_feature, said_stands, pieces_are_columns}
 use Rattle.bt_laws.proofs.lemmas.single.Records.{written_feature}
 use Rattle.bt_lines.specs.declared.fault.Input.{Input}
 use Rattle.bt_bed.specs.model.Good.{Good, good, good_from, good_with, items_in, bed_format, line_says, locus_at, said_after, bed_good}
 use Rattle.bt_bed.specs.model.Sorted.{Locus, falls_in, sorting_of, Sorting}
-use Rattle.bt_bed.specs.calls.Orders.{ArePlaced, IsPlacedBefore, IsUpTo, IsTotal}
+use Rattle.bt_bed.specs.calls.Orders.{ArePlaced, IsPlacedBefore, IsTotal}
 use Rattle.bt_bed.specs.model.Order.{Order}
 use Rattle.bt_runs.proofs.lemmas.order.FileOrder.{some_placed}
 use Rattle.bt_laws.specs.Pipes.{IsInput, is_no_header}
 use Rattle.bt_lines.specs.model.Fault.{FaultValue}
 use Rattle.bt_lines.specs.declared.fault.Kind.{Kind}
-use Rattle.bt_bed.specs.model.Genome.{Entry, columns_give, entry_from, entry_of, genome_from, genome_handed, genome_with, is_skipped, new_entry}
+use Rattle.bt_bed.specs.model.Genome.{Entry, columns_give, entry_from, entry_of, genome_from, genome_handed, genome_with, new_entry}
 use Rattle.bt_bed.proofs.lemmas.Definitions.{line_said}
 
 pub clear_front : (xs ys : List ℕ) → NoLineFeed (xs ++ ys) → NoLineFeed xs
@@ -36,11 +36,8 @@ clear_both xs ys h k = All-append (λ b. eqb b 10 ≡ false) xs ys h k
 pub clear_tab : (xs : List ℕ) → NoLineFeed xs → NoLineFeed (9 ∷ xs)
 clear_tab xs h = All-cons (λ b. eqb b 10 ≡ false) 9 xs refl h
 
-clear_by : (byte : ℕ) (xs : List ℕ) (b : Bool) → ends_with_byte byte xs ≡ b → NoLineFeed xs → NoLineFeed (strip_last byte xs)
-clear_by byte xs b e h = grind (arith, common_steps)
-
 pub clear_strip : (byte : ℕ) (xs : List ℕ) → NoLineFeed xs → NoLineFeed (strip_last byte xs)
-clear_strip byte xs h = clear_by byte xs (ends_with_byte byte xs) refl h
+clear_strip byte xs h = grind (arith, common_steps)
 
 abbrev pub AreClear : List TextLine → Type 0
 AreClear lines = AllByRecursion (λ line. NoLineFeed line.text) lines
@@ -78,9 +75,6 @@ pub decimal_digits : (n : ℕ) → AllByRecursion IsDigit (decimal n)
 unfolding digits
 decimal_digits n = onto_digits 64 n [] tt
 
-no_return : (c : ℕ) → IsDigit c → eqb c 13 ≡ false
-no_return c h = grind arith
-
 clear_digits : (ds : List ℕ) → AllByRecursion IsDigit ds → NoLineFeed ds
 clear_digits ds h = grind (arith, common_steps)
 
@@ -89,7 +83,7 @@ clear_number n = clear_digits (decimal n) (decimal_digits n)
 
 digits_none : (ds : List ℕ) → AllByRecursion IsDigit ds → AllByRecursion (λ b. eqb b 13 ≡ false) ds
 digits_none [] h = tt
-digits_none (c ∷ cs) h = (no_return c h.0, digits_none cs h.1)
+digits_none (c ∷ cs) h = ((grind arith), digits_none cs h.1)
 
 strip_none_by : (ds : List ℕ) (b : Bool) → ends_with_byte 13 ds ≡ b → AllByRecursion (λ b. eqb b 13 ≡ false) ds → strip_last 13 ds ≡ ds
 strip_none_by ds b e h = grind (arith, common_steps)
@@ -101,13 +95,9 @@ strip_number n = strip_none_by (9 ∷ decimal n) (ends_with_byte 13 (9 ∷ decim
 pub strip_decimal : (n : ℕ) → strip_last 13 (decimal n) ≡ decimal n
 strip_decimal n = strip_none_by (decimal n) (ends_with_byte 13 (decimal n)) refl (digits_none (decimal n) (decimal_digits n))
 
--- a number is a column
-digit_inside : (c : ℕ) → IsDigit c → IsInside c
-digit_inside c h = grind arith
-
 digits_inside : (ds : List ℕ) → AllByRecursion IsDigit ds → AllByRecursion IsInside ds
 digits_inside [] h = tt
-digits_inside (c ∷ cs) h = (digit_inside c h.0, digits_inside cs h.1)
+digits_inside (c ∷ cs) h = ((grind arith), digits_inside cs h.1)
 
 pub number_column : (n : ℕ) → IsColumn (decimal n)
 number_column n = All-from_recursion IsInside (decimal n) (digits_inside (decimal n) (decimal_digits n))
@@ -119,11 +109,8 @@ number_column n = All-from_recursion IsInside (decimal n) (digits_inside (decima
 pub ends_both : (byte : ℕ) (front back : List ℕ) → 0 < length back → ends_with_byte byte (front ++ back) ≡ ends_with_byte byte back
 ends_both byte front back some = grind (arith, length-append, get_or-append-add)
 
-strip_both_by : (byte : ℕ) (front back : List ℕ) (b : Bool) → 0 < length back → ends_with_byte byte back ≡ b → strip_last byte (front ++ back) ≡ front ++ strip_last byte back
-strip_both_by byte front back b some e = grind (arith, common_steps)
-
 pub strip_both : (byte : ℕ) (front back : List ℕ) → 0 < length back → strip_last byte (front ++ back) ≡ front ++ strip_last byte back
-strip_both byte front back some = strip_both_by byte front back (ends_with_byte byte back) some refl
+strip_both byte front back some = grind (arith, common_steps)
 
 -- ---- digits
 
@@ -190,12 +177,9 @@ module _ (order : Order) (total : IsTotal order) where
   Follow last [] = Unit {0}
   Follow last (r ∷ rs) = IsTrue (order.knows r.chrom) × (falls_in (sorting_of order) last (locus_at r) ≡ false) × Follow (Some (locus_at r)) rs
 
-  pub up_to_stays : (last place : Locus) → IsTrue (order.knows last.chrom) → IsTrue (order.knows place.chrom) → IsUpTo order last place → falls_in (sorting_of order) (Some last) place ≡ false
-  up_to_stays last place was is p1 = search rules
-
   placed_behind : (r : Feature) (rs : List Feature) → IsTrue (order.knows r.chrom) → IsPlacedBefore order (interval_of r) (intervals_of rs) → ArePlaced order (intervals_of rs) → Follow (Some (locus_at r)) rs
   placed_behind r [] known before placed = tt
-  placed_behind r (s ∷ ss) known before placed = (placed.0, up_to_stays (locus_at r) (locus_at s) known placed.0 before, placed_behind s ss placed.0 placed.1 placed.2)
+  placed_behind r (s ∷ ss) known before placed = (placed.0, search rules, placed_behind s ss placed.0 placed.1 placed.2)
 
   pub placed_follow : (rs : List Feature) → ArePlaced order (intervals_of rs) → Follow None rs
   placed_follow [] placed = tt
@@ -316,11 +300,10 @@ line_is_said text r clear e =
     let stands = said_stands text r said.1 in
     let feature = said_is_feature text r said.1 in
     let split : text ≡ r.chrom ++ 9 ∷ (stands.0 ++ r.rest) = stands.1 ∙ simp append_assoc in
-    let clear_split : NoLineFeed (r.chrom ++ 9 ∷ (stands.0 ++ r.rest)) = subst NoLineFeed split clear in
     record {
       feature = feature;
       no_header = sym (header_of_name r.chrom (stands.0 ++ r.rest) feature.named.some) ∙ ap is_header (sym split) ∙ said.0;
-      clear_name = clear_front r.chrom (9 ∷ (stands.0 ++ r.rest)) clear_split;
+      clear_name = clear_front r.chrom (9 ∷ (stands.0 ++ r.rest)) (subst NoLineFeed split clear);
       clear_rest = clear_back (r.chrom ++ 9 ∷ stands.0) r.rest (subst NoLineFeed stands.1 clear);
     }
 
@@ -337,11 +320,8 @@ module _ (input : Input) (sorting : Sorting) where
   said_lines last (line ∷ lines) clear =
       said_with line.number last line.text (line_says sorting last line.text) (λ now. good_from (bed_format sorting) input now lines) clear.0 refl (λ now. said_lines now lines clear.1)
 
-clear_if : (cut : Bool) (text : List ℕ) → AreClear (cond cut (whole_lines text) (text_lines text))
-clear_if cut text = grind (arith, clear_whole, clear_lines)
-
 pub clear_handed : (handed : Handed) → AreClear (lines_handed handed)
-clear_handed handed = clear_if handed.is_cut handed.text
+clear_handed handed = grind (arith, clear_whole, clear_lines)
 
 pub good_are_said : (input : Input) (order : Order) (handed : Handed) → AllByRecursion IsSaid (items_in (bed_good input order handed))
 good_are_said input order handed = said_lines input (sorting_of order) None (lines_handed handed) (clear_handed handed)
@@ -373,12 +353,9 @@ columns_said text (name ∷ size ∷ rest) entry clear cut e =
     let split : text ≡ name ++ 9 ∷ whole.0 = sym (join_with_byte-slice_split 9 text) ∙ ap (join_with_byte 9) cut ∙ whole.1 in
     grind (arith, (pieces_are_columns text), (clear_front name (9 ∷ whole.0) (subst NoLineFeed split clear)), (value_at_most size entry.length is.1))
 
-skipped_entry : (skipped : Bool) (said : Result Entry Kind) (entry : Entry) → cond skipped (Ok None) (not_skipped said) ≡ Ok (Some entry) → said ≡ Ok entry
-skipped_entry skipped said entry e = grind arith
-
 line_is_chrom : (text : List ℕ) (entry : Entry) → NoLineFeed text → entry_of text ≡ Ok (Some entry) → IsChrom entry
 unfolding entry_of
-line_is_chrom text entry clear e = columns_said text (pieces 9 text) entry clear refl (skipped_entry (is_skipped text) (columns_give (pieces 9 text)) entry e)
+line_is_chrom text entry clear e = columns_said text (pieces 9 text) entry clear refl (grind arith)
 
 -- the entries of an answer
 abbrev pub AreChroms : Result (List Entry) FaultValue → Type 0

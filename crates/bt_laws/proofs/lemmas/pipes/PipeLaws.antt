@@ -10,7 +10,7 @@ use Rattle.bt_bed.specs.calls.Stretches.{IsCovered}
 use Rattle.bt_bed.specs.model.BedLine.{interval_lines, fault_at_line}
 use Rattle.bt_bed.specs.model.Genome.{Entry, genome_names}
 use Rattle.bt_bed.specs.model.Good.{Good, Member, items_in, bed_good}
-use Rattle.bt_bed.specs.model.Meeting.{join_report, written}
+use Rattle.bt_bed.specs.model.Meeting.{written}
 use Rattle.bt_lines.specs.declared.fault.Kind.TheVariants.{TooManyHeld}
 use Rattle.bt_bed.specs.declared.record.strand.Strand.{Strand}
 use Rattle.bt_bed.proofs.lemmas.Definitions.{non_empty_good, placed_good}
@@ -22,7 +22,7 @@ use Rattle.bt_runs.specs.calls.MergedRuns.{Bridged}
 use Rattle.bt_runs.specs.declared.merge.merge_strand.MergeStrand.{MergeStrand}
 use Rattle.bt_runs.specs.declared.merge.merge_strand.MergeStrand.TheVariants.{All, Each, One}
 use Rattle.bt_laws.proofs.lemmas.single.StrandOrder.{in_order}
-use Rattle.bt_sweep.specs.model.Lines.{intersect, subtract_shape, sweep_rule}
+use Rattle.bt_sweep.specs.model.Lines.{intersect, subtract_shape}
 use Rattle.bt_sweep.specs.model.Hits.{cut_behind, limited}
 use Rattle.bt_sweep.specs.declared.hits.hit_rule.HitRule.{HitRule}
 use Rattle.bt_sweep.specs.declared.output.shape.Shape.{Shape}
@@ -36,7 +36,6 @@ use Rattle.bt_laws.specs.WholeRuns.{RunsWithoutFault, first_records, second_reco
 use Rattle.bt_laws.specs.Pipes.{complement_is_input, cut_intersect_is_input, cut_strands_stay, genomecov_is_input, intersect_is_input, kept_places_stay, kept_records_stay, kept_strands_stay, merge_is_input, subtract_is_input, whole_subtract_is_input, begins_with_a, records_written, AreSeparate, AreDisjoint, IsInput, four_columns, is_no_header, three_columns, complement_writes_disjoint, genomecov_writes_disjoint, merge_writes_disjoint}
 use Rattle.bt_laws.proofs.lemmas.Lists.{EachPair, pairs_all, pairs_each}
 use Rattle.bt_laws.proofs.lemmas.pipes.RunsBack.{coverage_back, depths_disjoint, gaps_back, gaps_pairs, intervals_back, merge_apart, merge_back, runs_back, strands_written}
-use Rattle.bt_laws.proofs.lemmas.parts.PartShards.{distinct_in}
 use Rattle.bt_laws.proofs.lemmas.pipes.LinesBack.{IsChrom, IsSaid, genome_chroms, good_are_said}
 use Rattle.bt_laws.proofs.lemmas.pipes.SweepBack.{cut_back, kept_back, pieces_back}
 use Rattle.bt_laws.proofs.lemmas.pipes.SweepRead.{all_read, cut_stay, places_stay, records_stay, strands_stay}
@@ -45,11 +44,12 @@ use Rattle.bt_laws.proofs.lemmas.pipes.Placing.{pairs_filter, pairs_from_map, pa
 use Rattle.bt_runs.proofs.lemmas.merge.Bridging.{are_runs, bridged_here, is_covered-Decides, only_runs}
 use Rattle.bt_laws.proofs.lemmas.single.LevelLemmas.{covered_depth}
 use Rattle.bt_runs.proofs.lemmas.complement.Walks.{are_gaps, only_gaps}
+use Rattle.bt_laws.proofs.lemmas.single.Records.{distinct_genome}
 
 -- ---- the order in use
 
 pub chroms_of : (genome : Option Handed) (entries : List Entry) → chromosomes_of genome ≡ Ok (Some entries) → AllByRecursion IsChrom entries × AreDistinct (genome_names entries)
-chroms_of genome entries e = grind (arith, genome_chroms, distinct_in)
+chroms_of genome entries e = grind (arith, genome_chroms, distinct_genome)
 
 -- ---- a report of one input without a fault
 
@@ -100,8 +100,6 @@ pub merge_input : merge_is_input
 merge_input d All inputs chromosomes well = pooled d inputs chromosomes All (merge_whole d All inputs chromosomes well)
 merge_input d (One strand) inputs chromosomes well = pooled d inputs chromosomes (One strand) (merge_whole d (One strand) inputs chromosomes well)
 merge_input d Each inputs chromosomes well =
-    let records = first_records chromosomes inputs in
-    let order = order_of chromosomes in
     let total = order_total chromosomes in
     let e = merge_whole d Each inputs chromosomes well in
     grind (arith, runs_back, strands_written, good_are_said, in_order, placed_good, non_empty_good)
@@ -171,14 +169,10 @@ cut_whole too past (m ∷ more) fault e =
 pub limit_whole : (order : Order) (limit : Option ℕ) (first : List Feature) (second : Good Feature) → (limited order limit first second).fault ≡ None → limited order limit first second ≡ second
 limit_whole order limit first second e = grind (arith, cut_whole)
 
-met_whole : (order : Order) (shape : Shape) (rule : HitRule) (first : Good Feature) (second : List Feature) (fault : Option FaultValue) → fault ≡ None
-    → (join_report (sweep_rule order shape rule second fault) (items_in first) first.fault).lines ≡ intersect shape rule (items_in first) second
-met_whole order shape rule first second fault e = grind (arith, faultless_all)
-
 -- without a fault all pairs are written, with a limit or without one
 pub swept_whole : (order : Order) (shape : Shape) (rule : HitRule) (limit : Option ℕ) (first second : Good Feature) → (met_within order shape rule limit first second).fault ≡ None
     → (met_within order shape rule limit first second).lines ≡ intersect shape rule (items_in first) (items_in second)
-swept_whole order shape rule limit first second e = grind (arith, met_whole, limit_whole)
+swept_whole order shape rule limit first second e = grind (arith, faultless_all, cut_whole)
 
 module _ (shape : Shape) (rule : HitRule) (chromosomes : Option (List Entry)) (inputs : Inputs) where
   abbrev firsts : List Feature
@@ -288,9 +282,6 @@ pub record SameCover (xs ys : List Span) : Type 0 where
 
 pub same_sym : (xs ys : List Span) → SameCover xs ys → SameCover ys xs
 same_sym xs ys h = record { to = h.back; back = h.to }
-
-pub same_runs : (gap : ℕ) (xs ys : List Span) → SameCover xs ys → runs_of gap xs ≡ runs_of gap ys
-same_runs gap xs ys same = grind (arith, (are_runs gap xs), only_runs)
 
 pub same_gaps : (size : ℕ) (xs ys : List Span) → SameCover xs ys → gaps_of size xs ≡ gaps_of size ys
 same_gaps size xs ys same = grind (arith, (are_gaps size xs), only_gaps)

@@ -1,5 +1,5 @@
 -- Intervals chromosome by chromosome: they are in order, and those of different chromosomes have nothing in common.
-use Rattle.bt_lines.proofs.Std.{◌≡◌, ℕ, ◌+◌, ◌<◌, ◌≤◌, Bool, false, cond, List, [], ◌∷◌, ◌++◌, map, filter, refl, sym, subst, inr, arith, IsTrue, flat_map, bytes_eq, AllByRecursion, or_parts}
+use Rattle.bt_lines.proofs.Std.{◌≡◌, ℕ, ◌+◌, ◌<◌, ◌≤◌, Bool, false, cond, List, [], ◌∷◌, ◌++◌, map, filter, refl, inr, arith, IsTrue, flat_map, bytes_eq, AllByRecursion, or_parts}
 use Rattle.std.specs.declared.cmp.Ordering.TheVariants.{Less}
 use Rattle.bt_bed.specs.model.Feature.{Interval, Span, placed_on}
 use Rattle.bt_bed.specs.calls.Stretches.{AreApartFrom}
@@ -72,16 +72,10 @@ names_pairs (n ∷ ns) distinct = grind (arith, (others n ns distinct.0), (rank_
 -- ---- intervals chromosome by chromosome
 
 module _ (order : Order) (total : IsTotal order) where
-  first_before : (r : Interval) (ys : List Interval) → AllByRecursion (λ s. Earlier order r.chrom s.chrom) ys → IsPlacedBefore order r ys
-  first_before r ys h = grind arith
-
   placed_both : (xs ys : List Interval) → ArePlaced order xs → ArePlaced order ys → AllByRecursion (λ r. AllByRecursion (λ s. Earlier order r.chrom s.chrom) ys) xs → ArePlaced order (xs ++ ys)
   placed_both [] ys one two early = two
-  placed_both (r ∷ []) ys one two early = (one.0, first_before r ys early.0, two)
+  placed_both (r ∷ []) ys one two early = (one.0, grind arith, two)
   placed_both (r ∷ s ∷ xs) ys one two early = (one.0, one.1, placed_both (s ∷ xs) ys one.2 two early.1)
-
-  earlier_apart : (n m : List ℕ) → IsTrue (order.knows n) → Earlier order n m → n ≡ m → ⊥
-  earlier_apart n m known less same = grind arith
 
   module _ {K : Type 0} (name : K → List ℕ) (part : K → List Interval) (on : (k : K) → AllByRecursion (λ r. r.chrom ≡ name k) (part k)) where
     behind_parts : (k : K) (ks : List K) → AllByRecursion (λ j. Earlier order (name k) (name j)) ks → AllByRecursion (λ r. AllByRecursion (λ s. Earlier order r.chrom s.chrom) (flat_map part ks)) (part k)
@@ -103,7 +97,7 @@ module _ (order : Order) (total : IsTotal order) where
     parts_pairs R other (k ∷ ks) known early pairs =
         pairs_both R (part k) (flat_map part ks) pairs.0 (parts_pairs R other ks known.1 early.1 pairs.1)
         (all_zip (λ r. r.chrom ≡ name k) (λ r. AllByRecursion (λ s. Earlier order r.chrom s.chrom) (flat_map part ks)) (λ r. AllByRecursion (R r) (flat_map part ks)) (part k)
-        (λ r here later. all_so (λ s. Earlier order r.chrom s.chrom) (R r) (flat_map part ks) (λ s less. other r s (earlier_apart r.chrom s.chrom (subst (λ n. IsTrue (order.knows n)) (sym here) known.0) less)) later)
+        (λ r here later. all_so (λ s. Earlier order r.chrom s.chrom) (R r) (flat_map part ks) (λ s less. other r s (grind arith)) later)
         (on k) (behind_parts k ks early.0))
 
 -- ---- spans of one chromosome

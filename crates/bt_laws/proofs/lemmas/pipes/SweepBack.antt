@@ -6,11 +6,11 @@ use Rattle.bt_bed.specs.calls.Stretches.{AreApartFrom, IsCovered}
 use Rattle.bt_bed.specs.model.BedLine.{is_header, bed_text, cut_to}
 use Rattle.bt_bed.specs.calls.Features.{is_kept}
 use Rattle.bt_bed.specs.model.Sorted.{locus_of}
-use Rattle.bt_bed.specs.calls.Orders.{ArePlaced, IsPlacedBefore, IsUpTo, IsTotal}
+use Rattle.bt_bed.specs.calls.Orders.{ArePlaced, IsUpTo, IsTotal}
 use Rattle.bt_bed.specs.model.Order.{Order}
 use Rattle.bt_runs.proofs.lemmas.order.FileOrder.{skips}
 use Rattle.bt_sweep.specs.model.Hits.{hits, hits_among, shared_bases}
-use Rattle.bt_sweep.specs.model.Lines.{cut, hit_line, intersect, line_with, lines_for, lines_of, piece_line, pieces}
+use Rattle.bt_sweep.specs.model.Lines.{cut, hit_line, intersect, lines_for, lines_of, piece_line, pieces}
 use Rattle.bt_sweep.specs.calls.LineLaws.{IsLeft}
 use Rattle.bt_sweep.specs.declared.hits.hit_rule.HitRule.{HitRule}
 use Rattle.bt_sweep.specs.declared.output.shape.Shape.{Shape}
@@ -48,12 +48,9 @@ module _ (order : Order) (total : IsTotal order) where
   placed_pairs [] placed = tt
   placed_pairs (r ∷ rs) placed = (up_to_all r rs placed, placed_pairs rs placed.2)
 
-  before_first : (r : Interval) (rs : List Interval) → AllByRecursion (UpTo r) rs → IsPlacedBefore order r rs
-  before_first r rs h = grind arith
-
   pub pairs_placed : (rs : List Interval) → AllByRecursion (λ (r : Interval). IsTrue (order.knows r.chrom)) rs → EachPair UpTo rs → ArePlaced order rs
   pairs_placed [] known pairs = tt
-  pairs_placed (r ∷ rs) known pairs = (known.0, before_first r rs pairs.0, pairs_placed rs known.1 pairs.1)
+  pairs_placed (r ∷ rs) known pairs = (known.0, grind arith, pairs_placed rs known.1 pairs.1)
 
 -- ---- the lines as columns
 
@@ -100,27 +97,18 @@ map_lines f g (b ∷ bs) h = ap₂ (λ x y. x ++ y) (h b) (map_lines f g bs h)
 alone_text : (line : Columns) → line_text line ≡ flat_map line_text (line ∷ [])
 alone_text line = sym (append-nil (line_text line))
 
-both_text : (a b : Feature) → line_with (bed_text a ∷ bed_text b ∷ []) ≡ line_text (columns_at a (a.rest ++ 9 ∷ bed_text b))
-both_text a b = simp append_assoc
-
-overlap_text : (a b : Feature) (n : ℕ) → line_with (bed_text a ∷ bed_text b ∷ decimal n ∷ []) ≡ line_text (columns_at a (a.rest ++ 9 ∷ (bed_text b ++ 9 ∷ decimal n)))
-overlap_text a b n = simp append_assoc
-
-count_text : (a : Feature) (n : ℕ) → line_with (bed_text a ∷ decimal n ∷ []) ≡ line_text (columns_at a (a.rest ++ 9 ∷ decimal n))
-count_text a n = simp append_assoc
-
 lines_as : (shape : Shape) (a : Feature) (found : List Feature) → lines_of shape a found ≡ flat_map line_text (columns_for shape a found)
 unfolding columns_for hit_columns piece_columns
 lines_as Cut a found = map_lines (hit_line Cut a) (hit_columns Cut a) found (λ b. refl)
 lines_as OrigA a found = map_lines (hit_line OrigA a) (hit_columns OrigA a) found (λ b. refl)
-lines_as CutAndB a found = map_lines (hit_line CutAndB a) (hit_columns CutAndB a) found (λ b. both_text (cut a b) b)
-lines_as OrigBoth a found = map_lines (hit_line OrigBoth a) (hit_columns OrigBoth a) found (λ b. both_text a b)
-lines_as Overlap a found = map_lines (hit_line Overlap a) (hit_columns Overlap a) found (λ b. overlap_text a b (shared_bases a b))
+lines_as CutAndB a found = map_lines (hit_line CutAndB a) (hit_columns CutAndB a) found (λ b. simp append_assoc)
+lines_as OrigBoth a found = map_lines (hit_line OrigBoth a) (hit_columns OrigBoth a) found (λ b. simp append_assoc)
+lines_as Overlap a found = map_lines (hit_line Overlap a) (hit_columns Overlap a) found (λ b. simp append_assoc)
 lines_as Once a [] = refl
 lines_as Once a (b ∷ more) = alone_text (columns_at a a.rest)
 lines_as Missing a [] = alone_text (columns_at a a.rest)
 lines_as Missing a (b ∷ more) = refl
-lines_as Count a found = count_text a (length found) ∙ alone_text (columns_at a (a.rest ++ 9 ∷ decimal (length found)))
+lines_as Count a found = (simp append_assoc) ∙ alone_text (columns_at a (a.rest ++ 9 ∷ decimal (length found)))
 lines_as Pieces a found = map_lines (piece_line a) (piece_columns a) (pieces a found) (λ p. refl)
 lines_as Whole a [] = alone_text (columns_at a a.rest)
 lines_as Whole a (b ∷ more) = refl
@@ -246,9 +234,6 @@ module _ (order : Order) (total : IsTotal order) (shape : Shape) (rule : HitRule
   unfolding lines
   lines_input at = grind (arith, text_as, no_headers, all_named, lines_back, all_are)
 
-  known_all : AllByRecursion (λ (a : Feature). IsTrue (order.knows a.chrom)) first
-  known_all = all_unmap _ interval_of first (placed_known order (intervals_of first) placed)
-
   -- lines that begin with records of the first input
   module _ (begins : begins_with_a shape ≡ true) where
     abbrev copies : Feature → List Interval
@@ -261,7 +246,7 @@ module _ (order : Order) (total : IsTotal order) (shape : Shape) (rule : HitRule
     copies_placed : ArePlaced order (flat_map copies first)
     copies_placed = pairs_placed order total (flat_map copies first)
         (all_flat_map (λ (r : Interval). IsTrue (order.knows r.chrom)) copies first (all_so (λ (a : Feature). IsTrue (order.knows a.chrom)) (λ a. AllByRecursion (λ (r : Interval). IsTrue (order.knows r.chrom)) (copies a)) first
-        (λ a known. repeated (λ (r : Interval). IsTrue (order.knows r.chrom)) (line_count shape (length (hits_among rule a second))) (interval_of a) known) known_all))
+        (λ a known. repeated (λ (r : Interval). IsTrue (order.knows r.chrom)) (line_count shape (length (hits_among rule a second))) (interval_of a) known) (all_unmap _ interval_of first (placed_known order (intervals_of first) placed))))
         (pairs_flat (UpTo order total) copies first
         (all_any (λ a. EachPair (UpTo order total) (copies a)) first (λ a. repeated_pairs (UpTo order total) (line_count shape (length (hits_among rule a second))) (interval_of a) (inr (refl, omega arith))))
         (pairs_so (λ a. Unit {0}) (λ a b. UpTo order total (interval_of a) (interval_of b)) (λ a b. AllByRecursion (λ r. AllByRecursion (UpTo order total r) (copies b)) (copies a)) first

@@ -56,14 +56,11 @@ places_stay shape rule first second e = grind (arith, map_flat_same, all_any, sa
 alone_same : (a : Feature) → IsSaid a → EndsPlain a → read_alone a ≡ a
 alone_same a is plain = grind arith
 
-alone_for : (shape : Shape) (a : Feature) (found : List Feature) → is_a_alone shape ≡ true → read_alone a ≡ a → records_for shape a found ≡ replicate (line_count shape (length found)) a
-alone_for shape a found e same = grind (arith, same_all)
-
 pub records_stay : (shape : Shape) (rule : HitRule) (first second : List Feature) → is_a_alone shape ≡ true → AllByRecursion IsSaid first → AllByRecursion EndsPlain first → records_written shape rule first second ≡ copies_written shape rule first second
 records_stay shape rule first second e said plain =
     flat_map_same (λ a. records_for shape a (hits_among rule a second)) (λ a. replicate (line_count shape (length (hits_among rule a second))) a) first
     (all_zip IsSaid EndsPlain (λ a. records_for shape a (hits_among rule a second) ≡ replicate (line_count shape (length (hits_among rule a second))) a) first
-    (λ a is ends. alone_for shape a (hits_among rule a second) e (alone_same a is ends)) said plain)
+    (λ a is ends. grind (arith, same_all)) said plain)
 
 -- ---- a number is a column, and names no strand
 
@@ -87,7 +84,7 @@ more_columns [] h text = refl
 more_columns (x ∷ xs) h text = more_from x xs h.0 h.1 text
 
 columns_both : (rest text : List ℕ) → IsTrue (is_kept rest) → columns_in (rest ++ 9 ∷ text) ≡ columns_in rest ++ columns_of 9 text
-columns_both rest text kept = ap (λ l. columns_in (l ++ 9 ∷ text)) (sym (kept_again rest kept)) ∙ more_columns (columns_in rest) (rest_columns rest) text
+columns_both rest text kept = ap (λ l. columns_in (l ++ 9 ∷ text)) (sym (kept_again rest kept)) ∙ more_columns (columns_in rest) (grind (arith, pieces_are_columns)) text
 
 -- a name, two numbers, and what follows them
 line_columns : (chrom : List ℕ) (start stop : ℕ) (tail : List ℕ) → IsName chrom → IsTrue (is_kept tail) → columns_of 9 (columns_text chrom start stop tail) ≡ chrom ∷ decimal start ∷ decimal stop ∷ columns_in tail
@@ -119,7 +116,7 @@ module _ (a : Feature) (is : IsSaid a) where
         let text : strip_last 13 (9 ∷ bed_text b) ≡ 9 ∷ columns_text b.chrom b.start b.stop (strip_last 13 b.rest) =
         strip_both 13 (9 ∷ []) (bed_text b) (subst (λ l. 0 < length l) (sym (name_first b.chrom b.start b.stop said.named said.non_empty said.in_range b.rest)) (some_both b.chrom (9 ∷ (decimal b.start ++ 9 ∷ (decimal b.stop ++ b.rest))) said.named.some))
         ∙ ap (λ l. 9 ∷ l) (strip_columns b.chrom b.start b.stop said.named said.non_empty said.in_range b.rest) in
-        grind (arith, after_columns, (kept_by b.chrom b.start b.stop said.named said.non_empty said.in_range b.rest (ends_with_byte 13 b.rest) refl said.kept (strip_last 13 b.rest) refl), same_unsigned)
+        grind (arith, columns_both, line_columns, number_unsigned, (kept_by b.chrom b.start b.stop said.named said.non_empty said.in_range b.rest (ends_with_byte 13 b.rest) refl said.kept (strip_last 13 b.rest) refl), same_unsigned)
 
     overlap_strand : (n : ℕ) → (read_before (bed_text b ++ 9 ∷ decimal n) a).strand ≡ a.strand
     overlap_strand n = grind (arith, (strip_both 13 (9 ∷ bed_text b) (9 ∷ decimal n) (omega arith)), (strip_number n), append_assoc, after_columns, same_unsigned)

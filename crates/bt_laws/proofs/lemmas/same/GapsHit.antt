@@ -1,5 +1,5 @@
 -- What is left of a record lies in the gaps of the second input.
-use Rattle.bt_lines.proofs.Std.{rules, ◌≡◌, ℕ, ◌+◌, ◌<◌, ◌≤◌, false, not, List, [], ◌∷◌, append-nil, map, filter, max, min, Some, None, Ok, refl, sym, ap, ◌∙◌, subst, inl, inr, arith, bytes_eq, flat_map, AllByRecursion, or_parts, flat_map-map}
+use Rattle.bt_lines.proofs.Std.{rules, ◌≡◌, ℕ, ◌+◌, ◌<◌, ◌≤◌, false, List, [], ◌∷◌, append-nil, map, filter, max, min, Some, None, Ok, refl, sym, ap, ◌∙◌, subst, inl, inr, arith, bytes_eq, flat_map, AllByRecursion, or_parts, flat_map-map}
 use Rattle.bt_lines.specs.model.Lines.{whole_text}
 use Rattle.bt_lines.specs.declared.fault.Input.TheVariants.{First, Second}
 use Rattle.bt_bed.specs.model.Feature.{Feature, interval_of, intervals_of, Interval, Span, spans_on}
@@ -45,8 +45,7 @@ module _ (records : List Interval) where
   gaps_absent : (name : List ℕ) (entries : List Entry) → is_among (genome_names entries) name ≡ false → spans_on name (flat_map (gaps_on records) entries) ≡ []
   gaps_absent name [] e = refl
   gaps_absent name (entry ∷ entries) e =
-      let parts = or_parts (bytes_eq entry.name name) (is_among (genome_names entries) name) e in
-      grind (arith, (gaps_absent name entries parts.1), spans_on-append, none_there)
+      grind (arith, (gaps_absent name entries (or_parts (bytes_eq entry.name name) (is_among (genome_names entries) name) e).1), spans_on-append, none_there)
 
   pub gaps_there : (name : List ℕ) (entries : List Entry) → AreDistinct (genome_names entries) → spans_on name (flat_map (gaps_on records) entries) ≡ gaps_of (length_in entries name) (spans_on name records)
   gaps_there name [] distinct = sym (no_gaps (spans_on name records))
@@ -58,13 +57,10 @@ complement_spans entries records name distinct =
     ap (λ es. spans_on name (flat_map (gaps_on (intervals_of records)) es)) (filter_all (is_asked false (intervals_of records)) entries (all_any _ entries (λ e. refl)))
     ∙ gaps_there (intervals_of records) name entries distinct
 
-pub hidden_other : (chrom name : List ℕ) → not (is_header chrom) ≡ false → is_header name ≡ false → bytes_eq chrom name ≡ false
-hidden_other chrom name hidden plain = search rules
-
 -- lines of header words hide nothing of another chromosome
 pub unhidden : (name : List ℕ) (rs : List Interval) → is_header name ≡ false → spans_on name (intervals_of (filter is_no_header (map three_columns rs))) ≡ spans_on name rs
 unhidden name [] e = refl
-unhidden name (r ∷ rs) e = grind (arith, (unhidden name rs e), hidden_other)
+unhidden name (r ∷ rs) e = grind (arith, (unhidden name rs e), rules)
 
 -- ---- what a has in the gaps
 
@@ -94,12 +90,9 @@ module _ (a : Feature) (bs gs : List Feature) (size : ℕ) (within : a.stop ≤ 
   found_hits : AllByRecursion (Hit any_overlap a) found
   found_hits = all_hits any_overlap a gs said
 
-  found_apart : EachPair (λ g h. (cut_span a g).stop < (cut_span a h).start) found
-  found_apart = grind (arith, pairs_so, hit_name, found_hits, pairs_filter)
-
   cut_apart : AreApartFrom 0 (map (cut_span a) found)
   cut_apart = from_pairs 0 (map (cut_span a) found) (all_map (λ (s : Span). (0 ≤ s.start) × (s.start < s.stop)) (cut_span a) found (all_so (Hit any_overlap a) (λ g. (0 ≤ (cut_span a g).start) × ((cut_span a g).start < (cut_span a g).stop)) found (λ g hit. (omega arith, cut_bounds any_overlap a g hit.1)) found_hits))
-      (pairs_map (λ (s t : Span). s.stop < t.start) (cut_span a) found found_apart)
+      (pairs_map (λ (s t : Span). s.stop < t.start) (cut_span a) found (grind (arith, pairs_so, hit_name, found_hits, pairs_filter)))
 
   pub left_in_gaps : map (cut_span a) found ≡ pieces a (hits_among any_overlap a bs)
   left_in_gaps = grind (arith, only_pieces, cut_apart, cut_covered, (are_gaps size (spans_on a.chrom (intervals_of bs))), hit_to, hit_back, covered_cut)

@@ -1,5 +1,5 @@
 -- Gaps of gaps, and merged depths.
-use Rattle.bt_lines.proofs.Std.{◌≡◌, ℕ, ◌+◌, ◌<◌, ◌≤◌, true, false, cond, List, [], ◌∷◌, ◌++◌, map, filter, min, Some, None, refl, sym, ap, ◌∙◌, subst, inl, inr, arith, append-nil, bytes_eq, flat_map, nat_lt, AllByRecursion, cases_Bool, cases_lt, le-ltb, lt-ltb, or_parts, flat_map-append, map-append}
+use Rattle.bt_lines.proofs.Std.{◌≡◌, ℕ, ◌+◌, ◌<◌, ◌≤◌, true, false, cond, List, [], ◌∷◌, ◌++◌, map, filter, min, Some, None, refl, sym, ap, ◌∙◌, subst, inl, inr, arith, append-nil, bytes_eq, flat_map, nat_lt, AllByRecursion, cases_Bool, cases_lt, le-ltb, lt-ltb, or_parts, flat_map-append, map-append, rules}
 use Rattle.bt_lines.specs.declared.fault.Input.TheVariants.{First}
 use Rattle.bt_bed.specs.model.Feature.{Feature, intervals_of, interval_of, Interval, Span, placed_on, spans_on, span_of}
 use Rattle.bt_bed.specs.calls.Stretches.{AreApartFrom, IsCovered}
@@ -25,7 +25,7 @@ use Rattle.bt_laws.specs.WholeRuns.{first_records, piped}
 use Rattle.bt_laws.specs.Pipes.{IsInput, is_no_header, three_columns, four_columns}
 use Rattle.bt_laws.proofs.lemmas.pipes.PipeLaws.{runs_cover, SameCover, covered_some, some_covered, chroms_of, complement_whole, merge_whole, genomecov_whole}
 use Rattle.bt_laws.proofs.lemmas.pipes.RunsBack.{gaps_back, coverage_back}
-use Rattle.bt_laws.proofs.lemmas.same.GapsHit.{complement_spans, unhidden, hidden_other}
+use Rattle.bt_laws.proofs.lemmas.same.GapsHit.{complement_spans, unhidden}
 use Rattle.bt_laws.proofs.lemmas.Lists.{all_any, filter_all, flat_map_same, all_zip}
 use Rattle.bt_laws.proofs.lemmas.same.SameRuns.{alike_merged, complement_on, fault_as, told_same, writes_is, here_all, merge_on, none_there, all_counted}
 use Rattle.bt_laws.proofs.lemmas.parts.PartTexts.{order_total}
@@ -51,9 +51,6 @@ nearer first low (s ∷ ss) up h = (omega (arith, up, h.0), h.1, h.2)
 
 one_more : (size : ℕ) (s : Span) (ss : List Span) (p : ℕ) → IsCovered (record { start = s.start; stop = min s.stop size } ∷ cut_spans size ss) p → (IsCovered (cut_spans size ss) p → IsCovered ss p × (p < size)) → IsCovered (s ∷ ss) p × (p < size)
 one_more size s ss p p1 more = grind arith
-
-covered_or : (spans : List Span) (p : ℕ) → ((IsCovered spans p → ⊥) → ⊥) → IsCovered spans p
-covered_or spans p h = grind (arith, (is_covered-Decides spans p))
 
 cut_apart : (size first : ℕ) (spans : List Span) → AreApartFrom first spans → AreApartFrom first (cut_spans size spans)
 cut_apart size first [] h = tt
@@ -81,7 +78,7 @@ gaps_twice size spans =
       within = λ p c.
           let is = cut_to size (runs_of 0 spans) p c in
           record { within = is.1; bare = λ gap. (gaps.within p gap).bare (cover.to p is.0) };
-      whole = λ p b. cut_back size (runs_of 0 spans) p b.within (cover.back p (covered_or spans p (λ off. b.bare (gaps.whole p (record { within = b.within; bare = off })))));
+      whole = λ p b. cut_back size (runs_of 0 spans) p b.within (cover.back p (grind (arith, (is_covered-Decides spans p))));
     }))
 
 -- ---- chromosome by chromosome
@@ -190,8 +187,7 @@ module _ (records : List Feature) where
   depths_absent : (name : List ℕ) (entries : List Entry) → is_among (genome_names entries) name ≡ false → spans_on name (map interval_at (flat_map (depths_on false None records) entries)) ≡ []
   depths_absent name [] e = refl
   depths_absent name (entry ∷ entries) e =
-      let parts = or_parts (bytes_eq entry.name name) (is_among (genome_names entries) name) e in
-      grind (arith, (depths_absent name entries parts.1), at_both, spans_on-append, none_there)
+      grind (arith, (depths_absent name entries (or_parts (bytes_eq entry.name name) (is_among (genome_names entries) name) e).1), at_both, spans_on-append, none_there)
 
   depths_there : (name : List ℕ) (entries : List Entry) → AreDistinct (genome_names entries) → spans_on name (map interval_at (flat_map (depths_on false None records) entries)) ≡ spans_for name (length_in entries name)
   depths_there name [] distinct = sym (no_levels name)
@@ -208,8 +204,7 @@ module _ (records : List Feature) where
       record {
         to = λ p c.
             let has = covered_value (levels_for name size) p c in
-            let is = are.within p has.0 has.1 in
-            let deep = shown (depth_at (counted_on None name records) p) has.0 is.1 in
+            let deep = shown (depth_at (counted_on None name records) p) has.0 (are.within p has.0 has.1).1 in
             subst (λ l. IsCovered l p) (counted_all name) (some_covered (counted_on None name records) p (subst (λ n. 0 < n) (sym deep.0) deep.1));
         back = λ p c.
             let deep = covered_some (counted_on None name records) p (subst (λ l. IsCovered l p) (sym (counted_all name)) c) in
@@ -232,7 +227,7 @@ covered_within entries name (r ∷ rs) p within c = elim (cases_name r.chrom nam
 -- lines of header words
 unhidden_depths : (name : List ℕ) (rs : List DepthInterval) → is_header name ≡ false → spans_on name (intervals_of (filter is_no_header (map four_columns rs))) ≡ spans_on name (map interval_at rs)
 unhidden_depths name [] e = refl
-unhidden_depths name (r ∷ rs) e = grind (arith, (unhidden_depths name rs e), hidden_other)
+unhidden_depths name (r ∷ rs) e = grind (arith, (unhidden_depths name rs e), rules)
 
 -- no record that was read lies on a chromosome of a header word
 none_hidden : (name : List ℕ) (records : List Feature) → is_header name ≡ true → AllByRecursion IsSaid records → spans_on name (intervals_of records) ≡ []
@@ -266,8 +261,7 @@ genomecov_merged d inputs entries well within =
     let good = bed_good First order inputs.first in
     let depths_well = fault_as (Merge d All) (Coverage false None) inputs (Some entries) well (told_same (merge_written order d All) (coverage_written entries false None) (items_in good) good.fault) in
     let e = genomecov_whole false None inputs (Some entries) depths_well in
-    let depths = coverage false None entries records in
-    let read = filter is_no_header (map four_columns depths) in
+    let read = filter is_no_header (map four_columns (coverage false None entries records)) in
     let text = (report_of (Coverage false None) inputs).output in
     let is : IsInput order text read = subst (λ t. IsInput order t read) (sym e) (coverage_back entries known.0 known.1 false None records) in
     let read_said = subst (AllByRecursion IsSaid) (is.records_are First) (good_are_said First order (whole_text text)) in

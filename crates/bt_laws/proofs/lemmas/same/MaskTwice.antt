@@ -1,7 +1,7 @@
 -- What maskfasta writes has the lines of its input, and is masked already.
 use Rattle.bt_lines.proofs.Std.{common_steps, ◌≡◌, ◌||◌, ℕ, suc, ◌+◌, ◌≤◌, Bool, true, false, List, [], ◌∷◌, ◌++◌, map, length, Option, Some, None, refl, sym, ap, ap₂, ◌∙◌, arith, eqb, flat_map, if◌then◌else◌, list_all, list_any, option_or, ends_with_byte, All-head, All-nil, All-tail, ◌<◌, Result, subst, is_some, AllByRecursion, flat_map-map}
-use Rattle.bt_lines.specs.model.Fault.{FaultValue, read_failed}
-use Rattle.bt_lines.specs.model.Lines.{Handed, cut_fault, lines_handed, whole_text, TextLine, end_bytes, text_lines, whole_lines}
+use Rattle.bt_lines.specs.model.Fault.{FaultValue}
+use Rattle.bt_lines.specs.model.Lines.{Handed, cut_fault, lines_handed, whole_text, TextLine, end_bytes, text_lines}
 use Rattle.bt_lines.specs.calls.Line.{NoLineFeed}
 use Rattle.bt_lines.specs.declared.fault.Input.TheVariants.{First, Second}
 use Rattle.bt_bed.specs.model.Feature.{Feature, intervals_of, Interval, spans_on}
@@ -9,7 +9,7 @@ use Rattle.bt_bed.specs.model.BedLine.{record_of}
 use Rattle.bt_bed.specs.model.Genome.{Entry}
 use Rattle.bt_bed.specs.model.Good.{Good, good, items_in, or_else, block_good, good_from, good_with, block_format, bed_format, bed_good, line_says, said_after}
 use Rattle.bt_bed.specs.model.Meeting.{Met, Rule, join_report, written}
-use Rattle.bt_seq.specs.model.Masked.{covers, decided, mask_met, mask_rule, masked_byte, masked_from, masked_line, masked_text, names_of, no_sequence, own_records, SequenceLine, is_header, sequence_format, sequence_good, bases_up_to}
+use Rattle.bt_seq.specs.model.Masked.{covers, mask_met, mask_rule, masked_byte, masked_from, masked_line, masked_text, names_of, no_sequence, own_records, SequenceLine, sequence_format, sequence_good, bases_up_to}
 use Rattle.bt_seq.specs.declared.mask.mask_how.MaskHow.{MaskHow}
 use Rattle.bt_seq.specs.declared.mask.mask_how.MaskHow.TheVariants.{Soft, Hard}
 use Rattle.bt_tool.specs.model.Report.{Inputs, or_empty, report_of, order_of}
@@ -53,12 +53,9 @@ record KeepsApart (how : MaskHow) : Type 0 where
   return : IsNot how 13
   header : IsNot how 62
 
-apart_by : (how : MaskHow) → KeepsLines how → KeepsApart how
-apart_by how keeps = grind arith
-
 module _ (how : MaskHow) (keeps : KeepsLines how) where
   apart : KeepsApart how
-  apart = apart_by how keeps
+  apart = grind arith
 
   module _ (records : List Feature) where
     abbrev kept_base : ℕ → ℕ → ℕ
@@ -66,9 +63,6 @@ module _ (how : MaskHow) (keeps : KeepsLines how) where
 
     kept_not : (position base byte : ℕ) → IsNot how byte → byte ≤ 64 → eqb base byte ≡ false → eqb (kept_base position base) byte ≡ false
     kept_not position base byte is low other = grind arith
-
-    kept_again : (position base : ℕ) → kept_base position (kept_base position base) ≡ kept_base position base
-    kept_again position base = grind arith
 
     size_from : (position : ℕ) (bases : List ℕ) → length (masked_from how records position bases) ≡ length bases
     size_from position [] = refl
@@ -85,23 +79,17 @@ module _ (how : MaskHow) (keeps : KeepsLines how) where
 
     from_again : (position : ℕ) (bases : List ℕ) → masked_from how records position (masked_from how records position bases) ≡ masked_from how records position bases
     from_again position [] = refl
-    from_again position (base ∷ bases) = ap₂ (λ a b. a ∷ b) (kept_again position base) (from_again (suc position) bases)
+    from_again position (base ∷ bases) = ap₂ (λ a b. a ∷ b) (grind arith) (from_again (suc position) bases)
 
   module _ (records : List Feature) where
     abbrev text_by : Bool → SequenceLine → List ℕ
     text_by header line = if header then line.text else masked_from how (own_records line.names records) line.before line.text
 
-    stands_by : (header : Bool) (line : SequenceLine) → is_header line.text ≡ header → NoLineFeed line.text → Stands line.text (text_by header line)
-    stands_by header line e clear = grind (arith, clear_from, size_from, last_from)
-
     safe_text : (line : SequenceLine) → NoLineFeed line.text → Stands line.text (masked_text how records line)
-    safe_text line clear = stands_by (is_header line.text) line refl clear
-
-    again_by : (header : Bool) (line : SequenceLine) → is_header line.text ≡ header → masked_text how records (with_text line (text_by header line)) ≡ text_by header line
-    again_by header line e = grind (arith, from_again)
+    safe_text line clear = grind (arith, clear_from, size_from, last_from)
 
     text_again : (line : SequenceLine) → masked_line how records (with_text line (masked_text how records line)) ≡ masked_line how records line
-    text_again line = ap (λ t. t ++ end_bytes line.ending) (again_by (is_header line.text) line refl)
+    text_again line = ap (λ t. t ++ end_bytes line.ending) (grind (arith, from_again))
 
 -- ---- a run without a fault
 
@@ -128,18 +116,12 @@ names_same f (line ∷ next ∷ lines) = names_same f (next ∷ lines)
 both_none : (one last : Option FaultValue) → option_or one last ≡ None → (one ≡ None) × (last ≡ None)
 both_none one last e = grind arith
 
-uncut_by : (b : Bool) (told : FaultValue) (whole all : List TextLine) → (if b then Some told else None) ≡ None → (if b then whole else all) ≡ all
-uncut_by b told whole all e = grind arith
-
 uncut_lines : (handed : Handed) → cut_fault First handed ≡ None → lines_handed handed ≡ text_lines handed.text
-uncut_lines handed e = uncut_by handed.is_cut (read_failed First (suc (length (whole_lines handed.text)))) (whole_lines handed.text) (text_lines handed.text) e
+uncut_lines handed e = grind arith
 
 size_of : (how : MaskHow) (records : List Feature) (position : ℕ) (bases : List ℕ) → length (masked_from how records position bases) ≡ length bases
 size_of how records position [] = refl
 size_of how records position (base ∷ bases) = ap suc (size_of how records (suc position) bases)
-
-size_by : (how : MaskHow) (records : List Feature) (header : Bool) (line : SequenceLine) → length (if header then line.text else masked_from how (own_records line.names records) line.before line.text) ≡ length line.text
-size_by how records header line = grind (arith, size_of)
 
 module _ (how : MaskHow) (full : Bool) (inputs : Inputs) (chromosomes : Option (List Entry)) (well : RunsWithoutFault (MaskFasta how full) inputs chromosomes) where
   abbrev first : Good SequenceLine
@@ -205,7 +187,7 @@ module _ (how : MaskHow) (full : Bool) (inputs : Inputs) (chromosomes : Option (
 
     layouts : (all : List SequenceLine) → map layout_of (map again_line all) ≡ map layout_of all
     layouts [] = refl
-    layouts (line ∷ all) = ap₂ (λ n rest. record { names = line.names; before = line.before; bytes = n; ending = line.ending } ∷ rest) (size_by how records (is_header line.text) line) (layouts all)
+    layouts (line ∷ all) = ap₂ (λ n rest. record { names = line.names; before = line.before; bytes = n; ending = line.ending } ∷ rest) (grind (arith, size_of)) (layouts all)
 
     lines_again : (all : List SequenceLine) → flat_map (masked_line how records) (map again_line all) ≡ flat_map (masked_line how records) all
     lines_again [] = refl
@@ -239,26 +221,17 @@ module _ (how : MaskHow) where
   same_from rs ss position [] e = refl
   same_from rs ss position (base ∷ bases) e = ap₂ (λ (b : Bool) rest. (if b then masked_byte how base else base) ∷ rest) (e position (omega arith) (omega arith)) (same_from rs ss (suc position) bases (λ p from to. e p (omega (arith, from)) (omega (arith, to))))
 
-  same_by : (header : Bool) (rs ss : List Feature) (position : ℕ) (text : List ℕ) → ((p : ℕ) → position ≤ p → p < position + (if header then 0 else length text) → list_any (covers p) rs ≡ list_any (covers p) ss)
-      → (if header then text else masked_from how rs position text) ≡ (if header then text else masked_from how ss position text)
-  same_by header rs ss position text e = grind (arith, same_from)
-
   pub same_line : (rs ss : List Feature) (line : SequenceLine) → ((p : ℕ) → line.before ≤ p → p < bases_up_to line → list_any (covers p) (own_records line.names rs) ≡ list_any (covers p) (own_records line.names ss)) → masked_line how rs line ≡ masked_line how ss line
-  same_line rs ss line e = ap (λ t. t ++ end_bytes line.ending) (same_by (is_header line.text) (own_records line.names rs) (own_records line.names ss) line.before line.text e)
+  same_line rs ss line e = ap (λ t. t ++ end_bytes line.ending) (grind (arith, same_from))
 
   both_from : (rs ss ts : List Feature) (position : ℕ) (bases : List ℕ) → ((p : ℕ) → position ≤ p → p < position + length bases → list_any (covers p) ts ≡ (list_any (covers p) rs || list_any (covers p) ss)) → masked_from how ss position (masked_from how rs position bases) ≡ masked_from how ts position bases
   both_from rs ss ts position [] e = refl
   both_from rs ss ts position (base ∷ bases) e = grind (arith, (both_from rs ss ts (suc position) bases (λ p from to. e p (omega (arith, from)) (omega (arith, to)))))
 
-  both_by : (keeps : KeepsLines how) (header : Bool) (rs ss ts : List Feature) (line : SequenceLine) → is_header line.text ≡ header
-      → ((p : ℕ) → line.before ≤ p → p < line.before + (if header then 0 else length line.text) → list_any (covers p) (own_records line.names ts) ≡ (list_any (covers p) (own_records line.names rs) || list_any (covers p) (own_records line.names ss)))
-      → masked_text how ss (with_text line (if header then line.text else masked_from how (own_records line.names rs) line.before line.text)) ≡ (if header then line.text else masked_from how (own_records line.names ts) line.before line.text)
-  both_by keeps header rs ss ts line is e = grind (arith, both_from)
-
   both_line : (keeps : KeepsLines how) (rs ss ts : List Feature) (line : SequenceLine)
       → ((p : ℕ) → line.before ≤ p → p < bases_up_to line → list_any (covers p) (own_records line.names ts) ≡ (list_any (covers p) (own_records line.names rs) || list_any (covers p) (own_records line.names ss)))
       → masked_line how ss (with_text line (masked_text how rs line)) ≡ masked_line how ts line
-  both_line keeps rs ss ts line e = ap (λ t. t ++ end_bytes line.ending) (both_by keeps (is_header line.text) rs ss ts line refl e)
+  both_line keeps rs ss ts line e = ap (λ t. t ++ end_bytes line.ending) (grind (arith, both_from))
 
 abbrev pub bed_of : Inputs → Good Feature
 bed_of inputs = block_good Second (or_empty inputs.second)
@@ -273,10 +246,8 @@ pub by_both : masked_by_both
 by_both how full inputs other both chromosomes keeps one two three same =
     let lines = sequence_lines full inputs in
     let mask = items_in (bed_of inputs) in
-    let text = flat_map (masked_line how mask) lines in
-    let read = sequence_good full First (whole_text text) in
-    let result = flat_map (masked_line how (items_in (bed_of both))) lines in
-    let met : mask_met how read (bed_of other) ≡ record { lines = result; fault = None } =
+    let read = sequence_good full First (whole_text (flat_map (masked_line how mask) lines)) in
+    let met : mask_met how read (bed_of other) ≡ record { lines = flat_map (masked_line how (items_in (bed_of both))) lines; fault = None } =
     met_all how (names_of (items_in read)) (bed_of other) (items_in read) read.fault (second_none how full (with_bed inputs other) chromosomes two)
     ∙ ap₂ (λ is fault. record { lines = flat_map (masked_line how (items_in (bed_of other))) is; fault = option_or fault (mask_rule how (names_of is) (bed_of other)).last }) (read_items how full inputs chromosomes one keeps) (read_none how full inputs chromosomes one keeps)
     ∙ ap₂ (λ l fault. record { lines = l; fault = fault }) (flat_map-map _ _ lines ∙ flat_map_same _ _ lines (all_so _ _ lines (both_line how keeps mask (items_in (bed_of other)) (items_in (bed_of both))) same))
@@ -325,8 +296,7 @@ module _ (order : Order) (one other : Input) where
 in_blocks : (order : Order) (handed : Handed) → (bed_good First order handed).fault ≡ None → IsLike (bed_good First order handed) (block_good Second handed)
 in_blocks order handed e =
     let lines = lines_handed handed in
-    let parts = cut_none (good (bed_format (sorting_of order)) First lines).fault (cut_fault First handed) e in
-    let like = lines_by order First Second None lines parts.0 in
+    let like = lines_by order First Second None lines (cut_none (good (bed_format (sorting_of order)) First lines).fault (cut_fault First handed) e).0 in
     grind arith
 
 -- ---- a BED and what merge makes of it

@@ -27,21 +27,18 @@ use Rattle.bt_tool.specs.model.Report.{entries_in, order_of, Inputs, report_of, 
 use Rattle.bt_tool.specs.declared.planning.plan_type.Command.TheVariants.{Complement, Merge}
 use Rattle.bt_laws.specs.WholeRuns.{RunsWithoutFault, first_records, RunWrites, piped}
 use Rattle.bt_laws.specs.Same.{IsRepeated, exchanged_complement, exchanged_genomecov, exchanged_merge, repeated_complement, repeated_merge, complement_of_merge, merge_of_merge}
-use Rattle.bt_laws.proofs.lemmas.pipes.PipeLaws.{SameCover, depth_both, same_by_depth, same_gaps, same_levels, same_runs, complement_whole, genomecov_whole, merge_whole, runs_again, runs_cover}
+use Rattle.bt_laws.proofs.lemmas.pipes.PipeLaws.{SameCover, depth_both, same_by_depth, same_gaps, same_levels, complement_whole, genomecov_whole, merge_whole, runs_again, runs_cover}
 use Rattle.bt_laws.proofs.lemmas.Lists.{EachPair, all_any, filter_all, flat_map_same, all_filter, all_map, all_so}
 use Rattle.bt_laws.proofs.lemmas.parts.PartTexts.{order_total}
 use Rattle.bt_lines.specs.model.Fault.{FaultValue}
 use Rattle.bt_lines.specs.model.Lines.{whole_text}
 use Rattle.bt_bed.specs.model.Good.{items_in, bed_good}
-use Rattle.bt_runs.proofs.lemmas.merge.Bridging.{are_runs, bridged_here}
+use Rattle.bt_runs.proofs.lemmas.merge.Bridging.{are_runs, bridged_here, only_runs}
 use Rattle.bt_tool.specs.model.Written.{Report, report_by, Written, complement_written, merge_written}
 use Rattle.bt_tool.specs.declared.planning.plan_type.Command.{Command}
 use Rattle.bt_laws.specs.Pipes.{IsInput, three_columns}
 
 -- ---- what comes twice
-
-any_twice : (q : Feature → Bool) (before : List Feature) (r : Feature) (after : List Feature) → list_any q (before ++ r ∷ after) ≡ (q r || list_any q (before ++ r ∷ after))
-any_twice q before r after = grind (arith, common_steps)
 
 -- ---- of the records that are kept
 
@@ -59,18 +56,15 @@ module _ (keep : Feature → Bool) where
   depth_split name xs ys p = grind (arith, kept_both, spans_on-append, depth_both)
 
   depth_two : (name : List ℕ) (before : List Feature) (r : Feature) (after : List Feature) (p : ℕ) → depth_in name (before ++ r ∷ after) p ≡ depth_in name before p + (depth_in name (r ∷ []) p + depth_in name after p)
-  depth_two name before r after p = depth_split name before (r ∷ after) p ∙ ap (λ n. depth_in name before p + n) (depth_split name (r ∷ []) after p)
+  depth_two name before r after p = (grind (arith, kept_both, spans_on-append, depth_both)) ∙ ap (λ n. depth_in name before p + n) (depth_split name (r ∷ []) after p)
 
   -- whether a name has records, and how many cover a position, is said record by record
   abbrev has_one : List ℕ → Feature → Bool
   has_one name r = has_records name (kept (r ∷ []))
 
-  has_by : (b : Bool) (name : List ℕ) (r : Feature) (rest : List Feature) → has_records name (intervals_of (cond b (r ∷ rest) rest)) ≡ (has_records name (intervals_of (cond b (r ∷ []) [])) || has_records name (intervals_of rest))
-  has_by b name r rest = grind arith
-
   has_any : (name : List ℕ) (rs : List Feature) → has_records name (kept rs) ≡ list_any (has_one name) rs
   has_any name [] = refl
-  has_any name (r ∷ rs) = has_by (keep r) name r (filter keep rs) ∙ ap (λ b. has_one name r || b) (has_any name rs)
+  has_any name (r ∷ rs) = (grind arith) ∙ ap (λ b. has_one name r || b) (has_any name rs)
 
   depth_sum : (name : List ℕ) (rs : List Feature) (p : ℕ) → depth_in name rs p ≡ sum_by (λ r. depth_in name (r ∷ []) p) rs
   depth_sum name [] p = refl
@@ -83,7 +77,7 @@ module _ (keep : Feature → Bool) where
   exchanged_depth rs ss is name p = depth_sum name rs p ∙ sym (sum_by-IsPermutation (λ r. depth_in name (r ∷ []) p) rs ss is) ∙ sym (depth_sum name ss p)
 
   repeated_has : (rs ss : List Feature) → IsRepeated rs ss → (name : List ℕ) → has_records name (kept rs) ≡ has_records name (kept ss)
-  repeated_has rs ss is name = grind (arith, (has_any name rs), (any_twice (has_one name) is.before is.twice is.after), (list_any-IsPermutation (has_one name) (is.twice ∷ rs) ss is.second), (has_any name ss))
+  repeated_has rs ss is name = grind (arith, (has_any name rs), common_steps, (list_any-IsPermutation (has_one name) (is.twice ∷ rs) ss is.second), (has_any name ss))
 
   exchanged_cover : (rs ss : List Feature) → IsPermutation rs ss → (name : List ℕ) → SameCover (spans_on name (kept rs)) (spans_on name (kept ss))
   exchanged_cover rs ss is name = same_by_depth (spans_on name (kept rs)) (spans_on name (kept ss)) (λ p some. subst (λ n. 0 < n) (exchanged_depth rs ss is name p) some) (λ p some. subst (λ n. 0 < n) (sym (exchanged_depth rs ss is name p)) some)
@@ -91,7 +85,7 @@ module _ (keep : Feature → Bool) where
   repeated_cover : (rs ss : List Feature) → IsRepeated rs ss → (name : List ℕ) → SameCover (spans_on name (kept rs)) (spans_on name (kept ss))
   repeated_cover rs ss is name =
       let one : (p : ℕ) → depth_in name rs p ≡ depth_in name is.before p + (depth_in name (is.twice ∷ []) p + depth_in name is.after p) = λ p. ap (λ l. depth_in name l p) is.first ∙ depth_two name is.before is.twice is.after p in
-      let two : (p : ℕ) → depth_in name ss p ≡ depth_in name (is.twice ∷ []) p + depth_in name rs p = λ p. sym (exchanged_depth (is.twice ∷ rs) ss is.second name p) ∙ depth_split name (is.twice ∷ []) rs p in
+      let two : (p : ℕ) → depth_in name ss p ≡ depth_in name (is.twice ∷ []) p + depth_in name rs p = λ p. sym (exchanged_depth (is.twice ∷ rs) ss is.second name p) ∙ (grind (arith, kept_both, spans_on-append, depth_both)) in
       same_by_depth (spans_on name (kept rs)) (spans_on name (kept ss)) (λ p some. omega (arith, two p, some)) (λ p some. omega (arith, one p, two p, some))
 
 -- for any choice of records, the same names have some, and the same positions are covered
@@ -118,9 +112,6 @@ among_first : (n : List ℕ) (ns : List (List ℕ)) → is_among (n ∷ ns) n �
 among_first n ns = ap (λ b. b || is_among ns n) (name_eq n n refl)
 
 module _ (order : Order) (total : IsTotal order) where
-  not_among : (n : List ℕ) (ns : List (List ℕ)) → IsTrue (order.knows n) → AllByRecursion (Earlier order n) ns → is_among ns n ≡ false
-  not_among n ns known later = grind (arith, among_so)
-
   same_names : (xs ys : List (List ℕ)) → AreKnown order xs → AreKnown order ys → EachPair (Earlier order) xs → EachPair (Earlier order) ys → ((name : List ℕ) → is_among xs name ≡ is_among ys name) → xs ≡ ys
   same_names [] [] k l up vp same = refl
   same_names [] (y ∷ ys) k l up vp same = let apart : false ≡ true = same y ∙ among_first y ys in cc
@@ -129,7 +120,7 @@ module _ (order : Order) (total : IsTotal order) where
     | inl e ↦
         ap (λ n. n ∷ xs) e
         ∙ ap (λ ns. y ∷ ns) (same_names xs ys k.1 l.1 up.1 vp.1 (λ name. elim (cases_name x name) [
-          | inl s ↦ subst (λ n. is_among xs n ≡ false) s (not_among x xs k.0 up.0) ∙ sym (subst (λ n. is_among ys n ≡ false) (sym e ∙ s) (not_among y ys l.0 vp.0))
+          | inl s ↦ subst (λ n. is_among xs n ≡ false) s (grind (arith, among_so)) ∙ sym (subst (λ n. is_among ys n ≡ false) (sym e ∙ s) (grind (arith, among_so)))
           | inr other ↦ ap (λ b. b || is_among xs name) (sym other) ∙ same name ∙ ap (λ b. b || is_among ys name) (subst (λ n. bytes_eq n name ≡ false) e other)
         ]))
     | inr other ↦ grind (arith, among_so, among_first, name_ne-sym)
@@ -158,7 +149,7 @@ module _ (order : Order) (total : IsTotal order) where
 
 pub alike_merged : (names : List (List ℕ)) (gap : ℕ) (rs ss : List Interval) → ((name : List ℕ) → SameCover (spans_on name rs) (spans_on name ss)) → merged names gap rs ≡ merged names gap ss
 unfolding merged
-alike_merged names gap rs ss same = flat_map_same (λ name. runs_on name gap rs) (λ name. runs_on name gap ss) names (all_any _ names (λ name. ap (map (placed_on name)) (same_runs gap (spans_on name rs) (spans_on name ss) (same name))))
+alike_merged names gap rs ss same = flat_map_same (λ name. runs_on name gap rs) (λ name. runs_on name gap ss) names (all_any _ names (λ name. ap (map (placed_on name)) (grind (arith, (are_runs gap (spans_on name rs)), only_runs))))
 
 alike_runs : (order : Order) → IsTotal order → (gap : ℕ) (strand : MergeStrand) (rs ss : List Feature) → ArePlaced order (intervals_of rs) → ArePlaced order (intervals_of ss) → IsAlike rs ss → ordered_runs order gap strand rs ≡ ordered_runs order gap strand ss
 unfolding ordered_runs
@@ -237,9 +228,6 @@ pub kept_pass : {A : Type 0} (t : A → Bool) (xs : List A) → AllByRecursion (
 kept_pass t [] = tt
 kept_pass t (x ∷ xs) = kept_one t x (filter t xs) (t x) refl (kept_pass t xs)
 
-or_right : (a b : Bool) → b ≡ true → (a || b) ≡ true
-or_right a b e = grind arith
-
 pub back : (rs : List Interval) → intervals_of (map three_columns rs) ≡ rs
 back [] = refl
 back (r ∷ rs) = ap (λ l. r ∷ l) (back rs)
@@ -250,7 +238,7 @@ again name ns = filter_all (λ other. not (bytes_eq other name)) (without name n
 -- what holds of each name that has records
 names_so : (P : List ℕ → Type 0) (rs : List Interval) → ((name : List ℕ) → has_records name rs ≡ true → P name) → AllByRecursion P (chromosomes rs)
 names_so P [] h = tt
-names_so P (r ∷ rs) h = grind (arith, (names_so P rs (λ name has. h name (or_right (bytes_eq r.chrom name) (has_records name rs) has))), name_eq, all_filter)
+names_so P (r ∷ rs) h = grind (arith, (names_so P rs (λ name has. h name (grind arith))), name_eq, all_filter)
 
 -- ---- the spans of runs, name by name
 
@@ -357,22 +345,17 @@ module _ (command : Command) (inputs : Inputs) (chromosomes : Option (List Entry
   unfolding report_of
   report_there = ap (λ found. report_on command found inputs.first inputs.second) genome
 
-writes_by : (written : Written Feature) (records : List Feature) (fault : Option FaultValue) (members : List Feature) → fault ≡ None → members ≡ records → report_by written members fault ≡ record { output = written.whole records; fault = None }
-writes_by written records fault members none same = grind arith
-
 pub merge_on : (d : ℕ) (strand : MergeStrand) (inputs : Inputs) (chromosomes : Option (List Entry)) (text : List ℕ) (records : List Feature) → chromosomes_of inputs.genome ≡ Ok chromosomes → inputs.first ≡ whole_text text → IsInput (order_of chromosomes) text records
     → report_of (Merge d strand) inputs ≡ record { output = (merge_written (order_of chromosomes) d strand).whole records; fault = None }
 merge_on d strand inputs chromosomes text records genome first is =
-    let good = bed_good First (order_of chromosomes) inputs.first in
     report_there (Merge d strand) inputs chromosomes genome
-    ∙ writes_by (merge_written (order_of chromosomes) d strand) records good.fault (items_in good) (ap (λ t. (bed_good First (order_of chromosomes) t).fault) first ∙ is.faultless First) (ap (λ t. items_in (bed_good First (order_of chromosomes) t)) first ∙ is.records_are First)
+    ∙ (grind arith)
 
 pub complement_on : (limit : Bool) (inputs : Inputs) (chromosomes : Option (List Entry)) (text : List ℕ) (records : List Feature) → chromosomes_of inputs.genome ≡ Ok chromosomes → inputs.first ≡ whole_text text → IsInput (order_of chromosomes) text records
     → report_of (Complement limit) inputs ≡ record { output = interval_lines (complement limit (entries_in chromosomes) records); fault = None }
 complement_on limit inputs chromosomes text records genome first is =
-    let good = bed_good First (order_of chromosomes) inputs.first in
     report_there (Complement limit) inputs chromosomes genome
-    ∙ writes_by (complement_written (entries_in chromosomes) limit) records good.fault (items_in good) (ap (λ t. (bed_good First (order_of chromosomes) t).fault) first ∙ is.faultless First) (ap (λ t. items_in (bed_good First (order_of chromosomes) t)) first ∙ is.records_are First)
+    ∙ (grind arith)
 
 pub writes_is : (command : Command) (inputs : Inputs) (bytes : List ℕ) → report_of command inputs ≡ record { output = bytes; fault = None } → RunWrites command inputs bytes
 writes_is command inputs bytes e = record { output = ap (λ (r : Report). r.output) e; faultless = ap (λ (r : Report). r.fault) e }

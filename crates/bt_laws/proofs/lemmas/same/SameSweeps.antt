@@ -1,5 +1,5 @@
 -- Which runs of intersect and subtract write the same lines.
-use Rattle.bt_lines.proofs.Std.{◌≡◌, ℕ, Bool, true, false, cond, List, [], ◌∷◌, ◌++◌, map, filter, length, Option, Result, Ok, Err, refl, sym, ap, ap₂, ◌∙◌, subst, arith, decimal, ◌-◌, ◌<◌, ◌≤◌, max, min, Some, None, inl, inr, cases_Bool, flat_map, nat_lt, replicate, ◌==◌, bytes_eq, AllByRecursion, map-id, list_any, or_parts, list_any-append}
+use Rattle.bt_lines.proofs.Std.{◌≡◌, ℕ, Bool, true, false, cond, List, [], ◌∷◌, ◌++◌, map, filter, length, Option, Result, Ok, Err, refl, sym, ap, ap₂, ◌∙◌, subst, arith, decimal, ◌<◌, ◌≤◌, max, min, Some, None, inl, inr, cases_Bool, flat_map, nat_lt, replicate, ◌==◌, bytes_eq, AllByRecursion, map-id, list_any, or_parts, list_any-append}
 use Rattle.bt_lines.specs.model.Fault.{FaultValue}
 use Rattle.bt_lines.specs.model.Lines.{Handed, cut_fault, lines_handed, whole_text, TextLine}
 use Rattle.bt_lines.specs.declared.fault.Input.TheVariants.{First, Second}
@@ -13,7 +13,7 @@ use Rattle.bt_bed.specs.model.Order.{Order, is_among}
 use Rattle.bt_sweep.specs.model.Hits.{hits_among, hits, strands_agree}
 use Rattle.bt_sweep.specs.calls.Sweeping.{any_overlap}
 use Rattle.bt_sweep.specs.model.Lines.{hit_line, intersect, line_with, lines_for, lines_of, piece_line, sweep_rule, pieces}
-use Rattle.bt_sweep.specs.calls.LineLaws.{IsLeft, spans_of}
+use Rattle.bt_sweep.specs.calls.LineLaws.{spans_of}
 use Rattle.bt_sweep.specs.declared.hits.hit_rule.HitRule.{HitRule}
 use Rattle.bt_sweep.specs.declared.output.shape.Shape.{Shape}
 use Rattle.bt_sweep.specs.declared.output.shape.Shape.TheVariants.{Count, Missing, Once, OrigA, Whole, Pieces}
@@ -85,23 +85,15 @@ module _ (rule : HitRule) (second : List Feature) where
   count_lines [] = refl
   count_lines (a ∷ more) = ap (λ l. line_with (bed_text a ∷ decimal (length (hits_among rule a second)) ∷ []) ++ l) (count_lines more)
 
-  once_by : (a : Feature) (found : List Feature) (kept : List Counted) → lines_of Once a found ++ flat_map (λ (c : Counted). own_line c.at) kept
-      ≡ flat_map (λ (c : Counted). own_line c.at) (cond (nat_lt 0 (length found)) (record { at = a; hits = length found } ∷ kept) kept)
-  once_by a found kept = grind arith
-
   once_lines : (as_read : List Feature) → intersect Once rule as_read second ≡ flat_map (λ (c : Counted). own_line c.at) (filter (λ (c : Counted). nat_lt 0 c.hits) (map with_hits as_read))
   unfolding lines_for
   once_lines [] = refl
-  once_lines (a ∷ more) = ap (λ l. lines_of Once a (hits_among rule a second) ++ l) (once_lines more) ∙ once_by a (hits_among rule a second) (filter (λ (c : Counted). nat_lt 0 c.hits) (map with_hits more))
-
-  missing_by : (a : Feature) (found : List Feature) (kept : List Counted) → lines_of Missing a found ++ flat_map (λ (c : Counted). own_line c.at) kept
-      ≡ flat_map (λ (c : Counted). own_line c.at) (cond (length found == 0) (record { at = a; hits = length found } ∷ kept) kept)
-  missing_by a found kept = grind arith
+  once_lines (a ∷ more) = ap (λ l. lines_of Once a (hits_among rule a second) ++ l) (once_lines more) ∙ (grind arith)
 
   missing_of : (as_read : List Feature) → intersect Missing rule as_read second ≡ flat_map (λ (c : Counted). own_line c.at) (filter (λ (c : Counted). c.hits == 0) (map with_hits as_read))
   unfolding lines_for
   missing_of [] = refl
-  missing_of (a ∷ more) = ap (λ l. lines_of Missing a (hits_among rule a second) ++ l) (missing_of more) ∙ missing_by a (hits_among rule a second) (filter (λ (c : Counted). c.hits == 0) (map with_hits more))
+  missing_of (a ∷ more) = ap (λ l. lines_of Missing a (hits_among rule a second) ++ l) (missing_of more) ∙ (grind arith)
 
   often : (a : Feature) (found : List Feature) → flat_map (hit_line OrigA a) found ≡ flat_map own_line (replicate (length found) a)
   often a [] = refl
@@ -179,11 +171,8 @@ covered_length (b ∷ found) p c = omega arith
 -- ---- what is written of a, by the positions that the second input has
 
 module _ (a : Feature) (bs cs : List Feature) (full : AllByRecursion IsSaid bs) (same : SameCover (spans_on a.chrom (intervals_of bs)) (spans_on a.chrom (intervals_of cs))) where
-  left_back : (p : ℕ) → IsLeft a (hits_among any_overlap a cs) p → IsLeft a (hits_among any_overlap a bs) p
-  left_back p left = grind (arith, hit_back, hit_to)
-
   pub pieces_same : pieces a (hits_among any_overlap a bs) ≡ pieces a (hits_among any_overlap a cs)
-  pieces_same = grind (arith, (are_pieces a (hits_among any_overlap a bs)), only_pieces, left_back, hit_back, hit_to)
+  pieces_same = grind (arith, (are_pieces a (hits_among any_overlap a bs)), only_pieces, hit_back, hit_to)
 
   some_to : 0 < length (hits_among any_overlap a bs) → 0 < length (hits_among any_overlap a cs)
   some_to some = grind (arith, first_covered, all_hits, covered_length, hit_back, hit_to)
@@ -241,8 +230,7 @@ cut_none fault cut e = grind arith
 pub other_input : (order : Order) (handed : Handed) → (bed_good Second order handed).fault ≡ None → (items_in (bed_good First order handed) ≡ items_in (bed_good Second order handed)) × ((bed_good First order handed).fault ≡ None)
 other_input order handed e =
     let lines = lines_handed handed in
-    let format = bed_format (sorting_of order) in
-    let parts = cut_none (good format Second lines).fault (cut_fault Second handed) e in
+    let parts = cut_none (good (bed_format (sorting_of order)) Second lines).fault (cut_fault Second handed) e in
     grind (arith, (like_from (sorting_of order) Second First None lines parts.0))
 
 pub output_by : (written : Written Feature) (members : List Feature) (fault : Option FaultValue) → fault ≡ None → (report_by written members fault).output ≡ written.whole members
@@ -277,9 +265,6 @@ module _ (inputs : Inputs) (chromosomes : Option (List Entry)) (genome : chromos
   second_input : IsInput order (of_second (Merge 0 All) inputs) (map three_columns runs)
   second_input = grind (arith, second_is, merge_back, order_total, good_are_said, placed_good)
 
-  same_bases : (name : List ℕ) → SameCover (spans_on name (intervals_of seconds)) (spans_on name (intervals_of (map three_columns runs)))
-  same_bases name = grind (arith, all_so, good_are_said, all_counted, back, run_spans, order_total, placed_good, same_sym, runs_cover)
-
   module _ (shape : Shape) (see : SeesBases shape) (first_none : (bed_good First order inputs.first).fault ≡ None) where
     merged_fault : (met_within order shape any_overlap None (bed_good First order inputs.first) (bed_good Second order (whole_text (of_second (Merge 0 All) inputs)))).fault ≡ None
     merged_fault = met_none order shape any_overlap (bed_good First order inputs.first) (bed_good Second order (whole_text (of_second (Merge 0 All) inputs))) first_none (second_input.faultless Second)
@@ -287,7 +272,7 @@ module _ (inputs : Inputs) (chromosomes : Option (List Entry)) (genome : chromos
     merged_lines : intersect shape any_overlap (first_records chromosomes inputs) (items_in (bed_good Second order (whole_text (of_second (Merge 0 All) inputs)))) ≡ intersect shape any_overlap (first_records chromosomes inputs) seconds
     merged_lines =
         sym (intersect_sees shape see (first_records chromosomes inputs) seconds (items_in (bed_good Second order (whole_text (of_second (Merge 0 All) inputs)))) (good_are_said Second order (or_empty inputs.second)) (good_are_said Second order (whole_text (of_second (Merge 0 All) inputs)))
-        (λ name. subst (λ rs. SameCover (spans_on name (intervals_of seconds)) (spans_on name (intervals_of rs))) (sym (second_input.records_are Second)) (same_bases name)))
+        (λ name. subst (λ rs. SameCover (spans_on name (intervals_of seconds)) (spans_on name (intervals_of rs))) (sym (second_input.records_are Second)) (grind (arith, all_so, good_are_said, all_counted, back, run_spans, order_total, placed_good, same_sym, runs_cover))))
 
     intersect_merged : RunWrites (Intersect shape any_overlap None) (with_second (Merge 0 All) inputs) (intersect shape any_overlap (first_records chromosomes inputs) seconds)
     intersect_merged = sweeps_from (Intersect shape any_overlap None) (with_second (Merge 0 All) inputs) chromosomes (intersect shape any_overlap (first_records chromosomes inputs) seconds) genome merged_fault
@@ -351,24 +336,18 @@ none_on : (name : List ℕ) (rs : List Feature) → has_records name (intervals_
 none_on name [] e = refl
 none_on name (r ∷ rs) e = grind (arith, (none_on name rs (or_parts (bytes_eq r.chrom name) (has_records name (intervals_of rs)) e).1))
 
-without_others : (n : List ℕ) (ns : List (List ℕ)) → AllByRecursion (λ m. bytes_eq n m ≡ false) (without n ns)
-without_others n ns = grind (arith, all_so, name_ne-sym, kept_pass)
-
 -- ---- one block for each chromosome
 
 followed : (r s : Feature) (ss : List Feature) → IsFollowed (interval_of r) (intervals_of (s ∷ ss)) → blocks (s ∷ ss) ≡ map (block_of (s ∷ ss)) (chromosomes (intervals_of (s ∷ ss)))
     → blocks (r ∷ s ∷ ss) ≡ map (block_of (r ∷ s ∷ ss)) (chromosomes (intervals_of (r ∷ s ∷ ss)))
 followed r s ss (inl same) e =
-    let later = s ∷ ss in
     let rest = without s.chrom (chromosomes (intervals_of ss)) in
     let here = name_eq r.chrom s.chrom (sym same.0) in
-    let apart : AllByRecursion (λ n. bytes_eq r.chrom n ≡ false) rest = subst (λ name. AllByRecursion (λ n. bytes_eq name n ≡ false) rest) same.0 (without_others s.chrom (chromosomes (intervals_of ss))) in
-    grind (arith, (elsewhere r later rest apart), (same_chromosome (interval_of r) (interval_of s) (intervals_of ss) (sym same.0)))
+    let apart : AllByRecursion (λ n. bytes_eq r.chrom n ≡ false) rest = subst (λ name. AllByRecursion (λ n. bytes_eq name n ≡ false) rest) same.0 (grind (arith, all_so, name_ne-sym, kept_pass)) in
+    grind (arith, (elsewhere r (s ∷ ss) rest apart), (same_chromosome (interval_of r) (interval_of s) (intervals_of ss) (sym same.0)))
 followed r s ss (inr off) e =
     let later = s ∷ ss in
-    let rest = without s.chrom (chromosomes (intervals_of ss)) in
     let names = chromosomes (intervals_of later) in
-    let apart = or_parts (bytes_eq s.chrom r.chrom) (has_records r.chrom (intervals_of ss)) off in
     let absent : is_among names r.chrom ≡ false = among_chromosomes r.chrom (intervals_of later) ∙ off in
     let alone : on_name r.chrom (r ∷ later) ≡ r ∷ [] = ap (λ (b : Bool). cond b (r ∷ on_name r.chrom later) (on_name r.chrom later)) (name_eq r.chrom r.chrom refl) ∙ ap (λ l. r ∷ l) (none_on r.chrom later off) in
     grind (arith, (elsewhere r later names (others r.chrom names absent)), (without_absent r.chrom names absent))

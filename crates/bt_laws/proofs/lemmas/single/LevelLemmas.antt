@@ -2,7 +2,7 @@
 use Rattle.bt_lines.proofs.Std.{◌≡◌, ℕ, zero, suc, ◌+◌, ◌<◌, ◌≤◌, inl, inr, List, [], ◌∷◌, ◌++◌, refl, sym, ap, ◌∙◌, subst, arith, map, Bool, true, ◌==◌, Option, Some, None, cases_Bool, cases_lt, eq-eqb, eqb-true, filter, flat_map, map-append, filter-append}
 use Rattle.bt_bed.specs.model.Feature.{Span, Feature, intervals_of, Interval, placed_on}
 use Rattle.bt_bed.specs.calls.Stretches.{AreApartFrom, IsCovered}
-use Rattle.bt_laws.specs.Runs.{AreDisjointFrom, DiffersFromNext, HasValue, level_on, levels_are, levels_only, stretches_are_levels, covered_have_depth, gaps_are_levels, gaps_have_depth_0, interval_at, is_bare, one_value, touching_runs_are_levels, runs_are_levels, one_place_is_kept}
+use Rattle.bt_laws.specs.Runs.{AreDisjointFrom, DiffersFromNext, HasValue, level_on, levels_are, levels_only, stretches_are_levels, covered_have_depth, gaps_are_levels, gaps_have_depth_0, interval_at, is_bare, one_value, touching_runs_are_levels, one_place_is_kept}
 use Rattle.bt_runs.specs.model.Depth.{Begun, Level, begun_after, ended_after, levels_from, levels_of, next_begun, next_ended, DepthInterval, coverage, depth_of, depth_on, depths_on}
 use Rattle.bt_runs.proofs.lemmas.coverage.LevelLemmas.{levels_more}
 use Rattle.bt_bed.specs.model.Genome.{Entry}
@@ -11,9 +11,9 @@ use Rattle.bt_runs.specs.calls.Complementing.{kept_place}
 use Rattle.bt_runs.specs.model.Merged.{is_covered, runs_of}
 use Rattle.bt_runs.specs.calls.MergedRuns.{Bridged}
 use Rattle.bt_runs.proofs.lemmas.complement.Walks.{are_gaps, is_bare-Decides}
-use Rattle.bt_runs.proofs.lemmas.merge.Bridging.{are_runs, covered_below_end, is_bridged-Decides, is_covered-Decides, bridged_here}
+use Rattle.bt_runs.proofs.lemmas.merge.Bridging.{are_runs, covered_below_end, is_covered-Decides, bridged_here}
 use Rattle.bt_runs.proofs.lemmas.definitions.Standing.{each_all, filter_keeps}
-use Rattle.bt_runs.proofs.lemmas.merge.SettledRuns.{few, whole_taken}
+use Rattle.bt_runs.proofs.lemmas.merge.SettledRuns.{whole_taken}
 use Rattle.bt_runs.proofs.lemmas.merge.StrandListing.{are_listed}
 use Rattle.bt_runs.proofs.lemmas.merge.StrandSettling.{strand_runs_are_all}
 use Rattle.bt_laws.specs.Merges.{one_run_is_kept, strand_runs_divide, strands_stay_in_order}
@@ -52,9 +52,6 @@ stop_up_to f g x y xs ys a b within e =
       | inr h ↦ h
     ]
 
-tail_within : (f : ℕ) (x y : Level) (xs ys : List Level) → AreDisjointFrom f (x ∷ xs) → x.stop ≡ y.stop → IsWithin (x ∷ xs) (y ∷ ys) → IsWithin xs ys
-tail_within f x y xs ys a e within = grind (arith, value_from)
-
 same_level : (x y : Level) → x.start ≡ y.start → x.stop ≡ y.stop → x.value ≡ y.value → x ≡ y
 same_level x y s e v = grind arith
 
@@ -70,7 +67,7 @@ same_levels f g (x ∷ xs) (y ∷ ys) a b to back =
     let long = stop_up_to g f y x ys xs b a back (sym starts) in
     let stops : x.stop ≡ y.stop = omega arith in
     let heads = same_level x y starts stops (sym (same_value f g x y xs ys a b to starts)) in
-    grind (arith, (same_levels x.stop y.stop xs ys a.3 b.3 (tail_within f x y xs ys a stops to) (tail_within g y x ys xs b (sym stops) back)))
+    grind (arith, (same_levels x.stop y.stop xs ys a.3 b.3 (grind (arith, value_from)) (grind (arith, value_from))))
 
 -- the list has the values of n positions before an end, from a first one on
 record IsScanOf (value : ℕ → Option ℕ) (first end : ℕ) (levels : List Level) : Type 0 where
@@ -90,8 +87,7 @@ looser f g (x ∷ xs) h d = (omega (arith, d.0), d.1, d.2, d.3)
 differs_before : (value : ℕ → Option ℕ) (begun : Begun) (p end : ℕ) (rest : List Level) → ((v : ℕ) → value p ≡ Some v → begun.value ≡ v → ⊥) → IsScanOf value p end rest → DiffersFromNext (record { start = begun.start; stop = p; value = begun.value }) rest
 differs_before value begun p end [] other scan = tt
 differs_before value begun p end (m ∷ ms) other scan = λ touch same.
-    let h = scan.within m.start m.value (inl (omega arith, scan.disjoint.1, refl)) in
-    other m.value (subst (λ n. value n ≡ Some m.value) (sym touch) h.1) same
+    other m.value (subst (λ n. value n ≡ Some m.value) (sym touch) (scan.within m.start m.value (inl (omega arith, scan.disjoint.1, refl))).1) same
 
 -- an ended interval before a scan that begins where it ends
 one_before : (value : ℕ → Option ℕ) (begun : Begun) (first p end : ℕ) (rest : List Level) → IsBegun value first p (Some begun) → p ≤ end → IsScanOf value p end rest → ((v : ℕ) → value p ≡ Some v → begun.value ≡ v → ⊥)
@@ -109,21 +105,17 @@ ScansRest value p end rest = (first : ℕ) (begun : Option Begun) → IsBegun va
 begins_here : (value : ℕ → Option ℕ) (p v : ℕ) → value p ≡ Some v → IsBegun value p (p + 1) (Some (record { start = p; value = v }))
 begins_here value p v e = (refl, omega arith, λ q low high. let same : q ≡ p = omega arith in ap value same ∙ e)
 
-goes_further : (value : ℕ → Option ℕ) (first p : ℕ) (begun : Begun) → IsBegun value first p (Some begun) → value p ≡ Some begun.value → IsBegun value first (p + 1) (Some begun)
-goes_further value first p begun b e = grind arith
-
 one_scan : (value : ℕ → Option ℕ) (first p end : ℕ) (begun : Option Begun) (v : Option ℕ) (rest : Option Begun → List Level) → value p ≡ v → p < end → IsBegun value first p begun → ScansRest value (p + 1) end rest
     → IsScanOf value first end (next_ended p v begun ++ rest (next_begun p v begun))
 one_scan value first p end None None rest e below b scan = grind (arith, (skips value p end (rest None) e (scan (p + 1) None refl)))
 one_scan value first p end None (Some v) rest e below b scan =
-    let from : first ≡ p = b in
-    rw from (scan p (Some (record { start = p; value = v })) (begins_here value p v e))
+    rw b (scan p (Some (record { start = p; value = v })) (begins_here value p v e))
 one_scan value first p end (Some begun) None rest e below b scan =
     one_before value begun first p end (rest None) b (omega arith) (skips value p end (rest None) e (scan (p + 1) None refl)) (λ w is same. let bare : None ≡ Some w = sym e ∙ is in cc)
 one_scan value first p end (Some begun) (Some v) rest e below b scan = elim (cases_Bool (begun.value == v)) [
   | inl t ↦
       let same = eqb-true begun.value v t in
-      rw t (scan first (Some begun) (goes_further value first p begun b (e ∙ ap Some (sym same))))
+      rw t (scan first (Some begun) (grind arith))
   | inr f ↦
       let other : begun.value ≡ v → ⊥ = λ same. let t = eq-eqb begun.value v same in cc in
       rw f (one_before value begun first p end (rest (Some (record { start = p; value = v }))) b (omega arith) (scan p (Some (record { start = p; value = v })) (begins_here value p v e)) (λ w is same. let here : Some v ≡ Some w = sym e ∙ is in other (cc)))
@@ -165,10 +157,6 @@ pub levels_of_stretches : stretches_are_levels
 levels_of_stretches test size spans h = grind (arith, only_levels, (apart_disjoint 0 0 spans (omega arith) h.apart), level_covered, covered_level)
 
 -- The merged runs and the gaps of a chromosome are intervals of equal value.
-
--- the merged runs
-pub runs_levels : runs_are_levels
-runs_levels gap size spans within = grind (arith, (are_runs gap spans), levels_of_stretches, covered_below_end, is_bridged-Decides)
 
 -- if nothing is bridged, a bridged position is covered
 bridged_covered : (spans : List Span) (p : ℕ) → Bridged 0 spans p → IsCovered spans p
@@ -225,9 +213,8 @@ kept_disjoint : (value first : ℕ) (ls : List Level) → AreDisjointFrom first 
     → AreDisjointFrom first (filter (has value) ls)
 kept_disjoint value first [] d = tt
 kept_disjoint value first (l ∷ ls) d =
-    let rest = filter (has value) ls in
     let behind = kept_disjoint value l.stop ls d.3 in
-    grind (arith, kept_has, differs_from, value_from, (looser l.stop first rest (omega (arith, d.0, d.1)) behind))
+    grind (arith, kept_has, differs_from, value_from, (looser l.stop first (filter (has value) ls) (omega (arith, d.0, d.1)) behind))
 
 -- depth 0 is that of the bare positions
 bare_depth : (spans : List Span) (p v : ℕ) → depth_of true spans p ≡ Some v → 0 ≡ v

@@ -11,7 +11,7 @@ use Rattle.bt_bed.specs.model.BedLine.{is_header, columns_say, not_skipped, reco
 use Rattle.bt_bed.specs.calls.Features.{IsFeature, columns_in, said_are_features}
 use Rattle.bt_bed.specs.model.Good.{Good, good_from, good_with, line_says, said_after, block_format, bed_format}
 use Rattle.bt_bed.specs.model.Meeting.{Rule, join_report, written}
-use Rattle.bt_laws.specs.Records.{blocks_know_each_chromosome, good_stand_on_lines, first_lines_have_the_first, good_in_blocks_are_non_empty, good_in_blocks_stand_on_lines, genome_names_are_distinct, first_lines_make_entries, read_are_rewritten, written_are_read, StaysDecided, bytes_know_each_chromosome, first_difference_decides, prefixes_come_first, HasBase, HasShared, shared_are_common, stretches_are_one, contiguous_grows}
+use Rattle.bt_laws.specs.Records.{blocks_know_each_chromosome, good_stand_on_lines, first_lines_have_the_first, good_in_blocks_are_non_empty, good_in_blocks_stand_on_lines, genome_names_are_distinct, first_lines_make_entries, read_are_rewritten, written_are_read, StaysDecided, bytes_know_each_chromosome, first_difference_decides, prefixes_come_first, shared_are_common, stretches_are_one, contiguous_grows}
 use Rattle.bt_bed.specs.model.Sorted.{Locus, block_sorting, sorting_of, has_records}
 use Rattle.bt_bed.specs.calls.Orders.{AreContiguous, AreDistinct}
 use Rattle.bt_lines.proofs.lemmas.reader.lines.TextLemmas.{lines_are_numbered, IsColumn, IsInside}
@@ -120,8 +120,7 @@ distinct_with input line names rest d h (Err kind) was entries e = cc
 distinct_with input line names rest d h (Ok None) was entries e = h names d entries e
 distinct_with input line names rest d h (Ok (Some entry)) was entries e =
     let parts = ok_entries entry (rest (names ++ entry.name ∷ [])) entries e in
-    let new = is_new names (entry_of line.text) entry was in
-    let more = h (names ++ entry.name ∷ []) (distinct_push names entry.name d new) parts.0 parts.1 in
+    let more = h (names ++ entry.name ∷ []) (distinct_push names entry.name d (is_new names (entry_of line.text) entry was)) parts.0 parts.1 in
     grind (arith, append_assoc)
 
 distinct_from : (input : Input) (names : List (List ℕ)) (lines : List TextLine) → AreDistinct names → KeepsDistinct names (genome_from input names lines)
@@ -155,7 +154,6 @@ unfolding genome_from
 first_entries_from input zero count number names lines size n beyond = ([], refl)
 first_entries_from input (suc more) count number names [] size n beyond = ([], refl)
 first_entries_from input (suc more) count number names (line ∷ lines) size n beyond =
-    let same = n.0 in
     first_with input count line.number names (new_entry names (entry_of line.text)) (λ now. genome_from input now lines) (λ now. genome_from input now (take more lines)) (omega arith)
     (λ now later. first_entries_from input more count (suc number) now lines (omega arith) n.1 later) beyond
 
@@ -168,16 +166,13 @@ first_make_entries input count text beyond = first_entries_from input count coun
 in_range_digit : (c : ℕ) → IsInRange 48 57 c → is_ascii_digit c ≡ true
 in_range_digit c h = grind arith
 
-in_range_inside : (c : ℕ) → IsInRange 48 57 c → IsInside c
-in_range_inside c h = grind arith
-
 digits_pass : (ds : List ℕ) → AllDigits 10 ds → list_all is_ascii_digit ds ≡ true
 digits_pass [] h = refl
 digits_pass (c ∷ cs) h = rw (in_range_digit c (digit_from_value c h.0), digits_pass cs h.1) refl
 
 digits_are_column : (ds : List ℕ) → AllDigits 10 ds → IsColumn ds
 digits_are_column [] h = λ k d l. absurd (omega arith)
-digits_are_column (c ∷ cs) h = All-cons IsInside c cs (in_range_inside c (digit_from_value c h.0)) (digits_are_column cs h.1)
+digits_are_column (c ∷ cs) h = All-cons IsInside c cs (grind arith) (digits_are_column cs h.1)
 
 -- the digits of a number denote it
 value_of_text : (text : List ℕ) (n : ℕ) → 0 < length text → AllDigits 10 text → digits_value 10 text ≡ n → n ≤ 999999999999 → value_of text ≡ Some n
@@ -190,18 +185,14 @@ value_of_decimal n small = let d = decimal_is_IsNumeral n (omega arith) in value
 decimal_is_column : (n : ℕ) → n ≤ 999999999999 → IsColumn (decimal n)
 decimal_is_column n small = digits_are_column (decimal n) (decimal_is_IsNumeral n (omega arith)).0.1
 
-rest_are_columns : (rest : List ℕ) → AllByRecursion IsColumn (columns_in rest)
-rest_are_columns rest = grind (arith, pieces_are_columns)
-
 -- the columns of a record's bytes
 columns_of_text : (f : Feature) → IsFeature f → pieces 9 (bed_text f) ≡ f.chrom ∷ decimal f.start ∷ decimal f.stop ∷ columns_in f.rest
 columns_of_text f is =
-    let small : f.start ≤ 999999999999 = omega (arith, is.non_empty, is.in_range) in
     let text : bed_text f ≡ f.chrom ++ kept_columns (decimal f.start ∷ decimal f.stop ∷ columns_in f.rest) =
     ap (λ l. f.chrom ++ 9 ∷ [] ++ decimal f.start ++ 9 ∷ [] ++ decimal f.stop ++ l) (sym (kept_again f.rest is.kept)) ∙ simp append_assoc in
     ap (pieces 9) text
     ∙ kept_is_cut f.chrom (decimal f.start ∷ decimal f.stop ∷ columns_in f.rest) is.named.one_column
-    (decimal_is_column f.start small, (decimal_is_column f.stop is.in_range, rest_are_columns f.rest))
+    (decimal_is_column f.start (omega (arith, is.non_empty, is.in_range)), (decimal_is_column f.stop is.in_range, grind (arith, pieces_are_columns)))
 
 text_says : (f : Feature) → IsFeature f → columns_say (pieces 9 (bed_text f)) ≡ Ok f
 text_says f is = grind (arith, columns_of_text, value_of_decimal, kept_again)
@@ -279,18 +270,9 @@ know_each kind of_bed is = let unknown = of_bed.1 is in false≢true (sym unknow
 
 -- Lemmas on the bases of intervals.
 
-both_share : (a b : Interval) (chrom : List ℕ) (p : ℕ) → HasBase a chrom p → HasBase b chrom p → HasShared a b chrom p
-both_share a b chrom p first second = grind arith
-
-shared_first : (a b : Interval) (chrom : List ℕ) (p : ℕ) → HasShared a b chrom p → HasBase a chrom p
-shared_first a b chrom p both = grind arith
-
-shared_second : (a b : Interval) (chrom : List ℕ) (p : ℕ) → HasShared a b chrom p → HasBase b chrom p
-shared_second a b chrom p both = grind arith
-
 -- the shared bases are the common ones
 pub common_bases : shared_are_common
-common_bases a b chrom p = (λ (first, second). both_share a b chrom p first second, λ both. (shared_first a b chrom p both, shared_second a b chrom p both))
+common_bases a b chrom p = (λ (first, second). grind arith, λ both. ((grind arith), grind arith))
 
 pub one_list : stretches_are_one
 one_list test xs ys a b = stretches_are_same (λ p. IsTrue (test p)) xs ys a b

@@ -1,6 +1,6 @@
 -- The words of a command line divide into items in one way.
-use Rattle.bt_lines.proofs.Std.{rules, ◌≡◌, ◌≢◌, ℕ, ◌+◌, ◌≤◌, Bool, false, List, [], ◌∷◌, ◌++◌, length, Option, Some, None, refl, arith, append_assoc, length-append, All, bytes_eq, Result, ◌↔◌, flat_map-append, All-head, All-tail, drop-append_seam, drop-length, bytes_eq-Decides}
-use Rattle.bt_tool.specs.model.Usage.{Item, items_of, words_of, spelled}
+use Rattle.bt_lines.proofs.Std.{rules, ◌≡◌, ◌≢◌, ℕ, ◌≤◌, Bool, false, List, [], ◌∷◌, ◌++◌, length, Option, Some, None, refl, arith, append_assoc, length-append, All, bytes_eq, Result, ◌↔◌, flat_map-append, All-head, All-tail, drop-append_seam, drop-length, bytes_eq-Decides}
+use Rattle.bt_tool.specs.model.Usage.{Item, items_of, spelled}
 use Rattle.bt_tool.specs.calls.CommandLine.{IsItem, IsLongestDivision, AnswersPlan, AnswersAll}
 use Rattle.bt_laws.specs.Reports.{AnswerIsUnique, FaultIsOfWhatIsLeft, LastItemCounts, LongestDivisionIsUnique}
 use Rattle.bt_tool.specs.model.Options.{PlanSeen, asked, command_of, last_item, options, word_fault}
@@ -13,12 +13,8 @@ use Rattle.bt_tool.proofs.lemmas.Division.{allowed, divided}
 abbrev Front : List Word → List Item → Type 0
 Front words items = (rest : List Word) × (words ≡ spelled items ++ rest)
 
-Front-item : (item : Item) (words : List Word) (items : List Item)
-    → Front words items → Front (words_of item ++ words) (item ∷ items)
-Front-item item words items p1 = grind arith
-
 front : (table : Table) (words : List Word) → Front words (items_of table words)
-front table words = grind (arith, (divided table Front (λ words. (words, refl)) (λ item rest items h spells. Front-item item rest items spells) words))
+front table words = grind (arith, (divided table Front (λ words. (words, refl)) (λ item rest items h spells. grind arith) words))
 
 -- if the words begin with other items, these are the first of those that are read
 items_of-spelled : (table : Table) (others : List Item) (rest : List Word)
@@ -27,25 +23,17 @@ items_of-spelled : (table : Table) (others : List Item) (rest : List Word)
 items_of-spelled table [] rest h = refl
 items_of-spelled table (item ∷ others) rest h = grind (arith, (items_of-spelled table others rest (All-tail (IsItem table) item others h)), All-head, append_assoc, items_of-item)
 
-longest : (table : Table) (words : List Word) (others : List Item) (rest : List Word)
-    → All (IsItem table) others → words ≡ spelled others ++ rest
-    → length (spelled others) ≤ length (spelled (items_of table words))
-longest table words others rest h e = grind (arith, items_of-spelled, flat_map-append, length-append)
-
 items_of-IsLongest : (table : Table) (words : List Word)
     → IsLongestDivision table words (items_of table words)
-items_of-IsLongest table words = grind (arith, allowed, front, longest)
+items_of-IsLongest table words = grind (arith, allowed, front, items_of-spelled, flat_map-append, length-append)
 
 spelled-none : (items : List Item) → length (spelled items) ≤ 0 → items ≡ []
 spelled-none [] h = refl
 spelled-none (item ∷ items) h = grind arith
 
-append-nil : {A : Type 0} (xs : List A) → xs ++ [] ≡ xs
-append-nil xs = search rules
-
 longest-items_of : (table : Table) (words : List Word) (items : List Item)
     → IsLongestDivision table words items → items ≡ items_of table words
-longest-items_of table words items h = grind (arith, (items_of-spelled table items (h.front.0) h.allowed), (front table words), allowed, flat_map-append, length-append, spelled-none, append-nil)
+longest-items_of table words items h = grind (arith, (items_of-spelled table items (h.front.0) h.allowed), (front table words), allowed, flat_map-append, length-append, spelled-none, rules)
 
 pub division-unique : LongestDivisionIsUnique
 division-unique table words items = grind (arith, (items_of-IsLongest table words), (longest-items_of table words items))
@@ -53,7 +41,7 @@ division-unique table words items = grind (arith, (items_of-IsLongest table word
 no_fault-all : (table : Table) (at : ℕ) (words : List Word) → word_fault table at words ≡ None
     → spelled (items_of table words) ≡ words
 unfolding word_fault
-no_fault-all table at words e = grind (arith, (front table words), drop-append_seam, append-nil)
+no_fault-all table at words e = grind (arith, (front table words), drop-append_seam, rules)
 
 all-no_fault : (table : Table) (at : ℕ) (words : List Word)
     → spelled (items_of table words) ≡ words → word_fault table at words ≡ None

@@ -1,5 +1,5 @@
 -- Lemmas on alignments and masked sequences.
-use Rattle.bt_lines.proofs.Std.{common_steps, rules, ◌≡◌, ℕ, ◌<◌, ◌≤◌, Bool, true, false, cond, List, [], ◌∷◌, ◌++◌, length, Option, Some, None, refl, sym, ap, ◌∙◌, length-append, arith, bytes_eq, append_cancel_right, ◌+◌, subst, option_map, sum_by-cons, add-zero, not, list_all, and_parts, append_assoc, flat_map, AllByRecursion, ◌≢◌, bytes_decides, ◌⊎◌}
+use Rattle.bt_lines.proofs.Std.{common_steps, rules, ◌≡◌, ℕ, ◌<◌, ◌≤◌, Bool, true, false, cond, List, [], ◌∷◌, ◌++◌, length, Option, Some, None, refl, sym, ap, ◌∙◌, length-append, arith, bytes_eq, append_cancel_right, ◌+◌, subst, sum_by-cons, add-zero, not, list_all, and_parts, append_assoc, flat_map, AllByRecursion, ◌≢◌, bytes_decides}
 use Rattle.bt_bed.specs.model.Feature.{Feature, Span}
 use Rattle.bt_seq.specs.model.Masked.{Block, blocks_by, names_behind, owned_from, decided, mask_rule, SequenceLine}
 use Rattle.bt_seq.specs.calls.MaskState.{left_at_last}
@@ -17,7 +17,6 @@ use Rattle.bt_seq.proofs.lemmas.definitions.MaskPrefixLemmas.{decided_stays, mas
 use Rattle.bt_seq.specs.declared.mask.mask_how.MaskHow.{MaskHow}
 use Rattle.bt_laws.specs.Records.{StaysDecided}
 use Rattle.std.specs.List.{last_or}
-use Rattle.bt_seq.specs.calls.MaskSteps.{IsOpen}
 
 -- A block belongs to the same sequence among the names up to a line and among all names.
 
@@ -82,8 +81,7 @@ module _ {A : Type 0} where
       → (o : Option (List (List ℕ))) → names_behind b.chrom (names ++ more) ≡ o → at_last o bs ≡ Some (rest ++ more) → at_last (names_behind b.chrom names) bs ≡ Some rest
   last_first_by b bs names more rest next None is e = absurd (let apart : None ≡ Some (rest ++ more) = sym (none_at_last bs) ∙ e in cc)
   last_first_by b bs names more rest next (Some all) is e =
-      let few = last_fewer (rest ++ more) bs all e in
-      let w = behind_within b.chrom names more all (omega (arith, few, length-append rest more)) is in
+      let w = behind_within b.chrom names more all (omega (arith, last_fewer (rest ++ more) bs all e, length-append rest more)) is in
       ap (λ o. at_last o bs) w.found ∙ next w.left (ap (λ l. at_last (Some l) bs) (sym w.is) ∙ e)
 
   last_first : (more rest : List (List ℕ)) (bs : List (Block A)) (names : List (List ℕ)) → at_last (Some (names ++ more)) bs ≡ Some (rest ++ more) → at_last (Some names) bs ≡ Some rest
@@ -143,8 +141,7 @@ one_block start operations all = blocks_open start operations ∙ open_unskipped
 found_parts : (parts : List Part) → list_all is_operation parts ≡ true → parts_of (flat_map spelled parts) ≡ Some parts
 found_parts [] all = refl
 found_parts (part ∷ parts) all =
-    let here = and_parts (is_operation part) (list_all is_operation parts) all in
-    grind (arith, (found_parts parts here.1), append_assoc, parts_cut, digits_no_letters)
+    grind (arith, (found_parts parts (and_parts (is_operation part) (list_all is_operation parts) all).1), append_assoc, parts_cut, digits_no_letters)
 
 pub parts_found : (text : List ℕ) (parts : List Part) → Divides text parts → parts_of text ≡ Some parts
 parts_found text parts d = ap parts_of (sym d.whole) ∙ found_parts parts d.all
@@ -202,10 +199,6 @@ is_number_by : (b : Bool) (digits : List ℕ) → is_number digits ≡ b → (va
 unfolding value_of
 is_number_by b digits is h = grind arith
 
-value_there : (part : Part) (value : Option ℕ) (rest : Option (List Operation)) (operations : List Operation) → with_operation (option_map (λ length. record { length = length; letter = part.letter }) value) rest ≡ Some operations
-    → value ≡ None → ⊥
-value_there part value rest operations e none = grind arith
-
 rest_there : (first : Option Operation) (rest : Option (List Operation)) (operations : List Operation) → with_operation first rest ≡ Some operations → (others : List Operation) × (rest ≡ Some others)
 rest_there first rest operations e = grind arith
 
@@ -214,15 +207,11 @@ each_is [] operations e h = refl
 each_is (part ∷ parts) operations e h =
     let l = and_parts (is_letter part.letter) (letters parts) h in
     let rest = rest_there (operation_of part) (each_operation parts) operations e in
-    grind (arith, (is_number_by (is_number part.digits) part.digits refl (λ none. value_there part (value_of part.digits) (each_operation parts) operations e none)), (each_is parts rest.0 rest.1 l.1))
-
-divided_by : (text : List ℕ) (operations : List Operation) (found_parts : Option (List Part)) → parts_of text ≡ found_parts → option_and_then each_operation found_parts ≡ Some operations
-    → (parts : List Part) × (Divides text parts × (each_operation parts ≡ Some operations))
-divided_by text operations found_parts is e = grind (arith, whole, each_is, lettered)
+    grind (arith, (is_number_by (is_number part.digits) part.digits refl (λ none. grind arith)), (each_is parts rest.0 rest.1 l.1))
 
 pub divided : operations_are_divided
 unfolding operations_in
-divided text operations e = divided_by text operations (parts_of text) refl e
+divided text operations e = grind (arith, whole, each_is, lettered)
 
 -- Lemmas on what is written early of masked sequences.
 
@@ -308,11 +297,8 @@ lacking_names name names = (none_has name names, none_found name names)
 
 -- Lemmas on records that change nothing.
 
-no_more : (rs : List Feature) (r : Feature) → rs ≡ rs ++ r ∷ [] → ⊥
-no_more rs r e = grind (arith, common_steps)
-
 pub quiet_taken : quiet_records_are_taken
-quiet_taken = grind (arith, no_more)
+quiet_taken = grind (arith, common_steps)
 
 -- Of the records that a masking engine took no prefix decides all lines given.
 
@@ -322,9 +308,5 @@ of_last P [] line e all = cc
 of_last P (first ∷ []) line e all = let same : first ≡ line = cc in subst P same all.0
 of_last P (first ∷ next ∷ lines) line e all = of_last P (next ∷ lines) line e all.1
 
-no_front : (lines : List SequenceLine) (front rest : List Feature) (last : Option SequenceLine) → last_or None lines ≡ last → IsOpen last (front ++ rest)
-    → (front ++ rest ≡ []) ⊎ (AllByRecursion (λ line. decided line front ≡ true) lines → ⊥)
-no_front lines front rest last e none = grind (arith, decided_stays, of_last)
-
 pub none_before : taken_are_first
-none_before lines front rest open_end = no_front lines front rest (last_or None lines) refl open_end
+none_before lines front rest open_end = grind (arith, decided_stays, of_last)

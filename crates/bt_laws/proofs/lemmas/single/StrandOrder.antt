@@ -13,8 +13,6 @@ use Rattle.bt_runs.proofs.lemmas.definitions.Standing.{Each, Some_of, each_appen
 use Rattle.bt_runs.proofs.lemmas.order.FileOrder.{skips, in_file_order, ordered_come}
 use Rattle.bt_runs.proofs.lemmas.merge.StrandListing.{joined_to, new_run, reaches, IsWithinOrFar, Lies, Listed, are_listed, lies_true, listing_next, not_in_new, same_in, some_base, up}
 use Rattle.bt_runs.proofs.lemmas.merge.SettledRuns.{taken_front}
-use Rattle.bt_laws.specs.Parts.{joined}
-use Rattle.std.specs.declared.cmp.Ordering.{Ordering}
 use Rattle.bt_laws.specs.Runs.{AreAscending, AreKnown, names_come_in_order, file_runs_are_ordered}
 use Rattle.bt_bed.specs.inside.RankTotal.{ranks_total}
 
@@ -137,11 +135,10 @@ module _ (gap : ℕ) (past : List Feature) (r : Feature)
 
   is_new : list_any (reaches gap r) old ≡ false → New
   is_new f =
-      let none = none_each (reaches gap r) old f in
       let Full : Feature → Type 0 = λ p. p.start < p.stop in
       let In : Feature → Type 0 = λ p. Some_of (λ item. Lies item p) old in
       let out = each_weaker (λ p. In p × Full p) (λ p. is_in (run_from r) p ≡ false)
-      (λ p both. not_in_new gap r old none p both.0 both.1) past
+      (λ p both. not_in_new gap r old (none_each (reaches gap r) old f) p both.0 both.1) past
       (each_both In Full past listed.lies (some_base gap past r taken listed)) in
       let here = lies_true (run_from r) r
       (record { same = refl; on = refl; from = omega arith; to = omega arith }) in
@@ -156,9 +153,6 @@ module _ (gap : ℕ) (past : List Feature) (r : Feature)
       (map (joined_to gap r) old)
   starts_old start = grind (arith, each_map, each_weaker, same_start, (each_both Same (λ item. first_start past item ≡ Some (locus_of item.run)) old all_same start))
 
-  all_below : Each (λ n. n < length past) (map (first_place past) old)
-  all_below = grind (arith, each_map, each_weaker, all_same)
-
   firsts_next : Firsts gap past → Firsts gap (past ++ r ∷ [])
   firsts_next firsts =
       let next = past ++ r ∷ [] in
@@ -169,7 +163,7 @@ module _ (gap : ℕ) (past : List Feature) (r : Feature)
             let is : strand_runs gap next ≡ joined =
             more ∙ ap (λ b. joined ++ new_run b r) t ∙ append-nil joined in
             record {
-              rise = subst (λ l. Rise l) (sym (ap (map (first_place next)) is ∙ places_old))
+              rise = subst (λ l. Rise l) (sym (ap (map (first_place next)) is ∙ (grind (arith, map_changed, each_weaker, all_same))))
                   firsts.rise;
               start = rw is (starts_old firsts.start);
             }
@@ -183,7 +177,7 @@ module _ (gap : ℕ) (past : List Feature) (r : Feature)
             ap (map (first_place next)) is ∙ map-append (first_place next) joined (run_from r ∷ [])
             ∙ ap₂ (λ (a : List ℕ) (n : ℕ). a ++ n ∷ []) places_old new.place in
             record {
-              rise = rw places (rise_more before (length past) firsts.rise all_below);
+              rise = rw places (rise_more before (length past) firsts.rise (grind (arith, each_map, each_weaker, all_same)));
               start = rw is (each_append (λ item. first_start next item ≡ Some (locus_of item.run))
                   joined (run_from r ∷ []) (starts_old firsts.start) (new.start, tt));
             }
@@ -262,8 +256,7 @@ start_with_records gap records taken = grind (arith, (map_same (first_start reco
 pub in_order : strand_runs_come_in_order
 in_order order gap records total placed full =
     let contiguous = placed_contiguous order (intervals_of records) total placed in
-    let taken : AreTaken records = record { contiguous = contiguous; full = full } in
-    placed_more gap order total [] records taken
+    placed_more gap order total [] records (record { contiguous = contiguous; full = full })
     (subst (λ (l : List StrandRun). ArePlaced order (places_of l ++ intervals_of records))
     (sym (no_runs gap)) placed)
 
@@ -296,16 +289,10 @@ module _ (order : Order) where
   known_order [] known = tt
   known_order (n ∷ ns) known = known_put n (runs_in_order order ns) known.0 (known_order ns known.1)
 
-  ascending_by : IsTotal order → (name n : List ℕ) (ns : List (List ℕ)) → IsTrue (order.knows name) → AreKnown order (n ∷ ns)
-      → is_among (n ∷ ns) name ≡ false → AreAscending order (n ∷ ns) → AreAscending order (put_in_order order name ns)
-      → (o : Ordering) → order.compare name n ≡ o
-      → AreAscending order (if is_lt o then name ∷ n ∷ ns else n ∷ put_in_order order name ns)
-  ascending_by total name n ns one known none old rest o e = search rules
-
   ascending_put : IsTotal order → (name : List ℕ) (ns : List (List ℕ)) → IsTrue (order.knows name) → AreKnown order ns
       → is_among ns name ≡ false → AreAscending order ns → AreAscending order (put_in_order order name ns)
   ascending_put total name [] one known none old = (tt, tt)
-  ascending_put total name (n ∷ ns) one known none old = grind (arith, (ascending_put total name ns one known.1 (or_parts (bytes_eq n name) (is_among ns name) none).1 old.1), ascending_by)
+  ascending_put total name (n ∷ ns) one known none old = grind (arith, (ascending_put total name ns one known.1 (or_parts (bytes_eq n name) (is_among ns name) none).1 old.1), rules)
 
   ascending_order : IsTotal order → (ns : List (List ℕ)) → AreKnown order ns → AreDistinct ns → AreAscending order (runs_in_order order ns)
   ascending_order total [] known distinct = tt
