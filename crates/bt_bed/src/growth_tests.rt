@@ -1,7 +1,7 @@
 //! Growths that are refused, by `rt try --test --fail-alloc N -- refused_growth` for each N from 1. Each
 //! test checks what is left when its call was refused, and then ends with out of memory.
 
-use crate::tests::{genome_of, record, said};
+use crate::tests::{genome_of, holds, record, said};
 use crate::{write_bed, write_cut};
 use bt_lines::no_memory;
 use std::alloc::{AllocError, Global};
@@ -12,13 +12,9 @@ const LINE: &[u8] = b"chr1\t7\t100\tn\t5\t+\tand more columns than stand inside"
 
 const PART: &[u8] = b"chr1\t30\t90\tn\t5\t+\tand more columns than stand inside";
 
-fn holds(rt: &impl Abort, it: bool, name: &str) {
-    assert!(rt; it, "{name}");
-}
-
 // If the record or its part was written, it follows the text that was there; else that text is
 // unchanged.
-fn is_behind(
+fn is_after(
     rt: &impl Abort,
     alloc: Global,
     part: Option<(u64, u64)>,
@@ -30,19 +26,16 @@ fn is_behind(
         Some((start, stop)) => write_cut(&bed, start, stop, &mut text),
         None => write_bed(&bed, &mut text),
     };
-    let behind = if written.is_ok() { want } else { b"" };
-    assert_eq!(rt; text.strip_prefix(b"before "), Some(behind));
+    let after = if written.is_ok() { want } else { b"" };
+    let is_it = text.strip_prefix(b"before ") == Some(after);
+    holds(rt, is_it, "what is written");
     Ok(written?)
 }
 
 #[test]
-fn refused_growth_of_a_written_record(rt: HostRuntime) -> Result<(), Fail> {
-    is_behind(&rt, rt.alloc(), None, LINE)
-}
-
-#[test]
-fn refused_growth_of_a_part(rt: HostRuntime) -> Result<(), Fail> {
-    is_behind(&rt, rt.alloc(), Some((30, 90)), PART)
+fn refused_growth_of_written_records(rt: HostRuntime) -> Result<(), Fail> {
+    is_after(&rt, rt.alloc(), None, LINE)?;
+    is_after(&rt, rt.alloc(), Some((30, 90)), PART)
 }
 
 #[test]
@@ -59,14 +52,10 @@ fn refused_growth_of_a_kept_record(rt: HostRuntime) -> Result<(), Fail> {
 const GENOME: &[u8] = b"# name\tlength\nchr1\t1000\n\nchr2\t50\nscaffold_3\t7\tmore\n";
 
 // Its bytes come seven at a time, so that lines are carried together.
-fn read_genome(alloc: Global) -> Result<usize, bt_lines::Fault> {
-    Ok(genome_of(alloc, GENOME, 7, None)?.count())
-}
-
 #[test]
 fn refused_growth_of_a_genome(rt: HostRuntime) -> Result<(), Fail> {
-    match read_genome(rt.alloc()) {
-        Ok(count) => holds(&rt, count == 3, "three chromosomes"),
+    match genome_of(rt.alloc(), GENOME, 7, None) {
+        Ok(genome) => holds(&rt, genome.count() == 3, "three chromosomes"),
         Err(fault) => {
             holds(&rt, fault == no_memory(), "want of memory");
             return Err(Fail::from(AllocError));

@@ -4,6 +4,12 @@ use crate::record::strand::Strand;
 use crate::{BedRef, ChromOrder, Genome, Records, parse_bed};
 use bt_lines::{Fault, Input, Kind, LineReader, ScriptSource};
 use std::alloc::Global;
+use std::cmp::Ordering;
+use std::process::Abort;
+
+pub(crate) fn holds(rt: &impl Abort, it: bool, name: &str) {
+    assert!(rt; it, "{name}");
+}
 
 // A reader of a text that comes in pieces of this many bytes, and fails after the good ones.
 pub(crate) fn lines_of<'a>(
@@ -44,7 +50,7 @@ pub(crate) fn genome_of(
 }
 
 // What is wrong at which line of this input. The line is 0 if it is elsewhere.
-pub(crate) fn told(fault: Fault, input: Input) -> (Kind, u64) {
+pub(crate) fn fault_at(fault: Fault, input: Input) -> (Kind, u64) {
     match fault.place {
         Some(place) if place.input == input => (fault.kind, place.line),
         _ => (fault.kind, 0),
@@ -61,4 +67,12 @@ pub(crate) type Said<'a> = (u64, u64, Strand, &'a [u8]);
 
 pub(crate) fn said<'a>(bed: BedRef<'a>) -> Said<'a> {
     (bed.start, bed.stop, bed.strand, bed.rest)
+}
+
+// Which of two names comes first, if the order knows both.
+pub(crate) fn compared<O: ChromOrder>(order: &O, left: &[u8], right: &[u8]) -> Option<Ordering> {
+    if !order.knows(left) || !order.knows(right) {
+        return None;
+    }
+    Some(order.compare(left, right))
 }

@@ -41,27 +41,13 @@ fn compare_bytes(left: &[u8], right: &[u8]) -> Ordering
 #[cfg(test)]
 mod tests {
     use super::*;
-
-    // Names, each of which comes before the next.
-    #[rattlefmt::skip]
-    const ASCENDING: [&[u8]; 9] =
-        [b"", b"Chr1", b"chr", b"chr1", b"chr10", b"chr10_random", b"chr2", b"chrX", b"\xc3\xa9"];
-
-    // The first name that compares otherwise with the one at this place than their places do.
-    fn first_misordered<O: ChromOrder>(order: &O, at: usize, name: &[u8]) -> Option<&'static [u8]> {
-        for (place, other) in ASCENDING.iter().enumerate() {
-            let are_known = order.knows(name) && order.knows(other);
-            if !are_known || order.compare(name, other) != at.cmp(&place) {
-                return Some(*other);
-            }
-        }
-        None
-    }
+    use crate::tests::compared;
+    use std::cmp::Ordering::{Equal, Greater, Less};
 
     #[test]
     fn orders_names_by_their_bytes(rt: HostRuntime) {
-        for (at, name) in ASCENDING.iter().enumerate() {
-            assert_eq!(rt; first_misordered(&ByteOrder, at, name), None, "{name:?}");
-        }
+        assert_eq!(rt; compared(&ByteOrder, b"chr10", b"chr2"), Some(Less));
+        assert_eq!(rt; compared(&ByteOrder, b"chr10", b"chr1"), Some(Greater));
+        assert_eq!(rt; compared(&ByteOrder, b"", b""), Some(Equal));
     }
 }

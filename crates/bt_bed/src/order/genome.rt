@@ -122,100 +122,83 @@ impl Genome {
 #[cfg(test)]
 mod tests {
     use super::*;
-    use crate::order::ChromOrder;
-    use crate::tests::{genome_of, told};
+    use crate::tests::{compared, fault_at, genome_of, holds};
     use bt_lines::Input;
-    use itoa::Buffer;
     use std::alloc::AllocError;
     use std::cmp::Ordering;
+    use std::process::Abort;
     use std::test::Fail;
 
     // How many chromosomes a text has, or what is wrong with it at which line.
     type Count = Result<usize, (Kind, u64)>;
 
-    fn count(alloc: Global, text: &[u8], step: usize, good: Option<usize>) -> Count {
-        match genome_of(alloc, text, step, good) {
-            Ok(genome) => Ok(genome.count()),
-            Err(fault) => Err(told(fault, Input::Genome)),
+    // A text, how many of its bytes are good, and what it has then.
+    type Row<'a> = (&'a [u8], usize, Count);
+
+    const COUNTS: [Row; 10] = [
+        (b"", 99, Ok(0)),
+        (b"chr1\t10\t52\t60\t61\n", 99, Ok(1)),
+        (b"# all\n\nchr1\t10\n\r\n#\t\t\nchr2\t20", 99, Ok(2)),
+        (b"\n\t10\n", 99, Err((Kind::EmptyName, 2))),
+        (b"chr1\tx\n", 99, Err((Kind::BadLength, 1))),
+        (b"chr1\t10\nchr2\t0\n", 99, Err((Kind::BadLength, 2))),
+        (b"chr1\t10\nchr1\t20\n", 99, Err((Kind::RepeatedChrom, 2))),
+        (
+            b"chr1\t10\nchr2\nchr1\t10\n",
+            99,
+            Err((Kind::TooFewColumns, 2)),
+        ),
+        (b"chr1\t10\nchr2\t5\n", 8, Err((Kind::ReadFailed, 2))),
+        (b"chr1\t10\nchr2\t5\n", 15, Err((Kind::ReadFailed, 3))),
+    ];
+
+    fn check_counts(rt: &impl Abort, alloc: Global, rows: &[Row]) {
+        for (text, good, want) in rows {
+            let count: Count = match genome_of(alloc, text, 7, Some(*good)) {
+                Ok(genome) => Ok(genome.count()),
+                Err(fault) => Err(fault_at(fault, Input::Genome)),
+            };
+            assert_eq!(rt; count, *want, "{text:?}");
         }
     }
-
-    const COUNTS: [(&[u8], Count); 11] = [
-        (b"", Ok(0)),
-        (b"chr1\t10\nchr2\t5\n", Ok(2)),
-        (b"chr1\t10\t52\t60\t61\n", Ok(1)),
-        (b"# all\n\nchr1\t10\n\r\n#\t\t\nchr2\t20", Ok(2)),
-        (b"chr1\n", Err((Kind::TooFewColumns, 1))),
-        (b"\n\t10\n", Err((Kind::EmptyName, 2))),
-        (b"chr1\t0\n", Err((Kind::BadLength, 1))),
-        (b"chr1\tx\n", Err((Kind::BadLength, 1))),
-        (b"chr1\t10\nchr1\t20\n", Err((Kind::RepeatedChrom, 2))),
-        (b"chr1\t10\nchr1\t0\n", Err((Kind::BadLength, 2))),
-        (b"chr1\t10\nchr2\nchr1\t10\n", Err((Kind::TooFewColumns, 2))),
-    ];
 
     #[test]
     fn counts_chromosomes(rt: HostRuntime) {
-        for (text, want) in &COUNTS {
-            let by_one = count(rt.alloc(), text, 1, None);
-            let by_seven = count(rt.alloc(), text, 7, None);
-            assert_eq!(rt; (by_one, by_seven), (*want, *want), "{text:?}");
+        check_counts(&rt, rt.alloc(), &COUNTS);
+    }
+
+    // Whether the second of two chromosomes is found by its name and by its rank.
+    fn is_found(genome: &Genome) -> bool {
+        if genome.count() != 2
+            || genome.rank(b"chr2") != Some(1)
+            || genome.rank(b"chr3").is_some()
+        {
+            return false;
         }
+        genome.name(1) == b"chr2".as_slice() && genome.length(1) == 7
+    }
+
+    // Whether chromosomes are ordered by their lines, and others are unknown.
+    fn orders(genome: &Genome) -> bool {
+        compared(genome, b"chr10", b"chr2") == Some(Ordering::Less)
+            && compared(genome, b"chr2", b"chr2") == Some(Ordering::Equal)
+            && compared(genome, b"chr2", b"chr3").is_none()
+            && compared(genome, b"chr3", b"chr2").is_none()
     }
 
     #[test]
-    fn tells_a_failed_read(rt: HostRuntime) {
-        for (step, good, line) in [(7, 8, 2), (1, 15, 3)] {
-            let found = count(rt.alloc(), b"chr1\t10\nchr2\t5\n", step, Some(good));
-            assert_eq!(rt; found, Err((Kind::ReadFailed, line)));
-        }
-    }
-
-    #[test]
-    fn finds_chromosomes(rt: HostRuntime) -> Result<(), Fail> {
-        let genome = genome_of(rt.alloc(), b"b\t10\na\t5\n", 1, None)?;
-        let ranks = (genome.rank(b"a"), genome.rank(b"b"), genome.rank(b"c"));
-        assert_eq!(rt; ranks, (Some(1), Some(0), None));
-        let is_named = genome.count() == 2 && genome.name(1) == b"a".as_slice();
-        assert!(rt; is_named && genome.count() == 2 && genome.length(1) == 5);
-        Ok(())
-    }
-
-    // Which of two names comes first, if the order knows both.
-    fn compared<O: ChromOrder>(order: &O, left: &[u8], right: &[u8]) -> Option<Ordering> {
-        if order.knows(left) && order.knows(right) {
-            Some(order.compare(left, right))
-        } else {
-            None
-        }
-    }
-
-    // Two names, and how they compare.
-    const PAIRS: [(&[u8], &[u8], Option<Ordering>); 5] = [
-        (b"chr10", b"chr2", Some(Ordering::Less)),
-        (b"chr2", b"chr10", Some(Ordering::Greater)),
-        (b"chr2", b"chr2", Some(Ordering::Equal)),
-        (b"chr2", b"chr3", None),
-        (b"chr3", b"chr2", None),
-    ];
-
-    #[test]
-    fn orders_chromosomes_by_their_lines(rt: HostRuntime) -> Result<(), Fail> {
+    fn finds_and_orders_chromosomes(rt: HostRuntime) -> Result<(), Fail> {
         let genome = genome_of(rt.alloc(), b"chr10\t5\nchr2\t7\n", 1, None)?;
-        for (left, right, want) in &PAIRS {
-            assert_eq!(rt; compared(&genome, left, right), *want);
-        }
+        holds(&rt, is_found(&genome), "found");
+        holds(&rt, orders(&genome), "in order");
         Ok(())
     }
 
     // A genome file of the names c0, c1 and so on.
     fn numbered(alloc: Global, count: u64) -> Result<Vec<u8>, AllocError> {
         let mut text = Vec::new(alloc);
-        let mut digits = Buffer::new();
         for n in 0..count {
-            text.extend_from_slice(b"c")?;
-            text.extend_from_slice(digits.format(n).as_bytes())?;
-            text.extend_from_slice(b"\t5\n")?;
+            text.extend_from_slice(format!(in alloc; "c{n}\t5\n")?.as_bytes())?;
         }
         Ok(text)
     }
@@ -224,8 +207,8 @@ mod tests {
     fn finds_the_last_of_many(rt: HostRuntime) -> Result<(), Fail> {
         let text = numbered(rt.alloc(), 2000)?;
         let genome = genome_of(rt.alloc(), text.as_slice(), 512, None)?;
-        let found = (genome.count(), genome.rank(b"c1999"), genome.rank(b"c2000"));
-        assert_eq!(rt; found, (2000, Some(1999), None));
+        let is_last = genome.count() == 2000 && genome.rank(b"c1999") == Some(1999);
+        holds(&rt, is_last, "the last");
         Ok(())
     }
 }

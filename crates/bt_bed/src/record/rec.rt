@@ -85,27 +85,17 @@ mod tests {
     use crate::tests::{Said, record, said};
     use std::test::Fail;
 
-    const LONG: &[u8] =
-        b"chr1\t1\t11\tlong\t5\t+\t0123456789abcdefghijklmnopqrstuvwxyz0123456789abcdefghijklmnopqrstuvwxyz";
-
-    const LONG_REST: &[u8] =
-        b"\tlong\t5\t+\t0123456789abcdefghijklmnopqrstuvwxyz0123456789abcdefghijklmnopqrstuvwxyz";
-
-    // Lines, and what their records say. Texts that are inline, up to the longest of 31 bytes and
-    // the shortest that isn't, and some in a buffer.
+    // Lines, and what their records say. The texts are inline, up to the longest of 31 bytes, or in a
+    // buffer, from the shortest of 32 on.
     #[rattlefmt::skip]
-    const RECORDS: [(&[u8], Said); 9] = [
-        (b"chr1\t10\t30\ta", (10, 30, Dot, b"\ta")),
+    const RECORDS: [(&[u8], Said); 5] = [
+        (b"chr1\t0\t15", (0, 15, Dot, b"")),
         (b"chr1\t007\t9\tn\t0\t+", (7, 9, Plus, b"\tn\t0\t+")),
         (b"chr1\t8\t9\tabcdefghijklmnopqrstuvwxyz", (8, 9, Dot, b"\tabcdefghijklmnopqrstuvwxyz")),
-        (b"chr1\t5\t9\t", (5, 9, Dot, b"\t")),
         (b"chr1\t8\t10\tabcdefghijklmnopqrstuvwxyz0",
             (8, 10, Dot, b"\tabcdefghijklmnopqrstuvwxyz0")),
-        (b"chr1\t0\t15", (0, 15, Dot, b"")),
-        (LONG, (1, 11, Plus, LONG_REST)),
-        (b"chr1\t2\t12\t0123456789abcdefghijklmnopqrstuvwxyz",
-            (2, 12, Dot, b"\t0123456789abcdefghijklmnopqrstuvwxyz")),
-        (b"chr1\t0\t100\tn\t5\t-\tx", (0, 100, Minus, b"\tn\t5\t-\tx")),
+        (b"chr1\t1\t11\tlong\t5\t-\t0123456789abcdefghijklmnopqrstuvwxyz0123456789abcdefghijklmnopqrstuvwxyz",
+            (1, 11, Minus, b"\tlong\t5\t-\t0123456789abcdefghijklmnopqrstuvwxyz0123456789abcdefghijklmnopqrstuvwxyz")),
     ];
 
     // Whether the record of a line says this once it is kept.

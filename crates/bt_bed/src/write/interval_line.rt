@@ -101,44 +101,42 @@ fn write_span(start: u64, stop: u64, end: u8, text: &mut [u8; ROOM]) -> usize
 mod tests {
     use super::*;
     use bt_lines::{BLOCK, ScriptSink};
-    use std::test::Fail;
 
-    #[test]
-    fn a_line_has_name_start_and_end(rt: HostRuntime) -> Result<(), Fail> {
-        let mut out = Out::new(ScriptSink::new(rt.alloc(), 3, None));
-        put_interval(b"chr 1", 0, 999999999999, &mut out)?;
-        put_interval(b"c", 7, 8, &mut out)?;
-        put_interval(b"", 7, 8, &mut out)?;
-        put_interval(b"chr1", 99999999, 100000000, &mut out)?;
-        out.flush()?;
-        let want: &[u8] = b"chr 1\t0\t999999999999\nc\t7\t8\n\t7\t8\nchr1\t99999999\t100000000\n";
-        assert_eq!(rt; out.into_sink().taken(), want);
-        Ok(())
-    }
-
-    // Lines that aren't printed right into the block that is held back: one that doesn't fit, and one with a long name.
-    #[test]
-    fn a_line_is_put_across_a_block(rt: HostRuntime) -> Result<(), Fail> {
-        let mut out = Out::new(ScriptSink::new(rt.alloc(), 3, None));
-        let name = [b'n'; 65];
+    // Puts a line that doesn't fit into the block that is buffered, lines with the least and the
+    // greatest bounds, and a line with a long name.
+    fn put_lines<K: Sink>(out: &mut Out<K>) -> Result<(), Fault> {
         out.put(&[b'.'; BLOCK - 5])?;
-        put_interval(b"chr1", 7, 123456789, &mut out)?;
-        put_interval(&name, 7, 8, &mut out)?;
-        out.flush()?;
-        let sink = out.into_sink();
-        let lines = sink.taken().get(BLOCK - 5..).unwrap_or(b"");
-        let behind = lines.strip_prefix(b"chr1\t7\t123456789\n").unwrap_or(b"");
-        let last: &[u8] = b"\t7\t8\n";
-        assert_eq!(rt; behind.strip_prefix(&name), Some(last));
-        Ok(())
+        put_interval(b"chr 1", 0, 999999999999, out)?;
+        put_interval(b"", 7, 8, out)?;
+        put_interval(b"chr1", 99999999, 100000000, out)?;
+        put_interval(&[b'n'; 65], 7, 8, out)?;
+        out.flush()
     }
 
     #[test]
-    fn a_line_is_not_put_behind_a_failure(rt: HostRuntime) -> Result<(), Fail> {
+    fn a_line_has_name_start_and_end(rt: HostRuntime) {
+        let mut out = Out::new(ScriptSink::new(rt.alloc(), 3, None));
+        let put = put_lines(&mut out);
+        let want: &[u8] = b".chr 1\t0\t999999999999\n\t7\t8\nchr1\t99999999\t100000000\n\
+            nnnnnnnnnnnnnnnnnnnnnnnnnnnnnnnnnnnnnnnnnnnnnnnnnnnnnnnnnnnnnnnnn\t7\t8\n";
+        assert_eq!(rt;
+            (put, out.into_sink().taken().ends_with(want)),
+            (Ok(()), true)
+        );
+    }
+
+    // Whether a line is put, and cut by a flush, and then none is put.
+    fn fails<K: Sink>(out: &mut Out<K>) -> bool {
+        put_interval(b"chr1", 7, 8, out).is_ok()
+            && out.flush().is_err()
+            && put_interval(b"chr1", 7, 8, out).is_err()
+    }
+
+    #[test]
+    fn a_line_is_not_put_after_a_failure(rt: HostRuntime) {
         let mut out = Out::new(ScriptSink::new(rt.alloc(), 3, Some(4)));
-        put_interval(b"chr1", 7, 8, &mut out)?;
-        let is_told = out.flush().is_err() && put_interval(b"chr1", 7, 8, &mut out).is_err();
-        assert!(rt; is_told && out.into_sink().taken() == b"chr1".as_slice());
-        Ok(())
+        let has_failed = fails(&mut out);
+        let want: &[u8] = b"chr1";
+        assert_eq!(rt; (has_failed, out.into_sink().taken()), (true, want));
     }
 }

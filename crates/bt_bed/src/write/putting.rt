@@ -42,53 +42,35 @@ mod tests {
     use super::*;
     use crate::tests::record;
     use bt_lines::{ScriptSink, put_number};
-    use std::alloc::Global;
+    use std::test::Fail;
 
     // Puts the lines of two records that share bases: the shared part beside the second, both with the
-    // number of shared bases, and the first as it is.
+    // number of shared bases, and the second with nothing after it.
     fn put_lines<K: Sink>(a: &BedRef<'_>, b: &BedRef<'_>, out: &mut Out<K>) -> Result<(), Fault> {
         put_cut(a, 10, 15, b"\t", out)?;
         put_bed(b, b"\n", out)?;
         put_bed(a, b"\t", out)?;
         put_bed(b, b"\t", out)?;
         put_number(5, b"\n", out)?;
-        put_bed(a, b"\n", out)?;
+        put_bed(b, b"", out)?;
         out.flush()
     }
 
-    // Whether the lines are put, and what the sink took of them if it takes `good` bytes.
-    fn taken_by(alloc: Global, good: Option<usize>, want: &[u8]) -> bool {
-        let (Some(a), Some(b)) = (record(b"chr1\t010\t30\ta"), record(b"chr1\t0\t15\tx")) else {
-            return false;
-        };
-        let mut out = Out::new(ScriptSink::new(alloc, 3, good));
-        let put = put_lines(&a, &b, &mut out);
-        put.is_ok() == good.is_none() && out.into_sink().taken() == want
-    }
+    const LINES: &[u8] =
+        b"chr1\t10\t15\ta\tchr1\t0\t15\nchr1\t10\t30\ta\tchr1\t0\t15\t5\nchr1\t0\t15";
+
+    // What is written, and at first if the sink fails.
+    const TAKEN: [(Option<usize>, &[u8]); 2] = [(None, LINES), (Some(9), b"chr1\t10\t1")];
 
     #[test]
-    fn records_and_parts_stand_beside_one_another(rt: HostRuntime) {
-        let lines: &[u8] =
-            b"chr1\t10\t15\ta\tchr1\t0\t15\tx\nchr1\t10\t30\ta\tchr1\t0\t15\tx\t5\nchr1\t10\t30\ta\n";
-        assert!(rt; taken_by(rt.alloc(), None, lines));
-        assert!(rt; taken_by(rt.alloc(), Some(9), b"chr1\t10\t1"));
-    }
-
-    // Puts a record, its first half and the record again, with nothing after it.
-    fn put_bare<K: Sink>(bed: &BedRef<'_>, out: &mut Out<K>) -> Result<(), Fault> {
-        put_bed(bed, b"\t", out)?;
-        put_cut(bed, 10, 15, b"\n", out)?;
-        put_bed(bed, b"", out)?;
-        out.flush()
-    }
-
-    #[test]
-    fn records_without_further_columns_are_put_with_what_ends_them(rt: HostRuntime) {
-        let mut out = Out::new(ScriptSink::new(rt.alloc(), 3, None));
-        if let Some(bed) = record(b"chr1\t010\t20") {
-            assert!(rt; put_bare(&bed, &mut out).is_ok());
+    fn records_and_parts_stand_beside_one_another(rt: HostRuntime) -> Result<(), Fail> {
+        let a = record(b"chr1\t010\t30\ta").ok_or("a record")?;
+        let b = record(b"chr1\t0\t15").ok_or("a record")?;
+        for (good, want) in &TAKEN {
+            let mut out = Out::new(ScriptSink::new(rt.alloc(), 3, *good));
+            let is_put = put_lines(&a, &b, &mut out).is_ok();
+            assert_eq!(rt; (is_put, out.into_sink().taken()), (good.is_none(), *want));
         }
-        let lines: &[u8] = b"chr1\t10\t20\tchr1\t10\t15\nchr1\t10\t20";
-        assert_eq!(rt; out.into_sink().taken(), lines);
+        Ok(())
     }
 }

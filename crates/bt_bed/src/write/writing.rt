@@ -70,21 +70,15 @@ mod tests {
     // A line, the bounds of the part of its record that is written if it isn't written whole, and
     // what is written.
     #[rattlefmt::skip]
-    const WRITTEN: [(&[u8], Option<(u64, u64)>, &[u8]); 10] = [
+    const WRITTEN: [(&[u8], Option<(u64, u64)>, &[u8]); 5] = [
         (b"chr1\t007\t9\tn\t0\t+", None, b"chr1\t7\t9\tn\t0\t+"),
-        (b"chr1\t000\t00012", None, b"chr1\t0\t12"),
-        (b"chr 1\t5\t9\t", None, b"chr 1\t5\t9\t"),
-        (b"chr1\t5\t9\t\tx", None, b"chr1\t5\t9\t\tx"),
-        (b"c\t999999999998\t999999999999", None, b"c\t999999999998\t999999999999"),
-        (b"chr1\t0\t100\tn\t5\t+", Some((0, 10)), b"chr1\t0\t10\tn\t5\t+"),
+        (b"chr 1\t000\t00012", None, b"chr 1\t0\t12"),
+        (b"c\t999999999998\t999999999999\t", None, b"c\t999999999998\t999999999999\t"),
         (b"chr1\t0\t100\tn\t5\t+", Some((30, 90)), b"chr1\t30\t90\tn\t5\t+"),
-        (b"chr1\t10\t30\ta", Some((25, 30)), b"chr1\t25\t30\ta"),
         (b"chr1\t010\t020", Some((10, 20)), b"chr1\t10\t20"),
-        (b"c\t0\t999999999999\t", Some((999_999_999_998, 999_999_999_999)),
-            b"c\t999999999998\t999999999999\t"),
     ];
 
-    // A sign, and what is written to it.
+    // A sign, and what is written after it.
     fn written(
         alloc: Global,
         text: &[u8],

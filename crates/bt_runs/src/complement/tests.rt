@@ -1,10 +1,8 @@
-//! Worked complements, and one place kept of many records.
+//! Worked complements.
 
 use super::*;
-use crate::tests::testing::{
-    Bounds, Row, check_failing, check_row, check_spans, expect_end, feed_many, genome, output,
-    written_len,
-};
+use crate::tests::batch_tests::check_batches;
+use crate::tests::testing::{Row, check_failing, check_row, genome, written_len};
 use std::alloc::Global;
 use std::process::Abort;
 use std::test::Fail;
@@ -46,6 +44,18 @@ const CASES: [Rows; 2] = [
         ("a chromosome that the genome file lacks",
             &[(b"chr0\t0\t40", 0), (b"chr1\t5\t10", 1), (b"chr3\t0\t40", 1), (b"chr2\t5\t10", 1)],
             b"chr1\t0\t5\nchr1\t10\t1000\nchr2\t0\t5\n", b"chr2\t10\t50\n"),
+        ("one within another, and one after",
+            &[(b"chr2\t0\t1", 1), (b"chr2\t0\t7", 1), (b"chr2\t3\t5", 1), (b"chr2\t9\t10", 1)],
+            b"chr2\t7\t9\n", b"chr2\t10\t50\n"),
+        ("touching, and one that ends late",
+            &[(b"chr2\t1\t2", 1), (b"chr2\t2\t3", 1), (b"chr2\t4\t40", 1), (b"chr2\t30\t35", 1)],
+            b"chr2\t0\t1\nchr2\t3\t4\n", b"chr2\t40\t50\n"),
+        ("across the length and past it",
+            &[(b"chr2\t49\t60", 1), (b"chr2\t49\t50", 1), (b"chr2\t70\t90", 1)],
+            b"chr2\t0\t49\n", b""),
+        ("one past the length", &[(b"chr2\t20\t21", 1), (b"chr2\t51\t52", 1)],
+            b"chr2\t0\t20\nchr2\t21\t50\n", b""),
+        ("a whole chromosome, with the limit", &[(b"chr2\t0\t50", 1)], b"", b""),
     ]),
 ];
 
@@ -66,6 +76,7 @@ fn check(
 ) -> Result<(), Fail> {
     for row in rows {
         check_row(rt, alloc, Complement::new(genome, limit), row);
+        check_batches(rt, alloc, Complement::new(genome, limit), row)?;
         for good in 0..written_len(row) {
             check_failing(rt, alloc, Complement::new(genome, limit), row, good)?;
         }
@@ -76,35 +87,4 @@ fn check(
 #[test]
 fn worked_rows(rt: HostRuntime) -> Result<(), Fail> {
     check_all(&rt, rt.alloc(), &CASES)
-}
-
-#[test]
-fn one_place_is_kept_of_many_records(rt: HostRuntime) -> Result<(), Fail> {
-    let genome = genome(rt.alloc(), b"chr1\t30000\n")?;
-    let mut complement = Complement::new(&genome, true);
-    let mut out = output(rt.alloc(), 512);
-    feed_many(&rt, &mut complement, &mut out)?;
-    expect_end(&rt, complement, out, b"chr1\t20000\t30000\n", "many");
-    Ok(())
-}
-
-// Spans of `chr2`, which has 50 bases, and its gaps.
-#[rattlefmt::skip]
-const GAPS: [(Bounds, &[u8]); 6] = [
-    (&[(0, 1), (0, 7), (3, 5), (9, 10)], b"chr2\t7\t9\nchr2\t10\t50\n"),
-    (&[(1, 2), (2, 3), (4, 40), (30, 35)], b"chr2\t0\t1\nchr2\t3\t4\nchr2\t40\t50\n"),
-    (&[(49, 60), (49, 50), (70, 90)], b"chr2\t0\t49\n"),
-    (&[(20, 21), (51, 52)], b"chr2\t0\t20\nchr2\t21\t50\n"),
-    (&[(0, 50)], b""),
-    (&[(60, 61), (62, 63)], b"chr2\t0\t50\n"),
-];
-
-#[test]
-fn gaps_lie_between_spans_below_the_length(rt: HostRuntime) -> Result<(), Fail> {
-    let genome = genome(rt.alloc(), GENOME)?;
-    for (spans, wanted) in &GAPS {
-        let complement = Complement::new(&genome, true);
-        check_spans(&rt, rt.alloc(), complement, ("chr2", *spans), wanted)?;
-    }
-    Ok(())
 }

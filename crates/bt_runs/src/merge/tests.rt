@@ -1,14 +1,14 @@
-//! Worked merges, and how many runs are kept of many records.
+//! Worked merges, and many runs that wait for an open one.
 
 use super::MergeStrand::{All, Each, One};
 use super::*;
-use crate::plain::plain_runs;
+use crate::tests::batch_tests::check_batches;
 use crate::tests::testing::{
-    Bounds, Row, check_failing, check_row, check_spans, expect_end, feed_kept, feed_many, output,
-    spans_of, written_len,
+    Row, check_failing, check_row, feed_kept, holds, output, same_answer, written_len,
 };
 use bt_bed::Strand::{Dot, Minus, Plus};
 use bt_lines::ScriptSink;
+use std::alloc::AllocError;
 use std::process::Abort;
 use std::test::Fail;
 
@@ -71,7 +71,7 @@ const CASES: [Rows; 12] = [
         ("not settled by one that starts the gap past the run",
             &[(b"chr1\t0\t10\ta\t0\t+", 1), (b"chr1\t20\t30\tb\t0\t-", 1)],
             b"", b"chr1\t0\t10\n"),
-        ("joined behind a record that isn't merged",
+        ("joined after a record that isn't merged",
             &[(b"chr1\t0\t10\ta\t0\t+", 1), (b"chr1\t20\t30\tb\t0\t-", 1),
               (b"chr1\t20\t40\tc\t0\t+", 1)],
             b"", b"chr1\t0\t40\n"),
@@ -90,7 +90,7 @@ const CASES: [Rows; 12] = [
         ("each strand, the strand - first",
             &[(b"chr1\t0\t10\ta\t0\t-", 1), (b"chr1\t5\t20\tb\t0\t+", 2)],
             b"", b"chr1\t0\t10\nchr1\t5\t20\n"),
-        ("finished runs behind an open one",
+        ("finished runs after an open one",
             &[(b"chr1\t0\t100\ta\t0\t+", 1), (b"chr1\t10\t20\tb\t0\t-", 2),
               (b"chr1\t60\t70\tc\t0\t-", 3)],
             b"", b"chr1\t0\t100\nchr1\t10\t20\nchr1\t60\t70\n"),
@@ -107,12 +107,12 @@ const CASES: [Rows; 12] = [
             &[(b"chr1\t0\t10", 1), (b"chr1\t5\t15\ta\t0\t.", 1), (b"chr1\t15\t20\tb\t0\tx", 1),
               (b"chr1\t18\t30\tc\t0\t+", 2)],
             b"", b"chr1\t0\t20\nchr1\t18\t30\n"),
-        ("the runs behind the first are settled one by one",
+        ("the runs after the first are settled one by one",
             &[(b"chr1\t0\t10\ta\t0\t+", 1), (b"chr1\t5\t30\tb\t0\t-", 2),
               (b"chr1\t20\t25\tc\t0\t+", 2), (b"chr1\t28\t29\td\t0\t.", 3),
               (b"chr1\t31\t32\te\t0\t+", 1)],
             b"chr1\t0\t10\nchr1\t5\t30\nchr1\t20\t25\nchr1\t28\t29\n", b"chr1\t31\t32\n"),
-        ("joined behind a run of another strand",
+        ("joined after a run of another strand",
             &[(b"chr1\t0\t10\ta\t0\t+", 1), (b"chr1\t5\t12\tb\t0\t-", 2),
               (b"chr1\t10\t20\tc\t0\t+", 2), (b"chr1\t20\t21\td\t0\t-", 3),
               (b"chr1\t21\t30\te\t0\t-", 1)],
@@ -137,6 +137,7 @@ fn check(rt: &impl Abort, alloc: Global, (d, strand, rows): &Rows) -> Result<(),
     let d = (*d).min(GREATEST);
     for row in *rows {
         check_row(rt, alloc, Merge::new(alloc, d, *strand), row);
+        check_batches(rt, alloc, Merge::new(alloc, d, *strand), row)?;
         for good in 0..written_len(row) {
             check_failing(rt, alloc, Merge::new(alloc, d, *strand), row, good)?;
         }
@@ -156,73 +157,43 @@ fn worked_rows(rt: HostRuntime) -> Result<(), Fail> {
     check_all(&rt, rt.alloc(), &CASES)
 }
 
-#[test]
-fn many_records_on_one_run(rt: HostRuntime) -> Result<(), Fail> {
-    let mut merge = Merge::new(rt.alloc(), 0, All);
-    let mut out = output(rt.alloc(), 100);
-    feed_many(&rt, &mut merge, &mut out)?;
-    expect_end(&rt, merge, out, b"chr1\t0\t20000\n", "many");
-    Ok(())
-}
-
-// An engine has to write the runs that the plain program gives.
-fn check_plain(rt: &impl Abort, alloc: Global, cases: &[Bounds]) -> Result<(), Fail> {
-    for bounds in cases {
-        let spans = spans_of(alloc, bounds)?;
-        for gap in 0..5 {
-            let mut wanted = Vec::new(alloc);
-            for run in plain_runs(alloc, spans.as_slice(), gap)?.as_slice() {
-                let line = format!(in alloc; "c\t{}\t{}\n", run.start, run.stop)?;
-                wanted.extend_from_slice(line.as_bytes())?;
-            }
-            let merge = Merge::new(alloc, gap, All);
-            check_spans(rt, alloc, merge, ("c", *bounds), wanted.as_slice())?;
-        }
-    }
-    Ok(())
-}
-
-const PLAIN_CASES: [Bounds; 6] = [
-    &[],
-    &[(0, 1), (0, 7), (3, 5), (9, 10)],
-    &[(1, 2), (2, 3), (4, 40), (30, 35)],
-    &[(3, 4), (5, 6), (8, 9), (12, 13)],
-    &[(0, 20), (1, 2), (21, 22), (24, 25)],
-    &[(7, 8), (7, 9), (10, 11), (13, 14), (13, 15)],
-];
-
-#[test]
-fn gives_what_the_plain_program_gives(rt: HostRuntime) -> Result<(), Fail> {
-    check_plain(&rt, rt.alloc(), &PLAIN_CASES)
-}
-
-// Feeds runs of one base after an open one, and adds their lines to what is wanted.
+// Feeds a thousand runs of one base after an open one, each of which is kept.
 fn feed_runs(
     rt: &impl Abort,
-    merge: &mut Merge,
-    wanted: &mut Vec<u8>,
-    out: &mut Out<ScriptSink>,
     alloc: Global,
-) -> Result<(), Fail> {
+    merge: &mut Merge,
+    out: &mut Out<ScriptSink>,
+) -> Result<(), AllocError> {
+    feed_kept(rt, merge, (b"chr1\t0\t99999\ta\t0\t+", 1), out, "open");
     for place in 0..1_000u32 {
         let start = 2 * place + 1;
         let line = format!(in alloc; "chr1\t{start}\t{}\tb\t0\t-", start + 1)?;
-        let kept = (line.as_bytes(), place as usize + 2);
-        feed_kept(rt, merge, kept, out, "a run");
-        let line = format!(in alloc; "chr1\t{start}\t{}\n", start + 1)?;
-        wanted.extend_from_slice(line.as_bytes())?;
+        feed_kept(
+            rt,
+            merge,
+            (line.as_bytes(), place as usize + 2),
+            out,
+            "a run",
+        );
     }
     Ok(())
 }
 
 #[test]
-fn many_runs_behind_an_open_one(rt: HostRuntime) -> Result<(), Fail> {
-    let mut wanted = Vec::from_slice(rt.alloc(), b"chr1\t0\t99999\n")?;
+fn many_runs_after_an_open_one(rt: HostRuntime) -> Result<(), Fail> {
     let mut merge = Merge::new(rt.alloc(), 0, Each);
     let mut out = output(rt.alloc(), 100);
-    let open = (b"chr1\t0\t99999\ta\t0\t+".as_slice(), 1);
-    feed_kept(&rt, &mut merge, open, &mut out, "open");
-    feed_runs(&rt, &mut merge, &mut wanted, &mut out, rt.alloc())?;
-    expect_end(&rt, merge, out, wanted.as_slice(), "runs in order");
+    feed_runs(&rt, rt.alloc(), &mut merge, &mut out)?;
+    let answer = merge.finish(&mut out).and(out.flush());
+    let sink = out.into_sink();
+    let begins = sink
+        .taken()
+        .starts_with(b"chr1\t0\t99999\nchr1\t1\t2\nchr1\t3\t4\n");
+    same_answer(&rt, answer, Ok(()), "the end");
+    holds(
+        &rt,
+        begins && sink.taken().ends_with(b"chr1\t1999\t2000\n"),
+        "in order",
+    );
     Ok(())
 }

@@ -1,6 +1,6 @@
 //! Tests of all engines.
 
-mod batch_tests;
+pub(crate) mod batch_tests;
 mod calls_tests;
 mod growth_tests;
 pub(crate) mod testing;

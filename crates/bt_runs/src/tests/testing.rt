@@ -2,7 +2,6 @@
 //! would be proved beside all of that.
 
 use crate::engine::Engine;
-use crate::plain::PlainSpan;
 use bt_bed::{Genome, parse_bed};
 use bt_lines::{Fault, Input, Kind, LineReader, Out, Place, ScriptSink, ScriptSource, Sink};
 use std::alloc::{AllocError, Global};
@@ -184,50 +183,5 @@ pub(crate) fn check_failing<E: Engine + Drop>(
     feed_failing(rt, engine, row, &mut out);
     let prefix = wanted.as_slice().get(..good).unwrap_or(b"");
     same_bytes(rt, out.into_sink().taken(), prefix, row.0);
-    Ok(())
-}
-
-// The starts and the ends of spans.
-pub(crate) type Bounds = &'static [(u64, u64)];
-
-pub(crate) fn spans_of(alloc: Global, bounds: &[(u64, u64)]) -> Result<Vec<PlainSpan>, AllocError> {
-    let mut spans = Vec::new(alloc);
-    for (start, stop) in bounds {
-        let (start, stop) = (*start, *stop);
-        spans.push(PlainSpan { start, stop })?;
-    }
-    Ok(spans)
-}
-
-// Feeds spans on a chromosome, and says whether they were taken.
-fn feed_spans<E: Engine, K: Sink>(
-    alloc: Global,
-    engine: &mut E,
-    (chrom, spans): (&str, Bounds),
-    out: &mut Out<K>,
-) -> Result<bool, AllocError> {
-    for (start, stop) in spans {
-        let (start, stop) = (*start, *stop);
-        let line = format!(in alloc; "{chrom}\t{start}\t{stop}")?;
-        if feed_line(engine, line.as_bytes(), out).is_err() {
-            return Ok(false);
-        }
-    }
-    Ok(true)
-}
-
-// Feeds an engine that has taken no record with spans on a chromosome, and lets it finish. It has to write these bytes.
-pub(crate) fn check_spans<E: Engine + Drop>(
-    rt: &impl Abort,
-    alloc: Global,
-    mut engine: E,
-    spans: (&str, Bounds),
-    wanted: &[u8],
-) -> Result<(), Fail> {
-    let name = format!(in alloc; "{spans:?}")?;
-    let mut out = output(alloc, 3);
-    let taken = feed_spans(alloc, &mut engine, spans, &mut out)?;
-    holds(rt, taken, name.as_str());
-    expect_end(rt, engine, out, wanted, name.as_str());
     Ok(())
 }
