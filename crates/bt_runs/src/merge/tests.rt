@@ -2,9 +2,11 @@
 
 use super::MergeStrand::{All, Each, One};
 use super::*;
+use crate::plain::{PlainSpan, plain_runs};
 use crate::tests::batch_tests::check_batches;
 use crate::tests::testing::{
-    Row, check_failing, check_row, feed_kept, holds, output, same_answer, written_len,
+    Row, check_failing, check_row, expect_end, feed_kept, feed_line, holds, output, same_answer,
+    written_len,
 };
 use bt_bed::Strand::{Dot, Minus, Plus};
 use bt_lines::ScriptSink;
@@ -155,6 +157,56 @@ fn check_all(rt: &impl Abort, alloc: Global, cases: &[Rows]) -> Result<(), Fail>
 #[test]
 fn worked_rows(rt: HostRuntime) -> Result<(), Fail> {
     check_all(&rt, rt.alloc(), &CASES)
+}
+
+// Feeds a merge with the records of these spans, and returns the spans.
+fn feed_spans(
+    rt: &impl Abort,
+    alloc: Global,
+    merge: &mut Merge,
+    bounds: &[(u64, u64)],
+    out: &mut Out<ScriptSink>,
+) -> Result<Vec<PlainSpan>, AllocError> {
+    let mut spans = Vec::new(alloc);
+    for (start, stop) in bounds {
+        let (start, stop) = (*start, *stop);
+        let line = format!(in alloc; "c\t{start}\t{stop}")?;
+        same_answer(rt, feed_line(merge, line.as_bytes(), out), Ok(()), "a span");
+        spans.push(PlainSpan { start, stop })?;
+    }
+    Ok(spans)
+}
+
+// The lines of the runs that the plain program gives.
+fn plain_lines(alloc: Global, spans: &[PlainSpan], gap: u64) -> Result<Vec<u8>, AllocError> {
+    let mut lines = Vec::new(alloc);
+    for run in plain_runs(alloc, spans, gap)?.as_slice() {
+        let line = format!(in alloc; "c\t{}\t{}\n", run.start, run.stop)?;
+        lines.extend_from_slice(line.as_bytes())?;
+    }
+    Ok(lines)
+}
+
+// Gaps, and the spans of records that are merged across them.
+#[rattlefmt::skip]
+const SPANS: [(u64, &[(u64, u64)]); 4] = [
+    (0, &[(0, 1), (0, 7), (3, 5), (7, 10)]),
+    (1, &[(3, 4), (5, 6), (8, 9), (12, 13)]),
+    (3, &[(3, 4), (5, 6), (8, 9), (12, 13)]),
+    (4, &[(0, 20), (1, 2), (21, 22), (27, 28)]),
+];
+
+// A merge has to write the runs that the plain program gives.
+#[test]
+fn merges_as_the_plain_program_does(rt: HostRuntime) -> Result<(), Fail> {
+    for (gap, bounds) in &SPANS {
+        let mut merge = Merge::new(rt.alloc(), (*gap).min(GREATEST), All);
+        let mut out = output(rt.alloc(), 100);
+        let spans = feed_spans(&rt, rt.alloc(), &mut merge, *bounds, &mut out)?;
+        let wanted = plain_lines(rt.alloc(), spans.as_slice(), *gap)?;
+        expect_end(&rt, merge, out, wanted.as_slice(), "as the plain program");
+    }
+    Ok(())
 }
 
 // Feeds a thousand runs of one base after an open one, each of which is kept.
