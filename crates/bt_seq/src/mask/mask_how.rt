@@ -86,61 +86,37 @@ pub(crate) fn mask_byte(base: u8, how: MaskHow) -> u8
 mod tests {
     use super::*;
 
-    fn masked(bases: [u8; 4], how: MaskHow) -> [u8; 4] {
-        let mut masked = bases;
-        mask_slice(&mut masked, how);
-        masked
+    const EDGES: &[u8] = b"@AMZ[`amz{\r*-\x80\xC1\xFFACGTNacgtnRYKMrykmBDHVbdhvW";
+
+    // How bases are masked, the bases, and what stands for them. The last two are longer than a vector.
+    #[rattlefmt::skip]
+    const MASKED: [(MaskHow, &[u8], &[u8]); 4] = [
+        (MaskHow::Soft, b"", b""),
+        (MaskHow::Hard(b'N'), b"aZ-z", b"NNNN"),
+        (MaskHow::Soft, EDGES, b"@amz[`amz{\r*-\x80\xC1\xFFacgtnacgtnrykmrykmbdhvbdhvw"),
+        (MaskHow::Hard(b'x'), EDGES, b"xxxxxxxxxxxxxxxxxxxxxxxxxxxxxxxxxxxxxxxxxxx"),
+    ];
+
+    // Whether bases are masked so. What comes after them stays.
+    fn is_masked(how: MaskHow, bases: &[u8], want: &[u8]) -> bool {
+        let mut block = [b'A'; 64];
+        let count = bases.len().min(63);
+        block[..count].copy_from_slice(&bases[..count]);
+        mask_slice(&mut block[..count], how);
+        &block[..count] == want && block[count] == b'A'
+    }
+
+    fn first_unlike(rows: &[(MaskHow, &[u8], &'static [u8])]) -> Option<&'static [u8]> {
+        for (how, bases, want) in rows {
+            if !is_masked(*how, bases, want) {
+                return Some(*want);
+            }
+        }
+        None
     }
 
     #[test]
     fn each_byte_is_masked_by_itself(rt: HostRuntime) {
-        assert_eq!(rt; masked(*b"aZ-z", MaskHow::Soft), *b"az-z");
-        assert_eq!(rt; masked(*b"aZ-z", MaskHow::Hard(78)), *b"NNNN");
-        assert_eq!(rt; masked(*b"@A[`", MaskHow::Soft), *b"@a[`");
-        assert_eq!(rt; masked(*b"{\r*N", MaskHow::Soft), *b"{\r*n");
-        assert_eq!(rt; masked(*b"AC\rt", MaskHow::Hard(b'x')), *b"xxxx");
-        mask_slice(&mut [], MaskHow::Soft);
-    }
-
-    // Whether a slice is masked as each of its bytes is alone, in lower case and by an `x`.
-    fn masks_each_byte(slice: &[u8]) -> bool {
-        let (mut soft, mut hard) = ([0; 512], [0; 512]);
-        let count = slice.len().min(512);
-        soft[..count].copy_from_slice(&slice[..count]);
-        hard[..count].copy_from_slice(&slice[..count]);
-        mask_slice(&mut soft[..count], MaskHow::Soft);
-        mask_slice(&mut hard[..count], MaskHow::Hard(120));
-        for index in 0..count {
-            if soft[index] != slice[index].to_ascii_lowercase() || hard[index] != 120 {
-                return false;
-            }
-        }
-        // After the slice nothing is masked.
-        soft[count..].iter().all(|byte| *byte == 0) && hard[count..].iter().all(|byte| *byte == 0)
-    }
-
-    // Whether all slices of this length are masked so that begin with one of the first 256 bytes.
-    fn masks_each_slice(bytes: &[u8], length: usize) -> bool {
-        for start in 0..256usize {
-            match bytes.get(start..start.saturating_add(length)) {
-                Some(slice) if masks_each_byte(slice) => {}
-                _ => return false,
-            }
-        }
-        true
-    }
-
-    #[test]
-    fn slices_of_all_bytes_are_masked_byte_by_byte(rt: HostRuntime) {
-        // The 256 values of a byte, twice over.
-        let mut bytes = [0; 512];
-        let mut value = 0u8;
-        for byte in bytes.iter_mut() {
-            *byte = value;
-            value = value.wrapping_add(1);
-        }
-        for length in 0..=100 {
-            assert!(rt; masks_each_slice(&bytes, length), "of {length}");
-        }
+        assert_eq!(rt; first_unlike(&MASKED), None);
     }
 }

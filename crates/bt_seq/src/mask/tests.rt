@@ -8,47 +8,63 @@ use bt_bed::{Blocks, Single, parse_bed};
 use bt_lines::{
     BufferedLines, Input, Kind, LineEnd, LineReader, ScriptSink, ScriptSource, write_failed,
 };
-use std::test::Fail;
 
 // The FASTA text, the BED text and what is written.
 type Texts = (&'static [u8], &'static [u8], &'static [u8]);
 
 // What is wrong at which line of which input.
-type Told = (Kind, Input, u64);
+type Wrong = (Kind, Input, u64);
+
+// How bases are masked, and whether the whole header is a name.
+type Asked = (MaskHow, bool);
+
+const HARD: Asked = (MaskHow::Hard(b'N'), false);
+
+const SOFT: Asked = (MaskHow::Soft, false);
+
+const FULL: Asked = (MaskHow::Hard(b'N'), true);
+
+// What the row shows, what is asked for, the texts and what is wrong.
+type Row = (&'static str, Asked, Texts, Option<Wrong>);
 
 const THREE: &[u8] = b">s\nAAAA\n>t\nCCCC\n>s\nGGGG\n";
 
 #[rattlefmt::skip]
-const MASKED: [Texts; 11] = [
-    (b"", b"", b""),
-    (b">s d\nACGTAC\nGTAC", b"s\t4\t8\n", b">s d\nACGTNN\nNNAC"),
-    (b">s\nACGT\n", b"s\t10\t20\n", b">s\nACGT\n"),
-    (b">s\nACGT\n", b"s\t2\t20\n", b">s\nACNN\n"),
-    (THREE, b"s\t0\t1\nt\t0\t1\ns\t0\t1\n", b">s\nNAAA\n>t\nNCCC\n>s\nNGGG\n"),
-    (THREE, b"t\t0\t1\ns\t0\t1\n", b">s\nAAAA\n>t\nNCCC\n>s\nNGGG\n"),
-    (b">s\nAC\nGT\n>t\nTTTT\n", b"s\t1\t3\nt\t0\t1\n", b">s\nAN\nNT\n>t\nNTTT\n"),
-    (b"\r\n>s\r\nAC\r\n\nGT\r", b"s\t1\t3\n", b"\r\n>s\r\nAN\r\n\nNT\r"),
-    (b">s\nAC\nGT\n", b"s\t2\t3\n", b">s\nAC\nNT\n"),
-    (b">\nAA\n>s\n>t\nCC\n>u", b"t\t0\t1\n", b">\nAA\n>s\n>t\nNC\n>u"),
-    (b">s\nAAAA\n", b"s\t0\t3\ns\t0\t1\ns\t2\t3\n", b">s\nNNNA\n"),
-];
-
-// Masked by small letters.
-#[rattlefmt::skip]
-const SOFT: [Texts; 2] = [
-    (b">s d\nACGTAC\nGTAC", b"s\t4\t8\n", b">s d\nACGTac\ngtAC"),
-    (b">s\nACGT\nACGT\n", b"s\t0\t1\ns\t3\t6\ns\t4\t5\ns\t7\t20\n", b">s\naCGt\nacGt\n"),
-];
-
-#[rattlefmt::skip]
-const AT_FAULT: [(Texts, Told); 6] = [
-    ((b">s\nACGT\n", b"t\t0\t2\n", b">s\nACGT\n"), (Kind::NoSequence, Input::Second, 1)),
-    ((b">s\nAAAA\n", b"t\t0\t2\nt\tx\t5\n", b">s\nAAAA\n"), (Kind::NoSequence, Input::Second, 1)),
-    ((b">s\nAA\n>t\nCC\n", b"t\t0\t1\ns\t0\t1\n", b">s\nAA\n>t\nNC\n"),
-        (Kind::NoSequence, Input::Second, 2)),
-    ((b"ACGT\n>s\n", b"", b""), (Kind::TextBeforeHeader, Input::First, 1)),
-    ((b">s\nAAAA\n", b"s\t3\t4\ns\t1\t2\n", b">s\n"), (Kind::OutOfOrder, Input::Second, 2)),
-    ((b">s\nAAAA\nCCCC\n", b"s\t0\t1\ns\tx\t2\n", b">s\n"), (Kind::BadStart, Input::Second, 2)),
+const MASKED: [Row; 20] = [
+    ("nothing", HARD, (b"", b"", b""), None),
+    ("over two lines", HARD, (b">s d\nACGTAC\nGTAC", b"s\t4\t8\n", b">s d\nACGTNN\nNNAC"), None),
+    ("past the sequence", HARD, (b">s\nACGT\n", b"s\t10\t20\n", b">s\nACGT\n"), None),
+    ("over its end", HARD, (b">s\nACGT\n", b"s\t2\t20\n", b">s\nACNN\n"), None),
+    ("two sequences of a name", HARD,
+        (THREE, b"s\t0\t1\nt\t0\t1\ns\t0\t1\n", b">s\nNAAA\n>t\nNCCC\n>s\nNGGG\n"), None),
+    ("the second of a name", HARD,
+        (THREE, b"t\t0\t1\ns\t0\t1\n", b">s\nAAAA\n>t\nNCCC\n>s\nNGGG\n"), None),
+    ("two sequences", HARD,
+        (b">s\nAC\nGT\n>t\nTTTT\n", b"s\t1\t3\nt\t0\t1\n", b">s\nAN\nNT\n>t\nNTTT\n"), None),
+    ("ends of lines stay", HARD,
+        (b"\r\n>s\r\nAC\r\n\nGT\r", b"s\t1\t3\n", b"\r\n>s\r\nAN\r\n\nNT\r"), None),
+    ("the second line", HARD, (b">s\nAC\nGT\n", b"s\t2\t3\n", b">s\nAC\nNT\n"), None),
+    ("without a name or bases", HARD,
+        (b">\nAA\n>s\n>t\nCC\n>u", b"t\t0\t1\n", b">\nAA\n>s\n>t\nNC\n>u"), None),
+    ("records within one", HARD,
+        (b">s\nAAAA\n", b"s\t0\t3\ns\t0\t1\ns\t2\t3\n", b">s\nNNNA\n"), None),
+    ("lower case", SOFT, (b">s d\nACGTAC\nGTAC", b"s\t4\t8\n", b">s d\nACGTac\ngtAC"), None),
+    ("lower case, a record within one", SOFT,
+        (b">s\nACGT\nACGT\n", b"s\t0\t1\ns\t3\t6\ns\t4\t5\ns\t7\t20\n", b">s\naCGt\nacGt\n"), None),
+    ("the whole header", FULL, (b">s d\nACGT\n", b"s d\t0\t1\n", b">s d\nNCGT\n"), None),
+    ("no sequence", HARD, (b">s\nACGT\n", b"t\t0\t2\n", b">s\nACGT\n"),
+        Some((Kind::NoSequence, Input::Second, 1))),
+    ("no sequence, before a bad start", HARD, (b">s\nAAAA\n", b"t\t0\t2\nt\tx\t5\n", b">s\nAAAA\n"),
+        Some((Kind::NoSequence, Input::Second, 1))),
+    ("a sequence before the last", HARD,
+        (b">s\nAA\n>t\nCC\n", b"t\t0\t1\ns\t0\t1\n", b">s\nAA\n>t\nNC\n"),
+        Some((Kind::NoSequence, Input::Second, 2))),
+    ("text before the header", HARD, (b"ACGT\n>s\n", b"", b""),
+        Some((Kind::TextBeforeHeader, Input::First, 1))),
+    ("out of order", HARD, (b">s\nAAAA\n", b"s\t3\t4\ns\t1\t2\n", b">s\n"),
+        Some((Kind::OutOfOrder, Input::Second, 2))),
+    ("a bad start", HARD, (b">s\nAAAA\nCCCC\n", b"s\t0\t1\ns\tx\t2\n", b">s\n"),
+        Some((Kind::BadStart, Input::Second, 2))),
 ];
 
 // Gives the next record, or the end of the records.
@@ -130,49 +146,38 @@ fn give(
 }
 
 // Whether this is what went wrong, or nothing did.
-fn is_it(driven: Result<(), Fault>, want: Option<Told>) -> bool {
-    let told = match driven {
-        Ok(()) => return want.is_none(),
-        Err(fault) => fault
-            .place
-            .map(|place| (fault.kind, place.input, place.line)),
+fn is_it(driven: Result<(), Fault>, want: Option<Wrong>) -> bool {
+    let Err(fault) = driven else {
+        return want.is_none();
     };
-    told.is_some() && told == want
+    match fault.place {
+        Some(place) => Some((fault.kind, place.input, place.line)) == want,
+        None => false,
+    }
 }
 
-// Whether the texts give their bytes and this fault.
-fn agrees(alloc: Global, texts: Texts, want: Option<Told>, how: MaskHow, full: bool) -> bool {
+// Whether a row gives its bytes and its fault.
+fn agrees(alloc: Global, row: &Row) -> bool {
+    let (_, (how, full), texts, want) = *row;
     let mut mask = Mask::new(alloc, how, full);
     let sink = ScriptSink::new(alloc, 7, None);
     let (sink, driven) = give(&mut mask, alloc, texts, sink, false);
     !sink.failed() && sink.taken() == texts.2 && is_it(driven, want)
 }
 
+// The first row that doesn't.
+fn first_unlike(alloc: Global, rows: &[Row]) -> Option<&'static str> {
+    for row in rows {
+        if !agrees(alloc, row) {
+            return Some(row.0);
+        }
+    }
+    None
+}
+
 #[test]
 fn sequences_are_masked(rt: HostRuntime) {
-    for row in &MASKED {
-        let agrees = agrees(rt.alloc(), *row, None, MaskHow::Hard(b'N'), false);
-        assert!(rt; agrees, "{row:?}");
-    }
-}
-
-#[test]
-fn faults_end_the_masking(rt: HostRuntime) {
-    for (texts, told) in &AT_FAULT {
-        let agrees = agrees(rt.alloc(), *texts, Some(*told), MaskHow::Hard(b'N'), false);
-        assert!(rt; agrees, "{texts:?}");
-    }
-}
-
-#[test]
-fn bases_are_masked_as_asked_for(rt: HostRuntime) {
-    for row in &SOFT {
-        let agrees = agrees(rt.alloc(), *row, None, MaskHow::Soft, false);
-        assert!(rt; agrees, "{row:?}");
-    }
-    // By the whole text after the sign of a header.
-    let full: Texts = (b">s d\nACGT\n", b"s d\t0\t1\n", b">s d\nNCGT\n");
-    assert!(rt; agrees(rt.alloc(), full, None, MaskHow::Hard(b'N'), true));
+    assert_eq!(rt; first_unlike(rt.alloc(), &MASKED), None);
 }
 
 #[rattlefmt::skip]
@@ -188,11 +193,18 @@ fn cuts_at(alloc: Global, good: usize) -> bool {
     has_ended && good < CUT.2.len() && Some(sink.taken()) == CUT.2.get(..good)
 }
 
-#[test]
-fn a_failed_write_is_told_and_ends_it(rt: HostRuntime) {
+fn first_uncut(alloc: Global) -> Option<usize> {
     for good in 0..23usize {
-        assert!(rt; cuts_at(rt.alloc(), good), "at {good}");
+        if !cuts_at(alloc, good) {
+            return Some(good);
+        }
     }
+    None
+}
+
+#[test]
+fn a_failed_write_is_reported_and_ends_it(rt: HostRuntime) {
+    assert_eq!(rt; first_uncut(rt.alloc()), None);
 }
 
 fn give_line(mask: &mut Mask, text: &[u8], out: &mut Out<ScriptSink>) -> bool {
@@ -286,112 +298,101 @@ fn lines_before_the_record_ahead_dont_wait(rt: HostRuntime) {
 
 // Of which all lines are buffered at once.
 #[rattlefmt::skip]
-const TOGETHER: [Texts; 5] = [
-    (b"", b"", b""),
-    (b"\n>s\nACGT\n\nAC\nGA\n>t\nTT\n", b"s\t7\t9\nt\t0\t1\n", b"\n>s\nACGT\n\nAC\nGN\n>t\nNT\n"),
-    (b">s\r\nACGT\r\nACG\r\nAA\r\n", b"s\t7\t8\n", b">s\r\nACGT\r\nACG\r\nNA\r\n"),
-    (b">s\nAC\nGT\nAC\nGT\n", b"s\t1\t3\ns\t2\t3\n", b">s\nAN\nNT\nAC\nGT\n"),
-    (b">s\nAC\nGT\n", b"", b">s\nAC\nGT\n"),
+const TOGETHER: [Row; 6] = [
+    ("two sequences", HARD,
+        (b"\n>s\nACGT\n\nAC\nGA\n>t\nTT\n", b"s\t7\t9\nt\t0\t1\n", b"\n>s\nACGT\n\nAC\nGN\n>t\nNT\n"),
+        None),
+    ("ends of lines stay", HARD,
+        (b">s\r\nACGT\r\nACG\r\nAA\r\n", b"s\t7\t8\n", b">s\r\nACGT\r\nACG\r\nNA\r\n"), None),
+    ("over two lines of four", HARD,
+        (b">s\nAC\nGT\nAC\nGT\n", b"s\t1\t3\ns\t2\t3\n", b">s\nAN\nNT\nAC\nGT\n"), None),
+    ("no record", HARD, (b">s\nAC\nGT\n", b"", b">s\nAC\nGT\n"), None),
+    ("no sequence", HARD,
+        (b">s\nAC\nGT\n>t\nAC\n", b"t\t0\t1\nu\t0\t1\nt\t1\t2\n", b">s\nAC\nGT\n>t\nNC\n"),
+        Some((Kind::NoSequence, Input::Second, 2))),
+    ("text before the header", HARD, (b"\nAC\n>s\n", b"s\t0\t1\n", b"\n"),
+        Some((Kind::TextBeforeHeader, Input::First, 2))),
 ];
 
-#[rattlefmt::skip]
-const TOGETHER_AT_FAULT: [(Texts, Told); 2] = [
-    ((b">s\nAC\nGT\n>t\nAC\n", b"t\t0\t1\nu\t0\t1\nt\t1\t2\n", b">s\nAC\nGT\n>t\nNC\n"),
-        (Kind::NoSequence, Input::Second, 2)),
-    ((b"\nAC\n>s\n", b"s\t0\t1\n", b"\n"), (Kind::TextBeforeHeader, Input::First, 2)),
-];
-
-// The record of the next line that is buffered, or none.
-fn ahead<'a>(beds: &'a LineReader<ScriptSource<'_>>) -> Single<'a> {
-    let Some(line) = beds.buffered().next() else {
-        return Single::none(b"");
+// Gives the record of a line. Once the lines have ended their end is given first.
+fn give_record(
+    mask: &mut Mask,
+    lines: &mut BufferedLines<'_>,
+    line: &Line<'_>,
+    out: &mut Out<ScriptSink>,
+) -> Result<(), Fault> {
+    let Ok(Some(bed)) = parse_bed(line.text) else {
+        return Ok(());
     };
-    match parse_bed(line.text) {
-        Ok(Some(bed)) => Single::new(bed, line.number),
-        _ => Single::none(b""),
+    let mut record = Single::new(bed, line.number);
+    mask.advance(lines, &mut record, out)?;
+    if !record.is_empty() && mask.want() == MaskWant::Line {
+        mask.end_lines();
     }
+    mask.advance(lines, &mut record, out)
 }
 
-// Gives all lines, and a record if one is buffered, and returns true if its line is done with.
-fn advance(
+// Gives the end of the records, the lines that are left, and their end.
+fn give_ends(
+    mask: &mut Mask,
+    lines: &mut BufferedLines<'_>,
+    out: &mut Out<ScriptSink>,
+) -> Result<(), Fault> {
+    for _turn in 0..4 {
+        mask.advance(lines, &mut Single::none(b""), out)?;
+        match mask.want() {
+            MaskWant::Line => mask.end_lines(),
+            MaskWant::Bed => mask.end_bed(out)?,
+            MaskWant::Nothing => return Ok(()),
+        }
+    }
+    Ok(())
+}
+
+// Gives all lines together, and the records one by one.
+fn give_together(
     mask: &mut Mask,
     lines: &mut BufferedLines<'_>,
     beds: &LineReader<ScriptSource<'_>>,
     out: &mut Out<ScriptSink>,
-) -> Result<bool, Fault> {
-    let has_line = !beds.buffered().is_empty();
-    let mut record = ahead(beds);
-    mask.advance(lines, &mut record, out)?;
-    Ok(has_line && record.is_empty())
-}
-
-// Gives what is wanted, all lines and a record at a time.
-fn drive_buffered(
-    mask: &mut Mask,
-    lines: &mut BufferedLines<'_>,
-    beds: &mut LineReader<ScriptSource<'_>>,
-    out: &mut Out<ScriptSink>,
 ) -> Result<(), Fault> {
-    for _turn in 0..64 {
-        match mask.want() {
-            MaskWant::Line if lines.is_empty() => mask.end_lines(),
-            MaskWant::Line => {}
-            MaskWant::Bed => {
-                if !beds.fill()? {
-                    mask.end_bed(out)?;
-                }
-            }
-            MaskWant::Nothing => return Ok(()),
-        }
-        if advance(mask, lines, beds, out)? {
-            let _ = beds.next()?;
-        }
+    let mut beds = beds.buffered();
+    for _turn in 0..8 {
+        let Some(line) = beds.next() else {
+            break;
+        };
+        give_record(mask, lines, &line, out)?;
     }
-    Ok(())
+    give_ends(mask, lines, out)
 }
 
 // Whether the texts give their bytes and this fault, if all lines are given together.
-fn agrees_together(alloc: Global, texts: &Texts, want: Option<Told>) -> bool {
+fn agrees_together(alloc: Global, texts: &Texts, want: Option<Wrong>) -> bool {
     let mut reader = LineReader::new(alloc, ScriptSource::new(texts.0, 64, None), Input::First);
     let mut beds = LineReader::new(alloc, ScriptSource::new(texts.1, 64, None), Input::Second);
     let mut out = Out::new(ScriptSink::new(alloc, 7, None));
     let mut mask = Mask::new(alloc, MaskHow::Hard(b'N'), false);
-    let _ = reader.fill().is_ok();
+    let are_filled = reader.fill().is_ok() && beds.fill().is_ok();
     let mut lines = reader.buffered();
-    let driven = drive_buffered(&mut mask, &mut lines, &mut beds, &mut out);
+    let driven = give_together(&mut mask, &mut lines, &beds, &mut out);
     let is_flushed = out.flush().is_ok();
     let is_written = out.into_sink().taken() == texts.2;
     let _ = reader.into_source();
     let _ = beds.into_source();
-    is_flushed && is_written && is_it(driven, want)
+    are_filled && is_flushed && is_written && is_it(driven, want)
+}
+
+// The first row that doesn't.
+fn first_unlike_together(alloc: Global, rows: &[Row]) -> Option<&'static str> {
+    for row in rows {
+        if !agrees_together(alloc, &row.2, row.3) {
+            return Some(row.0);
+        }
+    }
+    None
 }
 
 #[test]
 fn lines_given_together_are_masked(rt: HostRuntime) {
-    for row in &TOGETHER {
-        assert!(rt; agrees_together(rt.alloc(), row, None), "{row:?}");
-    }
-    for (texts, told) in &TOGETHER_AT_FAULT {
-        let agrees = agrees_together(rt.alloc(), texts, Some(*told));
-        assert!(rt; agrees, "{texts:?}");
-    }
-}
-
-#[test]
-fn an_engine_that_wants_nothing_takes_nothing(rt: HostRuntime) -> Result<(), Fail> {
-    let mut lines = lines_of(rt.alloc(), Input::First, b">s\nACGT\n", 8192);
-    assert!(rt; lines.fill()?);
-    let mut mask = Mask::new(rt.alloc(), MaskHow::Soft, false);
-    mask.end_lines();
-    let mut out = Out::new(ScriptSink::new(rt.alloc(), 7, None));
-    let mut none = Single::none(b"s");
-    if mask.want() == MaskWant::Bed {
-        mask.end_bed(&mut out)?;
-    }
-    let mut buffered = lines.buffered();
-    let advanced = mask.advance(&mut buffered, &mut none, &mut out);
-    let stays = mask.want() == MaskWant::Nothing && buffered.offset() == 0;
-    let _ = lines.into_source();
-    assert!(rt; advanced.is_ok() && stays);
-    Ok(())
+    assert_eq!(rt; first_unlike_together(rt.alloc(), &TOGETHER), None);
 }

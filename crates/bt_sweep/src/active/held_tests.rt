@@ -2,7 +2,7 @@
 use crate::active::held::Held;
 use crate::active::held_index::HeldIndex;
 use crate::active::held_list::HeldList;
-use crate::tests::{nested_line, start_of};
+use crate::tests::start_of;
 use bt_bed::parse_bed;
 use std::alloc::Global;
 use std::process::Abort;
@@ -89,8 +89,9 @@ fn ended_records_are_dropped(rt: HostRuntime) -> Result<(), Fail> {
 
 // Adds a thousand records, each within the one before it.
 fn push_nested<H: Held>(alloc: Global, held: &mut H) -> Result<bool, Fail> {
-    for number in 0..1000 {
-        if !push(alloc, held, nested_line(alloc, number)?.as_bytes())? {
+    for start in 0..1000_u32 {
+        let line = format!(in alloc; "chr1\t{start}\t{}", 10_000 - start)?;
+        if !push(alloc, held, line.as_bytes())? {
             return Ok(false);
         }
     }

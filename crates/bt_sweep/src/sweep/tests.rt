@@ -4,11 +4,11 @@ use self::Step::{EndSecond, First, Holds, HoldsAt, Second, Wants};
 use super::*;
 use crate::active::held_index::HeldIndex;
 use crate::active::held_list::HeldList;
-use crate::output::shape::Shape::{Count, Cut};
+use crate::output::shape::Shape::Cut;
 use crate::plain::plain_intersect;
 use crate::sweep::want::Want::{A, B};
-use crate::tests::worked::{ANY_OVERLAP, RULED, RuledCase, SHAPES, records_of};
-use crate::tests::{genome, nested_line, output, start_of};
+use crate::tests::worked::{RuledCase, SHAPES, records_of, worked_cases};
+use crate::tests::{genome, output, start_of};
 use bt_bed::Taken::{No, Yes};
 use bt_bed::parse_bed;
 use bt_lines::{Kind, ScriptSink};
@@ -17,19 +17,6 @@ use std::process::Abort;
 use std::test::Fail;
 
 mod batches;
-mod random;
-
-// A sweep in which one shared base is a hit.
-fn any_overlap<H: Held, O: ChromOrder>(
-    alloc: Global,
-    held: H,
-    shape: Shape,
-    order: &O,
-) -> Sweep<'_, H, O>
-    requires { H.records held ≡ [] }
-{
-    Sweep::new(alloc, held, shape, HitRule::any_overlap(), None, order)
-}
 
 // What comes of a record or an end that is given. An error is a fault, or none if it isn't wanted.
 type Given<T> = Result<T, Option<Fault>>;
@@ -170,8 +157,9 @@ fn first_miswritten<O: ChromOrder>(
 #[test]
 fn worked_rows(rt: HostRuntime) -> Result<(), Fail> {
     let genome = genome(rt.alloc())?;
-    let found = first_miswritten(rt.alloc(), &genome, &ANY_OVERLAP);
-    let found = found.or(first_miswritten(rt.alloc(), &genome, &RULED));
+    let [any_overlap, ruled] = worked_cases();
+    let found = first_miswritten(rt.alloc(), &genome, any_overlap);
+    let found = found.or(first_miswritten(rt.alloc(), &genome, ruled));
     assert_eq!(rt; found, None);
     Ok(())
 }
@@ -249,7 +237,8 @@ fn first_stepped_otherwise(
 ) -> Result<Option<(&'static str, Option<usize>)>, Fail> {
     let genome = genome(alloc)?;
     for (name, steps, want) in cases {
-        let mut sweep = any_overlap(alloc, HeldList::new(alloc), Cut, &genome);
+        let (held, rule) = (HeldList::new(alloc), HitRule::any_overlap());
+        let mut sweep = Sweep::new(alloc, held, Cut, rule, None, &genome);
         let mut out = output(alloc, 100);
         let found = first_that_goes_otherwise(&mut sweep, steps, &mut out);
         let is_flushed = out.flush().is_ok();
@@ -263,49 +252,6 @@ fn first_stepped_otherwise(
 #[test]
 fn steps_go_as_they_say(rt: HostRuntime) -> Result<(), Fail> {
     assert_eq!(rt; first_stepped_otherwise(rt.alloc(), &STEPPED)?, None);
-    Ok(())
-}
-
-// Gives a thousand records, each of which lies within the one before it.
-fn gives_nested<H: Held, O: ChromOrder, K: Sink>(
-    alloc: Global,
-    sweep: &mut Sweep<'_, H, O>,
-    out: &mut Out<K>,
-) -> Result<bool, Fail> {
-    for number in 0..1000 {
-        let line = nested_line(alloc, number)?;
-        if give_second(sweep, 1, Some(&line.as_bytes()), out) != Ok(Yes) {
-            return Ok(false);
-        }
-    }
-    Ok(true)
-}
-
-#[rattlefmt::skip]
-const BEHIND_NESTED: [Step; 3] = [EndSecond, First(b"chr1\t9500\t9600"), First(b"chr1\t9999\t10000")];
-
-const COUNTED: &[u8] = b"chr1\t0\t10000\t1000\nchr1\t9500\t9600\t500\nchr1\t9999\t10000\t1\n";
-
-// Whether the hits of three records in those are counted.
-fn counts_in_nested<H: Held>(alloc: Global, held: H) -> Result<bool, Fail>
-    requires { H.records held ≡ [] }
-{
-    let genome = genome(alloc)?;
-    let mut sweep = any_overlap(alloc, held, Count, &genome);
-    let mut out = output(alloc, 100);
-    let is_around = goes(&mut sweep, First(b"chr1\t0\t10000"), &mut out);
-    let are_taken = gives_nested(alloc, &mut sweep, &mut out)?;
-    let behind = first_that_goes_otherwise(&mut sweep, &BEHIND_NESTED, &mut out);
-    let is_flushed = out.flush().is_ok();
-    let is_written = out.into_sink().taken() == COUNTED;
-    Ok(is_around && are_taken && behind.is_none() && is_flushed && is_written)
-}
-
-#[test]
-fn nested_records_are_counted(rt: HostRuntime) -> Result<(), Fail> {
-    let in_list = counts_in_nested(rt.alloc(), HeldList::new(rt.alloc()))?;
-    let in_index = counts_in_nested(rt.alloc(), HeldIndex::new(rt.alloc()))?;
-    assert_eq!(rt; (in_list, in_index), (true, true));
     Ok(())
 }
 
@@ -329,15 +275,15 @@ fn writes_like_plain<O: ChromOrder>(
 }
 
 // The name of the first case whose inputs give something else than the plain program, in some shape.
-fn first_unlike_plain<O: ChromOrder>(
+fn first_unlike_plain(
     alloc: Global,
-    order: &O,
     cases: &[RuledCase],
     shapes: &[Shape],
-) -> Result<Option<&'static str>, AllocError> {
+) -> Result<Option<&'static str>, Fail> {
+    let genome = genome(alloc)?;
     for (name, _, rule, first, second, _) in cases {
         for shape in shapes {
-            if !writes_like_plain(alloc, order, (*shape, *rule), first, second)? {
+            if !writes_like_plain(alloc, &genome, (*shape, *rule), first, second)? {
                 return Ok(Some(*name));
             }
         }
@@ -347,8 +293,7 @@ fn first_unlike_plain<O: ChromOrder>(
 
 #[test]
 fn gives_what_the_plain_program_gives(rt: HostRuntime) -> Result<(), Fail> {
-    let genome = genome(rt.alloc())?;
-    let found = first_unlike_plain(rt.alloc(), &genome, &ANY_OVERLAP, &SHAPES)?;
-    assert_eq!(rt; found, None);
+    let [any_overlap, _] = worked_cases();
+    assert_eq!(rt; first_unlike_plain(rt.alloc(), any_overlap, &SHAPES)?, None);
     Ok(())
 }

@@ -6,7 +6,7 @@ pub(crate) mod worked;
 use crate::active::held::Held;
 use bt_bed::Genome;
 use bt_lines::{Fault, Input, LineReader, Out, ScriptSink, ScriptSource};
-use std::alloc::{AllocError, Global};
+use std::alloc::Global;
 
 // The genome file of all tests.
 pub(crate) fn genome(alloc: Global) -> Result<Genome, Fault> {
@@ -20,11 +20,6 @@ pub(crate) fn genome(alloc: Global) -> Result<Genome, Fault> {
 // An output to a sink that takes so many bytes at a time, all of them.
 pub(crate) fn output(alloc: Global, step: usize) -> Out<ScriptSink> {
     Out::new(ScriptSink::new(alloc, step.max(1), None))
-}
-
-// The line of a record that lies within that of the number before.
-pub(crate) fn nested_line(alloc: Global, number: u32) -> Result<String, AllocError> {
-    format!(in alloc; "chr1\t{number}\t{}", 10_000_u32.saturating_sub(number))
 }
 
 // The start of the record at this index.

@@ -37,12 +37,6 @@ const HALF_OF_BOTH: HitRule = rule!(500_000_000, true, false);
 
 const ONE_STRAND: HitRule = rule!(0, false, true);
 
-// Those by which random inputs are joined.
-#[rattlefmt::skip]
-pub(crate) const RULES: [HitRule; 5] = [
-    ANY, HALF, rule!(333_333_333, true, false), ONE_STRAND, rule!(250_000_000, true, true),
-];
-
 const SHORT: Lines = &[b"chr1\t0\t10"];
 
 const FRONT: Lines = &[b"chr1\t0\t5"];
@@ -73,7 +67,7 @@ const NAMED_B: Lines = &[b"chr1\t0\t15\tx", b"chr1\t25\t40\ty"];
 
 // By the rule that one shared base is a hit.
 #[rattlefmt::skip]
-pub(crate) const ANY_OVERLAP: [RuledCase; 18] = [
+const ANY_OVERLAP: [RuledCase; 18] = [
     ("touching", Cut, ANY, TOUCHING_A, TOUCHING_B, b""),
     ("touching, missing", Missing, ANY, TOUCHING_A, TOUCHING_B, b"chr1\t10\t20\n"),
     ("touching, counted", Count, ANY, TOUCHING_A, TOUCHING_B, b"chr1\t10\t20\t0\n"),
@@ -106,7 +100,7 @@ pub(crate) const ANY_OVERLAP: [RuledCase; 18] = [
 
 // By fractions, by strands, and what is left of the first input.
 #[rattlefmt::skip]
-pub(crate) const RULED: [RuledCase; 24] = [
+const RULED: [RuledCase; 24] = [
     ("half", Cut, HALF, SHORT, FRONT, b"chr1\t0\t5\n"),
     ("a billionth more than half", Cut, OVER_HALF, SHORT, FRONT, b""),
     ("half of both", Cut, HALF_OF_BOTH, SHORT, FRONT, b"chr1\t0\t5\n"),
@@ -138,6 +132,11 @@ pub(crate) const RULED: [RuledCase; 24] = [
     ("touching, pieces", Pieces, ANY, SHORT, &[b"chr1\t10\t20"], b"chr1\t0\t10\n"),
     ("pieces, no second record", Pieces, ANY, SHORT, &[], b"chr1\t0\t10\n"),
 ];
+
+// All cases.
+pub(crate) fn worked_cases() -> [&'static [RuledCase]; 2] {
+    [&ANY_OVERLAP, &RULED]
+}
 
 // The records of these lines.
 pub(crate) fn records_of(alloc: Global, lines: &[&[u8]]) -> Result<Vec<Rec>, AllocError> {

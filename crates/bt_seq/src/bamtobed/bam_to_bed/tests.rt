@@ -11,10 +11,12 @@ type Case = (&'static [u8], bool, bool, &'static [u8]);
 
 // The example of the SAM specification, and lines at the edges.
 #[rattlefmt::skip]
-const CASES: [Case; 20] = [
+const CASES: [Case; 21] = [
     (R001, false, false, b"ref\t6\t22\tr001/1\t30\t+\n"),
     (R001, false, true, b"ref\t6\t22\tr001/1\t30\t+\t8M2I4M1D3M\n"),
     (R002, false, false, b"ref\t8\t18\tr002\t30\t+\n"),
+    (b"r 1\t99\tref x\t7\t30\t8M2I\t=\t37\t39\tTTAGATAAAG\t*", false, true,
+        b"ref x\t6\t14\tr 1/1\t30\t+\t8M2I\n"),
     (R003, true, true, b"ref\t8\t14\tr003\t30\t+\t5S6M\n"),
     (R004, false, false, b"ref\t15\t40\tr004\t30\t+\n"),
     (R004, true, false, b"ref\t15\t21\tr004\t30\t+\nref\t35\t40\tr004\t30\t+\n"),
@@ -37,11 +39,11 @@ const CASES: [Case; 20] = [
 ];
 
 // Feeds the alignment of a line, if it has one, and returns whether that was taken.
-fn feed_text(engine: &mut BamToBed, text: &[u8], out: &mut Out<ScriptSink>) -> Result<bool, Kind> {
+fn feeds(engine: &mut BamToBed, text: &[u8], out: &mut Out<ScriptSink>) -> bool {
     match sam_line(text) {
-        Ok(Some(sam)) => Ok(engine.feed(&sam, out).is_ok()),
-        Ok(None) => Ok(true),
-        Err(kind) => Err(kind),
+        Ok(Some(sam)) => engine.feed(&sam, out).is_ok(),
+        Ok(None) => true,
+        Err(_) => false,
     }
 }
 
@@ -50,29 +52,23 @@ fn writes(alloc: Global, case: &Case) -> bool {
     let (text, split, cigar, want) = *case;
     let mut out = Out::new(ScriptSink::new(alloc, 3, None));
     let mut engine = BamToBed::new(split, cigar);
-    let is_fed = feed_text(&mut engine, text, &mut out) == Ok(true);
+    let is_fed = feeds(&mut engine, text, &mut out);
     let is_flushed = out.flush().is_ok();
     is_fed && is_flushed && out.into_sink().taken() == want
 }
 
-#[test]
-fn alignments_are_written(rt: HostRuntime) {
-    for case in &CASES {
-        assert!(rt; writes(rt.alloc(), case), "{:?}", case.0);
+fn first_miswritten(alloc: Global, cases: &[Case]) -> Option<&'static [u8]> {
+    for case in cases {
+        if !writes(alloc, case) {
+            return Some(case.0);
+        }
     }
+    None
 }
 
-// Two lines, of which the second is at fault, and what is written of the first.
 #[test]
-fn a_line_at_fault_comes_behind_what_was_written(rt: HostRuntime) {
-    let cut = b"r001\t99\tref\t7\t30\t8M2I4M1D3M\t=\t37\t39\tTTAGATAAAGGATACTG";
-    let mut out = Out::new(ScriptSink::new(rt.alloc(), 3, None));
-    let mut engine = BamToBed::new(false, false);
-    let is_fed = feed_text(&mut engine, R001, &mut out) == Ok(true);
-    let is_told = feed_text(&mut engine, cut, &mut out) == Err(Kind::TooFewColumns);
-    let is_flushed = out.flush().is_ok();
-    let is_wanted = out.into_sink().taken() == b"ref\t6\t22\tr001/1\t30\t+\n".as_slice();
-    assert!(rt; is_fed && is_told && is_flushed && is_wanted);
+fn alignments_are_written(rt: HostRuntime) {
+    assert_eq!(rt; first_miswritten(rt.alloc(), &CASES), None);
 }
 
 // Whether an alignment that is fed a thousand times fails from some time on, by the write.
@@ -94,7 +90,7 @@ fn fails_from_then_on(engine: &mut BamToBed, text: &[u8], out: &mut Out<ScriptSi
 
 // A sink that takes five bytes and then fails, and lines past a block.
 #[test]
-fn a_failed_write_is_told_from_then_on(rt: HostRuntime) {
+fn a_failed_write_is_reported_from_then_on(rt: HostRuntime) {
     let mut out = Out::new(ScriptSink::new(rt.alloc(), 3, Some(5)));
     let mut engine = BamToBed::new(false, false);
     let line = b"r\t0\tref\t1\t30\t5M\t*\t0\t0\t*\t*";

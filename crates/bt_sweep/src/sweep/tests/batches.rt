@@ -1,14 +1,13 @@
 //! Tests with batches of both inputs.
 
-ghost use Rattle.std.specs.Prelude.{◌≡◌, IfSome};
+ghost use Rattle.std.specs.Prelude.{◌≡◌};
 ghost use Rattle.bt_bed.specs.calls.Records.{order_in};
-ghost use Rattle.bt_bed.specs.calls.CursorOf.{single_cursor};
 ghost use Rattle.bt_sweep.specs.calls.Sweeping.{GivesKnown};
 ghost use Rattle.bt_sweep.specs.calls.SweepView.{order_of};
 
 use super::*;
 use crate::output::shape::Shape::*;
-use bt_bed::{Genome, Records, Single};
+use bt_bed::{Genome, Records};
 use bt_lines::{Input, LineReader, ScriptSource, Source};
 
 // Gives the end of the second input, if that is wanted.
@@ -181,16 +180,22 @@ const LAST: [(Shape, &[u8]); 4] = [
     (Count, b"chr1\t80\t90\t0\n"),
 ];
 
+// The first shape in which something else is written of such a line, before, after or without records.
+fn first_last_miswritten(alloc: Global, rows: &[(Shape, &[u8])]) -> Result<Option<Shape>, Fail> {
+    for second in [SECOND, b"chr1\t10\t20\n", b"chr1\t900\t910\n", b""] {
+        let found = first_miswritten_in(alloc, rows, b"chr1\t80\t90", second)?;
+        if found.is_some() {
+            return Ok(found);
+        }
+    }
+    Ok(None)
+}
+
 #[test]
 fn buffered_records_in_each_shape(rt: HostRuntime) -> Result<(), Fail> {
-    assert_eq!(rt;
-        first_miswritten_in(rt.alloc(), &WRITTEN, FIRST, SECOND)?,
-        None
-    );
-    for second in [SECOND, b"chr1\t10\t20\n", b"chr1\t900\t910\n", b""] {
-        let found = first_miswritten_in(rt.alloc(), &LAST, b"chr1\t80\t90", second)?;
-        assert_eq!(rt; found, None);
-    }
+    let found = first_miswritten_in(rt.alloc(), &WRITTEN, FIRST, SECOND)?;
+    let found = found.or(first_last_miswritten(rt.alloc(), &LAST)?);
+    assert_eq!(rt; found, None);
     Ok(())
 }
 
@@ -204,6 +209,21 @@ fn many_lines(alloc: Global) -> Result<String, Fail> {
     Ok(text)
 }
 
+// The first place of a failed write at which lines that are put twice are cut otherwise.
+fn first_cut_otherwise(
+    alloc: Global,
+    lines: &[u8],
+    twice: &[u8],
+    second: &[u8],
+) -> Result<Option<usize>, Fail> {
+    for good in [0, 1, 30, 4000, 7000, 8000, 8191, 8192, 10000] {
+        if !writes_up_to(alloc, Missing, good, (lines, lines, second), twice)? {
+            return Ok(Some(good));
+        }
+    }
+    Ok(None)
+}
+
 // The lines that are copied through fill the block, so the sink fails while they are put.
 #[test]
 fn lines_are_cut_where_the_sink_fails(rt: HostRuntime) -> Result<(), Fail> {
@@ -211,16 +231,10 @@ fn lines_are_cut_where_the_sink_fails(rt: HostRuntime) -> Result<(), Fail> {
     let mut twice = many_lines(rt.alloc())?;
     twice.push_str(text.as_str())?;
     let (lines, twice) = (text.as_bytes(), twice.as_bytes());
-    for good in [0, 1, 30, 4000, 7000, 8000, 8191, 8192, 10000] {
-        for second in [
-            b"chr1\t10\t20\n".as_slice(),
-            b"chr1\t10\t20\nchr1\t900\t910\n",
-        ] {
-            let texts = (lines, lines, second);
-            let are_cut = writes_up_to(rt.alloc(), Missing, good, texts, twice)?;
-            assert!(rt; are_cut, "at {good} of {second:?}");
-        }
-    }
+    let before = first_cut_otherwise(rt.alloc(), lines, twice, b"chr1\t10\t20\n")?;
+    let after = b"chr1\t10\t20\nchr1\t900\t910\n";
+    let after = first_cut_otherwise(rt.alloc(), lines, twice, after)?;
+    assert_eq!(rt; (before, after), (None, None));
     Ok(())
 }
 
@@ -228,85 +242,34 @@ const BEFORE_TWO: &[u8] = b"chr1\t1\t5\nchr1\t2\t6\nchr1\t20\t30\n";
 
 const TWO: &[u8] = b"chr1\t10\t12\nchr1\t21\t22\nchr1\t23\t24\n";
 
+// Whether this is written and this is the fault where one record may be held.
+fn ends_so(
+    alloc: Global,
+    before: &[u8],
+    good: Option<usize>,
+    written: &[u8],
+    (kind, line): (Kind, Option<u64>),
+) -> Result<bool, Fail> {
+    let texts = (before, BEFORE_TWO, TWO);
+    let (taken, fault) = sweep_texts(alloc, (Missing, Some(1)), texts, good)?;
+    let Some(fault) = fault else {
+        return Ok(false);
+    };
+    let at = match fault.place {
+        Some(place) => Some(place.line),
+        None => None,
+    };
+    Ok(taken.as_slice() == written && (fault.kind, at) == (kind, line))
+}
+
 // Lines that are copied through are put before a fault of a record that comes after them.
 #[test]
 fn lines_are_put_before_a_fault(rt: HostRuntime) -> Result<(), Fail> {
-    let how = (Missing, Some(1));
-    let (taken, fault) = sweep_texts(rt.alloc(), how, (b"", BEFORE_TWO, TWO), None)?;
-    assert_eq!(rt; taken.as_slice(), b"chr1\t1\t5\nchr1\t2\t6\n".as_slice());
-    let fault = fault.ok_or("too many held")?;
-    assert_eq!(rt; fault.kind, Kind::TooManyHeld);
-    let place = fault.place.ok_or("a place")?;
-    assert_eq!(rt; place.line, 3);
+    let held = (Kind::TooManyHeld, Some(3));
+    let is_put = ends_so(rt.alloc(), b"", None, b"chr1\t1\t5\nchr1\t2\t6\n", held)?;
     let block = [b'x'; 8192];
-    let texts = (block.as_slice(), BEFORE_TWO, TWO);
-    let (taken, fault) = sweep_texts(rt.alloc(), how, texts, Some(8191))?;
-    assert_eq!(rt; Some(taken.as_slice()), block.get(..8191));
-    assert_eq!(rt; fault.map(|fault| fault.kind), Some(Kind::WriteFailed));
-    Ok(())
-}
-
-// A record of a line, if it is a record on a known chromosome.
-fn single_of<'a, O: ChromOrder>(order: &O, line: &'a [u8]) -> Option<Single<'a>>
-    ensures { IfSome result (GivesKnown single_cursor (O.order order.now)) }
-{
-    let Ok(Some(bed)) = parse_bed(line) else {
-        return None;
-    };
-    if !order.knows(bed.chrom) {
-        return None;
-    }
-    Some(Single::new(bed, 1))
-}
-
-// What a sweep writes of one record of each input.
-fn sweep_two(alloc: Global, shape: Shape, first: &[u8], second: &[u8]) -> Result<Vec<u8>, Fail> {
-    let genome = genome(alloc)?;
-    let mut sweep = any_overlap(alloc, HeldList::new(alloc), shape, &genome);
-    let mut out = output(alloc, 100);
-    let mut a = single_of(sweep.order, first).ok_or("a record")?;
-    let mut b = single_of(sweep.order, second).ok_or("a record")?;
-    give_both(&mut sweep, &mut a, &mut b, &mut out)?;
-    out.flush()?;
-    let mut taken = Vec::new(alloc);
-    taken.extend_from_slice(out.into_sink().taken())?;
-    Ok(taken)
-}
-
-// A shape, a record of each input, and what is written.
-#[rattlefmt::skip]
-const SINGLES: [(Shape, &[u8], &[u8], &[u8]); 6] = [
-    (Missing, b"chr1\t1\t5", b"chr1\t7\t9", b"chr1\t1\t5\n"),
-    (Pieces, b"chr1\t01\t5\tn", b"chr2\t7\t9", b"chr1\t1\t5\tn\n"),
-    (Count, b"chr1\t10\t15", b"chr1\t7\t9", b"chr1\t10\t15\t0\n"),
-    (Once, b"chr1\t1\t5", b"chr1\t7\t9", b""),
-    (Pieces, b"chr1\t1\t5", b"chr1\t2\t3", b"chr1\t1\t2\nchr1\t3\t5\n"),
-    (OrigA, b"chr2\t1\t5", b"chr2\t4\t9", b"chr2\t1\t5\n"),
-];
-
-#[test]
-fn one_record_of_each_input(rt: HostRuntime) -> Result<(), Fail> {
-    for (shape, first, second, want) in &SINGLES {
-        let written = sweep_two(rt.alloc(), *shape, first, second)?;
-        assert_eq!(rt; written.as_slice(), *want, "{shape:?}");
-    }
-    Ok(())
-}
-
-// A record of each input is left to its cursor once the first input has ended, and nothing is written: also not the first
-// one's line, which the second one decides.
-#[test]
-fn records_after_the_end_are_left(rt: HostRuntime) -> Result<(), Fail> {
-    let genome = genome(rt.alloc())?;
-    let held = HeldList::new(rt.alloc());
-    let mut sweep = any_overlap(rt.alloc(), held, Missing, &genome);
-    let mut out = output(rt.alloc(), 100);
-    end_first_if_wanted(&mut sweep);
-    let mut a = single_of(sweep.order, b"chr1\t1\t5").ok_or("a record")?;
-    let mut b = single_of(sweep.order, b"chr1\t7\t9").ok_or("a record")?;
-    let given = sweep.advance(&mut a, &mut b, &mut out);
-    assert!(rt; given.is_ok() && sweep.want() == Want::Nothing);
-    assert!(rt; !a.is_empty() && !b.is_empty());
-    assert!(rt; out.flush().is_ok() && out.into_sink().taken().is_empty());
+    let failed = (Kind::WriteFailed, None);
+    let is_cut = ends_so(rt.alloc(), &block, Some(8191), &block[..8191], failed)?;
+    assert_eq!(rt; (is_put, is_cut), (true, true));
     Ok(())
 }
