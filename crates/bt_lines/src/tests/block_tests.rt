@@ -90,7 +90,7 @@ fn takes_two<S: Source>(
 }
 
 // Whether a line is read, and then the buffered lines are these bytes.
-fn is_rest<S: Source>(reader: &mut LineReader<S>, rest: &[u8]) -> bool {
+fn gives_rest<S: Source>(reader: &mut LineReader<S>, rest: &[u8]) -> bool {
     matches!(reader.fill(), Ok(true)) && reader.buffered().rest() == rest
 }
 
@@ -104,11 +104,11 @@ fn buffered_lines_are_given_in_order(rt: HostRuntime) {
     let mut reader = reader_of(rt.alloc(), b"a\nbc\r\n\nd\n", BLOCK);
     let first: (u64, Want) = (1, (b"a", LineEnd::Lf));
     let second: (u64, Want) = (2, (b"bc", LineEnd::CrLf));
-    let are_given = is_rest(&mut reader, b"a\nbc\r\n\nd\n")
+    let are_given = gives_rest(&mut reader, b"a\nbc\r\n\nd\n")
         && takes_two(&mut reader, Some(first), Some(second))
         && reader.lines() == 2
         && gives_length(&mut reader, 0)
-        && is_rest(&mut reader, b"d\n");
+        && gives_rest(&mut reader, b"d\n");
     let _ = reader.into_source();
     holds(&rt, are_given, "four lines");
 }
@@ -132,9 +132,9 @@ fn a_last_line_is_buffered(rt: HostRuntime) {
 fn a_long_line_is_buffered_alone(rt: HostRuntime) -> Result<(), Fail> {
     let text = long_line(rt.alloc(), 20000, b"\nb\nc\n")?;
     let mut reader = reader_of(rt.alloc(), text.as_slice(), 8192);
-    let are_given = is_rest(&mut reader, long_line(rt.alloc(), 20000, b"\n")?.as_slice())
+    let are_given = gives_rest(&mut reader, long_line(rt.alloc(), 20000, b"\n")?.as_slice())
         && gives_length(&mut reader, 20000)
-        && is_rest(&mut reader, b"b\nc\n");
+        && gives_rest(&mut reader, b"b\nc\n");
     let _ = reader.into_source();
     holds(&rt, are_given, "a long line");
     Ok(())

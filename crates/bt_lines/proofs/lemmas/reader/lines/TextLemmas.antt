@@ -151,7 +151,6 @@ first_cut [] rest (byte ∷ front) back clear e = absurd (false≢true (sym (All
     first : List ℕ → ℕ
     first [] = 0
     first (x ∷ xs) = x
-
 first_cut (other ∷ piece) rest (byte ∷ front) back clear e = grind (arith, (first_cut piece rest front back (All-tail (λ b. eqb b 10 ≡ false) byte front clear) (ap (drop 1) e)))
 
 -- after a piece without a line feed: the lines except the first have at most the bytes that come there
