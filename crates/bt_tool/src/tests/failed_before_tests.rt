@@ -2,9 +2,9 @@
 
 ghost use Rattle.std.specs.Prelude.{◌≡◌, IsSome, None, is_some, true};
 
+use crate::run;
 use crate::tests::tables::{Table, rows_of, run_of};
-use crate::tests::{Answer, strings};
-use crate::{plan, run};
+use crate::tests::{answer_of, plan_of};
 use bt_lines::{DeviceFailed, ScriptSink, Source};
 use std::alloc::Global;
 use std::process::Abort;
@@ -79,8 +79,7 @@ fn failed_if<'a>(name: &Option<String>, bytes: &'a [u8]) -> Option<FailedBefore<
 
 fn check_row(rt: &impl Abort, alloc: Global, row: &'static str) -> Result<(), Fail> {
     let asked = run_of(alloc, &RUNS, row)?;
-    let words = strings(alloc, asked.words.as_slice())?;
-    let plan = plan(alloc, words.as_slice()).ok().ok_or(row)?;
+    let plan = plan_of(alloc, asked.words.as_slice())?;
     let ended = run(
         alloc,
         &plan,
@@ -89,11 +88,7 @@ fn check_row(rt: &impl Abort, alloc: Global, row: &'static str) -> Result<(), Fa
         failed_if(&plan.second, asked.second.as_slice()),
         ScriptSink::new(alloc, 7, None),
     );
-    let answer = Answer {
-        output: Vec::from_slice(alloc, ended.out.taken())?,
-        line: ended.outcome.fault_line(alloc, &plan)?,
-        status: ended.outcome.status(),
-    };
+    let answer = answer_of(alloc, &plan, &ended.outcome, ended.out.taken())?;
     asked.expect(rt, alloc, &answer, (asked.output.as_slice(), ""))
 }
 

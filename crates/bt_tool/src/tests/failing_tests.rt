@@ -6,9 +6,9 @@ use self::runs::{
     ALIGNMENTS, DEPTHS, GAPS, INTERSECT_FAILS, INTERSECTED, MASKED, MASKED_HEADERS, MERGE_FAILS,
     MERGED, STRANDS, SUBTRACTED, WRITING_FAILS,
 };
+use crate::run;
 use crate::tests::tables::{Failing, Run, Table, check_tables, rows_of, run_of};
-use crate::tests::{Answer, GENOME, expect, expect_size, source_if, source_of, strings, whole};
-use crate::{plan, run};
+use crate::tests::{GENOME, answer_of, expect, expect_size, plan_of, source_if, source_of, whole};
 use bt_lines::{DeviceFailed, Sink};
 use std::alloc::Global;
 use std::process::Abort;
@@ -50,30 +50,50 @@ fn first_lines(text: &[u8], count: usize) -> Option<&[u8]> {
     text.get(..end)
 }
 
+// What `cuts` say of a failure after so many lines: how many lines are written, and whether the fault of the row is
+// reported.
+fn cut_after(cuts: &str, lines: usize) -> Option<(usize, bool)> {
+    let cut = cuts.split(' ').nth(lines)?;
+    let number = cut.strip_suffix("!");
+    let written = number.unwrap_or(cut).parse::<usize>().ok()?;
+    Some((written, number.is_some()))
+}
+
+// What is written and reported if the input fails after so many lines.
+fn want_after<'a>(
+    alloc: Global,
+    run: &'a Run,
+    input: &str,
+    lines: usize,
+) -> Result<(&'a [u8], String), Fail> {
+    let (_, name, cuts) = input_of(run, input);
+    let Some((written, is_own)) = cut_after(cuts, lines) else {
+        return Err(run.parts.row.into());
+    };
+    let Some(output) = first_lines(run.output.as_slice(), written) else {
+        return Err(run.parts.row.into());
+    };
+    let fault = if is_own {
+        String::from_str(alloc, run.parts.fault)?
+    } else {
+        format!(in alloc; "{name}:{}: reading failed", lines.saturating_add(1))?
+    };
+    Ok((output, fault))
+}
+
 // The input fails to serve more than these bytes.
 fn check_cut(
     rt: &impl Abort,
     alloc: Global,
     run: &Run,
-    (input, good): Failing<'_>,
+    failing: Failing<'_>,
     step: usize,
 ) -> Result<(), Fail> {
-    let (text, name, cuts) = input_of(run, input);
-    let lines = line_count(text.get(..good).ok_or(run.parts.row)?);
-    let cut = cuts.split(' ').nth(lines).ok_or(run.parts.row)?;
-    let number = cut.strip_suffix("!");
-    let written = number.unwrap_or(cut).parse::<usize>().ok();
-    let written = written.ok_or(run.parts.row)?;
-    let line = lines.saturating_add(1);
-    let failed = format!(in alloc; "{name}:{line}: reading failed")?;
-    let fault = if number.is_some() {
-        run.parts.fault
-    } else {
-        failed.as_str()
-    };
-    let answer = run.answer(alloc, (input, good), step)?;
-    let output = first_lines(run.output.as_slice(), written).ok_or(run.parts.row)?;
-    run.expect(rt, alloc, &answer, (output, fault))
+    let text = input_of(run, failing.0).0;
+    let lines = line_count(&text[..failing.1.min(text.len())]);
+    let (output, fault) = want_after(alloc, run, failing.0, lines)?;
+    let answer = run.answer(alloc, failing, step)?;
+    run.expect(rt, alloc, &answer, (output, fault.as_str()))
 }
 
 // Whatever byte of an input fails to come. The row has to have a number for each of its lines, and
@@ -197,8 +217,7 @@ const TOUCHING: &[u8] = b"chr1\t100\t200\nchr1\t180\t250\nchr1\t250\t500\nchr1\t
 
 #[test]
 fn a_flush_that_fails(rt: HostRuntime) -> Result<(), Fail> {
-    let words = strings(rt.alloc(), &["merge", "-i", "a.bed", "-g", "g.txt"])?;
-    let plan = plan(rt.alloc(), words.as_slice()).ok().ok_or("a plan")?;
+    let plan = plan_of(rt.alloc(), &["merge", "-i", "a.bed", "-g", "g.txt"])?;
     let ended = run(
         rt.alloc(),
         &plan,
@@ -210,14 +229,7 @@ fn a_flush_that_fails(rt: HostRuntime) -> Result<(), Fail> {
             has_failed: false,
         },
     );
-    let output = Vec::new(rt.alloc());
-    let line = ended.outcome.fault_line(rt.alloc(), &plan)?;
-    let status = ended.outcome.status();
-    let answer = Answer {
-        output,
-        line,
-        status,
-    };
+    let answer = answer_of(rt.alloc(), &plan, &ended.outcome, b"")?;
     let merged = b"chr1\t100\t500\nchr1\t501\t1000\n";
     expect_size(&rt, ended.out.taken, merged.len());
     let line = b"bedtools merge: writing failed\n";

@@ -1,13 +1,15 @@
 //! Inputs that are large where others are small.
 
+use crate::run;
 use crate::tests::{
-    Answer, GENOME, expect, expect_size, run_words, source_if, source_of, strings, whole,
+    Answer, answer_of, expect, expect_size, plan_of, run_on, source_if, source_of, whole,
 };
-use crate::{plan, run};
 use bt_lines::ScriptSink;
 use std::alloc::{AllocError, Global};
 use std::process::Abort;
 use std::test::Fail;
+
+const MERGE: &[&str] = &["merge", "-i", "a.bed", "-g", "g.txt"];
 
 // A line of this many tabs.
 fn tabs(alloc: Global, count: usize) -> Result<Vec<u8>, AllocError> {
@@ -22,9 +24,7 @@ fn tabs(alloc: Global, count: usize) -> Result<Vec<u8>, AllocError> {
 #[test]
 fn a_line_of_tabs(rt: HostRuntime) -> Result<(), Fail> {
     let text = tabs(rt.alloc(), 100_000)?;
-    let words = ["merge", "-i", "a.bed", "-g", "g.txt"];
-    let inputs = ((GENOME, whole(8192)), (text.as_slice(), whole(8192)));
-    let answer = run_words(rt.alloc(), &words, inputs.0, inputs.1, whole(7))?;
+    let answer = run_on(rt.alloc(), MERGE, text.as_slice())?;
     let line = b"bedtools merge: a.bed:1: empty chromosome name\n";
     expect(&rt, &answer, b"", line, "a line of tabs");
     Ok(())
@@ -45,14 +45,7 @@ fn long_alignment(alloc: Global, flag: &str, count: usize) -> Result<Vec<u8>, Al
 
 fn check_long(rt: &impl Abort, alloc: Global, flag: &str, line: &[u8]) -> Result<(), Fail> {
     let text = long_alignment(alloc, flag, 1000)?;
-    let inputs = ((b"".as_slice(), whole(1)), (text.as_slice(), whole(8192)));
-    let answer = run_words(
-        alloc,
-        &["bamtobed", "-i", "a.sam"],
-        inputs.0,
-        inputs.1,
-        whole(7),
-    )?;
+    let answer = run_on(alloc, &["bamtobed", "-i", "a.sam"], text.as_slice())?;
     expect(rt, &answer, b"", line, flag);
     Ok(())
 }
@@ -80,8 +73,7 @@ fn many_runs(alloc: Global, count: u64) -> Result<Vec<u8>, AllocError> {
 
 // A run over many records, on a sink that takes nothing: what it gives, and how many bytes it read.
 fn run_many(alloc: Global, text: &[u8]) -> Result<(Answer, usize), Fail> {
-    let words = strings(alloc, &["merge", "-i", "a.bed", "-g", "g.txt"])?;
-    let plan = plan(alloc, words.as_slice()).ok().ok_or("a plan")?;
+    let plan = plan_of(alloc, MERGE)?;
     let ended = run(
         alloc,
         &plan,
@@ -90,11 +82,7 @@ fn run_many(alloc: Global, text: &[u8]) -> Result<(Answer, usize), Fail> {
         source_if(&plan.second, b"", whole(1)),
         ScriptSink::new(alloc, 8192, Some(0)),
     );
-    let answer = Answer {
-        output: Vec::new(alloc),
-        line: ended.outcome.fault_line(alloc, &plan)?,
-        status: ended.outcome.status(),
-    };
+    let answer = answer_of(alloc, &plan, &ended.outcome, ended.out.taken())?;
     Ok((answer, ended.first.given()))
 }
 

@@ -9,7 +9,7 @@ pub(crate) mod tables;
 
 ghost use Rattle.std.specs.Prelude.{◌≡◌, ◌<◌, is_some};
 
-use crate::{plan, run};
+use crate::{Outcome, Plan, plan, run};
 use bt_lines::{ScriptSink, ScriptSource};
 use std::alloc::{AllocError, Global};
 use std::process::Abort;
@@ -71,30 +71,39 @@ pub(crate) fn source_of(bytes: &[u8], script: Script) -> ScriptSource<'_> {
     ScriptSource::new(bytes, script.step, script.good)
 }
 
-// What a run gives, or what its plan is refused with.
+// What a run gives. The line is empty if it ended without a fault.
 #[derive(Drop)]
 pub(crate) struct Answer {
-    pub(crate) output: Vec<u8>,
-    pub(crate) line: Option<Vec<u8>>,
-    pub(crate) status: u8,
+    output: Vec<u8>,
+    line: Vec<u8>,
+    status: u8,
 }
 
-// Plans and runs these words over scripts, for a command of one input.
-pub(crate) fn run_words<'a>(
+// The plan of these words.
+pub(crate) fn plan_of(alloc: Global, words: &[&str]) -> Result<Plan, Fail> {
+    let owned = strings(alloc, words)?;
+    match plan(alloc, owned.as_slice()) {
+        Ok(plan) => Ok(plan),
+        Err(_) => Err(words.into()),
+    }
+}
+
+// What a run of the plan gives that ended so, with this output.
+pub(crate) fn answer_of(
     alloc: Global,
-    words: &[&str],
-    genome: (&'a [u8], Script),
-    first: (&'a [u8], Script),
-    out: Script,
+    plan: &Plan,
+    outcome: &Outcome,
+    output: &[u8],
 ) -> Result<Answer, Fail> {
-    let second = (b"".as_slice(), whole(1));
-    let devices = Devices {
-        genome,
-        first,
-        second,
-        out,
+    let line = match outcome.fault_line(alloc, plan)? {
+        Some(line) => line,
+        None => Vec::new(alloc),
     };
-    run_both(alloc, words, devices)
+    Ok(Answer {
+        output: Vec::from_slice(alloc, output)?,
+        line,
+        status: outcome.status(),
+    })
 }
 
 // The bytes of each input and how they are read, and how the output is written.
@@ -106,47 +115,39 @@ pub(crate) struct Devices<'a> {
     pub(crate) out: Script,
 }
 
-// The same for one of two inputs.
-pub(crate) fn run_both(
+// Plans and runs these words over scripts.
+pub(crate) fn run_words(
     alloc: Global,
     words: &[&str],
-    devices: Devices<'_>,
+    devices: &Devices<'_>,
 ) -> Result<Answer, Fail> {
-    let owned = strings(alloc, words)?;
-    let Devices {
-        genome,
-        first,
-        second,
-        out,
-    } = devices;
-    let plan = plan(alloc, owned.as_slice()).ok().ok_or(words)?;
+    let plan = plan_of(alloc, words)?;
     let ended = run(
         alloc,
         &plan,
-        source_if(&plan.genome, genome.0, genome.1),
-        source_of(first.0, first.1),
-        source_if(&plan.second, second.0, second.1),
-        ScriptSink::new(alloc, out.step, out.good),
+        source_if(&plan.genome, devices.genome.0, devices.genome.1),
+        source_of(devices.first.0, devices.first.1),
+        source_if(&plan.second, devices.second.0, devices.second.1),
+        ScriptSink::new(alloc, devices.out.step, devices.out.good),
     );
-    Ok(Answer {
-        output: Vec::from_slice(alloc, ended.out.taken())?,
-        line: ended.outcome.fault_line(alloc, &plan)?,
-        status: ended.outcome.status(),
-    })
+    answer_of(alloc, &plan, &ended.outcome, ended.out.taken())
 }
 
-// The line that a result reports, or an empty one.
-pub(crate) fn line_of(answer: &Answer) -> &[u8] {
-    match &answer.line {
-        Some(line) => line.as_slice(),
-        None => b"",
-    }
+// The same with GENOME and this first input, all at once.
+pub(crate) fn run_on(alloc: Global, words: &[&str], first: &[u8]) -> Result<Answer, Fail> {
+    let devices = Devices {
+        genome: (GENOME, whole(8192)),
+        first: (first, whole(8192)),
+        second: (b"", whole(1)),
+        out: whole(7),
+    };
+    run_words(alloc, words, &devices)
 }
 
 // A result has to be this output and this line, an empty one for none, with the status of that.
 pub(crate) fn expect(rt: &impl Abort, answer: &Answer, output: &[u8], line: &[u8], name: &str) {
     assert_eq!(rt; answer.output.as_slice(), output, "{name}");
-    assert_eq!(rt; line_of(answer), line, "{name}");
+    assert_eq!(rt; answer.line.as_slice(), line, "{name}");
     assert_eq!(rt; answer.status, u8::from(!line.is_empty()), "{name}");
 }
 

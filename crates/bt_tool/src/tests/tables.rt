@@ -1,6 +1,6 @@
 //! Tables of runs: a command, a head that names the parts of a row, and a run a row.
 
-use crate::tests::{Answer, Devices, GENOME, Script, expect, failing_by, run_both, whole};
+use crate::tests::{Answer, Devices, GENOME, Script, expect, failing_by, run_words, whole};
 use std::alloc::{AllocError, Global};
 use std::process::Abort;
 use std::test::Fail;
@@ -202,7 +202,7 @@ impl Run {
             second: (self.second.as_slice(), script_of("second", failing, step)),
             out: script_of("out", failing, step),
         };
-        run_both(alloc, self.words.as_slice(), devices)
+        run_words(alloc, self.words.as_slice(), &devices)
     }
 
     // What it gave has to be this output and this fault, an empty one for none.

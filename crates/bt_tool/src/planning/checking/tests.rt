@@ -1,40 +1,21 @@
 use super::*;
 use crate::options::table::{Row, Table};
 use crate::options::takes::Takes;
+use std::alloc::Global;
 use std::test::Fail;
 
 /// A tool that has all that a table can say: two inputs, an output, options of which one has to be
 /// given, and options that exclude one another.
+#[rattlefmt::skip]
 const TABLE: Table = Table {
     options: &[
-        Row {
-            option: "-a",
-            takes: Takes::FileName,
-        },
-        Row {
-            option: "-b",
-            takes: Takes::FileName,
-        },
-        Row {
-            option: "-o",
-            takes: Takes::FileName,
-        },
-        Row {
-            option: "-g",
-            takes: Takes::FileName,
-        },
-        Row {
-            option: "-x",
-            takes: Takes::Nothing,
-        },
-        Row {
-            option: "-y",
-            takes: Takes::Nothing,
-        },
-        Row {
-            option: "-z",
-            takes: Takes::Nothing,
-        },
+        Row { option: "-a", takes: Takes::FileName },
+        Row { option: "-b", takes: Takes::FileName },
+        Row { option: "-o", takes: Takes::FileName },
+        Row { option: "-g", takes: Takes::FileName },
+        Row { option: "-x", takes: Takes::Nothing },
+        Row { option: "-y", takes: Takes::Nothing },
+        Row { option: "-z", takes: Takes::Nothing },
     ],
     required: &["-a", "-b"],
     one_of: &["-x", "-y"],
@@ -77,22 +58,37 @@ const CASES: [(&[&str], u8); 19] = [
     (&["-a", "stdin", "-b", "2", "-x", "-g", "g"], NONE),
 ];
 
+// The number of the fault of these words.
+fn fault_of(alloc: Global, words: &[&str]) -> Result<u8, Fail> {
+    let mut all = Vec::new(alloc);
+    all.push(String::from_str(alloc, "tool")?)?;
+    for word in words {
+        all.push(String::from_str(alloc, word)?)?;
+    }
+    let Ok(given) = Given::read(&TABLE, all.as_slice()) else {
+        return Err(words.into());
+    };
+    match check(given) {
+        Ok(()) => Ok(NONE),
+        Err(usage) => Ok(usage.number),
+    }
+}
+
+// The first words with another fault.
+fn first_misjudged(
+    alloc: Global,
+    cases: &[(&'static [&'static str], u8)],
+) -> Result<Option<&'static [&'static str]>, Fail> {
+    for (words, number) in cases {
+        if fault_of(alloc, words)? != *number {
+            return Ok(Some(*words));
+        }
+    }
+    Ok(None)
+}
+
 #[test]
 fn options_together(rt: HostRuntime) -> Result<(), Fail> {
-    let alloc = rt.alloc();
-    for (words, number) in &CASES {
-        let mut all = vec![in alloc; String::from_str(alloc, "tool")?]?;
-        for word in *words {
-            all.push(String::from_str(alloc, word)?)?;
-        }
-        let Ok(given) = Given::read(&TABLE, all.as_slice()) else {
-            return Err((*words).into());
-        };
-        let fault = match check(given) {
-            Ok(()) => NONE,
-            Err(usage) => usage.number,
-        };
-        assert_eq!(rt; fault, *number, "{words:?}");
-    }
+    assert_eq!(rt; first_misjudged(rt.alloc(), &CASES)?, None);
     Ok(())
 }

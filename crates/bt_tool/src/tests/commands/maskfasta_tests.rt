@@ -1,6 +1,7 @@
 use crate::tests::tables::{Table, check_tables};
-use crate::tests::{Devices, expect, run_both, whole};
+use crate::tests::{Devices, expect, run_words, whole};
 use std::alloc::{AllocError, Global};
+use std::process::Abort;
 use std::test::Fail;
 
 const MASKFASTA: &[&str] = &["maskfasta", "-fi", "a.fa", "-bed", "b.bed"];
@@ -232,23 +233,28 @@ fn on_first_base(alloc: Global, index: u64) -> Result<String, AllocError> {
     format!(in alloc; "s\t{}\t{}\n", start, start + 1)
 }
 
+// The line of this index is masked by a record on its first base, and no other line is.
+fn check_line(rt: &impl Abort, alloc: Global, text: &[u8], index: u64) -> Result<(), Fail> {
+    let record = on_first_base(alloc, index)?;
+    let masked = long_sequence(alloc, index)?;
+    let devices = Devices {
+        genome: (b"", whole(1)),
+        first: (text, whole(8192)),
+        second: (record.as_str().as_bytes(), whole(8192)),
+        out: whole(8192),
+    };
+    let answer = run_words(alloc, MASKFASTA, &devices)?;
+    expect(rt, &answer, masked.as_slice(), b"", record.as_str());
+    Ok(())
+}
+
 // Lines that stay are copied through several at once, up to the end of a block, a line that ends
 // otherwise, or the record.
 #[test]
-fn a_record_behind_several_blocks(rt: HostRuntime) -> Result<(), Fail> {
+fn a_record_after_several_blocks(rt: HostRuntime) -> Result<(), Fail> {
     let text = long_sequence(rt.alloc(), 600)?;
     for index in [0, 1, 49, 50, 51, 134, 135, 299, 300, 301, 599, 600] {
-        let record = on_first_base(rt.alloc(), index)?;
-        let masked = long_sequence(rt.alloc(), index)?;
-        let script = whole(8192);
-        let devices = Devices {
-            genome: (b"", whole(1)),
-            first: (text.as_slice(), script),
-            second: (record.as_str().as_bytes(), script),
-            out: script,
-        };
-        let answer = run_both(rt.alloc(), MASKFASTA, devices)?;
-        expect(&rt, &answer, masked.as_slice(), b"", "a long sequence");
+        check_line(&rt, rt.alloc(), text.as_slice(), index)?;
     }
     Ok(())
 }
