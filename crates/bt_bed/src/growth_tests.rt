@@ -57,7 +57,7 @@ fn refused_growth_of_a_genome(rt: HostRuntime) -> Result<(), Fail> {
     match genome_of(rt.alloc(), GENOME, 7, None) {
         Ok(genome) => holds(&rt, genome.count() == 3, "three chromosomes"),
         Err(fault) => {
-            holds(&rt, fault == no_memory(), "want of memory");
+            holds(&rt, fault == no_memory(), "out of memory");
             return Err(Fail::from(AllocError));
         }
     }

@@ -132,7 +132,7 @@ mod tests {
     // How many chromosomes a text has, or what is wrong with it at which line.
     type Count = Result<usize, (Kind, u64)>;
 
-    // A text, how many of its bytes are good, and what it has then.
+    // A genome file, how many of its bytes can be read, and its count or fault.
     type Row<'a> = (&'a [u8], usize, Count);
 
     const COUNTS: [Row; 10] = [

@@ -59,11 +59,11 @@ mod tests {
     const LINES: &[u8] =
         b"chr1\t10\t15\ta\tchr1\t0\t15\nchr1\t10\t30\ta\tchr1\t0\t15\t5\nchr1\t0\t15";
 
-    // What is written, and at first if the sink fails.
+    // What the sink takes: all, or nine bytes and then it fails.
     const TAKEN: [(Option<usize>, &[u8]); 2] = [(None, LINES), (Some(9), b"chr1\t10\t1")];
 
     #[test]
-    fn records_and_parts_stand_beside_one_another(rt: HostRuntime) -> Result<(), Fail> {
+    fn records_and_parts_share_a_line(rt: HostRuntime) -> Result<(), Fail> {
         let a = record(b"chr1\t010\t30\ta").ok_or("a record")?;
         let b = record(b"chr1\t0\t15").ok_or("a record")?;
         for (good, want) in &TAKEN {

@@ -78,7 +78,7 @@ mod tests {
         (b"chr1\t010\t020", Some((10, 20)), b"chr1\t10\t20"),
     ];
 
-    // A sign, and what is written after it.
+    // What is written after `> `.
     fn written(
         alloc: Global,
         text: &[u8],
@@ -95,7 +95,7 @@ mod tests {
     }
 
     #[test]
-    fn records_and_parts_are_written_behind_what_stands(rt: HostRuntime) -> Result<(), Fail> {
+    fn records_and_parts_are_appended(rt: HostRuntime) -> Result<(), Fail> {
         for (text, part, want) in &WRITTEN {
             let line = written(rt.alloc(), text, *part)?;
             assert_eq!(rt; line.strip_prefix(b"> "), Some(*want), "{text:?} {part:?}");

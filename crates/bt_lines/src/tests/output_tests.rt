@@ -7,7 +7,7 @@ use std::alloc::Global;
 use std::process::Abort;
 use std::test::Fail;
 
-// An output that has put this many bytes.
+// An output to which this many bytes were put.
 fn filled(alloc: Global, count: usize) -> Result<Out<ScriptSink>, Fail> {
     let mut output = Out::new(ScriptSink::new(alloc, BLOCK, None));
     output.put(long_line(alloc, count, b"")?.as_slice())?;
@@ -61,7 +61,7 @@ type Pieces<'a> = (&'a [u8], &'a [usize], usize);
 
 // Whether a sink that takes this many bytes has the first bytes of the text, and a failure is reported
 // from then on if that isn't all.
-fn takes_front(alloc: Global, (text, lengths, step): Pieces<'_>, good: usize) -> bool {
+fn takes_prefix(alloc: Global, (text, lengths, step): Pieces<'_>, good: usize) -> bool {
     let mut output = Out::new(ScriptSink::new(alloc, step.max(1), Some(good)));
     put_pieces(&mut output, text, lengths);
     let is_cut = good < text.len();
@@ -77,9 +77,9 @@ fn takes_front(alloc: Global, (text, lengths, step): Pieces<'_>, good: usize) ->
         && sink.taken().len() == good
 }
 
-fn check_fronts(rt: &impl Abort, alloc: Global, text: Pieces<'_>, counts: &[usize]) {
+fn check_prefixes(rt: &impl Abort, alloc: Global, text: Pieces<'_>, counts: &[usize]) {
     for good in counts {
-        assert!(rt; takes_front(alloc, text, *good), "{good} bytes");
+        assert!(rt; takes_prefix(alloc, text, *good), "{good} bytes");
     }
 }
 
@@ -88,7 +88,7 @@ fn a_sink_that_fails_at_each_byte(rt: HostRuntime) {
     let counts = [0, 1, 2, 3, 4, 5, 6, 7, 8, 9, 10, 11];
     for step in [1, 7, 8192] {
         let text: Pieces = (b"chr1\t10\t20\n", &[4, 0, 4, 3], step);
-        check_fronts(&rt, rt.alloc(), text, &counts);
+        check_prefixes(&rt, rt.alloc(), text, &counts);
     }
 }
 
@@ -97,7 +97,7 @@ fn a_sink_that_fails_round_a_block(rt: HostRuntime) -> Result<(), Fail> {
     let text = long_line(rt.alloc(), 24_999, b"\n")?;
     let counts = [0, 1, 5000, 8191, 8192, 8193, 10_000, 15_000, 24_999];
     let pieces = (text.as_slice(), [5000, 5000, 14_000, 1000].as_slice(), 700);
-    check_fronts(&rt, rt.alloc(), pieces, &counts);
+    check_prefixes(&rt, rt.alloc(), pieces, &counts);
     Ok(())
 }
 
@@ -126,7 +126,7 @@ fn both_are_buffered_where_both_fit(rt: HostRuntime) -> Result<(), Fail> {
     Ok(())
 }
 
-// Whether a span of a name of this many bytes is buffered after so many bytes.
+// Whether a span of a name of this many bytes is buffered after that many others.
 fn buffers_span(alloc: Global, before: usize, name: usize) -> Result<bool, Fail> {
     let mut output = filled(alloc, before)?;
     Ok(output.try_put_interval(long_line(alloc, name, b"")?.as_slice(), 5, 9, b'\n'))

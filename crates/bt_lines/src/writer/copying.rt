@@ -131,7 +131,7 @@ fn copy_ends<const N: usize>(to: &mut [u8], piece: &[u8])
 mod tests {
     use super::*;
 
-    // Copies a piece into a text of points, and returns the text.
+    // Copies a piece over the first of forty dots, and returns them.
     fn copied(piece: &[u8]) -> [u8; 40] {
         let mut text = [b'.'; 40];
         if let Some(room) = text.get_mut(..piece.len()) {

@@ -19,7 +19,7 @@ fn blocks_of<'a>(alloc: Global, text: &'a [u8]) -> Text<'a> {
     Blocks::new(alloc, LineReader::new(alloc, source, Input::First))
 }
 
-// Feeds an engine with the records of the first chromosome in one call, and answers how many lines
+// Feeds an engine with the records of the first chromosome in one call, and returns how many lines
 // those are.
 fn feed_first<E: Engine, K: Sink>(
     blocks: &mut Text<'_>,
@@ -76,7 +76,7 @@ fn bases(alloc: Global) -> Result<Vec<u8>, AllocError> {
 #[rattlefmt::skip]
 const ROOMS: [(usize, u64); 6] = [(0, 1020), (1, 1030), (31, 1330), (32, 1340), (50, 1520), (96, 1980)];
 
-// Feeds a merge that fails with the records that are buffered, and answers the start of the one that comes after those
+// Feeds a merge that fails with the records that are buffered, and returns the start of the one that comes after those
 // that were taken.
 fn failed_before<K: Sink>(blocks: &mut Text<'_>, out: &mut Out<K>, alloc: Global) -> Option<u64> {
     let mut merge = Merge::new(alloc, 0, MergeStrand::One(Strand::Plus));

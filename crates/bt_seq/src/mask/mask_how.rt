@@ -90,8 +90,9 @@ mod tests {
 
     // How bases are masked, the bases, and what stands for them. The last two are longer than a vector.
     #[rattlefmt::skip]
-    const MASKED: [(MaskHow, &[u8], &[u8]); 4] = [
+    const MASKED: [(MaskHow, &[u8], &[u8]); 5] = [
         (MaskHow::Soft, b"", b""),
+        (MaskHow::Soft, b"aZ-z", b"az-z"),
         (MaskHow::Hard(b'N'), b"aZ-z", b"NNNN"),
         (MaskHow::Soft, EDGES, b"@amz[`amz{\r*-\x80\xC1\xFFacgtnacgtnrykmrykmbdhvbdhvw"),
         (MaskHow::Hard(b'x'), EDGES, b"xxxxxxxxxxxxxxxxxxxxxxxxxxxxxxxxxxxxxxxxxxx"),

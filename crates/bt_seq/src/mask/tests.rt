@@ -165,7 +165,7 @@ fn agrees(alloc: Global, row: &Row) -> bool {
     !sink.failed() && sink.taken() == texts.2 && is_it(driven, want)
 }
 
-// The first row that doesn't.
+// The first row that gives something else.
 fn first_unlike(alloc: Global, rows: &[Row]) -> Option<&'static str> {
     for row in rows {
         if !agrees(alloc, row) {
@@ -382,7 +382,7 @@ fn agrees_together(alloc: Global, texts: &Texts, want: Option<Wrong>) -> bool {
     are_filled && is_flushed && is_written && is_it(driven, want)
 }
 
-// The first row that doesn't.
+// The first row that gives something else.
 fn first_unlike_together(alloc: Global, rows: &[Row]) -> Option<&'static str> {
     for row in rows {
         if !agrees_together(alloc, &row.2, row.3) {

@@ -62,20 +62,32 @@ fn refused_growth_of_an_index(rt: HostRuntime) -> Result<(), Fail> {
     grow(&rt, rt.alloc(), HeldIndex::new(rt.alloc()))
 }
 
-// Gives a record that ends before the one that waits, ten thousand times. It isn't held, and is never refused.
+// A line with the number in its second column, in five digits.
+fn numbered(number: u64) -> [u8; 16] {
+    let mut line = *b"chr1\t00000\t20000";
+    let mut rest = number;
+    for at in [9, 8, 7, 6, 5] {
+        line[at] = b'0' + (rest % 10) as u8;
+        rest /= 10;
+    }
+    line
+}
+
+// Gives ten thousand records that end before the one that waits. None is held, and none is refused.
 fn give_short<H: Held>(
     rt: &impl Abort,
     sweep: &mut Sweep<'_, H, ByteOrder>,
     out: &mut Out<ScriptSink>,
 ) {
-    let Ok(Some(bed)) = parse_bed(b"chr1\t5\t20000") else {
-        return holds(rt, false, "a record");
-    };
-    for line in 1..10_001 {
+    for start in 0..10_000 {
+        let line = numbered(start);
+        let Ok(Some(bed)) = parse_bed(&line) else {
+            return holds(rt, false, "a record");
+        };
         let is_asked = sweep.want() == Want::B;
         holds(rt, is_asked, "the second input is asked for");
         if is_asked {
-            let given = sweep.give_b(&bed, line, out);
+            let given = sweep.give_b(&bed, start + 1, out);
             holds(rt, given == Ok(Taken::Yes), "it is taken");
         }
         holds(rt, sweep.held().len() == 0, "nothing is held");

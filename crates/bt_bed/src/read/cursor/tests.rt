@@ -1,4 +1,4 @@
-//! One cursor is as good as another.
+//! Batches and single records give the same.
 
 use super::*;
 use crate::order::byte_order::ByteOrder;

@@ -135,7 +135,7 @@ const ROWS: [Row; 18] = [
         &[(1, 3, 0, 5), (4, 3, 6, 7)], None),
     (b"chr2\t4\t5\n\nchr2\t4\t9\r\n\r\nchr2\t5\t6\t",
         &[(1, 1, 4, 5), (3, 1, 4, 9), (5, 1, 5, 6)], None),
-    (b"chr1\t5\t9\n#\nchr1\t4\t9\nchr1\t6\t9\n", &[(1, 0, 5, 9)], Some((Kind::OutOfOrder, 3))),
+    (b"chr1\t5\t9\nchr1\t4\t9\nchr1\t6\t9\n", &[(1, 0, 5, 9)], Some((Kind::OutOfOrder, 2))),
     (b"chr1\t0\t5\nchr2\t0\t5\nchr1\t6\t8\n", &[ONE, TWO], Some((Kind::OutOfOrder, 3))),
     (b"trackX\t1\t2\n", &[], Some((Kind::UnknownChrom, 1))),
     (b"chr1\t0\t5\nchr10\t0\t5\nchr2\t0\t5\n", &[ONE], Some((Kind::UnknownChrom, 2))),
