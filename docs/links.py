@@ -47,10 +47,13 @@ VERSIONS = {
 DEFINITIONS = re.compile(r"definitions that it names: (\d+) files with about ([\d,]+) lines")
 REPORT = TOP / "crates" / "bt_tool" / "specs" / "model" / "Report.antt"
 
-# In a file of the model: where a definition begins, with its name, a word that isn't a field, and what is imported from the model.
-BEGINS = re.compile(r"^(?:(?:  )?(?:abbrev |unfoldable )pub|pub(?: record)?) (\w+)", re.MULTILINE)
+# In a file of the model: where a definition begins, with its name, also within a module, if it isn't a field; a word that
+# isn't a field; what is imported from the model, and all that may be imported.
+BEGINS = re.compile(r"^(?:(?:(?:abbrev|unfoldable|pub|record|data) )+|(?=\S+ : )|  (?:(?:abbrev|unfoldable)(?: pub)?|(?:pub )?(?:record|data)) )"
+                    r"(?!--|record |data )(\S+)", re.MULTILINE)
 WORD = re.compile(r"(?<![.\w])\w+")
 FROM_MODEL = re.compile(r"^use Rattle\.(bt_\w+)\.specs\.model\.(\w+)\.\{(.*)\}", re.MULTILINE)
+MAY_IMPORT = re.compile(r"use Rattle\.(?:std\.specs|bt_\w+\.specs\.(?:model|declared))\.")
 
 # Where ARCHITECTURE.md lists these files: from one line to another.
 LIST_BEGINS = "<!-- docs/links.py --write writes this list -->\n"
@@ -172,17 +175,12 @@ def model():
     return {file for file in files if not file.with_suffix("").is_dir()}
 
 
-def is_model(file):
-    """Whether a file lies in a folder `model`."""
-    return "model" in file.relative_to(TOP).parts
-
-
 def strays():
-    """The files of `model` that name a definition outside of it, and those that the report doesn't name."""
+    """What files of `model` import that isn't of it, of std or made of code, and the files that the report doesn't name."""
     for file in sorted(model()):
-        for other in named_by(file):
-            if not is_model(other):
-                yield f"{file.relative_to(TOP)} names {other.relative_to(TOP)}, which isn't of the model"
+        for line in re.findall(r"^\s*((?:pub )?use .*)", file.read_text(encoding="utf-8"), re.MULTILINE):
+            if not MAY_IMPORT.match(line):
+                yield f"{file.relative_to(TOP)} has an import that isn't of the model: {line}"
     for file in sorted(model() - definitions()):
         yield f"{file.relative_to(TOP)} is of the model, and the report doesn't name it"
 
@@ -206,7 +204,8 @@ def imports_of(file):
 
 
 def unnamed():
-    """The definitions of the model that the report doesn't name, directly or through others."""
+    """The definitions of the model that the report doesn't name, directly or through others. A variable counts as the
+    definition of its name, and an operator as a name that nothing has."""
     words = {file: words_of(file) for file in sorted(model())}
     places = {file: {**{name: (file, name) for name in words[file]}, **imports_of(file)} for file in words}
     found, open_ones = set(), [(REPORT, "report")]
