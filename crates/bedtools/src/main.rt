@@ -188,7 +188,7 @@ mod tests {
     use std::process::Abort;
     use std::test::Fail;
 
-    // Words, and behind `=> ` the status of their end, and its line if there is one.
+    // Words, and after `=> ` the status of their end, and its line if there is one.
     const ENDS: [&str; 21] = [
         "=> 2 bedtools: no or unknown command\n",
         "sort => 2 bedtools: no or unknown command\n",

@@ -1,4 +1,4 @@
-//! The first three columns of a line, scanned where they stand.
+//! The first three columns of a line, scanned within the text.
 
 ghost use Rattle.std.specs.Prelude.{◌≡◌, ◌+◌, ◌<◌, ◌≤◌, IfSome, Some, IsTrue, drop, get_or, length, take};
 ghost use Rattle.bt_bed.specs.inside.FirstColumns.{BeginsWith, BeginsWithName, HasColumns, HasKey};
@@ -10,7 +10,7 @@ use crate::parse::parsed_number::ParsedNumber;
 use bt_lines::{eight_digits, few_digits};
 use std::simd::prelude::*;
 
-// How many bytes have to come behind the name, at most, for its line's columns to be scanned: two tabs, two numbers of
+// How many bytes have to come after the name, at most, for its line's columns to be scanned: two tabs, two numbers of
 // nine digits, and as many as are looked at together.
 pub(crate) const LOOKAHEAD: usize = 32;
 
@@ -93,7 +93,7 @@ fn word_at(bytes: &[u8], at: usize) -> [u8; 8]
     u8x8::from_slice(&bytes[at..]).to_array()
 }
 
-// The number of less than eight digits. It stands apart, since most have more.
+// The number of less than eight digits. Out of line, since most have more.
 #[inline(never)]
 fn number_of_few(bytes: &[u8; 8]) -> ParsedNumber
     ensures begins { BeginsWith bytes.now result }

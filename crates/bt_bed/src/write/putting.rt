@@ -41,7 +41,8 @@ pub fn put_cut<K: Sink>(
 mod tests {
     use super::*;
     use crate::tests::record;
-    use bt_lines::{ScriptSink, put_number};
+    use bt_lines::{BLOCK, ScriptSink, put_number};
+    use std::alloc::Global;
     use std::test::Fail;
 
     // Puts the lines of two records that share bases: the shared part beside the second, both with the
@@ -70,6 +71,29 @@ mod tests {
             let mut out = Out::new(ScriptSink::new(rt.alloc(), 3, *good));
             let is_put = put_lines(&a, &b, &mut out).is_ok();
             assert_eq!(rt; (is_put, out.into_sink().taken()), (good.is_none(), *want));
+        }
+        Ok(())
+    }
+
+    // An output with room for this many bytes in its block, whose sink takes nothing.
+    fn nearly_full(alloc: Global, room: usize) -> Result<Out<ScriptSink>, Fail> {
+        let mut out = Out::new(ScriptSink::new(alloc, 512, Some(0)));
+        out.put([b'.'; BLOCK].get(room..).unwrap_or(b""))?;
+        Ok(out)
+    }
+
+    #[test]
+    fn a_line_that_has_no_room_and_cannot_be_written(rt: HostRuntime) -> Result<(), Fail> {
+        for line in [b"chr1\t0\t15".as_slice(), b"chr1\t0\t15\ta"] {
+            let bed = record(line).ok_or("a record")?;
+            for room in 0..line.len() {
+                let mut out = nearly_full(rt.alloc(), room)?;
+                let put = put_cut(&bed, 5, 15, b"\n", &mut out);
+                assert!(rt;
+                    put.is_err() && out.into_sink().taken().is_empty(),
+                    "{room}"
+                );
+            }
         }
         Ok(())
     }

@@ -217,11 +217,11 @@ pub record HasSpan (text : List ℕ) (first : ℕ) (span : List ℕ) : Type 0 wh
   size : length span ≡ 43 - first
 
 -- a stop was written before its end, and a start before it
-pub span_written : (text one two : List ℕ) (start stop end before first : ℕ) → 43 ≤ length text → first ≤ 42 → length two ≡ length text
+pub span_written : (text one : List ℕ) {two : List ℕ} (start stop end before : ℕ) {first : ℕ} → 43 ≤ length text → first ≤ 42 → length two ≡ length text
     → drop before one ≡ 9 ∷ (decimal stop ++ drop 42 (set text 42 end))
     → drop first two ≡ 9 ∷ (decimal start ++ drop before one)
     → HasSpan two first (span_text start stop end)
-span_written text one two start stop end before first room early same stops starts =
+span_written text one {two} start stop end before {first} room early same stops starts =
     let span = span_text start stop end in
     let rest = drop 43 text in
     let is : drop first two ≡ span ++ rest =

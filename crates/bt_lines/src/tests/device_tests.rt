@@ -1,4 +1,4 @@
-ghost use Rattle.std.specs.Prelude.{None, true, ⊤};
+ghost use Rattle.std.specs.Prelude.{None, false, true, ⊤};
 
 use crate::tests::output_tests::fails_again;
 use crate::tests::{Want, gives_all, gives_some, has_ended, holds};
@@ -137,6 +137,42 @@ fn a_failure_of_before_is_no_failed_read(rt: HostRuntime) {
     let lines: [Want; 2] = [(b"a", LineEnd::Lf), (b"b", LineEnd::Absent)];
     let are_given = gives_all(&mut reader, &lines) && has_ended(&mut reader);
     holds(&rt, are_given && reader.into_source().failed(), "two lines");
+}
+
+// A source of which each read fails. It counts them.
+#[derive(Drop)]
+struct NeverServes {
+    reads: u8,
+}
+
+impl Source for NeverServes {
+    ghost left = { λ _. None };
+
+    ghost has_failed = { λ _. true };
+
+    ghost end_told = { λ _. false };
+
+    ghost is_read = { λ _ _ _. ⊤ };
+
+    fn read(&mut self, _block: &mut [u8]) -> Result<usize, DeviceFailed> {
+        self.reads = self.reads.saturating_add(1);
+        Err(DeviceFailed)
+    }
+
+    fn failed(&self) -> bool {
+        true
+    }
+}
+
+#[test]
+fn a_source_that_failed_is_read_no_more(rt: HostRuntime) {
+    let mut reader = LineReader::new(rt.alloc(), NeverServes { reads: 0 }, Input::First);
+    let have_failed = reader.next().is_err() && reader.fill().is_err() && reader.next().is_err();
+    holds(
+        &rt,
+        have_failed && reader.into_source().reads == 1,
+        "read once",
+    );
 }
 
 // A sink that takes everything, and whose first flush fails.

@@ -2,10 +2,12 @@
 
 use crate::tests::block_tests::long_line;
 use crate::tests::holds;
-use crate::{BLOCK, Out, ScriptSink, Sink, write_failed};
+use crate::{BLOCK, Fault, Out, ScriptSink, Sink, put_both, put_column, put_line, write_failed};
 use std::alloc::Global;
 use std::process::Abort;
 use std::test::Fail;
+
+type Answer = Result<(), Fault>;
 
 // An output to which this many bytes were put.
 fn filled(alloc: Global, count: usize) -> Result<Out<ScriptSink>, Fail> {
@@ -101,7 +103,34 @@ fn a_sink_that_fails_round_a_block(rt: HostRuntime) -> Result<(), Fail> {
     Ok(())
 }
 
-// For how many bytes there is room after so many, and whether a line and its line feed are buffered
+// An output with room for this many bytes in its block, whose sink fails at the last byte of that.
+fn nearly_full(alloc: Global, room: usize) -> Result<Out<ScriptSink>, Fail> {
+    let mut output = Out::new(ScriptSink::new(alloc, BLOCK, Some(BLOCK - 1)));
+    output.put(long_line(alloc, BLOCK.saturating_sub(room), b"")?.as_slice())?;
+    Ok(output)
+}
+
+// The answers of the calls that put five bytes, if there is room for this many.
+fn across_border(alloc: Global, room: usize) -> Result<[Answer; 4], Fail> {
+    let put = nearly_full(alloc, room)?.put(b"chr1\n");
+    let column = put_column(b"chr1", b"\n", &mut nearly_full(alloc, room)?);
+    let line = put_line(b"chr1", b"\n", &mut nearly_full(alloc, room)?);
+    let both = put_both(b"chr1", b"\n", &mut nearly_full(alloc, room)?);
+    Ok([put, column, line, both])
+}
+
+// The call that writes fails, not only those after it.
+#[test]
+fn a_put_that_writes_reports_that_it_failed(rt: HostRuntime) -> Result<(), Fail> {
+    for room in [0, 1, 2, 3, 4] {
+        for answer in &across_border(rt.alloc(), room)? {
+            assert_eq!(rt; *answer, Err(write_failed()));
+        }
+    }
+    Ok(())
+}
+
+// For how many bytes there is room after this many, and whether a line and its line feed are buffered
 // there.
 fn pair_after(alloc: Global, before: usize) -> Result<(usize, bool), Fail> {
     let mut output = filled(alloc, before)?;

@@ -41,6 +41,9 @@ const CASES: [Rows; 2] = [
         ("at the length", &[(b"chr2\t50\t51", 1)], b"chr2\t0\t50\n", b""),
         ("from one chromosome to the next", &[(b"chr1\t5\t10", 1), (b"chr2\t5\t10", 1)],
             b"chr1\t0\t5\nchr1\t10\t1000\nchr2\t0\t5\n", b"chr2\t10\t50\n"),
+        ("two on the second chromosome",
+            &[(b"chr1\t5\t10", 1), (b"chr2\t5\t10", 1), (b"chr2\t20\t30", 1)],
+            b"chr1\t0\t5\nchr1\t10\t1000\nchr2\t0\t5\nchr2\t10\t20\n", b"chr2\t30\t50\n"),
         ("a chromosome that the genome file lacks",
             &[(b"chr0\t0\t40", 0), (b"chr1\t5\t10", 1), (b"chr3\t0\t40", 1), (b"chr2\t5\t10", 1)],
             b"chr1\t0\t5\nchr1\t10\t1000\nchr2\t0\t5\n", b"chr2\t10\t50\n"),
@@ -77,8 +80,8 @@ fn check(
     for row in rows {
         check_row(rt, alloc, Complement::new(genome, limit), row);
         check_batches(rt, alloc, Complement::new(genome, limit), row)?;
-        for good in 0..written_len(row) {
-            check_failing(rt, alloc, Complement::new(genome, limit), row, good)?;
+        for room in 0..written_len(row) {
+            check_failing(rt, alloc, Complement::new(genome, limit), row, room)?;
         }
     }
     Ok(())

@@ -34,6 +34,9 @@ const CASES: [Rows; 4] = [
         ("from one chromosome to the next",
             &[(b"chr1\t2\t9", 1), (b"chr1\t3\t9", 2), (b"chr2\t0\t1", 1)],
             b"chr1\t2\t3\t1\nchr1\t3\t9\t2\n", b"chr2\t0\t1\t1\n"),
+        ("two on the second chromosome",
+            &[(b"chr1\t2\t9", 1), (b"chr2\t0\t3", 1), (b"chr2\t1\t5", 2)],
+            b"chr1\t2\t9\t1\n", b"chr2\t0\t1\t1\nchr2\t1\t3\t2\nchr2\t3\t5\t1\n"),
         ("an end between the starts",
             &[(b"chr1\t0\t9", 1), (b"chr1\t0\t3", 2), (b"chr1\t2\t9", 3), (b"chr2\t0\t1", 1)],
             b"chr1\t0\t2\t2\nchr1\t2\t3\t3\nchr1\t3\t9\t2\n", b"chr2\t0\t1\t1\n"),
@@ -91,9 +94,9 @@ fn check(rt: &impl Abort, alloc: Global, genome: &Genome, rows: &Rows) -> Result
     for row in rows {
         check_row(rt, alloc, Coverage::new(alloc, genome, zeros, strand), row);
         check_batches(rt, alloc, Coverage::new(alloc, genome, zeros, strand), row)?;
-        for good in 0..written_len(row) {
+        for room in 0..written_len(row) {
             let coverage = Coverage::new(alloc, genome, zeros, strand);
-            check_failing(rt, alloc, coverage, row, good)?;
+            check_failing(rt, alloc, coverage, row, room)?;
         }
     }
     Ok(())

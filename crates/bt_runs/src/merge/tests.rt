@@ -140,8 +140,8 @@ fn check(rt: &impl Abort, alloc: Global, (d, strand, rows): &Rows) -> Result<(),
     for row in *rows {
         check_row(rt, alloc, Merge::new(alloc, d, *strand), row);
         check_batches(rt, alloc, Merge::new(alloc, d, *strand), row)?;
-        for good in 0..written_len(row) {
-            check_failing(rt, alloc, Merge::new(alloc, d, *strand), row, good)?;
+        for room in 0..written_len(row) {
+            check_failing(rt, alloc, Merge::new(alloc, d, *strand), row, room)?;
         }
     }
     Ok(())

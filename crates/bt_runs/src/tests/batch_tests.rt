@@ -3,7 +3,7 @@
 ghost use Rattle.std.specs.Prelude.{◌<◌};
 
 use crate::engine::Engine;
-use crate::tests::testing::{Row, expect_end, expect_put, feed_line, holds, output};
+use crate::tests::testing::{KeptLine, Row, expect_end, expect_put, holds, output};
 use crate::{Merge, MergeStrand};
 use bt_bed::{Blocks, Cursor, Record, Strand};
 use bt_lines::{Fault, Input, LineReader, Out, ScriptSink, ScriptSource, Sink};
@@ -34,26 +34,40 @@ fn feed_first<E: Engine, K: Sink>(
     Ok(Cursor::line(&batch))
 }
 
-// An engine that has taken no record has to write what the row says if it takes the records of the
-// first chromosome in one call.
+// Feeds an engine with the records of the first chromosome of these lines, and returns how many lines
+// those are.
+fn feed_chromosome<E: Engine, K: Sink>(
+    alloc: Global,
+    lines: &[KeptLine<'_>],
+    engine: &mut E,
+    out: &mut Out<K>,
+) -> Result<usize, Fail> {
+    let mut text = Vec::new(alloc);
+    for (line, _) in lines {
+        text.extend_from_slice(line)?;
+        text.push(b'\n')?;
+    }
+    let mut blocks = blocks_of(alloc, text.as_slice());
+    let fed = feed_first(&mut blocks, engine, out);
+    let _ = blocks.into_reader().into_source();
+    Ok(fed? as usize)
+}
+
+// An engine that has taken no record has to write what the row says if it takes the records of each
+// chromosome in one call.
 pub(crate) fn check_batches<E: Engine + Drop>(
     rt: &impl Abort,
     alloc: Global,
     mut engine: E,
     (name, lines, settled, left): &Row,
 ) -> Result<(), Fail> {
-    let mut text = Vec::new(alloc);
-    for (line, _) in *lines {
-        text.extend_from_slice(line)?;
-        text.push(b'\n')?;
-    }
     let mut out = output(alloc, 3);
-    let mut blocks = blocks_of(alloc, text.as_slice());
-    let fed = feed_first(&mut blocks, &mut engine, &mut out);
-    let _ = blocks.into_reader().into_source();
-    for (line, _) in lines.get(fed? as usize..).unwrap_or(&[]) {
-        holds(rt, feed_line(&mut engine, line, &mut out).is_ok(), name);
+    let mut fed = 0usize;
+    for _ in *lines {
+        let rest = lines.get(fed..).unwrap_or(&[]);
+        fed = fed.saturating_add(feed_chromosome(alloc, rest, &mut engine, &mut out)?);
     }
+    holds(rt, fed == lines.len(), name);
     expect_put(rt, out, settled, name);
     expect_end(rt, engine, output(alloc, 3), left, name);
     Ok(())

@@ -3,7 +3,7 @@
 
 use crate::engine::Engine;
 use bt_bed::{Genome, parse_bed};
-use bt_lines::{Fault, Input, Kind, LineReader, Out, Place, ScriptSink, ScriptSource, Sink};
+use bt_lines::{BLOCK, Fault, Input, Kind, LineReader, Out, Place, ScriptSink, ScriptSource, Sink};
 use std::alloc::{AllocError, Global};
 use std::process::Abort;
 use std::test::Fail;
@@ -27,7 +27,7 @@ fn same_bytes(rt: &impl Abort, given: &[u8], wanted: &[u8], name: &str) {
 }
 
 // The line of a record, and how many items an engine keeps once it has taken it.
-type KeptLine<'a> = (&'a [u8], usize);
+pub(crate) type KeptLine<'a> = (&'a [u8], usize);
 
 // A case: its name, the lines that an engine is fed, what is written with them, and what at the end.
 #[rattlefmt::skip]
@@ -41,7 +41,7 @@ pub(crate) fn genome(alloc: Global, text: &[u8]) -> Result<Genome, Fault> {
     genome
 }
 
-// An output to a sink that takes so many bytes at a time, all of them.
+// An output to a sink that takes this many bytes at a time, all of them.
 pub(crate) fn output(alloc: Global, step: usize) -> Out<ScriptSink> {
     Out::new(ScriptSink::new(alloc, step.max(1), None))
 }
@@ -141,13 +141,14 @@ const WRITE_FAILED: Fault = Fault {
     place: None,
 };
 
-// Feeds all lines to an engine over a sink that fails, and if a fault came one more, and lets it finish.
-// Once a call has returned the fault, each later one has to, and the flush at the end if none did.
+// Feeds all lines to an engine whose output has this room and then fails, one more if a fault came, and lets it finish,
+// which fails at the latest. A fault comes where what is settled has no room, and each later call returns it.
 fn feed_failing<E: Engine, K: Sink>(
     rt: &impl Abort,
     mut engine: E,
-    (name, lines, _, _): &Row,
+    (name, lines, settled, _): &Row,
     out: &mut Out<K>,
+    room: usize,
 ) {
     let mut has_failed = false;
     for (line, _) in *lines {
@@ -155,13 +156,12 @@ fn feed_failing<E: Engine, K: Sink>(
         holds(rt, !has_failed || answer == Err(WRITE_FAILED), name);
         has_failed = answer.is_err();
     }
+    holds(rt, has_failed == (room < settled.len()), name);
     if has_failed {
         let answer = feed_line(&mut engine, b"chr9\t5\t6", out);
         same_answer(rt, answer, Err(WRITE_FAILED), name);
     }
-    let answer = engine.finish(out);
-    holds(rt, !has_failed || answer == Err(WRITE_FAILED), name);
-    same_answer(rt, answer.and(out.flush()), Err(WRITE_FAILED), name);
+    same_answer(rt, engine.finish(out), Err(WRITE_FAILED), name);
 }
 
 // How many bytes are written in a case.
@@ -169,19 +169,24 @@ pub(crate) fn written_len((_, _, settled, left): &Row) -> usize {
     settled.len().saturating_add(left.len())
 }
 
-// The same engine over a sink that takes this many bytes, fewer than all, which have to be the first.
+// An engine whose output has room for this many bytes, fewer than it writes, and whose sink fails at the last byte of a
+// block. The sink has to have taken the first bytes put.
 pub(crate) fn check_failing<E: Engine + Drop>(
     rt: &impl Abort,
     alloc: Global,
     engine: E,
     row: &Row,
-    good: usize,
+    room: usize,
 ) -> Result<(), Fail> {
-    let mut wanted = Vec::from_slice(alloc, row.2)?;
+    let before = BLOCK.saturating_sub(room);
+    let mut wanted = Vec::new(alloc);
+    wanted.resize(before, b'.')?;
+    let mut out = Out::new(ScriptSink::new(alloc, BLOCK, Some(BLOCK - 1)));
+    out.put(wanted.as_slice())?;
+    wanted.extend_from_slice(row.2)?;
     wanted.extend_from_slice(row.3)?;
-    let mut out = Out::new(ScriptSink::new(alloc, 4, Some(good)));
-    feed_failing(rt, engine, row, &mut out);
-    let prefix = wanted.as_slice().get(..good).unwrap_or(b"");
+    feed_failing(rt, engine, row, &mut out, room);
+    let prefix = wanted.as_slice().get(..BLOCK - 1).unwrap_or(b"");
     same_bytes(rt, out.into_sink().taken(), prefix, row.0);
     Ok(())
 }

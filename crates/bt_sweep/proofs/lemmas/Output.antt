@@ -207,7 +207,7 @@ module _ (rule : HitRule) (a : Feature) (held : List Feature) where
   abbrev before_to : ℕ → List ℕ
   before_to i = lines_before a a.start (found_to i)
 
-  module _ (i free : ℕ) (reached : free ≡ free_after a.start (found_to i)) where
+  module _ (i : ℕ) {free : ℕ} (reached : free ≡ free_after a.start (found_to i)) where
     next_found : found_to (i + 1) ≡ found_to i ++ found_at i
     next_found = ap (filter (hits rule a)) (take_next held i) ∙ filter-append (hits rule a) (take i held) (option_to_list (slice_get held i))
 
@@ -234,16 +234,16 @@ module _ (rule : HitRule) (a : Feature) (held : List Feature) where
     all_lines rises = grind (arith, append_assoc, (lines_append a a.start (found_to (i + 1)) rest), all_found, (walked rule a held rises))
 
     -- the piece before one couldn't be put
-    pub pieces_cut : (A : Type 0) (old mid new : Output) (fault : Fault) → AreRising held → Grown old (before_to i) mid → Adds {A = A} mid (lines_before a free (found_at i)) (Err fault) new
+    pub pieces_cut : (A : Type 0) {old mid new : Output} (fault : Fault) → AreRising held → Grown old (before_to i) mid → Adds {A = A} mid (lines_before a free (found_at i)) (Err fault) new
         → FailsToAdd old (flat_map (piece_line a) (pieces a (hits_among rule a held))) (fault_value fault) new
-    pieces_cut A old mid new fault rises so_far here =
+    pieces_cut A {old} {mid} {new} fault rises so_far here =
         let cut = fails_then old mid new (before_to i) (lines_before a free (found_at i)) (fault_value fault) so_far here in
         rw (← all_lines rises) (cut_off old new (before_to (i + 1)) lines_behind (fault_value fault) (subst (λ (l : List ℕ). FailsToAdd old l (fault_value fault) new) (sym next_lines) cut))
 
   -- the last piece
-  pub pieces_end : {A : Type 0} (r : Result A Fault) (i free : ℕ) (old mid new : Output) → length held ≤ i → free ≡ free_after a.start (found_to i) → AreRising held
+  pub pieces_end : {A : Type 0} (r : Result A Fault) {i free : ℕ} {old mid : Output} (new : Output) → length held ≤ i → free ≡ free_after a.start (found_to i) → AreRising held
       → Grown old (before_to i) mid → Adds mid (gap_lines a free a.stop) r new → Adds old (flat_map (piece_line a) (pieces a (hits_among rule a held))) r new
-  pieces_end r i free old mid new past reached rises so_far here = grind (arith, (take_whole held i past), (walked rule a held rises), (adds_after r old mid new (before_to i) (gap_lines a free a.stop) so_far here))
+  pieces_end r {i} {free} {old} {mid} new past reached rises so_far here = grind (arith, (take_whole held i past), (walked rule a held rises), (adds_after r old mid new (before_to i) (gap_lines a free a.stop) so_far here))
 
 -- Lemmas on the lines of a record.
 

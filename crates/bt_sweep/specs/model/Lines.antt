@@ -86,14 +86,14 @@ sweep_rule order shape rule second fault = record {
   last = fault;
 }
 
--- the lines that intersect writes of two inputs, and the fault that it tells
+-- the lines that intersect writes of two inputs, and the fault that it reports
 abbrev pub intersect_met : Order → Shape → HitRule → Good Feature → Good Feature → Met ℕ FaultValue
 intersect_met order shape rule first second =
     join_report (sweep_rule order shape rule (items_in second) second.fault) (items_in first) first.fault
 
 -- What subtract writes (bedtools manual, subtract, option -A).
 
--- the shape that writes what is left of a record: its pieces, or with -A whole records
+-- the shape that writes what is left of a record: its pieces, or with -A the record as it is
 abbrev pub subtract_shape : Bool → Shape
 subtract_shape false = Pieces
 subtract_shape true = Whole

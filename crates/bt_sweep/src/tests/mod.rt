@@ -17,7 +17,7 @@ pub(crate) fn genome(alloc: Global) -> Result<Genome, Fault> {
     genome
 }
 
-// An output to a sink that takes so many bytes at a time, all of them.
+// An output to a sink that takes this many bytes at a time, all of them.
 pub(crate) fn output(alloc: Global, step: usize) -> Out<ScriptSink> {
     Out::new(ScriptSink::new(alloc, step.max(1), None))
 }

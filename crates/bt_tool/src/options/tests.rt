@@ -5,7 +5,7 @@ use std::test::Fail;
 
 mod two_inputs;
 
-// The words of a command line and, behind `=> `, the plan or the line on standard error that they
+// The words of a command line and, after `=> `, the plan or the line on standard error that they
 // give. `''` is an empty word, and `_` a space in one.
 const CASES: [&str; 44] = [
     "=> bedtools: no or unknown command",
@@ -209,7 +209,7 @@ fn answer(alloc: Global, words: &[String]) -> Result<String, Fail> {
     }
 }
 
-// Each row gives what it says, behind this command.
+// Each row gives what it says, after this command.
 fn check_all(
     rt: &impl Abort,
     alloc: Global,

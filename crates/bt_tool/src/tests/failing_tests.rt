@@ -50,7 +50,7 @@ fn first_lines(text: &[u8], count: usize) -> Option<&[u8]> {
     text.get(..end)
 }
 
-// What `cuts` say of a failure after so many lines: how many lines are written, and whether the fault of the row is
+// What `cuts` say of a failure after this many lines: how many lines are written, and whether the fault of the row is
 // reported.
 fn cut_after(cuts: &str, lines: usize) -> Option<(usize, bool)> {
     let cut = cuts.split(' ').nth(lines)?;
@@ -59,7 +59,7 @@ fn cut_after(cuts: &str, lines: usize) -> Option<(usize, bool)> {
     Some((written, number.is_some()))
 }
 
-// What is written and reported if the input fails after so many lines.
+// What is written and reported if the input fails after this many lines.
 fn want_after<'a>(
     alloc: Global,
     run: &'a Run,

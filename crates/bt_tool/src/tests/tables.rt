@@ -5,21 +5,21 @@ use std::alloc::{AllocError, Global};
 use std::process::Abort;
 use std::test::Fail;
 
-// The head says what stands between the bars of each row:
+// The head says what is between the bars of each row:
 //   name      what the row shows
 //   options   the words after those of the command
 //   genome    the genome file; without this part it is GENOME
 //   first     the first input
 //   second    the second input
 //   output    what is written
-//   fault     what the fault line says behind the command; empty for a run that serves
+//   fault     what the fault line says after the command; empty for a run that serves
 //   fails     `genome`, `first`, `second` or `out`, and how many bytes it moves before it fails
 // `failing_tests` reads two more, `cuts` and `second cuts`.
 // A part of the head as `first = TEXT` is the same in all rows, which leave it out.
 #[derive(Clone, Copy)]
 pub(crate) struct Table {
     pub(crate) command: &'static str,
-    // Whether inputs and output stand as they are; otherwise each is a row of `text`.
+    // Whether inputs and output are given as they are; otherwise each is a row of `text`.
     pub(crate) is_exact: bool,
     pub(crate) head: &'static str,
     pub(crate) rows: &'static [&'static str],
@@ -73,7 +73,7 @@ fn put_part(parts: &mut Parts, column: &str, part: &'static str) -> Option<()> {
     Some(())
 }
 
-// The name of a column, and what stands in it in all rows.
+// The name of a column, and its text in all rows if the head has one.
 fn column_of(part: &'static str) -> (&'static str, Option<&'static str>) {
     match part.split_once(" = ") {
         Some((name, shared)) => (name.trim_matches(' '), Some(shared)),

@@ -232,12 +232,12 @@ says_wrong : (input : Input) (names : List (List ℕ)) (line : TextLine) (lines 
 unfolding genome_from
 says_wrong input names line lines kind e = rw e refl
 
-continues_line : (input : Input) (old now next : Option (List TextLine)) (from to further : ℕ) (front : List Entry) (line : TextLine) (entry : Option Entry) → Continues input old from front now to → GivesFirst now line next → further ≡ suc to
+continues_line : (input : Input) (old now next : Option (List TextLine)) (from : ℕ) {to further : ℕ} (front : List Entry) (line : TextLine) {entry : Option Entry} → Continues input old from front now to → GivesFirst now line next → further ≡ suc to
     → new_entry (genome_names front) (entry_of line.text) ≡ Ok entry → Continues input old from (front ++ option_to_list entry) next further
-continues_line input None now next from to further front line entry c g n e = tt
-continues_line input (Some old) None next from to further front line entry c g n e = absurd c
-continues_line input (Some old) (Some now) None from to further front line entry c g n e = absurd g
-continues_line input (Some old) (Some now) (Some next) from to further front line entry c g n e = (
+continues_line input None now next from front line c g n e = tt
+continues_line input (Some old) None next from front line c g n e = absurd c
+continues_line input (Some old) (Some now) None from front line c g n e = absurd g
+continues_line input (Some old) (Some now) (Some next) from front line {entry} c g n e = (
   c.0 ++ line ∷ [],
   c.1 ∙ ap (λ lines. c.0 ++ lines) g ∙ sym (append_assoc c.0 (line ∷ []) next),
   omega (arith, c.2, n, length-append c.0 (line ∷ [])),
@@ -268,12 +268,12 @@ none_wrong : (input : Input) (old now : Option (List TextLine)) (from to : ℕ) 
 none_wrong input old now from to front fault c = grind (arith, first_lines)
 
 -- the last line given is
-last_wrong : (input : Input) (old now next : Option (List TextLine)) (from to further : ℕ) (front : List Entry) (line : TextLine) (kind : Kind) → Continues input old from front now to → GivesFirst now line next → further ≡ suc to
+last_wrong : (input : Input) (old now next : Option (List TextLine)) (from : ℕ) {to further : ℕ} (front : List Entry) (line : TextLine) {kind : Kind} → Continues input old from front now to → GivesFirst now line next → further ≡ suc to
     → new_entry (genome_names front) (entry_of line.text) ≡ Err kind → IsToldFirst input old (further - from) (fault_at_line input line.number kind)
-last_wrong input None now next from to further front line kind c g n e = tt
-last_wrong input (Some old) None next from to further front line kind c g n e = absurd c
-last_wrong input (Some old) (Some now) None from to further front line kind c g n e = absurd g
-last_wrong input (Some old) (Some now) (Some next) from to further front line kind c g n e = λ other f.
+last_wrong input None now next from front line c g n e = tt
+last_wrong input (Some old) None next from front line c g n e = absurd c
+last_wrong input (Some old) (Some now) None from front line c g n e = absurd g
+last_wrong input (Some old) (Some now) (Some next) from {further} front line {kind} c g n e = λ other f.
     let whole : old ≡ (c.0 ++ line ∷ []) ++ next = c.1 ∙ ap (λ lines. c.0 ++ lines) g ∙ sym (append_assoc c.0 (line ∷ []) next) in
     let count : from + length (c.0 ++ line ∷ []) ≡ further = omega (arith, c.2, n, length-append c.0 (line ∷ [])) in
     let wrong : genome_of input (take (further - from) old) ≡ Err (fault_at_line input line.number kind) =
@@ -317,7 +317,7 @@ module _ {S : Type 0} (device : Source S) (old : LineReader S) where
 
   pub going_line : (now next : LineReader S) (line : TextLine) (genome grown : Genome) → Going device old now genome → GivesLine device now line next → (IsSound device now → IsSound device next) → LineAdded line.text genome grown → Going device old next grown
   going_line now next line genome grown g gives sound added = record {
-    continues = rw added.added (continues_line (input_of old) (lines_left device.left old) (lines_left device.left now) (lines_left device.left next) (lines_given old) (lines_given now) (lines_given next) (entries genome) line added.entry g.continues gives.first gives.counted added.says);
+    continues = rw added.added (continues_line (input_of old) (lines_left device.left old) (lines_left device.left now) (lines_left device.left next) (lines_given old) (entries genome) line g.continues gives.first gives.counted added.says);
     distinct = distinct_line line.text genome grown g.distinct added;
     stays = λ before e. let none = had_none now genome g gives.was_going.0 in cc;
     going = λ e. gives.goes;
@@ -378,7 +378,7 @@ module _ {S : Type 0} (device : Source S) (old : LineReader S) where
       record {
         again = λ before e. cc;
         first = λ going. inl (going_refused now next line genome place fault g gives at refused);
-        checked = rw is (last_wrong (input_of old) (lines_left device.left old) (lines_left device.left now) (lines_left device.left next) (lines_given old) (lines_given now) (lines_given next) (entries genome) line refused.kind g.continues gives.first gives.counted refused.says);
+        checked = rw is (last_wrong (input_of old) (lines_left device.left old) (lines_left device.left now) (lines_left device.left next) (lines_given old) (entries genome) line g.continues gives.first gives.counted refused.says);
         bytes = both now next g.passed.bytes (gives.bytes.0, gives.bytes.1);
         near = λ none was. near_line device old next (passed_line device old now next g.passed line gives sound) gives.goes was;
       }
@@ -386,7 +386,7 @@ module _ {S : Type 0} (device : Source S) (old : LineReader S) where
   going_unkept : (now next : LineReader S) (line : TextLine) (genome : Genome) (place : Place) (fault : FaultValue) → Going device old now genome → GivesLine device now line next → (IsSound device now → IsSound device next) → IsUnkept place (new_entry (names_of genome) (entry_of line.text)) fault → ReadingStops device old next fault
   going_unkept now next line genome place fault g gives sound unkept =
       let none = had_none now genome g gives.was_going.0 in
-      let more = continues_line (input_of old) (lines_left device.left old) (lines_left device.left now) (lines_left device.left next) (lines_given old) (lines_given now) (lines_given next) (entries genome) line (Some unkept.item) g.continues gives.first gives.counted unkept.says in
+      let more = continues_line (input_of old) (lines_left device.left old) (lines_left device.left now) (lines_left device.left next) (lines_given old) (entries genome) line g.continues gives.first gives.counted unkept.says in
       record {
         again = λ before e. cc;
         first = λ going. inr (inr (record { is = unkept.is; served = gives.served ∙ g.served }));

@@ -56,14 +56,14 @@ byte_behind xs n all i = rw (get_or-drop n xs i 0) (all (n + i))
 
 -- the first four and the last four bytes, each as one number, tell whether two names of four to
 -- eight bytes are one
-pub ends_tell : (a b : List ℕ) (first last other_first other_last : ℕ) → length a ≡ length b
+pub ends_tell : (a b : List ℕ) {first last other_first other_last : ℕ} → length a ≡ length b
     → 4 ≤ length a → length a ≤ 8
     → ((i : ℕ) → get_or a i 0 < 256) → ((i : ℕ) → get_or b i 0 < 256)
     → first ≡ from_le_bytes w32 (take 4 a) → last ≡ from_le_bytes w32 (drop (length a - 4) a)
     → other_first ≡ from_le_bytes w32 (take 4 b)
     → other_last ≡ from_le_bytes w32 (drop (length b - 4) b)
     → first ≡ other_first → eqb last other_last ≡ bytes_eq a b
-ends_tell a b first last other_first other_last n some short fits other_fits f l g m e =
+ends_tell a b {last} {other_last} n some short fits other_fits f l g m e =
     let front : take 4 a ≡ take 4 b = words_same (take 4 a) (take 4 b)
     (omega (arith, length-take 4 a)) (omega (arith, length-take 4 b))
     (byte_in_front a 4 some fits) (byte_in_front b 4 (omega arith) other_fits) (sym f ∙ e ∙ g) in

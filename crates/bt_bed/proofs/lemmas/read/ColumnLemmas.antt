@@ -87,7 +87,7 @@ behind_name name rest = grind (arith, (append_assoc name (9 ∷ []) rest), (drop
 pub alone_ends : (text : List ℕ) → pieces 9 text ≡ text ∷ [] → EndsFirst text (length text)
 alone_ends text e = grind (arith, take_all, pieces_are_columns)
 
-module _ (text name : List ℕ) (r : Feature) (says : record_of text ≡ Ok (Some r)) (on : r.chrom ≡ name) where
+module _ (text : List ℕ) {name : List ℕ} {r : Feature} (says : record_of text ≡ Ok (Some r)) (on : r.chrom ≡ name) where
   said : columns_say (pieces 9 text) ≡ Ok r
   said = (record_said text r says).1
 
@@ -107,7 +107,7 @@ module _ (text name : List ℕ) (r : Feature) (says : record_of text ≡ Ok (Som
   cut_name = cut_at text (length name) parsed_name.within parsed_name.tab parsed_name.column
 
   -- a tab follows the second column
-  module _ (a : ℕ) (ends : EndsFirst first a) where
+  module _ {a : ℕ} (ends : EndsFirst first a) where
     pub parsed_inside : a < length first
     parsed_inside = elim (cases_lt a (length first)) [
       | inl inside ↦ inside
@@ -120,7 +120,7 @@ module _ (text name : List ℕ) (r : Feature) (says : record_of text ≡ Ok (Som
     cut_first : pieces 9 first ≡ take a first ∷ pieces 9 second
     cut_first = cut_at first a parsed_inside (ends.tab parsed_inside) ends.column
 
-    module _ (b : ℕ) (last : EndsFirst second b) where
+    module _ {b : ℕ} (last : EndsFirst second b) where
       cut_second : pieces 9 second ≡ take b second ∷ columns_in (drop b second)
       cut_second = cut_by second b last.within last.tab last.column (ltb b (length second)) refl
 
@@ -144,7 +144,7 @@ parsed_of name text e = search rules
 -- one that doesn't begin with the name says none
 pub not_on : (name text : List ℕ) → (BeginsWithName text name → ⊥) → false ≡ is_on name (record_of text)
 not_on name text other = elim (cases_Bool (is_on name (record_of text))) [
-  | inl is ↦ let p = parsed_of name text is in absurd (other (parsed_begins text name p.0 p.1 p.2))
+  | inl is ↦ let p = parsed_of name text is in absurd (other (parsed_begins text p.1 p.2))
   | inr none ↦ sym none
 ]
 

@@ -147,7 +147,7 @@ module _ (whole : List Entry) (distinct : AreDistinct (genome_names whole)) wher
   )
 
   -- each part's report is the same by the whole genome file
-  module _ (report : Option Handed → Texts → Report) (genome : Handed) (shape : Shape) (rule : HitRule)
+  module _ (report : Option Handed → Texts → Report) {genome : Handed} (shape : Shape) (rule : HitRule)
       (by_whole : (texts : Texts) → report (Some genome) texts ≡ pair_report (rank_order (genome_names whole)) (ranks_total (genome_names whole)) shape rule texts.first texts.second)
       (by_own : (own : Handed) (entries : List Entry) → chromosomes_of (Some own) ≡ Ok (Some entries) → (texts : Texts) → report (Some own) texts ≡ pair_report (rank_order (genome_names entries)) (ranks_total (genome_names entries)) shape rule texts.first texts.second) where
     one_same : (before : List (List ℕ)) (shard : PairShard) (shards : List PairShard) → genome_names whole ≡ before ++ genome_names (pair_entries (shard ∷ shards)) → chromosomes_of (Some shard.genome) ≡ Ok (Some shard.entries) → Lies shard
@@ -174,7 +174,7 @@ own_parts : (command : Command) (shape : Shape) (rule : HitRule)
 own_parts command shape rule is divides genome shards are lies =
     let distinct = distinct_in genome (pair_entries shards) are.whole in
     subst (λ (parts : List Report). AddUp parts (on_texts command (Some genome) (joined_texts (pair_texts shards))) × StopWithin parts (on_texts command (Some genome) (joined_texts (pair_texts shards))))
-    (all_reports (pair_entries shards) distinct (on_texts command) genome shape rule (is (Some genome) (Some (pair_entries shards)) are.whole) (λ own entries has. is (Some own) (Some entries) has) [] shards refl are.parts lies)
+    (all_reports (pair_entries shards) distinct (on_texts command) shape rule (is (Some genome) (Some (pair_entries shards)) are.whole) (λ own entries has. is (Some own) (Some entries) has) [] shards refl are.parts lies)
     (divides (Some genome) (Some (pair_entries shards)) (pair_texts shards) are.whole are.lines (ascend_from (pair_entries shards) distinct [] shards refl are.lines lies))
 
 pub intersect_genome_parts : intersect_genomes_divide

@@ -87,11 +87,11 @@ module _ {T : Type 0} (join : List T → T) (report : T → Report) (Fits : List
   parts_both two ts fits = (parts_add (λ t u ts f. (two t u ts f).0) ts fits, parts_stop (λ t u ts f. (two t u ts f).1) ts fits)
 
 -- commands that write the same of these members
-pub splits_as : {A : Type 0} (one two whole one_too two_too whole_too : Written A) (ones twos : List A)
+pub splits_as : {A : Type 0} {one two whole one_too two_too whole_too : Written A} {ones twos : List A}
     → one.whole ones ≡ one_too.whole ones → one.settled ones ≡ one_too.settled ones → two.whole twos ≡ two_too.whole twos → two.settled twos ≡ two_too.settled twos
     → whole.whole (ones ++ twos) ≡ whole_too.whole (ones ++ twos) → whole.settled ones ≡ whole_too.settled ones → whole.settled (ones ++ twos) ≡ whole_too.settled (ones ++ twos)
     → Splits one_too two_too whole_too ones twos → Splits one two whole ones twos
-splits_as one two whole one_too two_too whole_too ones twos a b c d e f g splits = grind arith
+splits_as a b c d e f g splits = grind arith
 
 -- a prefix of what one part writes
 pub prefixes_begin_whole : prefixes_begin

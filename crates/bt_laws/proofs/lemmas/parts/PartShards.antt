@@ -153,10 +153,10 @@ module _ {T : Type 0} (chrom : T → List ℕ) (ends : Interval → T → Bool) 
     begin_by ones [] in_one in_two begins = grind (arith, (append-nil (flat_map line (whole_of e_one ones))), (lines_both (settled_of e_one ones) begins.0), (settled_first ones in_one), (append-nil ones))
     begin_by ones (s ∷ twos) in_one in_two begins = grind (arith, append-nil, settled_both, lines_both)
 
-    pub chromosomes_split : (ones twos : List Feature) → AllByRecursion (λ r. is_among One-names r.chrom ≡ true) (intervals_of ones) → AllByRecursion (λ r. is_among Two-names r.chrom ≡ true) (intervals_of twos)
+    pub chromosomes_split : {ones twos : List Feature} → AllByRecursion (λ r. is_among One-names r.chrom ≡ true) (intervals_of ones) → AllByRecursion (λ r. is_among Two-names r.chrom ≡ true) (intervals_of twos)
         → ((rest : List T) × (whole_of e_one ones ≡ settled_of e_one ones ++ rest))
         → Splits (written_of e_one) (written_of e_two) (written_of (e_one ++ e_two)) ones twos
-    chromosomes_split ones twos in_one in_two begins = record {
+    chromosomes_split {ones} {twos} in_one in_two begins = record {
       all = ap (flat_map line) (whole_both ones twos in_one in_two) ∙ lines_both (whole_of e_one ones) (whole_of e_two twos);
       first = ap (flat_map line) (settled_first ones in_one);
       begin = begin_by ones twos in_one in_two begins;
@@ -218,11 +218,10 @@ module _ (limit : Bool) where
 
   pub gaps_split : (e_one e_two : List Entry) (ones twos : List Feature) → OwnParts e_one e_two ones twos → Splits (complement_written e_one limit) (complement_written e_two limit) (complement_written (e_one ++ e_two) limit) ones twos
   gaps_split e_one e_two ones twos own =
-      let W : List Entry → Written Feature = written_of gap_chrom gap_ends interval_line gaps_here in
-      splits_as (complement_written e_one limit) (complement_written e_two limit) (complement_written (e_one ++ e_two) limit) (W e_one) (W e_two) (W (e_one ++ e_two)) ones twos
+      splits_as
       (ap interval_lines (complement_is e_one ones)) (ap interval_lines (gaps_settled e_one ones)) (ap interval_lines (complement_is e_two twos)) (ap interval_lines (gaps_settled e_two twos))
       (ap interval_lines (complement_is (e_one ++ e_two) (ones ++ twos))) (ap interval_lines (gaps_settled (e_one ++ e_two) ones)) (ap interval_lines (gaps_settled (e_one ++ e_two) (ones ++ twos)))
-      (chromosomes_split gap_chrom gap_ends interval_line gaps_here gaps_named gaps_first gaps_second e_one e_two own.distinct ones twos own.in_one own.in_two (gaps_begin e_one ones own.taken))
+      (chromosomes_split gap_chrom gap_ends interval_line gaps_here gaps_named gaps_first gaps_second e_one e_two own.distinct own.in_one own.in_two (gaps_begin e_one ones own.taken))
 
 -- ---- depths
 
@@ -264,11 +263,10 @@ module _ (zeros : Bool) (strand : Option Strand) where
 
   pub depths_split : (e_one e_two : List Entry) (ones twos : List Feature) → OwnParts e_one e_two ones twos → Splits (coverage_written e_one zeros strand) (coverage_written e_two zeros strand) (coverage_written (e_one ++ e_two) zeros strand) ones twos
   depths_split e_one e_two ones twos own =
-      let W : List Entry → Written Feature = written_of depth_chrom depth_ends depth_line depths_here in
-      splits_as (coverage_written e_one zeros strand) (coverage_written e_two zeros strand) (coverage_written (e_one ++ e_two) zeros strand) (W e_one) (W e_two) (W (e_one ++ e_two)) ones twos
+      splits_as
       (ap (flat_map depth_line) (coverage_is e_one ones)) (ap (flat_map depth_line) (depths_settled e_one ones)) (ap (flat_map depth_line) (coverage_is e_two twos)) (ap (flat_map depth_line) (depths_settled e_two twos))
       (ap (flat_map depth_line) (coverage_is (e_one ++ e_two) (ones ++ twos))) (ap (flat_map depth_line) (depths_settled (e_one ++ e_two) ones)) (ap (flat_map depth_line) (depths_settled (e_one ++ e_two) (ones ++ twos)))
-      (chromosomes_split depth_chrom depth_ends depth_line depths_here depths_named depths_first depths_second e_one e_two own.distinct ones twos own.in_one own.in_two (depths_begin e_one ones own.taken))
+      (chromosomes_split depth_chrom depth_ends depth_line depths_here depths_named depths_first depths_second e_one e_two own.distinct own.in_one own.in_two (depths_begin e_one ones own.taken))
 
 -- ---- merged runs
 
@@ -287,9 +285,7 @@ module _ (d : ℕ) where
         → Splits (pooled_written (rank_order (genome_names e_one)) d strand) (pooled_written (rank_order (genome_names e_two)) d strand) (pooled_written (rank_order (genome_names (e_one ++ e_two))) d strand) ones twos
     pooled_own e_one e_two ones twos own =
         let both = genome_names (e_one ++ e_two) in
-        let W : List (List ℕ) → Written Feature = λ names. pooled_written (rank_order names) d strand in
-        splits_as (W (genome_names e_one)) (W (genome_names e_two)) (W both) (W both) (W both) (W both) ones twos
-        (ap interval_lines (runs_as (genome_names e_one) both ones own.taken.placed own.first_placed)) (settled_as (genome_names e_one) both ones own.taken.placed own.first_placed)
+        splits_as (ap interval_lines (runs_as (genome_names e_one) both ones own.taken.placed own.first_placed)) (settled_as (genome_names e_one) both ones own.taken.placed own.first_placed)
         (ap interval_lines (runs_as (genome_names e_two) both twos own.placed own.second_placed)) (settled_as (genome_names e_two) both twos own.placed own.second_placed)
         refl refl refl
         (pooled_split d strand (rank_order both) (ranks_total both) ones twos own.first_placed own.second_placed own.taken.full own.early)

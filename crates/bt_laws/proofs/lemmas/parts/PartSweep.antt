@@ -103,7 +103,7 @@ pub record AreSplit (order : Order) (total : IsTotal order) (aones atwos bones b
   pub apart_first : AllByRecursion (λ a. AllByRecursion (λ b. bytes_eq a.chrom b.chrom ≡ false) btwos) aones
   pub apart_second : AllByRecursion (λ a. AllByRecursion (λ b. bytes_eq a.chrom b.chrom ≡ false) bones) atwos
 
-module _ (order : Order) (total : IsTotal order) (shape : Shape) (rule : HitRule) (aones atwos bones btwos : List Feature) (split : AreSplit order total aones atwos bones btwos) where
+module _ {order : Order} {total : IsTotal order} (shape : Shape) (rule : HitRule) {aones atwos bones btwos : List Feature} (split : AreSplit order total aones atwos bones btwos) where
   none_second : AllByRecursion (λ a. AllByRecursion (λ b. decides order a b ≡ false) bones) atwos
   none_second = grind (arith, all_so, (all_swapped (λ b a. order.compare b.chrom a.chrom ≡ Less) bones atwos split.second_first))
 

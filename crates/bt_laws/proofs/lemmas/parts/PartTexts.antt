@@ -125,7 +125,7 @@ module _ (order : Order) (total : IsTotal order) where
         }
 
     pub pair_joins : Joins (pair_report shape rule a_one b_one) (pair_report shape rule a_two b_two) (pair_report shape rule (a_one ++ a_two) (b_one ++ b_two))
-    pair_joins = sweep_joins order total shape rule (text_records First a_one) (text_records First a_two) (text_records Second b_one) (text_records Second b_two) split _ _ _ _ _ _ _ _
+    pair_joins = sweep_joins shape rule split _ _ _ _ _ _ _ _
         (together _ (bed_text_good First a_one) (bed_text_good First a_two) (bed_text_good First (a_one ++ a_two)) (bed_joint order total a_one a_two parts.0 First a_ends))
         (together _ (bed_text_good Second b_one) (bed_text_good Second b_two) (bed_text_good Second (b_one ++ b_two)) (bed_joint order total b_one b_two parts.3 Second b_ends))
 

@@ -198,12 +198,12 @@ ends : (x : List ℕ) (xs : Names) → EndsWith (x ∷ xs)
 ends x [] = record { front = []; last = x; is = refl }
 ends x (y ∷ ys) = let more = ends y ys in record { front = x ∷ more.front; last = more.last; is = ap (λ l. x ∷ l) more.is }
 
-module _ (t : Feature → Bool) (rs ss both : List Feature) (permuted : IsPermutation (rs ++ ss) both) where
+module _ (t : Feature → Bool) (rs ss : List Feature) {both : List Feature} (permuted : IsPermutation (rs ++ ss) both) where
   -- a sequence has the records of both
   both_by : (q : Feature → Bool) → list_any q both ≡ (list_any q rs || list_any q ss)
   both_by q = sym (list_any-IsPermutation q (rs ++ ss) both permuted) ∙ list_any-append q rs ss
 
-  module _ (names : Names) (ones : AllByRecursion (NamesOne names) both) (one : is_some (leave (Some names) None rs) ≡ true) (two : is_some (leave (Some names) None ss) ≡ true) (all : is_some (leave (Some names) None both) ≡ true) where
+  module _ {names : Names} (ones : AllByRecursion (NamesOne names) both) (one : is_some (leave (Some names) None rs) ≡ true) (two : is_some (leave (Some names) None ss) ≡ true) (all : is_some (leave (Some names) None both) ≡ true) where
     -- of a name that a record has
     some_own : (front : Names) (n : List ℕ) (more : Names) → names ≡ front ++ n ∷ more → list_any (is_on n) both ≡ true
         → list_any t (own_records (front ++ n ∷ []) both) ≡ (list_any t (own_records (front ++ n ∷ []) rs) || list_any t (own_records (front ++ n ∷ []) ss))
@@ -228,6 +228,6 @@ by_sorted how full inputs other both chromosomes keeps ones one two three permut
     let names = names_of lines in
     by_both how full inputs other both chromosomes keeps one two three
     (all_so (λ (line : SequenceLine). (more : Names) × (names ≡ line.names ++ more)) (λ line. (p : ℕ) → line.before ≤ p → p < bases_up_to line → is_masked both line p ≡ (is_masked inputs line p || is_masked other line p)) lines
-    (λ line begins p from to. both_own (covers p) (bed_records inputs) (bed_records other) (bed_records both) permuted names ones
+    (λ line begins p from to. both_own (covers p) (bed_records inputs) (bed_records other) permuted ones
     (all_owned how full inputs chromosomes one) (all_owned how full (with_bed inputs other) chromosomes two) (all_owned how full (with_bed inputs both) chromosomes three) line.names begins.0 begins.1)
     (names_begin full First (lines_handed inputs.first)))

@@ -221,10 +221,10 @@ pairs_in ones = bit_and (ones * 10 + ones / 256) 71777214294589695
 abbrev pub value_in : ℕ → ℕ
 value_in pairs = (pairs * 100 + pairs / 65536) % 65536 * 10000 + (pairs * 100 + pairs / 65536) / 4294967296 % 65536
 
-value_eight : (a b c d e f g h ones : ℕ) → a ≤ 9 → b ≤ 9 → c ≤ 9 → d ≤ 9 → e ≤ 9 → f ≤ 9 → g ≤ 9 → h ≤ 9
+value_eight : {a b c d e f g h ones : ℕ} → a ≤ 9 → b ≤ 9 → c ≤ 9 → d ≤ 9 → e ≤ 9 → f ≤ 9 → g ≤ 9 → h ≤ 9
     → ones ≡ worth (a ∷ b ∷ c ∷ d ∷ e ∷ f ∷ g ∷ h ∷ [])
     → value_in (pairs_in ones) ≡ a * 10000000 + b * 1000000 + c * 100000 + d * 10000 + e * 1000 + f * 100 + g * 10 + h
-value_eight a b c d e f g h ones i j k l m n o p is =
+value_eight {a} {b} {c} {d} {e} {f} {g} {h} {ones} i j k l m n o p is =
     let pairs : ones * 10 + ones / 256 ≡ worth ((10 * a + b) ∷ (10 * b + c) ∷ (10 * c + d) ∷ (10 * d + e) ∷ (10 * e + f) ∷ (10 * f + g) ∷ (10 * g + h) ∷ (10 * h) ∷ []) = omega arith in
     grind (arith, four_bytes)
 
@@ -249,7 +249,7 @@ small_digit byte low high = omega arith
 value_of_eight : (a b c d e f g h : ℕ) → AreWithin 48 57 (a ∷ b ∷ c ∷ d ∷ e ∷ f ∷ g ∷ h ∷ [])
     → value_in (pairs_in (ones_in (a ∷ b ∷ c ∷ d ∷ e ∷ f ∷ g ∷ h ∷ []))) ≡ digits_value 10 (a ∷ b ∷ c ∷ d ∷ e ∷ f ∷ g ∷ h ∷ [])
 value_of_eight a b c d e f g h (a1, a2, (b1, b2, (c1, c2, (d1, d2, (e1, e2, (f1, f2, (g1, g2, (h1, h2, none)))))))) =
-    value_eight (a - 48) (b - 48) (c - 48) (d - 48) (e - 48) (f - 48) (g - 48) (h - 48) _
+    value_eight
     (small_digit a a1 a2) (small_digit b b1 b2) (small_digit c c1 c2) (small_digit d d1 d2) (small_digit e e1 e2) (small_digit f f1 f2) (small_digit g g1 g2) (small_digit h h1 h2)
     (ones_lowered (a ∷ b ∷ c ∷ d ∷ e ∷ f ∷ g ∷ h ∷ []) refl (a1, a2, (b1, b2, (c1, c2, (d1, d2, (e1, e2, (f1, f2, (g1, g2, (h1, h2, none)))))))))
     ∙ rw (digit_at a a1 a2, digit_at b b1 b2, digit_at c c1 c2, digit_at d d1 d2, digit_at e e1 e2, digit_at f f1 f2, digit_at g g1 g2, digit_at h h1 h2)

@@ -1,5 +1,5 @@
 -- Lemmas on the number that a text denotes.
-use Rattle.bt_lines.proofs.Std.{common_steps, [], ◌∷◌, ◌≡◌, ℕ, ◌+◌, ◌-◌, ◌*◌, ◌<◌, ◌≤◌, Bool, true, false, ◌&&◌, List, length, take, drop, get_or, Some, None, refl, ap, arith, ltb, leb, cond, map, ◌^◌, pow-suc, add-one, pow-le-pow_right, take-append-drop, map-append, take_all, list_all_more, list_all_at, and_parts, digits_value-lt, digits_value_is, digits_value_more, number_after_append, number_after_ge, list_all, is_ascii_digit, digit_value, AllDigits, digits_value, ◌||◌, not, replicate, bit_or, take-length, prefix_len-le-length, prefix_len_stops, or_block, trailing_mask_l, prefix_len, chunk, mask_l}
+use Rattle.bt_lines.proofs.Std.{common_steps, [], ◌∷◌, ◌≡◌, ℕ, ◌+◌, ◌-◌, ◌*◌, ◌<◌, ◌≤◌, Bool, true, false, ◌&&◌, List, length, take, drop, get_or, Some, None, refl, ap, arith, cond, map, ◌^◌, pow-suc, add-one, pow-le-pow_right, take-append-drop, map-append, take_all, list_all_more, list_all_at, and_parts, digits_value-lt, digits_value_is, digits_value_more, number_after_append, number_after_ge, list_all, is_ascii_digit, digit_value, AllDigits, digits_value, ◌||◌, not, replicate, bit_or, take-length, prefix_len-le-length, prefix_len_stops, or_block, trailing_mask_l, prefix_len, chunk, mask_l}
 use Rattle.bt_lines.specs.model.Lines.{value_of}
 use Rattle.bt_lines.specs.inside.Digits.{is_other}
 use lib.Count.{count_trailing_zeros}

@@ -126,7 +126,7 @@ module _ {T S : Type 0} (e : Walked T S) (Own : Entry → List Feature → ℕ �
       step_on same up =
           let on : is_on entries (Some place) r.chrom ≡ true = name_eq _ r.chrom (ap (λ (e : Entry). e.name) is ∙ s.stand.is ∙ sym same) in
           arrive past r (Some place) place before key after [] rank (going_on e.walk entries (Some place) r.chrom on)
-          (goes_on (form_of e) Own entries owes t.distinct past r before key after place.known s same up (full_last past r t.full))
+          (goes_on (form_of e) Own entries owes t.distinct r s same up (full_last past r t.full))
 
       -- on a later one
       step_to : GoesTo name_at entries (intervals_of past) (interval_of r) before key after → Steps past r (Some place)
@@ -137,13 +137,12 @@ module _ {T S : Type 0} (e : Walked T S) (Own : Entry → List Feature → ℕ �
           let next : Place S = record { rank = k; known = e.walk.fresh } in
           let first = e.walk.left key place.known ++ flat_map e.walk.bare g.middle in
           let goes : going e.walk entries (Some place) r.chrom ≡ (Some next, first) = going_to e.walk entries (Some place) r.chrom (Some k) off (sym g.rank) ∙ ap₂ (λ (key : Entry) (es : List Entry). (Some next, e.walk.left key place.known ++ flat_map e.walk.bare es)) is slice in
-          arrive past r (Some place) next (before ++ key ∷ g.middle) g.next g.behind first refl goes
-          (goes_to (form_of e) Own entries owes t.distinct past r before key after place.known s g (full_last past r t.full))
+          arrive past r (Some place) next (before ++ key ∷ g.middle) g.next g.behind first refl goes (goes_to (form_of e) Own entries owes t.distinct r s g (full_last past r t.full))
 
     pub steps : (past : List Feature) (r : Feature) (current : Option (Place S)) → AreTaken entries (past ++ r ∷ []) → Held past current → Steps past r current
     steps past r None t none = subst (λ (l : List Feature). Steps l r None) (sym none) (step_first r (subst (λ (l : List Feature). AreTaken entries (l ++ r ∷ [])) none t))
     steps past r (Some place) t (before, key, after, s, rank) =
-        elim (goes_next (form_of e) Own entries owes t.distinct past r before key after place.known s (in_order entries (past ++ r ∷ []) t)) [
+        elim (goes_next (form_of e) Own entries owes t.distinct r s (in_order entries (past ++ r ∷ []) t)) [
           | inl same ↦ step_on past r t place before key after s rank same.0 same.1
           | inr g ↦ step_to past r t place before key after s rank g
         ]

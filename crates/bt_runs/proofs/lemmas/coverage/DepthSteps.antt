@@ -255,48 +255,60 @@ module _ (entries : List Entry) (current : Option (Place Known)) (name : List �
   pub off_here : (is_known : Bool) → is_known ≡ false → IsOnBy is_known entries current name size chrom → IsOnBy false entries current name size chrom
   off_here is_known is on = grind arith
 
-module _ (old : Covering) (place : Place Known) (reached : old.current ≡ Some place) (placed : IsPlaced old.entries place.rank) (chrom : List ℕ) (size : ℕ)
-    (named : (entry_at old.entries place.rank).name ≡ chrom) (sized : (entry_at old.entries place.rank).length ≡ size)
-    (r : Feature) (on : is_on old.entries old.current r.chrom ≡ true) (bounds : Bounds) (starts : r.start ≡ bounds.start) (stops : r.stop ≡ bounds.stop)
-    (counted : Bool) (counts : is_counted_by old.strand r.strand ≡ counted) (out : Output) where
+-- a record comes next, of these bounds, and counted or not
+pub record IsNext (strand : Option Strand) (r : Feature) (bounds : Bounds) (counted : Bool) : Type 0 where
+  pub starts : r.start ≡ bounds.start
+  pub stops : r.stop ≡ bounds.stop
+  pub counts : is_counted_by strand r.strand ≡ counted
+
+-- a record lies on the chromosome that a coverage has reached
+pub record IsOnReached (old : Covering) (place : Place Known) (chrom : List ℕ) (size : ℕ) (r : Feature) : Type 0 where
+  pub reached : old.current ≡ Some place
+  pub placed : IsPlaced old.entries place.rank
+  pub named : (entry_at old.entries place.rank).name ≡ chrom
+  pub sized : (entry_at old.entries place.rank).length ≡ size
+  pub on : is_on old.entries old.current r.chrom ≡ true
+
+module _ {old : Covering} {place : Place Known} {chrom : List ℕ} {size : ℕ} {r : Feature} (there : IsOnReached old place chrom size r)
+    {bounds : Bounds} {counted : Bool} (next : IsNext old.strand r bounds counted) (out : Output) where
   step_is : depth_step old r ≡ (Some (record { rank = place.rank; known = known_by old.zeros counted size place.known (max bounds.start place.known.to) bounds.stop }), levels_on chrom (levels_by old.zeros size place.known (max bounds.start place.known.to)))
-  step_is = step_here old r place reached on ∙ rw (named, sized, counts, starts, stops) refl
+  step_is = step_here old r place there.reached there.on ∙ rw (there.named, there.sized, next.counts, next.starts, next.stops) refl
 
   to_keep : (counted ≡ true) × (bounds.start < size) → wants_memory old r
   to_keep is =
-      let here = rw reached at on in
-      let ranked : rank_of (genome_names old.entries) r.chrom ≡ Some place.rank = ap (rank_of (genome_names old.entries)) (sym (same_name (entry_at old.entries place.rank).name r.chrom here)) ∙ placed.named in
-      (counts ∙ is.0, rw (starts, size_ranked old.entries r.chrom place.rank ranked, sized) is.1)
+      let here = rw there.reached at there.on in
+      let ranked : rank_of (genome_names old.entries) r.chrom ≡ Some place.rank = ap (rank_of (genome_names old.entries)) (sym (same_name (entry_at old.entries place.rank).name r.chrom here)) ∙ there.placed.named in
+      (next.counts ∙ is.0, rw (next.starts, size_ranked old.entries r.chrom place.rank ranked, there.sized) is.1)
 
   -- it couldn't be
-  pub counts_err : (failure : Failure) (fault : Fault) (new : Covering) (held : OpenAt) (grown : Output) → fault_value fault ≡ fault_of failure → CountAnswers chrom (levels_by old.zeros size place.known (max bounds.start place.known.to)) (known_by old.zeros counted size place.known (max bounds.start place.known.to) bounds.stop) (Err failure) held out grown
+  pub counts_err : (failure : Failure) (fault : Fault) (new : Covering) (held : OpenAt) {grown : Output} → fault_value fault ≡ fault_of failure → CountAnswers chrom (levels_by old.zeros size place.known (max bounds.start place.known.to)) (known_by old.zeros counted size place.known (max bounds.start place.known.to) bounds.stop) (Err failure) held out grown
       → (failure ≡ Memory → (counted ≡ true) × (bounds.start < size)) → Does depth_rule old r out (Err fault) new grown
-  counts_err Write fault new held grown is cut want = inl (rw (step_is, is) cut)
-  counts_err Memory fault new held grown is puts want = inr (is, (to_keep (want refl), rw step_is puts))
+  counts_err Write fault new held is cut want = inl (rw (step_is, is) cut)
+  counts_err Memory fault new held is puts want = inr (is, (to_keep (want refl), rw step_is puts))
 
 -- the same for the place that the code has
-module _ (table : List Entry) (zeros : Bool) (strand : Option Strand) (is_known : Bool) (name : List ℕ) (size : ℕ) (on : CurrentChrom) (here : on.is_known ≡ true)
-    (r : Feature) (bounds : Bounds) (starts : r.start ≡ bounds.start) (stops : r.stop ≡ bounds.stop) (counted : Bool) (counts : is_counted_by strand r.strand ≡ counted) (out grown : Output) where
+module _ (base : Covering) (on : CurrentChrom) (here : on.is_known ≡ true) {r : Feature} {bounds : Bounds} {counted : Bool} (next : IsNext base.strand r bounds counted) (out grown : Output) where
   -- a coverage with these open records
   abbrev pub covering : Option DepthCursor → OpenAt → Covering
-  covering current held = record { entries = table; zeros = zeros; strand = strand; current = seen current held; is_known = is_known; name = name; length = size }
+  covering current held = record base { current = seen current held }
 
   abbrev pub ended_with : Option OpenInterval → CurrentChrom
   ended_with begun = record { is_known = on.is_known; name = on.name; length = on.length; begun = begun }
 
-  pub step_ok : (current : Option DepthCursor) (held : OpenAt) → AreReached table (seen current held) → IsOnChrom (with_chrom (covering current held) on) r.chrom → (begun : Option OpenInterval) (now_held : OpenAt)
-      → CountAnswers on.name.now (levels_by zeros on.length (known_seen on.begun held) (max bounds.start held.at)) (known_by zeros counted on.length (known_seen on.begun held) (max bounds.start held.at) bounds.stop) (Ok begun) now_held out grown
+  pub step_ok : (current : Option DepthCursor) (held : OpenAt) → AreReached base.entries (seen current held) → IsOnChrom (with_chrom (covering current held) on) r.chrom → (begun : Option OpenInterval) (now_held : OpenAt)
+      → CountAnswers on.name.now (levels_by base.zeros on.length (known_seen on.begun held) (max bounds.start held.at)) (known_by base.zeros counted on.length (known_seen on.begun held) (max bounds.start held.at) bounds.stop) (Ok begun) now_held out grown
       → Does depth_rule (with_chrom (covering current held) on) r out (Ok tt) (with_chrom (covering current now_held) (ended_with begun)) grown
   step_ok current held placed lies begun now_held c = grind arith
 
-  pub step_err : (current : Option DepthCursor) (held : OpenAt) → AreReached table (seen current held) → IsOnChrom (with_chrom (covering current held) on) r.chrom → (failure : Failure) (fault : Fault) (new : Covering) (now_held : OpenAt) → fault_value fault ≡ fault_of failure
-      → CountAnswers on.name.now (levels_by zeros on.length (known_seen on.begun held) (max bounds.start held.at)) (known_by zeros counted on.length (known_seen on.begun held) (max bounds.start held.at) bounds.stop) (Err failure) now_held out grown
+  pub step_err : (current : Option DepthCursor) (held : OpenAt) → AreReached base.entries (seen current held) → IsOnChrom (with_chrom (covering current held) on) r.chrom → {failure : Failure} (fault : Fault) (new : Covering) (now_held : OpenAt) → fault_value fault ≡ fault_of failure
+      → CountAnswers on.name.now (levels_by base.zeros on.length (known_seen on.begun held) (max bounds.start held.at)) (known_by base.zeros counted on.length (known_seen on.begun held) (max bounds.start held.at) bounds.stop) (Err failure) now_held out grown
       → (failure ≡ Memory → (counted ≡ true) × (bounds.start < on.length)) → Does depth_rule (with_chrom (covering current held) on) r out (Err fault) new grown
-  step_err None held placed lies failure fault new now_held is c want = absurd (on_here table None on.name.now on.length r.chrom on.is_known here lies).1
-  step_err (Some reached) held placed lies failure fault new now_held is c want =
+  step_err None held placed lies fault new now_held is c want = absurd (on_here base.entries None on.name.now on.length r.chrom on.is_known here lies).1
+  step_err (Some reached) held placed lies {failure} fault new now_held is c want =
       let place = place_seen (record { rank = reached.rank; begun = on.begun }) held in
-      let l = on_here table (Some place) on.name.now on.length r.chrom on.is_known here lies in
-      counts_err (with_chrom (covering (Some reached) held) on) place refl placed on.name.now on.length l.1.0 l.1.1 r l.0 bounds starts stops counted counts out failure fault new now_held grown is c want
+      let l = on_here base.entries (Some place) on.name.now on.length r.chrom on.is_known here lies in
+      let there : IsOnReached (with_chrom (covering (Some reached) held) on) place on.name.now on.length r = record { reached = refl; placed = placed; named = l.1.0; sized = l.1.1; on = l.0 } in
+      counts_err there next out failure fault new now_held is c want
 
 -- what is known of a chromosome changes nothing of where it lies
 pub stays_on : (table : List Entry) (current : Option DepthCursor) (held now_held : OpenAt) (begun now_begun : Option OpenInterval) (is_known : Bool) (name : List ℕ) (size : ℕ) (chrom : List ℕ)

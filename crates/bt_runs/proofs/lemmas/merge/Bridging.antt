@@ -54,8 +54,9 @@ unfolding is_bridged
 is_bridged-Decides gap spans p =
     Decides-like (some_below (p + 1) (λ left. is_covered spans left && some_below (left + gap + 2) (λ right. is_covered spans right && nat_le p right)))
     (grind arith)
-    (bridged_to gap spans p)
-    (some_below-Decides (λ left. is_covered spans left && some_below (left + gap + 2) (λ right. is_covered spans right && nat_le p right)) (λ left. IsCovered spans left × HasRight gap spans p left) (λ left. Decides-and (is_covered spans left) (some_below (left + gap + 2) (λ right. is_covered spans right && nat_le p right)) (is_covered-Decides spans left) (HasRight-Decides gap spans p left)) (p + 1))
+    (bridged_to gap spans p) (some_below-Decides (λ left. is_covered spans left && some_below (left + gap + 2) (λ right. is_covered spans right && nat_le p right))
+    (λ left. IsCovered spans left × HasRight gap spans p left)
+    (λ left. Decides-and (is_covered spans left) (some_below (left + gap + 2) (λ right. is_covered spans right && nat_le p right)) (is_covered-Decides spans left) (HasRight-Decides gap spans p left)) (p + 1))
 
 pub covered_below_end : (xs : List Span) (p : ℕ) → IsCovered xs p → p < end_of xs
 covered_below_end [] p c = absurd c

@@ -109,17 +109,17 @@ module _ (old : Stranding) (r : Feature) (out : Output) (runs : List PendingRun)
   added : Added old.gap old.chrom r left joined.0 joined.1
   added = added_by old.gap old.chrom r left joined.0 joined.1 refl (inl here_is)
 
-  pub takes_left : (now : List PendingRun) (new : Stranding) (grown : Output) → JoinsAmong old.chrom near runs (pending_from r) out (Ok false) now grown → new.gap ≡ old.gap → new.chrom ≡ old.chrom → new.kept ≡ placed_runs old.chrom now → TakesNext old r out (Ok tt) new grown
-  takes_left now new grown p gap chrom kept = takes_with new grown gap chrom ((grind (arith, added, map-append)) ∙ sym kept) p.1
+  pub takes_left : {now : List PendingRun} {new : Stranding} {grown : Output} → JoinsAmong old.chrom near runs (pending_from r) out (Ok false) now grown → new.gap ≡ old.gap → new.chrom ≡ old.chrom → new.kept ≡ placed_runs old.chrom now → TakesNext old r out (Ok tt) new grown
+  takes_left {new} {grown} p gap chrom kept = takes_with new grown gap chrom ((grind (arith, added, map-append)) ∙ sym kept) p.1
 
-  pub takes_alone : (now : List PendingRun) (new : Stranding) (grown : Output) → JoinsAmong old.chrom near runs (pending_from r) out (Ok true) now grown → new.gap ≡ old.gap → new.chrom ≡ old.chrom → new.kept ≡ placed_run old.chrom (pending_from r) ∷ [] → TakesNext old r out (Ok tt) new grown
-  takes_alone now new grown p gap chrom kept =
+  pub takes_alone : {now : List PendingRun} {new : Stranding} {grown : Output} → JoinsAmong old.chrom near runs (pending_from r) out (Ok true) now grown → new.gap ≡ old.gap → new.chrom ≡ old.chrom → new.kept ≡ placed_run old.chrom (pending_from r) ∷ [] → TakesNext old r out (Ok tt) new grown
+  takes_alone {new} {grown} p gap chrom kept =
       takes_with new grown gap chrom
       (ap (λ rest. with_added old.gap (placed_runs old.chrom rest) r) p.0 ∙ ap (λ n. placed_run n (pending_from r) ∷ []) (sym on) ∙ sym kept)
       p.1.1
 
-  pub fails_among : (failure : Failure) (fault : Fault) (now : List PendingRun) (new : Stranding) (grown : Output) → fault_value fault ≡ fault_of failure → JoinsAmong old.chrom near runs (pending_from r) out (Err failure) now grown → TakesNext old r out (Err fault) new grown
-  fails_among failure fault now new grown is p = grind (arith, behind_is, added, lines_is)
+  pub fails_among : (failure : Failure) (fault : Fault) (now : List PendingRun) (new : Stranding) {grown : Output} → fault_value fault ≡ fault_of failure → JoinsAmong old.chrom near runs (pending_from r) out (Err failure) now grown → TakesNext old r out (Err fault) new grown
+  fails_among failure fault now new is p = grind (arith, behind_is, added, lines_is)
 
 -- the only run couldn't be written
 pub fails_alone : (old : Stranding) (r : Feature) (out : Output) (w : PendingRun) → old.kept ≡ placed_run old.chrom w ∷ [] → old.chrom ≡ r.chrom → w.stop < r.start - old.gap

@@ -250,10 +250,10 @@ pub record Whole (gap : ℕ) (strand : MergeStrand) (past : List Feature) : Type
 
 module _ (gap : ℕ) (strand : MergeStrand) where
   -- from what was open before the record, and what is open with it
-  next_by : (names : List (List ℕ)) (distinct : AreDistinct (map (λ name. name) names)) (past : List Feature) (r : Feature) (kept : List Interval) → kept_runs gap strand past ≡ kept
-      → (items : List Interval) (before : List (List ℕ)) (key : List ℕ) (after : List (List ℕ)) (now : List Interval) → Written (form gap strand) (At gap strand) names past → Written (form gap strand) (At gap strand) names (past ++ r ∷ [])
+  next_by : {names : List (List ℕ)} (distinct : AreDistinct (map (λ name. name) names)) {past : List Feature} {r : Feature} {kept : List Interval} → kept_runs gap strand past ≡ kept
+      → {items : List Interval} {before : List (List ℕ)} {key : List ℕ} {after : List (List ℕ)} {now : List Interval} → Written (form gap strand) (At gap strand) names past → Written (form gap strand) (At gap strand) names (past ++ r ∷ [])
       → Moves (form gap strand) (At gap strand) names past r items before key after now → items ≡ settled_by gap kept (interval_of r) → now ≡ kept_by gap strand kept r → Next gap strand past r
-  next_by names distinct past r kept was items before key after now w_past w m settles keeps = record {
+  next_by {names} distinct {past} {r} was {before} {key} {after} {now} w_past w m settles keeps = record {
     settles = m.settles w_past w ∙ ap (λ runs. settled_runs gap strand past ++ runs) (settles ∙ ap (λ runs. settled_by gap runs (interval_of r)) (sym was));
     keeps = kept_is gap strand names distinct (past ++ r ∷ []) before key after now m.here w ∙ keeps ∙ ap (λ runs. kept_by gap strand runs r) (sym was);
   }
@@ -264,7 +264,7 @@ module _ (gap : ℕ) (strand : MergeStrand) where
     next_from [] r o was w b =
         let first = begins_at (λ name. name) names distinct (interval_of r) o.placed in
         let f = first.1 in
-        next_by names distinct [] r [] (none_kept gap strand) _ f.before f.key f.after _ was w
+        next_by distinct (none_kept gap strand) was w
         (goes_first (form gap strand) (At gap strand) names (owes gap strand (map (λ name. name) names)) distinct r f.before f.key f.after first.3 (full_last [] r o.full))
         (ap (λ runs. runs ++ []) (none_bare gap strand f.before)) refl
     next_from (q ∷ qs) r o was w b =
@@ -274,14 +274,12 @@ module _ (gap : ℕ) (strand : MergeStrand) where
         let debts = owes gap strand (map (λ name. name) names) in
         let full = full_last past r o.full in
         let held = kept_is gap strand names distinct past b.before b.key b.after b.state s was in
-        elim (goes_next (form gap strand) (At gap strand) names debts distinct past r b.before b.key b.after b.state s o) [
+        elim (goes_next (form gap strand) (At gap strand) names debts distinct r s o) [
           | inl same ↦
-              next_by names distinct past r b.state held _ b.before b.key b.after _ was w
-              (goes_on (form gap strand) (At gap strand) names debts distinct past r b.before b.key b.after b.state s same.0 same.1 full) refl refl
+              next_by distinct held was w (goes_on (form gap strand) (At gap strand) names debts distinct r s same.0 same.1 full) refl refl
           | inr g ↦
               let passed = gone gap b.key _ s.last.start s.done b.state x g.other s.at in
-              next_by names distinct past r b.state held _ (b.before ++ b.key ∷ g.middle) g.next g.behind _ was w
-              (goes_to (form gap strand) (At gap strand) names debts distinct past r b.before b.key b.after b.state s g full)
+              next_by distinct held was w (goes_to (form gap strand) (At gap strand) names debts distinct r s g full)
               (append-nil (b.state ++ bares (form gap strand) g.middle) ∙ ap (λ runs. b.state ++ runs) (none_bare gap strand g.middle) ∙ append-nil b.state ∙ sym passed.0)
               (ap (λ left. cond (is_counted strand r.strand) (with_record left x) left) (sym passed.1))
         ]

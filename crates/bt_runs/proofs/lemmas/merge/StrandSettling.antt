@@ -340,10 +340,10 @@ pub line_more : {A : Type 0} (chrom : List ℕ) (done : List PendingRun) (w : Pe
 line_more chrom done w old mid new result p q = grind (arith, common_steps, adds_lines)
 
 -- the lines of more runs are cut off there
-pub line_cut : (A : Type 0) (chrom : List ℕ) (here : Bool) (reach : ℕ) (runs now : List PendingRun) (w : PendingRun) (old mid new : Output) (e : Fault) (p : Written here reach runs now) → slice_get now 0 ≡ Some w → is_over here reach w ≡ true
+pub line_cut : (A : Type 0) (chrom : List ℕ) {here : Bool} {reach : ℕ} {runs now : List PendingRun} {w : PendingRun} {old mid new : Output} (e : Fault) (p : Written here reach runs now) → slice_get now 0 ≡ Some w → is_over here reach w ≡ true
     → Grown old (strand_lines (placed_runs chrom p.done)) mid → Puts {A = A} mid (interval_line (placed_run chrom w).run) (Err e) new
     → Adds {A = A} old (strand_lines (placed_runs chrom (passed_runs here reach runs))) (Err e) new
-line_cut A chrom here reach runs now w old mid new e p is t grown q =
+line_cut A chrom {here} {reach} {runs} {now} {w} {old} {mid} {new} e p is t grown q =
     let next = next_written here reach runs now w is t p in
     let rest = passed_runs here reach (drop 1 now) in
     rw next.front (rw (placed-append chrom (p.done ++ w ∷ []) rest) (cut_lines interval_line old new (places_of (placed_runs chrom (p.done ++ w ∷ []))) (places_of (placed_runs chrom rest)) _ (line_more {A = A} chrom p.done w old mid new (Err e) grown q)))

@@ -39,7 +39,7 @@ module _ (old : Unstranded) where
   finishes_kept out result grown p = grind (arith, whole_taken, flat_map-append)
 
 -- another chromosome is entered
-module _ (old : Unstranded) (run : OpenRun) (is : kept_at old.chrom run ≡ old.kept) (out : Output) (name : List ℕ) (apart : bytes_eq old.chrom name ≡ false) where
+module _ (old : Unstranded) (run : OpenRun) (is : kept_at old.chrom run ≡ old.kept) (out : Output) {name : List ℕ} (apart : bytes_eq old.chrom name ≡ false) where
   passes : (r : Feature) → r.chrom ≡ name → (lines_by old r ≡ interval_lines old.kept) × (left_by old.gap old.kept (interval_of r) ≡ [])
   passes r at = grind arith
 

@@ -185,8 +185,8 @@ module _ {K T S : Type 0} (f : Form K T S) (At : K → List Feature → ℕ → 
         whole_left w = w.whole_is ∙ ap (parts f past) s.stand.split ∙ parts_to after s.stand.none_after ∙ ap (λ l. l ++ (f.left key state ++ bares f after)) (sym (settled_here w))
 
       -- a record arrives on a chromosome, of which this is open
-      module _ (past : List Feature) (r : Feature) (before : List K) (key : K) (after : List K) (a : Arrives f.name keys (intervals_of past) (interval_of r) before key after)
-          (start : ℕ) (done : List T) (state : S) (at : At key past start done state) (up : start ≤ r.start) (full : r.start < r.stop) where
+      module _ {past : List Feature} {r : Feature} {before : List K} {key : K} {after : List K} (a : Arrives f.name keys (intervals_of past) (interval_of r) before key after)
+          {start : ℕ} {done : List T} {state : S} (at : At key past start done state) (up : start ≤ r.start) (full : r.start < r.stop) where
         arrived : (items : List T) → (Written past → parts f past before ++ done ≡ f.settled past ++ items) → Moves past r (items ++ f.step key state r) before key after (f.after key state r)
         arrived items was =
             let here : Standing (past ++ r ∷ []) before key after (f.after key state r) = record {
@@ -209,14 +209,14 @@ module _ {K T S : Type 0} (f : Form K T S) (At : K → List Feature → ℕ → 
       pub goes_first : (r : Feature) (before : List K) (key : K) (after : List K) → Arrives f.name keys [] (interval_of r) before key after → r.start < r.stop
           → Moves [] r (bares f before ++ f.step key f.fresh r) before key after (f.after key f.fresh r)
       goes_first r before key after a full =
-          arrived [] r before key after a 0 [] f.fresh (owes.none key [] refl).begins (omega arith) full (bares f before)
+          arrived a (owes.none key [] refl).begins (omega arith) full (bares f before)
           (λ w. append-nil (parts f [] before) ∙ parts_none [] before (none_at_first f.name before) ∙ ap (λ l. l ++ bares f before) (sym owes.nothing))
 
-      module _ (past : List Feature) (r : Feature) (before : List K) (key : K) (after : List K) (state : S) (s : Standing past before key after state) where
+      module _ {past : List Feature} (r : Feature) {before : List K} {key : K} {after : List K} {state : S} (s : Standing past before key after state) where
         -- one on the chromosome of the last
         pub goes_on : r.chrom ≡ s.last.chrom → s.last.start ≤ r.start → r.start < r.stop → Moves past r (f.step key state r) before key after (f.after key state r)
         goes_on same up full =
-            arrived past r before key after (record { split = s.stand.split; is = s.stand.is ∙ sym same; none_after = s.stand.none_after }) s.last.start s.done state s.at up full []
+            arrived (record { split = s.stand.split; is = s.stand.is ∙ sym same; none_after = s.stand.none_after }) s.at up full []
             (λ w. sym (settled_here past before key after state s w) ∙ sym (append-nil (f.settled past)))
 
         -- one on a later chromosome
@@ -225,7 +225,7 @@ module _ {K T S : Type 0} (f : Form K T S) (At : K → List Feature → ℕ → 
         goes_to g full =
             let front = before ++ key ∷ g.middle in
             let more = f.left key state ++ bares f g.middle in
-            arrived past r front g.next g.behind g.arrives 0 [] f.fresh (owes.none g.next past g.none_here).begins (omega arith) full more
+            arrived g.arrives (owes.none g.next past g.none_here).begins (omega arith) full more
             (λ w. append-nil (parts f past front) ∙ parts_to past before key after state s g.middle g.none_between ∙ ap (λ l. l ++ more) (sym (settled_here past before key after state s w)))
 
         -- it is the one or the other
@@ -239,9 +239,9 @@ module _ {K T S : Type 0} (f : Form K T S) (At : K → List Feature → ℕ → 
       turn (q ∷ qs) r o b =
           let past = q ∷ qs in
           let full = full_last past r o.full in
-          elim (goes_next past r b.before b.key b.after b.state b.here o) [
-            | inl same ↦ record { items = _; before = b.before; key = b.key; after = b.after; state = _; moves = goes_on past r b.before b.key b.after b.state b.here same.0 same.1 full }
-            | inr g ↦ record { items = _; before = b.before ++ b.key ∷ g.middle; key = g.next; after = g.behind; state = _; moves = goes_to past r b.before b.key b.after b.state b.here g full }
+          elim (goes_next r b.here o) [
+            | inl same ↦ record { items = _; before = b.before; key = b.key; after = b.after; state = _; moves = goes_on r b.here same.0 same.1 full }
+            | inr g ↦ record { items = _; before = b.before ++ b.key ∷ g.middle; key = g.next; after = g.behind; state = _; moves = goes_to r b.here g full }
           ]
 
       -- so records in order reach some chromosome
@@ -353,7 +353,7 @@ module _ {T : Type 0} (bare : Entry → List T) (entries : List Entry) where
   before_from left current first stop is = grind arith
 
   -- one after another is written, up to one that can't be
-  module _ (line : T → List ℕ) (first rank : ℕ) (low : first ≤ rank) (high : rank < length entries) (old mid new : Output) (grown : Grown old (flat_map line (bares_from first rank)) mid) where
+  module _ (line : T → List ℕ) {first rank : ℕ} (low : first ≤ rank) (high : rank < length entries) {old mid : Output} (new : Output) (grown : Grown old (flat_map line (bares_from first rank)) mid) where
     one_more : {A : Type 0} (result : Result A Fault) → Adds mid (flat_map line (bare (entry_at entries rank))) result new → Adds old (flat_map line (bares_from first (rank + 1))) result new
     one_more result p = grind (arith, flat_map-append, adds_more, slice_more, append-nil)
 

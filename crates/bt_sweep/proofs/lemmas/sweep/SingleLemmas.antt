@@ -159,7 +159,7 @@ module _ {order : Order} {stage : Stage} {old : Sweeping} (st : StandsAt order s
 
   -- ---- a record of the second input
 
-  module _ (total : IsTotal order) (a b : Feature) (waits : stage.waiting ≡ Some a) (known : order.knows a.chrom ≡ true) (ordered : IsInOrder order (with_b stage b)) (empty : single_left from_a ≡ []) (one : single_left from_b ≡ b ∷ []) where
+  module _ (total : IsTotal order) {a b : Feature} (waits : stage.waiting ≡ Some a) (known : order.knows a.chrom ≡ true) (ordered : IsInOrder order (with_b stage b)) (empty : single_left from_a ≡ []) (one : single_left from_b ≡ b ∷ []) where
     some : old.current ≡ Some a
     some = st.current_is ∙ waits
 
@@ -255,8 +255,8 @@ module _ {order : Order} {stage : Stage} {old : Sweeping} (st : StandsAt order s
 
 -- ---- the end of the second input
 
-module _ (order : Order) (stage : Stage) (a : Feature) (old : Sweeping) (st : StandsAt order stage old) (waits : stage.waiting ≡ Some a) (ordered : IsInOrder order stage)
-    (mid : Sweeping) (mid_is : mid ≡ record old { current = None; phase = First }) (from_a from_b : Single) (empty_a : single_left from_a ≡ []) (empty_b : single_left from_b ≡ []) (out : Output) where
+module _ {order : Order} {stage : Stage} {a : Feature} {old : Sweeping} (st : StandsAt order stage old) (waits : stage.waiting ≡ Some a) (ordered : IsInOrder order stage)
+    {mid : Sweeping} (mid_is : mid ≡ record old { current = None; phase = First }) (from_a from_b : Single) (empty_a : single_left from_a ≡ []) (empty_b : single_left from_b ≡ []) (out : Output) where
   given_last : given stage ≡ stage.written ++ a ∷ []
   given_last = ap (λ (o : Option Feature). stage.written ++ option_to_list o) waits
 
@@ -288,9 +288,9 @@ module _ (order : Order) (stage : Stage) (a : Feature) (old : Sweeping) (st : St
   }
 
   module _ {to_a to_b : Single} {grown : Output} where
-    pub ends_b : {final : Sweeping} (waiting : Option Feature) (j : JoinsSo single_cursor (going_on mid.phase single_cursor) (IsThis order) (Settles order mid.phase) mid a from_a from_b [] out waiting final to_a to_b [] grown)
+    pub ends_b : {final : Sweeping} {waiting : Option Feature} (j : JoinsSo single_cursor (going_on mid.phase single_cursor) (IsThis order) (Settles order mid.phase) mid a from_a from_b [] out waiting final to_a to_b [] grown)
         → StopsAt single_cursor (going_on mid.phase single_cursor) waiting to_a to_b → final.current ≡ None → final.phase ≡ mid.phase → EndsB {A = Unit {0}} order stage a old out (Ok tt) final grown
-    ends_b {final} waiting j stops gone phase =
+    ends_b j stops gone phase =
         let no_seconds = single_none from_b to_b j.proceeds.seconds empty_b j.proceeds.gives_seconds in
         let at = place j.proceeds.firsts j.proceeds.seconds (single_none from_a to_a j.proceeds.firsts empty_a j.proceeds.gives_firsts) no_seconds in
         let k = j.goes at in

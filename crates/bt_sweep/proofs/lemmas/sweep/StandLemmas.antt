@@ -88,10 +88,10 @@ module _ {order : Order} {old mid : Sweeping} {first : Feature} {pre : List Feat
   abbrev IsOpen : Option Feature → Type 0
   IsOpen waiting = is_some waiting ≡ true → (stage : Stage) → StandsAt order stage old → (stage.a_ended ≡ false) × (stage.b_ended ≡ false)
 
-  stands_from : (stage : Stage) (firsts seconds newly : List Feature) (waiting : Option Feature) (new final : Sweeping) → StandsAt order stage old
+  stands_from : {stage : Stage} {firsts : List Feature} (seconds newly : List Feature) {waiting : Option Feature} {new final : Sweeping} → StandsAt order stage old
       → Keeps order (stage.written ++ first ∷ firsts) (stage.taken ++ seconds) mid new → first ∷ firsts ≡ newly ++ option_to_list waiting → new.phase ≡ old.phase → final ≡ record new { current = waiting } → IsOpen waiting
       → MovesTo order old (stage_after stage newly final.current seconds) final
-  stands_from stage firsts seconds newly waiting new final st k are phase is goes_on = grind (arith, append_assoc)
+  stands_from seconds newly st k are phase is goes_on = grind (arith, append_assoc)
 
   module _ {A B U R S Q : Type 0} {cursor_a : Cursor A R} {cursor_b : Cursor B S} {cursor_u : Cursor U Q} {from_u to_u : U} {from_a to_a : A} {from_b to_b : B} where
     abbrev proceeds_from : (waiting now : Option Feature) (p : Joined cursor_a (going_on mid.phase cursor_b) (IsThis order) (Settles order mid.phase) mid first from_a from_b waiting to_a to_b)
@@ -115,7 +115,7 @@ module _ {order : Order} {old mid : Sweeping} {first : Feature} {pre : List Feat
       proceeds = proceeds_from waiting final.current j.proceeds gives (ap (λ (n : Sweeping). n.current) (sym is));
       leaves = rw is leaves;
       stands = λ stage st pg pt.
-          stands_from stage j.proceeds.firsts j.proceeds.seconds j.proceeds.newly waiting new final st (j.goes (place_at j.proceeds.firsts j.proceeds.seconds stage st pg pt)) j.proceeds.are same is goes_on;
+          stands_from j.proceeds.seconds j.proceeds.newly st (j.goes (place_at j.proceeds.firsts j.proceeds.seconds stage st pg pt)) j.proceeds.are same is goes_on;
       puts = puts_each j.proceeds.newly j.writes;
     }
 
@@ -137,14 +137,14 @@ module _ {order : Order} {old mid : Sweeping} {first : Feature} {pre : List Feat
 
   module _ {A B U R S Q : Type 0} {cursor_a : Cursor A R} {cursor_b : Cursor B S} (cursor_u : Cursor U Q) {from_u to_u : U} {from_a to_a : A} {from_b to_b : B} {out grown : Output} where
     -- the one that waits is kept, or can't be
-    pub kept_or_not : {T : Type 0} (a : Feature) {new : Sweeping} (j : JoinsSo cursor_a (going_on mid.phase cursor_b) (IsThis order) (Settles order mid.phase) mid first from_a from_b [] out (Some a) new to_a to_b [] grown) → old.current ≡ None
+    pub kept_or_not : {T : Type 0} {a : Feature} {new : Sweeping} (j : JoinsSo cursor_a (going_on mid.phase cursor_b) (IsThis order) (Settles order mid.phase) mid first from_a from_b [] out (Some a) new to_a to_b [] grown) → old.current ≡ None
         → cursor_b.has_ended to_b → (mid.phase ≡ First → ⊥) → cursor_u.gives from_u (pre ++ j.proceeds.firsts) to_u → new.phase ≡ old.phase → (old.phase ≡ Over → ⊥) → LeavesLast order j.proceeds.seconds a → (result : Result T Fault) (final : Sweeping)
         → KeepsOne new a result final → AdvancesOn cursor_u cursor_b order old from_u from_b out result final to_u to_b grown
-    kept_or_not a j none ended not_first gives same not_over leaves (Ok t) final is = (
+    kept_or_not {a} j none ended not_first gives same not_over leaves (Ok t) final is = (
       advances_from (Some a) final j gives same is (λ w stage st. grind arith) leaves,
       inl (rw (want_b final a (ap (λ (s : Sweeping). s.current) is)) ended),
     )
-    kept_or_not a j none ended not_first gives same not_over leaves (Err fault) final is = record {
+    kept_or_not {a} j none ended not_first gives same not_over leaves (Err fault) final is = record {
       proceeds = proceeds_from (Some a) (Some a) j.proceeds gives refl;
       waiting = Some a;
       cause = inr (inr (record { last = a; waits = refl; is = is.1; none = none; both = still_both old.phase (λ e. not_first (start.phase ∙ e)) not_over; ended = ended; puts = puts_each j.proceeds.newly j.writes }));

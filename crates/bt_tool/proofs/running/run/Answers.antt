@@ -1,17 +1,22 @@
 use Rattle.bt_lines.proofs.Std.{ap, option_map, arith}
 use Rattle.bt_lines.specs.calls.Names.{fault_value}
-use Rattle.bt_tool.proofs.lemmas.running.whole.RunningLemmas.{runs_by}
+use Rattle.bt_tool.proofs.lemmas.running.whole.RunningLemmas.{WritesOver, runs_by}
 use Rattle.bt_tool.proofs.lemmas.running.whole.OwnFailureLemmas.{all_serve, flushed_no_read, genome_no_read}
 use Rattle.bt_tool.proofs.running.run.Goals as goal
 
 pub returns-clause-report : goal.returns-clause-report
 returns-clause-report g c =
     let begun = c.new-out in
-    runs_by g.G.Source g.A.Source g.B.Source g.K.Sink
-    c.args.plan.now.command c.args.genome c.read_genome-chromosomes.result.1 c.args.first c.write_output-fault.result.1.first c.args.second c.write_output-fault.result.1.second c.args.out c.into_sink.result
-    begun.result.output c.write_output-fault.new.out.output c.flushed-fault.new.out.output (ap (λ o. o.output.put) begun.ensures) (ap (λ o. o.output.took) begun.ensures) (ap (λ o. o.output.sink_has_failed) begun.ensures)
-    c.into_sink.ensures.took c.into_sink.ensures.failed (option_map fault_value c.write_output-fault.result.0) (option_map fault_value c.flushed-fault.result) c.flushed-fault.ensures.ends
-    c.read_genome-chromosomes.result.0 c.read_genome-chromosomes.ensures.read c.write_output-fault.ensures.written
+    let writes_over : WritesOver g.K.Sink c.args.out c.into_sink.result begun.result.output c.flushed-fault.new.out.output = record {
+      put = ap (λ o. o.output.put) begun.ensures;
+      took = ap (λ o. o.output.took) begun.ensures;
+      served = ap (λ o. o.output.sink_has_failed) begun.ensures;
+      took_after = c.into_sink.ensures.took;
+      failed_after = c.into_sink.ensures.failed;
+    } in
+    runs_by g.G.Source g.A.Source g.B.Source
+    c.args.plan.now.command c.args.genome c.read_genome-chromosomes.result.1 c.args.first c.write_output-fault.result.1.first c.args.second c.write_output-fault.result.1.second
+    writes_over c.flushed-fault.ensures.ends c.read_genome-chromosomes.result.0 c.read_genome-chromosomes.ensures.read c.write_output-fault.ensures.written
 
 pub returns-clause-own_failure : goal.returns-clause-own_failure
 returns-clause-own_failure g c =

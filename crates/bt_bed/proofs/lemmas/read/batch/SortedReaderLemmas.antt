@@ -82,7 +82,7 @@ known_last : (sorting : Sorting) (state : Option Locus) (r : Feature) (records m
 known_last sorting state r [] more last said e place is = grind (arith, knows_said)
 known_last sorting state r (x ∷ records) more last said e place is = known_last sorting (Some (locus_at r)) x records more last said.1 e place is
 
-module _ {S Q : Type 0} (device : Source S) (sorting : Sorting) (old : SortedReader S Q) (reader : LineReader S) (lookahead : OrderedLookahead Q) (is_ahead : Bool) (consumed : Consumed) (is : IsTaken old consumed) (some : 0 < count_in old consumed)
+module _ {S Q : Type 0} {device : Source S} {sorting : Sorting} {old : SortedReader S Q} {reader : LineReader S} {lookahead : OrderedLookahead Q} {is_ahead : Bool} {consumed : Consumed} (is : IsTaken old consumed) (some : 0 < count_in old consumed)
     (placed : IsPlaced sorting (view_in sorting old)) (takes : TakesLines device old.reader consumed.lines reader) (makes : MakesLast old.lookahead consumed.start lookahead)
     (ahead : is_ahead ≡ consumed.is_ahead) where
   abbrev pub now : MemberReader S Feature (Option Locus)
@@ -238,8 +238,8 @@ module _ {S Q : Type 0} (device : Source S) (sorting : Sorting) where
   unfolding view_with
   still_going old now first lookahead g none = g.going none
 
-  module _ (old : MemberReader S Feature (Option Locus)) (now : LineReader S) (mid new : SortedReader S Q) (makes : MakesLine device now mid.reader) (kept : IsKept device now → IsKept device mid.reader)
-      (g : Going device old (view_with sorting None now mid.lookahead [])) (line : TextLine) (more : List TextLine) (first : lines_buffered mid.reader ≡ line ∷ more)
+  module _ {old : MemberReader S Feature (Option Locus)} {now : LineReader S} (mid new : SortedReader S Q) (makes : MakesLine device now mid.reader) (kept : IsKept device now → IsKept device mid.reader)
+      (g : Going device old (view_with sorting None now mid.lookahead [])) {line : TextLine} {more : List TextLine} (first : lines_buffered mid.reader ≡ line ∷ more)
       (keeps : KeepsLast mid.lookahead new.lookahead) where
     number : line.number ≡ suc (lines_given mid.reader)
     number = next_number mid.reader line more first
@@ -269,7 +269,7 @@ module _ {S Q : Type 0} (device : Source S) (sorting : Sorting) where
         record {
           answers = (
             record { line = line.number; item = finds.r },
-            going_member device old (view_with sorting None now mid.lookahead []) (view_with sorting None new.reader new.lookahead (buffered_in new)) line more finds.r finds.more g made stays
+            going_member device old g made stays
                 (ap lines_buffered finds.same ∙ first) (number ∙ ap (λ r. suc (lines_given r)) (sym finds.same)) finds.says finds.buffered refl (follows None (buffered_in new)),
           );
           kept = λ was. stays (g.passed.kept was);
@@ -280,11 +280,11 @@ module _ {S Q : Type 0} (device : Source S) (sorting : Sorting) where
     unfolding view_with
     lost_by fault one lost = elim (lost_parts (record { input = input_of mid.reader; line = line.number }) (line_says sorting (last_in mid.lookahead) line.text) fault lost) [
       | inl wrong ↦
-          going_wrong device old (view_with sorting None now mid.lookahead []) (view_with sorting (Some fault) new.reader new.lookahead []) line fault wrong.kind g (came one) refl refl (follows (Some fault) []) (kept_on one)
+          going_wrong device old g (came one) refl refl (follows (Some fault) []) (kept_on one)
           wrong.says (bed_of_line wrong.kind (says_of_line sorting (last_in mid.lookahead) line.text wrong.kind wrong.says))
           (wrong.is ∙ ap (λ i. fault_at_line i line.number wrong.kind) (makes.bytes.1.same_input ∙ g.passed.bytes.1.same_input))
       | inr unkept ↦
-          going_unkept device old (view_with sorting None now mid.lookahead []) (view_with sorting (Some fault) new.reader new.lookahead []) line fault unkept.item g (came one) refl refl (follows (Some fault) []) (kept_on one) unkept.says unkept.is
+          going_unkept device old g (came one) refl refl (follows (Some fault) []) (kept_on one) unkept.says unkept.is
     ]
 
     -- it wasn't taken
@@ -340,17 +340,17 @@ module _ {S Q : Type 0} (device : Source S) (sorting : Sorting) where
       pub taken_record : TakesFirst device rules mid (Ok true) new → Fills device old (Ok true) (view_with sorting None new.reader new.lookahead (buffered_in new))
       taken_record taken =
           let first = there (Ok true) taken in
-          sorted_record device sorting old now mid new makes kept g first.line first.more first.first first.keeps first.takes
+          sorted_record device sorting mid new makes kept g first.first first.keeps first.takes
 
       pub taken_nothing : TakesFirst device rules mid (Ok false) new → Going device old (view_with sorting None new.reader new.lookahead [])
       taken_nothing taken =
           let first = there (Ok false) taken in
-          sorted_more device sorting old now mid new makes kept g first.line first.more first.first first.keeps first.takes
+          sorted_more device sorting mid new makes kept g first.first first.keeps first.takes
 
       pub taken_fault : (fault : Fault) → TakesFirst device rules mid (Err fault) new → Fills device old (Err fault) (view_with sorting (Some (fault_value fault)) new.reader new.lookahead (buffered_in new))
       taken_fault fault taken =
           let first = there (Err fault) taken in
-          rw (none_buffered new first.takes.none) (sorted_lost device sorting old now mid new makes kept g first.line first.more first.first first.keeps fault first.takes)
+          rw (none_buffered new first.takes.none) (sorted_lost device sorting mid new makes kept g first.first first.keeps fault first.takes)
 
   -- what was read until then
   module _ {mid new : SortedReader S Q} (rules : Sorting) (old : LineReader S) (read : HasRead device.is_read old mid.reader) where

@@ -254,11 +254,11 @@ module _ {S A State : Type 0} (device : Source S) where
     lines_first a b line more buffered p is = grind arith
 
     -- a line was made buffered that says a member
-    pub going_member : (now new : MemberReader S A State) (line : TextLine) (more : List TextLine) (item : A) (items : List A) → Going old now → MakesLine device now.below new.below
+    pub going_member : {now new : MemberReader S A State} {line : TextLine} {more : List TextLine} {item : A} {items : List A} → Going old now → MakesLine device now.below new.below
         → (IsKept device now.below → IsKept device new.below) → buffered_in new.below ≡ line ∷ more → line.number ≡ suc (lines_given new.below)
         → now.format.says now.state line ≡ Ok (Some item) → new.buffered ≡ item ∷ items → new.fault ≡ line_fault new.below → Follows now new
         → GivesMember device old (record { line = line.number; item = item }) new
-    going_member now new line more item items g makes kept first number says buffered rest follows =
+    going_member {now} {new} {line} {more} {item} g makes kept first number says buffered rest follows =
         let good = remains_further (good_coming device.left old) (good_coming device.left now) (good_coming device.left new) g.good (grind (arith, good_is)) in
         let came = came_made device old.below now.below new.below g.passed makes kept in
         let there : IfSome (good_coming device.left new) (λ good. (rest : List (Member A)) × (good.members ≡ (record { line = line.number; item = item }) ∷ rest)) =
@@ -287,15 +287,15 @@ module _ {S A State : Type 0} (device : Source S) where
     lost_by now new line fault g gives kept ahead follows sound cause = grind (arith, passed_more, near_came)
 
     -- a line was wrong
-    pub going_wrong : (now new : MemberReader S A State) (line : TextLine) (fault : FaultValue) (kind : Kind) → Going old now → LineCame device now.below line new.below → new.fault ≡ Some fault → new.buffered ≡ [] → Follows now new → (IsKept device now.below → IsKept device new.below)
+    pub going_wrong : {now new : MemberReader S A State} {line : TextLine} {fault : FaultValue} {kind : Kind} → Going old now → LineCame device now.below line new.below → new.fault ≡ Some fault → new.buffered ≡ [] → Follows now new → (IsKept device now.below → IsKept device new.below)
         → now.format.says now.state line ≡ Err kind → is_of_line kind ≡ true → fault ≡ fault_at_line (input_of old.below) line.number kind → AnswersFault device old fault new
-    going_wrong now new line fault kind g gives kept ahead follows sound says of_line is =
+    going_wrong {now} {new} {line} {fault} {kind} g gives kept ahead follows sound says of_line is =
         grind (arith, (lost_by now new line fault g gives kept ahead follows sound (inl (wrong_cause now new line fault kind g gives says of_line is))))
 
     -- a member had no room
-    pub going_unkept : (now new : MemberReader S A State) (line : TextLine) (fault : FaultValue) (item : A) → Going old now → LineCame device now.below line new.below → new.fault ≡ Some fault → new.buffered ≡ [] → Follows now new → (IsKept device now.below → IsKept device new.below)
+    pub going_unkept : {now new : MemberReader S A State} {line : TextLine} {fault : FaultValue} {item : A} → Going old now → LineCame device now.below line new.below → new.fault ≡ Some fault → new.buffered ≡ [] → Follows now new → (IsKept device now.below → IsKept device new.below)
         → now.format.says now.state line ≡ Ok (Some item) → fault ≡ no_memory → AnswersFault device old fault new
-    going_unkept now new line fault item g gives kept ahead follows sound says is =
+    going_unkept {now} {new} {line} {fault} {item} g gives kept ahead follows sound says is =
         grind (arith, (lost_by now new line fault g gives kept ahead follows sound (inr (inr (unkept_cause now new line fault item g gives says is)))))
 
     -- the line couldn't be read

@@ -101,28 +101,27 @@ no_front [] rest e = refl
 no_front (m ∷ ms) rest e = cc
 
 module _ {A State : Type 0} (format : Format A State) (input : Input) where
-  first_with : (count number : ℕ) (state : State) (said : Result (Option A) Kind) (whole taken : State → Good A) (past rest : List (Member A)) (fault : Option FaultValue) → number ≤ count
+  first_with : {count number : ℕ} (state : State) (said : Result (Option A) Kind) {whole taken : State → Good A} (past : List (Member A)) {rest : List (Member A)} {fault : Option FaultValue} → number ≤ count
       → ((now : State) (past : List (Member A)) → (whole now).members ≡ past ++ rest → (whole now).fault ≡ fault → All (λ m. m.line ≤ count) past → taken now ≡ record { members = past; fault = None })
       → (good_with format input number state said whole).members ≡ past ++ rest → (good_with format input number state said whole).fault ≡ fault
       → All (λ m. m.line ≤ count) past → IsBeyond count (record { members = rest; fault = fault })
       → good_with format input number state said taken ≡ record { members = past; fault = None }
-  first_with count number state (Err kind) whole taken past rest fault low h e f up beyond = grind arith
-  first_with count number state (Ok None) whole taken past rest fault low h e f up beyond = h state past e f up
-  first_with count number state (Ok (Some item)) whole taken [] rest fault low h e f up beyond =
+  first_with state (Err kind) past low h e f up beyond = grind arith
+  first_with state (Ok None) past low h e f up beyond = h state past e f up
+  first_with {count} {number} state (Ok (Some item)) {whole} [] low h e f up beyond =
       let high : All (λ (m : Member A). count < m.line) (record { line = number; item = item } ∷ (whole (format.after state item)).members) = subst (λ ms. All (λ (m : Member A). count < m.line) ms) (sym e) beyond.members in
       grind (arith, All-head)
-  first_with count number state (Ok (Some item)) whole taken (m ∷ ms) rest fault low h e f up beyond = grind (arith, (All-tail (λ (m : Member A). m.line ≤ count) m ms up))
+  first_with {count} state (Ok (Some item)) (m ∷ ms) low h e f up beyond = grind (arith, (All-tail (λ (m : Member A). m.line ≤ count) m ms up))
 
   -- what is good of the first lines are the members up to the last of these, if the others are after it
-  pub first_from : (more count number : ℕ) (state : State) (lines : List TextLine) (past rest : List (Member A)) (fault : Option FaultValue) → suc count ≡ number + more → AreNumbered number lines
+  pub first_from : (more : ℕ) {count : ℕ} (number : ℕ) (state : State) (lines : List TextLine) {past rest : List (Member A)} {fault : Option FaultValue} → suc count ≡ number + more → AreNumbered number lines
       → (good_from format input state lines).members ≡ past ++ rest → (good_from format input state lines).fault ≡ fault
       → All (λ m. m.line ≤ count) past → IsBeyond count (record { members = rest; fault = fault })
       → good_from format input state (take more lines) ≡ record { members = past; fault = None }
   unfolding good_from
-  first_from zero count number state lines past rest fault size n e f up beyond =
+  first_from zero {count} number state lines size n e f up beyond =
       let start : number ≡ suc count = omega arith in
       grind (arith, none_up_to, (ascend_from format input number state lines n))
-  first_from (suc more) count number state [] past rest fault size n e f up beyond = rw (no_front past rest e) refl
-  first_from (suc more) count number state (line ∷ lines) past rest fault size n e f up beyond =
-      first_with count line.number state (format.says state line) (λ now. good_from format input now lines) (λ now. good_from format input now (take more lines)) past rest fault (omega arith)
-      (λ now past e f up. first_from more count (suc number) now lines past rest fault (omega arith) n.1 e f up beyond) e f up beyond
+  first_from (suc more) number state [] {past} {rest} size n e f up beyond = rw (no_front past rest e) refl
+  first_from (suc more) number state (line ∷ lines) {past} size n e f up beyond =
+      first_with state (format.says state line) past (omega arith) (λ now past e f up. first_from more (suc number) now lines (omega arith) n.1 e f up beyond) e f up beyond

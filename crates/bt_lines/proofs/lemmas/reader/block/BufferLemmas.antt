@@ -233,9 +233,9 @@ module _ {S : Type 0} (device : Source S) where
   pub none_yet : (old : S) (unread : List ℕ) (taken : ℕ) → taken < 2 ^ 63 → ReadSoFar old unread taken old unread taken
   none_yet old unread taken within = search rules
 
-  module _ (old : S) (old_unread : List ℕ) (old_taken : ℕ) (mid : S) (unread : List ℕ) (taken : ℕ) (so_far : ReadSoFar old old_unread old_taken mid unread taken) where
+  module _ {old : S} {old_unread : List ℕ} {old_taken : ℕ} {mid : S} {unread : List ℕ} {taken : ℕ} (so_far : ReadSoFar old old_unread old_taken mid unread taken) where
     -- none does
-    module _ (same : List ℕ) (is : same ≡ unread) (clear : NoLineFeed same) where
+    module _ {same : List ℕ} (is : same ≡ unread) (clear : NoLineFeed same) where
       never : 0 < line_feeds old_unread → ⊥
       never h = omega (arith, h, line_feeds-none same clear, ap line_feeds (is ∙ so_far.joined), line_feeds-append old_unread so_far.bytes)
 
@@ -296,18 +296,18 @@ module _ {S : Type 0} (device : Source S) where
   pub at_first : (old : S) (block text : List ℕ) (taken : ℕ) → text ≡ [] → taken < 2 ^ 63 → SoFar old block taken old block text taken
   at_first old block text taken empty within = search rules
 
-  module _ (old : S) (old_block : List ℕ) (old_taken : ℕ) (some : 0 < length old_block) (clear : NoLineFeed old_block) where
+  module _ (old : S) {old_block : List ℕ} (old_taken : ℕ) (some : 0 < length old_block) (clear : NoLineFeed old_block) where
     -- the line is buffered, or a fault ends it
     long_by : (stop : Stop) (new : S) (bytes complete unread : List ℕ) (taken : ℕ) → Consumes (device.left old) (device.left new) bytes → taken + uncounted stop ≡ old_taken + length bytes → taken < 2 ^ 63
         → StopsWith stop (device.left new) (device.has_failed old) (device.has_failed new) (device.end_told new) (old_block ++ bytes) complete unread taken
         → Buffers device old old_block old_taken stop new complete unread taken
     long_by stop new bytes complete unread taken consumed counted within stopped = grind (arith, line_feeds-none)
 
-    module _ (mid : S) (block text : List ℕ) (taken : ℕ) (so_far : SoFar old old_block old_taken mid block text taken)
-        {E : Type 0} (moved : Result Bool E) (new_block new_text : List ℕ) (moves : MovesPiece block text moved new_block new_text) where
+    module _ {mid : S} {block text : List ℕ} {taken : ℕ} (so_far : SoFar old old_block old_taken mid block text taken)
+        {E : Type 0} {moved : Result Bool E} (new_block new_text : List ℕ) (moves : MovesPiece block text moved new_block new_text) where
       -- the line feed was found
-      pub at_feed : (complete rest : List ℕ) → moved ≡ Ok true → complete ≡ new_text → rest ≡ new_block → Buffers device old old_block old_taken LineFeed mid complete rest taken
-      at_feed complete rest is lines same =
+      pub at_feed : {complete rest : List ℕ} → moved ≡ Ok true → complete ≡ new_text → rest ≡ new_block → Buffers device old old_block old_taken LineFeed mid complete rest taken
+      at_feed {complete} {rest} is lines same =
           let moves = rw is at moves in
           long_by LineFeed mid so_far.bytes complete rest taken so_far.consumed (add-zero taken ∙ so_far.counted) so_far.within (
             rw (lines, same) (so_far.joined ∙ ap (λ l. text ++ l) (moves.2 ∙ sym (append_assoc moves.0 (10 ∷ []) new_block)) ∙ sym (append_assoc text (moves.0 ++ 10 ∷ []) new_block) ∙ ap (λ l. l ++ new_block) (sym moves.3)),
@@ -327,8 +327,8 @@ module _ {S : Type 0} (device : Source S) where
           one_line new_text (text ++ moves.0) (All-append (λ b. eqb b 10 ≡ false) text moves.0 so_far.clear moves.1) (moves.3 ∙ sym (append_assoc text moves.0 (10 ∷ [])))
 
       -- the line couldn't grow
-      pub at_refusal : (e : E) (complete : List ℕ) → moved ≡ Err e → complete ≡ [] → Buffers device old old_block old_taken NoMemory mid complete new_block taken
-      at_refusal e complete is none =
+      pub at_refusal : {e : E} {complete : List ℕ} → moved ≡ Err e → complete ≡ [] → Buffers device old old_block old_taken NoMemory mid complete new_block taken
+      at_refusal {complete} is none =
           let moves = rw is at moves in
           long_by NoMemory mid so_far.bytes complete new_block taken so_far.consumed (add-zero taken ∙ so_far.counted) so_far.within
           ((new_text, rw moves.1 so_far.clear, rw (moves.0, moves.1) so_far.joined), none, so_far.served)
@@ -371,25 +371,25 @@ module _ {S : Type 0} (device : Source S) where
               long_by stop new (so_far.bytes ++ asks.bytes) complete rest next_taken (both_consumed asks.bytes asks.consumed) (omega (arith, same, so_far.counted, asks.counted, count asks.bytes asks.consumed)) asks.within stopped
 
           -- the text has ended
-          pub none_came : (complete rest : List ℕ) → AsksMore device mid new_block taken NoBytes new next_block next_taken → complete ≡ new_text ++ 10 ∷ [] → rest ≡ next_block
+          pub none_came : {complete rest : List ℕ} → AsksMore device mid new_block taken NoBytes new next_block next_taken → complete ≡ new_text ++ 10 ∷ [] → rest ≡ next_block
               → Buffers device old old_block old_taken End new complete rest next_taken
-          none_came complete rest asks lines same =
+          none_came {complete} {rest} asks lines same =
               let is = all_read asks.bytes asks.came.0 in
               more_by End NoBytes complete rest asks refl (rw is no_feed, rw is (lines ∙ sym (closed_some new_text some_text)), same ∙ asks.came.1 ∙ empty, asks.came.2 ∙ so_far.served, asks.came.3, asks.came.4)
 
           -- it has, and the line couldn't take its line feed
-          pub none_refused : (complete rest : List ℕ) → AsksMore device mid new_block taken NoBytes new next_block next_taken → complete ≡ [] → rest ≡ next_block
+          pub none_refused : {complete rest : List ℕ} → AsksMore device mid new_block taken NoBytes new next_block next_taken → complete ≡ [] → rest ≡ next_block
               → Buffers device old old_block old_taken NoMemory new complete rest next_taken
-          none_refused complete rest asks none same =
+          none_refused {complete} {rest} asks none same =
               more_by NoMemory NoBytes complete rest asks refl
               ((new_text, no_feed, more asks.bytes ∙ ap (λ l. new_text ++ l) (asks.came.0 ∙ sym (same ∙ asks.came.1 ∙ empty))), none, asks.came.2 ∙ so_far.served)
 
-          pub read_failed : (complete : List ℕ) → AsksMore device mid new_block taken BadRead new next_block next_taken → complete ≡ [] → Buffers device old old_block old_taken Failed new complete next_block next_taken
-          read_failed complete asks none =
+          pub read_failed : {complete : List ℕ} → AsksMore device mid new_block taken BadRead new next_block next_taken → complete ≡ [] → Buffers device old old_block old_taken Failed new complete next_block next_taken
+          read_failed {complete} asks none =
               let gone : next_block ≡ [] = asks.came.1 ∙ empty in
               more_by Failed BadRead complete next_block asks refl
               (rw (all_read asks.bytes asks.came.0) no_feed, none, rw gone (All-nil (λ b. eqb b 10 ≡ false)), asks.came.2, (new_text, more asks.bytes ∙ ap (λ l. new_text ++ l) (asks.came.0 ∙ sym gone)))
 
-          pub past_bound : (complete : List ℕ) → AsksMore device mid new_block taken PastBound new next_block next_taken → complete ≡ [] → Buffers device old old_block old_taken TooLong new complete next_block next_taken
-          past_bound complete asks none =
+          pub past_bound : {complete : List ℕ} → AsksMore device mid new_block taken PastBound new next_block next_taken → complete ≡ [] → Buffers device old old_block old_taken TooLong new complete next_block next_taken
+          past_bound {complete} asks none =
               more_by TooLong PastBound complete next_block asks refl ((new_text, asks.bytes, no_feed, more asks.bytes, asks.came.0), none, asks.came.1, asks.came.2)

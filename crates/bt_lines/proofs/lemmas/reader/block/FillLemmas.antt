@@ -1,15 +1,15 @@
 -- Lemmas on making a line buffered, and on the step to the next line by it.
-use Rattle.bt_lines.proofs.Std.{common_steps, rules, ◌≡◌, ℕ, suc, ◌-◌, ◌<◌, Bool, true, false, List, [], ◌++◌, length, take, Option, Result, None, Some, Ok, Err, sym, ap, ◌∙◌, subst, append_assoc, length-append, arith, option_map, is_some, IfSome, IsSome, false≢true, ◌+◌, ◌≤◌, ◌∷◌, drop, eqb, take-add, take-append-drop, take_at, drop_at, length-take-le, length-drop, All-append}
+use Rattle.bt_lines.proofs.Std.{common_steps, rules, ◌≡◌, ℕ, ◌-◌, ◌<◌, Bool, true, false, List, [], ◌++◌, length, take, Option, Result, None, Some, Ok, Err, sym, ap, ◌∙◌, subst, append_assoc, length-append, arith, option_map, is_some, IfSome, IsSome, false≢true, ◌+◌, ◌≤◌, ◌∷◌, drop, eqb, take-add, take-append-drop, take_at, drop_at, length-take-le, length-drop, All-append}
 use Rattle.bt_lines.specs.declared.device.Source.{Ghosts as Source}
 use Rattle.bt_lines.proofs.lemmas.reader.block.ReadsLemmas.{has_read_then}
 use Rattle.bt_lines.proofs.lemmas.reader.lines.StepLemmas.{none_told}
-use Rattle.bt_lines.proofs.lemmas.reader.lines.TextLemmas.{line_feeds-append, lines_from-nil}
+use Rattle.bt_lines.proofs.lemmas.reader.lines.TextLemmas.{line_feeds-append}
 use Rattle.bt_lines.specs.calls.Columns.{IsBefore, IsFirstOf, Lacks}
 use Rattle.bt_lines.specs.calls.Line.{line_seen}
-use Rattle.bt_lines.specs.model.Lines.{TextLine, lines_from}
+use Rattle.bt_lines.specs.model.Lines.{TextLine}
 use Rattle.bt_lines.specs.calls.Names.{fault_value}
 use Rattle.bt_lines.specs.inside.ReadBuffer.{complete}
-use Rattle.bt_lines.specs.calls.Reader.{DropsLines, FillsLines, GivesLine, HasRead, IsKept, IsSound, MakesLine, NextLine, TellsOwnFailure, buffered_bytes, bytes_left, bytes_taken, end_told, fault_kept, feeds_taken, has_ended, held, input_of, left_at, line_at, lines_given, lines_left, source_of}
+use Rattle.bt_lines.specs.calls.Reader.{DropsLines, FillsLines, GivesLine, HasRead, IsKept, IsSound, MakesLine, NextLine, TellsOwnFailure, buffered_bytes, bytes_left, bytes_taken, end_told, fault_kept, feeds_taken, has_ended, held, input_of, line_at, lines_given, lines_left, source_of}
 use Rattle.bt_lines.specs.declared.fault.Fault.{Fault}
 use Rattle.bt_lines.specs.declared.reader.line.Line.{Line}
 use Rattle.bt_lines.specs.declared.reader.line_reader.LineReader.{LineReader}
@@ -60,12 +60,12 @@ module _ {S : Type 0} (device : Source S) where
   is_cut old mid answer b e fills none = let made = (filled old mid answer e fills).answers in cuts_by b mid made.some none
 
   -- a step to a line
-  pub moves_by : (old mid new : LineReader S) (answer : Result Bool Fault) (b : Bool) → answer ≡ Ok true → FillsLines device old answer mid → (b ≡ false → complete mid.buffer ≡ [])
+  pub moves_by : {old mid new : LineReader S} {answer : Result Bool Fault} {b : Bool} → answer ≡ Ok true → FillsLines device old answer mid → (b ≡ false → complete mid.buffer ≡ [])
       → (b ≡ true → (line : Line) → Some (line_seen line) ≡ line_at new → GivesLine device mid (line_seen line) new) → (b ≡ true → IsSome (line_at new)) → (b ≡ true → IsKept device mid → IsSound device new)
       → TellsOwnFailure device.is_read old answer mid → (b ≡ true → HasRead device.is_read mid new)
       → (line : Option Line) → option_map line_seen line ≡ line_at new → NextLine device old (Ok line) new
-  moves_by old mid new answer b e fills none gives some sound read then None at = grind (arith, (false≢true (sym (ap is_some (sym at)) ∙ some (is_cut old mid answer b e fills none))))
-  moves_by old mid new answer b e fills none gives some sound read then (Some line) at =
+  moves_by {old} {mid} {answer} {b} e fills none gives some sound read then None at = grind (arith, (false≢true (sym (ap is_some (sym at)) ∙ some (is_cut old mid answer b e fills none))))
+  moves_by {old} {mid} {new} {answer} {b} e fills none gives some sound read then (Some line) at =
       let filled = filled old mid answer e fills in
       let cut = is_cut old mid answer b e fills none in
       record {

@@ -1,9 +1,9 @@
 -- Lemmas on a line that is taken of those that are buffered.
-use Rattle.bt_lines.proofs.Std.{common_steps, ◌≡◌, ◌⊎◌, ℕ, suc, ◌+◌, ◌-◌, ◌<◌, ◌≤◌, Bool, true, false, cond, nat_eq, List, [], ◌∷◌, ◌++◌, length, take, drop, slice_range, Option, Some, refl, sym, ap, ◌∙◌, subst, append_assoc, append-nil, length-append, add-zero, arith, IsSome, nat_lt, ends_with_byte, strip_last, take-append_seam, length-take, Consumes-nil, Consumes, ◌^◌, drop-drop, length-drop, take-append-drop, take_all, zero, take-add, drop_all, drop_more}
+use Rattle.bt_lines.proofs.Std.{common_steps, ◌≡◌, ◌⊎◌, ℕ, suc, ◌+◌, ◌-◌, ◌<◌, ◌≤◌, Bool, true, false, cond, List, [], ◌∷◌, ◌++◌, length, take, drop, Option, Some, refl, sym, ap, ◌∙◌, subst, append_assoc, append-nil, length-append, add-zero, arith, IsSome, nat_lt, ends_with_byte, strip_last, take-append_seam, length-take, Consumes-nil, Consumes, ◌^◌, drop-drop, length-drop, take-append-drop, take_all, take-add, drop_all, drop_more}
 use Rattle.bt_lines.specs.declared.device.Source.{Ghosts as Source}
 use Rattle.bt_lines.proofs.lemmas.reader.block.BufferLemmas.{unread_fits, fed_none, fed_clear, fed_drop, fed_after, fed_push}
 use Rattle.bt_lines.proofs.lemmas.reader.lines.StepLemmas.{some_state, goes, told_last, gives_fed, sound_fed, gives_last, sound_last}
-use Rattle.bt_lines.proofs.lemmas.reader.lines.TextLemmas.{line_feeds-fed, lines_from-last, lines_from-nil, strip_last-other, strip_last-push, whole_lines_from-fed, whole_lines_from-last}
+use Rattle.bt_lines.proofs.lemmas.reader.lines.TextLemmas.{line_feeds-fed, lines_from-last, lines_from-nil, strip_last-other, whole_lines_from-fed, whole_lines_from-last}
 use Rattle.bt_lines.specs.calls.Columns.{IsBefore}
 use Rattle.bt_lines.specs.calls.Line.{Cut, Shown, ending_at, NoLineFeed, line_seen, IsFirst, shown_of, line_feeds}
 use Rattle.bt_lines.specs.model.Lines.{TextLine, fed_line}
@@ -59,7 +59,7 @@ fed_ending b piece e = rw e refl
 last_ending : (b : Bool) (piece : List ℕ) → b ≡ ends_with_byte 13 piece → ending_at true b ≡ cond (ends_with_byte 13 piece) Cr Absent
 last_ending b piece e = rw e refl
 
-module _ {S : Type 0} (device : Source S) (old new : LineReader S) (line : Shown)
+module _ {S : Type 0} (device : Source S) (old new : LineReader S) {line : Shown}
     (same_state : new.state ≡ old.state) (same : new.input ≡ old.input) (same_source : new.source ≡ old.source) (same_taken : new.taken ≡ old.taken) (more : new.lines ≡ old.lines + 1)
     (cut : Cut (complete old.buffer) line) (lines : complete new.buffer ≡ drop line.size (complete old.buffer)) (behind : unread new.buffer ≡ unread old.buffer)
     (text : text_in new.buffer ≡ take (length line.text) (complete old.buffer)) (spilled : new.buffer.is_spilled ≡ old.buffer.is_spilled)
@@ -95,8 +95,8 @@ module _ {S : Type 0} (device : Source S) (old new : LineReader S) (line : Shown
       record {
         line = fed_line (suc old.lines) cut.piece;
         at = at;
-        gives = gives_fed device old new [] cut.piece was now same number none (same_taken ∙ sym (add-zero old.taken)) holds cut.clear at short (λ h. same_source) (ap device.has_failed same_source);
-        sound = sound_fed device old new [] cut.piece was now same number none (same_taken ∙ sym (add-zero old.taken)) holds cut.clear at short (λ h. same_source) (ap device.has_failed same_source);
+        gives = gives_fed device new [] cut.piece was now same number none (same_taken ∙ sym (add-zero old.taken)) holds cut.clear at short (λ h. same_source) (ap device.has_failed same_source);
+        sound = sound_fed device new [] cut.piece was now same number none (same_taken ∙ sym (add-zero old.taken)) holds cut.clear at short (λ h. same_source) (ap device.has_failed same_source);
       }
 
   cut_last : old.state ≡ LastLine → CutsFirst device old new
@@ -117,8 +117,8 @@ module _ {S : Type 0} (device : Source S) (old new : LineReader S) (line : Shown
       record {
         line = last;
         at = at;
-        gives = gives_last device old new cut.piece (told_last old is) (told_last new state) (rw is refl) same same_source same_taken holds left_none cut.clear number some at;
-        sound = sound_last device old new cut.piece (told_last old is) (told_last new state) (rw is refl) same same_source same_taken holds left_none cut.clear number some at;
+        gives = gives_last device new (told_last old is) (told_last new state) (rw is refl) same same_source same_taken holds left_none cut.clear number some at;
+        sound = sound_last device new (told_last old is) (told_last new state) (rw is refl) same same_source same_taken holds left_none cut.clear number some at;
       }
 
   by_state : (old.state ≡ Reading) ⊎ (old.state ≡ LastLine) → CutsFirst device old new
@@ -129,7 +129,7 @@ module _ {S : Type 0} (device : Source S) (old new : LineReader S) (line : Shown
   cuts_first = by_state (some_state old.state (λ e. absurd (omega (arith, ap length (old.quiet e), ap length parts, length-append cut.piece (10 ∷ complete new.buffer)))))
 
 -- what a reader keeps while a line is taken
-module _ (state : State) (old_lines old_unread lines unread_now : List ℕ) (given taken : ℕ) (piece : List ℕ) (clear : NoLineFeed piece) (parts : old_lines ≡ piece ++ 10 ∷ lines) (behind : unread_now ≡ old_unread)
+module _ (state : State) {old_lines old_unread : List ℕ} (lines : List ℕ) {unread_now : List ℕ} (given : ℕ) {taken : ℕ} (piece : List ℕ) (clear : NoLineFeed piece) (parts : old_lines ≡ piece ++ 10 ∷ lines) (behind : unread_now ≡ old_unread)
     (fed : is_fed lines ≡ true) (last : IsLast (told_at state) (open_at state) old_lines old_unread) (quiet : lends_at state ≡ false → old_lines ≡ []) (before : given + length (held_at (open_at state) old_lines old_unread) ≤ taken) where
   some_lends : lends_at state ≡ false → ⊥
   some_lends e = omega (arith, ap length (quiet e), ap length parts, length-append piece (10 ∷ lines))

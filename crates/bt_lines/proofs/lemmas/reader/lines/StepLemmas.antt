@@ -1,10 +1,10 @@
 -- Lemmas on a step of the reader of lines.
-use Rattle.bt_lines.proofs.Std.{common_steps, rules, ◌≡◌, ℕ, suc, ◌+◌, ◌-◌, ◌^◌, ◌<◌, ◌≤◌, ◌⊎◌, inl, inr, true, false, cond, List, [], ◌∷◌, ◌++◌, length, Option, None, Some, Ok, Err, take, drop, refl, sym, ap, ◌∙◌, subst, append_assoc, append-nil, length-append, arith, option_map, is_some, IfSome, take_all, false≢true, take-append-add, take-append_seam, Consumes, IsAtEnd, prepend_known, ends_with_byte, strip_last}
+use Rattle.bt_lines.proofs.Std.{common_steps, rules, ◌≡◌, ℕ, suc, ◌+◌, ◌-◌, ◌^◌, ◌<◌, ◌≤◌, ◌⊎◌, inl, inr, true, false, cond, List, [], ◌∷◌, ◌++◌, length, Option, None, Some, Ok, Err, take, refl, sym, ap, ◌∙◌, subst, append_assoc, append-nil, length-append, arith, option_map, is_some, IfSome, take_all, false≢true, take-append-add, take-append_seam, Consumes, IsAtEnd, ends_with_byte, strip_last}
 use Rattle.bt_lines.specs.declared.device.Source.{Ghosts as Source}
 use Rattle.bt_lines.proofs.lemmas.reader.block.BufferLemmas.{unread_fits, one_line}
 use Rattle.bt_lines.proofs.lemmas.reader.lines.TextLemmas.{lines_from-fed, lines_from-last, lines_from-nil, spelled-fed, line_feeds-append, line_feeds-none, line_feeds-fed, bytes_behind_first}
 use Rattle.bt_lines.specs.inside.ReadBuffer.{complete, unread, lends_at, open_at, told_at}
-use Rattle.bt_lines.specs.model.Lines.{TextLine, fed_line, last_line, lines_from, bytes_in, spelled}
+use Rattle.bt_lines.specs.model.Lines.{TextLine, fed_line, last_line, lines_from, spelled}
 use Rattle.bt_lines.specs.model.Fault.{read_failed}
 use Rattle.bt_lines.specs.calls.Faults.{no_memory}
 use Rattle.bt_lines.specs.inside.Shape.{held_at, IsLast}
@@ -12,7 +12,7 @@ use Rattle.bt_lines.specs.inside.Spill.{Buffers, closed}
 use Rattle.bt_lines.specs.calls.Output.{block_size}
 use Rattle.bt_lines.specs.calls.Line.{NoLineFeed, line_feeds}
 use Rattle.bt_lines.specs.calls.Names.{fault_value}
-use Rattle.bt_lines.specs.calls.Reader.{FillsLines, IsKept, IsSound, DropsLines, buffered_bytes, Hands, IsNear, FailsToRead, end_told, GivesLine, line_at, source_of, input_of, lines_given, bytes_taken, held, fault_kept, has_ended, bytes_left, feeds_taken}
+use Rattle.bt_lines.specs.calls.Reader.{FillsLines, IsKept, IsSound, buffered_bytes, Hands, IsNear, FailsToRead, end_told, GivesLine, line_at, source_of, input_of, lines_given, bytes_taken, held, fault_kept, has_ended, bytes_left, feeds_taken}
 use Rattle.bt_lines.specs.declared.fault.Fault.{Fault}
 use Rattle.bt_lines.specs.declared.fault.Input.{Input}
 use Rattle.bt_lines.specs.declared.reader.spill.Stop.{Stop}
@@ -58,7 +58,7 @@ none_told n a held e = grind (arith, lines_from-nil)
 
 -- ---- a line with a line feed
 
-module _ {S : Type 0} (device : Source S) (old new : LineReader S) (bytes piece : List ℕ) (was : Goes old) (is : Goes new)
+module _ {S : Type 0} (device : Source S) {old : LineReader S} (new : LineReader S) (bytes piece : List ℕ) (was : Goes old) (is : Goes new)
     (same : input_of new ≡ input_of old) (more : lines_given new ≡ suc (lines_given old)) (consumed : Consumes (device.left (source_of old)) (device.left (source_of new)) bytes)
     (counted : new.taken ≡ old.taken + length bytes) (joined : held old ++ bytes ≡ piece ++ 10 ∷ held new) (clear : NoLineFeed piece)
     (at : line_at new ≡ Some (fed_line (suc (lines_given old)) piece)) (near : length (held new) ≤ block_size) (ready : 0 < line_feeds (held old) → source_of new ≡ source_of old) (served : device.has_failed (source_of new) ≡ device.has_failed (source_of old)) where
@@ -88,7 +88,7 @@ module _ {S : Type 0} (device : Source S) (old new : LineReader S) (bytes piece 
 
 -- ---- the last line, which has no line feed
 
-module _ {S : Type 0} (device : Source S) (old new : LineReader S) (piece : List ℕ) (was : IsTold old) (is : IsTold new) (ended : has_ended old ≡ false)
+module _ {S : Type 0} (device : Source S) {old : LineReader S} (new : LineReader S) {piece : List ℕ} (was : IsTold old) (is : IsTold new) (ended : has_ended old ≡ false)
     (same : input_of new ≡ input_of old) (same_source : source_of new ≡ source_of old) (same_taken : new.taken ≡ old.taken)
     (holds : held old ≡ piece) (gone : held new ≡ []) (clear : NoLineFeed piece) (more : lines_given new ≡ suc (lines_given old)) (some : 0 < length piece) where
   abbrev pub line : TextLine
@@ -151,12 +151,23 @@ some_place e = false≢true (sym (ap (λ fault. is_some fault.place) e))
 front_of_joined : (block bytes text behind : List ℕ) → block ++ bytes ≡ text ++ behind → length behind ≤ length bytes → text ≡ block ++ take (length bytes - length behind) bytes
 front_of_joined block bytes text behind e short = grind (arith, (length-append block bytes), (length-append text behind), (take-append_seam text behind), (take-append-add block bytes (length bytes - length behind)))
 
--- what was taken of the line has no line feed, except in the bytes after it
-module _ {S : Type 0} (device : Source S) (old new : LineReader S) (bytes text behind : List ℕ) (fault : Fault) (was : Goes old) (no_line : line_feeds (held old) ≡ 0)
-    (same : input_of new ≡ input_of old) (same_lines : lines_given new ≡ lines_given old) (consumed : Consumes (device.left (source_of old)) (device.left (source_of new)) bytes)
-    (counted : bytes_taken new ≡ bytes_taken old + length bytes) (joined : held old ++ bytes ≡ text ++ behind) (clear : NoLineFeed text)
-    (short : length behind ≤ block_size) (holds : bytes_taken new < 2 ^ 63 → lines_given old + line_feeds (held new) ≡ lines_given old + line_feeds (held old) + line_feeds bytes)
-    (kept : fault_kept new ≡ Some (fault_value fault)) (untold : end_told new ≡ false) (empty : buffered_bytes old ≡ []) where
+-- a fault cut a line off: of `bytes` its text was taken, which has no line feed, and `behind` after it
+pub record CutLine {S : Type 0} (device : Source S) (old new : LineReader S) (bytes text behind : List ℕ) (fault : Fault) : Type 0 where
+  pub was : Goes old
+  pub no_line : line_feeds (held old) ≡ 0
+  pub same : input_of new ≡ input_of old
+  pub same_lines : lines_given new ≡ lines_given old
+  pub consumed : Consumes (device.left (source_of old)) (device.left (source_of new)) bytes
+  pub counted : bytes_taken new ≡ bytes_taken old + length bytes
+  pub joined : held old ++ bytes ≡ text ++ behind
+  pub clear : NoLineFeed text
+  pub short : length behind ≤ block_size
+  pub holds : bytes_taken new < 2 ^ 63 → lines_given old + line_feeds (held new) ≡ lines_given old + line_feeds (held old) + line_feeds bytes
+  pub kept : fault_kept new ≡ Some (fault_value fault)
+  pub untold : end_told new ≡ false
+  pub empty : buffered_bytes old ≡ []
+
+module _ {S : Type 0} {device : Source S} {old new : LineReader S} {bytes text behind : List ℕ} {fault : Fault} (line : CutLine device old new bytes text behind fault) where
   cut_hands : Hands device.left old bytes new
   unfolding feeds_taken
   cut_hands = grind arith
@@ -164,9 +175,8 @@ module _ {S : Type 0} (device : Source S) (old new : LineReader S) (bytes text b
   cut_near : IsNear device.left old new
   unfolding bytes_left
   cut_near =
-      let one : suc (lines_given new) - lines_given old ≡ 1 = omega (arith, same_lines) in
-      rw (one, was.untold)
-      (grind (arith, append_assoc, bytes_behind_first, length-append))
+      let one : suc (lines_given new) - lines_given old ≡ 1 = omega (arith, line.same_lines) in
+      rw (one, line.was.untold) (grind (arith, append_assoc, bytes_behind_first, length-append))
 
   cut_given : text ≡ held old ++ take (2 ^ 63 - 1 - bytes_taken old) bytes
       → lines_given new ≡ feeds_taken old + line_feeds (take (2 ^ 63 - 1 - bytes_taken old) bytes)
@@ -184,8 +194,8 @@ module _ {S : Type 0} (device : Source S) (old new : LineReader S) (bytes text b
 pub held_closed : (all complete unread : List ℕ) → complete ≡ closed all → held_at true complete unread ≡ all
 held_closed all complete unread e = grind (arith, common_steps)
 
-module _ {S : Type 0} (device : Source S) (old new : LineReader S) (going : old.state ≡ Reading) (none : complete old.buffer ≡ [])
-    (same : new.input ≡ old.input) (same_lines : new.lines ≡ old.lines) (stop : Stop)
+module _ {S : Type 0} {device : Source S} (old new : LineReader S) (going : old.state ≡ Reading) (none : complete old.buffer ≡ [])
+    (same : new.input ≡ old.input) (same_lines : new.lines ≡ old.lines) {stop : Stop}
     (buffers : Buffers device old.source (unread old.buffer) old.taken stop new.source (complete new.buffer) (unread new.buffer) new.taken) where
   old_holds : held old ≡ unread old.buffer
   old_holds = (goes old going).holds ∙ ap (λ l. l ++ unread old.buffer) none
@@ -228,11 +238,22 @@ module _ {S : Type 0} (device : Source S) (old new : LineReader S) (going : old.
         let clear : NoLineFeed (held old ++ b.bytes) = subst NoLineFeed (sym (joined_all (unread old.buffer ++ b.bytes) b.bytes refl)) b.stopped.0 in
         let kept : held new ≡ unread new.buffer = rw (state, b.stopped.1) refl in
         let none : line_feeds (held new) ≡ 0 = rw kept (line_feeds-none (unread new.buffer) b.stopped.2) in
-        stepped_cut device old new b.bytes (held old ++ b.bytes) [] fault was (no_feeds (λ e. let apart : StopLineFeed ≡ Failed = sym e ∙ is in cc)) same same_lines b.consumed
-        (rw (state, was.taken) counted) (sym (append-nil (held old ++ b.bytes))) clear (omega arith)
-        (λ below. omega (arith, none, line_feeds-none (held old ++ b.bytes) clear, line_feeds-append (held old) b.bytes)) (rw (state, is_fault, same, same_lines) refl) (rw state refl) nothing_buffered
-        (λ e. rw (was.taken, take_all (2 ^ 63 - 1 - old.taken) b.bytes (omega (arith, counted, new.counted))) refl)
-        (inl (record { is = is_fault; cause = inl b.stopped.3 }))
+        let line : CutLine device old new b.bytes (held old ++ b.bytes) [] fault = record {
+          was = was;
+          no_line = no_feeds (λ e. let apart : StopLineFeed ≡ Failed = sym e ∙ is in cc);
+          same = same;
+          same_lines = same_lines;
+          consumed = b.consumed;
+          counted = rw (state, was.taken) counted;
+          joined = sym (append-nil (held old ++ b.bytes));
+          clear = clear;
+          short = omega arith;
+          holds = λ below. omega (arith, none, line_feeds-none (held old ++ b.bytes) clear, line_feeds-append (held old) b.bytes);
+          kept = rw (state, is_fault, same, same_lines) refl;
+          untold = rw state refl;
+          empty = nothing_buffered;
+        } in
+        stepped_cut line (λ e. rw (was.taken, take_all (2 ^ 63 - 1 - old.taken) b.bytes (omega (arith, counted, new.counted))) refl) (inl (record { is = is_fault; cause = inl b.stopped.3 }))
         (λ e. absurd (some_place (sym is_fault ∙ e)))
 
     -- the text is too long
@@ -246,10 +267,22 @@ module _ {S : Type 0} (device : Source S) (old new : LineReader S) (going : old.
         let counted : suc new.taken ≡ old.taken + length b.bytes = omega (arith, b.counted) in
         let room : length b.bytes - length cut.1 ≡ 2 ^ 63 - 1 - old.taken = omega (arith, counted, cut.4, b.stopped.3) in
         let joined : held old ++ b.bytes ≡ cut.0 ++ cut.1 = joined_all (cut.0 ++ cut.1) b.bytes cut.3 in
-        stepped_cut device old new b.bytes cut.0 cut.1 fault was (no_feeds (λ e. let apart : StopLineFeed ≡ StopTooLong = sym e ∙ is in cc)) same same_lines b.consumed
-        (rw (state, was.taken) counted) joined cut.2 (omega (arith, cut.4))
-        (λ below. absurd (omega (arith, b.stopped.3, rw state at below))) (rw (state, is_fault, same, same_lines) refl) (rw state refl) nothing_buffered
-        (λ e. rw (was.taken, ← room) (front_of_joined (held old) b.bytes cut.0 cut.1 joined (omega (arith, counted, cut.4, b.stopped.3, old.counted))))
+        let line : CutLine device old new b.bytes cut.0 cut.1 fault = record {
+          was = was;
+          no_line = no_feeds (λ e. let apart : StopLineFeed ≡ StopTooLong = sym e ∙ is in cc);
+          same = same;
+          same_lines = same_lines;
+          consumed = b.consumed;
+          counted = rw (state, was.taken) counted;
+          joined = joined;
+          clear = cut.2;
+          short = omega (arith, cut.4);
+          holds = λ below. absurd (omega (arith, b.stopped.3, rw state at below));
+          kept = rw (state, is_fault, same, same_lines) refl;
+          untold = rw state refl;
+          empty = nothing_buffered;
+        } in
+        stepped_cut line (λ e. rw (was.taken, ← room) (front_of_joined (held old) b.bytes cut.0 cut.1 joined (omega (arith, counted, cut.4, b.stopped.3, old.counted))))
         (inl (record { is = is_fault; cause = inr (rw state (omega (arith, b.stopped.3))) }))
         (λ e. absurd (some_place (sym is_fault ∙ e)))
 
@@ -262,13 +295,22 @@ module _ {S : Type 0} (device : Source S) (old new : LineReader S) (going : old.
         let cut = b.stopped.0 in
         let joined : held old ++ b.bytes ≡ cut.0 ++ unread new.buffer = joined_all (cut.0 ++ unread new.buffer) b.bytes cut.2 in
         let kept : held new ≡ unread new.buffer = rw (state, b.stopped.1) refl in
-        stepped_cut device old new b.bytes cut.0 (unread new.buffer) fault was (no_feeds (λ e. let apart : StopLineFeed ≡ StopNoMemory = sym e ∙ is in cc)) same same_lines b.consumed
-        (rw (state, was.taken) (omega (arith, b.counted))) joined cut.1 (unread_fits new.buffer)
-        (λ below. omega (arith, ap line_feeds kept, ap line_feeds joined, line_feeds-append (held old) b.bytes, line_feeds-append cut.0 (unread new.buffer), line_feeds-none cut.0 cut.1))
-        (rw (state, is_fault) refl) (rw state refl) nothing_buffered
-        (λ e. absurd (some_place (sym e ∙ is_fault)))
-        (inr is_fault)
-        (λ e. b.stopped.2)
+        let line : CutLine device old new b.bytes cut.0 (unread new.buffer) fault = record {
+          was = was;
+          no_line = no_feeds (λ e. let apart : StopLineFeed ≡ StopNoMemory = sym e ∙ is in cc);
+          same = same;
+          same_lines = same_lines;
+          consumed = b.consumed;
+          counted = rw (state, was.taken) (omega (arith, b.counted));
+          joined = joined;
+          clear = cut.1;
+          short = unread_fits new.buffer;
+          holds = λ below. omega (arith, ap line_feeds kept, ap line_feeds joined, line_feeds-append (held old) b.bytes, line_feeds-append cut.0 (unread new.buffer), line_feeds-none cut.0 cut.1);
+          kept = rw (state, is_fault) refl;
+          untold = rw state refl;
+          empty = nothing_buffered;
+        } in
+        stepped_cut line (λ e. absurd (some_place (sym e ∙ is_fault))) (inr is_fault) (λ e. b.stopped.2)
 
 -- Lemmas on what a reader keeps in each state.
 
@@ -289,7 +331,7 @@ pub last_closed : (all complete unread : List ℕ) → NoLineFeed all → comple
 last_closed all complete unread clear e none = grind (arith, closed_feeds, length-append)
 
 -- each line given has a byte, and those held come after them
-module _ (lines : ℕ) (old_complete old_unread bytes : List ℕ) (old_taken taken : ℕ) (none : old_complete ≡ []) (counted : taken + 0 ≡ old_taken + length bytes) where
+module _ (lines : ℕ) {old_complete : List ℕ} (old_unread bytes : List ℕ) {old_taken taken : ℕ} (none : old_complete ≡ []) (counted : taken + 0 ≡ old_taken + length bytes) where
   pub spaced : (state : State) → state ≡ Reading → lines + length (held_at (open_at state) old_complete old_unread) ≤ old_taken
       → (complete unread : List ℕ) → old_unread ++ bytes ≡ complete ++ unread → lines + length (held_at (open_at state) complete unread) ≤ taken
   spaced state e before complete unread joined = grind (arith, length-append)
@@ -301,9 +343,9 @@ module _ (lines : ℕ) (old_complete old_unread bytes : List ℕ) (old_taken tak
       → (complete unread : List ℕ) → complete ≡ closed (old_unread ++ bytes) → lines + length (held_at true complete unread) ≤ taken
   spaced_last state e before complete unread is = omega (arith, spaced_all state e before, ap length (held_closed (old_unread ++ bytes) complete unread is))
 
-  pub spaced_fault : (state : State) → state ≡ Reading → lines + length (held_at (open_at state) old_complete old_unread) ≤ old_taken
-      → (complete unread text : List ℕ) → complete ≡ [] → old_unread ++ bytes ≡ text ++ unread → lines + length (held_at false complete unread) ≤ taken
-  spaced_fault state e before complete unread text gone joined = grind (arith, spaced_all, length-append)
+  pub spaced_fault : {state : State} → state ≡ Reading → lines + length (held_at (open_at state) old_complete old_unread) ≤ old_taken
+      → {complete : List ℕ} (unread text : List ℕ) → complete ≡ [] → old_unread ++ bytes ≡ text ++ unread → lines + length (held_at false complete unread) ≤ taken
+  spaced_fault e before unread text gone joined = grind (arith, spaced_all, length-append)
 
 pub some_state : (state : State) → (lends_at state ≡ false → ⊥) → (state ≡ Reading) ⊎ (state ≡ LastLine)
 some_state state h = grind arith

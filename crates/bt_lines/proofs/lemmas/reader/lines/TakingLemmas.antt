@@ -1,5 +1,5 @@
 -- Lemmas on lines that are taken of those that are buffered.
-use Rattle.bt_lines.proofs.Std.{common_steps, ◌≡◌, ◌⊎◌, inl, inr, ℕ, zero, suc, ◌+◌, ◌-◌, ◌^◌, ◌<◌, ◌≤◌, Bool, true, false, nat_eq, List, [], ◌∷◌, ◌++◌, length, take, drop, refl, sym, ap, ◌∙◌, Option, None, Some, append_assoc, length-append, arith, IfSome, option_map, drop_all, drop_at, take_all, take_at, length-take, take-append-drop, Consumes-trans}
+use Rattle.bt_lines.proofs.Std.{common_steps, ◌≡◌, ◌⊎◌, inl, inr, ℕ, suc, ◌+◌, ◌-◌, ◌^◌, ◌<◌, ◌≤◌, Bool, true, false, nat_eq, List, [], ◌∷◌, ◌++◌, length, take, drop, refl, sym, ap, ◌∙◌, Option, None, Some, append_assoc, length-append, arith, IfSome, option_map, drop_all, drop_at, take_all, take_at, length-take, take-append-drop, Consumes-trans}
 use Rattle.bt_lines.specs.declared.device.Source.{Ghosts as Source}
 use Rattle.bt_lines.proofs.lemmas.reader.block.BufferLemmas.{fed_clear, fed_drop, fed_last, fed_none, unread_fits}
 use Rattle.bt_lines.proofs.lemmas.reader.lines.BufferedLemmas.{are_fed, lines_fit}
@@ -10,7 +10,6 @@ use Rattle.bt_lines.specs.model.Lines.{TextLine, bytes_in, last_line, lines_from
 use Rattle.bt_lines.specs.calls.Output.{block_size}
 use Rattle.bt_lines.specs.inside.ReadBuffer.{complete, unread, ended_at, fault_at, lends_at, open_at, taken_at, told_at}
 use Rattle.bt_lines.specs.inside.Shape.{IsLast, held_at, is_fed}
-use Rattle.bt_lines.specs.declared.fault.Input.{Input}
 use Rattle.bt_lines.specs.declared.reader.buffered_lines.ConsumedLines.{ConsumedLines}
 use Rattle.bt_lines.specs.declared.reader.line_reader.LineReader.{LineReader}
 use Rattle.bt_lines.specs.declared.reader.line_reader.State.{State}

@@ -1,4 +1,4 @@
-use Rattle.bt_lines.proofs.Std.{◌-◌, arith, drop-set}
+use Rattle.bt_lines.proofs.Std.{arith, drop-set}
 use Rattle.bt_lines.proofs.lemmas.Writer.{twenty_digits}
 use Rattle.bt_lines.proofs.numbers.number_column.write_column.Goals as goal
 

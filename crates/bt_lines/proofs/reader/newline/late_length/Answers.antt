@@ -1,4 +1,4 @@
-use Rattle.bt_lines.proofs.Std.{◌≡◌, ◌+◌, ◌<◌, false, length, arith, eqb, rules, eqb-true, false_from_ne_true, All-more}
+use Rattle.bt_lines.proofs.Std.{◌≡◌, false, arith, eqb, rules, eqb-true, false_from_ne_true, All-more}
 use Rattle.bt_lines.proofs.lemmas.reader.block.FillLemmas.{before_feed, chunk_inside, chunk_of, feed_behind, none_behind}
 use Rattle.bt_lines.proofs.reader.newline.late_length.Goals as goal
 

@@ -12,7 +12,7 @@ read_long-requires-clause-some g c = some_full _ c.if-is_full.ensures
 pub returns-then-is_full-clause-buffers : goal.returns-then-is_full-clause-buffers
 returns-then-is_full-clause-buffers g c =
     let finds = c.loop-buffer-test.ensures.finds in
-    then_long _ _ _ _ _ _ _ c.loop-buffer.invariant.0 _ finds.1 finds.2 _ _ _ _ _ c.read_long.ensures.buffers
+    then_long _ c.loop-buffer.invariant.0 finds.1 finds.2 _ _ _ _ _ c.read_long.ensures.buffers
 
 pub ask_more-requires-clause-room : goal.ask_more-requires-clause-room
 ask_more-requires-clause-room g c = not_full _ c.if-is_full.ensures (unread_fits c.find_lines.new.self)
@@ -20,17 +20,17 @@ ask_more-requires-clause-room g c = not_full _ c.if-is_full.ensures (unread_fits
 pub returns-in-NoBytes-clause-buffers : goal.returns-in-NoBytes-clause-buffers
 returns-in-NoBytes-clause-buffers g c =
     let finds = c.loop-buffer-test.ensures.finds in
-    text_ended _ _ _ _ _ _ _ c.loop-buffer.invariant.0 _ finds.1 finds.2 _ _ _ _ _ c.in-NoBytes.ensures.asks c.end_text.ensures.lines c.end_text.ensures.unread
+    text_ended _ c.loop-buffer.invariant.0 finds.1 finds.2 _ _ _ _ _ c.in-NoBytes.ensures.asks c.end_text.ensures.lines c.end_text.ensures.unread
 
 pub returns-in-BadRead-clause-buffers : goal.returns-in-BadRead-clause-buffers
 returns-in-BadRead-clause-buffers g c =
     let finds = c.loop-buffer-test.ensures.finds in
-    source_failed _ _ _ _ _ _ _ c.loop-buffer.invariant.0 _ finds.1 finds.2 _ _ _ _ c.in-BadRead.ensures.asks c.in-BadRead.ensures.none
+    source_failed _ c.loop-buffer.invariant.0 finds.1 finds.2 _ _ _ _ c.in-BadRead.ensures.asks c.in-BadRead.ensures.none
 
 pub returns-in-PastBound-clause-buffers : goal.returns-in-PastBound-clause-buffers
 returns-in-PastBound-clause-buffers g c =
     let finds = c.loop-buffer-test.ensures.finds in
-    text_too_long _ _ _ _ _ _ _ c.loop-buffer.invariant.0 _ finds.1 finds.2 _ _ _ _ c.in-PastBound.ensures.asks c.in-PastBound.ensures.none
+    text_too_long _ c.loop-buffer.invariant.0 finds.1 finds.2 _ _ _ _ c.in-PastBound.ensures.asks c.in-PastBound.ensures.none
 
 pub returns-then-is_full-clause-counted : goal.returns-then-is_full-clause-counted
 returns-then-is_full-clause-counted g c = then_counted g.S.Source.is_read _ _ _ _ _ _ _ c.loop-buffer.invariant.1 c.read_long.ensures.counted

@@ -8,6 +8,5 @@ returns-clause-written c =
     let start = c.write_column-first in
     let text = c.args.text.now in
     let same = length-set text 42 c.args.end in
-    span_moved start.new.text start.result _ (omega arith)
-    (span_written text stop.new.text start.new.text c.args.start c.args.stop c.args.end stop.result start.result (omega arith) (omega arith) (omega arith)
+    span_moved start.new.text start.result _ (omega arith) (span_written text stop.new.text c.args.start c.args.stop c.args.end stop.result (omega arith) (omega arith) (omega arith)
     stop.ensures.written start.ensures.written)

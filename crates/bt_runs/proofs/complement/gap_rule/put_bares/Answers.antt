@@ -22,7 +22,7 @@ returns-in_err-put_gap g c =
     let gap = λ (name : List ℕ) (n : ℕ). interval_lines (gap_between name 0 n) in
     let cut = subst (λ n. Adds {A = Unit {0}} c.loop-rank.out.output (gap (entry_at table rank).name n) (Err c.in_err-put_gap.field-0.0) c.put_gap.new.out.output) (sym size)
     (subst (λ name. Adds {A = Unit {0}} c.loop-rank.out.output (gap name c.length.result) (Err c.in_err-put_gap.field-0.0) c.put_gap.new.out.output) (sym named) c.in_err-put_gap.ensures) in
-    rw (p.1, p.2, c.if-limit.false) (bare_cut (bare_gap false) table interval_line c.args.first rank (omega arith) (omega arith) _ _ _ c.loop-rank.invariant c.args.stop c.in_err-put_gap.field-0.0 (omega arith) cut)
+    rw (p.1, p.2, c.if-limit.false) (bare_cut (bare_gap false) table interval_line (omega arith) (omega arith) _ c.loop-rank.invariant c.args.stop c.in_err-put_gap.field-0.0 (omega arith) cut)
 
 pub loop-rank-preserved : goal.loop-rank-preserved
 loop-rank-preserved g c =
@@ -33,7 +33,7 @@ loop-rank-preserved g c =
     let gap = λ (name : List ℕ) (n : ℕ). interval_lines (gap_between name 0 n) in
     let whole = subst (λ n. Grown c.loop-rank.out.output (gap (entry_at table rank).name n) c.put_gap.new.out.output) (sym size)
     (subst (λ name. Grown c.loop-rank.out.output (gap name c.length.result) c.put_gap.new.out.output) (sym named) c.in_ok-put_gap.ensures) in
-    one_bare (bare_gap false) table interval_line c.args.first rank (omega arith) (omega arith) _ _ _ c.loop-rank.invariant whole
+    one_bare (bare_gap false) table interval_line (omega arith) (omega arith) _ c.loop-rank.invariant whole
 
 pub returns : goal.returns
 returns g c = grind arith

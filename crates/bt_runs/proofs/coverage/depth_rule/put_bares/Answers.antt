@@ -21,7 +21,7 @@ returns-in_err-put_depth g c =
     let r : DepthInterval = record { chrom = c.name.result.now; start = 0; stop = c.length-length.result; depth = 0 } in
     let cut : Adds {A = Unit {0}} c.loop-rank.out.output (depth_lines (bare_of zeros (entry_at table rank))) (Err c.in_err-put_depth.field-0.0) c.put_depth.new.out.output =
     rw (bare_some zeros table rank c.length-length.result c.name.result.now size named c.if-chroms.true c.if-length-gt0.true) (adds_line {A = Unit {0}} r c.loop-rank.out.output c.put_depth.new.out.output (Err c.in_err-put_depth.field-0.0) c.in_err-put_depth.ensures) in
-    rw (p.1, p.2) (bare_cut (bare_of zeros) table depth_line c.args.first rank (omega arith) (omega arith) _ _ _ c.loop-rank.invariant c.args.stop c.in_err-put_depth.field-0.0 (omega arith) cut)
+    rw (p.1, p.2) (bare_cut (bare_of zeros) table depth_line (omega arith) (omega arith) _ c.loop-rank.invariant c.args.stop c.in_err-put_depth.field-0.0 (omega arith) cut)
 
 pub loop-rank-preserved : goal.loop-rank-preserved
 loop-rank-preserved g c =
@@ -39,4 +39,4 @@ loop-rank-preserved g c =
         | else-chroms-via-else-chroms w' ↦ rw (bare_unasked zeros (entry_at table rank) w'.if-chroms.false) (grown_none c.loop-rank.out.output)
       ])
     ] in
-    one_bare (bare_of zeros) table depth_line c.args.first rank (omega arith) (omega arith) _ _ _ c.loop-rank.invariant put
+    one_bare (bare_of zeros) table depth_line (omega arith) (omega arith) _ c.loop-rank.invariant put

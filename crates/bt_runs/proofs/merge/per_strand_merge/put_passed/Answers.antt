@@ -21,7 +21,7 @@ returns-in_err-put_interval-clause-adds g c =
       | else-here-via-then-here+else-reach-run w ↦ over_so c.args.here c.args.reach c.in-Some.run' (inr w.if-reach-run.false)
       | else-here-via-else-here w ↦ over_so c.args.here c.args.reach c.in-Some.run' (inl w.if-here.false)
     ] in
-    rw (p.1, p.2) (line_cut (Unit {0}) c.args.chrom.now c.args.here c.args.reach c.args.runs.now c.loop-run.runs c.in-Some.run' c.args.out.now.output c.loop-run.out.output c.put_interval.new.out.output c.in_err-put_interval.field-0.0 c.loop-run.invariant.written is over c.loop-run.invariant.puts c.in_err-put_interval.ensures)
+    rw (p.1, p.2) (line_cut (Unit {0}) c.args.chrom.now c.in_err-put_interval.field-0.0 c.loop-run.invariant.written is over c.loop-run.invariant.puts c.in_err-put_interval.ensures)
 
 pub loop-run-preserved : goal.loop-run-preserved
 loop-run-preserved g c =

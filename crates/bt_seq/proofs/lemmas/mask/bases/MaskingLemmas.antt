@@ -51,7 +51,7 @@ pub passes_line : {A : Type 0} (done : A) (old new : Masking) (number : ℕ) (li
 passes_line done old new number line out grown p = grind (arith, none_held, none_masked)
 
 -- a record decided the line that waits, which was written
-pub wrote_line : (old inside known new : Masking) (r : Feature) (owner : Owner) (matched : Matched) (line : Waiting) (out grown : Output)
+pub wrote_line : {old inside known new : Masking} (r : Feature) {owner : Owner} {matched : Matched} (line : Waiting) {out grown : Output}
     → known ≡ record inside { matched = matched; decided_to = decides_up_to owner r.start } → inside ≡ old
     → owner ≡ owner_of inside.matched r.chrom → matched ≡ matched_with inside.matched r.chrom
     → decides_by owner inside.window.bases r.start ≡ true
@@ -59,7 +59,7 @@ pub wrote_line : (old inside known new : Masking) (r : Feature) (owner : Owner) 
     → (decides old r ≡ true)
     × (new ≡ record (with_owner old r.chrom) { waiting = None; want = Line; decided_to = decides_up_to (owner_of old.matched r.chrom) r.start })
     × Grown out (line_bytes old line) grown
-wrote_line old inside known new r owner matched line out grown k e o m d w = grind arith
+wrote_line r line k e o m d w = grind arith
 
 -- Lemmas on masked bases.
 

@@ -21,12 +21,12 @@ use Rattle.std.specs.List.{last_or}
 use Rattle.bt_seq.specs.calls.MaskSteps.{MaskMovesTo, MaskStandsAt, IsAtStage}
 use Rattle.bt_seq.specs.declared.mask.mask_how.MaskHow.{MaskHow}
 
-pub copied_line : (to : ℕ) (old new : CopyThrough) (line : Shown) (cut : Cut (rest_in old.lines) line) → old.lines.is_open ≡ false
+pub copied_line : {to : ℕ} {old new : CopyThrough} {line : Shown} (cut : Cut (rest_in old.lines) line) → old.lines.is_open ≡ false
     → PassesLine old.lines (line_of old.lines line) new.lines
     → rest_in new.lines ≡ drop line.size (rest_in old.lines) → new.lines.at ≡ old.lines.at + line.size
     → is_header line.text ≡ false → new.before ≡ old.bases → new.bases ≡ min (old.bases + length line.text) limit → new.bases ≤ to
     → CopiesLine to old (line_of old.lines line) new
-copied_line to old new line cut closed passes rest at no_header before bases within = grind (arith, common_steps)
+copied_line cut closed passes rest at no_header before bases within = grind (arith, common_steps)
 
 -- one more line was consumed after others
 pub copied_behind : (to : ℕ) (old mid new : CopyThrough) (lines : List TextLine) (line : TextLine)

@@ -16,7 +16,7 @@ returns-in_err-free g c = λ rises.
     let at = c.nth.ensures ∙ sym (get_took held c.args.count c.loop-index.index c.loop-index-test.true) in
     let so_far = c.loop-index.invariant in
     let adds = subst (λ (o : Option Feature). Adds {A = ℕ} c.loop-index.out.output (lines_before a c.loop-index.free (hits_among c.args.rule a (option_to_list o))) (Err c.in_err-free.field-0.0) c.put_before.new.out.output) at c.in_err-free.ensures.adds in
-    rw (p.1, p.2) (pieces_cut c.args.rule a took c.loop-index.index c.loop-index.free so_far.reached ℕ c.args.out.now.output c.loop-index.out.output c.put_before.new.out.output c.in_err-free.field-0.0 (rising_took held c.args.count rises) so_far.put adds)
+    rw (p.1, p.2) (pieces_cut c.args.rule a took c.loop-index.index so_far.reached ℕ c.in_err-free.field-0.0 (rising_took held c.args.count rises) so_far.put adds)
 
 pub loop-index-preserved : goal.loop-index-preserved
 loop-index-preserved g c =
@@ -28,12 +28,12 @@ loop-index-preserved g c =
     let adds = subst (λ (o : Option Feature). Adds {A = ℕ} c.loop-index.out.output (lines_before a c.loop-index.free (hits_among c.args.rule a (option_to_list o))) (Ok c.in_ok-free.free) c.put_before.new.out.output) at c.in_ok-free.ensures.adds in
     let next = c.in_ok-free.ensures.next ∙ ap (λ (o : Option Feature). free_after c.loop-index.free (hits_among c.args.rule a (option_to_list o))) at in
     record {
-      reached = free_next c.args.rule a took c.loop-index.index c.loop-index.free so_far.reached c.in_ok-free.free next;
-      put = pieces_next c.args.rule a took c.loop-index.index c.loop-index.free so_far.reached c.args.out.now.output c.loop-index.out.output c.put_before.new.out.output so_far.put adds;
+      reached = free_next c.args.rule a took c.loop-index.index so_far.reached c.in_ok-free.free next;
+      put = pieces_next c.args.rule a took c.loop-index.index so_far.reached c.args.out.now.output c.loop-index.out.output c.put_before.new.out.output so_far.put adds;
     }
 
 pub returns : goal.returns
 returns g c = λ rises.
     let held = g.H.Held.records c.args.held.now in
-    pieces_end c.args.rule (feature_lent c.args.a.now) (take c.args.count held) c.put_gap.result c.loop-index.index c.loop-index.free c.args.out.now.output c.loop-index.out.output c.put_gap.new.out.output
+    pieces_end c.args.rule (feature_lent c.args.a.now) (take c.args.count held) c.put_gap.result c.put_gap.new.out.output
     (omega (arith, took_few held c.args.count, c.loop-index-test.false)) c.loop-index.invariant.reached (rising_took held c.args.count rises) c.loop-index.invariant.put c.put_gap.ensures

@@ -16,16 +16,16 @@ returns-in_err-advance-clause-gives g c = λ stage a st waits ordered.
     let e = err_from_is_err_and c.from_residual.result c.from_residual.ensures.1 in
     rw (e.1, e.2) (
       c.in_err-advance.ensures.stops,
-      fails_b st c.none.result c.new-given.result (g.met.O.ChromOrder.total c.args.self.now.order.now) a (feature_lent c.args.b.now) waits (c.args.self.now.known a (st.current_is ∙ waits)) ordered
+      fails_b st c.none.result c.new-given.result (g.met.O.ChromOrder.total c.args.self.now.order.now) waits (c.args.self.now.known a (st.current_is ∙ waits)) ordered
           c.none.ensures.left c.new-given.ensures.left c.args.line c.new-given.ensures.line c.in_err-advance.ensures.advances,
     )
 
 pub returns-then-is_empty-clause-gives : goal.returns-then-is_empty-clause-gives
 returns-then-is_empty-clause-gives g c = λ stage a st waits ordered.
-    takes_b st c.none.result c.new-given.result (g.met.O.ChromOrder.total c.args.self.now.order.now) a (feature_lent c.args.b.now) waits (c.args.self.now.known a (st.current_is ∙ waits)) ordered
+    takes_b st c.none.result c.new-given.result (g.met.O.ChromOrder.total c.args.self.now.order.now) waits (c.args.self.now.known a (st.current_is ∙ waits)) ordered
     c.none.ensures.left c.new-given.ensures.left c.args.line c.in_ok-advance.ensures.advances.0 (c.is_empty.ensures.none c.if-is_empty.true)
 
 pub returns-else-is_empty-clause-gives : goal.returns-else-is_empty-clause-gives
 returns-else-is_empty-clause-gives g c = λ stage a st waits ordered.
-    decides_a st c.none.result c.new-given.result (g.met.O.ChromOrder.total c.args.self.now.order.now) a (feature_lent c.args.b.now) waits (c.args.self.now.known a (st.current_is ∙ waits)) ordered
+    decides_a st c.none.result c.new-given.result (g.met.O.ChromOrder.total c.args.self.now.order.now) waits (c.args.self.now.known a (st.current_is ∙ waits)) ordered
     c.none.ensures.left c.new-given.ensures.left c.args.line c.in_ok-advance.ensures.advances.0 c.in_ok-advance.ensures.advances.1 (c.is_empty.ensures.some c.if-is_empty.false).1

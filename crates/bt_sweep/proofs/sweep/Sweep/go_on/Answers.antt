@@ -43,6 +43,6 @@ returns-clause-advances g c =
     let first = g.A.Record.Record.feature c.in-Some.first in
     let given = subst (λ (x : g.row.A.Denot). g.A.Cursor.gives x (first ∷ []) c.next.new.self.cursor) c.new-firsts.ensures.cursor c.in-Some.ensures.some in
     let j = rw c.in-Some-2.is at c.in_ok-waiting.ensures.joins in
-    kept_or_not (starts_entered (g.met.O.ChromOrder.total c.args.self.now.order.now) (none_waits old c.requires.want) c.enter.ensures.entered) g.A.Cursor (g.A.Record.Record.feature c.in-Some-2.waiting) j.0 (none_waits old c.requires.want) j.1.0 j.1.1
+    kept_or_not (starts_entered (g.met.O.ChromOrder.total c.args.self.now.order.now) (none_waits old c.requires.want) c.enter.ensures.entered) g.A.Cursor j.0 (none_waits old c.requires.want) j.1.0 j.1.1
     (g.met.A.Cursor.gives_more _ _ _ (first ∷ []) j.0.proceeds.firsts given j.0.proceeds.gives_firsts) (c.in_ok-waiting.ensures.phase ∙ ap (λ (s : Sweeping). s.phase) c.enter.ensures.entered)
     (not_over old c.requires.want) j.2 c.keep.result c.keep.new.self c.keep.ensures

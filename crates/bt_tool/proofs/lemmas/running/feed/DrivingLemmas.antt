@@ -71,11 +71,16 @@ pub records_sorted : (Taken : List Feature → Type 0) (order : Order) → IsTot
     → (text : List ℕ) → Taken (member_items (good (bed_format (sorting_of order)) First (text_lines text)).members)
 records_sorted Taken order total takes text = grind (arith, (placed_good First order (whole_text text) total), (non_empty_good First order (whole_text text)))
 
-module _ {S A State : Type 0} (written : Written A) (kinds : Kind → Type 0) (Sorted Taken : List A → Type 0)
-    (stays : (past more : List A) → Taken (past ++ more) → (rest : List ℕ) × (written.settled (past ++ more) ≡ written.settled past ++ rest))
-    (begins : (past more : List A) → Taken (past ++ more) → (rest : List ℕ) × (written.whole (past ++ more) ≡ written.settled past ++ rest))
-    (device : Source S) (format : Format A State) (taken : (text : List ℕ) → Taken (member_items (good format First (text_lines text)).members))
-    (old : MemberReader S A State) (first : S) (out : Output) (starts : BeginsAt device.left format First first old) (new : MemberReader S A State) (last : S) (ended : source_of new.below ≡ last) where
+-- the input is read from its beginning up to `last`, and no later record changes a line that is settled
+pub record IsDriven {S A State : Type 0} (written : Written A) (Taken : List A → Type 0) (device : Source S) (format : Format A State) (old : MemberReader S A State) (first : S) (new : MemberReader S A State) (last : S) : Type 0 where
+  pub stays : (past more : List A) → Taken (past ++ more) → (rest : List ℕ) × (written.settled (past ++ more) ≡ written.settled past ++ rest)
+  pub begins : (past more : List A) → Taken (past ++ more) → (rest : List ℕ) × (written.whole (past ++ more) ≡ written.settled past ++ rest)
+  pub taken : (text : List ℕ) → Taken (member_items (good format First (text_lines text)).members)
+  pub starts : BeginsAt device.left format First first old
+  pub ended : source_of new.below ≡ last
+
+module _ {S A State : Type 0} {written : Written A} {Taken : List A → Type 0} {device : Source S} {format : Format A State} {old : MemberReader S A State} {first : S} {new : MemberReader S A State} {last : S}
+    (driven : IsDriven written Taken device format old first new last) (kinds : Kind → Type 0) (Sorted : List A → Type 0) (out : Output) where
   -- what is good of what was handed over
   abbrev good_of : Handed → Good A
   good_of handed = good_handed format First handed
@@ -84,7 +89,7 @@ module _ {S A State : Type 0} (written : Written A) (kinds : Kind → Type 0) (S
   report = members_report written format
 
   of_text : (text : List ℕ) → device.left first ≡ Some text → (P : Good A → Type 0) → IfSome (good_coming device.left old) P → P (good_of (whole_text text))
-  of_text = at_whole device format First first old starts new last ended
+  of_text = at_whole device old driven.starts new driven.ended
 
   -- the report, by these members and the fault
   report_of : (handed : Handed) (past : List (Member A)) (fault : Option FaultValue) → ((good_of handed).members ≡ past) × ((good_of handed).fault ≡ fault)
@@ -92,33 +97,32 @@ module _ {S A State : Type 0} (written : Written A) (kinds : Kind → Type 0) (S
   report_of handed past fault says = grind arith
 
   begins_by : (items past rest : List A) (fault : Option FaultValue) → items ≡ past ++ rest → Taken items → (more : List ℕ) × ((report_by written items fault).output ≡ written.settled past ++ more)
-  begins_by items past rest None e t = let b = begins past rest (subst Taken e t) in (b.0, ap written.whole e ∙ b.1)
-  begins_by items past rest (Some fault) e t = let b = stays past rest (subst Taken e t) in (b.0, ap written.settled e ∙ b.1)
+  begins_by items past rest None e t = let b = driven.begins past rest (subst Taken e t) in (b.0, ap written.whole e ∙ b.1)
+  begins_by items past rest (Some fault) e t = let b = driven.stays past rest (subst Taken e t) in (b.0, ap written.settled e ∙ b.1)
 
   -- a prefix of the records gives a prefix of the output
   begins_output : (one : Handed) (past : List (Member A)) → Holds device.left first one → IfSome (good_coming device.left old) (λ good. (rest : List (Member A)) × (good.members ≡ past ++ rest))
       → (rest : List ℕ) × ((report one).output ≡ written.settled (member_items past) ++ rest)
   begins_output one past holds b =
       let here = of_text holds.text holds.known (λ good. (rest : List (Member A)) × (good.members ≡ past ++ rest)) b in
-      let begun = begins_by (items_in (good_of (whole_text holds.text))) (member_items past) (member_items here.0) (good_of (whole_text holds.text)).fault (ap member_items here.1 ∙ items_both past here.0) (taken holds.text) in
+      let begun = begins_by (items_in (good_of (whole_text holds.text))) (member_items past) (member_items here.0) (good_of (whole_text holds.text)).fault (ap member_items here.1 ∙ items_both past here.0) (driven.taken holds.text) in
       (begun.0, ap (λ (h : Handed). (report h).output) holds.is ∙ begun.1)
 
   -- how far the input was read
-  near_by : (one : Handed) (before took : List ℕ) → Holds device.left first one → out.put ≡ Some before → out.took ≡ Some took → (bytes : List ℕ) × Hands device.left old.below bytes new.below
-      → (past : List (Member A)) → IsReadFor device old past past new → (grown : Output) → TookButBlock out (written.settled (member_items past)) grown
+  near_by : {one : Handed} {before took : List ℕ} → Holds device.left first one → out.put ≡ Some before → out.took ≡ Some took → (bytes : List ℕ) × Hands device.left old.below bytes new.below
+      → {past : List (Member A)} → IsReadFor device old past past new → {grown : Output} → TookButBlock out (written.settled (member_items past)) grown
       → (Stopped : Type 0) → (Stopped → PutsLines out (written.settled (member_items past)) grown)
       → ReadsNoFurther (λ n. IsWithin (device.end_told last) one.text n → ⊤) (members_settle written format) one.text (device.left last) before grown.took (grown.has_failed ≡ true) Stopped grown.put
-  near_by one before took holds put known hands past read grown kept Stopped exact =
+  near_by {before} {took} holds put known hands {past} read {grown} kept Stopped exact =
       let text = holds.text in
       let e = holds.known in
       let count = read.to.count in
-      let handed = handed_to device format First first old starts new last ended count text e read.to.near hands in
-      let all = good format First (text_lines text) in
+      let handed = handed_to device old driven.starts new driven.ended count text e read.to.near hands in
       let b = subst (λ (g : Good A). (rest : List (Member A)) × (g.members ≡ past ++ rest) × IsBeyond count (record { members = rest; fault = g.fault })) (good_whole format First text)
       (of_text text e (λ good. (rest : List (Member A)) × (good.members ≡ past ++ rest) × IsBeyond count (record { members = rest; fault = good.fault })) read.to.behind) in
       let on_lines : written.settled (member_items past) ≡ members_settle written format (take count (text_lines text)) =
       sym (ap (λ (g : Good A). written.settled (items_in g))
-      (first_from format First count count 1 format.begin (text_lines text) past b.0 all.fault (omega arith) (lines_are_numbered 1 text) b.1 refl read.low b.2)) in
+      (first_from format First count 1 format.begin (text_lines text) (omega arith) (lines_are_numbered 1 text) b.1 refl read.low b.2)) in
       let settled = subst (λ l. TookButBlock out l grown) on_lines kept in
       let less : suc count - 1 ≡ count = omega arith in
       subst (λ (h : Handed). ReadsNoFurther (λ n. IsWithin (device.end_told last) h.text n → ⊤) (members_settle written format) h.text (device.left last) before grown.took (grown.has_failed ≡ true) Stopped grown.put) (sym holds.is) (record {
@@ -142,7 +146,7 @@ module _ {S A State : Type 0} (written : Written A) (kinds : Kind → Type 0) (S
         → Some fault ≢ Some write_failed → Some fault ≢ Some no_memory → (bytes : List ℕ) × Hands device.left old.below bytes new.below → Cause past → IsReported (report handed) before (Some fault) grown
     reported_by past handed before came put write memory hands (inl taking) =
         elim taking.cause [
-          | inl behind ↦ grind (arith, (report_of handed past (Some fault) (says_fault device format First first old starts new last ended kinds past fault handed came hands behind)))
+          | inl behind ↦ grind (arith, (report_of handed past (Some fault) (says_fault device old driven.starts new driven.ended kinds past fault handed came hands behind)))
           | inr lacks ↦ absurd (memory (ap Some lacks.is))
         ]
     reported_by past handed before came put write memory hands (inr writing) = absurd (write (ap Some writing.is))
@@ -166,12 +170,12 @@ module _ {S A State : Type 0} (written : Written A) (kinds : Kind → Type 0) (S
           (part.front, part.rest ++ more.0, more.1 ∙ ap (λ l. l ++ more.0) part.parts ∙ append_assoc part.front part.rest more.0, part.puts before put);
       grows = fed.took.grows;
       served = λ e. cc;
-      near = λ one two before taken holds others put known. near_by one before taken holds put known fed.took.bytes fed.took.before fed.took.read grown fed.took.kept
+      near = λ one two before taken holds others put known. near_by holds put known fed.took.bytes fed.took.read fed.took.kept
           (IsFaultButWrite (Some fault)) (λ stops. fed.exact (λ is. stops.1 (ap Some is)));
       named = λ told e. grind arith;
     }
 
-  module _ (Stands : List A → Type 0) (grown : Output) (fed : FeedsAll written.settled kinds Sorted device Stands old out new grown) (finished : Output) (goes : GoesOn grown finished) where
+  module _ {Stands : List A → Type 0} {grown : Output} (fed : FeedsAll written.settled kinds Sorted device Stands old out new grown) {finished : Output} (goes : GoesOn grown finished) where
     abbrev Ends : Option FaultValue → Type 0
     Ends fault = WritesBy device device (of_members kinds written format) first None out fault last None finished
 
@@ -179,7 +183,7 @@ module _ {S A State : Type 0} (written : Written A) (kinds : Kind → Type 0) (S
     report_all : (other : Option FaultValue) (handed : Handed) → Came device first last other handed → report handed ≡ report_by written (member_items fed.past) None
     report_all other handed came =
         report_of handed fed.past None
-        (came_whole device format First first old starts new last ended other handed came fed.took.bytes fed.served fed.within (λ good. (good.members ≡ fed.past) × (good.fault ≡ None)) fed.whole)
+        (came_whole device old driven.starts new driven.ended came fed.took.bytes fed.served fed.within (λ good. (good.members ≡ fed.past) × (good.fault ≡ None)) fed.whole)
 
     report_whole : (one : Handed) → Holds device.left first one → report one ≡ report_by written (member_items fed.past) None
     report_whole one holds = rw holds.is (report_of (whole_text holds.text) fed.past None (of_text holds.text holds.known (λ good. (good.members ≡ fed.past) × (good.fault ≡ None)) fed.whole))
@@ -187,7 +191,7 @@ module _ {S A State : Type 0} (written : Written A) (kinds : Kind → Type 0) (S
     near_end : (fault : Option FaultValue) → (IsFaultButWrite fault → ⊥) → (one : Handed) (two : Option Handed) (before taken : List ℕ) → Holds device.left first one → OfBoth (Holds device.left) None two → out.put ≡ Some before → out.took ≡ Some taken
         → ReadsNoFurther (λ n. IsWithin (device.end_told last) one.text n → ⊤) (members_settle written format) one.text (device.left last) before finished.took (finished.has_failed ≡ true) (IsFaultButWrite fault) finished.put
     near_end fault never one two before taken holds others put known =
-        near_by one before taken holds put known fed.took.bytes fed.took.before fed.took.read finished
+        near_by holds put known fed.took.bytes fed.took.read
         (took_later out grown finished (written.settled (member_items fed.took.before)) fed.took.grows goes fed.took.kept) (IsFaultButWrite fault) (λ stops. absurd (never stops))
 
     pub drives_all : (rest : List ℕ) → written.whole (member_items fed.past) ≡ written.settled (member_items fed.past) ++ rest → Appends grown.put finished.put rest → finished.sink_has_failed ≡ grown.sink_has_failed → Ends None
@@ -205,14 +209,14 @@ module _ {S A State : Type 0} (written : Written A) (kinds : Kind → Type 0) (S
           kept = λ other one two before holds others put.
               (written.whole (member_items fed.past), [], ap (λ r. r.output) (report_whole one holds) ∙ sym (append-nil (written.whole (member_items fed.past))), put_all before put);
           grows = grows_both out.took grown.took finished.took fed.took.grows goes.took;
-          served = λ e. ((ap device.has_failed (sym ended) ∙ fed.served ∙ ap device.has_failed starts.source, tt), works ∙ fed.works.sink_served);
+          served = λ e. ((ap device.has_failed (sym driven.ended) ∙ fed.served ∙ ap device.has_failed driven.starts.source, tt), works ∙ fed.works.sink_served);
           near = near_end None (λ stops. stops.0 refl);
           named = λ told e. cc;
         }
 
-    pub drives_cut : (fault : FaultValue) → fault ≡ write_failed → (rest : List ℕ) → written.whole (member_items fed.past) ≡ written.settled (member_items fed.past) ++ rest
+    pub drives_cut : {fault : FaultValue} → fault ≡ write_failed → (rest : List ℕ) → written.whole (member_items fed.past) ≡ written.settled (member_items fed.past) ++ rest
         → IsPrefixOf finished.took grown.put rest → finished.sink_has_failed ≡ true → Ends (Some fault)
-    drives_cut fault is rest whole front sink = record {
+    drives_cut {fault} is rest whole front sink = record {
       whole = λ one two before reads others put write memory. absurd (write (ap Some is));
       told = λ one two before holds others put of_input. absurd (of_input.no_write (ap Some is));
       cut = λ e one two before holds others put. (
@@ -254,7 +258,7 @@ module _ {S : Type 0} (split cigar : Bool) (device : Source S) where
     pub going_start : IsFresh device (sam_reader old) → HoldsBlock out.took out.put → Going old out old out
     going_start fresh block = record { past = []; fed = fed_none lines_of device (sam_reader old) out fresh fresh.going refl block; sound = fresh.sound }
 
-    module _ (now : LineReader S) (grown : Output) (g : Going old out now grown) where
+    module _ {now : LineReader S} {grown : Output} (g : Going old out now grown) where
       abbrev UpTo : FaultValue → MemberReader S Alignment ⊤ → Output → Type 0
       UpTo fault new later = FeedsUpTo lines_of (IsOneOf is_sam_kind) Any device (sam_reader old) out fault new later
 
@@ -283,7 +287,7 @@ module _ {S : Type 0} (split cigar : Bool) (device : Source S) where
           })
 
       -- a line was given
-      module _ (new : LineReader S) (line : TextLine) (gives : GivesLine device now line new) (sound : IsSound device now → IsSound device new) where
+      module _ {new : LineReader S} {line : TextLine} (gives : GivesLine device now line new) (sound : IsSound device now → IsSound device new) where
         kept : IsKept device now → IsKept device new
         kept was = kept_of device new (sound g.sound)
 
@@ -296,7 +300,7 @@ module _ {S : Type 0} (split cigar : Bool) (device : Source S) where
             let of_sam = wrong_kinds line.text refused.kind refused.says in
             subst (λ o. UpTo fault (stopped_at fault) o) (sym refused.unchanged)
             (up_to (stopped_at fault) fault (record {
-              answers = going_wrong device (sam_reader now) (sam_reader now) (stopped_at fault) line fault refused.kind steps (came device now new line gives) refl refl (record { state = refl; format = refl }) kept refused.says
+              answers = going_wrong device (sam_reader now) steps (came device now new line gives) refl refl (record { state = refl; format = refl }) kept refused.says
                   (kinds_of_lines refused.kind of_sam) (refused.is ∙ ap (λ i. fault_at_line i line.number refused.kind) (sym g.fed.passes.bytes.1.same_input));
               kept = kept;
             }))
@@ -305,18 +309,18 @@ module _ {S : Type 0} (split cigar : Bool) (device : Source S) where
         pushed a = flat_map-append (bed_lines split cigar) (member_items g.past) (a ∷ []) ∙ ap (λ l. lines_of (member_items g.past) ++ l) (append-nil (bed_lines split cigar a))
 
         with_it : (a : Alignment) → alignment_of line.text ≡ Ok (Some a) → Passes device (sam_reader old) (g.past ++ member_on line a ∷ []) (sam_reader new)
-        with_it a says = passes_some device (sam_reader old) (sam_reader now) g.past g.fed.passes (sam_reader new) line gives kept refl refl gives.goes a says refl
+        with_it a says = passes_some g.fed.passes (sam_reader new) gives kept refl refl gives.goes says refl
 
         -- the lines of its alignment couldn't be written
-        pub stops_writing : (converting : Converting) → converting.split ≡ split → converting.with_cigar ≡ cigar → (fault : FaultValue) (later : Output) → ((said : Alignment) × (alignment_of line.text ≡ Ok (Some said)) × FailsToAdd grown (bed_lines converting.split converting.with_cigar said) fault later)
+        pub stops_writing : (converting : Converting) → converting.split ≡ split → converting.with_cigar ≡ cigar → {fault : FaultValue} {later : Output} → ((said : Alignment) × (alignment_of line.text ≡ Ok (Some said)) × FailsToAdd grown (bed_lines converting.split converting.with_cigar said) fault later)
             → UpTo fault (sam_reader new) later
-        stops_writing converting same same_cigar fault later unwritten =
+        stops_writing converting same same_cigar unwritten =
             let a = unwritten.0 in
             let fails = unwritten.2.puts in
             let lines = bed_lines converting.split converting.with_cigar a in
             let is : lines ≡ bed_lines split cigar a = ap (λ s. bed_lines s converting.with_cigar a) same ∙ ap (λ c. bed_lines split c a) same_cigar in
             fails_writing a (map-append (λ m. m.item) g.past (member_on line a ∷ [])) (with_it a unwritten.1)
-            (read_line device (sam_reader old) (sam_reader now) g.past g.fed.passes (sam_reader new) line gives kept refl refl gives.goes a unwritten.1 refl)
+            (read_line g.fed.passes (sam_reader new) gives kept refl refl gives.goes unwritten.1 refl)
             g.fed.put tt lines (pushed a ∙ ap (λ l. lines_of (member_items g.past) ++ l) (sym is)) fails.is fails.front fails.failed fails.sink_failed fails.grows
 
         -- what is settled with these members was put
@@ -326,47 +330,57 @@ module _ {S : Type 0} (split cigar : Bool) (device : Source S) where
 
         goes_by : (said : Option Alignment) (later : Output) → alignment_of line.text ≡ Ok said → Grown grown (option_map_or (bed_lines split cigar) said []) later → Going old out new later
         goes_by None later says writes =
-            goes_with g.past [] later (passes_none device (sam_reader old) (sam_reader now) g.past g.fed.passes (sam_reader new) line gives kept refl refl gives.goes says refl) (sym (append-nil (lines_of (member_items g.past)))) writes
+            goes_with g.past [] later (passes_none g.fed.passes (sam_reader new) gives kept refl refl gives.goes says refl) (sym (append-nil (lines_of (member_items g.past)))) writes
         goes_by (Some a) later says writes = grind (arith, goes_with, (with_it a says), (map-append (λ m. m.item) g.past (member_on line a ∷ [])), (pushed a))
 
         -- what it says was written
-        pub going_line : (converting after : Converting) → converting.split ≡ split → converting.with_cigar ≡ cigar → (later : Output) → ((said : Option Alignment) × (alignment_of line.text ≡ Ok said) × Grown grown (option_map_or (bed_lines converting.split converting.with_cigar) said []) later × (after ≡ converting)) → Going old out new later
-        going_line converting after same same_cigar later written = grind (arith, goes_by)
+        pub going_line : {converting after : Converting} → converting.split ≡ split → converting.with_cigar ≡ cigar → {later : Output} → ((said : Option Alignment) × (alignment_of line.text ≡ Ok said) × Grown grown (option_map_or (bed_lines converting.split converting.with_cigar) said []) later × (after ≡ converting)) → Going old out new later
+        going_line same same_cigar written = grind (arith, goes_by)
 
 -- a line that was refused is no failed read
 pub refused_no_read : (input : Input) (line : TextLine) (out : Output) (fault : FaultValue) (grown : Output) → LineRefused input line out fault grown → (other : Input) (at : ℕ) → Some fault ≡ Some (read_failed other at) → ⊥
 refused_no_read input line out fault grown refused other at e = grind (arith, (kinds_of_lines refused.kind (wrong_kinds line.text refused.kind refused.says)))
 
 -- a reader that has given nothing yet, over the input of a run
-module _ {S : Type 0} (split cigar : Bool) (device : Source S) (first : S) (reader : LineReader S) (source : source_of reader ≡ first) (input : input_of reader ≡ First)
-    (taken : bytes_taken reader ≡ 0) (fed : feeds_taken reader ≡ 0) (given : lines_given reader ≡ 0) (going : fault_kept reader ≡ None) (lines : lines_left device.left reader ≡ option_map text_lines (device.left first)) (sound : IsSound device reader) where
+pub record IsFreshReader {S : Type 0} (device : Source S) (first : S) (reader : LineReader S) : Type 0 where
+  pub source : source_of reader ≡ first
+  pub input : input_of reader ≡ First
+  pub taken : bytes_taken reader ≡ 0
+  pub fed : feeds_taken reader ≡ 0
+  pub given : lines_given reader ≡ 0
+  pub going : fault_kept reader ≡ None
+  pub lines : lines_left device.left reader ≡ option_map text_lines (device.left first)
+  pub sound : IsSound device reader
+
+module _ {S : Type 0} (split cigar : Bool) {device : Source S} {first : S} {reader : LineReader S} (fresh_reader : IsFreshReader device first reader) where
   starts_reader : BeginsAt device.left sam_format First first (sam_reader reader)
-  starts_reader = begins_over device reader (sam_reader reader) refl taken fed sam_format First first source input going lines (λ going. good_at_first device (sam_reader reader) going refl)
+  starts_reader = begins_over device (sam_reader reader) refl fresh_reader.taken fresh_reader.fed fresh_reader.source fresh_reader.input fresh_reader.going fresh_reader.lines (λ going. good_at_first device (sam_reader reader) going refl)
 
   more_lines : (past more : List Alignment) → ⊤ → (rest : List ℕ) × (alignment_lines split cigar (past ++ more) ≡ alignment_lines split cigar past ++ rest)
   more_lines past more h = (alignment_lines split cigar more, flat_map-append (bed_lines split cigar) past more)
 
-  module _ (converting : Converting) (same : converting ≡ record { split = split; with_cigar = cigar; fault = None }) (out : Output) (new : MemberReader S Alignment ⊤) (last : S) (ended : source_of new.below ≡ last) (grown : Output) where
+  module _ {converting : Converting} (same : converting ≡ record { split = split; with_cigar = cigar; fault = None }) (out : Output) (new : MemberReader S Alignment ⊤) {last : S} (ended : source_of new.below ≡ last) (grown : Output) where
     abbrev Writes : Option FaultValue → Type 0
     Writes fault = WritesBy device device (of_members (IsOneOf is_sam_kind) (alignments_written split cigar) sam_format) first None out fault last None grown
+
+    driven : IsDriven (alignments_written split cigar) (λ past. ⊤) device sam_format (sam_reader reader) first new last
+    driven = record { stays = more_lines; begins = more_lines; taken = λ text. tt; starts = starts_reader; ended = ended }
 
     -- all of the input was read
     pub writes_all : FeedsAll (alignment_lines converting.split converting.with_cigar) (IsOneOf is_sam_kind) (λ past. ⊤) device (λ past. ⊤) (sam_reader reader) out new grown → Writes None
     writes_all fed =
         let is = subst (λ (m : Converting). FeedsAll (alignment_lines m.split m.with_cigar) (IsOneOf is_sam_kind) (λ past. ⊤) device (λ past. ⊤) (sam_reader reader) out new grown) same fed in
-        drives_all (alignments_written split cigar) (IsOneOf is_sam_kind) (λ past. ⊤) (λ past. ⊤) more_lines more_lines device sam_format (λ text. tt) (sam_reader reader) first out starts_reader new last ended
-        (λ past. ⊤) grown is grown (goes_same grown) [] (sym (append-nil _)) (Appends-nil grown.put) refl
+        drives_all driven (IsOneOf is_sam_kind) (λ past. ⊤) out is (goes_same grown) [] (sym (append-nil _)) (Appends-nil grown.put) refl
 
     -- or it was read up to a fault
-    pub writes_up_to : (fault : FaultValue) → FeedsUpTo (alignment_lines converting.split converting.with_cigar) (IsOneOf is_sam_kind) (λ past. ⊤) device (sam_reader reader) out fault new grown → Writes (Some fault)
-    writes_up_to fault fed =
-        drives_fault (alignments_written split cigar) (IsOneOf is_sam_kind) (λ past. ⊤) (λ past. ⊤) more_lines more_lines device sam_format (λ text. tt) (sam_reader reader) first out starts_reader new last ended
-        fault grown (subst (λ (m : Converting). FeedsUpTo (alignment_lines m.split m.with_cigar) (IsOneOf is_sam_kind) (λ past. ⊤) device (sam_reader reader) out fault new grown) same fed)
+    pub writes_up_to : {fault : FaultValue} → FeedsUpTo (alignment_lines converting.split converting.with_cigar) (IsOneOf is_sam_kind) (λ past. ⊤) device (sam_reader reader) out fault new grown → Writes (Some fault)
+    writes_up_to {fault} fed =
+        drives_fault driven (IsOneOf is_sam_kind) (λ past. ⊤) out fault grown (subst (λ (m : Converting). FeedsUpTo (alignment_lines m.split m.with_cigar) (IsOneOf is_sam_kind) (λ past. ⊤) device (sam_reader reader) out fault new grown) same fed)
 
     -- a failed read that is reported is of a read that failed then
-    pub own_up_to : KeepsOwnFault device.is_read reader new → (fault : FaultValue) → FeedsUpTo (alignment_lines converting.split converting.with_cigar) (IsOneOf is_sam_kind) (λ past. ⊤) device (sam_reader reader) out fault new grown
+    pub own_up_to : KeepsOwnFault device.is_read reader new → {fault : FaultValue} → FeedsUpTo (alignment_lines converting.split converting.with_cigar) (IsOneOf is_sam_kind) (λ past. ⊤) device (sam_reader reader) out fault new grown
         → TellsOwnReads ⊥ (IsOwnFailure device.is_read first last) ⊥ (Some fault)
-    own_up_to own fault fed = grind arith
+    own_up_to own fed = grind arith
 
 -- Lemmas on the lines that an engine writes, from its intervals, and on the report that they make.
 
@@ -406,7 +420,7 @@ unfolding settled_gaps
 complement_begins limit entries = refl
 
 -- the records of a report are in order
-module _ (order : Order) (total : IsTotal order) where
+module _ {order : Order} (total : IsTotal order) where
   -- merged runs come in that order
   pooled_same : (d : ℕ) (strand : MergeStrand) (records : List Feature) → ArePlaced order (intervals_of records)
       → interval_lines (merged_runs d strand records) ≡ (pooled_written order d strand).whole records
@@ -431,10 +445,10 @@ module _ (order : Order) (total : IsTotal order) where
       → RunsAlone device (of_records order (merge_as_they_come merge)) first out fault new grown
       → RunsAlone device (of_records order (merge_written order d strand)) first out fault new grown
   merge_runs device d strand merge begun first out fault new grown runs = record {
-    written = alone_writes device device (of_records order (merge_as_they_come merge)) (of_records order (merge_written order d strand))
+    written = alone_writes device device (of_records order (merge_written order d strand))
         (λ one two. ap (λ m. members_report (merge_as_they_come m) (bed_format (sorting_of order)) one) begun ∙ (grind (arith, report_same, placed_good)))
         (λ two lines. ap (λ m. members_settle (merge_as_they_come m) (bed_format (sorting_of order)) lines) begun ∙ (grind (arith, settled_same, placed_lines)))
-        first None out fault new grown (λ t tells. tells) runs.written;
+        None (λ t tells. tells) runs.written;
     reads = runs.reads;
     own_failure = runs.own_failure;
   }

@@ -23,12 +23,12 @@ use Rattle.bt_bed.specs.calls.Reading.{IsBeyond}
 use Rattle.bt_tool.specs.inside.Feed.{ComeFirst}
 
 -- how far an input was read, by lines that settle the same, more that is said beside it, and what was taken and put later
-pub near_as : (Beside More : ℕ → Type 0) → ((n : ℕ) → Beside n → More n) → (mine yours : List TextLine → List ℕ) → ((lines : List TextLine) → mine lines ≡ yours lines)
-    → (text : List ℕ) (left : Option (List ℕ)) (before : List ℕ) (took more : Option (List ℕ)) (Cut Failed Stopped Stops : Type 0) (put later : Option (List ℕ))
+pub near_as : (Beside More : ℕ → Type 0) → ((n : ℕ) → Beside n → More n) → {mine yours : List TextLine → List ℕ} → ((lines : List TextLine) → mine lines ≡ yours lines)
+    → {text : List ℕ} {left : Option (List ℕ)} {before : List ℕ} {took more : Option (List ℕ)} (Cut Failed Stopped Stops : Type 0) {put later : Option (List ℕ)}
     → ((size : ℕ) → IfSome took (λ taken. size ≤ length taken + block_size) → IfSome more (λ taken. size ≤ length taken + block_size))
     → ((size : ℕ) → Cut ⊎ IsPutTo size put → Failed ⊎ IsPutTo size later) → ((bytes : List ℕ) → (Stopped → put ≡ Some bytes) → Stops → later ≡ Some bytes)
     → ReadsNoFurther Beside mine text left before took Cut Stopped put → ReadsNoFurther More yours text left before more Failed Stops later
-near_as Beside More adds mine yours same text left before took more Cut Failed Stopped Stops put later takes keeps stays near =
+near_as Beside More adds {mine} {yours} same {text} {before} {took} Cut Failed Stopped Stops {put} takes keeps stays near =
     let bytes : List ℕ = before ++ yours (take (near.n - 1) (text_lines text)) in
     let size : ℕ = length bytes in
     let equal : before ++ mine (take (near.n - 1) (text_lines text)) ≡ bytes = ap (λ l. before ++ l) (same (take (near.n - 1) (text_lines text))) in
@@ -51,8 +51,8 @@ is_whole device first last fault handed holds of_input = record { text = holds.t
 
 module _ {A B : Type 0} (source_a : Source A) (source_b : Source B) where
   -- what a command of one input writes, a second that isn't touched beside it, by a behaviour that says the same
-  module _ (mine yours : Behaviour) (same : (one : Handed) (two : Option Handed) → mine.report one None ≡ yours.report one two) (same_settle : (two : Option Handed) (lines : List TextLine) → mine.settles None lines ≡ yours.settles two lines)
-      (first : A) (second : Option B) (out : Output) (fault : Option FaultValue) (first_after : A) (grown : Output)
+  module _ {mine : Behaviour} (yours : Behaviour) (same : (one : Handed) (two : Option Handed) → mine.report one None ≡ yours.report one two) (same_settle : (two : Option Handed) (lines : List TextLine) → mine.settles None lines ≡ yours.settles two lines)
+      {first : A} (second : Option B) {out : Output} {fault : Option FaultValue} {first_after : A} {grown : Output}
       (same_kinds : (t : FaultValue) → TellsInput source_a mine.FirstKinds First first first_after t → TellsInput source_a yours.FirstKinds First first first_after t) (w : WritesBy source_a source_a mine first None out fault first_after None grown) where
     pub alone_writes : WritesBy source_a source_b yours first second out fault first_after second grown
     alone_writes = record {
@@ -70,8 +70,7 @@ module _ {A B : Type 0} (source_a : Source A) (source_b : Source B) where
           ((s.0.0, grind arith), s.1);
       near = λ one two before taken holds others put known.
           near_as _ (λ n. IsWithin (source_a.end_told first_after) one.text n → OfBoth (HandsUpTo source_b.left (yours.reaches two (take n (text_lines one.text)) + block_size)) second second)
-          (λ n beside end. grind arith)
-          (mine.settles None) (yours.settles two) (same_settle two) one.text (source_a.left first_after) before grown.took grown.took (grown.has_failed ≡ true) (grown.has_failed ≡ true) (IsFaultButWrite fault) (IsFaultButWrite fault) grown.put grown.put
+          (λ n beside end. grind arith) (same_settle two) (grown.has_failed ≡ true) (grown.has_failed ≡ true) (IsFaultButWrite fault) (IsFaultButWrite fault)
           (λ size took. took) (λ size kept. kept) (λ bytes is stops. is stops) (w.near one None before taken holds tt put known);
       named = λ t e. elim (w.named t e) [
         | inl tells ↦ elim tells [ inl tells ↦ inl (inl (same_kinds t tells)) | inr none ↦ absurd none ]
@@ -80,16 +79,16 @@ module _ {A B : Type 0} (source_a : Source A) (source_b : Source B) where
     }
 
   -- what a command does that doesn't look at a second input
-  pub behaves_alone : (command : Command) (chromosomes : Option (List Entry))
+  pub behaves_alone : {command : Command} (chromosomes : Option (List Entry))
       → ((one : Handed) (two : Option Handed) → (behaviour_of command chromosomes).report one None ≡ (behaviour_of command chromosomes).report one two)
       → ((two : Option Handed) (lines : List TextLine) → (behaviour_of command chromosomes).settles None lines ≡ (behaviour_of command chromosomes).settles two lines)
-      → (is : Command) → is ≡ command → (first : A) (second : Option B) (out : Output) (fault : Option FaultValue) (first_after : A) (grown : Output)
+      → {is : Command} → is ≡ command → {first : A} {second : Option B} {out : Output} {fault : Option FaultValue} {first_after : A} {grown : Output}
       → WritesBy source_a source_a (behaviour_of command chromosomes) first None out fault first_after None grown
       → WritesBy source_a source_b (behaviour_of is chromosomes) first second out fault first_after second grown
-  behaves_alone command chromosomes same same_settle is e first second out fault first_after grown w =
+  behaves_alone {command} chromosomes same same_settle e {first} {second} {out} {fault} {first_after} {grown} w =
       let behaviour = behaviour_of command chromosomes in
       subst (λ (command : Command). WritesBy source_a source_b (behaviour_of command chromosomes) first second out fault first_after second grown) (sym e)
-      (alone_writes behaviour behaviour same same_settle first second out fault first_after grown (λ t tells. tells) w)
+      (alone_writes behaviour same same_settle second (λ t tells. tells) w)
 
 -- Lemmas that tell faults apart.
 

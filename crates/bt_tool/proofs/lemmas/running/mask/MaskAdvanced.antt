@@ -101,7 +101,7 @@ module _ {A B : Type 0} {source_a : Source A} {source_b : Source B} {start : Mas
     pub settled : IsKnown both → SettlesPair rule final.written (s.comes.bytes ++ bytes) (final.taken ++ option_to_list (item_ahead second_now)) stage.bed_ended
     settled known =
         rw (goes.written_is, goes.taken_is, ahead_first second_now)
-        (settles_given start.mask.how start.mask.full stage.written s.comes.bytes bytes stage final texts taken second_now.buffered (settled_now known) goes none_more (λ r e. sym (ahead_first second_now) ∙ kept r e))
+        (settles_given start.mask.how start.mask.full (settled_now known) goes none_more (λ r e. sym (ahead_first second_now) ∙ kept r e))
 
     -- they were taken, and no more
     module _ (more : List TextLine) (parts : buffered_in lines ≡ texts ++ more) (numbered : AreNumbered (suc (lines_given lines)) texts) (are : TakenLines lines consumed (length texts)) where
@@ -135,7 +135,7 @@ module _ {A B : Type 0} {source_a : Source A} {source_b : Source B} {start : Mas
           blocks_is = s.blocks_is;
           how_is = stands.how_is;
           full_is = stands.full_is;
-          comes = turned.goes_on s.comes more_first more_second first_now second_now takes_first takes_second ended_first ended_second goes.newly (stage_of final)
+          comes = turned.goes_on s.comes takes_first takes_second ended_first ended_second
               (record { given_is = given_now; written_is = goes.written_is; taken_is = taken_now; first_is = goes.lines_ended_is; second_is = goes.bed_ended_is })
               bytes now (λ known. rw goes.bed_ended_is (settled known)) puts;
           kept_ahead = kept;
@@ -145,23 +145,23 @@ module _ {A B : Type 0} {source_a : Source A} {source_b : Source B} {start : Mas
       )
 
       -- what is settled wasn't all written
-      pub fails_write : (puts rest : List ℕ) → bytes ≡ puts ++ rest → {through now : Output} {fault : FaultValue} → Grown grown puts through → FailsToAdd through rest fault now → EndsAt (Some fault) new second_now now
-      fails_write puts rest is {through} {now} {fault} adds fails =
-          ends_at s (state_behind (sequence_format start.mask.full) at items) (stop.fails_to_write s.comes (asks_for s) (λ known. tt) more_first more_second first_now second_now takes_first takes_second
-          final.written (option_to_list final.waiting) given_now (λ known. tt) ended_second puts rest (λ known. rw (← taken_now, ← is) (settled known)) through now fault adds fails)
+      pub fails_write : {puts rest : List ℕ} → bytes ≡ puts ++ rest → {through now : Output} {fault : FaultValue} → Grown grown puts through → FailsToAdd through rest fault now → EndsAt (Some fault) new second_now now
+      fails_write is adds fails =
+          ends_at s (state_behind (sequence_format start.mask.full) at items) (stop.fails_to_write s.comes (asks_for s) (λ known. tt) more_first more_second takes_first takes_second
+          (option_to_list final.waiting) given_now (λ known. tt) ended_second (λ known. rw (← taken_now, ← is) (settled known)) adds fails)
 
       -- memory ran out after others were written
-      pub lacks_room : (mid : PairStage SequenceLine Feature) (newly : List SequenceLine) → Follows (stage_of stage) (member_items more_first) newly (member_items more_second) mid → (put : List ℕ) (now : Output)
-          → (IsKnown both → SettlesPair rule mid.written (s.comes.bytes ++ put) (mid.taken ++ option_to_list (item_ahead second_now)) mid.second_ended) → Grown grown put now → (fault : FaultValue) → fault ≡ no_memory
+      pub lacks_room : (mid : PairStage SequenceLine Feature) {newly : List SequenceLine} → Follows (stage_of stage) (member_items more_first) newly (member_items more_second) mid → {put : List ℕ} {now : Output}
+          → (IsKnown both → SettlesPair rule mid.written (s.comes.bytes ++ put) (mid.taken ++ option_to_list (item_ahead second_now)) mid.second_ended) → Grown grown put now → {fault : FaultValue} → fault ≡ no_memory
           → EndsAt (Some fault) new second_now now
-      lacks_room mid newly follows put now settles adds fault is =
-          ends_at s (state_behind (sequence_format start.mask.full) at items) (stop.lacks_memory (turned.goes_on s.comes more_first more_second first_now second_now takes_first takes_second ended_first ended_second newly mid follows put now settles adds)
+      lacks_room mid follows {put} {now} settles adds {fault} is =
+          ends_at s (state_behind (sequence_format start.mask.full) at items) (stop.lacks_memory (turned.goes_on s.comes takes_first takes_second ended_first ended_second follows put now settles adds)
           (λ e. stop.asks_then s.comes (asked s (sym follows.first_is ∙ e)) (λ extra asks. grind (arith, asked_of)) more_first more_second second_now takes_second)
           (λ known. tt) fault is)
 
     -- they were taken, and one more line, which is at fault
     module _ (line : TextLine) (more : List TextLine) (parts : buffered_in lines ≡ (texts ++ line ∷ []) ++ more) (numbered : AreNumbered (suc (lines_given lines)) (texts ++ line ∷ [])) (are : TakenLines lines consumed (length (texts ++ line ∷ [])))
-        (none : final.waiting ≡ None) (kind : Kind) (says : line_says start.mask.full (reached final) line ≡ Err kind) (fault : FaultValue) (is : fault ≡ fault_at_line First line.number kind) where
+        (none : final.waiting ≡ None) {kind : Kind} (says : line_says start.mask.full (reached final) line ≡ Err kind) {fault : FaultValue} (is : fault ≡ fault_at_line First line.number kind) where
       says_now : line_says start.mask.full (state_behind (sequence_format start.mask.full) at items) line ≡ Err kind
       says_now = ap (λ (r : Reached). line_says start.mask.full r line) reached_now ∙ says
 
@@ -180,11 +180,11 @@ module _ {A B : Type 0} {source_a : Source A} {source_b : Source B} {start : Mas
           let gone = refused source_a start.mask.full old_first s.past_first at lines new s.comes.first_passes texts line more items say_here kind says_now parts numbered consumed are takes fault is_now in (
             gone,
             refl,
-            stop.first_fails s.comes (asks_for s) (λ known. tt) going more_first more_second second_now takes_second ended_second bytes
+            stop.first_fails s.comes (asks_for s) (λ known. tt) going more_first takes_second ended_second
                 (λ known. rw (← (sym (alone final.written final.waiting none) ∙ given_now), ← taken_now) (settled known)) (λ known. tt)
-                (stop.asks_then s.comes (asked s going) (λ extra asks. grind (arith, asked_of)) more_first more_second second_now takes_second) fault gone
+                (stop.asks_then s.comes (asked s going) (λ extra asks. grind (arith, asked_of)) more_first more_second second_now takes_second)
                 (refuses source_a start.mask.full old_first s.past_first at lines new s.comes.first_passes texts line more items say_here kind says_now parts numbered consumed are takes fault is_now (λ k. is_fasta_kind k ≡ true)
                 (wrong_first start.mask.full (reached final) line kind says))
-                (refuses_read source_a start.mask.full old_first s.past_first at lines new s.comes.first_passes texts line more items say_here kind says_now parts numbered consumed are takes fault is_now) through adds,
+                (refuses_read source_a start.mask.full old_first s.past_first at lines new s.comes.first_passes texts line more items say_here kind says_now parts numbered consumed are takes fault is_now) adds,
             λ input number e. absurd (grind arith),
           )

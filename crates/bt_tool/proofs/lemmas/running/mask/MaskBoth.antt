@@ -126,7 +126,7 @@ module _ {A B : Type 0} {source_a : Source A} {source_b : Source B} {start : Mas
       kept_final r e = kept r (sym ahead_is ∙ e)
 
       fails_copying : FailsToAdd behind.through bytes fault now → EndsAt (Some fault) now
-      fails_copying fails = grind (arith, (fails_write s over takes has all_go kept_final (lines_in last_lines) parts numbered are comes.bytes bytes refl comes.puts fails))
+      fails_copying fails = grind (arith, (fails_write s over takes has all_go kept_final (lines_in last_lines) parts numbered are refl comes.puts fails))
 
     -- a line failed
     module _ (wants : want_at comes.stage ≡ WantLine) where
@@ -142,7 +142,7 @@ module _ {A B : Type 0} {source_a : Source A} {source_b : Source B} {start : Mas
             rw refuses.same_output
             (refuses_line s over takes has comes.goes_on kept line (lines_in last_lines)
             (parts ∙ ap (λ l. l ++ lines_in last_lines) texts_are) (subst (AreNumbered (suc (lines_given lines))) texts_are numbered) (subst (λ (l : List TextLine). TakenLines lines consumed (length l)) texts_are are)
-            none_waits refuses.kind refuses.says fault refuses.is comes.puts)
+            none_waits refuses.says refuses.is comes.puts)
 
         module _ (fails : FailsWithLine start.mask.how start.mask.full comes.stage line behind.through fault now) where
           with_it : GoesOn start.mask.how start.mask.full comes.stage behind.failing [] (with_line comes.stage fails.item) (bytes_with start.mask.how comes.stage fails.item)
@@ -177,18 +177,15 @@ module _ {A B : Type 0} {source_a : Source A} {source_b : Source B} {start : Mas
 
           lacks_one : fault ≡ no_memory → EndsAt (Some fault) behind.through
           lacks_one is =
-              lacks_room s over takes has whole kept_whole
-              (lines_in last_lines) parts numbered are mid comes.goes_on.newly
-              (record {
+              lacks_room s over takes has whole kept_whole (lines_in last_lines) parts numbered are mid (record {
                 given_is = sym (with_given (is_written_at_once comes.stage fails.item) refl) ∙ whole.given_is ∙ ap (λ l. given s.stage ++ l) (sym (items_from (suc (lines_given lines)) whole.items));
                 written_is = comes.goes_on.written_is;
                 taken_is = comes.goes_on.taken_is ∙ ap (λ l. s.stage.taken ++ l) (sym (items_from (suc (lines_given second.below)) taken));
                 first_is = comes.goes_on.lines_ended_is;
                 second_is = comes.goes_on.bed_ended_is;
               })
-              comes.bytes behind.through
               (λ known. subst (λ (b : Bool). SettlesPair (mask_join start.mask.how) comes.stage.written (s.comes.bytes ++ comes.bytes) (comes.stage.taken ++ option_to_list (item_ahead second_now)) b) (sym comes.goes_on.bed_ended_is)
-              (settled s over takes has comes.goes_on kept known)) comes.puts fault is
+              (settled s over takes has comes.goes_on kept known)) comes.puts is
 
           fails_one : EndsAt (Some fault) now
           fails_one = elim fails.fails [

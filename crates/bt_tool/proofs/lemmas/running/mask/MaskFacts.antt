@@ -118,10 +118,10 @@ come_back old (x ∷ xs) buffered ended records fault none may = record {
 
 module _ (how : MaskHow) (full : Bool) where
   -- the lines that are written now are settled with those before
-  pub settles_given : (written : List SequenceLine) (bytes more : List ℕ) (stage new : MaskStage) (texts : List TextLine) (taken buffered : List Feature) → SettlesPair (mask_join how) written bytes (stage.taken ++ option_to_list (first_of (taken ++ buffered))) stage.bed_ended
+  pub settles_given : {written : List SequenceLine} {bytes more : List ℕ} {stage new : MaskStage} {texts : List TextLine} {taken buffered : List Feature} → SettlesPair (mask_join how) written bytes (stage.taken ++ option_to_list (first_of (taken ++ buffered))) stage.bed_ended
       → (goes : GoesOn how full stage texts taken new more) → (stage.bed_ended ≡ true → (taken ≡ []) × (buffered ≡ [])) → ((r : Feature) → new.ahead ≡ Some r → first_of buffered ≡ Some r)
       → SettlesPair (mask_join how) (written ++ goes.newly) (bytes ++ more) ((stage.taken ++ taken) ++ option_to_list (first_of buffered)) stage.bed_ended
-  settles_given written bytes more stage new texts taken buffered settles goes over kept = record {
+  settles_given {written} {bytes} {stage} {new} {taken} {buffered} settles goes over kept = record {
     whatever = λ records fault ordered may.
         let was = settles.whatever records fault ordered (come_back stage.taken taken buffered stage.bed_ended records fault (λ e. (over e).0) may) in
         let here : MayCome (new.taken ++ option_to_list (first_of buffered)) new.bed_ended records fault =

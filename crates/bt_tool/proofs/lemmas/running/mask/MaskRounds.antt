@@ -291,8 +291,8 @@ module _ {A B : Type 0} (source_a : Source A) (source_b : Source B) where
   Over lines second out fault new second_now grown how full = (members : MemberReader A SequenceLine Reached) × (members.below ≡ new)
       × IsOverWith (mask_pair source_a source_b full lines second) (mask_join how) out fault members second_now grown
 
-  pub as_asked : (lines : LineReader A) (second : MemberReader B Feature (Option Locus)) (out : Output) (fault : Option FaultValue) (new : LineReader A) (second_now : MemberReader B Feature (Option Locus)) (grown : Output)
-      (own : MaskHow) (own_full : Bool) (how : MaskHow) (full : Bool) → own ≡ how → own_full ≡ full
+  pub as_asked : {lines : LineReader A} {second : MemberReader B Feature (Option Locus)} {out : Output} {fault : Option FaultValue} {new : LineReader A} {second_now : MemberReader B Feature (Option Locus)} {grown : Output}
+      {own : MaskHow} {own_full : Bool} {how : MaskHow} {full : Bool} → own ≡ how → own_full ≡ full
       → Over lines second out fault new second_now grown own own_full → Over lines second out fault new second_now grown how full
-  as_asked lines second out fault new second_now grown own own_full how full same same_full ends =
+  as_asked {lines} {second} {out} {fault} {new} {second_now} {grown} {own} {full} same same_full ends =
       subst (λ (h : MaskHow). Over lines second out fault new second_now grown h full) same (subst (λ (f : Bool). Over lines second out fault new second_now grown own f) same_full ends)

@@ -217,7 +217,7 @@ module _ {A B : Type 0} {source_a : Source A} {source_b : Source B} {start : Mas
       -- the waiting line wasn't written
       pub fails_at_end : (a : SequenceLine) → stage.waiting ≡ Some a → (fault : FaultValue) (now : Output) → FailsToAdd grown (masked_line mask.how stage.taken a) fault now → EndsAt (Some fault) lines second_now now
       fails_at_end a waits fault now fails =
-          ends_at at (stop.fails_at_end s.comes asks_for (λ known. tt) a waits (asked (s.stands.waits a waits).lines) goes fault second_now now over
+          ends_at at (stop.fails_at_end s.comes asks_for (λ known. tt) waits (asked (s.stands.waits a waits).lines) goes fault second_now now over
           (subst (λ (h : MaskHow). FailsToAdd grown (masked_line h stage.taken a) fault now) s.how_is fails))
 
     -- the second input couldn't give a record
@@ -225,7 +225,7 @@ module _ {A B : Type 0} {source_a : Source A} {source_b : Source B} {start : Mas
     stops_by None e fault second_now stopped =
         ends_at at (stop.stops_behind s.comes asks_for (λ known. tt) (lines_done e) wrong_second goes (none_lacks e) fault second_now stopped)
     stops_by (Some a) e fault second_now stopped =
-        ends_at at (stop.stops_second s.comes asks_for (λ known. tt) a e wrong_second (asked (s.stands.waits a e).lines) goes (λ known none. undecided a e) fault second_now stopped)
+        ends_at at (stop.stops_second s.comes asks_for (λ known. tt) e wrong_second (asked (s.stands.waits a e).lines) goes (λ known none. undecided a e) fault second_now stopped)
 
     pub stops_records : (fault : FaultValue) (second_now : MemberReader B Feature (Option Locus)) → IsStopped source_b second fault second_now → EndsAt (Some fault) lines second_now grown
     stops_records fault second_now stopped = stops_by stage.waiting refl fault second_now stopped

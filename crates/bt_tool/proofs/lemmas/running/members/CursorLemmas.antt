@@ -247,7 +247,7 @@ past_bound : (n : ℕ) → 2 ^ 63 ≤ n → nat_le (2 ^ 63) n ≡ true
 past_bound n h = grind arith
 
 -- a reader that had taken nothing, and what it has become; its source before and after
-module _ {S : Type 0} (device : Source S) (first last : S) (old new : LineReader S) (source : source_of old ≡ first) (ended : source_of new ≡ last) (fresh : bytes_taken old ≡ 0) where
+module _ {S : Type 0} (device : Source S) {first last : S} (old new : LineReader S) (source : source_of old ≡ first) (ended : source_of new ≡ last) (fresh : bytes_taken old ≡ 0) where
   pub consumed_by : (bytes : List ℕ) → Hands device.left old bytes new → Consumes (device.left first) (device.left last) bytes
   consumed_by bytes hands = subst (λ s. Consumes (device.left first) (device.left s) bytes) ended (subst (λ s. Consumes (device.left s) (device.left (source_of new)) bytes) source hands.left_over)
 
@@ -305,18 +305,18 @@ pub record BeginsAt {S A State : Type 0} (left : S → Option (List ℕ)) (forma
   pub good : good_coming left old ≡ option_map (good format input) (option_map text_lines (left first))
 
 -- a reader of members over a reader of lines that has given nothing
-module _ {S A State : Type 0} (device : Source S) (reader : LineReader S) (members : MemberReader S A State)
+module _ {S A State : Type 0} (device : Source S) {reader : LineReader S} (members : MemberReader S A State)
     (is : members.below ≡ reader) (taken : bytes_taken reader ≡ 0) (fed : feeds_taken reader ≡ 0) where
   pub fresh_over : lines_given reader ≡ 0 → members.fault ≡ None → members.buffered ≡ [] → IsSound device reader → IsFresh device members
   fresh_over given going none sound = grind arith
 
-  pub begins_over : (format : Format A State) (input : Input) (first : S) → source_of reader ≡ first → input_of reader ≡ input → fault_kept reader ≡ None
+  pub begins_over : {format : Format A State} {input : Input} {first : S} → source_of reader ≡ first → input_of reader ≡ input → fault_kept reader ≡ None
       → lines_left device.left reader ≡ option_map text_lines (device.left first)
       → (fault_kept reader ≡ None → good_coming device.left members ≡ option_map (good format (input_of reader)) (lines_left device.left reader)) → BeginsAt device.left format input first members
-  begins_over format input first source same going lines known = grind arith
+  begins_over source same going lines known = grind arith
 
-module _ {S A State : Type 0} (device : Source S) (format : Format A State) (input : Input) (first : S) (old : MemberReader S A State) (begins : BeginsAt device.left format input first old)
-    (new : MemberReader S A State) (last : S) (ended : source_of new.below ≡ last) where
+module _ {S A State : Type 0} (device : Source S) {format : Format A State} {input : Input} {first : S} (old : MemberReader S A State) (begins : BeginsAt device.left format input first old)
+    (new : MemberReader S A State) {last : S} (ended : source_of new.below ≡ last) where
   good_known : (text : List ℕ) → device.left first ≡ Some text → good_coming device.left old ≡ Some (good format input (text_lines text))
   good_known text e = begins.good ∙ ap (λ o. option_map (good format input) (option_map text_lines o)) e
 
@@ -328,12 +328,12 @@ module _ {S A State : Type 0} (device : Source S) (format : Format A State) (inp
   at_whole text e P h = subst P (sym (good_whole format input text)) (some_of (good_coming device.left old) (good format input (text_lines text)) P (good_known text e) h)
 
   -- an input that worked
-  pub came_whole : (fault : Option FaultValue) (handed : Handed) → Came device first last fault handed → (bytes : List ℕ) × Hands device.left old.below bytes new.below
+  pub came_whole : {fault : Option FaultValue} {handed : Handed} → Came device first last fault handed → (bytes : List ℕ) × Hands device.left old.below bytes new.below
       → device.has_failed (source_of new.below) ≡ device.has_failed (source_of old.below) → bytes_taken new.below < 2 ^ 63
       → (P : Good A → Type 0) → IfSome (good_coming device.left old) P → P (good_handed format input handed)
-  came_whole fault handed (inl reads) hands served within P h =
-      subst (λ t. P (good_handed format input t)) (sym (handed_all device first last old.below new.below begins.source ended begins.bytes handed reads hands served within)) (at_whole reads.text reads.known P h)
-  came_whole fault handed (inr whole) hands served within P h = subst (λ t. P (good_handed format input t)) (sym whole.is) (at_whole whole.text whole.known P h)
+  came_whole {handed} (inl reads) hands served within P h =
+      subst (λ t. P (good_handed format input t)) (sym (handed_all device old.below new.below begins.source ended begins.bytes handed reads hands served within)) (at_whole reads.text reads.known P h)
+  came_whole (inr whole) hands served within P h = subst (λ t. P (good_handed format input t)) (sym whole.is) (at_whole whole.text whole.known P h)
 
   -- one that failed to be read
   pub came_cut : (past : List (Member A)) (fault : FaultValue) (handed : Handed) → Came device first last (Some fault) handed → IsUnreadBehind device old past fault new
@@ -341,7 +341,7 @@ module _ {S A State : Type 0} (device : Source S) (format : Format A State) (inp
   came_cut past fault handed (inr whole) unread = absurd (whole.no_read (input_of old.below) (suc (lines_given new.below)) (ap Some unread.is))
   came_cut past fault handed (inl reads) unread =
       let cut = unread.cut in
-      let texts = cut_text device first last old.below new.below begins.source ended begins.bytes handed reads begins.feeds cut in
+      let texts = cut_text device old.below new.below begins.source ended begins.bytes handed reads begins.feeds cut in
       let front = take (2 ^ 63 - 1) reads.bytes in
       let more = texts.more in
       let text = texts.text in
@@ -350,7 +350,7 @@ module _ {S A State : Type 0} (device : Source S) (format : Format A State) (inp
       (good_known reads.text reads.known) unread.members in
       let told : Some (read_failed input (suc (line_feeds front))) ≡ Some fault =
       ap Some (sym (unread.is ∙ ap (λ i. read_failed i (suc (lines_given new.below))) begins.input_is ∙ ap (λ n. read_failed input (suc n)) given)) in
-      ap (good_handed format input) (handed_part device first last old.below new.below begins.source ended begins.bytes handed reads (cut.bytes, cut.hands) unread.cause)
+      ap (good_handed format input) (handed_part device old.below new.below begins.source ended begins.bytes handed reads (cut.bytes, cut.hands) unread.cause)
       ∙ cut_good format input front more past members.0 (good format input (text_lines (front ++ more))).fault
       (subst (λ t. (good format input (text_lines t)).members ≡ past ++ members.0) (sym text) members.1) refl
       (subst (λ n. All (λ m. m.line ≤ n) past) given unread.behind)
@@ -360,7 +360,7 @@ module _ {S A State : Type 0} (device : Source S) (format : Format A State) (inp
   -- one with a fault
   pub says_fault : (Kinds : Kind → Type 0) (past : List (Member A)) (fault : FaultValue) (handed : Handed) → Came device first last (Some fault) handed → (bytes : List ℕ) × Hands device.left old.below bytes new.below
       → HasFaultBehind device old Kinds past fault new → ((good_handed format input handed).members ≡ past) × ((good_handed format input handed).fault ≡ Some fault)
-  says_fault Kinds past fault handed came hands (inl wrong) = grind (arith, (came_whole (Some fault) handed came hands wrong.served wrong.within (λ good. (good.members ≡ past) × (good.fault ≡ Some fault)) wrong.whole))
+  says_fault Kinds past fault handed came hands (inl wrong) = grind (arith, (came_whole came hands wrong.served wrong.within (λ good. (good.members ≡ past) × (good.fault ≡ Some fault)) wrong.whole))
   says_fault Kinds past fault handed came hands (inr unread) = grind (arith, (came_cut past fault handed came unread))
 
   -- what was handed over, by how many lines were read
@@ -369,7 +369,7 @@ module _ {S A State : Type 0} (device : Source S) (format : Format A State) (inp
       → (bytes : List ℕ) × Hands device.left old.below bytes new.below
       → (handed : List ℕ) × Consumes (device.left first) (device.left last) handed × (length handed ≤ bytes_in (take (suc count) (text_lines text)) + block_size)
   handed_to count text e near hands =
-      let handed = consumed_by device first last old.below new.below begins.source ended begins.bytes hands.0 hands.1 in
+      let handed = consumed_by device old.below new.below begins.source ended begins.bytes hands.0 hands.1 in
       let parts = consumes_parts (device.left first) (device.left last) hands.0 text e handed in
       let rest : device.left (source_of new.below) ≡ Some parts.0 = ap device.left ended ∙ parts.1 in
       let lines : lines_left device.left old.below ≡ Some (text_lines text) = begins.lines ∙ ap (option_map text_lines) e in

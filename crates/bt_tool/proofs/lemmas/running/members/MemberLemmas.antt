@@ -360,7 +360,7 @@ module _ {A State : Type 0} (format : Format A State) (input : Input) (state : S
   unfolding good_from
   come_some old a b line item past c g e = grind (arith, append_assoc)
 
-module _ {S A State : Type 0} (device : Source S) (old now : MemberReader S A State) (past : List (Member A)) (g : Passes device old past now) (new : MemberReader S A State) (line : TextLine)
+module _ {S A State : Type 0} {device : Source S} {old now : MemberReader S A State} {past : List (Member A)} (g : Passes device old past now) (new : MemberReader S A State) {line : TextLine}
     (gives : GivesLine device now.below line new.below) (kept : IsKept device now.below → IsKept device new.below) (format : new.format ≡ now.format) (none : new.buffered ≡ []) (going : new.fault ≡ None) where
   lines_pass : LinesPass device.left now.below new.below
   lines_pass = grind arith
@@ -407,7 +407,7 @@ module _ {S A State : Type 0} (device : Source S) (old now : MemberReader S A St
   passes_none says same = grind (arith, passes_with, coming_is, none_comes, coming_before)
 
   -- the line says this one
-  module _ (item : A) (says : now.format.says now.state line ≡ Ok (Some item)) (after : new.state ≡ now.format.after now.state item) where
+  module _ {item : A} (says : now.format.says now.state line ≡ Ok (Some item)) (after : new.state ≡ now.format.after now.state item) where
     abbrev pub member : Member A
     member = record { line = line.number; item = item }
 

@@ -114,11 +114,11 @@ module _ {Y : Type 0} where
   seen_in None past seen count k f b low = absurd (false≢true k)
   seen_in (Some good) past seen count k f b low = front_in past f.0 seen b.0 count (sym f.1 ∙ b.1) low f.2.members
 
-module _ {A B X Y U V : Type 0} (join : JoinDef X Y) (pair : Pair A B X Y U V) (out : Output)
-    (first_format : Format X U) (second_format : Format Y V) (in_order : (two : Handed) → join.InOrder (items_in (good_handed second_format Second two))) (limits : AreLimits join)
-    (one_before : A) (two_before : B) (begins : BeginsAt pair.source_a.left first_format First one_before pair.first) (begins_second : BeginsAt pair.source_b.left second_format Second two_before pair.second)
-    (first : MemberReader A X U) (second : MemberReader B Y V) (one_after : A) (two_after : B) (ended : source_of first.below ≡ one_after) (ended_second : source_of second.below ≡ two_after)
-    (fault : Option FaultValue) (grown : Output) (w : PairEnds join pair out fault first second grown) where
+module _ {A B X Y U V : Type 0} {join : JoinDef X Y} {pair : Pair A B X Y U V} {out : Output}
+    {first_format : Format X U} {second_format : Format Y V} (in_order : (two : Handed) → join.InOrder (items_in (good_handed second_format Second two))) (limits : AreLimits join)
+    {one_before : A} {two_before : B} (begins : BeginsAt pair.source_a.left first_format First one_before pair.first) (begins_second : BeginsAt pair.source_b.left second_format Second two_before pair.second)
+    {first : MemberReader A X U} {second : MemberReader B Y V} {one_after : A} {two_after : B} (ended : source_of first.below ≡ one_after) (ended_second : source_of second.below ≡ two_after)
+    {fault : Option FaultValue} {grown : Output} (w : PairEnds join pair out fault first second grown) where
   abbrev good_one : Handed → Good X
   good_one one = good_handed first_format First one
 
@@ -200,14 +200,14 @@ module _ {A B X Y U V : Type 0} (join : JoinDef X Y) (pair : Pair A B X Y U V) (
 
   first_whole : (other : Option FaultValue) (one : Handed) → CameOne other one → Serves pair.source_a.has_failed pair.first first → (P : Good X → Type 0) → IfSome (good_coming pair.source_a.left pair.first) P → P (good_one one)
   first_whole other one came serves =
-      came_whole pair.source_a first_format First one_before pair.first begins first one_after ended other one came w.wrote.first_bytes serves.served serves.within
+      came_whole pair.source_a pair.first begins first ended came w.wrote.first_bytes serves.served serves.within
 
   second_whole : (other : Option FaultValue) (two : Handed) → CameTwo other two → Serves pair.source_b.has_failed pair.second second → (P : Good Y → Type 0) → IfSome (good_coming pair.source_b.left pair.second) P → P (good_two two)
   second_whole other two came serves =
-      came_whole pair.source_b second_format Second two_before pair.second begins_second second two_after ended_second other two came w.wrote.second_bytes serves.served serves.within
+      came_whole pair.source_b pair.second begins_second second ended_second came w.wrote.second_bytes serves.served serves.within
 
   known_by : (two : List ℕ) → pair.source_b.left two_before ≡ Some two → IsSome (good_coming pair.source_b.left pair.second)
-  known_by two e = is_known pair.source_b second_format Second two_before pair.second begins_second second two_after ended_second two e
+  known_by two e = is_known pair.source_b pair.second begins_second second ended_second two e
 
   here_by : (one two : Handed) → IsSome (good_coming pair.source_b.left pair.second) → MayBe (limit one two) → HereAs join (limit one two) w.written w.bytes
   here_by one two known may = (w.wrote.settles known).whatever (items_in (limit one two)) (limit one two).fault (limits.ordered (items_in (good_one one)) (good_two two) (in_order two)) may
@@ -216,7 +216,7 @@ module _ {A B X Y U V : Type 0} (join : JoinDef X Y) (pair : Pair A B X Y U V) (
   first_wrong : (past : List (Member X)) (other : FaultValue) (one : Handed) → CameOne (Some other) one → HasFaultBehind pair.source_a pair.first join.first_kinds past other first
       → ((good_one one).members ≡ past) × ((good_one one).fault ≡ Some other)
   first_wrong past other one came fails =
-      says_fault pair.source_a first_format First one_before pair.first begins first one_after ended join.first_kinds past other one came w.wrote.first_bytes fails
+      says_fault pair.source_a pair.first begins first ended join.first_kinds past other one came w.wrote.first_bytes fails
 
   second_wrong : (past : List (Member Y)) (other : FaultValue) (two : Handed) → CameTwo (Some other) two → SecondFails join pair out w.wrote.ended past second other
       → ((good_two two).members ≡ past) × ((good_two two).fault ≡ Some other) × MayBe (good_two two)
@@ -229,7 +229,7 @@ module _ {A B X Y U V : Type 0} (join : JoinDef X Y) (pair : Pair A B X Y U V) (
             let sees = second_whole (Some other) two came serves SeesTwo second_sees in
             (is.0, is.1, second_whole (Some other) two came serves MayBe second_may, sees.0, λ e. (sees.1 e).0)
         | inr unread ↦
-            let is = came_cut pair.source_b second_format Second two_before pair.second begins_second second two_after ended_second past other two came unread in
+            let is = came_cut pair.source_b pair.second begins_second second ended_second past other two came unread in
             let k = seen_in (good_coming pair.source_b.left pair.second) past w.wrote.seen (lines_given second.below) (grind arith) unread.members w.wrote.second_begins (w.wrote.low (subst IsSome (sym unread.kept) refl)) in
             let may : MayCome (member_items w.wrote.seen) w.wrote.ended (member_items past) (Some other) = record {
               begins = (member_items k.0, ap member_items k.1 ∙ map-append (λ m. m.item) w.wrote.seen k.0);
@@ -341,10 +341,10 @@ module _ {A B X Y U V : Type 0} (join : JoinDef X Y) (pair : Pair A B X Y U V) (
       let two = others.text in
       let e = holds.known in
       let f = others.known in
-      let sees = at_whole pair.source_b second_format Second two_before pair.second begins_second second two_after ended_second two f SeesTwo second_sees in
-      let begun = at_whole pair.source_a first_format First one_before pair.first begins first one_after ended one e Begins w.wrote.given_begin in
+      let sees = at_whole pair.source_b pair.second begins_second second ended_second two f SeesTwo second_sees in
+      let begun = at_whole pair.source_a pair.first begins first ended one e Begins w.wrote.given_begin in
       let may = limited_may (good_one (whole_text one)) (good_two (whole_text two)) (known_by two f) begun sees in
-      let rest = at_whole pair.source_a first_format First one_before pair.first begins first one_after ended one e (λ good. (rest : List X) × (items_in good ≡ w.written ++ rest)) w.wrote.first_begins in
+      let rest = at_whole pair.source_a pair.first begins first ended one e (λ good. (rest : List X) × (items_in good ≡ w.written ++ rest)) w.wrote.first_begins in
       rw (holds.is, others.is) (meets_front join (good_one (whole_text one)) (limit (whole_text one) (whole_text two)) w.written w.bytes (here_by (whole_text one) (whole_text two) (known_by two f) may) rest.0 rest.1)
 
   first_named : (past : List (Member X)) (other : FaultValue) → HasFaultBehind pair.source_a pair.first join.first_kinds past other first → TellsInput pair.source_a join.first_kinds First one_before one_after other

@@ -41,16 +41,16 @@ module _ {A State : Type 0} (format : Format A State) (input : Input) where
   front_with bound number state (Ok (Some item)) whole taken (m ∷ ms) rest h e up = grind (arith, (All-tail (λ (m : Member A). m.line ≤ bound) m ms up))
 
   -- members on the first lines are among those that are good of these lines
-  pub front_from : (more bound number : ℕ) (state : State) (lines : List TextLine) (past rest : List (Member A)) → suc bound ≡ number + more → AreNumbered number lines
+  pub front_from : (more : ℕ) {bound : ℕ} (number : ℕ) (state : State) (lines : List TextLine) (past rest : List (Member A)) → suc bound ≡ number + more → AreNumbered number lines
       → (good_from format input state lines).members ≡ past ++ rest → All (λ m. m.line ≤ bound) past
       → (extra : List (Member A)) × ((good_from format input state (take more lines)).members ≡ past ++ extra)
   unfolding good_from
-  front_from zero bound number state lines [] rest size n e up = ([], refl)
-  front_from zero bound number state lines (m ∷ ms) rest size n e up = grind (arith, (ascend_from format input number state lines n), (All-head (λ (m : Member A). m.line ≤ bound) m ms up))
-  front_from (suc more) bound number state [] past rest size n e up = (rest, e)
-  front_from (suc more) bound number state (line ∷ lines) past rest size n e up =
+  front_from zero number state lines [] rest size n e up = ([], refl)
+  front_from zero {bound} number state lines (m ∷ ms) rest size n e up = grind (arith, (ascend_from format input number state lines n), (All-head (λ (m : Member A). m.line ≤ bound) m ms up))
+  front_from (suc more) number state [] past rest size n e up = (rest, e)
+  front_from (suc more) {bound} number state (line ∷ lines) past rest size n e up =
       front_with bound line.number state (format.says state line) (λ now. good_from format input now lines) (λ now. good_from format input now (take more lines)) past rest
-      (λ now past rest e up. front_from more bound (suc number) now lines past rest (omega arith) n.1 e up) e up
+      (λ now past rest e up. front_from more (suc number) now lines past rest (omega arith) n.1 e up) e up
 
 -- the bytes of fewer lines
 pub take_less : (less more : ℕ) (lines : List TextLine) → less ≤ more → bytes_in (take less lines) ≤ bytes_in (take more lines)
@@ -80,11 +80,11 @@ AreNeeded {X} {Y} join =
     (given extra : List X) (past rest : List (Member Y)) (lines : List TextLine) (count : ℕ) → join.Asks given (member_items past) → All (λ m. count < m.line) rest
     → bytes_in (take (suc count) lines) ≤ join.reaches (given ++ extra) (past ++ rest) lines
 
-module _ {A B X Y U V : Type 0} (join : JoinDef X Y) (pair : Pair A B X Y U V) (out : Output)
-    (first_format : Format X U) (second_format : Format Y V) (in_order : (two : Handed) → join.InOrder (items_in (good_handed second_format Second two))) (needed : AreNeeded join)
-    (one_before : A) (two_before : B) (begins : BeginsAt pair.source_a.left first_format First one_before pair.first) (begins_second : BeginsAt pair.source_b.left second_format Second two_before pair.second)
-    (first : MemberReader A X U) (second : MemberReader B Y V) (one_after : A) (two_after : B) (ended : source_of first.below ≡ one_after) (ended_second : source_of second.below ≡ two_after)
-    (fault : Option FaultValue) (grown : Output) (w : PairEnds join pair out fault first second grown) where
+module _ {A B X Y U V : Type 0} {join : JoinDef X Y} {pair : Pair A B X Y U V} {out : Output}
+    {first_format : Format X U} {second_format : Format Y V} (in_order : (two : Handed) → join.InOrder (items_in (good_handed second_format Second two))) (needed : AreNeeded join)
+    {one_before : A} {two_before : B} (begins : BeginsAt pair.source_a.left first_format First one_before pair.first) (begins_second : BeginsAt pair.source_b.left second_format Second two_before pair.second)
+    {first : MemberReader A X U} {second : MemberReader B Y V} {one_after : A} {two_after : B} (ended : source_of first.below ≡ one_after) (ended_second : source_of second.below ≡ two_after)
+    {fault : Option FaultValue} {grown : Output} (w : PairEnds join pair out fault first second grown) where
   abbrev near : StaysNear join pair out first second grown
   near = w.near
 
@@ -108,19 +108,19 @@ module _ {A B X Y U V : Type 0} (join : JoinDef X Y) (pair : Pair A B X Y U V) (
     good_two = good_handed second_format Second (whole_text two)
 
     known : IsSome (good_coming pair.source_b.left pair.second)
-    known = is_known pair.source_b second_format Second two_before pair.second begins_second second two_after ended_second two f
+    known = is_known pair.source_b pair.second begins_second second ended_second two f
 
     of_one : (P : Good X → Type 0) → IfSome (good_coming pair.source_a.left pair.first) P → P good_one
-    of_one P h = subst P (good_whole first_format First one) (at_whole pair.source_a first_format First one_before pair.first begins first one_after ended one e P h)
+    of_one P h = subst P (good_whole first_format First one) (at_whole pair.source_a pair.first begins first ended one e P h)
 
     of_two : (P : Good Y → Type 0) → IfSome (good_coming pair.source_b.left pair.second) P → P good_two
-    of_two P h = at_whole pair.source_b second_format Second two_before pair.second begins_second second two_after ended_second two f P h
+    of_two P h = at_whole pair.source_b pair.second begins_second second ended_second two f P h
 
     -- those that were given are on them and the next
     given_on : (extra : List (Member X)) × (items_on (take (suc count) (text_lines one)) ≡ member_items near.given_first ++ member_items extra)
     given_on =
         let b = of_one (λ good. (rest : List (Member X)) × (good.members ≡ near.given_first ++ rest)) near.first_near.begins in
-        let found = front_from first_format First (suc count) (suc count) 1 first_format.begin (text_lines one) near.given_first b.0 (omega arith) (lines_are_numbered 1 one) b.1 near.first_near.high in
+        let found = front_from first_format First (suc count) 1 first_format.begin (text_lines one) near.given_first b.0 (omega arith) (lines_are_numbered 1 one) b.1 near.first_near.high in
         (found.0, ap member_items found.1 ∙ map-append (λ m. m.item) near.given_first found.0)
 
     -- their lines were written
@@ -135,7 +135,7 @@ module _ {A B X Y U V : Type 0} (join : JoinDef X Y) (pair : Pair A B X Y U V) (
     beside_by : AsksFor join pair out near.given_first second → HandsUpTo pair.source_b.left (reaches (whole_text two) (take (suc count) (text_lines one)) + block_size) two_before two_after
     beside_by asks =
         let read = asks.near known in
-        let handed = handed_to pair.source_b second_format Second two_before pair.second begins_second second two_after ended_second read.count two f read.near near.wrote.second_bytes in
+        let handed = handed_to pair.source_b pair.second begins_second second ended_second read.count two f read.near near.wrote.second_bytes in
         grind (arith, given_on)
 
     beside : HasNoMore pair first count ⊎ AsksFor join pair out near.given_first second → IsWithin (pair.source_a.end_told one_after) one (suc count)
@@ -147,7 +147,7 @@ module _ {A B X Y U V : Type 0} (join : JoinDef X Y) (pair : Pair A B X Y U V) (
       → ReadsNoFurther (λ n. IsWithin (pair.source_a.end_told one_after) one n → HandsUpTo pair.source_b.left (reaches (whole_text two) (take n (text_lines one)) + block_size) two_before two_after)
       (settles (whole_text two)) one (pair.source_a.left one_after) before grown.took (grown.has_failed ≡ true) (IsFaultButWrite fault) grown.put
   near_both one two before taken e f put took =
-      let handed = handed_to pair.source_a first_format First one_before pair.first begins first one_after ended count one e near.first_near.to.near near.wrote.first_bytes in
+      let handed = handed_to pair.source_a pair.first begins first ended count one e near.first_near.to.near near.wrote.first_bytes in
       let less : suc count - 1 ≡ count = omega arith in
       let same : near.bytes ≡ settles (whole_text two) (take count (text_lines one)) = sym (settled one two e f) in
       let lines : TookButBlock out (settles (whole_text two) (take count (text_lines one))) grown = subst (λ l. TookButBlock out l grown) same near.took in
@@ -165,7 +165,7 @@ module _ {A B X Y U V : Type 0} (join : JoinDef X Y) (pair : Pair A B X Y U V) (
 
 -- Lemmas on what is consumed of the records that a reader has buffered, once their batch was given.
 
-module _ {S O : Type 0} {g : Ghosts O} (now : Records S O g) (batch : Batch) (lends : Lends now batch) where
+module _ {S O : Type 0} {g : Ghosts O} (now : Records S O g) {batch : Batch} (lends : Lends now batch) where
   lent_is : left_in batch ≡ buffered_in now
   unfolding view_of view_with
   lent_is = lends.left_is
@@ -174,7 +174,7 @@ module _ {S O : Type 0} {g : Ghosts O} (now : Records S O g) (batch : Batch) (le
   unfolding view_of view_with
   given_is = lends.given
 
-  module _ (last : Batch) (records : List Feature) (passes : Passes batch records last) (consumed : Consumed) (is : IsWhere last consumed) where
+  module _ {last : Batch} {records : List Feature} (passes : Passes batch records last) {consumed : Consumed} (is : IsWhere last consumed) where
     pub batch_taken : IsTaken now consumed
     batch_taken = token_is now.sorted batch last records consumed lends passes is
 
@@ -182,7 +182,7 @@ module _ {S O : Type 0} {g : Ghosts O} (now : Records S O g) (batch : Batch) (le
     unfolding view_of view_with
     records_are = taken_are now.sorted batch last records consumed lends passes is
 
-    module _ (device : Source S) (comes : BeginsComing device.left (view_of now)) (new : Records S O g) (takes : TakesRecords device now (count_in now consumed) new) where
+    module _ {device : Source S} (comes : BeginsComing device.left (view_of now)) (new : Records S O g) (takes : TakesRecords device now (count_in now consumed) new) where
       pub taken_of : HasTaken device (view_of now) records (view_of new)
       taken_of = has_taken device now new (count_in now consumed) records records_are comes takes
 
@@ -202,9 +202,9 @@ module _ {S O : Type 0} {g : Ghosts O} (now : Records S O g) (batch : Batch) (le
 pub consumes_given : {S O : Type 0} {g : Ghosts O} (now : Records S O g) (batch : Batch) (lends : Lends now batch) (last : Batch) (records : List Feature) → Passes batch records last → (consumed : Consumed) → IsWhere last consumed
     → (device : Source S) → BeginsComing device.left (view_of now) → (new : Records S O g) → TakesRecords device now (count_in now consumed) new → ConsumesGiven device now batch last new
 consumes_given now batch lends last records passes consumed is device comes new takes = record {
-  takes = λ records passes. taken_of now batch lends last records passes consumed is device comes new takes;
-  left_is = left_then now batch lends last records passes consumed is device comes new takes;
-  line_is = line_is now batch lends last records passes consumed is device comes new takes;
+  takes = λ records passes. taken_of now lends passes is comes new takes;
+  left_is = left_then now lends passes is comes new takes;
+  line_is = line_is now lends passes is comes new takes;
   order = takes.order;
 }
 

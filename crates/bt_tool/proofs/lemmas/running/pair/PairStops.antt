@@ -205,13 +205,12 @@ module _ {A B X Y U V : Type 0} {join : JoinDef X Y} {pair : Pair A B X Y U V} {
     ends_here fault why = ends_so fault second (none_low second s.second_passes.going) s.second_passes.bytes beside_now why
 
     -- more members of both were taken, then the first input stopped: all members of it were written
-    module _ (going : stage.first_ended ≡ false) (more_first : List (Member X)) (more_second : List (Member Y)) (second_now : MemberReader B Y V)
-        (takes_second : TakesFurther pair.source_b pair.second past_second more_second second second_now) (ended : stage.second_ended ≡ true → (more_second ≡ []) × (second_now.buffered ≡ [])) (more : List ℕ)
+    module _ (going : stage.first_ended ≡ false) (more_first : List (Member X)) {more_second : List (Member Y)} {second_now : MemberReader B Y V}
+        (takes_second : TakesFurther pair.source_b pair.second past_second more_second second second_now) (ended : stage.second_ended ≡ true → (more_second ≡ []) × (second_now.buffered ≡ [])) {more : List ℕ}
         (settles : IsKnown pair → SettlesPair join (firsts_given stage ++ member_items more_first) (s.bytes ++ more) ((stage.taken ++ member_items more_second) ++ option_to_list (item_ahead second_now)) stage.second_ended)
         (fits_now : IsKnown pair → join.Fits (firsts_given stage ++ member_items more_first) (past_second ++ more_second)) (asks_first : AsksFor join pair out (past_first ++ more_first) second_now)
-        (fault : FaultValue) (first_now : MemberReader A X U) (stops : StopsAfter pair.source_a pair.first join.first_kinds (past_first ++ more_first) fault first_now)
-        (read : IsReadFor pair.source_a pair.first (past_first ++ more_first) (past_first ++ more_first) first_now)
-        (now : Output) (adds : Grown grown more now) where
+        {fault : FaultValue} {first_now : MemberReader A X U} (stops : StopsAfter pair.source_a pair.first join.first_kinds (past_first ++ more_first) fault first_now)
+        (read : IsReadFor pair.source_a pair.first (past_first ++ more_first) (past_first ++ more_first) first_now) {now : Output} (adds : Grown grown more now) where
       abbrev written : List X
       written = firsts_given stage ++ member_items more_first
 
@@ -270,27 +269,26 @@ module _ {A B X Y U V : Type 0} {join : JoinDef X Y} {pair : Pair A B X Y U V} {
         let stops = passes_stop pair.source_a pair.first past_first first s.first_passes join.first_kinds wrong first_now fault stopped in
         let read = read_at_stop pair.source_a pair.first past_first first s.first_passes first_now fault stopped in
         let alone : firsts_given stage ++ [] ≡ stage.written = append-nil (firsts_given stage) ∙ ap (λ (o : Option X). stage.written ++ option_to_list o) none ∙ append-nil stage.written in
-        first_fails going [] [] second (grind (arith, append-nil, none_pushed)) (λ e. (refl, (s.second_all e).1)) []
-        (λ known. rw (alone, append-nil s.bytes, append-nil stage.taken) (s.settles known))
+        first_fails going [] (grind (arith, append-nil, none_pushed)) (λ e. (refl, (s.second_all e).1)) (λ known. rw (alone, append-nil s.bytes, append-nil stage.taken) (s.settles known))
         (λ known. subst (λ (l : List X). join.Fits l (past_second ++ [])) (sym (append-nil (firsts_given stage))) (subst (λ (l : List (Member Y)). join.Fits (firsts_given stage) l) (sym (append-nil past_second)) (fits known)))
-        (subst (λ (l : List (Member X)). AsksFor join pair out l second) same (asks going)) fault first_now
+        (subst (λ (l : List (Member X)). AsksFor join pair out l second) same (asks going))
         (subst (λ (l : List (Member X)). StopsAfter pair.source_a pair.first join.first_kinds l fault first_now) same stops)
-        (subst (λ (l : List (Member X)). IsReadFor pair.source_a pair.first l l first_now) same read) grown (grown_none grown)
+        (subst (λ (l : List (Member X)). IsReadFor pair.source_a pair.first l l first_now) same read) (grown_none grown)
 
     -- memory ran out
     pub lacks_memory : (fault : FaultValue) → fault ≡ no_memory → Ends (Some fault) first second grown
     lacks_memory fault is = ends_here (Some fault) (inr (inl (ap Some is, s.put.puts)))
 
     -- more members of both were taken, and some lines that are settled then weren't all written
-    pub fails_to_write : (more_first : List (Member X)) (more_second : List (Member Y)) (first_now : MemberReader A X U) (second_now : MemberReader B Y V)
+    pub fails_to_write : (more_first : List (Member X)) (more_second : List (Member Y)) {first_now : MemberReader A X U} {second_now : MemberReader B Y V}
         → TakesFurther pair.source_a pair.first past_first more_first first first_now
         → TakesFurther pair.source_b pair.second past_second more_second second second_now
-        → (written rest : List X) → written ++ rest ≡ firsts_given stage ++ member_items more_first
+        → {written : List X} (rest : List X) → written ++ rest ≡ firsts_given stage ++ member_items more_first
         → (IsKnown pair → join.Fits (firsts_given stage ++ member_items more_first) (past_second ++ more_second))
         → (stage.second_ended ≡ true → (more_second ≡ []) × (second_now.buffered ≡ []))
-        → (puts more : List ℕ) → (IsKnown pair → SettlesPair join written (s.bytes ++ (puts ++ more)) ((stage.taken ++ member_items more_second) ++ option_to_list (item_ahead second_now)) stage.second_ended)
-        → (through now : Output) (fault : FaultValue) → Grown grown puts through → FailsToAdd through more fault now → Ends (Some fault) first_now second_now now
-    fails_to_write more_first more_second first_now second_now takes takes_second written rest parts fits_now ended puts more settles through now fault adds fails =
+        → {puts more : List ℕ} → (IsKnown pair → SettlesPair join written (s.bytes ++ (puts ++ more)) ((stage.taken ++ member_items more_second) ++ option_to_list (item_ahead second_now)) stage.second_ended)
+        → {through now : Output} {fault : FaultValue} → Grown grown puts through → FailsToAdd through more fault now → Ends (Some fault) first_now second_now now
+    fails_to_write more_first more_second {first_now} {second_now} takes takes_second {written} rest parts fits_now ended {puts} {more} settles {through} {now} {fault} adds fails =
         let all = given_with more_first in
         let begun = begins_with (good_coming pair.source_a.left pair.first) (good_coming pair.source_a.left first_now) (past_first ++ more_first) takes.passes.come in
         let grows = grows_both out.took through.took now.took (grows_both out.took grown.took through.took s.put.grows adds.grows) fails.puts.grows in
@@ -317,15 +315,15 @@ module _ {A B X Y U V : Type 0} {join : JoinDef X Y} {pair : Pair A B X Y U V} {
     pub fails_waiting : (a : X) → stage.waiting ≡ Some a → (more : List ℕ) → (IsKnown pair → SettlesPair join (stage.written ++ a ∷ []) (s.bytes ++ more) (stage.taken ++ option_to_list (item_ahead second)) stage.second_ended)
         → (fault : FaultValue) (now : Output) → FailsToAdd grown more fault now → Ends (Some fault) first second now
     fails_waiting a waits more settles fault now fails =
-        fails_to_write [] [] first second (grind (arith, append-nil, none_pushed)) (grind (arith, append-nil, none_pushed))
-        (stage.written ++ a ∷ []) [] (ap (λ l. l ++ []) (ap (λ (o : Option X). stage.written ++ option_to_list o) (sym waits)))
+        fails_to_write [] [] (grind (arith, append-nil, none_pushed)) (grind (arith, append-nil, none_pushed))
+        [] (ap (λ l. l ++ []) (ap (λ (o : Option X). stage.written ++ option_to_list o) (sym waits)))
         (λ known. subst (λ (l : List X). join.Fits l (past_second ++ [])) (sym (append-nil (firsts_given stage))) (subst (λ (l : List (Member Y)). join.Fits (firsts_given stage) l) (sym (append-nil past_second)) (fits known)))
-        (λ e. (refl, (s.second_all e).1)) [] more
+        (λ e. (refl, (s.second_all e).1))
         (λ known. subst (λ (l : List Y). SettlesPair join (stage.written ++ a ∷ []) (s.bytes ++ more) (l ++ option_to_list (item_ahead second)) stage.second_ended) (sym (append-nil stage.taken)) (settles known))
-        grown now fault (grown_none grown) fails
+        (grown_none grown) fails
 
     -- while one of the first waits
-    module _ (a : X) (waits : stage.waiting ≡ Some a) where
+    module _ {a : X} (waits : stage.waiting ≡ Some a) where
       begins_before : IfSome (good_coming pair.source_a.left pair.first) (λ good. (rest : List X) × (items_in good ≡ stage.written ++ a ∷ rest))
       begins_before =
           items_begin (good_coming pair.source_a.left pair.first) past_first stage.written (a ∷ []) (sym s.all_given ∙ ap (λ (o : Option X). stage.written ++ option_to_list o) waits) came_first

@@ -242,11 +242,11 @@ module _ {A B X Y U V : Type 0} {join : JoinDef X Y} {pair : Pair A B X Y U V} {
   fills_second going second_now filled = grind (arith, (passes_fill pair.source_b pair.second past_second second s.second_passes second_now filled), seen_by)
 
   -- more members of both were taken, after their ends none, and these bytes were put for those that are written now
-  module _ (more_first : List (Member X)) (more_second : List (Member Y)) (first_now : MemberReader A X U) (second_now : MemberReader B Y V)
+  module _ {more_first : List (Member X)} {more_second : List (Member Y)} {first_now : MemberReader A X U} {second_now : MemberReader B Y V}
       (takes : TakesFurther pair.source_a pair.first past_first more_first first first_now)
       (takes_second : TakesFurther pair.source_b pair.second past_second more_second second second_now)
       (ended : stage.first_ended ≡ true → (more_first ≡ []) × (first_now.buffered ≡ [])) (ended_second : stage.second_ended ≡ true → (more_second ≡ []) × (second_now.buffered ≡ []))
-      (newly : List X) (new : PairStage X Y) (follows : Follows stage (member_items more_first) newly (member_items more_second) new) where
+      {newly : List X} {new : PairStage X Y} (follows : Follows stage (member_items more_first) newly (member_items more_second) new) where
     all_now : firsts_given new ≡ member_items (past_first ++ more_first)
     all_now = follows.given_is ∙ ap (λ l. l ++ member_items more_first) s.all_given ∙ sym (map-append (λ m. m.item) past_first more_first)
 

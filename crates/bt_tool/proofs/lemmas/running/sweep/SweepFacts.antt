@@ -81,13 +81,13 @@ module _ (order : Order) where
   held_one a past m e = grind (arith, map-append, filter-append, length-append, passed_one)
 
   -- with one that there is no room for, the second input is cut
-  pub cuts_at : (limit : Option ℕ) (before : List Feature) (a : Feature) (past : List (Member Feature)) (m : Member Feature) (fault : FaultValue) → fault ≡ fault_at_line Second m.line TooManyHeld
+  pub cuts_at : (limit : Option ℕ) (before : List Feature) (a : Feature) (past : List (Member Feature)) (m : Member Feature) {fault : FaultValue} → fault ≡ fault_at_line Second m.line TooManyHeld
       → AreWithin order limit (before ++ a ∷ []) past → list_all (λ x. decided order x (member_items (past ++ m ∷ []))) before ≡ true → decided order a (member_items (past ++ m ∷ [])) ≡ false
       → is_held a m.item ≡ true → has_room limit (length (filter (is_held a) (member_items past))) ≡ false
       → (later : List Feature) (more : List (Member Feature)) (other : Option FaultValue)
       → limited order limit (before ++ a ∷ later) (record { members = (past ++ m ∷ []) ++ more; fault = other }) ≡ record { members = past ++ m ∷ []; fault = Some fault }
-  cuts_at None before a past m fault is within all undecided held full later more other = absurd (false≢true (sym full))
-  cuts_at (Some most) before a past m fault is within all undecided held full later more other =
+  cuts_at None before a past m is within all undecided held full later more other = absurd (false≢true (sym full))
+  cuts_at (Some most) before a past m is within all undecided held full later more other =
       let count = length (filter (is_held a) (member_items (past ++ m ∷ []))) in
       let many : are_too_many order most (before ++ a ∷ later) (member_items (past ++ m ∷ [])) ≡ true =
       many_by order most (member_items (past ++ m ∷ [])) before later a all undecided
@@ -160,7 +160,7 @@ module _ (order : Order) where
 
 -- ---- the record that waits is undecided, if the second input gives no more
 
-module _ (order : Order) (total : IsTotal order) where
+module _ {order : Order} (total : IsTotal order) where
   -- the last of the records leaves none undecided that they decide
   all_decided : (front : List Feature) (b : Feature) (xs : List Feature) → ArePlaced order (intervals_of (front ++ b ∷ [])) → ArePlaced order (intervals_of xs)
       → list_all (λ x. decided order x (front ++ b ∷ [])) xs ≡ true → list_any (λ x. not (decides order x b)) xs ≡ true → ⊥
@@ -208,10 +208,10 @@ module _ (order : Order) (total : IsTotal order) where
     join_of = sweep_join order config
 
     -- more records of the first are settled
-    pub settles_newly : (written newly : List Feature) (bytes : List ℕ) (taken : List Feature) (o : Option Feature) (ended : Bool) (phase : Phase) → SettlesPair join_of written bytes (taken ++ option_to_list o) ended → ArePlaced order (intervals_of newly)
+    pub settles_newly : {written : List Feature} (newly : List Feature) {bytes : List ℕ} {taken : List Feature} {o : Option Feature} {ended : Bool} {phase : Phase} → SettlesPair join_of written bytes (taken ++ option_to_list o) ended → ArePlaced order (intervals_of newly)
         → (phase ≡ First → (ended ≡ true) × (o ≡ None)) → (ss : List Feature) (before : List Feature) → taken ≡ before ++ ss → Settles order phase newly (ss ++ option_to_list o)
         → SettlesPair join_of (written ++ newly) (bytes ++ intersect config.shape config.rule newly taken) (taken ++ option_to_list o) ended
-    settles_newly written newly bytes taken o ended phase s known ends ss before parts (inl first) =
+    settles_newly {written} newly {bytes} {taken} {o} {ended} s known ends ss before parts (inl first) =
         let done = ends first in
         settles_list join_of written newly bytes (intersect config.shape config.rule newly taken) (taken ++ option_to_list o) ended s
         (λ second fault ordered may.
@@ -219,7 +219,7 @@ module _ (order : Order) (total : IsTotal order) where
           subst (λ (f : Option FaultValue). list_all (λ x. is_none f || decided order x second) newly ≡ true) (sym all.1) (none_true newly second),
           ap (intersect config.shape config.rule newly) (all.0 ∙ ap (λ (w : Option Feature). taken ++ option_to_list w) done.1 ∙ append-nil taken),
         ))
-    settles_newly written newly bytes taken o ended phase s known ends ss before parts (inr each) =
+    settles_newly {written} newly {bytes} {taken} {o} {ended} s known ends ss before parts (inr each) =
         let all : AreDecided order newly (taken ++ option_to_list o) =
         subst (λ (l : List Feature). AreDecided order newly l) (sym (append_assoc before ss (option_to_list o)) ∙ ap (λ (l : List Feature). l ++ option_to_list o) (sym parts)) (decided_behind order newly before (ss ++ option_to_list o) each) in
         settles_list join_of written newly bytes (intersect config.shape config.rule newly taken) (taken ++ option_to_list o) ended s
@@ -235,11 +235,11 @@ module _ (order : Order) (total : IsTotal order) where
   few_more limit xs after whole second items e f few = grind (arith, append_assoc)
 
   -- with each that was taken the limit lies as far
-  pub fits_each : (limit : Option ℕ) (written rest : List Feature) → ArePlaced order (intervals_of (written ++ rest)) → (n : ℕ) (seconds taken : List Feature) (past : List (Member Feature)) → member_items past ≡ taken → ArePlaced order (intervals_of (taken ++ seconds))
+  pub fits_each : (limit : Option ℕ) (written rest : List Feature) → ArePlaced order (intervals_of (written ++ rest)) → (n : ℕ) (seconds : List Feature) {taken : List Feature} (past : List (Member Feature)) → member_items past ≡ taken → ArePlaced order (intervals_of (taken ++ seconds))
       → ((b : Feature) (more : List Feature) → seconds ≡ b ∷ more → AreDecided order written (taken ++ b ∷ [])) → TakenEach order limit rest taken seconds → AreWithin order limit (written ++ rest) past
       → AreWithin order limit (written ++ rest) (past ++ members_from n seconds)
-  fits_each limit written rest placed n [] taken past e placed_taken first each within = subst (λ (l : List (Member Feature)). AreWithin order limit (written ++ rest) l) (sym (append-nil past)) within
-  fits_each limit written rest placed n (b ∷ seconds) taken past e placed_taken first each within =
+  fits_each limit written rest placed n [] past e placed_taken first each within = subst (λ (l : List (Member Feature)). AreWithin order limit (written ++ rest) l) (sym (append-nil past)) within
+  fits_each limit written rest placed n (b ∷ seconds) {taken} past e placed_taken first each within =
       let t = each.0 in
       let m : Member Feature = record { line = n; item = b } in
       let items : member_items (past ++ m ∷ []) ≡ taken ++ b ∷ [] = map-append (λ m. m.item) past (m ∷ []) ∙ ap (λ l. l ++ b ∷ []) e in
@@ -250,7 +250,6 @@ module _ (order : Order) (total : IsTotal order) where
       let few = held_few order limit (written ++ t.before) t.a (taken ++ b ∷ []) (decided_both order written t.before (taken ++ b ∷ []) decided_now t.settled)
       (none_before order t.a taken b total known (front_placed order (taken ++ b ∷ []) seconds placed_both) t.undecided) t.within in
       subst (λ (l : List (Member Feature)). AreWithin order limit (written ++ rest) l) (append_assoc past (m ∷ []) (members_from (suc n) seconds))
-      (fits_each limit written rest placed (suc n) seconds (taken ++ b ∷ []) (past ++ m ∷ []) items placed_both
-      (λ next more is. decided_before order written (taken ++ b ∷ []) (next ∷ []) decided_now) each.1
+      (fits_each limit written rest placed (suc n) seconds (past ++ m ∷ []) items placed_both (λ next more is. decided_before order written (taken ++ b ∷ []) (next ∷ []) decided_now) each.1
       (within_taken order limit (written ++ rest) past m within (few_more limit ((written ++ t.before) ++ t.a ∷ []) t.after (written ++ rest) (taken ++ b ∷ []) (member_items (past ++ m ∷ []))
       (whole ∙ sym (append_assoc (written ++ t.before) (t.a ∷ []) t.after)) items few)))

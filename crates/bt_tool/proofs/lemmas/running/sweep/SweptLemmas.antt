@@ -169,12 +169,12 @@ module _ {A B O : Type 0} {g : Ghosts O} {source_a : Source A} {source_b : Sourc
   second_placed past now p = grind (arith, said_in_order)
 
   -- with the member ahead too many would be held
-  limit_case : (fault : FaultValue) (first_now : Records A O g) (second_now : Records B O g) → order_in second_now ≡ order → (later : Stage) (last : Feature) → later.waiting ≡ Some last → later.b_ended ≡ false
-      → (past_first past_second : List (Member Feature)) (grown : Output)
+  limit_case : {fault : FaultValue} (first_now : Records A O g) (second_now : Records B O g) → order_in second_now ≡ order → {later : Stage} {last : Feature} → later.waiting ≡ Some last → later.b_ended ≡ false
+      → {past_first past_second : List (Member Feature)} {grown : Output}
       → Comes join pair out (stage_of later) past_first past_second (view_of first_now) (view_of second_now) grown → (later.a_ended ≡ false → AsksFor join pair out past_first (view_of second_now))
-      → (IsKnown pair → AreWithin order config.limit (given later) past_second) → (m : Member Feature) → ahead_in (view_of second_now) ≡ Some m → m.item.chrom ≡ last.chrom → m.item.start < last.stop → last.start < m.item.stop → order.knows last.chrom ≡ true
+      → (IsKnown pair → AreWithin order config.limit (given later) past_second) → {m : Member Feature} → ahead_in (view_of second_now) ≡ Some m → m.item.chrom ≡ last.chrom → m.item.start < last.stop → last.start < m.item.stop → order.knows last.chrom ≡ true
       → has_room config.limit (length (held_for (Some last) later.taken)) ≡ false → fault ≡ fault_at_line Second m.line TooManyHeld → Ends (Some fault) first_now second_now grown
-  limit_case fault first_now second_now is_order later last waits going past_first past_second grown comes asks fits m ahead on starts ends known full is =
+  limit_case {fault} first_now second_now is_order {later} {last} waits going {past_second} comes asks fits {m} ahead on starts ends known full is =
       let placed = second_placed past_second (view_of second_now) comes.second_passes in
       let state : (view_of second_now).state ≡ state_behind (bed_format (sorting_of order)) None (member_items past_second) =
       comes.second_passes.state ∙ ap (λ (f : Format Feature (Option Locus)). state_behind f (view_of old_second).state (member_items past_second)) (c.begun.is_bed_second ∙ ap (λ (o : Order). bed_format (sorting_of o)) c.begun.same_order)
@@ -185,10 +185,8 @@ module _ {A B O : Type 0} {g : Ghosts O} {source_a : Source A} {source_b : Sourc
       ap (decided order last) items ∙ none_before order last (member_items past_second) m.item c.begun.total known with_m (undecided_beside order c.begun.total last m.item known on starts) in
       let parts : given later ≡ later.written ++ last ∷ [] = ap (λ (o : Option Feature). later.written ++ option_to_list o) waits in
       let held : is_held last m.item ≡ true = and_from (bytes_eq last.chrom m.item.chrom) (ltb last.start m.item.stop) (name_eq last.chrom m.item.chrom (sym on)) (lt-ltb last.start m.item.stop ends) in
-      stop.passes_limit comes asks fits last waits m ahead TooManyHeld
-      (inr ((grind arith), refl)) fault is undecided
-      (λ known_now.
-      cuts_at order config.limit later.written last past_second m fault is (subst (λ (l : List Feature). AreWithin order config.limit l past_second) parts (fits known_now))
+      stop.passes_limit comes asks fits waits m ahead TooManyHeld (inr ((grind arith), refl)) fault is undecided (λ known_now.
+      cuts_at order config.limit later.written last past_second m is (subst (λ (l : List Feature). AreWithin order config.limit l past_second) parts (fits known_now))
       (subst (λ (l : List Feature). list_all (λ x. decided order x l) later.written ≡ true) (sym items)
       (((comes.settles known_now).whatever (member_items past_second ++ m.item ∷ []) (Some no_memory) with_m
       (record {
@@ -306,13 +304,12 @@ module _ {A B O : Type 0} {g : Ghosts O} {source_a : Source A} {source_b : Sourc
 
     pub stops_second : (fault : Fault) (second_now : Records B O g) → FillsRecords source_b second (Err fault) second_now → Ends (Some (fault_value fault)) first second_now grown
     stops_second fault second_now fills =
-        stop.stops_second s.comes asks_here s.fits a waiting.1 wrong_second asked goes opens (fault_value fault) (view_of second_now)
-        (is_stopped source_b second second_now fault fills)
+        stop.stops_second s.comes asks_here s.fits waiting.1 wrong_second asked goes opens (fault_value fault) (view_of second_now) (is_stopped source_b second second_now fault fills)
 
     pub fails_at_end : (fault : FaultValue) (second_now : Records B O g) (now : Output) → FillsRecords source_b second (Ok false) second_now → FailsToAdd grown (lines_for sweep.shape sweep.rule a stage.taken) fault now
         → Ends (Some fault) first second_now now
     fails_at_end fault second_now now fills fails =
-        stop.fails_at_end s.comes asks_here s.fits a waiting.1 asked goes fault (view_of second_now) now
+        stop.fails_at_end s.comes asks_here s.fits waiting.1 asked goes fault (view_of second_now) now
         (is_over source_b second second_now fills) (by_config (λ c. FailsToAdd grown (lines_for c.shape c.rule a stage.taken) fault now) fails)
 
   -- ---- what both have buffered was given
@@ -382,7 +379,7 @@ module _ {A B O : Type 0} {g : Ghosts O} {source_a : Source A} {source_b : Sourc
         → SettlesPair join written bytes ((stage.taken ++ ss) ++ option_to_list (item_ahead (view_of second_now))) stage.b_ended
         → SettlesPair join (written ++ newly) (bytes ++ intersect config.shape config.rule newly (stage.taken ++ ss)) ((stage.taken ++ ss) ++ option_to_list (item_ahead (view_of second_now))) stage.b_ended
     settled_more written newly bytes placed each settles =
-        settles_newly order c.begun.total config written newly bytes (stage.taken ++ ss) (item_ahead (view_of second_now)) stage.b_ended sweep.phase settles placed ends_then ss stage.taken refl each
+        settles_newly c.begun.total config newly settles placed ends_then ss stage.taken refl each
 
     -- the limit lies as far
     decided_first : IsKnown pair → (b : Feature) (more : List Feature) → ss ≡ b ∷ more → AreDecided order stage.written (stage.taken ++ b ∷ [])
@@ -412,7 +409,7 @@ module _ {A B O : Type 0} {g : Ghosts O} {source_a : Source A} {source_b : Sourc
       fits_later each known =
           let whole : stage.written ++ (option_to_list stage.waiting ++ fs) ≡ given stage ++ fs = sym (append_assoc stage.written (option_to_list stage.waiting) fs) in
           subst (λ (l : List Feature). AreWithin order config.limit l (s.past_second ++ more_second)) (whole ∙ sym given_later)
-          (fits_each order c.begun.total config.limit stage.written (option_to_list stage.waiting ++ fs) (subst (λ (l : List Feature). ArePlaced order (intervals_of l)) (sym whole) placed_first) (suc (lines_given (below second))) ss stage.taken s.past_second
+          (fits_each c.begun.total config.limit stage.written (option_to_list stage.waiting ++ fs) (subst (λ (l : List Feature). ArePlaced order (intervals_of l)) (sym whole) placed_first) (suc (lines_given (below second))) ss s.past_second
           (sym s.comes.all_taken) placed_second (decided_first known) (subst (λ (o : Option Feature). TakenEach order config.limit (option_to_list o ++ fs) stage.taken ss) s.stands.current_is each)
           (subst (λ (l : List Feature). AreWithin order config.limit l s.past_second) (sym whole) (within_given order config.limit (given stage) fs s.past_second (s.fits known))))
 
@@ -421,18 +418,15 @@ module _ {A B O : Type 0} {g : Ghosts O} {source_a : Source A} {source_b : Sourc
           → (fault : FaultValue) (now : Output) → FailsToAdd grown (intersect config.shape config.rule newly (stage.taken ++ ss)) fault now → Ends (Some fault) first_now second_now now
       cuts_later each settles fault now fails =
           let items : given later ≡ given stage ++ member_items more_first = given_later ∙ ap (λ (l : List Feature). given stage ++ l) (sym items_first) in
-          stop.fails_to_write s.comes asks_here s.fits more_first more_second (view_of first_now) (view_of second_now) further further_second
-          (stage.written ++ newly) (option_to_list w) items
-          (λ known. subst (λ (l : List Feature). AreWithin order config.limit l (s.past_second ++ more_second)) items (fits_later each known))
-          ended_second [] (intersect config.shape config.rule newly (stage.taken ++ ss))
+          stop.fails_to_write s.comes asks_here s.fits more_first more_second further further_second (option_to_list w) items
+          (λ known. subst (λ (l : List Feature). AreWithin order config.limit l (s.past_second ++ more_second)) items (fits_later each known)) ended_second
           (λ known. subst (λ (l : List Feature). SettlesPair join (stage.written ++ newly) (s.comes.bytes ++ intersect config.shape config.rule newly (stage.taken ++ ss)) ((stage.taken ++ l) ++ option_to_list (item_ahead (view_of second_now))) stage.b_ended) (sym items_second)
-          (settled_more stage.written newly s.comes.bytes newly_placed settles (settled_seen known)))
-          grown now fault (grown_none grown) fails
+          (settled_more stage.written newly s.comes.bytes newly_placed settles (settled_seen known))) (grown_none grown) fails
 
       module _ (each : Settles order sweep.phase newly (ss ++ option_to_list (item_ahead (view_of second_now)))) (now : Output) (puts : PutsEach order sweep fs ss newly grown now) where
         comes_later : Comes join pair out (stage_of later) (s.past_first ++ more_first) (s.past_second ++ more_second) (view_of first_now) (view_of second_now) now
         comes_later =
-            turned.goes_on s.comes more_first more_second (view_of first_now) (view_of second_now) further further_second ended_first ended_second newly (stage_of later)
+            turned.goes_on s.comes further further_second ended_first ended_second
             (record { given_is = given_later ∙ ap (λ (l : List Feature). given stage ++ l) (sym items_first); written_is = refl; taken_is = ap (λ (l : List Feature). stage.taken ++ l) (sym items_second); first_is = refl; second_is = refl })
             (intersect config.shape config.rule newly (stage.taken ++ ss)) now (λ known. settled_more stage.written newly s.comes.bytes newly_placed each (settled_seen known))
             (by_config (λ c. Grown grown (intersect c.shape c.rule newly (stage.taken ++ ss)) now) (puts stage s.stands placed_first placed_second))
@@ -497,8 +491,8 @@ module _ {A B O : Type 0} {g : Ghosts O} {source_a : Source A} {source_b : Sourc
                 let lacks = subst (λ (n : ℕ). CannotBeHeld sweep.limit last (stage.taken ++ ss) n fault) (line_then source_b second second_now seconds last_seconds consumes_second lack.shares.b lack.shares.after lack.shares.gives) (lack.lacks stage s.stands placed placed_taken) in
                 elim (by_config (λ c. CannotBeHeld c.limit last (stage.taken ++ ss) m.line fault) lacks) [
                   | inl full ↦
-                      limit_case fault first_now second_now (takes.second_order ∙ s.second_order ∙ c.begun.same_order) (stage_after stage fails.proceeds.newly (Some last) ss) last refl
-                      (not_ended_with takes m ahead stage.b_ended refl) past_first past_second now comes asks fits m ahead lack.shares.chrom lack.shares.starts lack.shares.ends placed_last.0 full.0 full.1
+                      limit_case first_now second_now (takes.second_order ∙ s.second_order ∙ c.begun.same_order) refl
+                      (not_ended_with takes m ahead stage.b_ended refl) comes asks fits ahead lack.shares.chrom lack.shares.starts lack.shares.ends placed_last.0 full.0 full.1
                   | inr ran ↦ stop.lacks_memory comes asks fits fault ran.1
                 ]
             | inr keep ↦

@@ -87,28 +87,28 @@ tells_first : (S F : Type 0) (fault : Option FaultValue) → TellsOwnReads ⊥ F
 tells_first S F fault own = record { genome_file = own.genome_file; first_input = own.first_input; second_input = λ line e. absurd (own.second_input line e) }
 
 -- what a command does of one input, a second that isn't touched beside it
-pub runs_alone : {A B : Type 0} (source_a : Source A) (source_b : Source B) (command : Command) (chromosomes : Option (List Entry))
+pub runs_alone : {A B : Type 0} {source_a : Source A} {source_b : Source B} {command : Command} (chromosomes : Option (List Entry))
     → ((one : Handed) (two : Option Handed) → (behaviour_of command chromosomes).report one None ≡ (behaviour_of command chromosomes).report one two)
     → ((two : Option Handed) (lines : List TextLine) → (behaviour_of command chromosomes).settles None lines ≡ (behaviour_of command chromosomes).settles two lines)
-    → (is : Command) → is ≡ command → (first : A) (second : Option B) (out : Output) (fault : Option FaultValue) (first_after : A) (grown : Output)
+    → {is : Command} → is ≡ command → {first : A} {second : Option B} {out : Output} {fault : Option FaultValue} {first_after : A} {grown : Output}
     → RunsAlone source_a (behaviour_of command chromosomes) first out fault first_after grown → RunsBy source_a source_b (behaviour_of is chromosomes) first second out fault first_after second grown
-runs_alone source_a source_b command chromosomes same same_settle is e first second out fault first_after grown runs = record {
-  written = behaves_alone source_a source_b command chromosomes same same_settle is e first second out fault first_after grown runs.written;
+runs_alone {source_a} {source_b} chromosomes same same_settle e {fault} runs = record {
+  written = behaves_alone source_a source_b chromosomes same same_settle e runs.written;
   reads = λ never. ((runs.reads never).0, grind (arith, serve_same));
   own_failure = tells_first _ _ fault runs.own_failure;
 }
 
 -- the members of the first input were fed to an engine up to a fault
-module _ {S A State : Type 0} (device : Source S) (format : Format A State) (first : S) (old : MemberReader S A State) (begins : BeginsAt device.left format First first old)
-    (new : MemberReader S A State) (last : S) (ended : source_of new.below ≡ last) (own : KeepsOwnFault device.is_read old.below new) where
-  pub feeds_own : (settled : List A → List ℕ) (Kinds : Kind → Type 0) → (Kinds ReadFailed → ⊥) → (Sorted : List A → Type 0) (out : Output) (fault : FaultValue) (grown : Output)
+module _ {S A State : Type 0} (device : Source S) {format : Format A State} {first : S} {old : MemberReader S A State} (begins : BeginsAt device.left format First first old)
+    (new : MemberReader S A State) {last : S} (ended : source_of new.below ≡ last) (own : KeepsOwnFault device.is_read old.below new) where
+  pub feeds_own : {settled : List A → List ℕ} (Kinds : Kind → Type 0) → (Kinds ReadFailed → ⊥) → (Sorted : List A → Type 0) {out : Output} {fault : FaultValue} {grown : Output}
       → FeedsUpTo settled Kinds Sorted device old out fault new grown → TellsOwnReads ⊥ (IsOwnFailure device.is_read first last) ⊥ (Some fault)
-  feeds_own settled Kinds never Sorted out fault grown fed = grind arith
+  feeds_own Kinds never Sorted fed = grind arith
 
 -- a run over two readers ended
-module _ {A B X Y U V : Type 0} (join : JoinDef X Y) (pair : Pair A B X Y U V) (out : Output) (first_format : Format X U) (second_format : Format Y V)
-    (one_before : A) (two_before : B) (begins : BeginsAt pair.source_a.left first_format First one_before pair.first) (begins_second : BeginsAt pair.source_b.left second_format Second two_before pair.second)
-    (first : MemberReader A X U) (second : MemberReader B Y V) (one_after : A) (two_after : B) (ended : source_of first.below ≡ one_after) (ended_second : source_of second.below ≡ two_after) (fault : Option FaultValue) (grown : Output)
+module _ {A B X Y U V : Type 0} {join : JoinDef X Y} {pair : Pair A B X Y U V} {out : Output} {first_format : Format X U} {second_format : Format Y V}
+    {one_before : A} {two_before : B} (begins : BeginsAt pair.source_a.left first_format First one_before pair.first) (begins_second : BeginsAt pair.source_b.left second_format Second two_before pair.second)
+    {first : MemberReader A X U} {second : MemberReader B Y V} {one_after : A} {two_after : B} (ended : source_of first.below ≡ one_after) (ended_second : source_of second.below ≡ two_after) {fault : Option FaultValue} {grown : Output}
     (w : PairEnds join pair out fault first second grown) (no_first : join.first_kinds ReadFailed → ⊥) (no_second : join.second_kinds ReadFailed → ⊥) (own : KeepsOwnFault pair.source_a.is_read pair.first.below first) (own_second : KeepsOwnFault pair.source_b.is_read pair.second.below second) where
   pub both_own : TellsOwnReads ⊥ (IsOwnFailure pair.source_a.is_read one_before one_after) (IsOwnFailure pair.source_b.is_read two_before two_after) fault
   both_own = grind arith
@@ -137,37 +137,37 @@ module _ {A B : Type 0} (source_a : Source A) (source_b : Source B) (command : C
 
 -- Lemmas on the genome file of a run, if it has one.
 
-module _ {G : Type 0} (device : Source G) (genome after : G) (old new : LineReader G) (source : source_of old ≡ genome) (ended : source_of new ≡ after) (input : input_of old ≡ FromGenome)
+module _ {G : Type 0} {device : Source G} {genome after : G} {old : LineReader G} (new : LineReader G) (source : source_of old ≡ genome) (ended : source_of new ≡ after) (input : input_of old ≡ FromGenome)
     (fresh : bytes_taken old ≡ 0) (unfed : feeds_taken old ≡ 0) (none_given : lines_given old ≡ 0) (clear : fault_kept old ≡ None) (lines : lines_left device.left old ≡ option_map text_lines (device.left genome)) (sound : IsSound device old) where
   at_genome : (text : List ℕ) (P : List TextLine → Type 0) → device.left genome ≡ Some text → IfSome (lines_left device.left old) P → P (text_lines text)
   at_genome text P e h = some_of (lines_left device.left old) (text_lines text) P (lines ∙ ap (option_map text_lines) e) h
 
-  pub knows_read : (table : GenomeTable) → ReadsAll device old new table → IsSound device new → KnowsChromosomes device (Some genome) (Some after) (Some table)
-  knows_read table reads next = search rules
+  pub knows_read : {table : GenomeTable} → ReadsAll device old new table → IsSound device new → KnowsChromosomes device (Some genome) (Some after) (Some table)
+  knows_read reads next = search rules
 
   module _ (fault : FaultValue) (bytes : (bytes : List ℕ) × Hands device.left old bytes new) (next : IsSound device new) where
     unread_text : EntryUnread device old new fault → (handed : Handed) → Reads device genome after handed → chromosomes_of (Some handed) ≡ Err fault
     unread_text unread handed reads =
-        let texts = cut_text device genome after old new source ended fresh handed reads unfed (unread.fails.cut (record { end = sound.end; within = sound.within })) in
+        let texts = cut_text device old new source ended fresh handed reads unfed (unread.fails.cut (record { end = sound.end; within = sound.within })) in
         let front = take (2 ^ 63 - 1) reads.bytes in
         let made = at_genome reads.text (λ lines. (entries : List Entry) × (genome_of (input_of old) (take (lines_given new - lines_given old) lines) ≡ Ok entries)) reads.known unread.passed in
         let first : genome_of FromGenome (take (line_feeds front) (text_lines (front ++ texts.more))) ≡ Ok made.0 =
         ap (λ t. genome_of FromGenome (take (line_feeds front) (text_lines t))) texts.text
         ∙ ap (λ n. genome_of FromGenome (take n (text_lines reads.text))) (sym (omega (arith, texts.given, none_given)))
         ∙ ap (λ i. genome_of i (take (lines_given new - lines_given old) (text_lines reads.text))) (sym input) ∙ made.1 in
-        grind (arith, (handed_part device genome after old new source ended fresh handed reads bytes unread.fails.cause), whole_front, whole_count)
+        grind (arith, (handed_part device old new source ended fresh handed reads bytes unread.fails.cause), whole_front, whole_count)
 
     whole_by : StopCause device old new fault → fault ≢ no_memory → (handed : Handed) → Reads device genome after handed → chromosomes_of (Some handed) ≡ Err fault
     whole_by (inl wrong) memory handed reads =
-        subst (λ h. chromosomes_of (Some h) ≡ Err fault) (sym (handed_all device genome after old new source ended fresh handed reads bytes wrong.served (next.within wrong.going))) (grind arith)
+        subst (λ h. chromosomes_of (Some h) ≡ Err fault) (sym (handed_all device old new source ended fresh handed reads bytes wrong.served (next.within wrong.going))) (grind arith)
     whole_by (inr (inl unread)) memory handed reads = unread_text unread handed reads
     whole_by (inr (inr ran)) memory handed reads = absurd (memory ran.is)
 
     lacks_by : StopCause device old new fault → LacksChromosomes device (Some genome) (Some after) fault
     lacks_by cause = grind (arith, whole_by)
 
-  pub lacks_read : (fault : FaultValue) → ReadingStops device old new fault → IsSound device new → LacksChromosomes device (Some genome) (Some after) fault
-  lacks_read fault stops next = lacks_by fault stops.bytes next (stops.first clear)
+  pub lacks_read : {fault : FaultValue} → ReadingStops device old new fault → IsSound device new → LacksChromosomes device (Some genome) (Some after) fault
+  lacks_read {fault} stops next = lacks_by fault stops.bytes next (stops.first clear)
 
   -- a failed read that is reported is of a read that failed then
   module _ (fault : FaultValue) (own : (input : Input) (line : ℕ) → fault ≡ read_failed input line → IsUnread device.is_read old new) where
@@ -186,6 +186,6 @@ module _ {G : Type 0} (device : Source G) (genome after : G) (old new : LineRead
       second_input = λ line e. let apart : Second ≡ FromGenome = (own_by cause Second line (some_is fault (read_failed Second line) e)).0 in cc;
     }
 
-  pub lacks_own : (fault : FaultValue) → ReadingStops device old new fault → ((input : Input) (line : ℕ) → fault ≡ read_failed input line → IsUnread device.is_read old new)
+  pub lacks_own : {fault : FaultValue} → ReadingStops device old new fault → ((input : Input) (line : ℕ) → fault ≡ read_failed input line → IsUnread device.is_read old new)
       → TellsOwnReads (IsOwnFailure device.is_read genome after) ⊥ ⊥ (Some fault)
-  lacks_own fault stops own = tells_own fault own (stops.first clear)
+  lacks_own {fault} stops own = tells_own fault own (stops.first clear)

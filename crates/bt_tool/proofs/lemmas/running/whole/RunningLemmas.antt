@@ -54,16 +54,16 @@ cut_front a took before front rest output e g o f = grind (arith, append_assoc, 
 
 -- a fault from before a flush
 module _ (out mid new : Output) (fault answer : Option FaultValue) where
-  front_by : (before output : List ℕ) → out.took ≡ Some before → Grows out.took mid.took → Grows mid.took new.took
+  front_by : {before output : List ℕ} → out.took ≡ Some before → Grows out.took mid.took → Grows mid.took new.took
       → (fault ≢ Some write_failed → (front : List ℕ) × (rest : List ℕ) × (output ≡ front ++ rest) × (mid.put ≡ Some (before ++ front)))
       → (fault ≡ Some write_failed → (front : List ℕ) × (rest : List ℕ) × (output ≡ front ++ rest) × IsPrefixOf mid.took (Some (before ++ front)) [])
       → (FlushesAll mid fault answer new ⊎ FlushFails mid fault answer new) ⊎ StaysFailed mid fault answer new
       → (front : List ℕ) × (rest : List ℕ) × (new.took ≡ Some (before ++ front)) × (output ≡ front ++ rest)
-  front_by before output took grows more kept cut (inl (inl all)) = grind arith
-  front_by before output took grows more kept cut (inl (inr fails)) =
+  front_by took grows more kept cut (inl (inl all)) = grind arith
+  front_by {before} {output} took grows more kept cut (inl (inr fails)) =
       let k = kept fails.was in
       cut_front out.took new.took before k.0 k.1 output took (grows_both out.took mid.took new.took grows more) k.2 (subst (λ put. IsPrefixOf new.took put []) k.3 fails.front)
-  front_by before output took grows more kept cut (inr stays) =
+  front_by {before} {output} took grows more kept cut (inr stays) =
       let c = cut stays.was in
       cut_front out.took new.took before c.0 c.1 output took (grows_both out.took mid.took new.took grows more) c.2 (subst (λ (o : Output). IsPrefixOf o.took (Some (before ++ c.0)) []) (sym stays.unchanged) c.3)
 
@@ -115,14 +115,21 @@ write_by : {P : Type 0} (b : Bool) → (P → ⊥) → P ⊎ TellsDevice b write
 write_by b other p1 = grind arith
 
 -- an input that wasn't touched was read at most up to its first line
-near_untouched : (Beside : ℕ → Type 0) → ((n : ℕ) → Beside n) → (command : Command) (chromosomes : Result (Option (List Entry)) FaultValue) (second : Option Handed) (text before : List ℕ) (left took more : Option (List ℕ)) → left ≡ Some text → took ≡ Some before → Grows took more
-    → (Failed Stops : Type 0) (later : Option (List ℕ)) → Failed ⊎ IsPutTo (length (before ++ [])) later → (Stops → later ≡ Some (before ++ []))
+near_untouched : (Beside : ℕ → Type 0) → ((n : ℕ) → Beside n) → (command : Command) (chromosomes : Result (Option (List Entry)) FaultValue) (second : Option Handed) {text before : List ℕ} {left took more : Option (List ℕ)} → left ≡ Some text → took ≡ Some before → Grows took more
+    → (Failed Stops : Type 0) {later : Option (List ℕ)} → Failed ⊎ IsPutTo (length (before ++ [])) later → (Stops → later ≡ Some (before ++ []))
     → ReadsNoFurther Beside ((behaviour_on command chromosomes).settles second) text left before more Failed Stops later
-near_untouched Beside has command chromosomes second text before left took more e t g Failed Stops later kept exact = grind (arith, common_steps, none_settle)
+near_untouched Beside has command chromosomes second e t g Failed Stops kept exact = grind (arith, common_steps, none_settle)
 
-module _ {G A B K : Type 0} (source_g : Source G) (source_a : Source A) (source_b : Source B) (sink : Sink K)
-    (command : Command) (genome genome_after : Option G) (first first_after : A) (second second_after : Option B) (out out_after : K) (begun mid new : Output) (put : begun.put ≡ sink.took out) (took : begun.took ≡ sink.took out) (served : begun.sink_has_failed ≡ sink.has_failed out)
-    (took_after : sink.took out_after ≡ new.took) (failed_after : sink.has_failed out_after ≡ new.sink_has_failed) (fault answer : Option FaultValue) (flushes : Flushes mid fault answer new) where
+-- a run writes to an output over a sink, which it gives back
+pub record WritesOver {K : Type 0} (sink : Sink K) (out out_after : K) (begun new : Output) : Type 0 where
+  pub put : begun.put ≡ sink.took out
+  pub took : begun.took ≡ sink.took out
+  pub served : begun.sink_has_failed ≡ sink.has_failed out
+  pub took_after : sink.took out_after ≡ new.took
+  pub failed_after : sink.has_failed out_after ≡ new.sink_has_failed
+
+module _ {G A B K : Type 0} (source_g : Source G) (source_a : Source A) (source_b : Source B) {sink : Sink K} (command : Command) (genome genome_after : Option G) (first first_after : A) (second second_after : Option B)
+    {out out_after : K} {begun mid new : Output} (writes_over : WritesOver sink out out_after begun new) {fault answer : Option FaultValue} (flushes : Flushes mid fault answer new) where
   abbrev RunsSo : Type 0
   RunsSo = Runs source_g source_a source_b sink command genome first second out answer genome_after first_after second_after out_after
 
@@ -169,34 +176,33 @@ module _ {G A B K : Type 0} (source_g : Source G) (source_a : Source A) (source_
       whole = λ inputs before reads known served memory.
           let same = report_is inputs (knows.whole inputs.genome reads.genome_file) in
           let w = whole_by begun mid new fault answer (reported inputs).fault (before ++ (reported inputs).output)
-          (λ write growth. writes.whole inputs.first inputs.second before reads.first_input reads.second_input (put ∙ known) write growth)
-          sink_failed (sym failed_after ∙ served) memory flushes.ends in
-          subst (λ (r : Report). (answer ≡ r.fault) × (sink.took out_after ≡ Some (before ++ r.output))) (sym same) (w.0, took_after ∙ w.1);
+          (λ write growth. writes.whole inputs.first inputs.second before reads.first_input reads.second_input (writes_over.put ∙ known) write growth)
+          sink_failed (sym writes_over.failed_after ∙ served) memory flushes.ends in
+          subst (λ (r : Report). (answer ≡ r.fault) × (sink.took out_after ≡ Some (before ++ r.output))) (sym same) (w.0, writes_over.took_after ∙ w.1);
       told = λ inputs before holds known is.
           let same = report_is inputs (knows.told inputs.genome holds.genome_file) in
           let w = told_by begun mid new fault answer (reported inputs).fault (before ++ (reported inputs).output)
-          (λ of_input. writes.told inputs.first inputs.second before holds.first_input holds.second_input (put ∙ known) of_input) is flushes.ends in
-          subst (λ (r : Report). (answer ≡ r.fault) × (sink.took out_after ≡ Some (before ++ r.output))) (sym same) (w.0, took_after ∙ w.1);
+          (λ of_input. writes.told inputs.first inputs.second before holds.first_input holds.second_input (writes_over.put ∙ known) of_input) is flushes.ends in
+          subst (λ (r : Report). (answer ≡ r.fault) × (sink.took out_after ≡ Some (before ++ r.output))) (sym same) (w.0, writes_over.took_after ∙ w.1);
       prefix = λ inputs before holds known.
-          let f = front_by begun mid new fault answer before (reported inputs).output (took ∙ known) writes.grows flushes.grows
-          (λ other. writes.kept other inputs.first inputs.second before holds.first_input holds.second_input (put ∙ known)) (λ is. writes.cut is inputs.first inputs.second before holds.first_input holds.second_input (put ∙ known)) flushes.ends in
-          (f.0, f.1, took_after ∙ f.2, ap (λ (r : Report). r.output) (report_is inputs (knows.told inputs.genome holds.genome_file)) ∙ f.3);
+          let f = front_by begun mid new fault answer (writes_over.took ∙ known) writes.grows flushes.grows
+          (λ other. writes.kept other inputs.first inputs.second before holds.first_input holds.second_input (writes_over.put ∙ known)) (λ is. writes.cut is inputs.first inputs.second before holds.first_input holds.second_input (writes_over.put ∙ known)) flushes.ends in
+          (f.0, f.1, writes_over.took_after ∙ f.2, ap (λ (r : Report). r.output) (report_is inputs (knows.told inputs.genome holds.genome_file)) ∙ f.3);
       near = λ inputs before holds known.
-          let near = writes.near inputs.first inputs.second before before holds.first_input holds.second_input (put ∙ known) (took ∙ known) in
-          rw (knows.told inputs.genome holds.genome_file, took_after)
-          (near_as _ _ (λ n beside. beside) ((behaviour_of command chromosomes).settles inputs.second) ((behaviour_of command chromosomes).settles inputs.second) (λ lines. refl) inputs.first.text (source_a.left first_after) before mid.took new.took (mid.has_failed ≡ true)
-          (answer ≡ Some write_failed) (IsFaultButWrite fault) (IsFaultButWrite answer) mid.put new.took (λ size. took_more_than begun.took mid.took new.took before size (took ∙ known) writes.grows flushes.grows) (λ size kept. kept_by begun mid new fault answer size kept flushes.ends)
+          let near = writes.near inputs.first inputs.second before before holds.first_input holds.second_input (writes_over.put ∙ known) (writes_over.took ∙ known) in
+          rw (knows.told inputs.genome holds.genome_file, writes_over.took_after) (near_as _ _ (λ n beside. beside) (λ lines. refl) (mid.has_failed ≡ true)
+          (answer ≡ Some write_failed) (IsFaultButWrite fault) (IsFaultButWrite answer) (λ size. took_more_than begun.took mid.took new.took before size (writes_over.took ∙ known) writes.grows flushes.grows) (λ size kept. kept_by begun mid new fault answer size kept flushes.ends)
           (λ bytes is stops. exact_by begun mid new fault answer bytes is stops flushes.ends) near);
       served = λ none.
           let was = served_by begun mid new fault answer flushes.ends none in
           let devices = writes.served was.0 in
-          ((knows.served, devices.0.1), (devices.0.0, failed_after ∙ was.1 ∙ devices.1 ∙ served));
+          ((knows.served, devices.0.1), (devices.0.0, writes_over.failed_after ∙ was.1 ∙ devices.1 ∙ writes_over.served));
       after_genome = λ file holds wrong e. absurd (other_chromosomes (chromosomes_of file) chromosomes wrong (knows.told file holds) e);
       untouched = λ t e place at is.
           let there = lies t.place place at is in
           absurd (others_elsewhere t (writes.named t (placed_by begun mid new fault answer t e there flushes.ends)) there);
       named = λ t e.
-          rw failed_after (named_by begun mid new fault answer (λ t e. of_others t (writes.named t e)) flushes.ends t e);
+          rw writes_over.failed_after (named_by begun mid new fault answer (λ t e. of_others t (writes.named t e)) flushes.ends t e);
     }
 
   -- the genome file is at fault, and nothing else was touched
@@ -206,7 +212,7 @@ module _ {G A B K : Type 0} (source_g : Source G) (source_a : Source A) (source_
     report_wrong inputs e = ap (λ c. report_on command c inputs.first inputs.second) e
 
     begun_put : (before : List ℕ) → sink.took out ≡ Some before → mid.put ≡ Some (before ++ [])
-    begun_put before known = ap (λ (o : Output). o.put) stops.3 ∙ put ∙ known ∙ ap Some (sym (append-nil before))
+    begun_put before known = ap (λ (o : Output). o.put) stops.3 ∙ writes_over.put ∙ known ∙ ap Some (sym (append-nil before))
 
     mid_grows : Grows begun.took mid.took
     mid_grows = subst (λ (o : Output). Grows begun.took o.took) (sym stops.3) ([], Appends-nil begun.took)
@@ -222,30 +228,29 @@ module _ {G A B K : Type 0} (source_g : Source G) (source_a : Source A) (source_
     runs_wrong = record {
       whole = λ inputs before reads known served memory.
           let w = whole_by begun mid new fault answer (Some wrong) (before ++ [])
-          (λ write growth. (stops.0, begun_put before known)) (λ e. absurd (no_write e)) (sym failed_after ∙ served) memory flushes.ends in
+          (λ write growth. (stops.0, begun_put before known)) (λ e. absurd (no_write e)) (sym writes_over.failed_after ∙ served) memory flushes.ends in
           let same = report_wrong inputs (lacks.whole inputs.genome reads.genome_file (λ e. memory (w.0 ∙ ap Some e))) in
-          subst (λ (r : Report). (answer ≡ r.fault) × (sink.took out_after ≡ Some (before ++ r.output))) (sym same) (w.0, took_after ∙ w.1);
+          subst (λ (r : Report). (answer ≡ r.fault) × (sink.took out_after ≡ Some (before ++ r.output))) (sym same) (w.0, writes_over.took_after ∙ w.1);
       told = λ inputs before holds known is.
           let w = told_by begun mid new fault answer (Some wrong) (before ++ []) (λ of_input. (stops.0, begun_put before known)) is flushes.ends in
           let same = report_wrong inputs (lacks.told inputs.genome holds.genome_file (subst IsOfInput w.0 is)) in
-          subst (λ (r : Report). (answer ≡ r.fault) × (sink.took out_after ≡ Some (before ++ r.output))) (sym same) (w.0, took_after ∙ w.1);
+          subst (λ (r : Report). (answer ≡ r.fault) × (sink.took out_after ≡ Some (before ++ r.output))) (sym same) (w.0, writes_over.took_after ∙ w.1);
       prefix = λ inputs before holds known.
-          let f = front_by begun mid new fault answer before (report_of command inputs).output (took ∙ known) mid_grows flushes.grows
+          let f = front_by begun mid new fault answer (writes_over.took ∙ known) mid_grows flushes.grows
           (λ other. ([], (report_of command inputs).output, refl, begun_put before known)) (λ is. absurd (no_write is)) flushes.ends in
-          (f.0, f.1, took_after ∙ f.2, f.3);
+          (f.0, f.1, writes_over.took_after ∙ f.2, f.3);
       near = λ inputs before holds known.
           let text = holds.first_input in
-          rw (text.is, stops.1, stops.2, took_after)
-          (near_untouched _ (λ n within. grind arith)
-          command (chromosomes_of inputs.genome) inputs.second text.text before (source_a.left first) begun.took new.took text.known (took ∙ known) (grows_both begun.took mid.took new.took mid_grows flushes.grows)
-          (answer ≡ Some write_failed) (IsFaultButWrite answer) new.took (kept_by begun mid new fault answer (length (before ++ [])) (inr (before ++ [], begun_put before known, omega arith)) flushes.ends)
+          rw (text.is, stops.1, stops.2, writes_over.took_after) (near_untouched _ (λ n within. grind arith)
+          command (chromosomes_of inputs.genome) inputs.second text.known (writes_over.took ∙ known) (grows_both begun.took mid.took new.took mid_grows flushes.grows)
+          (answer ≡ Some write_failed) (IsFaultButWrite answer) (kept_by begun mid new fault answer (length (before ++ [])) (inr (before ++ [], begun_put before known, omega arith)) flushes.ends)
           (λ other. exact_by begun mid new fault answer (before ++ []) (λ was. begun_put before known) other flushes.ends));
       served = λ none.
           absurd (let apart : None ≡ Some wrong = sym (served_by begun mid new fault answer flushes.ends none).0 ∙ stops.0 in cc);
       after_genome = λ file holds wrong e. (stops.1, stops.2);
       untouched = λ t e place at is. (stops.1, stops.2);
       named = λ t e.
-          rw failed_after (named_by begun mid new fault answer (λ t e. genome_named t lacks.named (some_is wrong t (sym stops.0 ∙ e))) flushes.ends t e);
+          rw writes_over.failed_after (named_by begun mid new fault answer (λ t e. genome_named t lacks.named (some_is wrong t (sym stops.0 ∙ e))) flushes.ends t e);
     }
 
   pub runs_by : (chromosomes : Result (Option Genome) Fault) → ReadsChromosomes source_g genome chromosomes genome_after → WritesOutput source_a source_b command first second begun fault first_after second_after mid chromosomes → RunsSo

@@ -1,7 +1,6 @@
 use Rattle.bt_lines.proofs.Std.{None, refl, sym, ap, ◌∙◌}
 use Rattle.bt_lines.specs.calls.Reader.{source_of}
-use Rattle.bt_lines.specs.calls.Names.{fault_value}
-use Rattle.bt_tool.proofs.lemmas.running.feed.DrivingLemmas.{own_up_to, writes_all, writes_up_to}
+use Rattle.bt_tool.proofs.lemmas.running.feed.DrivingLemmas.{IsFreshReader, own_up_to, writes_all, writes_up_to}
 use Rattle.bt_tool.proofs.lemmas.running.whole.OwnFailureLemmas.{kept_below, served_of, tells_nothing}
 use Rattle.bt_tool.proofs.loops.converting.convert.Goals as goal
 
@@ -10,9 +9,19 @@ returns-in-Ok g c =
     let reader = c.new-lines.ensures in
     let done = c.in-Ok.ensures.converts in
     let ended = sym c.into_source-first.ensures in
+    let fresh_reader : IsFreshReader g.A.Source c.args.first c.new-lines.result = record {
+      source = reader.source;
+      input = reader.input;
+      taken = reader.none_taken.0;
+      fed = reader.none_fed;
+      given = reader.none_given;
+      going = reader.going.0;
+      lines = reader.lines;
+      sound = reader.sound;
+    } in
     record {
-      written = writes_all c.args.split c.args.cigar g.A.Source c.args.first c.new-lines.result reader.source reader.input reader.none_taken.0 reader.none_fed reader.none_given reader.going.0 reader.lines reader.sound
-          c.new-converter.result c.new-converter.ensures c.args.out.now.output done.0 c.into_source-first.result (ap source_of done.1 ∙ ended) c.convert_all-converted.new.out.output done.2;
+      written = writes_all c.args.split c.args.cigar fresh_reader
+          c.new-converter.ensures c.args.out.now.output done.0 (ap source_of done.1 ∙ ended) c.convert_all-converted.new.out.output done.2;
       reads = λ never. (served_of g.A.Source.is_read c.args.first c.into_source-first.result c.new-lines.result c.convert_all-converted.new.lines reader.source ended (c.in-Ok.ensures.reads tt), tt);
       own_failure = tells_nothing ⊥ _ ⊥ None refl;
     }
@@ -22,11 +31,20 @@ returns-in-Err g c =
     let reader = c.new-lines.ensures in
     let done = c.in-Err.ensures.converts in
     let ended = sym c.into_source-first.ensures in
+    let fresh_reader : IsFreshReader g.A.Source c.args.first c.new-lines.result = record {
+      source = reader.source;
+      input = reader.input;
+      taken = reader.none_taken.0;
+      fed = reader.none_fed;
+      given = reader.none_given;
+      going = reader.going.0;
+      lines = reader.lines;
+      sound = reader.sound;
+    } in
     record {
-      written = writes_up_to c.args.split c.args.cigar g.A.Source c.args.first c.new-lines.result reader.source reader.input reader.none_taken.0 reader.none_fed reader.none_given reader.going.0 reader.lines reader.sound
-          c.new-converter.result c.new-converter.ensures c.args.out.now.output done.0 c.into_source-first.result (ap source_of done.1 ∙ ended) c.convert_all-converted.new.out.output (fault_value c.in-Err.fault) done.2;
+      written = writes_up_to c.args.split c.args.cigar fresh_reader
+          c.new-converter.ensures c.args.out.now.output done.0 (ap source_of done.1 ∙ ended) c.convert_all-converted.new.out.output done.2;
       reads = λ never. (served_of g.A.Source.is_read c.args.first c.into_source-first.result c.new-lines.result c.convert_all-converted.new.lines reader.source ended (c.in-Err.ensures.reads never), tt);
-      own_failure = own_up_to c.args.split c.args.cigar g.A.Source c.args.first c.new-lines.result reader.source reader.input reader.none_taken.0 reader.none_fed reader.none_given reader.going.0 reader.lines reader.sound
-          c.new-converter.result c.new-converter.ensures c.args.out.now.output done.0 c.into_source-first.result (ap source_of done.1 ∙ ended) c.convert_all-converted.new.out.output
-          (kept_below g.A.Source.is_read c.new-lines.result done.0 c.convert_all-converted.new.lines done.1 done.3 c.convert_all-converted.ensures.own_failure) (fault_value c.in-Err.fault) done.2;
+      own_failure = own_up_to c.args.split c.args.cigar fresh_reader c.new-converter.ensures c.args.out.now.output done.0 (ap source_of done.1 ∙ ended) c.convert_all-converted.new.out.output
+          (kept_below g.A.Source.is_read c.new-lines.result done.0 c.convert_all-converted.new.lines done.1 done.3 c.convert_all-converted.ensures.own_failure) done.2;
     }

@@ -28,7 +28,7 @@ returns-in_err-line-clause-converts g c =
     c.from_residual.ensures.1 (
       sam_reader c.next.follows.lender-at-none,
       refl,
-      stops_reading _ _ _ c.args.lines.now c.args.out.now.output c.loop-line.lines c.loop-line.out.output now.going c.next.follows.lender-at-none (fault_value c.in_err-line.field-0.0) gives.answers gives.sound,
+      stops_reading _ _ _ c.args.lines.now c.args.out.now.output now.going c.next.follows.lender-at-none (fault_value c.in_err-line.field-0.0) gives.answers gives.sound,
       λ input line e. e,
     )
 
@@ -57,8 +57,8 @@ loop-line-preserved g c =
     let first = c.args.converter.now in
     let written = c.in_ok-convert_line.ensures in
     record {
-      going = going_line first.split first.with_cigar _ c.args.lines.now c.args.out.now.output c.loop-line.lines c.loop-line.out.output now.going c.next.follows.lender-at-none (line_seen c.in-Some.line) gives.answers
-          gives.sound c.loop-line.converter c.convert_line.new.converter (ap (λ (m : Converting). m.split) now.same) (ap (λ (m : Converting). m.with_cigar) now.same) c.convert_line.new.out.output written;
+      going = going_line first.split first.with_cigar _ c.args.lines.now c.args.out.now.output now.going gives.answers
+          gives.sound (ap (λ (m : Converting). m.split) now.same) (ap (λ (m : Converting). m.with_cigar) now.same) written;
       same = written.3 ∙ now.same;
       input = now.input;
       read = has_read_then g.S.Source.is_read c.args.lines.now c.loop-line.lines c.next.follows.lender-at-none now.read gives.own_failure;
@@ -77,15 +77,15 @@ returns-in_err-convert_line-clause-converts g c =
     (λ refused. (
       _,
       refl,
-      stops_at_line first.split first.with_cigar _ c.args.lines.now c.args.out.now.output c.loop-line.lines c.loop-line.out.output now.going c.next.follows.lender-at-none line gives.answers
+      stops_at_line first.split first.with_cigar _ c.args.lines.now c.args.out.now.output now.going gives.answers
           gives.sound fault c.convert_line.new.out.output (subst (λ (i : Input). LineRefused i line c.loop-line.out.output fault c.convert_line.new.out.output) now.input refused),
       λ input at e. absurd (refused_no_read _ line _ fault _ refused input at e),
     ))
     (λ unwritten. (
       _,
       refl,
-      stops_writing first.split first.with_cigar _ c.args.lines.now c.args.out.now.output c.loop-line.lines c.loop-line.out.output now.going c.next.follows.lender-at-none line gives.answers
-          gives.sound c.loop-line.converter (ap (λ (m : Converting). m.split) now.same) (ap (λ (m : Converting). m.with_cigar) now.same) fault c.convert_line.new.out.output unwritten,
+      stops_writing first.split first.with_cigar _ c.args.lines.now c.args.out.now.output now.going gives.answers
+          gives.sound c.loop-line.converter (ap (λ (m : Converting). m.split) now.same) (ap (λ (m : Converting). m.with_cigar) now.same) unwritten,
       λ input at e. e,
     ))
     c.in_err-convert_line.ensures)
@@ -101,7 +101,7 @@ returns-clause-converts g c =
     let now = c.loop-line.invariant in (
       sam_reader c.next.follows.lender-at-none,
       refl,
-      converts_all _ _ _ c.args.lines.now c.args.out.now.output c.loop-line.lines c.loop-line.out.output now.going c.next.follows.lender-at-none gives.answers gives.sound,
+      converts_all _ _ _ c.args.lines.now c.args.out.now.output now.going c.next.follows.lender-at-none gives.answers gives.sound,
       λ input line e. e,
     )
 

@@ -1,7 +1,6 @@
 use Rattle.bt_lines.proofs.Std.{◌∙◌, ap, refl, sym, subst, None}
 use Rattle.bt_lines.specs.calls.Names.{fault_value}
 use Rattle.bt_lines.specs.calls.Reader.{source_of}
-use Rattle.bt_lines.specs.declared.fault.Input.TheVariants.{First}
 use Rattle.bt_bed.specs.model.Feature.{Feature, intervals_of}
 use Rattle.bt_bed.specs.model.BedLine.{IsBedKind}
 use Rattle.bt_bed.specs.model.Good.{bed_format}
@@ -11,7 +10,7 @@ use Rattle.bt_bed.specs.calls.Records.{below, order_in, view_of}
 use Rattle.bt_tool.specs.inside.Feed.{AreInOrder, member_items}
 use Rattle.bt_tool.specs.model.Written.{Written}
 use Rattle.bt_tool.proofs.lemmas.running.feed.FeedLemmas.{goes_failed, goes_works}
-use Rattle.bt_tool.proofs.lemmas.running.feed.DrivingLemmas.{drives_all, drives_cut, drives_fault, records_sorted, sorted_start}
+use Rattle.bt_tool.proofs.lemmas.running.feed.DrivingLemmas.{IsDriven, drives_all, drives_cut, drives_fault, records_sorted, sorted_start}
 use Rattle.bt_tool.proofs.lemmas.running.members.CursorLemmas.{begins_over, fresh_over}
 use Rattle.bt_tool.proofs.lemmas.running.whole.OwnFailureLemmas.{bed_no_read, feeds_own, served_of, tells_nothing, tells_write}
 use Rattle.bt_runs.proofs.lemmas.Engine.{finishes_prefix}
@@ -21,7 +20,7 @@ pub feed_all-fed-requires-clause-fresh : goal.feed_all-fed-requires-clause-fresh
 feed_all-fed-requires-clause-fresh g c =
     let reader = c.new-reader.ensures in
     let records = c.new-records.ensures in
-    fresh_over _ c.new-reader.result (view_of c.new-records.result) records.below reader.none_taken.0 reader.none_fed reader.none_given (records.fault ∙ reader.going.0) records.none_buffered reader.sound
+    fresh_over _ (view_of c.new-records.result) records.below reader.none_taken.0 reader.none_fed reader.none_given (records.fault ∙ reader.going.0) records.none_buffered reader.sound
 
 pub feed_all-fed-requires-clause-sorted : goal.feed_all-fed-requires-clause-sorted
 feed_all-fed-requires-clause-sorted g c = sorted_start c.new-records.result
@@ -32,18 +31,20 @@ returns-in-Err g c =
     let records = c.new-records.ensures in
     let order = g.O.ChromOrder.order c.args.order.now in
     let written : Written Feature = record { whole = g.E.Engine.definition.output c.args.engine; settled = g.E.Engine.definition.settled c.args.engine } in
-    let starts = begins_over g.A.Source c.new-reader.result (view_of c.new-records.result) records.below reader.none_taken.0 reader.none_fed (bed_format (sorting_of order)) First c.args.first reader.source reader.input reader.going.0 reader.lines records.good in
+    let starts = begins_over g.A.Source (view_of c.new-records.result) records.below reader.none_taken.0 reader.none_fed reader.source reader.input reader.going.0 reader.lines records.good in
     let sorted = records_sorted (g.E.Engine.definition.takes c.args.engine) order (g.met.O.ChromOrder.total c.args.order.now) c.requires.takes in
     let ended = sym (c.into_source-first.ensures ∙ ap source_of c.into_reader.ensures) in
+    let driven : IsDriven written (g.E.Engine.definition.takes c.args.engine) g.A.Source (bed_format (sorting_of order)) (view_of c.new-records.result) c.args.first (view_of c.feed_all-fed.new.records) c.into_source-first.result =
+    record { stays = c.requires.stays; begins = c.requires.begins; taken = sorted; starts = starts; ended = ended } in
     record {
-      written = rw records.order at (drives_fault written _ _ (g.E.Engine.definition.takes c.args.engine) c.requires.stays c.requires.begins _ _ sorted _ _ _ starts _ _ ended _ _ c.in-Err.ensures.feeds);
+      written = rw records.order at (drives_fault driven _ _ _ _ _ c.in-Err.ensures.feeds);
       reads = λ never. (
         served_of g.A.Source.is_read c.args.first c.into_source-first.result (below c.new-records.result) (below c.feed_all-fed.new.records)
             (ap source_of records.below ∙ reader.source) ended (c.in-Err.ensures.reads never),
         tt,
       );
-      own_failure = feeds_own g.A.Source (bed_format (sorting_of order)) c.args.first (view_of c.new-records.result) starts (view_of c.feed_all-fed.new.records) c.into_source-first.result ended c.feed_all-fed.ensures.own_failure
-          (g.E.Engine.definition.settled c.args.engine) (IsBedKind (order_in c.new-records.result)) (bed_no_read (order_in c.new-records.result)) (AreInOrder (order_in c.new-records.result)) c.args.out.now.output (fault_value c.in-Err.fault) c.feed_all-fed.new.out.output c.in-Err.ensures.feeds;
+      own_failure = feeds_own g.A.Source starts (view_of c.feed_all-fed.new.records) ended c.feed_all-fed.ensures.own_failure
+          (IsBedKind (order_in c.new-records.result)) (bed_no_read (order_in c.new-records.result)) (AreInOrder (order_in c.new-records.result)) c.in-Err.ensures.feeds;
     }
 
 pub returns-in-Err-finish : goal.returns-in-Err-finish
@@ -52,17 +53,18 @@ returns-in-Err-finish g c =
     let records = c.new-records.ensures in
     let order = g.O.ChromOrder.order c.args.order.now in
     let written : Written Feature = record { whole = g.E.Engine.definition.output c.args.engine; settled = g.E.Engine.definition.settled c.args.engine } in
-    let starts = begins_over g.A.Source c.new-reader.result (view_of c.new-records.result) records.below reader.none_taken.0 reader.none_fed (bed_format (sorting_of order)) First c.args.first reader.source reader.input reader.going.0 reader.lines records.good in
+    let starts = begins_over g.A.Source (view_of c.new-records.result) records.below reader.none_taken.0 reader.none_fed reader.source reader.input reader.going.0 reader.lines records.good in
     let sorted = records_sorted (g.E.Engine.definition.takes c.args.engine) order (g.met.O.ChromOrder.total c.args.order.now) c.requires.takes in
     let ended = sym (c.into_source-first.ensures ∙ ap source_of c.into_reader.ensures) in
+    let driven : IsDriven written (g.E.Engine.definition.takes c.args.engine) g.A.Source (bed_format (sorting_of order)) (view_of c.new-records.result) c.args.first (view_of c.feed_all-fed.new.records) c.into_source-first.result =
+    record { stays = c.requires.stays; begins = c.requires.begins; taken = sorted; starts = starts; ended = ended } in
     let fed = c.in_default.ensures.feeds in
     let takes = c.requires.takes (member_items fed.past) (subst (λ o. ArePlaced o (intervals_of (member_items fed.past))) records.order fed.took.sorted.0) fed.took.sorted.1 in
     let said = finishes_prefix _ c.in-Err-finish.ensures (c.in-Err-finish.ensures.going _ _ fed.stands) in
     let cuts = said.cuts _ _ fed.stands takes in
     record {
-      written = rw records.order at (drives_cut written _ _ (g.E.Engine.definition.takes c.args.engine) c.requires.stays c.requires.begins _ _ sorted _ _ _ starts _ _ ended
-          _ _ fed _ (goes_failed c.feed_all-fed.new.out.output c.finish.new.out.output c.in-Err-finish.ensures.grows said.failed)
-          (fault_value c.in-Err-finish.fault) said.is cuts.bytes cuts.goes_on cuts.front said.sink_failed);
+      written = rw records.order at (drives_cut driven _ _ _ fed (goes_failed c.feed_all-fed.new.out.output c.finish.new.out.output c.in-Err-finish.ensures.grows said.failed)
+          said.is cuts.bytes cuts.goes_on cuts.front said.sink_failed);
       reads = λ never. (
         served_of g.A.Source.is_read c.args.first c.into_source-first.result (below c.new-records.result) (below c.feed_all-fed.new.records)
             (ap source_of records.below ∙ reader.source) ended (c.in_default.ensures.reads tt),
@@ -77,15 +79,16 @@ returns g c =
     let records = c.new-records.ensures in
     let order = g.O.ChromOrder.order c.args.order.now in
     let written : Written Feature = record { whole = g.E.Engine.definition.output c.args.engine; settled = g.E.Engine.definition.settled c.args.engine } in
-    let starts = begins_over g.A.Source c.new-reader.result (view_of c.new-records.result) records.below reader.none_taken.0 reader.none_fed (bed_format (sorting_of order)) First c.args.first reader.source reader.input reader.going.0 reader.lines records.good in
+    let starts = begins_over g.A.Source (view_of c.new-records.result) records.below reader.none_taken.0 reader.none_fed reader.source reader.input reader.going.0 reader.lines records.good in
     let sorted = records_sorted (g.E.Engine.definition.takes c.args.engine) order (g.met.O.ChromOrder.total c.args.order.now) c.requires.takes in
     let ended = sym (c.into_source-first.ensures ∙ ap source_of c.into_reader.ensures) in
+    let driven : IsDriven written (g.E.Engine.definition.takes c.args.engine) g.A.Source (bed_format (sorting_of order)) (view_of c.new-records.result) c.args.first (view_of c.feed_all-fed.new.records) c.into_source-first.result =
+    record { stays = c.requires.stays; begins = c.requires.begins; taken = sorted; starts = starts; ended = ended } in
     let fed = c.in_default.ensures.feeds in
     let takes = c.requires.takes (member_items fed.past) (subst (λ o. ArePlaced o (intervals_of (member_items fed.past))) records.order fed.took.sorted.0) fed.took.sorted.1 in
     let puts = c.in_default-finish.ensures.answers.puts _ _ fed.stands takes in
     record {
-      written = rw records.order at (drives_all written _ _ (g.E.Engine.definition.takes c.args.engine) c.requires.stays c.requires.begins _ _ sorted _ _ _ starts _ _ ended
-          _ _ fed _ (goes_works _ _ c.in_default-finish.ensures.grows c.in_default-finish.ensures.answers.works)
+      written = rw records.order at (drives_all driven _ _ _ fed (goes_works _ _ c.in_default-finish.ensures.grows c.in_default-finish.ensures.answers.works)
           puts.bytes puts.goes_on puts.appends
           (c.in_default-finish.ensures.answers.works.sink_served));
       reads = λ never. (

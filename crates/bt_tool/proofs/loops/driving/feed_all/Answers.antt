@@ -21,8 +21,9 @@ loop-records-init g c = (
 
 pub returns-in_err-fill-clause-feeds : goal.returns-in_err-fill-clause-feeds
 returns-in_err-fill-clause-feeds g c =
-    passed_on (λ r. FeedsMembers (g.E.Engine.definition.settled c.args.engine.now) (IsBedKind (order_in c.args.records.now)) (AreInOrder (order_in c.args.records.now)) g.S.Source (λ past. g.E.Engine.definition.is_after c.args.engine.now past c.loop-records.engine) (view_of c.args.records.now) c.args.out.now.output r (view_of c.fill.new.self) c.loop-records.out.output) c.from_residual.result c.in_err-fill.field-0.0 c.from_residual.ensures.1
-    (stops_reading c.requires.sorted c.requires.total c.requires.none_last c.requires.takes
+    passed_on (λ r. FeedsMembers (g.E.Engine.definition.settled c.args.engine.now) (IsBedKind (order_in c.args.records.now)) (AreInOrder (order_in c.args.records.now)) g.S.Source
+    (λ past. g.E.Engine.definition.is_after c.args.engine.now past c.loop-records.engine) (view_of c.args.records.now) c.args.out.now.output r (view_of c.fill.new.self) c.loop-records.out.output)
+    c.from_residual.result c.in_err-fill.field-0.0 c.from_residual.ensures.1 (stops_reading c.requires.sorted c.requires.total c.requires.none_last c.requires.takes
     c.loop-records.invariant.0 c.fill.new.self (fault_value c.in_err-fill.field-0.0)
     (is_stopped g.S.Source c.loop-records.records c.fill.new.self c.in_err-fill.field-0.0 c.in_err-fill.ensures))
 
@@ -71,7 +72,9 @@ returns-in_err-feed_buffered-clause-feeds g c =
     let filled = going_fill c.requires.sorted c.requires.total c.requires.none_last c.requires.takes
     c.loop-records.invariant.0 c.fill.new.self (is_filled g.S.Source c.loop-records.records c.fill.new.self fills) fills.order in
     let gives = c.in_err-feed_buffered.ensures in
-    passed_on (λ r. FeedsMembers (g.E.Engine.definition.settled c.args.engine.now) (IsBedKind (order_in c.args.records.now)) (AreInOrder (order_in c.args.records.now)) g.S.Source (λ past. g.E.Engine.definition.is_after c.args.engine.now past c.feed_buffered.new.engine) (view_of c.args.records.now) c.args.out.now.output r (view_of c.feed_buffered.new.records) c.feed_buffered.new.out.output) c.from_residual-in_err-feed_buffered.result c.in_err-feed_buffered.field-0.0 c.from_residual-in_err-feed_buffered.ensures.1
+    passed_on (λ r. FeedsMembers (g.E.Engine.definition.settled c.args.engine.now) (IsBedKind (order_in c.args.records.now)) (AreInOrder (order_in c.args.records.now)) g.S.Source
+    (λ past. g.E.Engine.definition.is_after c.args.engine.now past c.feed_buffered.new.engine) (view_of c.args.records.now) c.args.out.now.output r (view_of c.feed_buffered.new.records) c.feed_buffered.new.out.output)
+    c.from_residual-in_err-feed_buffered.result c.in_err-feed_buffered.field-0.0 c.from_residual-in_err-feed_buffered.ensures.1
     (stops_feeding c.requires.sorted c.requires.total c.requires.none_last c.requires.takes
     filled gives.2 (failed_at gives.3 c.args.engine.now _ filled.stands))
 

@@ -1,13 +1,10 @@
-use Rattle.bt_lines.proofs.Std.{refl, sym, ◌∙◌, ap, false≢true, option_map}
-use Rattle.bt_lines.specs.calls.Names.{fault_value}
+use Rattle.bt_lines.proofs.Std.{refl, sym, ◌∙◌, ap, false≢true}
 use Rattle.bt_lines.specs.calls.Reader.{source_of}
-use Rattle.bt_lines.specs.declared.fault.Input.TheVariants.{First, Second}
+use Rattle.bt_lines.specs.declared.fault.Input.TheVariants.{Second}
 use Rattle.bt_bed.specs.calls.Blocks.{below, view_of}
-use Rattle.bt_bed.specs.model.Good.{block_format}
 use Rattle.bt_bed.proofs.lemmas.Definitions.{good_in_blocks}
-use Rattle.bt_seq.specs.model.Masked.{sequence_format}
 use Rattle.bt_tool.specs.model.Written.{mask_reaches, mask_settles}
-use Rattle.bt_tool.specs.inside.MaskLoop.{line_members, mask_join, mask_pair, nothing_reached}
+use Rattle.bt_tool.specs.inside.MaskLoop.{line_members, nothing_reached}
 use Rattle.bt_tool.proofs.lemmas.running.mask.MaskFacts.{mask_limits, mask_needs}
 use Rattle.bt_tool.proofs.lemmas.running.mask.MaskRounds.{as_asked, masks_start}
 use Rattle.bt_bed.proofs.lemmas.read.good.ReadingLemmas.{good_at_first}
@@ -23,8 +20,8 @@ run_two-fault-requires g c =
     let reader_2 = c.new.ensures in
     let records = c.new-records.ensures in
     masks_start g.A.Source g.B.Source (record { lines = c.new-lines.result; records = c.new-records.result; mask = c.new-mask.result }) c.args.out.now.output reader.input
-    (fresh_over g.A.Source c.new-lines.result (line_members c.new-mask.result.full nothing_reached c.new-lines.result) refl reader.none_taken.0 reader.none_fed reader.none_given reader.going.0 refl reader.sound) reader.going.0
-    (fresh_over g.B.Source c.new.result (view_of c.new-records.result) records.below reader_2.none_taken.0 reader_2.none_fed reader_2.none_given (records.fault ∙ reader_2.going.0) records.none_buffered reader_2.sound)
+    (fresh_over g.A.Source (line_members c.new-mask.result.full nothing_reached c.new-lines.result) refl reader.none_taken.0 reader.none_fed reader.none_given reader.going.0 refl reader.sound) reader.going.0
+    (fresh_over g.B.Source (view_of c.new-records.result) records.below reader_2.none_taken.0 reader_2.none_fed reader_2.none_given (records.fault ∙ reader_2.going.0) records.none_buffered reader_2.sound)
     (records.fault ∙ reader_2.going.0) c.requires c.new-mask.ensures.stands.stands
 
 pub returns : goal.returns
@@ -33,28 +30,21 @@ returns g c =
     let reader_2 = c.new.ensures in
     let records = c.new-records.ensures in
     let stands = c.new-mask.ensures.stands in
-    let fault = option_map fault_value c.run_two-fault.result in
-    let ends = as_asked g.A.Source g.B.Source c.new-lines.result (view_of c.new-records.result) c.args.out.now.output fault c.run_two-fault.new.engine.lines (view_of c.run_two-fault.new.engine.records) c.run_two-fault.new.out.output
-    c.new-mask.result.how c.new-mask.result.full c.args.how c.args.full stands.how_is stands.full_is c.run_two-fault.ensures in
+    let ends = as_asked g.A.Source g.B.Source
+    stands.how_is stands.full_is c.run_two-fault.ensures in
     let lines = line_members c.args.full nothing_reached c.new-lines.result in
-    let begins = begins_over g.A.Source c.new-lines.result lines refl reader.none_taken.0 reader.none_fed (sequence_format c.args.full) First c.args.sources.first reader.source reader.input reader.going.0 reader.lines (λ going. good_at_first g.A.Source lines going refl) in
-    let begins_second = begins_over g.B.Source c.new.result (view_of c.new-records.result) records.below reader_2.none_taken.0 reader_2.none_fed block_format Second c.args.sources.second reader_2.source reader_2.input reader_2.going.0 reader_2.lines records.good in
+    let begins = begins_over g.A.Source lines refl reader.none_taken.0 reader.none_fed reader.source reader.input reader.going.0 reader.lines (λ going. good_at_first g.A.Source lines going refl) in
+    let begins_second = begins_over g.B.Source (view_of c.new-records.result) records.below reader_2.none_taken.0 reader_2.none_fed reader_2.source reader_2.input reader_2.going.0 reader_2.lines records.good in
     let ended = ap source_of ends.1 ∙ sym c.into_source-first.ensures in
     let ended_second = sym (c.into_source-second.ensures ∙ ap source_of c.into_reader.ensures) in
-    let join = mask_join c.args.how in
-    let pair = mask_pair g.A.Source g.B.Source c.args.full c.new-lines.result (view_of c.new-records.result) in
     record {
-      written = writes_both join pair c.args.out.now.output (sequence_format c.args.full) block_format (λ two. good_in_blocks Second two) (mask_limits c.args.how) c.args.sources.first c.args.sources.second begins begins_second
-          ends.0 (view_of c.run_two-fault.new.engine.records) c.into_source-first.result c.into_source-second.result ended ended_second fault c.run_two-fault.new.out.output ends.2.finishes
-          (mask_settles c.args.how c.args.full) (mask_reaches c.args.full)
-          (near_both join pair c.args.out.now.output (sequence_format c.args.full) block_format (λ two. good_in_blocks Second two) (mask_needs c.args.how) c.args.sources.first c.args.sources.second begins begins_second
-          ends.0 (view_of c.run_two-fault.new.engine.records) c.into_source-first.result c.into_source-second.result ended ended_second fault c.run_two-fault.new.out.output ends.2.finishes);
+      written = writes_both (λ two. good_in_blocks Second two) (mask_limits c.args.how) begins begins_second ended ended_second ends.2.finishes
+          (mask_settles c.args.how c.args.full) (mask_reaches c.args.full) (near_both (λ two. good_in_blocks Second two) (mask_needs c.args.how) begins begins_second
+          ended ended_second ends.2.finishes);
       reads = λ never.
           let served = ends.2.reads never in (
             served_of g.A.Source.is_read c.args.sources.first c.into_source-first.result c.new-lines.result ends.0.below reader.source ended served.0,
             served_of g.B.Source.is_read c.args.sources.second c.into_source-second.result (below c.new-records.result) (below c.run_two-fault.new.engine.records) (ap source_of records.below ∙ reader_2.source) ended_second served.1,
           );
-      own_failure = both_own join pair c.args.out.now.output (sequence_format c.args.full) block_format c.args.sources.first c.args.sources.second begins begins_second
-          ends.0 (view_of c.run_two-fault.new.engine.records) c.into_source-first.result c.into_source-second.result ended ended_second fault c.run_two-fault.new.out.output ends.2.finishes
-          (λ kind. false≢true kind) (λ kind. false≢true kind) ends.2.own_first ends.2.own_second;
+      own_failure = both_own begins begins_second ended ended_second ends.2.finishes (λ kind. false≢true kind) (λ kind. false≢true kind) ends.2.own_first ends.2.own_second;
     }

@@ -13,12 +13,12 @@ advance-swept-requires-clause-known_b g c = known_batch c.args.second.now c.buff
 pub consume-requires : goal.consume-requires
 consume-requires g c =
     let p = (passed_both (sweep_order c.args.sweep.now) (state_of c.args.sweep.now) c.buffered-firsts.result c.buffered-seconds.result c.args.out.now.output c.advance-swept.result (state_of c.advance-swept.new.self) c.advance-swept.new.a c.advance-swept.new.b c.advance-swept.new.out.output c.advance-swept.ensures.advances).0 in
-    batch_taken c.args.first.now c.buffered-firsts.result c.buffered-firsts.ensures.lends c.advance-swept.new.a p.0 p.1 c.consumed-first_consumed.result c.consumed-first_consumed.ensures
+    batch_taken c.args.first.now c.buffered-firsts.ensures.lends p.1 c.consumed-first_consumed.ensures
 
 pub consume-requires-2 : goal.consume-requires-2
 consume-requires-2 g c =
     let p = (passed_both (sweep_order c.args.sweep.now) (state_of c.args.sweep.now) c.buffered-firsts.result c.buffered-seconds.result c.args.out.now.output c.advance-swept.result (state_of c.advance-swept.new.self) c.advance-swept.new.a c.advance-swept.new.b c.advance-swept.new.out.output c.advance-swept.ensures.advances).1 in
-    batch_taken c.args.second.now c.buffered-seconds.result c.buffered-seconds.ensures.lends c.advance-swept.new.b p.0 p.1 c.consumed-second_consumed.result c.consumed-second_consumed.ensures
+    batch_taken c.args.second.now c.buffered-seconds.ensures.lends p.1 c.consumed-second_consumed.ensures
 
 pub returns-clause-advances : goal.returns-clause-advances
 returns-clause-advances g c =

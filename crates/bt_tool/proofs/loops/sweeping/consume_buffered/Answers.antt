@@ -20,9 +20,10 @@ loop-next-smaller g c = omega (arith, ap length c.in-Some.ensures.some.left_is)
 pub consume-requires : goal.consume-requires
 consume-requires g c =
     let so = c.loop-next.invariant in
-    batch_taken c.args.second.now c.buffered-seconds.result c.buffered-seconds.ensures.lends c.next.new.self so.0 (subst (Passes c.buffered-seconds.result so.0) (sym c.in_default.ensures.unchanged) so.1) c.consumed-consumed.result c.consumed-consumed.ensures
+    batch_taken c.args.second.now c.buffered-seconds.ensures.lends (subst (Passes c.buffered-seconds.result so.0) (sym c.in_default.ensures.unchanged) so.1) c.consumed-consumed.ensures
 
 pub returns-clause-takes : goal.returns-clause-takes
 returns-clause-takes g c =
     let so = c.loop-next.invariant in
-    all_taken c.args.second.now c.buffered-seconds.result c.buffered-seconds.ensures.lends c.next.new.self so.0 (subst (Passes c.buffered-seconds.result so.0) (sym c.in_default.ensures.unchanged) so.1) c.consumed-consumed.result c.consumed-consumed.ensures g.B.Source c.buffered-seconds.ensures.comes c.consume.new.self c.consume.ensures (subst (λ (b : Batch). left b ≡ []) (sym c.in_default.ensures.unchanged) c.in_default.ensures.none)
+    all_taken c.args.second.now c.buffered-seconds.ensures.lends (subst (Passes c.buffered-seconds.result so.0) (sym c.in_default.ensures.unchanged) so.1)
+    c.consumed-consumed.ensures c.buffered-seconds.ensures.comes c.consume.new.self c.consume.ensures (subst (λ (b : Batch). left b ≡ []) (sym c.in_default.ensures.unchanged) c.in_default.ensures.none)

@@ -1,15 +1,12 @@
-use Rattle.bt_lines.proofs.Std.{refl, sym, ◌∙◌, ap, option_map}
-use Rattle.bt_lines.specs.calls.Names.{fault_value}
+use Rattle.bt_lines.proofs.Std.{refl, sym, ◌∙◌, ap}
 use Rattle.bt_lines.proofs.lemmas.reader.block.ReadsLemmas.{reads_same}
 use Rattle.bt_lines.specs.calls.Reader.{source_of}
-use Rattle.bt_lines.specs.declared.fault.Input.TheVariants.{First, Second}
-use Rattle.bt_bed.specs.model.Good.{bed_format}
+use Rattle.bt_lines.specs.declared.fault.Input.TheVariants.{Second}
 use Rattle.bt_bed.specs.calls.Records.{below, view_of}
-use Rattle.bt_bed.specs.model.Sorted.{sorting_of}
 use Rattle.bt_bed.proofs.lemmas.Definitions.{placed_good}
 use Rattle.bt_sweep.specs.calls.SweepView.{state_of}
 use Rattle.bt_tool.specs.model.Written.{intersect_reaches, intersect_settles}
-use Rattle.bt_tool.specs.inside.SweepLoop.{config_of, records_pair, sweep_join}
+use Rattle.bt_tool.specs.inside.SweepLoop.{config_of}
 use Rattle.bt_tool.proofs.lemmas.running.pair.PairMet.{writes_both}
 use Rattle.bt_tool.proofs.lemmas.running.pair.PairNear.{near_both}
 use Rattle.bt_tool.proofs.lemmas.running.members.CursorLemmas.{begins_over, fresh_over}
@@ -36,8 +33,8 @@ run_two-fault-requires g c =
         none_last_second = records_2.none_last;
       };
       sweeps = sweeps_start g.A.Source g.B.Source (config_of (state_of c.new-sweep.result)) c.new-firsts.result c.new-seconds.result c.args.out.now.output
-          (fresh_over _ c.new.result (view_of c.new-firsts.result) records.below reader.none_taken.0 reader.none_fed reader.none_given (records.fault ∙ reader.going.0) records.none_buffered reader.sound)
-          (fresh_over _ c.new-2.result (view_of c.new-seconds.result) records_2.below reader_2.none_taken.0 reader_2.none_fed reader_2.none_given (records_2.fault ∙ reader_2.going.0) records_2.none_buffered reader_2.sound)
+          (fresh_over _ (view_of c.new-firsts.result) records.below reader.none_taken.0 reader.none_fed reader.none_given (records.fault ∙ reader.going.0) records.none_buffered reader.sound)
+          (fresh_over _ (view_of c.new-seconds.result) records_2.below reader_2.none_taken.0 reader_2.none_fed reader_2.none_given (records_2.fault ∙ reader_2.going.0) records_2.none_buffered reader_2.sound)
           c.requires.block (state_of c.new-sweep.result)
           (rw (← records.order) at sweep.stands) refl;
       order_is = sweep.order ∙ sym records.order;
@@ -51,28 +48,21 @@ returns g c =
     let reader_2 = c.new-2.ensures in
     let records_2 = c.new-seconds.ensures in
     let order = g.O.ChromOrder.order c.args.order.now in
-    let fault = option_map fault_value c.run_two-fault.result in
     let sweep = c.new-sweep.ensures in
     let ends = rw (records.order, sweep.shape, sweep.rule, sweep.limit) at c.run_two-fault.ensures.finishes in
-    let join = sweep_join order c.args.config in
-    let pair = records_pair g.A.Source g.B.Source c.new-firsts.result c.new-seconds.result in
-    let format = bed_format (sorting_of order) in
-    let begins = begins_over g.A.Source c.new.result (view_of c.new-firsts.result) records.below reader.none_taken.0 reader.none_fed format First c.args.sources.first reader.source reader.input reader.going.0 reader.lines records.good in
-    let begins_second = begins_over g.B.Source c.new-2.result (view_of c.new-seconds.result) records_2.below reader_2.none_taken.0 reader_2.none_fed format Second c.args.sources.second reader_2.source reader_2.input reader_2.going.0 reader_2.lines records_2.good in
+    let begins = begins_over g.A.Source (view_of c.new-firsts.result) records.below reader.none_taken.0 reader.none_fed reader.source reader.input reader.going.0 reader.lines records.good in
+    let begins_second = begins_over g.B.Source (view_of c.new-seconds.result) records_2.below reader_2.none_taken.0 reader_2.none_fed reader_2.source reader_2.input reader_2.going.0 reader_2.lines records_2.good in
     let ended = sym (c.into_source-first.ensures ∙ ap source_of c.into_reader.ensures) in
     let ended_second = sym (c.into_source-second.ensures ∙ ap source_of c.into_reader-2.ensures) in
     record {
-      written = writes_both join pair c.args.out.now.output format format (λ two. placed_good Second order two c.requires.total) (sweep_limits order c.args.config) c.args.sources.first c.args.sources.second begins begins_second
-          (view_of c.run_two-fault.new.engine.first) (view_of c.run_two-fault.new.engine.second) c.into_source-first.result c.into_source-second.result ended ended_second fault c.run_two-fault.new.out.output ends
+      written = writes_both (λ two. placed_good Second order two c.requires.total) (sweep_limits order c.args.config) begins begins_second ended ended_second ends
           (intersect_settles order c.args.config.shape c.args.config.rule) (intersect_reaches order)
-          (near_both join pair c.args.out.now.output format format (λ two. placed_good Second order two c.requires.total) (sweep_needs order c.args.config) c.args.sources.first c.args.sources.second begins begins_second
-          (view_of c.run_two-fault.new.engine.first) (view_of c.run_two-fault.new.engine.second) c.into_source-first.result c.into_source-second.result ended ended_second fault c.run_two-fault.new.out.output ends);
+          (near_both (λ two. placed_good Second order two c.requires.total) (sweep_needs order c.args.config) begins begins_second ended ended_second ends);
       reads = λ never.
           let served = c.run_two-fault.ensures.reads never in (
             served_of g.A.Source.is_read c.args.sources.first c.into_source-first.result (below c.new-firsts.result) (below c.run_two-fault.new.engine.first) (ap source_of records.below ∙ reader.source) ended served.0,
             served_of g.B.Source.is_read c.args.sources.second c.into_source-second.result (below c.new-seconds.result) (below c.run_two-fault.new.engine.second) (ap source_of records_2.below ∙ reader_2.source) ended_second served.1,
           );
-      own_failure = both_own join pair c.args.out.now.output format format c.args.sources.first c.args.sources.second begins begins_second
-          (view_of c.run_two-fault.new.engine.first) (view_of c.run_two-fault.new.engine.second) c.into_source-first.result c.into_source-second.result ended ended_second fault c.run_two-fault.new.out.output ends
+      own_failure = both_own begins begins_second ended ended_second ends
           (bed_no_read order) (swept_no_read order c.args.config.limit) c.run_two-fault.ensures.own_first c.run_two-fault.ensures.own_second;
     }

@@ -15,7 +15,7 @@ parse_number-stop-requires c =
     let text = c.without_return-text.result.now in
     let name = c.args.self.now.name.now in
     let p = parsed_of name text (ap (λ l. is_on name (record_of l)) c.without_return-text.ensures ∙ sym c.is_record_on.ensures ∙ c.if-not-is_record_on.false) in
-    omega (arith, parsed_inside text name p.0 p.1 p.2 c.parse_number-start.result.end c.parse_number-start.ensures.ends, length-drop (length name + 1) text)
+    omega (arith, parsed_inside text p.1 p.2 c.parse_number-start.ensures.ends, length-drop (length name + 1) text)
 
 pub invariant_of-result : goal.invariant_of-result
 invariant_of-result c =
@@ -27,10 +27,10 @@ invariant_of-result c =
     let third = sym (third_at text (length name) start.end) in
     rw (← c.without_return-text.ensures)
     (record {
-      named = parsed_name text name p.0 p.1 p.2;
-      bounds = parsed_bounds text name p.0 p.1 p.2 start.end c.parse_number-start.ensures.ends stop.end (subst (λ l. EndsFirst l stop.end) third c.parse_number-stop.ensures.ends)
+      named = parsed_name text p.1 p.2;
+      bounds = parsed_bounds text p.1 p.2 c.parse_number-start.ensures.ends (subst (λ l. EndsFirst l stop.end) third c.parse_number-stop.ensures.ends)
           start.value stop.value c.parse_number-start.ensures.value (subst (λ l. IfSome (value_of (take stop.end l)) (λ v. stop.value ≡ v)) third c.parse_number-stop.ensures.value);
-      no_header = parsed_no_header text name p.0 p.1 p.2;
+      no_header = parsed_no_header text p.1 p.2;
     })
 
 pub returns-clause-some : goal.returns-clause-some
@@ -39,4 +39,4 @@ returns-clause-some c =
     let text = strip_last 13 c.args.line.now in
     let name = c.args.self.now.name.now in
     let p = parsed_of name text (sym c.is_record_on.ensures ∙ c.if-not-is_record_on.false) in
-    on_line _ c.args.line.now name refl (front_is_name text name (parsed_begins text name p.0 p.1 p.2))
+    on_line _ c.args.line.now name refl (front_is_name text name (parsed_begins text p.1 p.2))

@@ -16,12 +16,10 @@ pub returns-clause-takes : goal.returns-clause-takes
 unfolding buffered_in
 returns-clause-takes g c =
     let some = some_lines c.args.self.now.reader c.args.consumed.lines (count_in c.args.self.now c.args.consumed) c.requires.taken.lines c.if-consumed-eq0.false in
-    sorted_takes g.S.Source (g.Q.Sorted.sorting c.args.self.now.lookahead.rule) c.args.self.now c.consume.new.self c.advance.new.self c.args.consumed.is_ahead c.args.consumed c.requires.taken some
-    c.requires.placed c.consume.ensures c.advance.ensures refl
+    sorted_takes c.requires.taken some c.requires.placed c.consume.ensures c.advance.ensures refl
 
 pub returns-clause-placed : goal.returns-clause-placed
 unfolding buffered_in
 returns-clause-placed g c =
     let some = some_lines c.args.self.now.reader c.args.consumed.lines (count_in c.args.self.now c.args.consumed) c.requires.taken.lines c.if-consumed-eq0.false in
-    sorted_placed g.S.Source (g.Q.Sorted.sorting c.args.self.now.lookahead.rule) c.args.self.now c.consume.new.self c.advance.new.self c.args.consumed.is_ahead c.args.consumed c.requires.taken some
-    c.requires.placed c.consume.ensures c.advance.ensures refl
+    sorted_placed c.requires.taken some c.requires.placed c.consume.ensures c.advance.ensures refl

@@ -4,7 +4,7 @@ use Rattle.bt_lines.proofs.lemmas.reader.block.BufferLemmas.{fed_clear}
 use Rattle.bt_lines.proofs.lemmas.reader.lines.BufferedLemmas.{begins_first, are_fed, cut_gives, cut_within, cuts_first, last_cut, quiet_cut, some_at, spaced_cut}
 use Rattle.bt_lines.proofs.lemmas.reader.block.ReadsLemmas.{counts_none}
 use Rattle.bt_lines.specs.calls.Line.{ending_at, line_shown}
-use Rattle.bt_lines.specs.inside.ReadBuffer.{complete, unread}
+use Rattle.bt_lines.specs.inside.ReadBuffer.{complete}
 use Rattle.bt_lines.specs.calls.Reader.{buffered_bytes, bytes_taken, source_of}
 use Rattle.bt_lines.proofs.reader.line_reader.LineReader.cut_line.Goals as goal
 
@@ -15,7 +15,7 @@ take_line-requires-clause-line g c = grind (arith, common_steps, cut_within, (be
 pub returns-clause-cut : goal.returns-clause-cut
 unfolding buffered_bytes
 returns-clause-cut g c = λ e line at.
-    let cuts = cuts_first g.S.Source c.args.self.now _ (line_shown c.in-Some.field-0) refl refl refl refl refl (begins_first c.buffered.result _ _ _ (Some (line_shown c.in-Some.field-0)) c.buffered.ensures.begins c.in-Some.ensures.cut)
+    let cuts = cuts_first g.S.Source c.args.self.now _ refl refl refl refl refl (begins_first c.buffered.result _ _ _ (Some (line_shown c.in-Some.field-0)) c.buffered.ensures.begins c.in-Some.ensures.cut)
     (c.take_line.ensures.lines) c.take_line.ensures.unread c.take_line.ensures.text c.take_line.ensures.spilled
     (c.ending_of-self.ensures ∙ ap (λ b. ending_at b (nat_lt (length c.in-Some.field-0.text.now + 1) c.in-Some.field-0.size)) c.is_open.ensures) in
     cut_gives _ c.args.self.now _ cuts line at
@@ -23,7 +23,7 @@ returns-clause-cut g c = λ e line at.
 pub returns-clause-sound : goal.returns-clause-sound
 unfolding buffered_bytes
 returns-clause-sound g c = λ e.
-    let cuts = cuts_first g.S.Source c.args.self.now _ (line_shown c.in-Some.field-0) refl refl refl refl refl (begins_first c.buffered.result _ _ _ (Some (line_shown c.in-Some.field-0)) c.buffered.ensures.begins c.in-Some.ensures.cut)
+    let cuts = cuts_first g.S.Source c.args.self.now _ refl refl refl refl refl (begins_first c.buffered.result _ _ _ (Some (line_shown c.in-Some.field-0)) c.buffered.ensures.begins c.in-Some.ensures.cut)
     (c.take_line.ensures.lines) c.take_line.ensures.unread c.take_line.ensures.text c.take_line.ensures.spilled
     (c.ending_of-self.ensures ∙ ap (λ b. ending_at b (nat_lt (length c.in-Some.field-0.text.now + 1) c.in-Some.field-0.size)) c.is_open.ensures) in
     cuts.sound
@@ -31,7 +31,7 @@ returns-clause-sound g c = λ e.
 pub returns-clause-at : goal.returns-clause-at
 unfolding buffered_bytes
 returns-clause-at g c = λ e.
-    let cuts = cuts_first g.S.Source c.args.self.now _ (line_shown c.in-Some.field-0) refl refl refl refl refl (begins_first c.buffered.result _ _ _ (Some (line_shown c.in-Some.field-0)) c.buffered.ensures.begins c.in-Some.ensures.cut)
+    let cuts = cuts_first g.S.Source c.args.self.now _ refl refl refl refl refl (begins_first c.buffered.result _ _ _ (Some (line_shown c.in-Some.field-0)) c.buffered.ensures.begins c.in-Some.ensures.cut)
     (c.take_line.ensures.lines) c.take_line.ensures.unread c.take_line.ensures.text c.take_line.ensures.spilled
     (c.ending_of-self.ensures ∙ ap (λ b. ending_at b (nat_lt (length c.in-Some.field-0.text.now + 1) c.in-Some.field-0.size)) c.is_open.ensures) in
     some_at _ cuts.line cuts.at
@@ -53,7 +53,7 @@ invariant_of-self g c =
     let fed = (are_fed c.take_line.new.self).fed in
     record {
       counted = old.counted;
-      a_byte_each = spaced_cut old.state (complete old.buffer) (unread old.buffer) (complete c.take_line.new.self) (unread c.take_line.new.self) old.lines old.taken cut.piece cut.clear parts c.take_line.ensures.unread fed old.last old.quiet old.a_byte_each;
-      quiet = quiet_cut old.state (complete old.buffer) (unread old.buffer) (complete c.take_line.new.self) (unread c.take_line.new.self) old.lines old.taken cut.piece cut.clear parts c.take_line.ensures.unread fed old.last old.quiet old.a_byte_each;
-      last = last_cut old.state (complete old.buffer) (unread old.buffer) (complete c.take_line.new.self) (unread c.take_line.new.self) old.lines old.taken cut.piece cut.clear parts c.take_line.ensures.unread fed old.last old.quiet old.a_byte_each;
+      a_byte_each = spaced_cut old.state (complete c.take_line.new.self) old.lines cut.piece cut.clear parts c.take_line.ensures.unread fed old.last old.quiet old.a_byte_each;
+      quiet = quiet_cut old.state (complete c.take_line.new.self) old.lines cut.piece cut.clear parts c.take_line.ensures.unread fed old.last old.quiet old.a_byte_each;
+      last = last_cut old.state (complete c.take_line.new.self) old.lines cut.piece cut.clear parts c.take_line.ensures.unread fed old.last old.quiet old.a_byte_each;
     }

@@ -7,5 +7,5 @@ returns-in-Err-clause-stopped g c = λ e fault kept. stops_by _ c.args.self.now 
 
 pub returns-in-Ok-true-clause-moved : goal.returns-in-Ok-true-clause-moved
 returns-in-Ok-true-clause-moved g c = λ e line at.
-    moves_by _ c.args.self.now c.fill.new.self c.cut_line.new.self c.fill.result c.cut_line.result (c.in-Ok-true.is ∙ ap Ok c.in-Ok-true.field-0-test) c.fill.ensures.fills c.cut_line.ensures.none
+    moves_by _ (c.in-Ok-true.is ∙ ap Ok c.in-Ok-true.field-0-test) c.fill.ensures.fills c.cut_line.ensures.none
     c.cut_line.ensures.cut c.cut_line.ensures.at c.cut_line.ensures.sound c.fill.ensures.own_failure c.cut_line.ensures.reads_nothing line at

@@ -1,4 +1,4 @@
-use Rattle.bt_lines.proofs.Std.{arith, subst, sym, drop-drop, length-drop, length-take, ◌-◌}
+use Rattle.bt_lines.proofs.Std.{arith, subst, sym, drop-drop, length-drop, length-take}
 use Rattle.bt_lines.proofs.lemmas.reader.block.BufferLemmas.{are_dropped, consumed}
 use Rattle.bt_lines.specs.inside.ReadBuffer.{complete}
 use Rattle.bt_lines.specs.inside.Shape.{AreComplete}

@@ -1,4 +1,4 @@
-use Rattle.bt_lines.proofs.Std.{◌≡◌, ◌≤◌, ◌<◌, ◌+◌, arith, length, rules, set, slice_range, subst, sym, drop-append-le, length-take-le, take_more_set, ◌-◌}
+use Rattle.bt_lines.proofs.Std.{◌≡◌, ◌≤◌, ◌<◌, ◌+◌, arith, length, rules, set, slice_range, subst, sym, drop-append-le, length-take-le, take_more_set}
 use Rattle.bt_lines.proofs.lemmas.reader.block.BufferLemmas.{are_in_block, end_added, fed_push, length-range, none_searched, closed_some, range_drop}
 use Rattle.bt_lines.specs.inside.ReadBuffer.{complete, unread}
 use Rattle.bt_lines.specs.inside.Shape.{AreComplete}

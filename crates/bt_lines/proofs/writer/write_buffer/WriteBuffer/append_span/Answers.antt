@@ -1,4 +1,4 @@
-use Rattle.bt_lines.proofs.Std.{◌-◌, arith, length-take-le}
+use Rattle.bt_lines.proofs.Std.{arith, length-take-le}
 use Rattle.bt_lines.proofs.lemmas.Writer.{span_put}
 use Rattle.bt_lines.proofs.writer.write_buffer.WriteBuffer.append_span.Goals as goal
 

@@ -4,7 +4,7 @@ use Rattle.bt_bed.specs.declared.parse.bounds.Bounds.{Bounds}
 use Rattle.bt_runs.specs.inside.Coverage.{seen}
 use Rattle.bt_runs.specs.calls.Covering.{Covering, IsOnChrom, depth_rule, with_chrom}
 use Rattle.bt_runs.specs.inside.Walk.{Does}
-use Rattle.bt_runs.proofs.lemmas.coverage.DepthSteps.{step_err, fits}
+use Rattle.bt_runs.proofs.lemmas.coverage.DepthSteps.{IsNext, step_err, fits}
 use Rattle.bt_runs.proofs.coverage.depth_rule.DepthRuleRule.step.Goals as goal
 
 pub returns-then-not-on-clause-fits : goal.returns-then-not-on-clause-fits
@@ -16,12 +16,12 @@ returns-in-Err-clause-does g c =
     let r = g.R.Record.feature c.args.record.now in
     let on = c.args.on.now in
     let bounds : Bounds = record { start = c.start.result; stop = c.stop.result } in
-    let table = entries m.chroms.genome.now in
-    let view : Covering = record { entries = table; zeros = m.chroms.zeros; strand = m.strand; current = seen m.current m.held; is_known = m.is_known; name = m.name.now; length = m.length } in
+    let view : Covering = record { entries = entries m.chroms.genome.now; zeros = m.chroms.zeros; strand = m.strand; current = seen m.current m.held; is_known = m.is_known; name = m.name.now; length = m.length } in
+    let next : IsNext m.strand r bounds c.is_counted.result = record { starts = sym c.start.ensures; stops = sym c.stop.ensures.is; counts = sym c.is_counted.ensures } in
     let lies : IsOnChrom (with_chrom view on) r.chrom = subst (λ (v : Covering). IsOnChrom (with_chrom v on) r.chrom) (sym c.self.view_is) c.requires in
     subst (λ (v : Covering). Does depth_rule (with_chrom v on) r c.args.out.now.output (Err c.fault.result) view c.count_next-counted.new.out.output) c.self.view_is
-    (step_err table m.chroms.zeros m.strand m.is_known m.name.now m.length on c.if-not-on.false r bounds (sym c.start.ensures) (sym c.stop.ensures.is) c.is_counted.result (sym c.is_counted.ensures) c.args.out.now.output c.count_next-counted.new.out.output
-    m.current m.held c.self.invariant lies c.in-Err.failure c.fault.result view c.count_next-counted.new.held c.fault.ensures c.in-Err.ensures.counts c.in-Err.ensures.memory)
+    (step_err view on c.if-not-on.false next c.args.out.now.output c.count_next-counted.new.out.output
+    m.current m.held c.self.invariant lies c.fault.result view c.count_next-counted.new.held c.fault.ensures c.in-Err.ensures.counts c.in-Err.ensures.memory)
 
 pub returns-in-Err-clause-fits : goal.returns-in-Err-clause-fits
 returns-in-Err-clause-fits g c = fits (with_chrom c.args.self.now c.args.on.now) (g.R.Record.feature c.args.record.now)

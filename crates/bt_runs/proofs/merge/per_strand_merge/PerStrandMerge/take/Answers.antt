@@ -30,11 +30,11 @@ returns-then-not-on-clause-does g c =
     rw (← c.self.view_is) (elim c.match-join_among.branch [
       | in-Ok-true w ↦
           let kept_now : kept_in chrom c.match-join_among.on listed ≡ placed_run chrom (pending_from r) ∷ [] = ap (λ (o : OnlyRun). kept_in chrom o listed) w.on-is ∙ rw (c.start.ensures, c.strand.ensures, c.stop.ensures.is) refl in
-          rw (w.result-is) (takes_alone old r c.args.out.now.output c.self.inside.runs kept lies c.join_among.new.runs new c.join_among.new.out.output (joins (Ok true) (search rules)) refl refl kept_now)
+          rw (w.result-is) (takes_alone old r c.args.out.now.output c.self.inside.runs kept lies (joins (Ok true) (search rules)) refl refl kept_now)
       | in-Ok-false w ↦
-          rw (w.result-is) (takes_left old r c.args.out.now.output c.self.inside.runs kept lies c.join_among.new.runs new c.join_among.new.out.output (joins (Ok false) (search rules)) refl refl (stays w.on-is))
+          rw (w.result-is) (takes_left old r c.args.out.now.output c.self.inside.runs kept lies (joins (Ok false) (search rules)) refl refl (stays w.on-is))
       | in-Err w ↦
-          rw (w.result-is) (fails_among old r c.args.out.now.output c.self.inside.runs kept lies w.in-Err.failure w.fault.result c.join_among.new.runs new c.join_among.new.out.output w.fault.ensures (joins (Err w.in-Err.failure) (search rules)))
+          rw (w.result-is) (fails_among old r c.args.out.now.output c.self.inside.runs kept lies w.in-Err.failure w.fault.result c.join_among.new.runs new w.fault.ensures (joins (Err w.in-Err.failure) (search rules)))
     ])
 
 pub returns-in_err-put_interval-clause-does : goal.returns-in_err-put_interval-clause-does

@@ -9,13 +9,13 @@ returns-then-is_same_name-clause-enters g c = stays_on (fits c.args.self.now) c.
 
 pub returns-in-Err-clause-enters : goal.returns-in-Err-clause-enters
 returns-in-Err-clause-enters g c =
-    enters_failing c.args.self.now c.self.inside.run (search rules) c.args.out.now.output c.args.chrom.now (search rules) c.in-Err.fault _ _ (search rules)
+    enters_failing c.args.self.now c.self.inside.run (search rules) c.args.out.now.output (search rules) c.in-Err.fault _ _ (search rules)
 
 pub returns-then-is_err-clause-enters : goal.returns-then-is_err-clause-enters
 returns-then-is_err-clause-enters g c =
     let apart : bytes_eq c.args.self.now.chrom c.args.chrom.now ≡ false = search rules in
-    enters_unnamed c.args.self.now c.self.inside.run (search rules) c.args.out.now.output c.args.chrom.now apart (other_name _ _ apart) c.no_memory.result _ _ (search rules) (search rules)
+    enters_unnamed c.args.self.now c.self.inside.run (search rules) c.args.out.now.output apart (other_name _ _ apart) c.no_memory.result _ _ (search rules) (search rules)
 
 pub returns-clause-enters : goal.returns-clause-enters
 returns-clause-enters g c =
-    enters_other c.args.self.now c.self.inside.run (search rules) c.args.out.now.output c.args.chrom.now (search rules) _ _ (search rules) (search rules) (search rules) (search rules) (search rules)
+    enters_other c.args.self.now c.self.inside.run (search rules) c.args.out.now.output (search rules) _ _ (search rules) (search rules) (search rules) (search rules) (search rules)

@@ -16,6 +16,6 @@ returns-clause-consumed c = λ e.
       open_is = c.consume.ensures.same.1;
     } in (
       line_of old.lines line,
-      copied_line c.args.to old _ line c.in-Some.ensures.cut c.requires passes c.consume.ensures.rest c.consume.ensures.at
+      copied_line c.in-Some.ensures.cut c.requires passes c.consume.ensures.rest c.consume.ensures.at
           (sym c.is_header.ensures ∙ c.if-is_header.false) refl c.up_to_limit-bases.ensures (omega (arith, c.if-to-bases.false)),
     )

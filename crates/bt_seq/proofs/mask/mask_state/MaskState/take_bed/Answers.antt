@@ -6,6 +6,5 @@ use Rattle.bt_seq.proofs.mask.mask_state.MaskState.take_bed.Goals as goal
 
 pub returns-then-is_decided-clause-takes : goal.returns-then-is_decided-clause-takes
 returns-then-is_decided-clause-takes g c = λ line is.
-    wrote_line c.args.self.now _ c.know.new.self c.write.new.self (feature_lent c.args.bed.now) c.owner-owner.result c.owner-owner.new.self line c.args.out.now.output c.write.new.out.output
-    c.know.ensures c.self.view_is c.owner-owner.ensures.owner c.owner-owner.ensures.next (sym c.if-is_decided.ensures)
+    wrote_line (feature_lent c.args.bed.now) line c.know.ensures c.self.view_is c.owner-owner.ensures.owner c.owner-owner.ensures.next (sym c.if-is_decided.ensures)
     (c.in_ok-write.ensures.writes line (ap (λ (m : Masking). m.waiting) c.know.ensures ∙ ap (λ (m : Masking). m.waiting) c.self.view_is ∙ is))
