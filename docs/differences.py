@@ -1,15 +1,15 @@
 #!/usr/bin/env python3
-"""Tries each row of DIFFERENCES.md with the program in bin/, with the bedtools 2.30.0 on PATH, and with the drop-in.
+"""Tries each row of differences.tsv with the program in bin/, with the bedtools 2.30.0 on PATH, and with the drop-in.
 
     docs/differences.py
 
 A trial is one command line for each program, in a folder with the files below, and what each has to answer:
-standard output and exit status, and for ours standard error too. A row of a table has a trial of its name, and
+standard output and exit status, and for ours standard error too. A row of the file has a trial of its name, and
 each trial has a row, whose kind is that of the answers. The drop-in gets the command line of bedtools, has to give it
 to the program that the row names, and to answer as that one does. What other pages say of bedtools is tried with
-bedtools alone. Each option that bedtools names in the help text of a command has a row in OPTIONS.md, and the program
-takes it if and only if the second column of that row is `yes`. Ends with 1 if one differs, and with 0 and a word if
-there is no such bedtools.
+bedtools alone. Each option that bedtools names in the help text of a command has a row in options.tsv, and the program
+takes it if and only if that row says `yes`. MIGRATING.md shows the rows of both files (docs/migrating.py). Ends with 1
+if one differs, and with 0 and a word if there is no such bedtools.
 """
 
 import base64
@@ -23,6 +23,7 @@ import tempfile
 from pathlib import Path
 
 from front_tools import TOLD, drop_in, install
+from migrating import differences, options
 
 HERE = Path(__file__).resolve().parent
 OURS = HERE.parent / "bin" / "bedtools"
@@ -354,7 +355,7 @@ SAID = [
     ("ERRORS.md: sort -g and header lines", "sort -g g.txt -i commented.bed", "chr1\t2\t6\n", 0),
     ("COMMANDS.md: VCF with a number as ID", "merge -i numeric.vcf", "chr1\t4\t5\n", 0),
     ("COMMANDS.md: a fraction of many bases", "intersect -a odd.bed -b nearly_half.bed -f 0.5", "chr1\t0\t16777216\n", 0),
-    ("RECIPES.md: a tag below zero", "bamtobed -tag AS -i tagged.sam", "ref\t15\t40\tr004\t4294967293\t+\n", 0),
+    ("bam.sh: a tag below zero", "bamtobed -tag AS -i tagged.sam", "ref\t15\t40\tr004\t4294967293\t+\n", 0),
 ]
 
 COMMANDS = ("merge", "complement", "intersect", "subtract", "genomecov", "bamtobed", "maskfasta")
@@ -402,15 +403,9 @@ def said_wrongly(said, theirs, folder):
     return (found, ended) != (output, status)
 
 
-def rows_of(page):
-    """The rows of the tables of differences: of each first column its kind, and who takes it of the drop-in."""
-    rows, inside = {}, False
-    for line in page.splitlines():
-        inside = line.startswith("| difference |") or (inside and line.startswith("|"))
-        if inside and not line.startswith(("| difference |", "|---")):
-            cells = [cell.strip() for cell in re.split(r"(?<!\\)\|", line)]
-            rows[cells[1]] = tuple(cells[4:6])
-    return rows
+def rows_of():
+    """The rows of differences.tsv: of each difference its kind, and who takes it of the drop-in."""
+    return {row[1]: (row[4], row[5]) for row in differences()}
 
 
 def kinds_differ(trials, rows):
@@ -449,29 +444,23 @@ def their_options(theirs, command):
     return set(INPUTS.findall(usage)) | set(NAMED.findall(text))
 
 
-def rows_of_options(page, command):
-    """The rows of the table of a command, each as its option and whether it is taken: `yes` or `no`."""
-    section = page.split(f"\n## {command}\n", 1)[1].split("\n## ", 1)[0]
-    rows = []
-    for line in section.splitlines():
-        if line.startswith("| `-"):
-            options, taken, _ = line.strip("| ").split(" | ", 2)
-            rows += [(option, taken) for option in re.findall(r"`(-\w+)`", options)]
-    return rows
+def rows_of_options(command):
+    """The rows of a command in options.tsv, each as its option and whether it is taken: `yes` or `no`."""
+    return [(option, taken) for name, words, taken, _ in options() if name == command for option in words if option.startswith("-")]
 
 
 def options_differ(theirs, command, folder):
     """How many options of bedtools have no row or two, or one that isn't true of the program."""
-    rows = rows_of_options((HERE / "OPTIONS.md").read_text(encoding="utf-8"), command)
+    rows = rows_of_options(command)
     rowed = [option for option, _ in rows]
     amiss = sorted({option for option in their_options(theirs, command) | set(rowed) if rowed.count(option) != 1})
     for option in amiss:
-        print(f"OPTIONS.md: {rowed.count(option)} rows for {option} of {command}")
+        print(f"options.tsv: {rowed.count(option)} rows for {option} of {command}")
     wrong = len(amiss)
     for option, taken in rows:
         unknown = ran(OURS, f"{command} {option}", folder)[1] == f"bedtools: unknown option: {option}\n"
         if taken != ("no" if unknown else "yes"):
-            print(f"OPTIONS.md: {option} of {command} is {'unknown' if unknown else 'known'}, and its row says: {taken}")
+            print(f"options.tsv: {option} of {command} is {'unknown' if unknown else 'known'}, and its row says: {taken}")
             wrong += 1
     return wrong
 
@@ -482,7 +471,7 @@ def main():
         print("no bedtools 2.30.0 on PATH: nothing was tried")
         return 0
     wrong = 0
-    rows = rows_of((HERE / "DIFFERENCES.md").read_text(encoding="utf-8"))
+    rows = rows_of()
     with tempfile.TemporaryDirectory() as folder:
         fill(folder)
         wrong += sum(differs(trial, theirs, folder) for trial in TRIALS)

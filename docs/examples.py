@@ -1,8 +1,10 @@
 #!/usr/bin/env python3
-"""Runs the shell examples of README.md and of the pages beside this file, with the program in bin/, and sees that
-the example on the first page of each crate is its test.
+"""Runs the shell examples of README.md, of the pages beside this file and of cases/, with the program in bin/, and sees
+that the example on the first page of each crate is its test.
 
     docs/examples.py [PAGE..]
+
+A page shows what a reader needs. What else is tried, and in the same form, is in docs/cases: a file for each theme.
 
 An example is a block, indented by four spaces or more, that begins with `$ `. A line that begins with `> ` continues
 the command above it. Each command is run by sh, in one folder for a page. What it writes, standard error after
@@ -123,9 +125,15 @@ def check_code():
     return len(pieces), len(wrong)
 
 
+def every_page():
+    """The pages and the files of cases, without the one whose examples need an installation."""
+    docs = TOP / "docs"
+    return [TOP / "README.md", *sorted(set(docs.glob("*.md")) - {docs / "DROPIN.md"}), *sorted(docs.glob("cases/*.txt"))]
+
+
 def main():
     pages = [Path(name).resolve() for name in sys.argv[1:]]
-    counts = [check(page) for page in pages or [TOP / "README.md", *sorted(set((TOP / "docs").glob("*.md")) - {TOP / "docs" / "DROPIN.md"})]]
+    counts = [check(page) for page in pages or every_page()]
     if not pages:
         counts += [check_program(page) for page in sorted(TOP.glob("crates/*/src/main.rt"))]
         counts += [check_library(page) for page in sorted(set(TOP.glob("crates/*/src/lib.rt")) - {LAWS})]
