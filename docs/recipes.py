@@ -1,105 +1,48 @@
 #!/usr/bin/env python3
-"""Runs each recipe of RECIPES.md with the program in bin/ beside the bedtools 2.30.0 on PATH.
+"""Runs each recipe of examples/recipes with the program in bin/ beside the bedtools 2.30.0 on PATH.
 
-    docs/recipes.py [WORD..]
+    docs/recipes.py [WORD..]              runs the cases of recipes.tsv, or those whose line of bedtools has all words
+    docs/recipes.py --cost [RECORDS]      measures what each script costs, into costs.tsv
+    docs/recipes.py --write               writes the table of RECIPES.md anew
 
-A recipe is an indented block of that page whose first lines are a comment with a command line of bedtools. The lines
-below it are a script that calls the program as `dunekettle-bedtools`, and must write the same bytes. A block that
-begins with a function, or with a variable, is put before each script, as the page says. The original isn't on the
-PATH of a script: there `bedtools` fails. Both are run by bash over files of each kind below, and the scripts that use
-a genome file over files in natural order too; a kind over which bedtools itself ends with an error is skipped. If a
-line below the block begins with `Not the same over`, the kinds that it names must differ. The recipes with the words
-exchanged that the page names, the options that are left out, and the command lines that stay as they are, are tried
-in the same way; so is the block that compares the two programs, with both on PATH. With words, only the recipes are
-run whose command lines have all of them. Ends with 1 if one differs, or a script is longer or wider than a page
-should have it, and with 0 and a word if there is no such bedtools.
+A case is a command line of bedtools, one of a script or of the program that must write the same bytes, and the kinds of
+files over which it must not. Both are run by bash over files of each kind below, and what uses a genome file over files
+in natural order too; a kind over which bedtools itself ends with an error is skipped. Scripts are run as they are
+installed, with the program as `dunekettle-bedtools`, and the original isn't on their PATH: there `bedtools` fails. The
+block of MIGRATING.md that compares the two programs is run with both on PATH. needs.tsv says of each script what it is
+for, its limits, and which case its cost is measured by. Ends with 1 if one differs, if a script has no case or no row
+there, or if the table of RECIPES.md isn't that of these files; and with 0 and a word if there is no such bedtools.
 """
 
 import gzip
 import os
 import random
 import re
+import resource
 import shutil
 import subprocess
 import sys
 import tempfile
+import time
 from pathlib import Path
 
 HERE = Path(__file__).resolve().parent
-PAGE = HERE / "RECIPES.md"
-LINES, COLUMNS = 10, 80  # of a script, at most
+TOP = HERE.parent
+SCRIPTS = TOP / "examples" / "recipes"
+PAGE, MIGRATING = HERE / "RECIPES.md", HERE / "MIGRATING.md"
 LENGTHS = {"chr1": 3000, "chr10": 2000, "chr2": 1500}
 KINDS = ("six columns", "CR LF", "no sign", "three columns", "twelve columns", "header lines")
-# The kind whose chromosomes have another order than that of their bytes, and what a script has that reads it.
+# The kind whose chromosomes have another order than that of their bytes, and what a case has that is tried over it.
 NATURAL = "natural order"
-BY_GENOME = re.compile(r"by_genome|-g header\.txt")
+BY_GENOME = re.compile(r"(?:genomecov-(?:ends|split|bam)|by-genome)\.sh")
 HEADER = "# made for a trial\nbrowser position chr1:1-3000\ntrack name=trial\n"
-BLOCK = re.compile(r"((?:^    .*\n)+)(?:\n*Not the same over ([^:\n]*):)?", re.MULTILINE)
-# The first line of a block of functions, and that of the block that compares both programs.
-FUNCTION = re.compile(r"\w+(?:\(\) \{|=')")
-BOTH = "bedtools "
-
-# Command lines that write the same bytes as they stand.
-SAME = [
-    "merge -i a.bed", "merge -i a.bed -d 20", "merge -i a.bed -S +", "merge -i a.bed -S - -d 5",
-    "complement -i a.bed -g genome.txt", "complement -i a.bed -g genome.txt -L",
-    "intersect -sorted -a a.bed -b b.bed", "intersect -sorted -a a.bed -b b.bed -wa",
-    "intersect -sorted -a a.bed -b b.bed -wb", "intersect -sorted -a a.bed -b b.bed -wa -wb",
-    "intersect -sorted -a a.bed -b b.bed -wo", "intersect -sorted -a a.bed -b b.bed -u",
-    "intersect -sorted -a a.bed -b b.bed -v", "intersect -sorted -a a.bed -b b.bed -c",
-    "intersect -sorted -a a.bed -b b.bed -wo -f 0.5", "intersect -sorted -a a.bed -b b.bed -wo -f 0.3 -r",
-    "intersect -sorted -a a.bed -b b.bed -wa -u", "intersect -sorted -a a.bed -b b.bed -wa -c",
-    "subtract -a a.bed -b b.bed", "subtract -a a.bed -b b.bed -A", "subtract -a a.bed -b b.bed -f 0.4",
-    "genomecov -i a.bed -g genome.txt -bg", "genomecov -i a.bed -g genome.txt -bga",
-    "bamtobed -i reads.sam", "bamtobed -i reads.sam -split", "bamtobed -i reads.sam -cigar",
-    "maskfasta -fi sequences.fa -bed a.bed -fo /dev/stdout", "maskfasta -fi sequences.fa -bed a.bed -fo /dev/stdout -soft",
-    "maskfasta -fi sequences.fa -bed a.bed -fo /dev/stdout -mc x",
-]
-# With -s a record without a strand is another matter: see DIFFERENCES.md.
-SAME_WITH_STRANDS = [
-    "merge -i chr1.bed -s", "merge -i chr1.bed -s -d 20",
-    "intersect -sorted -a a.bed -b b.bed -wo -s", "intersect -sorted -a a.bed -b b.bed -v -s -f 0.5",
-    "subtract -a a.bed -b b.bed -s", "subtract -a a.bed -b b.bed -s -A -f 0.2",
-    "genomecov -i a.bed -g genome.txt -bg -strand +", "genomecov -i a.bed -g genome.txt -bga -strand -",
-]
-
-# Recipes with the words exchanged that the page names: words of the command line, then what is exchanged in it and in
-# the script.
-VARIANTS = [
-    ("-header -i a.bed", ["merge -header -i a.bed", "subtract -header -a a.bed -b b.bed"], ["dunekettle-bedtools merge -i a.bed", "dunekettle-bedtools subtract -a a.bed -b b.bed"]),
-    ("intersect -sorted -S -c", ["-c", "-u"], ["-c", "-u"]),
-    ("intersect -sorted -S -c", ["-c", "-v -f 0.3"], ["-c", "-v -f 0.3"]),
-    ("intersect -sorted -S -c", ["-c", "-wa -f 0.2 -r"], ["-c", "-wa -f 0.2 -r"]),
-    ("-f 0.2 -F 0.5 -wo", ["-wo", "-wa"], ["| lines", "| cut -f 1-7 | lines"]),
-    ("-F 0.5 -c", ["-c", "-v"], ['{ print $7 "\\t" hits[$4] + 0 }', "!hits[$4] { print $7 }"]),
-    ("-f 0.1 -F 0.5", ["-F 0.5", "-r"], ["-f 0.1 -wo", "-f 0.1 -r -wo", "$NF / ($10 - $9) >= 0.5 {", "{"]),
-    ("-f 0.1 -F 0.5", ["-f 0.1 -F 0.5", "-f 0.1 -F 0.5 -e"],
-     ["-f 0.1 -wo", "-wo", "$NF / ($10 - $9) >= 0.5 {", "$NF / ($3 - $2) >= 0.1 || $NF / ($10 - $9) >= 0.5 {"]),
-    ("b.bed c.bed -c", ["-c", "-u"], ["-c", "-u"]),
-    ("b.bed c.bed -c", ["-c", "-v"], ["-c", "-v"]),
-    ("-names b c -wa -wb", ["-names b c", "-filenames"], ["name=$name", "name=$name.bed"]),
-    ("-names b c -wa -wb", ["-names b c ", ""], ["name=$name", "name=$(tr bc 12 <<< $name)"]),
-    ("-c 4 -o collapse", ["-c 4", "-c 5"], ["NF < 7", "NF < 8", "$7", "$8"]),
-    ("-o count,sum", ["-o count", "-delim ';' -prec 6 -o count"], ['","', '";"', "%.10g", "%.6g"]),
-    ("-bg -scale", ["-bg", "-bga"], ["-bg", "-bga"]),
-    ("genomecov -i a.bed -g genome.txt", ["genome.txt", "genome.txt -max 3"], ["max=0", "max=3"]),
-    ("-split -u", ["-u", "-v"], ["$4 in hit'", "!($4 in hit)'"]),
-    ("-abam reads.bam -b b.bed | samtools", ["-abam", "-v -abam"], ["++n in hit", "!(++n in hit)"]),
-    ("-abam reads.bam -b b.bed | samtools", ["-abam", "-ubam -abam"], ["samtools view -b", "samtools view -u"]),
-    ("bamtobed -i reads.bam", ["-i", "-split -i"], ["dunekettle-bedtools bamtobed", "dunekettle-bedtools bamtobed -split"]),
-    ("bamtobed -i reads.bam", ["-i", "-cigar -i"], ["dunekettle-bedtools bamtobed", "dunekettle-bedtools bamtobed -cigar"]),
-    ("bamtobed -ed -i", ["-ed", "-tag AS"], ["tag=NM", "tag=AS"]),
-    ("bamtobed -bed12", ["-bed12", "-bed12 -color 1,2,3"], ["255,0,0", "1,2,3"]),
-    ("-a genes.gff -b b.bed -u", ["-u", "-v"], ["-u |", "-v |"]),
-    ("-a genes.gff -b b.bed -u", ["-u", "-wa"], ["-u |", "-wa |"]),
-    ("-a calls.vcf -b b.bed -u", ["-u", "-v"], ["-u |", "-v |"]),
-]
-# Options that change no output, and are left out.
-LEFT_OUT = [
-    ("merge -bed -iobuf 1M -i a.bed", "merge -i a.bed"),
-    ("intersect -sorted -nonamecheck -bed -iobuf 1M -a a.bed -b b.bed", "intersect -a a.bed -b b.bed"),
-    ("subtract -sorted -nonamecheck -bed -iobuf 1M -a a.bed -b b.bed", "subtract -a a.bed -b b.bed"),
-]
+BLOCK = re.compile(r"((?:^    .*\n)+)", re.MULTILINE)
+# The first line of the block that compares both programs.
+BOTH = "bedtools intersect "
+# The table of RECIPES.md, between two marks.
+MARKS = re.compile(r"(<!-- docs/recipes.py --write: table -->\n).*?(<!-- it ends here -->)", re.DOTALL)
+# Costs are measured over this many records, on chromosomes longer by as much; the least of so many runs counts.
+RECORDS, RUNS = 100_000, 3
 
 
 def blocks_of(dice, length):
@@ -130,7 +73,7 @@ def lengths(kind):
     return {name: LENGTHS[name] for name in names}
 
 
-def records(dice, kind, name, count=40):
+def records(dice, kind, name, count):
     """The lines of a file of a kind: sorted records, some of them twice, on each chromosome."""
     lines = []
     for chrom, length in lengths(kind).items():
@@ -149,7 +92,7 @@ def text_of(kind, lines):
     return header + "".join(line + end for line in lines)
 
 
-def alignments(dice, kind, count=60):
+def alignments(dice, kind, count):
     """A SAM text, sorted: reads with introns, deletions, clips and tags, and some that aren't mapped."""
     cigars = ["30M", "10M12N8M", "12M5D9M", "4S20M", "9M2I9M", "6M3D6M20N7M1D5M", "10=2X8=", "5H10M"]
     lines = [f"@SQ\tSN:{chrom}\tLN:{length}" for chrom, length in lengths(kind).items()]
@@ -192,11 +135,11 @@ def sequences(dice):
     return text
 
 
-def fill(folder, kind):
-    """Writes the files of a kind."""
+def fill(folder, kind, count=40):
+    """Writes the files of a kind, with so many records on each chromosome."""
     dice = random.Random(kind)
     for name in "abc":
-        lines = records(dice, kind, name)
+        lines = records(dice, kind, name, count)
         Path(folder, f"{name}.bed").write_text(text_of(kind, lines), encoding="utf-8")
         if name == "a":
             first = [line for line in lines if line.startswith("chr1\t")]
@@ -206,7 +149,7 @@ def fill(folder, kind):
         Path(folder, f"{name}.bed.gz").write_bytes(gzip.compress(Path(folder, f"{name}.bed").read_bytes()))
     Path(folder, "genome.txt").write_text("".join(f"{name}\t{size}\n" for name, size in lengths(kind).items()), encoding="utf-8")
     Path(folder, "sequences.fa").write_text(sequences(dice), encoding="utf-8")
-    Path(folder, "reads.sam").write_text(alignments(dice, kind), encoding="utf-8")
+    Path(folder, "reads.sam").write_text(alignments(dice, kind, count * 3 // 2), encoding="utf-8")
     if shutil.which("samtools"):
         for name, only in (("reads.bam", []), ("mapped.bam", ["-F", "4"])):
             subprocess.run(["samtools", "view", "-b", *only, "-o", name, "reads.sam"], cwd=folder, check=True)
@@ -220,29 +163,25 @@ def wrote(script, folder, path):
     return done.stdout, done.stderr.decode(), done.returncode
 
 
-def blocks(page):
-    """The indented blocks of the page, each as its lines and the kinds over which it isn't the same."""
-    for block, differ in BLOCK.findall(page):
-        yield [line[4:] for line in block.splitlines()], tuple(kind.strip() for kind in differ.split(",")) if differ else ()
+def table(name):
+    """The rows of a file of this folder, each as the texts of its columns."""
+    lines = (HERE / name).read_text(encoding="utf-8").splitlines()
+    return [line.split("\t") for line in lines[1:]]
 
 
-def recipes(page):
-    """The recipes of the page: the command line, the script, and the kinds over which they differ."""
-    for lines, differ in blocks(page):
-        if lines[0].startswith("# bedtools "):
-            comment = [line[2:].rstrip("\\").strip() for line in lines if line.startswith("# ")]
-            yield " ".join(comment), lines[len(comment):], differ
+def cases():
+    """The cases of recipes.tsv: the line of bedtools, that of ours, and the kinds over which they differ."""
+    for theirs, ours, differ in table("recipes.tsv"):
+        yield f"bedtools {theirs}", ours, tuple(kind.strip() for kind in differ.split(",")) if differ else ()
 
 
-def functions(page):
-    """The functions of the page, which its scripts call."""
-    return "\n".join("\n".join(lines) for lines, _ in blocks(page) if FUNCTION.match(lines[0]))
-
-
-def too_large(page):
-    """The first line of each block of the page that has too many lines or columns."""
-    return [lines[0] for lines, _ in blocks(page)
-            if sum(not line.startswith("# ") for line in lines) > LINES or max(map(len, lines)) > COLUMNS]
+def untried():
+    """The scripts without a case, or without a row in needs.tsv, and rows without a script."""
+    called = " ".join(ours for _, ours, _ in cases())
+    named = {row[0] for row in table("needs.tsv")}
+    there = {path.name for path in SCRIPTS.glob("*.sh")} - {"functions.sh"}
+    yield from (f"{name}: no case in recipes.tsv" for name in sorted(there) if name not in called)
+    yield from (f"{name}: a script without a row of needs.tsv, or a row without a script" for name in sorted(named ^ there))
 
 
 def short(text):
@@ -256,7 +195,7 @@ def differs(command, script, kind, wanted_same, folders):
     theirs, _, status = wrote(command, folders[kind], folders["theirs"])
     if status:
         return None
-    ours, error, status = wrote(f"{folders['functions']}\n{script}", folders[kind], folders["ours"])
+    ours, error, status = wrote(script, folders[kind], folders["ours"])
     is_same = (ours, status) == (theirs, 0)
     if is_same != wanted_same:
         print(f"{command}, over {kind}: {'differs' if wanted_same else 'is the same'}\n  bedtools:\n{short(theirs)}"
@@ -274,38 +213,10 @@ def tried(command, script, differ, folders):
     return sum(answer or 0 for answer in answers)
 
 
-def exchanged(text, words):
-    """A text with each first word exchanged for the second."""
-    for old, new in zip(words[::2], words[1::2]):
-        if old not in text:
-            raise ValueError(f"no {old} in {text}")
-        text = text.replace(old, new)
-    return text
-
-
-def variants(page_recipes):
-    """The recipes with words exchanged."""
-    for words, in_command, in_script in VARIANTS:
-        command, lines, differ = next(recipe for recipe in page_recipes if words in recipe[0])
-        yield exchanged(command, in_command), exchanged("\n".join(lines), in_script).split("\n"), differ
-
-
-def all_recipes():
-    """Each recipe of the page, its variants, and each command line of SAME, as command line, script and kinds that differ."""
-    page_recipes = list(recipes(PAGE.read_text(encoding="utf-8")))
-    yield from page_recipes
-    yield from variants(page_recipes)
-    for theirs, ours in LEFT_OUT:
-        yield f"bedtools {theirs}", [f"dunekettle-bedtools {ours}"], ()
-    for words in SAME:
-        yield f"bedtools {words}", [f"dunekettle-bedtools {words}"], ()
-    for words in SAME_WITH_STRANDS:
-        yield f"bedtools {words}", [f"dunekettle-bedtools {words}"], ("no sign", "three columns")
-
-
-def comparisons_differ(page, folders):
+def comparisons_differ(folders):
     """Runs the block that compares both programs over each kind, and returns how many end with another status than 0."""
-    scripts = ["\n".join(lines) for lines, _ in blocks(page) if lines[0].startswith(BOTH)]
+    found = [block.replace("    ", "", 1).replace("\n    ", "\n") for block in BLOCK.findall(MIGRATING.read_text(encoding="utf-8"))]
+    scripts = [block for block in found if block.startswith(BOTH)]
     path = f"{folders['theirs']}:{folders['ours']}"
     statuses = [wrote(script, folders[kind], path)[2] for script in scripts for kind in KINDS]
     if not statuses or any(statuses):
@@ -329,29 +240,103 @@ def our_folder(folder):
     Path(folder).mkdir()
     Path(folder, "dunekettle-bedtools").symlink_to(HERE.parent / "bin" / "bedtools")
     Path(folder, "bedtools").symlink_to("/bin/false")
+    for script in SCRIPTS.glob("*.sh"):
+        shutil.copy(script, folder)
     return folder
 
 
+def took(script, folder, path):
+    """The least processor time of some runs of a script, with its children."""
+    least = None
+    for _ in range(RUNS):
+        before = resource.getrusage(resource.RUSAGE_CHILDREN)
+        subprocess.run(["bash", "-o", "pipefail", "-c", script], cwd=folder, stdin=subprocess.DEVNULL, stdout=subprocess.DEVNULL, check=True,
+                       env={**os.environ, "PATH": f"{path}:{os.environ['PATH']}"})
+        after = resource.getrusage(resource.RUSAGE_CHILDREN)
+        seconds = after.ru_utime + after.ru_stime - before.ru_utime - before.ru_stime
+        least = seconds if least is None else min(least, seconds)
+    return least
+
+
+def measure(folders, records):
+    """Measures each script of needs.tsv by its case, into costs.tsv."""
+    times = records // (40 * len(LENGTHS))
+    for name in LENGTHS:
+        LENGTHS[name] *= times
+    folder = f"{folders['theirs']}.cost"
+    Path(folder).mkdir()
+    fill(folder, "six columns", 40 * times)
+    twelve = f"{folders['theirs']}.cost12"
+    Path(twelve).mkdir()
+    fill(twelve, "twelve columns", 40 * times)
+    ours_of = {theirs.replace("bedtools ", "", 1): ours for theirs, ours, _ in cases() if ".sh" in ours}
+    lines = []
+    for script, _, _, case in table("needs.tsv"):
+        if case:
+            place = twelve if "-split" in case and "bam" not in case else folder
+            theirs, ours = took(f"bedtools {case}", place, folders["theirs"]), took(ours_of[case], place, folders["ours"])
+            lines.append(f"{script}\t{theirs:.2f}\t{ours:.2f}\n")
+            print(lines[-1], end="", flush=True)
+    commit = subprocess.run(["git", "rev-parse", "--short", "HEAD"], cwd=TOP, stdout=subprocess.PIPE, text=True, check=False).stdout.strip()
+    about = f"script\tbedtools\tscript, over {records:,} records; commit {commit}, {time.strftime('%Y-%m-%d')}\n"
+    (HERE / "costs.tsv").write_text(about + "".join(lines), encoding="utf-8")
+
+
+def made():
+    """The table of RECIPES.md: each script, what it is for, and the seconds of bedtools and of the script."""
+    costs = {script: (float(theirs), float(ours)) for script, theirs, ours in table("costs.tsv")}
+    lines = ["| instead of | script | seconds of bedtools, of the script | what to know |\n|---|---|---|---|\n"]
+    for script, need, limits, _ in table("needs.tsv"):
+        pair = costs.get(script)
+        cost = f"{pair[0]:.2f}, {pair[1]:.2f}{', **slower**' if pair[1] > pair[0] else ''}" if pair else ""
+        lines.append(f"| {need} | [{script}](../examples/recipes/{script}) | {cost} | {limits} |\n".replace("|  |", "| |").replace("|  |", "| |"))
+    about = (HERE / "costs.tsv").read_text(encoding="utf-8").split("\n", 1)[0].split("script, over ")[1]
+    slower = sum(ours > theirs for theirs, ours in costs.values())
+    return "".join(lines) + f"\nProcessor time of {len(costs)} scripts, with `samtools`, `awk` and `sort` in them, over {about}, the least of {RUNS} runs. {slower} are slower.\n"
+
+
+def table_differs(is_written):
+    """Whether RECIPES.md has another table than these files say."""
+    text = PAGE.read_text(encoding="utf-8")
+    renewed = MARKS.sub(lambda found: found[1] + made() + found[2], text)
+    if renewed != text and is_written:
+        PAGE.write_text(renewed, encoding="utf-8")
+    if renewed == text or is_written:
+        return False
+    print("RECIPES.md: its table is another: docs/recipes.py --write")
+    return True
+
+
+def run_cases(folders, words):
+    """Runs the cases, and returns how many there are and how many of them differ."""
+    for kind in (*KINDS, NATURAL):
+        folders[kind] = f"{folders['theirs']}.{kind}"
+        Path(folders[kind]).mkdir()
+        fill(folders[kind], kind)
+    chosen = [case for case in cases() if all(word in case[0] for word in words)]
+    wrong = sum(tried(*case, folders) for case in chosen)
+    return len(chosen), wrong + (0 if words else comparisons_differ(folders))
+
+
 def main():
-    page = PAGE.read_text(encoding="utf-8")
+    words = sys.argv[1:]
+    wrong = list(untried())
+    for line in wrong:
+        print(line)
+    if words[:1] == ["--write"]:
+        return 1 if table_differs(True) or wrong else 0
+    differ = table_differs(False)
     with tempfile.TemporaryDirectory() as top:
-        folders = {"theirs": their_folder(f"{top}/theirs"), "ours": our_folder(f"{top}/ours"), "functions": functions(page)}
+        folders = {"theirs": their_folder(f"{top}/theirs"), "ours": our_folder(f"{top}/ours")}
         if not folders["theirs"] or not shutil.which("samtools"):
             print("no bedtools 2.30.0 or no samtools on PATH: no recipe was tried")
+            return 1 if differ or wrong else 0
+        if words[:1] == ["--cost"]:
+            measure(folders, int(words[1]) if words[1:] else RECORDS)
             return 0
-        for kind in (*KINDS, NATURAL):
-            folders[kind] = f"{top}/{kind}"
-            Path(folders[kind]).mkdir()
-            fill(folders[kind], kind)
-        chosen = [recipe for recipe in all_recipes() if all(word in recipe[0] for word in sys.argv[1:])]
-        wrong = sum(tried(command, "\n".join(lines), differ, folders) for command, lines, differ in chosen)
-        if not sys.argv[1:]:
-            wrong += comparisons_differ(page, folders)
-    for first in too_large(page):
-        wrong += 1
-        print(f"{first}: more than {LINES} lines, or wider than {COLUMNS} columns")
-    print(f"{len(chosen)} recipes and command lines tried over {len(KINDS)} kinds of files, {wrong} of them differ")
-    return 1 if wrong else 0
+        count, unlike = run_cases(folders, words)
+    print(f"{count} recipes and command lines tried over {len(KINDS)} kinds of files, {unlike} of them differ")
+    return 1 if unlike or differ or wrong else 0
 
 
 if __name__ == "__main__":

@@ -1,0 +1,80 @@
+# shellcheck shell=bash
+# Functions of the recipes, which each script reads. BEDTOOLS names the program, if it isn't dunekettle-bedtools.
+# shellcheck disable=SC2034,SC2154 # options are variables that only some scripts read
+set -euo pipefail
+export LC_ALL=C
+unset "${!opt_@}"
+TAB=$(printf '\t')
+
+bt() { "${BEDTOOLS:-dunekettle-bedtools}" "$@"; }
+fail() { echo "${0##*/}: $1" >&2; exit 2; }
+
+# A folder of this run, which is removed at its end.
+work() { folder=$(mktemp -d) && trap 'rm -rf "$folder"' EXIT; }
+
+# read_words KNOWN WORD..: the options of a command line, as variables opt_X; those in KNOWN that end with : have a value.
+# `files` has the files of -b.
+read_words() {
+    local known=" $1 " word
+    shift
+    files=()
+    while [ $# -gt 0 ]; do
+        word=$1
+        shift
+        case $known in
+        *" $word: "*) [ $# -gt 0 ] || fail "$word needs a value"
+            declare -g "opt_${word#-}=$1"
+            [ "$word" != -b ] || files+=("$1")
+            shift ;;
+        *" $word "*) declare -g "opt_${word#-}=1" ;;
+        -*) fail "unknown option: $word" ;;
+        *) [ ${#files[@]} -gt 0 ] || fail "unknown word: $word"
+            files+=("$word") ;;
+        esac
+    done
+}
+
+# records FILE: its records, without header lines, blank lines and CR
+records() {
+    awk -F'\t' '{ sub(/\r$/, "") }
+        NF && !/^(#|(track|browser)([ \t]|$))/' "$1"
+}
+
+# carry FILE: each record as six columns, with its number as the name, and its line as a seventh.
+# lines: the lines again
+carry() {
+    awk -F'\t' -v OFS='\t' '{ sub(/\r$/, ""); line = $0
+        gsub(/\t/, "\001", line) }
+        NF && !/^(#|(track|browser)([ \t]|$))/ {
+            print $1, $2, $3, NR, 0, $6, line }' "$1"
+}
+lines() { cut -f 7- | tr '\001' '\t'; }
+
+# by_genome FILE: standard input in the order of a genome file
+by_genome() {
+    awk -F'\t' 'NR == FNR { rank[$1] = NR; next }
+        { print rank[$1] + 0 "\t" $0 }' "$1" - |
+        sort -s -t "$TAB" -k1,1n -k3,3n | cut -f 2-
+}
+
+# swap_strands FILE: the records that have a strand, with the other one
+swap_strands() {
+    awk -F'\t' -v OFS='\t' '{ sub(/\r$/, "") }
+        $6 ~ /^[+-]$/ { $6 = $6 == "+" ? "-" : "+"; print }' "$1"
+}
+
+# Numbers of 32 bits, as bedtools computes them.
+single='function single(x,  c) { c = x * 536870913; return c - (c - x) }
+    function share(x, y) { return single(single(x) / single(y)) }'
+
+# bam_genome FILE: the chromosomes of a BAM file as a genome file
+bam_genome() {
+    samtools view -H "$1" | awk -F'\t' '/^@SQ/ {
+        for (i = 2; i <= NF; i++) {
+            if ($i ~ /^SN:/) name = substr($i, 4)
+            if ($i ~ /^LN:/) size = substr($i, 4) }
+        print name FS size }'
+}
+exchange_d_n() { awk -F'\t' -v OFS='\t' '{ gsub(/N/, "n", $6)
+    gsub(/D/, "N", $6); gsub(/n/, "D", $6); print }'; }
+n_for_d() { awk -F'\t' -v OFS='\t' '{ gsub(/D/, "N", $6); print }'; }

@@ -1,0 +1,11 @@
+#!/bin/bash
+# genomecov-split.sh -i FILE -g GENOME [-bga] [-strand S]: counts the blocks of BED12 alone.
+# shellcheck source=functions.sh source-path=SCRIPTDIR disable=SC2154
+. "${BASH_SOURCE%/*}/functions.sh"
+read_words '-i: -g: -strand: -bg -bga' "$@"
+records "$opt_i" | awk -F'\t' -v OFS='\t' '
+    NF < 12 { print $1, $2, $3, ".", 0, $6; next }
+    { n = split($11, size, ","); split($12, from, ",")
+      for (i = 1; i <= n; i++) if (size[i]) print $1, $2 + from[i],
+          $2 + from[i] + size[i], ".", 0, $6 }' | by_genome "$opt_g" |
+    bt genomecov -g "$opt_g" "-bg${opt_bga:+a}" ${opt_strand:+-strand "$opt_strand"}

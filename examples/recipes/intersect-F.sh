@@ -1,0 +1,42 @@
+#!/bin/bash
+# intersect-F.sh -a A -b B -F F [-f F] [-e] [-s] [-wo | -wa [-wb] | -u | -c | -v]: for -F, alone or beside -f, and for -e.
+# awk compares about sixteen digits, bedtools seven.
+# shellcheck source=functions.sh source-path=SCRIPTDIR disable=SC2154
+. "${BASH_SOURCE%/*}/functions.sh"
+read_words '-a: -b: -f: -F: -e -s -sorted -wo -wa -wb -u -c -v' "$@"
+[ -n "${opt_F-}" ] || fail '-F is missing'
+work
+rule=(${opt_s:+-s})
+[ -n "${opt_e-}" ] || rule+=(${opt_f:+-f "$opt_f"})
+shape=parts
+for name in wo wa wb u c v; do
+    option=opt_$name
+    [ -z "${!option-}" ] || shape=$name
+done
+# Of the pairs on standard input those that hit.
+enough() {
+    awk -F'\t' -v first="${opt_e:+${opt_f:-0}}" -v second="$opt_F" '
+        $NF / ($10 - $9) >= second || (first != "" && $NF / ($3 - $2) >= first)'
+}
+case $shape in
+u | c | v)
+    records "$opt_a" > "$folder/a.bed"
+    awk -F'\t' -v OFS='\t' '{ print $1, $2, $3, NR, 0, $6, 0 }' "$folder/a.bed" |
+        bt intersect -a - -b "$opt_b" "${rule[@]}" -wo | enough | cut -f 4 > "$folder/hits"
+    awk -v shape=$shape -v numbers="$folder/hits" '
+        BEGIN { while ((getline number < numbers) > 0) hits[number]++ }
+        shape == "c" { print $0 "\t" hits[NR] + 0; next }
+        (NR in hits) == (shape == "u")' "$folder/a.bed" ;;
+*)
+    carry "$opt_a" | bt intersect -a - -b "$opt_b" "${rule[@]}" -wo | enough |
+        case $shape in
+        wo) lines ;;
+        wa) cut -f 1-7 | lines ;;
+        wb) lines | sed 's/\t[^\t]*$//' ;;
+        parts) awk -F'\t' -v OFS='\t' '{
+            split($7, was, "\001")
+            rest = substr($7, length(was[1] was[2] was[3]) + 3)
+            print $1, ($2 > $9 ? $2 : $9), ($3 < $10 ? $3 : $10) rest }' |
+            tr '\001' '\t' ;;
+        esac ;;
+esac

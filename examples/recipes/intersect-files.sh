@@ -1,0 +1,29 @@
+#!/bin/bash
+# intersect-files.sh -a A -b B1 B2 .. [-u | -v | -c | -C | -wa -wb] [-names N1 N2 .. -- | -filenames] [-f F] [-s]: for
+# several files of -b. Without names each line has the file's number, as in bedtools. End the list of names by --.
+# shellcheck source=functions.sh source-path=SCRIPTDIR disable=SC2154
+. "${BASH_SOURCE%/*}/functions.sh"
+names=() words=() is_name=''
+for word; do
+    case $word in
+    -names) is_name=1 ;;
+    -*) is_name=''; [ "$word" = -- ] || words+=("$word") ;;
+    *) if [ -n "$is_name" ]; then names+=("$word"); else words+=("$word"); fi ;;
+    esac
+done
+read_words '-a: -b: -f: -s -sorted -u -v -c -C -wa -wb -filenames' "${words[@]}"
+rule=(${opt_f:+-f "$opt_f"} ${opt_s:+-s})
+for name in u v c; do
+    option=opt_$name
+    [ -z "${!option-}" ] || { sort -k1,1 -k2,2n "${files[@]}" | bt intersect -a "$opt_a" -b - "-$name" "${rule[@]}"; exit; }
+done
+shape=(-wa -wb)
+[ -z "${opt_C-}" ] || shape=(-c)
+number=0
+for file in "${files[@]}"; do
+    name=${names[number]:-$((number + 1))}
+    [ -z "${opt_filenames-}" ] || name=$file
+    number=$((number + 1))
+    carry "$opt_a" | bt intersect -a - -b "$file" "${shape[@]}" "${rule[@]}" |
+        awk -F'\t' -v OFS='\t' -v name="$name" '{ $7 = $7 "\001" name; print }'
+done | sort -s -t "$TAB" -k 4,4n | lines

@@ -1,0 +1,12 @@
+#!/bin/bash
+# intersect-opposite.sh -a A -b B [-f F]: for intersect -S -wo, which writes the lines of B.
+# shellcheck source=functions.sh source-path=SCRIPTDIR disable=SC2154
+. "${BASH_SOURCE%/*}/functions.sh"
+read_words '-a: -b: -f:' "$@"
+carry "$opt_b" | swap_strands - |
+    bt intersect -s -wa -wb ${opt_f:+-f "$opt_f"} -a "$opt_a" -b - |
+    awk -F'\t' -v OFS='\t' '{
+        low = $2 > $(NF - 5) ? $2 : $(NF - 5)
+        high = $3 < $(NF - 4) ? $3 : $(NF - 4)
+        line = $NF; NF -= 7; print $0, line, high - low }' |
+    tr '\001' '\t'

@@ -1,0 +1,47 @@
+#!/bin/bash
+# merge-c.sh -i FILE -c N,N.. -o OPERATION,.. [-d N] [-delim TEXT] [-prec N]: columns of merged features. Operations: count,
+# sum, mean, min, max, collapse, distinct, count_distinct; distinct values come in the order of their bytes.
+# shellcheck source=functions.sh source-path=SCRIPTDIR disable=SC2154
+. "${BASH_SOURCE%/*}/functions.sh"
+read_words '-i: -c: -o: -d: -delim: -prec:' "$@"
+bt merge -i "$opt_i" ${opt_d:+-d "$opt_d"} | bt intersect -a - -b "$opt_i" -wa -wb |
+    awk -F'\t' -v columns="$opt_c" -v operations="$opt_o" -v delim="${opt_delim:-,}" -v prec="${opt_prec:-10}" '
+    BEGIN { wanted = split(columns, column, ","); given = split(operations, operation, ",")
+        for (i = given + 1; i <= wanted; i++) operation[i] = operation[given]
+        for (i = wanted + 1; i <= given; i++) column[i] = column[wanted]
+        if (given > wanted) wanted = given
+        for (i = 1; i <= wanted; i++) {
+            if (operation[i] !~ /^(count|sum|mean|min|max|collapse|distinct|count_distinct)$/) {
+                print "merge-c.sh: not supported: " operation[i] > "/dev/stderr"; failed = 1; exit 2 }
+            is_number[i] = operation[i] ~ /^(sum|mean|min|max)$/ } }
+    function number(x) { return sprintf("%." prec "g", x) }
+    function value(i) {
+        if (operation[i] == "count") return n
+        if (operation[i] == "sum") return number(sum[i])
+        if (operation[i] == "mean") return number(sum[i] / n)
+        if (operation[i] == "min") return number(least[i])
+        if (operation[i] == "max") return number(most[i])
+        if (operation[i] == "count_distinct") return kinds[i]
+        return text[i] }
+    # A value that is new is put where its bytes belong.
+    function put(i, x,  at, parts, count, made) {
+        if ((i, x) in seen) return
+        seen[i, x]; kinds[i]++
+        count = kinds[i] > 1 ? split(text[i], parts, delim) : 0
+        for (at = 1; at <= count && parts[at] "" < x ""; at++) made = made (at > 1 ? delim : "") parts[at]
+        made = made (made != "" || at > 1 ? delim : "") x
+        for (; at <= count; at++) made = made delim parts[at]
+        text[i] = made }
+    function line(  i, out) { if (!n) return
+        out = run; for (i = 1; i <= wanted; i++) out = out "\t" value(i); print out }
+    function begin(  i) { n = 0; split("", seen); for (i = 1; i <= wanted; i++) { sum[i] = kinds[i] = 0; text[i] = "" } }
+    $1 FS $2 FS $3 != run { line(); run = $1 FS $2 FS $3; begin() }
+    { n++; for (i = 1; i <= wanted; i++) {
+        if (column[i] + 3 > NF) { print "merge-c.sh: no column " column[i] ": " $0 > "/dev/stderr"; failed = 1; exit 1 }
+        x = $(column[i] + 3)
+        if (is_number[i]) {
+            if (x + 0 != x) { print "merge-c.sh: not a number: " x > "/dev/stderr"; failed = 1; exit 1 }
+            sum[i] += x; if (n == 1 || x + 0 < least[i]) least[i] = x + 0; if (n == 1 || x + 0 > most[i]) most[i] = x + 0 }
+        else if (operation[i] ~ /distinct/) put(i, x)
+        else if (operation[i] == "collapse") text[i] = text[i] (n > 1 ? delim : "") x } }
+    END { if (!failed) line() }'
