@@ -13,11 +13,12 @@ A page whose examples call `dunekettle-bedtools` has the program under that name
 the other pages `bedtools` is the program. The first page of a crate is the comment at the head
 of its src/lib.rt, with the first function of src/example.rt, which is its test or is run by it; or the comment of
 its src/main.rt, with a shell example that is run in the crate's folder. The code of LIBRARY.md is that of the file
-named above it. Those of DROPIN.md need an installation: docs/front_hostile.py runs them. Ends with 1 where one differs.
+named above it. Ends with 1 where one differs.
 """
 
 import os
 import re
+import shutil
 import subprocess
 import sys
 import tempfile
@@ -26,8 +27,8 @@ from pathlib import Path
 TOP = Path(__file__).resolve().parent.parent
 COMMAND = re.compile(r"( {4,})\$ (.*)")
 CONTINUED = "> "
-# The name under which the program is installed, and that of the original.
-INSTALLED, ORIGINAL = "dunekettle-bedtools", "bedtools"
+# The name under which the program is installed, that of the original, and that of the front.
+INSTALLED, ORIGINAL, FRONT = "dunekettle-bedtools", "bedtools", "dunekettle"
 # A crate of laws alone has no call to show.
 LAWS = TOP / "crates" / "bt_laws" / "src" / "lib.rt"
 # The example on a crate's first page, and the first function of a file.
@@ -56,12 +57,17 @@ def examples_of(text):
 
 
 def names_for(examples, folder):
-    """A folder of programs for examples: the program under the name that they call it by, and no original beside it."""
-    is_installed = any(INSTALLED in command for _, command, _ in examples)
-    os.symlink(TOP / "bin" / "bedtools", f"{folder}/{INSTALLED if is_installed else ORIGINAL}")
+    """A folder of programs for examples: the program under the name that they call it by, and no original beside it. Where
+    it is the installed name, `dunekettle` is there too, as in an installation."""
+    is_installed = any(INSTALLED in command or FRONT in command.split() for _, command, _ in examples)
+    names = Path(folder, "bin")
+    names.mkdir()
+    (names / (INSTALLED if is_installed else ORIGINAL)).symlink_to(TOP / "bin" / "bedtools")
     if is_installed:
-        os.symlink("/bin/false", f"{folder}/{ORIGINAL}")
-    return folder
+        (names / ORIGINAL).symlink_to("/bin/false")
+        shutil.copy(TOP / "front" / FRONT, names)
+        shutil.copytree(TOP / "front", Path(folder, "lib", FRONT))
+    return names
 
 
 def wrote(command, folder, names):
@@ -77,9 +83,9 @@ def differ(page, text, folder):
     examples = examples_of(text)
     wrong = 0
     with tempfile.TemporaryDirectory() as names:
-        names_for(examples, names)
+        programs = names_for(examples, names)
         for number, command, wanted in examples:
-            found = wrote(command, folder, names).splitlines()
+            found = wrote(command, folder, programs).splitlines()
             if found != wanted:
                 wrong += 1
                 print(f"{page.relative_to(TOP)}:{number}: {command}", *(f"  {line}" for line in found), sep="\n")
@@ -126,9 +132,9 @@ def check_code():
 
 
 def every_page():
-    """The pages and the files of cases, without the one whose examples need an installation."""
+    """The pages and the files of cases."""
     docs = TOP / "docs"
-    return [TOP / "README.md", *sorted(set(docs.glob("*.md")) - {docs / "DROPIN.md"}), *sorted(docs.glob("cases/*.txt"))]
+    return [TOP / "README.md", *sorted(docs.glob("*.md")), *sorted(docs.glob("cases/*.txt"))]
 
 
 def main():

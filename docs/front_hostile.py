@@ -463,13 +463,13 @@ def try_awks(place, folder, count):
 
 
 def try_page(place, folder, count):
-    """The examples of DROPIN.md, in a folder of their own, with the front and the drop-in on PATH."""
+    """The examples of cases/front.txt, in a folder of their own, with the front and the drop-in on PATH."""
     made = folder.parent / "page"
     made.mkdir()
     env = environment(drop_in(place), place / "bin")
-    for number, command, wanted in examples_of((TOP / "docs" / "DROPIN.md").read_text(encoding="utf-8")):
+    for number, command, wanted in examples_of((TOP / "docs" / "cases" / "front.txt").read_text(encoding="utf-8")):
         output, said, _ = shell(command, made, env)
-        count.expect(f"DROPIN.md:{number}: {command}", wanted, (output.decode() + said).splitlines())
+        count.expect(f"front.txt:{number}: {command}", wanted, (output.decode() + said).splitlines())
 
 
 def show_costs(place, folder):

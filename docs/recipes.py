@@ -23,6 +23,7 @@ import shutil
 import subprocess
 import sys
 import tempfile
+import textwrap
 import time
 from pathlib import Path
 
@@ -215,7 +216,7 @@ def tried(command, script, differ, folders):
 
 def comparisons_differ(folders):
     """Runs the block that compares both programs over each kind, and returns how many end with another status than 0."""
-    found = [block.replace("    ", "", 1).replace("\n    ", "\n") for block in BLOCK.findall(MIGRATING.read_text(encoding="utf-8"))]
+    found = [textwrap.dedent(block) for block in BLOCK.findall(MIGRATING.read_text(encoding="utf-8"))]
     scripts = [block for block in found if block.startswith(BOTH)]
     path = f"{folders['theirs']}:{folders['ours']}"
     statuses = [wrote(script, folders[kind], path)[2] for script in scripts for kind in KINDS]
