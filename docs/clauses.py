@@ -1,0 +1,219 @@
+#!/usr/bin/env python3
+"""Writes the index of the contracts, CLAUSES.md, from the sources: each public call, its clauses, the words of specs/ that
+they name, and what it can return instead of success.
+
+    docs/clauses.py            fails if the page isn't that of the sources
+    docs/clauses.py --write    writes it anew
+
+A call is public if src/lib.rt of its crate exports it or its type; of bt_laws all laws are, of the program what has a
+contract. tests.tsv names for each call that can run out of memory a test with ample memory: there has to be such a test, and
+such a row. Ends with 1 if something differs.
+"""
+
+import re
+import sys
+from pathlib import Path
+
+TOP = Path(__file__).resolve().parent.parent
+PAGE = TOP / "docs" / "CLAUSES.md"
+TESTS = TOP / "docs" / "tests.tsv"
+USED = re.compile(r"^pub use ([\w:]+?)(?:::\{([^}]*)\})?;", re.MULTILINE | re.DOTALL)
+OWNER = re.compile(r"^(?:pub(?:\([^)]*\))? )?(?:unsafe )?(impl|trait)\b(?:<[^{]*?>)? *(.*?)(?: where .*)?\{?$")
+CALL = re.compile(r"^( *)(pub(?:\([^)]*\))? )?(?:const )?fn (\w+)")
+CLAUSE = re.compile(r"\bensures\*? (\w+ )?\{")
+PART = re.compile(r"\s*(?:ensures|requires|measure|decreases)\b\*?[^{;]*\{")
+IMPORT = re.compile(r"^\s*ghost use Rattle\.(\w+)\.specs\.([\w.]+)\.\{([^}]*)\}", re.MULTILINE)
+# What a call returns that may have run out of memory.
+MEMORY = {"Fault", "AllocError", "Refusal"}
+# What tests.tsv says of a call that only writes, or passes a fault on.
+NEVER = "takes none"
+
+
+def crates():
+    """The crates in their order."""
+    return [line.partition(":")[0].strip() for line in (TOP / "crates.txt").read_text(encoding="utf-8").splitlines() if ":" in line]
+
+
+def exported(crate):
+    """The names that a library exports."""
+    text = (TOP / "crates" / crate / "src" / "lib.rt").read_text(encoding="utf-8")
+    names = set()
+    for path, several in USED.findall(text):
+        names.update(re.findall(r"\w+", several) if several else [path.split("::")[-1]])
+    return names
+
+
+def closing(text, at):
+    """Where the brace that opens at a place is closed."""
+    depth = 0
+    for place in range(at, len(text)):
+        depth += {"{": 1, "}": -1}.get(text[place], 0)
+        if depth == 0:
+            return place
+    return len(text)
+
+
+def head_of(text, at):
+    """Where the head of a function ends: at its body, or at the semicolon of one without."""
+    within = 0
+    while at < len(text):
+        clause = PART.match(text, at)
+        within += {"(": 1, "[": 1, ")": -1, "]": -1}.get(text[at], 0)
+        if clause:
+            at = closing(text, clause.end() - 1) + 1
+        elif text[at] in "{;" and not within:
+            return at
+        else:
+            at += 1
+    return at
+
+
+def calls_of(file):
+    """The calls of a file: the type or trait, the name, the head, and whether each is public or of a trait."""
+    text = file.read_text(encoding="utf-8")
+    owner, kind, place = "", "", 0
+    for line in text.split("\n"):
+        found = OWNER.match(line)
+        if found and not line.startswith((" ", "//")):
+            kind = found[1] if " for " not in found[2] else "impl of a trait"
+            owner = re.match(r"\w+", found[2].split(" for ")[-1].strip())[0]
+        call = CALL.match(line)
+        if call:
+            owned = owner if call[1] else ""
+            head = text[place:head_of(text, place + len(call[0]))]
+            is_public = bool(call[2]) and "(" not in call[2] or (bool(call[1]) and kind == "trait")
+            yield owned, call[3], head, is_public
+        place += len(line) + 1
+
+
+def clauses_of(head):
+    """The clauses of a head: the name of each, and what it says."""
+    return [((found[1] or "").strip(), head[found.end():closing(head, found.end() - 1)]) for found in CLAUSE.finditer(head)]
+
+
+def refusal_of(head):
+    """What a call may return instead of success, by its type."""
+    found = re.search(r"\)\s*->\s*(.*?)(?=\s+(?:ensures|requires|where)\b|$)", head.replace("\n", " "))
+    kinds = re.findall(r"Result<.*,\s*([\w:]+)>", found[1]) if found else []
+    return kinds[0].split("::")[-1] if kinds else ""
+
+
+def order_of(file):
+    """The first page of a folder before the others."""
+    return (str(file.parent), file.name != "mod.rt", file.name)
+
+
+def words_in(file):
+    """The words of specs/ that a file imports: for each the name and the file of its definition."""
+    words = {}
+    for crate, module, items in IMPORT.findall(file.read_text(encoding="utf-8")):
+        path = (TOP / "crates" / crate / "specs").joinpath(*module.split(".")).with_suffix(".antt")
+        for item in items.split(",") if path.exists() else ():
+            name, _, here = item.strip().partition(" as ")
+            words[here or name] = (name, path)
+    return words
+
+
+def named_in(text, words, is_law):
+    """The words of a clause that the index shows: relations, what one has to believe, and of a law all."""
+    found = (words[word] for word in dict.fromkeys(re.findall(r"\w+", text)) if word in words)
+    return [(name, path) for name, path in found if is_law or name[0].isupper() or "model" in path.parts]
+
+
+def rows():
+    """The rows of the index: the crate, the file, the call, its clauses with the words they name, and what it may return."""
+    for crate in crates():
+        is_library = crate not in ("bt_laws", "bedtools")
+        shown = exported(crate) if is_library else set()
+        for file in sorted((TOP / "crates" / crate / "src").rglob("*.rt"), key=order_of):
+            if "tests" in file.stem or "tests" in file.parts or file.stem in ("example", "testing"):
+                continue
+            words = words_in(file)
+            for owner, name, head, is_public in calls_of(file):
+                clauses = clauses_of(head)
+                is_shown = is_public and (owner or name) in shown if is_library else bool(clauses) and (is_public or crate == "bedtools")
+                if is_shown:
+                    said = [(clause, named_in(text, words, crate == "bt_laws")) for clause, text in clauses]
+                    yield crate, file, f"{owner}::{name}" if owner else name, said, refusal_of(head)
+
+
+def shown_clauses(clauses):
+    """The clauses of a call: their names, and the words that they name, each once."""
+    parts, seen = [], set()
+    for name, words in clauses:
+        new = [word for word in words if word not in seen]
+        seen.update(new)
+        links = [f"[`{word}`](../{path.relative_to(TOP)})" for word, path in new]
+        parts.append(" ".join([f"`{name}`"] * bool(name) + links))
+    return ", ".join(part for part in parts if part)
+
+
+def sentence_of(file, name):
+    """The first sentence of the comment above a law."""
+    found = re.search(rf"((?:^ *///.*\n)+)(?:^ *#.*\n)*^ *pub fn {name}\b", file.read_text(encoding="utf-8"), re.MULTILINE)
+    text = " ".join(line.strip().removeprefix("///").strip() for line in found[1].splitlines()) if found else ""
+    return re.split(r"(?<=\.)\s", text)[0]
+
+
+def page(found):
+    """The text of the page."""
+    lines = ["# Clauses: the index of the contracts\n\n",
+             "`docs/clauses.py` writes this page from the sources: each public call, what it may return instead of success, its clauses, and the words of "
+             "`specs/` that they name. The comment above a call says it in a sentence. [PROVED](PROVED.md) says what all of it comes to.\n\n"
+             "Every call returns, whatever it is given. One without an arrow has no answer for a failure: `None` is an answer. Only after a `Fault`, an "
+             "`AllocError` or a `Refusal` can memory have run out. That it had cause is shown by clauses `quiet` and `memory`, and by "
+             "[tests with ample memory](tests.tsv).\n"]
+    for crate in dict.fromkeys(row[0] for row in found):
+        rows_here = [row for row in found if row[0] == crate]
+        lines.append(f"\n## {crate}\n\n")
+        for _, file, call, clauses, refusal in rows_here:
+            text = shown_clauses(clauses)
+            if crate == "bt_laws":
+                text = f"{sentence_of(file, call)} {text}".strip()
+            if text or refusal:
+                lines.append(f"- [`{call}`](../{file.relative_to(TOP)})" + (f" → `{refusal}`" if refusal else "") + f": {text or 'one clause'}\n")
+        plain = [f"`{call}`" for _, _, call, clauses, refusal in rows_here if not refusal and not shown_clauses(clauses) and crate != "bt_laws"]
+        if plain:
+            lines.append(f"- One clause each, or none: {', '.join(plain)}\n")
+    return "".join(lines)
+
+
+def tests_differ(found):
+    """How many calls that may run out of memory have no row in tests.tsv, and how many of its rows aren't so."""
+    named = table()
+    calls = {(crate, call) for crate, _, call, _, refusal in found if refusal in MEMORY and crate != "bedtools"}
+    wrong = [f"tests.tsv: no row for {crate}'s {call}" for crate, call in sorted(calls - {(row[0], row[1]) for row in named})]
+    for crate, call, tests in named:
+        home, _, names = tests.rpartition(": ")
+        text = "".join(file.read_text(encoding="utf-8") for file in sorted((TOP / "crates" / (home or crate) / "src").rglob("*.rt")))
+        lost = [name for name in names.split(", ") if not re.search(rf"\bfn {name}\b", text)]
+        if names != NEVER and lost:
+            wrong.append(f"tests.tsv: {home or crate} has no test {', '.join(lost)}")
+        if (crate, call) not in calls:
+            wrong.append(f"tests.tsv: {crate}'s {call} can't run out of memory, or isn't public")
+    for line in wrong:
+        print(line)
+    return len(wrong)
+
+
+def table():
+    """The rows of tests.tsv: the crate, the call, and its tests, those of another crate after its name."""
+    return [line.split("\t") for line in TESTS.read_text(encoding="utf-8").splitlines()[1:]]
+
+
+def main():
+    found = list(rows())
+    text = page(found)
+    wrong = tests_differ(found)
+    is_same = PAGE.exists() and PAGE.read_text(encoding="utf-8") == text
+    if not is_same and "--write" in sys.argv[1:]:
+        PAGE.write_text(text, encoding="utf-8")
+    elif not is_same:
+        wrong += 1
+        print("docs/CLAUSES.md isn't that of the sources: docs/clauses.py --write")
+    print(f"{len(found)} calls with {sum(len(row[3]) for row in found)} clauses, {wrong} problems")
+    return 1 if wrong else 0
+
+
+if __name__ == "__main__":
+    sys.exit(main())
