@@ -24,7 +24,7 @@ LOG := bin/build.log
 SOURCES := crates.txt $(shell find crates -name out -prune -o -type f \( -name '*.rt' -o -name '*.antt' \) -print)
 
 DOCS := README.md CHANGELOG.md LICENSE $(wildcard docs/*.md docs/*.svg) $(wildcard bench/*.md bench/*.svg) \
-	$(shell find examples/shards -type f)
+	CITATION.cff $(shell find examples/shards examples/recipes -type f)
 
 .PHONY: all example test mutants check-docs check-program check-speed check-differences check-front check-shards check-packages \
 	pictures completions install uninstall dist deb clean
@@ -56,14 +56,17 @@ mutants:
 	for mutants in crates/*/mutants; do mv $$mutants $$(dirname $$mutants)/must-fail; done && \
 	rt must-fail; status=$$?; rm -rf $$copy; exit $$status
 
-# The shell examples of the pages write what is below them, the example on each crate's first page is its test, each
-# link leads somewhere, the completions have the options of the pages, no page is harder to read than before, and the
-# tables and charts of the bench are those of its results.
+# The shell examples of the pages and of docs/cases write what is below them, the example on each crate's first page is its
+# test, each link leads somewhere, tables of rows and of clauses are those of their files and sources, the completions have the
+# options of the pages, no page is harder to read than before, and tables and charts of the bench are those of its results.
 check-docs: $(PROGRAM)
 	docs/examples.py
 	docs/edits.py
 	docs/links.py
+	docs/migrating.py
+	docs/clauses.py
 	docs/completions.py
+	docs/manuals.py
 	docs/prose.py
 	bench/results.py
 
@@ -82,7 +85,7 @@ check-program: $(PROGRAM)
 check-speed: $(PROGRAM)
 	bench/compare.py --check
 
-# The rows of docs/DIFFERENCES.md and of docs/OPTIONS.md, and the scripts of docs/RECIPES.md, tried with the program and
+# The rows of docs/differences.tsv and of docs/options.tsv, and the scripts of examples/recipes, tried with the program and
 # with the bedtools 2.30.0 on PATH.
 check-differences: $(PROGRAM)
 	docs/differences.py
@@ -90,7 +93,7 @@ check-differences: $(PROGRAM)
 
 # The front and the drop-in: hostile cases, random command lines, and pipelines, unchanged, with the drop-in first on PATH.
 check-front: $(PROGRAM)
-	! command -v shellcheck > /dev/null || shellcheck -x front/dunekettle packaging/*.sh docs/front/*.sh
+	! command -v shellcheck > /dev/null || shellcheck -x front/dunekettle packaging/*.sh docs/front/*.sh examples/recipes/*.sh
 	docs/front_hostile.py
 	docs/front_random.py
 	docs/front.py
@@ -108,6 +111,7 @@ pictures:
 
 completions:
 	docs/completions.py --write
+	docs/manuals.py --write
 
 # The manual pages and the completions get the program's name there.
 install: $(PROGRAM)

@@ -1,6 +1,6 @@
 #!/usr/bin/env python3
-"""Makes of front/options.txt the help of `dunekettle`, the options in the manual page, and the completions for bash,
-zsh and fish of the program and of its front.
+"""Makes of front/options.txt the help of `dunekettle`, and the completions for bash, zsh and fish of the program and of
+its front. docs/manuals.py makes the manual pages of the commands.
 
     docs/completions.py            sees that these files have what would be made
     docs/completions.py --write    writes them
@@ -30,8 +30,6 @@ VARIABLES = {
     "DUNEKETTLE_STREAMS=1": "the drop-in takes standard input and pipes as sorted BED without odd lines",
 }
 WIDTH = 80
-# Where the manual page has the options.
-MAN = re.compile(r'(\.\\" docs/completions.py --write writes from here\n).*?(\.\\" to here\n)', re.DOTALL)
 
 
 def read_options():
@@ -109,7 +107,7 @@ def help_text(kit, commands):
     lines += ["", "Environment:"]
     for variable, text in VARIABLES.items():
         lines += wrapped(f"  {variable:<22}", text)
-    lines += ["", "Pages: man dunekettle, and the folder doc/ of the installation."]
+    lines += ["", "Pages: man dunekettle-merge, and so for each command; man dunekettle; and the", f"folder share/doc/{NAME} of the installation."]
     for command, (purpose, options) in commands.items():
         lines += [f"% {command}", *wrapped("", calls[command], "    "), "", *wrapped("", purpose[0].upper() + purpose[1:] + "."), ""]
         for option, value, default, text in options:
@@ -134,29 +132,11 @@ def wrapped(lead, text, indent=None):
     return lines
 
 
-def man_options(commands):
-    """The options of all commands as a manual page has them."""
-    lines = []
-    for command, (_, options) in commands.items():
-        lines += [f".Ss Options of {command}", ".Bl -tag -width Ds"]
-        for option, value, default, text in options:
-            word = {"": "", "+ or -": " Cm + Ns | Ns Cm -"}.get(value, f" Ar {value.lower()}")
-            lines += [f".It Fl {option[1:]}{word}", f"{text[0].upper()}{text[1:]}.", default_in_words(default)]
-        lines.append(".El")
-    return lines
-
-
 def default_in_words(default):
     """The sentence of a manual page on what holds without an option."""
     if default == "required":
         return "Required."
     return f"Required: {default}." if default.startswith("this or ") else f"Default: {default}."
-
-
-def with_options(page, commands):
-    """A manual page whose options are written anew."""
-    text = (TOP / page).read_text(encoding="utf-8")
-    return MAN.sub(lambda found: found[1] + "".join(f"{line}\n" for line in man_options(commands)) + found[2], text)
 
 
 def all_words(name, commands):
@@ -268,9 +248,7 @@ def made(kit, commands):
     for name in (NAME, FRONT):
         for shell, lines in (("bash", bash_file), ("zsh", zsh_file), ("fish", fish_file)):
             files[f"completions/{name}.{shell}"] = lines(name, commands)
-    texts = {name: "".join(f"{line}\n" for line in lines) for name, lines in files.items()}
-    texts["man/bedtools.1"] = with_options("man/bedtools.1", commands)
-    return texts
+    return {name: "".join(f"{line}\n" for line in lines) for name, lines in files.items()}
 
 
 def main():

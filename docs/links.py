@@ -40,6 +40,7 @@ VERSIONS = {
     "CHANGELOG.md": r"^## (\d+\.\d+\.\d+)",
     "man/bedtools.1": r"Dunekettle (\d+\.\d+\.\d+)",
     "man/dunekettle.1": r"Dunekettle (\d+\.\d+\.\d+)",
+    "CITATION.cff": r"^version: (\d+\.\d+\.\d+)",
     "packaging/bioconda/meta.yaml": r"set version = \"(\d+\.\d+\.\d+)\"",
 }
 

@@ -66,12 +66,15 @@ fi
 expect_front "$folder/there" "the installation"
 expect "the docs of an installation" "yes" "$([ -f "$share/doc/trial-tools/docs/ERRORS.md" ] && echo yes)"
 expect "links of its pages that lead nowhere" "" "$(lost_links "$share/doc/trial-tools")"
+expect "a recipe" "$(printf 'chr1\t2\t6\nchr1\t4\t9')" "$(PATH=$folder/there/bin:$PATH "$share/doc/trial-tools/examples/recipes/intersect-F.sh" -a "$folder/sorted.bed" -b "$folder/sorted.bed" -F 0.5 -u)"
 expect "links of its pages" "yes" "$([ "$(grep -o '\](' -r "$share/doc/trial-tools" --include='*.md' | wc -l)" -gt 100 ] && echo yes)"
 if has man; then
     page=$(MANWIDTH=80 man -l "$share/man/man1/trial-tools.1" | col -b)
     expect "the examples of its manual page" "yes" "$(grep -q 'trial-tools merge -i' <<< "$page" && echo yes)"
     expect "no example of another name" "" "$(grep -E 'bedtools (merge|intersect|bamtobed) ' <<< "$page" || true)"
     expect "the page of its front" "yes" "$(MANWIDTH=80 man -l "$share/man/man1/dunekettle.1" | col -b | grep -c 'trial-tools(1)' > /dev/null && echo yes)"
+    expect "a page of each command" "7" "$(for page in "$share"/man/man1/dunekettle-*.1; do MANWIDTH=80 man -l "$page" | col -b | grep -c '^OPTIONS'; done | wc -l)"
+    expect "the page of a command" "yes" "$(MANWIDTH=80 man -l "$share/man/man1/dunekettle-merge.1" | col -b | grep -c 'trial-tools(1)' > /dev/null && echo yes)"
     expect "its title" "yes" "$(grep -q '^TRIAL-TOOLS(1)' <<< "$page" && echo yes)"
 fi
 expect "a command in bash" "merge" "$(in_bash 'trial-tools me')"

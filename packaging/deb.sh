@@ -13,7 +13,7 @@ doc=$folder/usr/share/doc/$name
 top=$(dirname "$0")/..
 
 mv "$doc/LICENSE" "$doc/copyright"
-gzip -9 -n "$folder/usr/share/man/man1/$name.1" "$folder/usr/share/man/man1/dunekettle.1"
+gzip -9 -n "$folder"/usr/share/man/man1/*.1
 find "$folder/usr" -type d -exec chmod 755 {} +
 
 # The C library is asked for in the version whose symbols the program names.

@@ -18,9 +18,11 @@ case $name in dunekettle | */*) echo "NAME=$name is taken, or no name"; exit 1 ;
 install -D "$top/front/dunekettle" "$root/bin/dunekettle"
 sed "s|/dunekettle-bedtools\$|/$name|" "$top/front/dunekettle" > "$root/bin/dunekettle"
 mkdir -p "$root/lib/dunekettle/bin"
-for file in judge.sh hints.sh check.awk help.txt; do
+for file in judge.sh hints.sh check.awk; do
     install -m 644 "$top/front/$file" "$root/lib/dunekettle/$file"
 done
+sed "s|share/doc/dunekettle-bedtools|share/doc/$name|" "$top/front/help.txt" > "$root/lib/dunekettle/help.txt"
+chmod 644 "$root/lib/dunekettle/help.txt"
 for link in bedtools mergeBed complementBed intersectBed subtractBed genomeCoverageBed maskFastaFromBed bamToBed; do
     ln -sf ../../../bin/dunekettle "$root/lib/dunekettle/bin/$link"
 done
@@ -31,6 +33,9 @@ for page; do
     [ ! -x "$top/$page" ] || mode=755
     install -D -m "$mode" "$top/$page" "$doc/$page"
 done
+
+# The recipes call the program by its name there.
+sed "s/dunekettle-bedtools/$name/g" "$top/examples/recipes/functions.sh" > "$doc/examples/recipes/functions.sh"
 
 # Of a page's links those that lead to no installed file become their text: it is in the repository alone.
 # A heading that such a link names isn't looked at: docs/links.py does that.
@@ -66,7 +71,10 @@ sed -E -e "s|^\.Nm bedtools\$|.Nm $name|" \
     "$top/man/bedtools.1" > "$share/man/man1/$name.1"
 sed -E -e "s|dunekettle-bedtools|$name|g" -e "s|docs/([A-Z]+\.md)|$at/share/doc/$name/docs/\1|" \
     -e "s|^\.Pa lib/dunekettle/bin\$|.Pa $at/lib/dunekettle/bin|" "$top/man/dunekettle.1" > "$share/man/man1/dunekettle.1"
-chmod 644 "$share/man/man1/$name.1" "$share/man/man1/dunekettle.1"
+for page in "$top"/man/dunekettle-*.1; do
+    sed -E -e "s|dunekettle-bedtools|$name|g" -e "s|docs/([A-Z]+\.md)|$at/share/doc/$name/docs/\1|" "$page" > "$share/man/man1/${page##*/}"
+done
+chmod 644 "$share"/man/man1/*.1
 
 # completions WORD INSTALLED: those of a program, where each shell looks for them
 completions() {

@@ -7,6 +7,9 @@ set -eu
 root=$1 name=$2
 
 rm -f "$root/bin/$name" "$root/bin/dunekettle" "$root/share/man/man1/$name.1" "$root/share/man/man1/dunekettle.1"
+for command in merge complement intersect subtract genomecov bamtobed maskfasta; do
+    rm -f "$root/share/man/man1/dunekettle-$command.1"
+done
 rm -rf "${root:?}/lib/dunekettle" "$root/share/doc/$name"
 for word in "$name" dunekettle; do
     rm -f "$root/share/bash-completion/completions/$word" "$root/share/zsh/site-functions/_$word" \
