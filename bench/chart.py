@@ -7,15 +7,17 @@ from html import escape
 STYLE = """<style>
 .ground { fill: #ffffff } text { fill: #1f2328; font: 12px sans-serif } .note { font-size: 11px; fill: #57606a }
 .title { font-weight: bold; font-size: 13px } .name { font-weight: bold } .grid { stroke: #d0d7de }
-.ours { fill: #c2571a } .theirs { fill: #5b7c99 } .link { stroke: #8c959f }
+.ours { fill: #c2571a } .theirs { fill: #5b7c99 } .both { fill: #9a7bb5 } .link { stroke: #8c959f }
 .line { fill: none; stroke-width: 2 } .line.ours { stroke: #c2571a; fill: none } .line.theirs { stroke: #5b7c99; fill: none }
 @media (prefers-color-scheme: dark) {
 .ground { fill: #0d1117 } text { fill: #e6edf3 } .note { fill: #9da7b1 } .grid { stroke: #30363d } .link { stroke: #6e7681 }
-.ours { fill: #f0883e } .theirs { fill: #79a6d2 } .line.ours { stroke: #f0883e } .line.theirs { stroke: #79a6d2 }
+.ours { fill: #f0883e } .theirs { fill: #79a6d2 } .both { fill: #b99ad6 } .line.ours { stroke: #f0883e } .line.theirs { stroke: #79a6d2 }
 }
 </style>"""
 WIDTH = 900
 OURS, THEIRS = "dunekettle", "bedtools"
+# What a million of the bench's size is, if it isn't a million records.
+SIZES = {"bamtobed": (1 / 3, "M reads"), "maskfasta": (29.6, "MB of FASTA")}
 
 
 def text(left, top, words, kind="", anchor="start"):
@@ -49,7 +51,7 @@ def size(kilobytes):
 
 def foot(top, caption):
     """The caption, broken where a sentence ends."""
-    words = caption.replace("**", "").strip()
+    words = caption.replace("**", "").replace("`", "").strip()
     lines = re.split(r"(?<=\.) (?=[A-Z])|(?<=;) ", words)
     merged = [lines[0]]
     for line in lines[1:]:
@@ -108,10 +110,10 @@ def draw_growth(kept, caption):
     """A column for each command: time and memory of both programs by the number of records."""
     commands = list(kept["growth"])
     left, wide, gap = 70, 104, 14
-    parts = [text(16, 20, "processor time and peak memory, by millions of records", "title"),
+    parts = [text(16, 20, "processor time and peak memory, by the size of the input", "title"),
              '<circle class="ours" cx="560" cy="16" r="5"/>', text(569, 20, "Dunekettle"), '<circle class="theirs" cx="650" cy="16" r="5"/>', text(659, 20, "bedtools")]
     panels = ((64, 210, 0.01, 100, (0.01, 0.1, 1, 10, 100), lambda run: run["seconds"], lambda value: f"{value:g} s"),
-              (246, 392, 1, 10_000, (1, 10, 100, 1000, 10_000), lambda run: run["kilobytes"] * 1024 / 1e6,
+              (260, 406, 1, 10_000, (1, 10, 100, 1000, 10_000), lambda run: run["kilobytes"] * 1024 / 1e6,
                lambda value: f"{value:g} MB" if value < 1000 else f"{value / 1000:g} GB"))
     for top, bottom, low, high, marks, value, label in panels:
         up = scale(low, high, bottom, top)
@@ -127,6 +129,35 @@ def draw_growth(kept, caption):
             for program, kind in ((THEIRS, "theirs"), (OURS, "ours")):
                 points = [(across(int(records)), up(max(value(runs[program]), low))) for records, runs in sizes.items() if program in runs]
                 parts += curve(points, kind) if points else []
-            parts += [text(across(int(records)), bottom + 16, f"{int(records) / 1e6:g}", "note", "middle") for records in sizes]
-    noted, end = foot(434, caption)
+            factor, unit = SIZES.get(command, (1, "M records"))
+            parts += [text(across(int(records)), bottom + 16, f"{float(f'{int(records) / 1e6 * factor:.2g}'):g}", "note", "middle") for records in sizes]
+            parts.append(text(begin + wide / 2, bottom + 30, unit, "note", "middle"))
+    noted, end = foot(462, caption)
+    return picture(end + 4, [*parts, *noted])
+
+
+def draw_pipelines(kept, caption):
+    """Three bars for each pipeline, on one linear scale of seconds by the clock: bedtools, the drop-in, rewritten."""
+    forms = (("bedtools", "theirs", "bedtools"), ("drop-in", "both", "drop-in, unchanged"), ("rewritten", "ours", "rewritten"))
+    most = max(seconds for row in kept["pipelines"] for seconds in row["seconds"].values())
+    left, right, first, step = 330, 820, 62, 66
+    step_of_ticks = next(mark for mark in (0.1, 0.2, 0.5, 1, 2, 5, 10, 20, 50, 100, 200, 500) if most / mark <= 6)
+    values = [step_of_ticks * at for at in range(int(most / step_of_ticks) + 1)]
+    bottom = first + step * len(kept["pipelines"])
+    parts = [text(16, 20, "whole pipelines, seconds by the clock", "title")]
+    for at, (_, kind, label) in enumerate(forms):
+        parts += [f'<rect class="{kind}" x="{330 + 150 * at}" y="10" width="12" height="12" rx="2"/>', text(347 + 150 * at, 20, label)]
+    parts += ticks(lambda value: left + (right - left) * value / most, values, lambda value: f"{value:g} s", first - 12, bottom - 10)
+    for at, row in enumerate(kept["pipelines"]):
+        top = first + step * at
+        words = row["what"].split(" ")
+        half = next((cut for cut in range(len(words), 0, -1) if len(" ".join(words[:cut])) <= 40), len(words))
+        parts += [text(16, top + 12, " ".join(words[:half]), "name"), text(16, top + 28, " ".join(words[half:]), "name"),
+                  text(16, top + 44, f"the drop-in took {row['taken']} of {row['calls']} calls", "note")]
+        for line, (form, kind, _) in enumerate(forms):
+            value = row["seconds"][form]
+            width = (right - left) * value / most
+            parts += [f'<rect class="{kind}" x="{left}" y="{top + 16 * line}" width="{max(width, 1):.1f}" height="12" rx="2"/>',
+                      text(left + width + 6, top + 16 * line + 10, seconds(value), "note")]
+    noted, end = foot(bottom + 18, caption)
     return picture(end + 4, [*parts, *noted])

@@ -31,6 +31,8 @@ import compare
 HERE = Path(__file__).resolve().parent
 TOP = HERE.parent
 RESULTS = HERE / "results.json"
+# What bench/pipelines.py measured.
+PIPELINES = HERE / "pipelines.json"
 # What is measured of growth: a workload for each command, also the one that the chart shows, by the name of its data.
 SHOWN = {
     "merge": "3 columns",
@@ -206,11 +208,17 @@ def caption(kept, about=""):
     return f"{trial}{records}, {runs}. {kept['machine']}; commit {kept['commit']}, {kept['date']}; {others}.{note}\n"
 
 
-def by_command(kept):
-    """The table of README.md: how much less each command takes."""
+def summary(kept):
+    """The line of README.md on all workloads."""
     factors = [times_less(row) for row in kept["workloads"] if row["command"] in SHOWN]
-    about = f"{spread(factors, digits)} times less processor time than bedtools {kept['bedtools']}; for half of the workloads at least {digits(statistics.median_low(factors))}"
-    lines = [f"**{about}**\n\n"]
+    half = digits(statistics.median_low(factors))
+    return (f"[By command](bench/README.md#results): {spread(factors, digits)} times less processor time than bedtools {kept['bedtools']} "
+            f"over {len(factors)} workloads, for half of them at least {half}.\n")
+
+
+def by_command(kept):
+    """The table of bench/README.md by command: how much less each takes."""
+    lines = []
     lines.append("| command | times less processor time than bedtools | memory | memory of bedtools |\n|---|---|---|---|\n")
     for command in SHOWN:
         rows = [row for row in kept["workloads"] if row["command"] == command]
@@ -228,17 +236,38 @@ def by_workload(kept):
         cells = [row["name"], digits(ours["seconds"]), digits(theirs["seconds"]), digits(bedops["seconds"]) if bedops else "", digits(times_less(row)),
                  *(digits(run["kilobytes"] * 1024 / 1e6) for run in (ours, theirs)), f"{row['instructions']:,.0f}" if "instructions" in row else ""]
         lines.append(f"| {' | '.join(cells)} |\n".replace("|  |", "| |").replace("|  |", "| |"))
-    return "".join(lines) + f"\n{caption(kept)}"
+    plain = [f"A [plain C program](plain_merge.c) that does nothing but {row['name']} takes {digits(row['runs']['plain C']['seconds'])} s.\n"
+             for row in kept["workloads"] if "plain C" in row["runs"]]
+    return "".join(lines) + "".join(f"\n{line}" for line in plain) + f"\n{caption(kept)}"
 
 
 def growth(kept):
     """The chart of growth, if it was measured."""
     if "growth" not in kept:
         return "How time and memory grow with the input wasn't measured yet.\n"
-    return "![time and memory of 1, 2, 4 and 8 million records](growth.svg)\n"
+    return "![time and memory over inputs of four sizes](growth.svg)\n"
 
 
-TABLES = {"by_command": by_command, "by_workload": by_workload, "growth": growth}
+def pipeline_caption(measured):
+    """How whole pipelines were measured."""
+    trial = "**A trial on a busy machine, no result.** " if measured["is_trial"] else ""
+    return (f"{trial}Seconds by the clock, over {measured['reads'] / 1e6:g} million reads and what goes with them, the least of {measured['times']} runs. "
+            f"{measured['machine']}; commit {measured['commit']}, {measured['date']}.\n")
+
+
+def pipelines(_):
+    """The table and the chart of whole pipelines, if they were measured."""
+    if not PIPELINES.exists():
+        return "Whole pipelines are measured by `bench/pipelines.py --results`; there is no result of this commit yet.\n"
+    measured = json.loads(PIPELINES.read_text(encoding="utf-8"))
+    lines = ["| pipeline, seconds by the clock | bedtools | drop-in, unchanged | calls it took | rewritten |\n|---|---|---|---|---|\n"]
+    for row in measured["pipelines"]:
+        theirs, front, ours = (digits(row["seconds"][form]) for form in ("bedtools", "drop-in", "rewritten"))
+        lines.append(f"| {row['what']} | {theirs} | {front} | {row['taken']} of {row['calls']} | {ours} |\n")
+    return "".join(lines) + "\n![whole pipelines: bedtools, the drop-in, rewritten](bench/pipelines.svg)\n\n" + pipeline_caption(measured)
+
+
+TABLES = {"summary": summary, "by_command": by_command, "by_workload": by_workload, "growth": growth, "pipelines": pipelines}
 
 
 def charts(kept):
@@ -246,6 +275,9 @@ def charts(kept):
     drawn = {"chart.svg": chart.draw_commands(kept, SHOWN, caption(kept))}
     if "growth" in kept:
         drawn["growth.svg"] = chart.draw_growth(kept, caption(kept, "Each point"))
+    if PIPELINES.exists():
+        measured = json.loads(PIPELINES.read_text(encoding="utf-8"))
+        drawn["pipelines.svg"] = chart.draw_pipelines(measured, pipeline_caption(measured))
     return drawn
 
 

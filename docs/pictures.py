@@ -14,10 +14,11 @@ HERE = Path(__file__).resolve().parent
 
 STYLE = """<style>
 .ground { fill: #ffffff } .box { fill: #f3f6f9; stroke: #57606a } .proved { fill: #e6f4ea; stroke: #2f7d46 }
+.tested { fill: #fff4d6; stroke: #9a6700 }
 text { fill: #1f2328; font: 13px sans-serif } .note { font-size: 11px; fill: #57606a } .name { font-weight: bold }
 .edge { stroke: #57606a; fill: none } .head { fill: #57606a } .border { stroke: #2f7d46; stroke-dasharray: 6 4; fill: none }
 @media (prefers-color-scheme: dark) {
-.ground { fill: #0d1117 } .box { fill: #1c232c; stroke: #8b949e } .proved { fill: #12261a; stroke: #56b574 }
+.ground { fill: #0d1117 } .box { fill: #1c232c; stroke: #8b949e } .proved { fill: #12261a; stroke: #56b574 } .tested { fill: #2e2410; stroke: #d4a72c }
 text { fill: #e6edf3 } .note { fill: #9da7b1 }
 .edge { stroke: #8b949e } .head { fill: #8b949e } .border { stroke: #56b574 }
 }
@@ -98,39 +99,36 @@ def draw_crates():
             parts.append(edge((centre, top + 44), (place[other][0] + (centre - place[other][0]) / 5, place[other][1])))
     for name, (centre, top) in place.items():
         parts += box(centre - width / 2, top, width, [name, NOTES[name]])
-    return picture(2 * middle, 20 + step * len(layers), parts)
+    top = 20 + step * len(layers)
+    parts.append(f'<text class="note" x="{middle}" y="{top}" text-anchor="middle">An arrow leads to the nearest crates below: those that no other arrow reaches.</text>')
+    return picture(2 * middle, top + 14, parts)
 
 
 def draw_run():
-    """A run: what is proved stands between the two borders."""
-    parts = [
-        '<text class="note" x="90" y="24" text-anchor="middle">trusted: the system</text>',
-        '<text class="note" x="380" y="24" text-anchor="middle">proved, for all words, all bytes and every failure</text>',
-        '<text class="note" x="670" y="24" text-anchor="middle">trusted: the system</text>',
-        '<line class="border" x1="180" y1="10" x2="180" y2="330"/>',
-        '<line class="border" x1="580" y1="10" x2="580" y2="330"/>',
-    ]
-    parts += box(20, 45, 140, ["words", "of the command line"])
-    parts += box(20, 135, 140, ["genome file"])
-    parts += box(20, 190, 140, ["first input"])
-    parts += box(20, 245, 140, ["second input"])
-    parts += box(205, 45, 130, ["plan", "options, files"], "proved")
-    parts += box(205, 135, 130, ["readers", "lines, then records"], "proved", 154)
-    parts += box(365, 135, 95, ["engine", "or sweep"], "proved", 154)
-    parts += box(485, 190, 80, ["Out", "one block"], "proved")
-    parts += box(425, 45, 140, ["outcome", "fault line, status"], "proved")
-    parts += box(600, 190, 140, ["standard output"])
-    parts += box(600, 45, 140, ["standard error", "and exit status"])
-    parts += [
-        edge((160, 67), (204, 67)), edge((160, 157), (204, 157)), edge((160, 212), (204, 212)), edge((160, 267), (204, 267)),
-        edge((270, 89), (270, 134)), edge((335, 212), (364, 212)), edge((460, 212), (484, 212)), edge((565, 212), (599, 212)),
-        edge((412, 134), (412, 110), (470, 110), (470, 90)), edge((565, 67), (599, 67)),
-        '<text class="note" x="278" y="116">run</text>',
-        '<text class="note" x="480" y="122">how it ended</text>',
-        '<text class="note" x="380" y="312" text-anchor="middle">report: what the whole texts give, as a definition. What a run writes</text>',
-        '<text class="note" x="380" y="328" text-anchor="middle">and reports is the report\'s; where a device fails it is a prefix of it.</text>',
-    ]
-    return picture(760, 340, parts)
+    """A run: what is proved is in the middle, what is tested beside it, and what is trusted outside."""
+    parts = []
+    for at, (kind, words) in enumerate((("proved", "proved, for all words and all bytes"), ("tested", "tested: the program hands over bytes"), ("box", "trusted: the system"))):
+        parts += [f'<rect class="{kind}" x="{20 + 270 * at}" y="12" width="14" height="14" rx="3"/>', f'<text class="note" x="{40 + 270 * at}" y="23">{words}</text>']
+    parts += box(20, 45, 130, ["words", "of the command line"])
+    for top, name in ((135, "genome file"), (190, "first input"), (245, "second input")):
+        parts += box(20, top, 130, [name])
+    parts += box(180, 135, 90, ["open", "each file"], "tested", 154)
+    parts += box(300, 45, 120, ["plan", "options, files"], "proved")
+    parts += box(300, 135, 120, ["readers", "lines, then records"], "proved", 154)
+    parts += box(450, 135, 90, ["engine", "or sweep"], "proved", 154)
+    parts += box(570, 190, 80, ["Out", "one block"], "proved")
+    parts += box(510, 45, 140, ["outcome", "fault line, status"], "proved")
+    parts += box(680, 45, 70, ["print"], "tested")
+    parts += box(680, 190, 70, ["write"], "tested")
+    parts += box(780, 45, 130, ["standard error", "and exit status"])
+    parts += box(780, 190, 130, ["standard output"])
+    parts += [edge((150, 67), (299, 67)), *(edge((150, top + 22), (179, top + 22)) for top in (135, 190, 245)), edge((270, 212), (299, 212)),
+              edge((360, 89), (360, 134)), edge((420, 212), (449, 212)), edge((540, 212), (569, 212)), edge((650, 212), (679, 212)), edge((750, 212), (779, 212)),
+              edge((495, 134), (495, 110), (560, 110), (560, 90)), edge((650, 67), (679, 67)), edge((750, 67), (779, 67)),
+              '<text class="note" x="368" y="116">run</text>', '<text class="note" x="570" y="122">how it ended</text>',
+              '<text class="note" x="460" y="314" text-anchor="middle">If nothing fails, what run writes and reports is the report: what the complete texts give, as a definition.</text>',
+              '<text class="note" x="460" y="330" text-anchor="middle">If a device fails, what was written begins it.</text>']
+    return picture(930, 342, parts)
 
 
 def main():

@@ -47,8 +47,8 @@ kind_of() {
 pipe_for() {
     set -- "$1" "$(quoted_name "$2")"
     case $1$command in
-    BAMbamtobed | CRAMbamtobed) printf '%s\n' "samtools view -h $2" ;;
-    BAM* | CRAM*) printf '%s\n' "samtools view -h $2 | dunekettle bamtobed" ;;
+    BAMbamtobed | CRAMbamtobed) printf '%s\n' "samtools view $2" ;;
+    BAM* | CRAM*) printf '%s\n' "samtools view $2 | dunekettle bamtobed" ;;
     gzip*) printf '%s\n' "zcat $2" ;;
     bzip2*) printf '%s\n' "bzcat $2" ;;
     xz*) printf '%s\n' "xzcat $2" ;;
@@ -113,7 +113,7 @@ hint_place() {
 
 hint_kind() {
     if is_stream "$file"; then
-        [ "$number" != 1 ] || say 'standard input may be of another kind: zcat, or samtools view -h, makes text of it'
+        [ "$number" != 1 ] || say 'standard input may be of another kind: zcat, or samtools view, makes text of it'
         return
     fi
     kind=$(kind_of "$file")

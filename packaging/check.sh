@@ -73,7 +73,7 @@ if has man; then
     expect "the examples of its manual page" "yes" "$(grep -q 'trial-tools merge -i' <<< "$page" && echo yes)"
     expect "no example of another name" "" "$(grep -E 'bedtools (merge|intersect|bamtobed) ' <<< "$page" || true)"
     expect "the page of its front" "yes" "$(MANWIDTH=80 man -l "$share/man/man1/dunekettle.1" | col -b | grep -c 'trial-tools(1)' > /dev/null && echo yes)"
-    expect "a page of each command" "7" "$(for page in "$share"/man/man1/dunekettle-*.1; do MANWIDTH=80 man -l "$page" | col -b | grep -c '^OPTIONS'; done | wc -l)"
+    expect "a page of each command" "7" "$(for file in "$share"/man/man1/dunekettle-*.1; do MANWIDTH=80 man -l "$file" | col -b | grep -c '^OPTIONS'; done | wc -l)"
     expect "the page of a command" "yes" "$(MANWIDTH=80 man -l "$share/man/man1/dunekettle-merge.1" | col -b | grep -c 'trial-tools(1)' > /dev/null && echo yes)"
     expect "its title" "yes" "$(grep -q '^TRIAL-TOOLS(1)' <<< "$page" && echo yes)"
 fi

@@ -35,7 +35,8 @@ for page; do
 done
 
 # The recipes call the program by its name there.
-sed "s/dunekettle-bedtools/$name/g" "$top/examples/recipes/functions.sh" > "$doc/examples/recipes/functions.sh"
+recipes=examples/recipes/functions.sh
+[ ! -f "$doc/$recipes" ] || sed "s/dunekettle-bedtools/$name/g" "$top/$recipes" > "$doc/$recipes"
 
 # Of a page's links those that lead to no installed file become their text: it is in the repository alone.
 # A heading that such a link names isn't looked at: docs/links.py does that.
