@@ -212,8 +212,8 @@ def summary(kept):
     """The line of README.md on all workloads."""
     factors = [times_less(row) for row in kept["workloads"] if row["command"] in SHOWN]
     half = digits(statistics.median_low(factors))
-    return (f"[By command](bench/README.md#results): {spread(factors, digits)} times less processor time than bedtools {kept['bedtools']} "
-            f"over {len(factors)} workloads, for half of them at least {half}.\n")
+    return (f"[By command](bench/README.md#results): {spread(factors, digits)} times less processor time than bedtools {kept['bedtools']}, "
+            f"over {len(factors)} workloads. For half of them it is at least {half}.\n")
 
 
 def by_command(kept):

@@ -41,12 +41,12 @@ def options():
 
 
 def options_of(command):
-    """The table of a command's options."""
-    lines = ["| option | what to write |\n|---|---|\n"]
+    """The list of a command's options."""
+    lines = []
     for name, words, _, text in options():
         if name == command:
             shown = ", ".join(f"`{word}`" for word in words) if words[0].startswith("-") else "none of `-d`, `-dz`, `-bg`, `-bga`"
-            lines.append(f"| {shown} | {text} |\n")
+            lines.append(f"- {shown}: {text}\n")
     return "".join(lines)
 
 

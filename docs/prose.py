@@ -4,11 +4,12 @@
     docs/prose.py [-v] [PAGE..]    compares each page, or these, with prose.txt; with -v it says where each count is
     docs/prose.py --write          stores the counts that have fallen, and those of new pages
 
-Counted are paragraphs over 80 words, sentences over 30, cells of tables over 30, words of this project's dialect (with
-a plainer one for each), and, in pages that describe today, words that tell history. The pages are the Markdown files
-of the repository and the manual pages. Headings and blocks of code aren't counted, and a piece of code in a sentence
-is one word. So counted, all pages together have at most MOST words. Ends with 1 if a count has risen, a page has no
-row, a row has no page, or the words are too many.
+Counted are paragraphs over 80 words, sentences over 22, cells of tables over 30, words of this project's dialect (with
+a plainer one for each), words of proofs outside the pages on proofs, several terms for one thing, and, in pages that
+describe today, words that tell history. The pages are the Markdown files of the repository and the manual pages that
+are written by hand. Headings and blocks of code aren't counted, and a piece of code in a sentence is one word. So
+counted, all pages together have at most MOST words. Ends with 1 if a count has risen, a page has no row, a row has no
+page, or the words are too many.
 """
 
 import re
@@ -17,10 +18,12 @@ from pathlib import Path
 
 TOP = Path(__file__).resolve().parent.parent
 STORED = TOP / "docs" / "prose.txt"
-PAGES = ("*.md", "docs/*.md", "bench/*.md", "packaging/*.md", "man/*.1")
-COUNTS = ("paragraphs", "sentences", "cells", "dialect", "history")
-PARAGRAPH, SENTENCE, CELL = 80, 30, 30
-MOST = 35_000
+PAGES = ("*.md", "docs/*.md", "bench/*.md", "packaging/*.md", "crates/*/README.md", "man/bedtools.1", "man/dunekettle.1")
+# Made by a script of the sources.
+MADE = ("docs/CLAUSES.md",)
+COUNTS = ("paragraphs", "sentences", "cells", "dialect", "history", "proofs", "terms")
+PARAGRAPH, SENTENCE, CELL = 80, 22, 30
+MOST = 25_700
 # Pages whose subject is what changed.
 HISTORIES = ("CHANGELOG.md", "HISTORY.md")
 
@@ -55,7 +58,21 @@ DIALECT = {
     r"\bwholes?\b(?= (?:in|record|line))": "complete, buffered",
     r"\bgathered\b": "collected, buffered",
     r"\bthe registers to itself\b": "out of line, so that the hot loop stays small",
+    r"\bFor you who\b": "(the answer)",
+    r"\bas they have to be\b": "as required",
 }
+# Words of proofs, each with a plainer one: for the pages on proofs, and on the code that is proved.
+PROOFS = {
+    r"\bfaults?\b|\bfaultless\b": "error",
+    r"\b(?:un)?settled?s?\b": "final, that can't change",
+    r"\b(?:un)?decide[sd]?\b": "final; shows, finds out",
+    r"\bquiet\b": "that writes nothing",
+    r"\bmembers?\b": "record, alignment, line",
+    r"\bshapes?\b": "option, kind of output",
+}
+ON_PROOFS = ("docs/PROVED.md", "docs/ARCHITECTURE.md", "docs/DECISIONS.md", "docs/LIBRARY.md", "docs/CONTRIBUTING.md", "bench/HISTORY.md", "crates/")
+# Of several terms for one thing those that aren't the one: a feature of -b that is in memory is kept.
+TERMS = {r"\bheld\b": "kept", r"\b(?:is|are|still|were) open\b|\bopen (?:feature|record)s?\b": "kept, not finished"}
 HISTORY = re.compile(r"earlier version|version of today|of today\b|another hour|one hour|[Aa]nd last|[Uu]ntil now|no longer"
                      r"|any more|stood here|came from \d|[Tt]ried, and not kept|as before\b")
 LINK = re.compile(r"\[([^\]]*)\]\([^)]*\)")
@@ -67,12 +84,13 @@ CELL_END = re.compile(r"(?<!\\)\|")
 
 def pages():
     """The pages by their names."""
-    return {str(path.relative_to(TOP)): path for pattern in PAGES for path in sorted(TOP.glob(pattern))}
+    found = {str(path.relative_to(TOP)): path for pattern in PAGES for path in sorted(TOP.glob(pattern))}
+    return {name: path for name, path in found.items() if name not in MADE}
 
 
 def plain(text):
     """A text without the targets of its links, and with one word for each piece of code."""
-    return re.sub(r"`[^`]*`", "X", LINK.sub(r"\1", text))
+    return re.sub(r"`[^`]*`", "X", LINK.sub(r"\1", re.sub(r"<!--.*?-->|\*\*", "", text)))
 
 
 def paragraphs(path):
@@ -111,6 +129,11 @@ def found_in(path):
         if path.name not in HISTORIES:
             for match in HISTORY.finditer(words):
                 yield "history", number, f"history: {match[0]!r}"
+        if not str(path.relative_to(TOP)).startswith(ON_PROOFS):
+            for kind, said in (("proofs", PROOFS), ("terms", TERMS)):
+                for word, better in said.items():
+                    for match in re.finditer(word, words):
+                        yield kind, number, f"{match[0]!r}: {better}"
 
 
 def words_of(path):

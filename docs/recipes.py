@@ -293,7 +293,7 @@ def made():
         lines.append(f"| {need} | [{script}](../examples/recipes/{script}) | {cost} | {limits} |\n".replace("|  |", "| |").replace("|  |", "| |"))
     about = (HERE / "costs.tsv").read_text(encoding="utf-8").split("\n", 1)[0].split("script, over ")[1]
     slower = sum(ours > theirs for theirs, ours in costs.values())
-    return "".join(lines) + f"\nProcessor time of {len(costs)} scripts, with `samtools`, `awk` and `sort` in them, over {about}, the least of {RUNS} runs. {slower} are slower.\n"
+    return "".join(lines) + f"\nProcessor time with `samtools`, `awk` and `sort`, over {about}; the least of {RUNS} runs. {slower} of {len(costs)} scripts are slower.\n"
 
 
 def table_differs(is_written):
