@@ -2,8 +2,8 @@
 """Checks that each link of the pages leads to a file, and to a heading of it where it names one, that what is said
 to be in a file of definitions is and each such file exists, that the paths in code spans of ARCHITECTURE.md, PROVED.md
 and the crates' pages exist, that the pages that name a version name the same one, that PROVED.md says how many files
-define the report, that ARCHITECTURE.md lists them, and the modules of each crate, and that the report names each
-definition of the model.
+define the report, that ARCHITECTURE.md lists them, and the modules of each crate, that the report names each
+definition of the model, and that no page says what another contradicts: the phrases of UNTRUE, and the limit of a sentence.
 
     docs/links.py [--write]
 
@@ -43,6 +43,18 @@ VERSIONS = {
     "CITATION.cff": r"^version: (\d+\.\d+\.\d+)",
     "packaging/bioconda/meta.yaml": r"set version = \"(\d+\.\d+\.\d+)\"",
 }
+
+# What was said once beside something else that is true, each with that.
+UNTRUE = {
+    r"samtools view -h [^|\n]*\|\s*(?:dunekettle|bedtools)": "bamtobed needs no header lines",
+    r"writes? each line as soon as": "ready lines are written 8,192 bytes at a time",
+    r"Default: both": "without -S and -strand features without a strand count too",
+    r"tail -f`?, is used line by line": "its output comes 8,192 bytes at a time",
+    r"merge -g`?[^.\n]*since bedtools refuses": "bedtools 2.30.0 takes merge -g",
+}
+WHERE = [*PAGES, *sorted(TOP.glob("man/*.1")), *sorted(TOP.glob("front/*")), TOP / "packaging" / "control"]
+# The limit of a sentence: where CONTRIBUTING.md says it, and where prose.py has it.
+LIMIT, LIMITED = r"At most (\d+) words a sentence", r"^PARAGRAPH, SENTENCE, CELL = \d+, (\d+),"
 
 # Where PROVED.md says in how many files and lines the report is defined, and the file that names the others.
 DEFINITIONS = re.compile(r"definitions that it names: (\d+) files with about ([\d,]+) lines")
@@ -273,6 +285,18 @@ def definitions_differ(is_written):
     return said or listed
 
 
+def untrue():
+    """The phrases that contradict what another page says, and a limit that isn't the one of prose.py."""
+    for file in WHERE:
+        for words, better in UNTRUE.items():
+            for found in re.findall(words, file.read_text(encoding="utf-8")):
+                yield f"{file.relative_to(TOP)}: {found!r}: {better}"
+    said = re.search(LIMIT, (TOP / "docs" / "CONTRIBUTING.md").read_text(encoding="utf-8"))
+    limit = re.search(LIMITED, (TOP / "docs" / "prose.py").read_text(encoding="utf-8"), re.MULTILINE)
+    if not said or not limit or said[1] != limit[1]:
+        yield "docs/CONTRIBUTING.md: another limit of a sentence than that of prose.py"
+
+
 def main():
     links = [(page, number, target) for page in PAGES for number, target in links_of(page)]
     broken = [link for link in links if leads_nowhere(link[0], link[2])]
@@ -284,7 +308,7 @@ def main():
     absent = [*missing(), *lost_paths()]
     for page, number, name in absent:
         print(f"{page.relative_to(TOP)}:{number}: {name} isn't there")
-    outside = [*strays(), *unnamed(), *other_modules()]
+    outside = [*strays(), *unnamed(), *other_modules(), *untrue()]
     for line in outside:
         print(line)
     found = versions()

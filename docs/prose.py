@@ -24,6 +24,8 @@ MADE = ("docs/CLAUSES.md",)
 COUNTS = ("paragraphs", "sentences", "cells", "dialect", "history", "proofs", "terms")
 PARAGRAPH, SENTENCE, CELL = 80, 22, 30
 MOST = 25_700
+# So many lines has the front page at most.
+FRONT, LINES = "README.md", 100
 # Pages whose subject is what changed.
 HISTORIES = ("CHANGELOG.md", "HISTORY.md")
 
@@ -181,6 +183,9 @@ def main():
         wrong += [f"{name}: no row in prose.txt: docs/prose.py --write" for name in now if name not in before]
         wrong += [f"{name}: a row in prose.txt without a page: docs/prose.py --write" for name in before if name not in every]
     words = sum(words_of(path) for path in every.values())
+    lines = len(every[FRONT].read_text(encoding="utf-8").splitlines())
+    if lines > LINES:
+        wrong.append(f"{FRONT}: {lines} lines, and {LINES} are allowed")
     if words > MOST:
         wrong.append(f"{words:,} words on all pages, and {MOST:,} are allowed")
     for line in wrong:
