@@ -23,6 +23,8 @@ CALL = re.compile(r"^( *)(pub(?:\([^)]*\))? )?(?:const )?fn (\w+)")
 CLAUSE = re.compile(r"\bensures\*? (\w+ )?\{")
 PART = re.compile(r"\s*(?:ensures|requires|measure|decreases)\b\*?[^{;]*\{")
 IMPORT = re.compile(r"^\s*ghost use Rattle\.(\w+)\.specs\.([\w.]+)\.\{([^}]*)\}", re.MULTILINE)
+# Of a call with more clauses only their number is said.
+MANY = 12
 # What a call returns that may have run out of memory.
 MEMORY = {"Fault", "AllocError", "Refusal"}
 # What tests.tsv says of a call that only writes, or passes a fault on.
@@ -140,6 +142,9 @@ def rows():
 def shown_clauses(clauses):
     """The clauses of a call: their names, and the words that they name, each once."""
     parts, seen = [], set()
+    if len(clauses) > MANY:
+        words = dict.fromkeys(word for _, named in clauses for word in named)
+        return f"{len(clauses)} clauses, on " + ", ".join(f"[`{word}`](../{path.relative_to(TOP)})" for word, path in words)
     for name, words in clauses:
         new = [word for word in words if word not in seen]
         seen.update(new)

@@ -48,7 +48,7 @@ def example(block):
 
 def blocks_of(section):
     """A section in blocks of contiguous lines, without its link to other pages."""
-    section = re.sub(r"^\[Options of bedtools, differences\]\([^)]*\)\. ", "", section, flags=re.MULTILINE)
+    section = re.sub(r"^\[Options of bedtools, differences\]\([^)]*\)\. ?", "", section, flags=re.MULTILINE)
     return [block.split("\n") for block in re.split(r"\n\n+", section.strip("\n"))]
 
 
