@@ -40,6 +40,8 @@ HEADER = "# made for a trial\nbrowser position chr1:1-3000\ntrack name=trial\n"
 BLOCK = re.compile(r"((?:^    .*\n)+)", re.MULTILINE)
 # The first line of the block that compares both programs.
 BOTH = "bedtools intersect "
+# The last lines of the histogram of 13 chromosomes of 240,000,000 bases, as bedtools 2.30.0 wrote them.
+LARGE = ["genome\t0\t3117999917\t3120000000\t0.999359", "genome\t1\t2000083\t3120000000\t0.000641052"]
 # The table of RECIPES.md, between two marks.
 MARKS = re.compile(r"(<!-- docs/recipes.py --write: table -->\n).*?(<!-- it ends here -->)", re.DOTALL)
 # Costs are measured over this many records, on chromosomes longer by as much; the least of so many runs counts.
@@ -225,6 +227,19 @@ def comparisons_differ(folders):
     return sum(1 for status in statuses if status) or int(not statuses)
 
 
+def large_differs(folders):
+    """Whether the histogram of a genome of more than 2^31 bases is another than bedtools 2.30.0 writes, which takes a minute for it."""
+    folder = Path(f"{folders['ours']}.large")
+    folder.mkdir()
+    (folder / "genome.txt").write_text("".join(f"chr{number:02}\t240000000\n" for number in range(1, 14)), encoding="utf-8")
+    (folder / "a.bed").write_text("chr01\t5\t2000005\nchr02\t7\t90\n", encoding="utf-8")
+    found, _, status = wrote("histogram.sh -i a.bed -g genome.txt", folder, folders["ours"])
+    is_same = status == 0 and found.decode().splitlines()[-2:] == LARGE
+    if not is_same:
+        print(f"histogram.sh over 3,120,000,000 bases: status {status}\n{short(found)}")
+    return int(not is_same)
+
+
 def their_folder(folder):
     """A folder with nothing but the bedtools on PATH, or None if it isn't the one of the page."""
     theirs = shutil.which("bedtools")
@@ -316,7 +331,7 @@ def run_cases(folders, words):
         fill(folders[kind], kind)
     chosen = [case for case in cases() if all(word in case[0] for word in words)]
     wrong = sum(tried(*case, folders) for case in chosen)
-    return len(chosen), wrong + (0 if words else comparisons_differ(folders))
+    return len(chosen), wrong + (0 if words else comparisons_differ(folders) + large_differs(folders))
 
 
 def main():
