@@ -35,7 +35,7 @@ LENGTHS = {"chr1": 3000, "chr10": 2000, "chr2": 1500}
 KINDS = ("six columns", "CR LF", "no sign", "three columns", "twelve columns", "header lines")
 # The kind whose chromosomes have another order than that of their bytes, and what a case has that is tried over it.
 NATURAL = "natural order"
-BY_GENOME = re.compile(r"(?:genomecov-(?:ends|split|bam)|by-genome)\.sh")
+BY_GENOME = re.compile(r"GENOME=|(?:genomecov-(?:ends|split|bam)|by-genome)\.sh")
 HEADER = "# made for a trial\nbrowser position chr1:1-3000\ntrack name=trial\n"
 BLOCK = re.compile(r"((?:^    .*\n)+)", re.MULTILINE)
 # The first line of the block that compares both programs.

@@ -1,12 +1,19 @@
 # shellcheck shell=bash
-# Functions of the recipes, which each script reads. BEDTOOLS names the program, if it isn't dunekettle-bedtools.
+# Functions of the recipes, which each script reads. BEDTOOLS names the program, if it isn't dunekettle-bedtools; GENOME a
+# genome file, if the chromosomes aren't in the order of their bytes.
 # shellcheck disable=SC2034,SC2154 # options are variables that only some scripts read
 set -euo pipefail
 export LC_ALL=C
 unset "${!opt_@}"
 TAB=$(printf '\t')
 
-bt() { "${BEDTOOLS:-dunekettle-bedtools}" "$@"; }
+# bt COMMAND WORD..: the program, with the genome file GENOME if there is one
+bt() {
+    case $1 in
+    merge | intersect | subtract) [ -z "${GENOME-}" ] || set -- "$1" -g "$GENOME" "${@:2}" ;;
+    esac
+    "${BEDTOOLS:-dunekettle-bedtools}" "$@"
+}
 fail() { echo "${0##*/}: $1" >&2; exit 2; }
 
 # A folder of this run, which is removed at its end.
@@ -55,6 +62,11 @@ by_genome() {
     awk -F'\t' 'NR == FNR { rank[$1] = NR; next }
         { print rank[$1] + 0 "\t" $0 }' "$1" - |
         sort -s -t "$TAB" -k1,1n -k3,3n | cut -f 2-
+}
+
+# in_order: standard input in the order of GENOME, or else of the names' bytes
+in_order() {
+    if [ -n "${GENOME-}" ]; then by_genome "$GENOME"; else sort -s -k1,1 -k2,2n; fi
 }
 
 # swap_strands FILE: the records that have a strand, with the other one

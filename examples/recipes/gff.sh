@@ -3,4 +3,4 @@
 # shellcheck source=functions.sh source-path=SCRIPTDIR disable=SC2154
 . "${BASH_SOURCE%/*}/functions.sh"
 awk -F'\t' -v OFS='\t' '{ sub(/\r$/, "") }
-    NF && !/^#/ { print $1, $4 - 1, $5, ".", 0, $7, $0 }' "$1" | sort -s -k1,1 -k2,2n
+    NF && !/^#/ { print $1, $4 - 1, $5, ".", 0, $7, $0 }' "$1" | in_order

@@ -15,7 +15,7 @@ read_words '-a: -b: -f: -s -sorted -u -v -c -C -wa -wb -filenames' "${words[@]}"
 rule=(${opt_f:+-f "$opt_f"} ${opt_s:+-s})
 for name in u v c; do
     option=opt_$name
-    [ -z "${!option-}" ] || { sort -k1,1 -k2,2n "${files[@]}" | bt intersect -a "$opt_a" -b - "-$name" "${rule[@]}"; exit; }
+    [ -z "${!option-}" ] || { cat "${files[@]}" | in_order | bt intersect -a "$opt_a" -b - "-$name" "${rule[@]}"; exit; }
 done
 shape=(-wa -wb)
 [ -z "${opt_C-}" ] || shape=(-c)

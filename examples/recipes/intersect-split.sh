@@ -10,7 +10,7 @@ blocks() {
         NF < 12 { print $1, $2, $3, NR; next }
         { n = split($11, size, ","); split($12, from, ",")
           for (i = 1; i <= n; i++) if (size[i]) print $1, $2 + from[i], $2 + from[i] + size[i], NR }' |
-        sort -k1,1 -k2,2n
+        in_order
 }
 records "$opt_a" > "$folder/a.bed"
 records "$opt_b" | blocks > "$folder/b.blocks"

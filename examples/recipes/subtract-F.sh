@@ -17,6 +17,6 @@ bt intersect -a "$folder/a.bed" -b "$opt_b" "${rule[@]}" -wo |
         $NF / ($10 - $9) >= second || (first != "" && $NF / ($3 - $2) >= first) {
         printf "%012d\t%s\t%s\n", $4, $9, $10 }' > "$folder/pairs.bed"
 awk -F'\t' '{ printf "%012d\t%s\t%s\t%s\n", $4, $2, $3, $7 }' "$folder/a.bed" |
-    bt subtract -a - -b "$folder/pairs.bed" ${opt_A:+-A} | awk -F'\t' '{
+    GENOME='' bt subtract -a - -b "$folder/pairs.bed" ${opt_A:+-A} | awk -F'\t' '{
         split($4, was, "\001"); old = length(was[1] was[2] was[3])
         print was[1] FS $2 FS $3 substr($4, old + 3) }' | tr '\001' '\t'

@@ -5,4 +5,4 @@
 awk -F'\t' -v OFS='\t' '{ sub(/\r$/, "") } NF && !/^#/ {
     if ($5 ~ /[<\[\]]/) { print "vcf.sh: a structural variant: line " NR > "/dev/stderr"; exit 1 }
     start = $2 - 1; end = start + length($4)
-    print $1, start, end, ".", 0, ".", $0 }' "$1" | sort -s -k1,1 -k2,2n
+    print $1, start, end, ".", 0, ".", $0 }' "$1" | in_order
