@@ -25,6 +25,8 @@ PART = re.compile(r"\s*(?:ensures|requires|measure|decreases)\b\*?[^{;]*\{")
 IMPORT = re.compile(r"^\s*ghost use Rattle\.(\w+)\.specs\.([\w.]+)\.\{([^}]*)\}", re.MULTILINE)
 # Of a call with more clauses only their number is said.
 MANY = 12
+# So many words of a sentence are shown.
+LONG = 20
 # What a call returns that may have run out of memory.
 MEMORY = {"Fault", "AllocError", "Refusal"}
 # What tests.tsv says of a call that only writes, or passes a fault on.
@@ -154,17 +156,21 @@ def shown_clauses(clauses):
 
 
 def sentence_of(file, name):
-    """The first sentence of the comment above a law."""
+    """The first sentence of the comment above a law, or its first part if that is long."""
     found = re.search(rf"((?:^ *///.*\n)+)(?:^ *#.*\n)*^ *pub fn {name}\b", file.read_text(encoding="utf-8"), re.MULTILINE)
     text = " ".join(line.strip().removeprefix("///").strip() for line in found[1].splitlines()) if found else ""
-    return re.split(r"(?<=\.)\s", text)[0]
+    sentence = re.split(r"(?<=\.)\s", text)[0]
+    while len(sentence.split()) > LONG and re.search(r"[:;,] ", sentence):
+        sentence = re.split(r"[:;,] (?!.*[:;,] )", sentence)[0] + " .."
+        sentence = sentence.replace(" .. ..", " ..")
+    return sentence
 
 
 def page(found):
     """The text of the page."""
     lines = ["# Clauses: the index of the contracts\n\n",
              "`docs/clauses.py` writes this page from the sources: each public call, what it may return instead of success, its clauses, and the words of "
-             "`specs/` that they name. The comment above a call says it in a sentence. [PROVED](PROVED.md) says what all of it comes to.\n\n"
+             "`specs/` that they name. The comment above a call says it in words; two dots: there it goes on, as with conditions. [PROVED](PROVED.md) says what all of it comes to.\n\n"
              "Every call returns, whatever it is given. One without an arrow has no answer for a failure: `None` is an answer. Only after a `Fault`, an "
              "`AllocError` or a `Refusal` can memory have run out. That it had cause is shown by clauses `quiet` and `memory`, and by "
              "[tests with ample memory](tests.tsv).\n"]
