@@ -17,6 +17,8 @@ from pathlib import Path
 HERE = Path(__file__).resolve().parent
 PAGE = HERE / "MIGRATING.md"
 SCRIPTS = HERE.parent / "examples" / "recipes"
+# The hints of `dunekettle` on options that aren't taken, if it has that file.
+INSTEAD = HERE.parent / "front" / "instead.txt"
 KINDS = ("silent", "error", "cosmetic")
 TAKERS = ("bedtools", "Dunekettle", "either")
 # A table of the page: its command, and what is between the two marks.
@@ -60,6 +62,17 @@ def differences_of(command):
     return "".join(lines)
 
 
+def instead():
+    """What a hint names instead of an option that isn't taken: a line for each, with nothing if there is nothing."""
+    for command, words, taken, text in options():
+        scripts = [] if text.startswith("none") else re.findall(r"`([\w-]+\.sh)`", text)
+        said = f"docs/RECIPES.md, {' or '.join(dict.fromkeys(scripts))}" if scripts else text if text.startswith("leave") else ""
+        for word in words if taken == "no" else ():
+            if word.startswith("-"):
+                yield f"{command}\t{word}\t{said}\n"
+    yield "intersect\tseveral -b\tdocs/RECIPES.md, intersect-files.sh\n"
+
+
 def made(command):
     """What the page has between the marks of a command."""
     return differences_of(command) if command == "every" else f"{options_of(command)}\n{differences_of(command)}"
@@ -90,6 +103,12 @@ def main():
         PAGE.write_text(renewed, encoding="utf-8")
     elif renewed != text:
         wrong.append("MIGRATING.md: a table isn't that of the files: docs/migrating.py --write")
+    hints = "".join(instead())
+    if INSTEAD.exists() and INSTEAD.read_text(encoding="utf-8") != hints:
+        if "--write" in sys.argv[1:]:
+            INSTEAD.write_text(hints, encoding="utf-8")
+        else:
+            wrong.append("front/instead.txt isn't that of options.tsv: docs/migrating.py --write")
     for line in wrong:
         print(line)
     count = sum(len(words) for _, words, _, _ in options())

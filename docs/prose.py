@@ -8,7 +8,7 @@ Counted are paragraphs over 80 words, sentences over 22, cells of tables over 30
 a plainer one for each), words of proofs outside the pages on proofs, several terms for one thing, and, in pages that
 describe today, words that tell history. The pages are the Markdown files of the repository and the manual pages that
 are written by hand. Headings and blocks of code aren't counted, and a piece of code in a sentence is one word. So
-counted, all pages together have at most MOST words. Ends with 1 if a count has risen, a page has no row, a row has no
+counted, all pages together have at most MOST words, without the tables of the bench, which bench/results.py writes. Ends with 1 if a count has risen, a page has no row, a row has no
 page, or the words are too many.
 """
 
@@ -24,6 +24,8 @@ MADE = ("docs/CLAUSES.md",)
 COUNTS = ("paragraphs", "sentences", "cells", "dialect", "history", "proofs", "terms")
 PARAGRAPH, SENTENCE, CELL = 80, 22, 30
 MOST = 25_300
+# What bench/results.py writes into a page, with the lines around it.
+MEASURED = re.compile(r"<!-- bench/results.py --write: \w+ -->\n.*?<!-- it ends here -->", re.DOTALL)
 # So many lines has the front page at most.
 FRONT, LINES = "README.md", 100
 # Pages whose subject is what changed.
@@ -95,10 +97,10 @@ def plain(text):
     return re.sub(r"`[^`]*`", "X", LINK.sub(r"\1", re.sub(r"<!--.*?-->|\*\*", "", text)))
 
 
-def paragraphs(path):
-    """The paragraphs of a page and the rows of its tables, each with its first line."""
+def paragraphs(text):
+    """The paragraphs of a page's text and the rows of its tables, each with its first line."""
     is_code, begun = False, None
-    for number, line in enumerate(path.read_text(encoding="utf-8").splitlines(), 1):
+    for number, line in enumerate(text.splitlines(), 1):
         is_fence = line.startswith("```")
         is_code ^= is_fence
         is_prose = line.strip() and not (is_code or is_fence or line.startswith(("    ", "#", ".", "'")))
@@ -113,7 +115,7 @@ def paragraphs(path):
 
 def found_in(path):
     """What is counted in a page: the kind, the line and what it is."""
-    for number, text in paragraphs(path):
+    for number, text in paragraphs(path.read_text(encoding="utf-8")):
         words = plain(text)
         if text.startswith("|"):
             for cell in CELL_END.split(LINK.sub(r"\1", text)):
@@ -139,8 +141,9 @@ def found_in(path):
 
 
 def words_of(path):
-    """How many words a page has."""
-    return sum(len(plain(text).replace("|", " ").split()) for _, text in paragraphs(path))
+    """How many words a page has, without the tables of the bench."""
+    written = MEASURED.sub("", path.read_text(encoding="utf-8"))
+    return sum(len(plain(text).replace("|", " ").split()) for _, text in paragraphs(written))
 
 
 def counts_of(path):
