@@ -294,7 +294,8 @@ def measure(folders, records):
             lines.append(f"{script}\t{theirs:.2f}\t{ours:.2f}\n")
             print(lines[-1], end="", flush=True)
     commit = subprocess.run(["git", "rev-parse", "--short", "HEAD"], cwd=TOP, stdout=subprocess.PIPE, text=True, check=False).stdout.strip()
-    about = f"script\tbedtools\tscript, over {records:,} records; commit {commit}, {time.strftime('%Y-%m-%d')}\n"
+    awk = Path(shutil.which("awk")).resolve().name
+    about = f"script\tbedtools\tscript, over {records:,} records by {awk}; commit {commit}, {time.strftime('%Y-%m-%d')}\n"
     (HERE / "costs.tsv").write_text(about + "".join(lines), encoding="utf-8")
 
 
