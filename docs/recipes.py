@@ -40,8 +40,13 @@ HEADER = "# made for a trial\nbrowser position chr1:1-3000\ntrack name=trial\n"
 BLOCK = re.compile(r"((?:^    .*\n)+)", re.MULTILINE)
 # The first line of the block that compares both programs.
 BOTH = "bedtools intersect "
-# The last lines of the histogram of 13 chromosomes of 240,000,000 bases, as bedtools 2.30.0 wrote them.
-LARGE = ["genome\t0\t3117999917\t3120000000\t0.999359", "genome\t1\t2000083\t3120000000\t0.000641052"]
+# The histogram of a genome of 3,100,000,000 bases in 310 chromosomes, of which one has features. bedtools 2.30.0 wrote it
+# in 154 seconds of processor, so it stands here. Then the awks that have to write it.
+WHOLE_GENOME = ("".join(f"chr3\t{row}\n" for row in ("0\t9009300\t10000000\t0.90093", "1\t707900\t10000000\t0.07079", "2\t282800\t10000000\t0.02828"))
+                + "".join(f"chr{number}\t0\t10000000\t10000000\t1\n" for number in range(1, 311) if number != 3)
+                + "".join(f"genome\t{row}\n" for row in ("0\t3099009300\t3100000000\t0.99968", "1\t707900\t3100000000\t0.000228355",
+                                                       "2\t282800\t3100000000\t9.12258e-05")))
+AWKS = ("mawk", "gawk", "busybox awk")
 # The table of RECIPES.md, between two marks.
 MARKS = re.compile(r"(<!-- docs/recipes.py --write: table -->\n).*?(<!-- it ends here -->)", re.DOTALL)
 # Costs are measured over this many records, on chromosomes longer by as much; the least of so many runs counts.
@@ -227,17 +232,26 @@ def comparisons_differ(folders):
     return sum(1 for status in statuses if status) or int(not statuses)
 
 
-def large_differs(folders):
-    """Whether the histogram of a genome of more than 2^31 bases is another than bedtools 2.30.0 writes, which takes a minute for it."""
-    folder = Path(f"{folders['ours']}.large")
-    folder.mkdir()
-    (folder / "genome.txt").write_text("".join(f"chr{number:02}\t240000000\n" for number in range(1, 14)), encoding="utf-8")
-    (folder / "a.bed").write_text("chr01\t5\t2000005\nchr02\t7\t90\n", encoding="utf-8")
-    found, _, status = wrote("histogram.sh -i a.bed -g genome.txt", folder, folders["ours"])
-    is_same = status == 0 and found.decode().splitlines()[-2:] == LARGE
-    if not is_same:
-        print(f"histogram.sh over 3,120,000,000 bases: status {status}\n{short(found)}")
-    return int(not is_same)
+def whole_genome_differs(folders):
+    """Runs the histogram over a whole genome by each awk, and returns how many differ."""
+    folder, wrong = f"{folders['ours']}.whole", 0
+    Path(folder).mkdir()
+    Path(folder, "genome.txt").write_text("".join(f"chr{number}\t10000000\n" for number in range(1, 311)), encoding="utf-8")
+    Path(folder, "a.bed").write_text("".join(f"chr3\t{start}\t{start + 900}\n" for start in range(0, 990_000, 700)), encoding="utf-8")
+    for awk in AWKS:
+        name, *words = awk.split()
+        if not shutil.which(name):
+            print(f"no {name}: passed over")
+            continue
+        made = f"{folder}/{name}"
+        Path(made).mkdir()
+        Path(made, "awk").write_text("#!/bin/sh\nexec " + " ".join([shutil.which(name), *words, '"$@"\n']), encoding="utf-8")
+        Path(made, "awk").chmod(0o755)
+        ours, error, status = wrote("histogram.sh -i a.bed -g genome.txt", folder, f"{made}:{folders['ours']}")
+        if (ours, status) != (WHOLE_GENOME.encode(), 0):
+            wrong += 1
+            print(f"the histogram of a whole genome by {awk}, status {status}:\n{short(ours)}    {error.strip()}")
+    return wrong
 
 
 def their_folder(folder):
@@ -332,7 +346,7 @@ def run_cases(folders, words):
         fill(folders[kind], kind)
     chosen = [case for case in cases() if all(word in case[0] for word in words)]
     wrong = sum(tried(*case, folders) for case in chosen)
-    return len(chosen), wrong + (0 if words else comparisons_differ(folders) + large_differs(folders))
+    return len(chosen), wrong + (0 if words else comparisons_differ(folders) + whole_genome_differs(folders))
 
 
 def main():
