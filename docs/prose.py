@@ -23,7 +23,7 @@ PAGES = ("*.md", "docs/*.md", "bench/*.md", "packaging/*.md", "crates/*/README.m
 MADE = ("docs/CLAUSES.md",)
 COUNTS = ("paragraphs", "sentences", "cells", "dialect", "history", "proofs", "terms")
 PARAGRAPH, SENTENCE, CELL = 80, 22, 30
-MOST = 25_300
+MOST = 26_000
 # What bench/results.py writes into a page, with the lines around it.
 MEASURED = re.compile(r"<!-- bench/results.py --write: \w+ -->\n.*?<!-- it ends here -->", re.DOTALL)
 # So many lines has the front page at most.
