@@ -15,7 +15,8 @@ use Rattle.bt_runs.specs.declared.coverage.depth_rule.CurrentChrom.{CurrentChrom
 use Rattle.bt_runs.specs.declared.coverage.depths.OpenInterval.{OpenInterval}
 use Rattle.bt_runs.specs.declared.engine.rule.Ruled.{Ruled}
 
--- What a count of depths keeps.
+-- What a count of depths keeps. In memory there are the ends of these records: their starts and their order exist in proofs
+-- alone.
 
 -- a span cut at a length
 abbrev pub cut_at : ℕ → Span → Span

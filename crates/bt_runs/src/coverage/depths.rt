@@ -55,11 +55,11 @@ pub(crate) fn go_on<K: Sink>(
     let mut begun = begun;
     while position < stop {
         held.go_on(position + 1);
-        let depth = reported(chrom.zeros, held.depth() as u64);
+        let depth = reported(chrom.zeros, held.len() as u64);
         begun = put_next(chrom.name, begun, position, depth, out)?;
         position = held.first_end(stop);
     }
-    held.settle(stop);
+    held.go_on(stop);
     Ok(begun)
 }
 

@@ -1,6 +1,6 @@
 use Rattle.bt_lines.proofs.Std.{heap_items, heap_len}
 use Rattle.bt_runs.specs.inside.Coverage.{CountsFrom, IsLeastFirst, ends_of}
-use Rattle.bt_runs.proofs.coverage.open_ends.pop_before.Given as goal
+use Rattle.bt_runs.proofs.coverage.open_records.pop_before.Given as goal
 
 -- only ends before the position were taken out so far
 abbrev pub invariant-loop-ends : goal.invariant-loop-ends

@@ -1,6 +1,6 @@
 use Rattle.bt_lines.proofs.Std.{◌<◌, arith, refl, heap_items, heap_len}
 use Rattle.bt_runs.proofs.lemmas.coverage.OpenLemmas.{top_before}
-use Rattle.bt_runs.proofs.coverage.open_ends.begins_before.Goals as goal
+use Rattle.bt_runs.proofs.coverage.open_records.begins_before.Goals as goal
 
 pub returns-in-Some : goal.returns-in-Some
 returns-in-Some c =

@@ -1,7 +1,7 @@
 use Rattle.bt_lines.proofs.Std.{arith, heap_items}
 use Rattle.bt_runs.specs.inside.Coverage.{ends_of}
 use Rattle.bt_runs.proofs.lemmas.coverage.OpenLemmas.{popped_counts, popped_order, some_before}
-use Rattle.bt_runs.proofs.coverage.open_ends.pop_before.Goals as goal
+use Rattle.bt_runs.proofs.coverage.open_records.pop_before.Goals as goal
 
 pub loop-ends-preserved : goal.loop-ends-preserved
 loop-ends-preserved c =
