@@ -4,6 +4,7 @@
     bench/compare.py [RECORDS] [--only WORDS] [--times N] [--discard]
     bench/compare.py --results [RECORDS] [--times N] [--trial FILE] [--inputs FOLDER]
     bench/compare.py --prepare [RECORDS] --inputs FOLDER
+    bench/compare.py --odd [--only WORDS] [--trial FILE]
     bench/compare.py --check [--store] [--only WORDS]
 
 Prints, for each command and kind of record, for RECORDS records (5,000,000 where it is missing) and
@@ -21,6 +22,9 @@ With `--results` it measures in one run, on an idle machine, all that the pages 
 results.json, and writes them anew: results.py says what. With `--trial` the machine may be busy, and FILE is
 written instead, marked as a trial. With `--inputs` the inputs stay in FOLDER, and those that are there are taken:
 `--prepare` only writes them, on all processors.
+
+With `--odd` it measures the odd inputs of odd.py beside bedtools, at one size, into odd.json and the pages; with `--only`
+it prints some of them and writes nothing. It fails where the outputs differ. A trial is as above.
 
 With `--check` nothing is timed: the instructions a record of this program are compared with those in
 instructions.txt. It fails where a workload takes over 3 percent more than there, or isn't there, and says
@@ -390,6 +394,8 @@ class Run:
     is_same: bool = True
     # The option that names the output file, where it isn't written to standard output.
     output_option: str = None
+    # The folder that it runs in, if it isn't this program's.
+    folder: Path = None
     seconds: float = math.inf
     kilobytes: int = 0
 
@@ -481,7 +487,7 @@ def write_sequences(folder, count, apart, seed):
 def time_run(run, output):
     """Runs a program, and keeps its least processor time in seconds and its highest peak memory in kilobytes."""
     with open(run.source or os.devnull, "rb") as source, open(output, "wb") as out:
-        process = subprocess.Popen(run.words_into(output), stdin=source, stdout=out, preexec_fn=lambda: trace(TRACEME, 0))
+        process = subprocess.Popen(run.words_into(output), stdin=source, stdout=out, cwd=run.folder, preexec_fn=lambda: trace(TRACEME, 0))
     kilobytes, status, seconds = ended(process.pid)
     run.kilobytes = max(run.kilobytes, kilobytes)
     process.returncode = os.waitstatus_to_exitcode(status)
@@ -667,6 +673,7 @@ def main():
     parser.add_argument("--trial", metavar="FILE")
     parser.add_argument("--inputs", metavar="FOLDER", type=Path)
     parser.add_argument("--prepare", action="store_true")
+    parser.add_argument("--odd", action="store_true")
     parser.add_argument("--check", action="store_true")
     parser.add_argument("--store", action="store_true")
     asked = parser.parse_args()
@@ -676,6 +683,10 @@ def main():
         parser.error("--store goes with --check")
     if asked.prepare and not asked.inputs:
         parser.error("--prepare goes with --inputs")
+    if asked.odd:
+        import odd  # pylint: disable=import-outside-toplevel,cyclic-import
+
+        sys.exit(odd.measure(asked.only, asked.trial))
     valgrind = shutil.which("valgrind")
     if asked.results or asked.prepare:
         import results  # pylint: disable=import-outside-toplevel,cyclic-import
