@@ -5,9 +5,9 @@ genome.txt is the genome file of those that take one."""
 
 import random
 
-import compare
+import workloads
 
-HUMAN = [(name, length * 1_000_000) for name, length in compare.CHROMOSOMES]
+HUMAN = [(name, length * 1_000_000) for name, length in workloads.CHROMOSOMES]
 # The same in the order of a genome browser: not that of the names' bytes.
 KARYOTYPE = sorted(HUMAN, key=lambda one: (len(one[0]), one[0]))
 ONE = [("chr1", 249_000_000)]
@@ -136,13 +136,13 @@ def long_lines(folder):
 
 def touching_reads(folder):
     """Records of which a third touch or overlap the one before."""
-    compare.write_records(folder / "a.bed", 1_000_000, 6, 1)
+    workloads.write_records(folder / "a.bed", 1_000_000, 6, 1)
 
 
 def exons_and_reads(folder):
     """Exons of 50 to 400 bases, and reads of 150."""
-    compare.write_features(folder / "a.bed", 100_000, compare.EXONS, 1)
-    compare.write_features(folder / "b.bed", 1_000_000, compare.READS, 2)
+    workloads.write_features(folder / "a.bed", 100_000, workloads.EXONS, 1)
+    workloads.write_features(folder / "b.bed", 1_000_000, workloads.READS, 2)
 
 
 def amplicons(folder):

@@ -27,6 +27,7 @@ from pathlib import Path
 
 import chart
 import compare
+import workloads
 
 HERE = Path(__file__).resolve().parent
 TOP = HERE.parent
@@ -57,7 +58,7 @@ PAGES = ("README.md", "bench/README.md")
 
 def reported():
     """The workloads that the tables have."""
-    return [it for it in compare.WORKLOADS if (it.is_reported and "without -g" not in it.name()) or it.name() in ALSO]
+    return [it for it in workloads.WORKLOADS if (it.is_reported and "without -g" not in it.name()) or it.name() in ALSO]
 
 
 def shown(command):
@@ -133,7 +134,7 @@ def grown(command, others, folder, sizes, times):
 
 def sizes_for(records):
     """The sizes at which growth is measured."""
-    return [size * records // compare.TIMED for size in SIZES]
+    return [size * records // workloads.TIMED for size in SIZES]
 
 
 def prepare(folder, records):
