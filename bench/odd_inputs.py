@@ -11,6 +11,8 @@ HUMAN = [(name, length * 1_000_000) for name, length in workloads.CHROMOSOMES]
 # The same in the order of a genome browser: not that of the names' bytes.
 KARYOTYPE = sorted(HUMAN, key=lambda one: (len(one[0]), one[0]))
 ONE = [("chr1", 249_000_000)]
+# The chromosomes of a fly, 134 million bases, on which the genomecov of bedtools takes a second.
+FLY = [("chr2L", 23_513_712), ("chr2R", 25_286_936), ("chr3L", 28_110_227), ("chr3R", 32_079_331), ("chr4", 1_348_131), ("chrX", 23_542_271)]
 VIRUS = [("MN908947.3", 29_903)]
 MITOCHONDRION = [("chrM", 16_569)]
 # A chromosome of a salamander, whose positions don't fit into 31 bits.
@@ -140,19 +142,16 @@ def touching_reads(folder):
 
 
 def exons_and_reads(folder):
-    """Exons of 50 to 400 bases, and reads of 150."""
-    workloads.write_features(folder / "a.bed", 100_000, workloads.EXONS, 1)
-    workloads.write_features(folder / "b.bed", 1_000_000, workloads.READS, 2)
+    """100,000 exons of 50 to 400 bases, and 1,000,000 reads of 150, on a fiftieth of the human chromosomes."""
+    workloads.write_features(folder / "a.bed", 1_000_000, workloads.EXONS, 1, 0.02)
+    workloads.write_features(folder / "b.bed", 1_000_000, workloads.READS, 2, 0.02)
 
 
 def amplicons(folder):
-    """98 amplicons of a virus that overlap, and 1,000,000 reads of them."""
+    """98 amplicons of a virus that overlap, and 1,000,000 reads of 150 bases."""
     numbers = random.Random(1)
-    tiles = [(30 + 303 * at, 430 + 303 * at) for at in range(98)]
-    write_lines(folder / "a.bed", ((VIRUS[0][0], *tile, f"amplicon_{at + 1}") for at, tile in enumerate(tiles)))
-    found = (numbers.choice(tiles) for _ in range(1_000_000))
-    intervals = sorted((start + numbers.randint(0, 30), stop - numbers.randint(0, 200)) for start, stop in found)
-    write_lines(folder / "b.bed", with_strands(numbers, ((VIRUS[0][0], *interval) for interval in intervals)))
+    write_lines(folder / "a.bed", ((VIRUS[0][0], 30 + 303 * at, 430 + 303 * at, f"amplicon_{at + 1}") for at in range(98)))
+    write_lines(folder / "b.bed", places(numbers, VIRUS, 1_000_000, 150, 150))
 
 
 def mixed_reads(folder, count):
@@ -172,15 +171,15 @@ def million_mixed_reads(folder):
 
 
 def plain(folder, end="\n"):
-    """Records of three columns on the human chromosomes."""
+    """Records of three columns."""
     numbers = random.Random(1)
-    write_genome(folder, HUMAN)
+    write_genome(folder, FLY)
     for file in ("a.bed", "b.bed"):
-        write_lines(folder / file, places(numbers, HUMAN, 1_000_000, 100, 2_000), end)
+        write_lines(folder / file, places(numbers, FLY, 1_000_000, 50, 150), end)
 
 
 def crlf(folder):
-    """The same with the line ends of Windows; those of the genome file are plain, since bedtools refuses others."""
+    """The same with the line ends of Windows."""
     plain(folder, "\r\n")
 
 
@@ -196,9 +195,9 @@ def zero_padded(folder):
 def equal_starts(folder):
     """Reads from the sites of a restriction enzyme: 100 begin at each."""
     numbers = random.Random(1)
-    write_genome(folder, HUMAN)
+    write_genome(folder, FLY)
     for file in ("a.bed", "b.bed"):
-        sites = list(places(numbers, HUMAN, 10_000, 1, 1))
+        sites = places(numbers, FLY, 10_000, 300, 300)
         lines = ((name, start, start + numbers.randint(100, 300)) for name, start, _ in sites for _ in range(100))
         write_lines(folder / file, with_strands(numbers, lines))
 
@@ -336,10 +335,8 @@ def nanopore_reads(folder):
 def blank_lines(folder):
     """Records that are apart, with a blank line after each."""
     numbers = random.Random(1)
-    write_genome(folder, HUMAN)
-    total = sum(length for _, length in HUMAN)
-    step = total // 1_000_000
-    lines = ((name, start, start + numbers.randint(100, step - 10)) for name, length in HUMAN for start in range(0, length - step, step))
+    write_genome(folder, FLY)
+    lines = ((name, start, start + numbers.randint(20, 120)) for name, length in FLY for start in range(0, length - 130, 130))
     write_lines(folder / "a.bed", lines, "\n\n")
 
 
@@ -393,11 +390,11 @@ def variants_and_genes(folder):
 
 
 def bins(folder):
-    """The genome in bins of 3,000 bases with a value, and in bins of 10,000."""
+    """A genome in bins of 130 bases with a value, and in bins of 1,000."""
     numbers = random.Random(1)
-    write_genome(folder, HUMAN)
-    for file, size in (("a.bed", 3_000), ("b.bed", 10_000)):
-        lines = ((name, start, min(start + size, length), f"{numbers.random():.5f}") for name, length in HUMAN for start in range(0, length, size))
+    write_genome(folder, FLY)
+    for file, size in (("a.bed", 130), ("b.bed", 1_000)):
+        lines = ((name, start, min(start + size, length), f"{numbers.random():.5f}") for name, length in FLY for start in range(0, length, size))
         write_lines(folder / file, lines)
 
 
