@@ -1,8 +1,8 @@
 """The odd inputs of the bench: real ones on which a program may be slow, each beside bedtools.
 
 compare.py --odd runs them. Of each workload the outputs of both programs are compared by their checksums, and then each
-program is timed with its output to /dev/null. An input is made such that both programs write the same bytes: by what
-it keeps clear of docs/DIFFERENCES.md is said in its note.
+program is timed with its output to /dev/null. Each input is such that both programs write the same bytes; a note says how
+it avoids a difference that docs/DIFFERENCES.md names.
 """
 
 import hashlib
@@ -21,7 +21,7 @@ import compare
 import odd_inputs as inputs
 import results
 
-# A program that takes fewer seconds than this is run so often, and else less often.
+# A workload that takes bedtools fewer seconds than this is timed five times, and a longer one three times.
 SHORT, OFTEN, LESS_OFTEN = 3.0, 5, 3
 
 
@@ -35,24 +35,21 @@ class Odd:
     write: callable
     # At most such a part of bedtools' time is aimed at.
     goal: float = 1.0
-    # Of what in docs/DIFFERENCES.md the input, or the command of bedtools, keeps clear.
+    # How the input avoids a difference that docs/DIFFERENCES.md names.
     note: str = ""
 
     def name(self):
         return f"{self.words}, {self.data}"
 
     def command(self, program):
-        """The words of a program in the folder of the input, but for the output."""
+        """The words of a program in the folder of the input, without the output."""
         name, *options = self.words.split()
-        if program == "bedtools":
-            options += {"subtract": ["-sorted"]}.get(name, [])
-            if name == "merge" and "-g" in options:
-                options.remove("-g")
-        if "-g" in options:
-            options.remove("-g")
+        is_with_genome = "-g" in options or name in ("complement", "genomecov")
+        options = [option for option in options if option != "-g"]
+        if is_with_genome and not (name == "merge" and program == "bedtools"):
             options += ["-g", "genome.txt"]
-        if name in ("complement", "genomecov"):
-            options += ["-g", "genome.txt"]
+        if name == "subtract" and program == "bedtools":
+            options.append("-sorted")
         return [name, *options, *self.files(name)]
 
     @staticmethod
@@ -121,6 +118,18 @@ WORKLOADS = [
     *of(inputs.long_positions, "chromosomes of three billion bases", "intersect -sorted -wo -f 0.1", "merge -d 100000"),
     *of(inputs.one_record, "one record and 1,000,000", "intersect -sorted"),
     *of(inputs.header_lines, "header lines before each hundredth record", "merge"),
+    *of(inputs.empty_second, "an empty second input", "intersect -sorted -v", "subtract"),
+    *of(inputs.touching_sites, "sites of two bases that touch", "merge", "complement", "intersect -sorted -c", "genomecov -bg"),
+    *of(inputs.accents, "names with spaces in UTF-8", "intersect -sorted -wa -wb"),
+    *of(inputs.short_names, "chromosomes named by one byte or two", "merge", "intersect -sorted -u"),
+    *of(inputs.nested_domains, "domains twelve deep and peaks", "intersect -sorted -wo", "subtract"),
+    *of(inputs.itself, "records against themselves", "intersect -sorted -f 1 -r", "subtract"),
+    *of(inputs.elsewhere, "inputs that share no chromosome", "intersect -sorted -g", "subtract -g"),
+    *of(inputs.segments, "segments of many patients and genes", "intersect -sorted -c", "merge"),
+    *of(inputs.inserted_sequences, "variants with long sequences", "intersect -sorted", "merge"),
+    *of(inputs.stranded_reads, "reads of both strands, each at another base", "merge -s", note="no equal starts"),
+    *of(inputs.dense_masks, "a sequence under 1,000,000 records", "maskfasta"),
+    *of(inputs.alignments_to_draft, "reads on 300,000 contigs", "bamtobed"),
 ]
 
 

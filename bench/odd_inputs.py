@@ -3,6 +3,7 @@
 A workload of one file reads a.bed, one of two files a.bed and b.bed, bamtobed a.sam, and maskfasta a.fa and b.bed;
 genome.txt is the genome file of those that take one."""
 
+import itertools
 import random
 
 import workloads
@@ -27,7 +28,7 @@ def contigs(count, shortest, longest, name="JAHLQT{:09}.1"):
 
 def write_lines(path, records, end="\n"):
     """Writes records, each of which is a tuple of its columns."""
-    with open(path, "w", encoding="ascii", newline="") as lines:
+    with open(path, "w", encoding="utf-8", newline="") as lines:
         lines.writelines("\t".join(map(str, record)) + end for record in records)
 
 
@@ -435,3 +436,99 @@ def header_lines(folder):
     intervals = enumerate(reads(numbers, HUMAN, 1_000_000, 100, 900))
     head = 'browser position chr1:1-1000\ntrack name="sample" description="peaks of a sample"\n'
     write_lines(folder / "a.bed", ((head + name if at % 100 == 0 else name, *columns) for at, (name, *columns) in intervals))
+
+
+def empty_second(folder):
+    """Reads, and a second input without a record."""
+    numbers = random.Random(1)
+    write_lines(folder / "a.bed", reads(numbers, HUMAN, 1_000_000, 100, 200))
+    write_lines(folder / "b.bed", [])
+
+
+def touching_sites(folder):
+    """Sites of two bases, most of which touch the next, with a number each."""
+    numbers = random.Random(1)
+    write_genome(folder, FLY)
+    starts = ((name, start) for name, length in FLY for start in range(10_000, length // 40, 2) if numbers.random() < 0.2 or start // 100 % 3)
+    write_lines(folder / "a.bed", ((name, start, start + 2, numbers.randint(0, 100)) for name, start in starts))
+    write_lines(folder / "b.bed", reads(numbers, FLY, 100_000, 100, 2_000))
+
+
+def accents(folder):
+    """Records whose names are words with spaces, in UTF-8."""
+    numbers = random.Random(1)
+    words = ["r\u00e9gion codante", "Stra\u00dfe 7", "\u9057\u4f1d\u5b50", "caf\u00e9", "\u03b1-\u03b2 locus"]
+    for file in ("a.bed", "b.bed"):
+        intervals = places(numbers, HUMAN, 500_000, 100, 2_000)
+        write_lines(folder / file, ((*interval, f"{numbers.choice(words)} {at}", 0, numbers.choice("+-")) for at, interval in enumerate(intervals)))
+
+
+def short_names(folder):
+    """Reads and genes on chromosomes without a prefix, as Ensembl names them."""
+    numbers = random.Random(1)
+    ensembl = sorted((name.removeprefix("chr"), length) for name, length in HUMAN)
+    write_genome(folder, ensembl)
+    write_lines(folder / "a.bed", reads(numbers, ensembl, 1_000_000, 35, 75))
+    write_lines(folder / "b.bed", reads(numbers, ensembl, 60_000, 500, 100_000))
+
+
+def nested_domains(folder):
+    """Domains in domains, twelve deep, and peaks."""
+    numbers = random.Random(1)
+    nests = list(places(numbers, HUMAN, 20_000, 100_000, 140_000))
+    domains = sorted((name, start + 2_000 * depth, stop - 2_000 * depth) for name, start, stop in nests for depth in range(12))
+    write_lines(folder / "a.bed", domains)
+    write_lines(folder / "b.bed", places(numbers, HUMAN, 200_000, 200, 2_000))
+
+
+def itself(folder):
+    """The same records in both inputs."""
+    for file in ("a.bed", "b.bed"):
+        write_lines(folder / file, reads(random.Random(1), HUMAN, 1_000_000, 200, 900))
+
+
+def elsewhere(folder):
+    """Records on chromosomes of which the other input has none."""
+    numbers = random.Random(1)
+    write_genome(folder, HUMAN)
+    write_lines(folder / "a.bed", reads(numbers, HUMAN[::2], 1_000_000, 100, 200))
+    write_lines(folder / "b.bed", reads(numbers, HUMAN[1::2], 1_000_000, 100, 200))
+
+
+def segments(folder):
+    """Segments of up to ten million bases from many patients, and genes."""
+    numbers = random.Random(1)
+    write_lines(folder / "a.bed", reads(numbers, HUMAN, 100_000, 10_000, 10_000_000))
+    write_lines(folder / "b.bed", reads(numbers, HUMAN, 20_000, 1_000, 100_000))
+
+
+def inserted_sequences(folder):
+    """Structural variants with the sequences that they insert, of up to 50,000 bytes."""
+    numbers = random.Random(1)
+    bases = "".join(numbers.choice("ACGT") for _ in range(60_000))
+    variants = reads(numbers, HUMAN, 10_000, 1, 10_000)
+    write_lines(folder / "a.bed", ((*variant, bases[: numbers.randint(1, 50_000)]) for variant in variants))
+    write_lines(folder / "b.bed", reads(numbers, HUMAN, 100_000, 100, 50_000))
+
+
+def stranded_reads(folder):
+    """Reads of genes that overlap on both strands: no two begin at one base."""
+    numbers = random.Random(1)
+    intervals = ((name, start, stop) for name, start, stop in places(numbers, FLY, 1_000_000, 75, 75))
+    apart = (next(group) for _, group in itertools.groupby(intervals, lambda one: one[:2]))
+    write_lines(folder / "a.bed", with_strands(numbers, apart))
+
+
+def dense_masks(folder):
+    """1,000,000 records on a sequence of 50 million bases."""
+    sequence = [("chr22", 50_000_000)]
+    write_sequences(folder, sequence, 50)
+    write_lines(folder / "b.bed", places(random.Random(1), sequence, 1_000_000, 5, 60))
+
+
+def alignments_to_draft(folder):
+    """Reads of 100 bases on 300,000 contigs, each of which has a header line."""
+    numbers = random.Random(1)
+    draft = contigs(300_000, 1_000, 20_000)
+    starts = few_on_each(numbers, draft, 3, 100, 100)
+    write_sam(folder, draft, ((f"A:{at}", numbers.choice((0, 16)), name, start, [(100, "M")]) for at, (name, start, _) in enumerate(starts)))
