@@ -28,7 +28,7 @@ def contigs(count, shortest, longest, name="JAHLQT{:09}.1"):
 
 def write_lines(path, records, end="\n"):
     """Writes records, each of which is a tuple of its columns."""
-    with open(path, "w", encoding="utf-8", newline="") as lines:
+    with open(path, "w", encoding="ascii", newline="") as lines:
         lines.writelines("\t".join(map(str, record)) + end for record in records)
 
 
@@ -454,10 +454,10 @@ def touching_sites(folder):
     write_lines(folder / "b.bed", reads(numbers, FLY, 100_000, 100, 2_000))
 
 
-def accents(folder):
-    """Records whose names are words with spaces, in UTF-8."""
+def spaces(folder):
+    """Records whose names are words with spaces."""
     numbers = random.Random(1)
-    words = ["r\u00e9gion codante", "Stra\u00dfe 7", "\u9057\u4f1d\u5b50", "caf\u00e9", "\u03b1-\u03b2 locus"]
+    words = ["coding region", "exon 7 of 9", "CpG: 30", "long repeat, old"]
     for file in ("a.bed", "b.bed"):
         intervals = places(numbers, HUMAN, 500_000, 100, 2_000)
         write_lines(folder / file, ((*interval, f"{numbers.choice(words)} {at}", 0, numbers.choice("+-")) for at, interval in enumerate(intervals)))
