@@ -14,6 +14,7 @@ import shutil
 import sys
 import tempfile
 import time
+from collections.abc import Callable
 from dataclasses import dataclass
 from pathlib import Path
 
@@ -32,7 +33,7 @@ class Odd:
     words: str
     # What the input is, and what writes it.
     data: str
-    write: callable
+    write: Callable
     # At most such a part of bedtools' time is aimed at.
     goal: float = 1.0
     # How the input avoids a difference that docs/DIFFERENCES.md names.
@@ -191,7 +192,8 @@ def rows_of(workloads):
 def measure(only, trial):
     """Measures the workloads whose names have these words in them, and writes all of them into odd.json and the pages, or
     into the file of a trial. Returns the exit status."""
-    if not shutil.which("bedtools"):
+    original = shutil.which("bedtools")
+    if not original or Path(original).resolve() == compare.PROGRAM:
         sys.exit("not on PATH: bedtools")
     if not only and not trial:
         results.check_idle()

@@ -65,7 +65,7 @@ def with_blocks(numbers, records):
         step = (stop - start) // count
         sizes = [numbers.randint(1, step) for _ in range(count - 1)] + [step]
         starts = [step * at for at in range(count - 1)] + [stop - start - step]
-        blocks = ("".join(f"{number}," for number in list_) for list_ in (sizes, starts))
+        blocks = ("".join(f"{number}," for number in numbers_of_blocks) for numbers_of_blocks in (sizes, starts))
         yield name, start, stop, *columns, start, stop, 0, count, *blocks
 
 
