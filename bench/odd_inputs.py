@@ -126,7 +126,7 @@ def many_held(folder):
     """2,000 records, the first of which spans the chromosome, over 1,000,000."""
     numbers = random.Random(1)
     write_lines(folder / "a.bed", [("chr1", 0, ONE[0][1]), *places(numbers, ONE, 1_999, 1_000, 50_000)])
-    write_lines(folder / "b.bed", reads(numbers, ONE, 1_000_000, 100, 200))
+    write_lines(folder / "b.bed", places(numbers, ONE, 1_000_000, 100, 200))
 
 
 def long_lines(folder):
