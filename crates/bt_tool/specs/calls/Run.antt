@@ -120,6 +120,8 @@ module _ {G : Type 0} (device : Source G) where
     pub named : is_some table ≡ is_some before
     pub distinct : IfSome table (λ table. AreDistinct (names_of table))
     pub served : ServesIf device.has_failed before after
+    -- the file's end was reported
+    pub ended : OfBoth (λ before after. device.end_told after ≡ true) before after
 
   -- the genome file is at fault, or couldn't be read
   pub record LacksChromosomes (before after : Option G) (fault : FaultValue) : Type 0 where
@@ -255,12 +257,13 @@ module _ {G A B K : Type 0} (source_g : Source G) (source_a : Source A) (source_
     pub second_input : OfBoth (Holds source_b.left) second inputs.second
 
   -- A fault of an input other than the genome file, of a kind that a line of it can have. With a
-  -- genome file that is by some list of its chromosomes, and without one in the order of the names'
-  -- bytes, if no chromosome is unknown.
+  -- genome file that is by the list of its chromosomes (if its text is unknown, by some list), and without one
+  -- in the order of the names' bytes, if no chromosome is unknown.
   pub record TellsOther (command : Command) (genome : Option G) (first first_after : A)
       (second second_after : Option B) (told : FaultValue) : Type 0 where
     pub chromosomes : Option (List Entry)
     pub named : is_some chromosomes ≡ is_some genome
+    pub of_file : (file : Option Handed) → OfBoth (Holds source_g.left) genome file → chromosomes_of file ≡ Ok chromosomes
     pub tells : TellsInput source_a (behaviour_of command chromosomes).FirstKinds First
         first first_after told
         ⊎ TellsInputIf source_b (behaviour_of command chromosomes).SecondKinds Second
@@ -320,6 +323,10 @@ module _ {G A B K : Type 0} (source_g : Source G) (source_a : Source A) (source_
     pub untouched : (told : FaultValue) → fault ≡ Some told
         → (place : Place) → told.place ≡ Some place → place.input ≡ Genome
         → (first_after ≡ first) × (second_after ≡ second)
+    -- Nor was it, whatever ended the run, unless the genome file was read up to its end without a fault. So
+    -- it wasn't if memory ran out before that end.
+    pub begun : ((first_after ≡ first) × (second_after ≡ second))
+        ⊎ ((table : Option GenomeTable) × KnowsChromosomes source_g genome genome_after table)
     -- What the fault may be, whatever the devices do. It is one that a line of an input can have (without
     -- a genome file none of it, and no unknown chromosome). Or it is a failed read, only if its source
     -- failed or may have passed the bound; a failed write, only if the sink failed; or running out of

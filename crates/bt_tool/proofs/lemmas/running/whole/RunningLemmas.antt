@@ -201,6 +201,7 @@ module _ {G A B K : Type 0} (source_g : Source G) (source_a : Source A) (source_
       untouched = λ t e place at is.
           let there = lies t.place place at is in
           absurd (others_elsewhere t (writes.named t (placed_by begun mid new fault answer t e there flushes.ends)) there);
+      begun = inr (table, knows);
       named = λ t e.
           rw writes_over.failed_after (named_by begun mid new fault answer (λ t e. of_others t (writes.named t e)) flushes.ends t e);
     }
@@ -249,6 +250,7 @@ module _ {G A B K : Type 0} (source_g : Source G) (source_a : Source A) (source_
           absurd (let apart : None ≡ Some wrong = sym (served_by begun mid new fault answer flushes.ends none).0 ∙ stops.0 in cc);
       after_genome = λ file holds wrong e. (stops.1, stops.2);
       untouched = λ t e place at is. (stops.1, stops.2);
+      begun = inl (stops.1, stops.2);
       named = λ t e.
           rw writes_over.failed_after (named_by begun mid new fault answer (λ t e. genome_named t lacks.named (some_is wrong t (sym stops.0 ∙ e))) flushes.ends t e);
     }
