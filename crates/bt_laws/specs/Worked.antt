@@ -1,13 +1,15 @@
 -- Worked values: what commands give of small inputs, as the public standards and the bedtools manual have it.
 use Rattle.std.specs.Prelude.{◌≡◌, ℕ, Bool, List, [], ◌∷◌, ◌++◌, Option, None, Some, codes}
-use Rattle.bt_lines.specs.model.Fault.{FaultValue}
+use Rattle.bt_lines.specs.model.Fault.{FaultValue, read_failed}
 use Rattle.bt_lines.specs.model.Lines.{Handed, whole_text, text_lines}
 use Rattle.bt_lines.specs.declared.fault.Input.{Input}
+use Rattle.bt_lines.specs.declared.fault.Input.TheVariants.{First}
 use Rattle.bt_lines.specs.declared.fault.Kind.{Kind}
 use Rattle.bt_bed.specs.model.BedLine.{fault_at_line}
 use Rattle.bt_bed.specs.model.Order.{byte_order}
 use Rattle.bt_sweep.specs.declared.hits.hit_rule.HitRule.{HitRule}
-use Rattle.bt_tool.specs.model.Report.{Inputs, report_of}
+use Rattle.bt_tool.specs.model.Report.{Inputs, report, report_of}
+use Rattle.bt_tool.specs.model.Table.{Word}
 use Rattle.bt_tool.specs.model.Written.{intersect_reaches, mask_reaches}
 use Rattle.bt_tool.specs.declared.planning.plan_type.Command.{Command}
 use Rattle.bt_tool.specs.declared.planning.plan_type.Command.TheVariants.{BamToBed}
@@ -32,6 +34,22 @@ Writes command inputs output = report_of command inputs ≡ record { output = ou
 abbrev pub StopsAtLine : Command → Inputs → List ℕ → Input → ℕ → Kind → Type 0
 StopsAtLine command inputs output input line kind =
     report_of command inputs ≡ record { output = output; fault = Some (fault_at_line input line kind) }
+
+-- what a text gives of which no more than this was handed over, as reading failed
+abbrev pub CutTo : Command → List ℕ → List ℕ → ℕ → Type 0
+CutTo command first output line =
+    report_of command (record { genome = None; first = record { text = first; is_cut = true }; second = None })
+    ≡ record { output = output; fault = Some (read_failed First line) }
+
+-- words and texts give this on standard output, this line on standard error, and this status
+abbrev pub Shows : List Word → List ℕ → List ℕ → List ℕ → List ℕ → Option (List ℕ) → ℕ → Type 0
+Shows words genome first second output line status =
+    report words genome first second ≡ record { output = output; line = line; status = status }
+
+-- words can't be used, whatever the texts, which is told by this line
+abbrev pub AreRefused : List Word → List ℕ → Type 0
+AreRefused words line =
+    (genome first second : List ℕ) → Shows words genome first second [] (Some line) 2
 
 -- the rule of -s
 abbrev pub on_one_strand : HitRule

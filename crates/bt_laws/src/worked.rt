@@ -1,10 +1,11 @@
 //! Worked values: what commands give of small inputs, computed by the definitions themselves. Each value is from the public
 //! standard or the bedtools manual, worked by hand.
 
-ghost use Rattle.std.specs.Prelude.{true, false, None, Some, [], codes};
-ghost use Rattle.bt_sweep.specs.calls.Sweeping.{any_overlap};
+ghost use Rattle.std.specs.Prelude.{◌≡◌, ◌∷◌, true, false, None, Some, [], codes};
+ghost use Rattle.bt_lines.specs.model.Fault.{text_of};
+ghost use Rattle.bt_lines.specs.model.Lines.{value_of};
 ghost use Rattle.bt_laws.specs.WholeRuns.{two_texts};
-ghost use Rattle.bt_laws.specs.Worked.{IsNamed, MaskReaches, Reaches, StopsAtLine, Writes, by_fraction, on_one_strand, one_text, sam_text, with_genome};
+ghost use Rattle.bt_laws.specs.Worked.{AreRefused, CutTo, IsNamed, MaskReaches, Reaches, Shows, StopsAtLine, Writes, by_fraction, on_one_strand, one_text, sam_text, with_genome};
 
 use bt_bed::Strand;
 use bt_lines::{Input, Kind};
@@ -33,7 +34,7 @@ pub fn strands()
         (two_texts (codes "c\t0\t10\n") (codes "c\t5\t8\tb\t0\t+\n")) [] }
     ensures minus_beside_none { Writes (Command.Intersect Shape.Cut on_one_strand None)
         (two_texts (codes "c\t0\t10\ta\t0\t-\n") (codes "c\t5\t8\n")) [] }
-    ensures not_asked { Writes (Command.Intersect Shape.Cut any_overlap None)
+    ensures not_asked { Writes (Command.Intersect Shape.Cut (by_fraction 0 false) None)
         (two_texts (codes "c\t0\t10\ta\t0\t+\n") (codes "c\t5\t8\tb\t0\t-\n")) (codes "c\t5\t8\ta\t0\t+\n") }
     ensures left_by_the_other { Writes (Command.Subtract false on_one_strand None)
         (two_texts (codes "c\t0\t4\ta\t0\t+\n") (codes "c\t1\t2\tb\t0\t-\n")) (codes "c\t0\t4\ta\t0\t+\n") }
@@ -98,9 +99,9 @@ pub fn reaches()
 /// Hits and their shapes (bedtools manual, intersect).
 #[tactic(auto, unfolding(bt_tool::specs::model::Report::report_of, bt_lines::specs::model::Lines::lines_from, bt_lines::specs::model::Lines::value_of, bt_bed::specs::model::Good::good_from, bt_bed::specs::model::Good::line_says, bt_bed::specs::model::BedLine::record_of, std::specs::Fmt::digits, bt_sweep::specs::model::Lines::lines_for, bt_sweep::specs::model::Hits::hits, bt_sweep::specs::model::Hits::strands_agree, bt_sweep::specs::model::Hits::is_enough, bt_sweep::specs::model::Hits::has_fraction, bt_bed::specs::model::Genome::genome_from, bt_bed::specs::model::Genome::entry_of))]
 pub fn hits()
-    ensures bookended { Writes (Command.Intersect Shape.Cut any_overlap None)
+    ensures bookended { Writes (Command.Intersect Shape.Cut (by_fraction 0 false) None)
         (two_texts (codes "c\t10\t20\n") (codes "c\t20\t30\n")) [] }
-    ensures bookended_missing { Writes (Command.Intersect Shape.Missing any_overlap None)
+    ensures bookended_missing { Writes (Command.Intersect Shape.Missing (by_fraction 0 false) None)
         (two_texts (codes "c\t10\t20\n") (codes "c\t20\t30\n")) (codes "c\t10\t20\n") }
     ensures half { Writes (Command.Intersect Shape.Cut (by_fraction 500000000 false) None)
         (two_texts (codes "c\t0\t10\n") (codes "c\t0\t5\n")) (codes "c\t0\t5\n") }
@@ -110,60 +111,60 @@ pub fn hits()
         (two_texts (codes "c\t0\t10\n") (codes "c\t0\t5\n")) (codes "c\t0\t5\n") }
     ensures less_of_the_second { Writes (Command.Intersect Shape.Cut (by_fraction 500000000 true) None)
         (two_texts (codes "c\t0\t5\n") (codes "c\t0\t11\n")) [] }
-    ensures all_pairs { Writes (Command.Intersect Shape.Cut any_overlap None)
+    ensures all_pairs { Writes (Command.Intersect Shape.Cut (by_fraction 0 false) None)
         (two_texts (codes "c\t0\t100\nc\t50\t60\n") (codes "c\t10\t20\nc\t55\t58\nc\t90\t95\n"))
         (codes "c\t10\t20\nc\t55\t58\nc\t90\t95\nc\t55\t58\n") }
-    ensures numbers { Writes (Command.Intersect Shape.Count any_overlap None)
+    ensures numbers { Writes (Command.Intersect Shape.Count (by_fraction 0 false) None)
         (two_texts (codes "c\t0\t100\nc\t50\t60\n") (codes "c\t10\t20\nc\t55\t58\nc\t90\t95\n"))
         (codes "c\t0\t100\t3\nc\t50\t60\t1\n") }
-    ensures two_held { StopsAtLine (Command.Intersect Shape.Cut any_overlap (Some 2))
+    ensures two_held { StopsAtLine (Command.Intersect Shape.Cut (by_fraction 0 false) (Some 2))
         (two_texts (codes "c\t0\t100\nc\t50\t60\n") (codes "c\t10\t20\nc\t55\t58\nc\t90\t95\n")) [] Input.Second 3 Kind.TooManyHeld }
-    ensures three_held { Writes (Command.Intersect Shape.Count any_overlap (Some 3))
+    ensures three_held { Writes (Command.Intersect Shape.Count (by_fraction 0 false) (Some 3))
         (two_texts (codes "c\t0\t100\nc\t50\t60\n") (codes "c\t10\t20\nc\t55\t58\nc\t90\t95\n"))
         (codes "c\t0\t100\t3\nc\t50\t60\t1\n") }
-    ensures original { Writes (Command.Intersect Shape.OrigA any_overlap None)
+    ensures original { Writes (Command.Intersect Shape.OrigA (by_fraction 0 false) None)
         (two_texts (codes "c\t10\t30\ta\n") (codes "c\t0\t15\tx\nc\t25\t40\ty\n")) (codes "c\t10\t30\ta\nc\t10\t30\ta\n") }
-    ensures with_the_second { Writes (Command.Intersect Shape.CutAndB any_overlap None)
+    ensures with_the_second { Writes (Command.Intersect Shape.CutAndB (by_fraction 0 false) None)
         (two_texts (codes "c\t10\t30\ta\n") (codes "c\t0\t15\tx\nc\t25\t40\ty\n"))
         (codes "c\t10\t15\ta\tc\t0\t15\tx\nc\t25\t30\ta\tc\t25\t40\ty\n") }
-    ensures both_original { Writes (Command.Intersect Shape.OrigBoth any_overlap None)
+    ensures both_original { Writes (Command.Intersect Shape.OrigBoth (by_fraction 0 false) None)
         (two_texts (codes "c\t10\t30\ta\n") (codes "c\t0\t15\tx\n")) (codes "c\t10\t30\ta\tc\t0\t15\tx\n") }
-    ensures overlap { Writes (Command.Intersect Shape.Overlap any_overlap None)
+    ensures overlap { Writes (Command.Intersect Shape.Overlap (by_fraction 0 false) None)
         (two_texts (codes "c\t10\t30\ta\n") (codes "c\t0\t15\tx\n")) (codes "c\t10\t30\ta\tc\t0\t15\tx\t5\n") }
-    ensures once { Writes (Command.Intersect Shape.Once any_overlap None)
+    ensures once { Writes (Command.Intersect Shape.Once (by_fraction 0 false) None)
         (two_texts (codes "c\t10\t30\ta\nc\t50\t51\n") (codes "c\t0\t15\tx\nc\t25\t40\ty\n")) (codes "c\t10\t30\ta\n") }
-    ensures whole_dropped { Writes (Command.Subtract true any_overlap None)
+    ensures whole_dropped { Writes (Command.Subtract true (by_fraction 0 false) None)
         (two_texts (codes "c\t10\t30\ta\nc\t50\t51\n") (codes "c\t0\t15\tx\n")) (codes "c\t50\t51\n") }
-    ensures zeros_before { Writes (Command.Intersect Shape.OrigA any_overlap None)
+    ensures zeros_before { Writes (Command.Intersect Shape.OrigA (by_fraction 0 false) None)
         (two_texts (codes "track x\n#y\nbrowser\tz\n\nc\t007\t9\n") (codes "c\t0\t15\r\n")) (codes "c\t7\t9\n") }
-    ensures second_at_fault { StopsAtLine (Command.Intersect Shape.Cut any_overlap None)
+    ensures second_at_fault { StopsAtLine (Command.Intersect Shape.Cut (by_fraction 0 false) None)
         (two_texts (codes "c\t0\t10\nc\t100\t110\n") (codes "c\t2\t4\nc\t50\t60\nc\tx\t9\n"))
         (codes "c\t2\t4\n") Input.Second 3 Kind.BadStart }
-    ensures rest_of_the_second { StopsAtLine (Command.Intersect Shape.Cut any_overlap None)
+    ensures rest_of_the_second { StopsAtLine (Command.Intersect Shape.Cut (by_fraction 0 false) None)
         (two_texts [] (codes "c\t2\t4\nc\t50\t60\nc\t9\tx\n")) [] Input.Second 3 Kind.BadStop }
-    ensures first_at_fault { StopsAtLine (Command.Intersect Shape.Cut any_overlap None)
+    ensures first_at_fault { StopsAtLine (Command.Intersect Shape.Cut (by_fraction 0 false) None)
         (two_texts (codes "c\t0\t10\nc\tx\t5\n") (codes "c\t2\t4\nc\t50\t60\nc\ty\t9\n"))
         (codes "c\t2\t4\n") Input.First 2 Kind.BadStart }
-    ensures returns_to_a_chromosome { StopsAtLine (Command.Intersect Shape.Cut any_overlap None)
+    ensures returns_to_a_chromosome { StopsAtLine (Command.Intersect Shape.Cut (by_fraction 0 false) None)
         (two_texts (codes "c\t0\t10\n") (codes "c\t2\t4\nd\t0\t5\nc\t50\t60\n")) (codes "c\t2\t4\n") Input.Second 3 Kind.OutOfOrder }
-    ensures no_bases { StopsAtLine (Command.Intersect Shape.Cut any_overlap None)
+    ensures no_bases { StopsAtLine (Command.Intersect Shape.Cut (by_fraction 0 false) None)
         (two_texts (codes "c\t5\t5\n") []) [] Input.First 1 Kind.EmptyFeature }
-    ensures two_columns { StopsAtLine (Command.Intersect Shape.Cut any_overlap None)
+    ensures two_columns { StopsAtLine (Command.Intersect Shape.Cut (by_fraction 0 false) None)
         (two_texts (codes "c\t5\n") []) [] Input.First 1 Kind.TooFewColumns }
-    ensures empty_name { StopsAtLine (Command.Intersect Shape.Cut any_overlap None)
+    ensures empty_name { StopsAtLine (Command.Intersect Shape.Cut (by_fraction 0 false) None)
         (two_texts (codes "\t5\t6\n") []) [] Input.First 1 Kind.EmptyName }
-    ensures high_start { StopsAtLine (Command.Intersect Shape.Cut any_overlap None)
+    ensures high_start { StopsAtLine (Command.Intersect Shape.Cut (by_fraction 0 false) None)
         (two_texts (codes "c\t1000000000000\t1000000000001\n") []) [] Input.First 1 Kind.BadStart }
 {}
 
 /// What is left of records (bedtools manual, subtract).
 #[tactic(auto, unfolding(bt_tool::specs::model::Report::report_of, bt_lines::specs::model::Lines::lines_from, bt_lines::specs::model::Lines::value_of, bt_bed::specs::model::Good::good_from, bt_bed::specs::model::Good::line_says, bt_bed::specs::model::BedLine::record_of, std::specs::Fmt::digits, bt_sweep::specs::model::Lines::lines_for, bt_sweep::specs::model::Hits::hits, bt_sweep::specs::model::Hits::strands_agree, bt_sweep::specs::model::Hits::is_enough, bt_sweep::specs::model::Hits::has_fraction, bt_bed::specs::model::Positions::stretches_from, bt_bed::specs::model::Positions::with_position, bt_sweep::specs::model::Lines::pieces))]
 pub fn pieces()
-    ensures pieces { Writes (Command.Subtract false any_overlap None)
+    ensures pieces { Writes (Command.Subtract false (by_fraction 0 false) None)
         (two_texts (codes "c\t0\t10\tn\t5\t+\n") (codes "c\t1\t2\nc\t1\t3\nc\t9\t20\n")) (codes "c\t0\t1\tn\t5\t+\nc\t3\t9\tn\t5\t+\n") }
-    ensures nothing { Writes (Command.Subtract false any_overlap None)
+    ensures nothing { Writes (Command.Subtract false (by_fraction 0 false) None)
         (two_texts (codes "c\t0\t10\n") (codes "c\t0\t10\n")) [] }
-    ensures other_chromosome { Writes (Command.Subtract false any_overlap None)
+    ensures other_chromosome { Writes (Command.Subtract false (by_fraction 0 false) None)
         (two_texts (codes "c\t2\t4\n") (codes "d\t0\t10\n")) (codes "c\t2\t4\n") }
     ensures too_little { Writes (Command.Subtract false (by_fraction 500000000 false) None)
         (two_texts (codes "c\t2\t5\n") (codes "c\t0\t3\n")) (codes "c\t2\t5\n") }
@@ -234,4 +235,82 @@ pub fn masks()
     ensures no_sequence_first { StopsAtLine (Command.MaskFasta (MaskHow.Hard 78) false) (two_texts (codes ">s\nAC\n") (codes "t\t0\t2\nt\tx\t5\n")) (codes ">s\nAC\n") Input.Second 1 Kind.NoSequence }
     ensures before_a_header { StopsAtLine (Command.MaskFasta (MaskHow.Hard 78) false) (two_texts (codes "ACGT\n>s\n") []) [] Input.First 1 Kind.TextBeforeHeader }
     ensures out_of_order { StopsAtLine (Command.MaskFasta (MaskHow.Hard 78) false) (two_texts (codes ">s\nAAAA\n") (codes "s\t3\t4\ns\t1\t2\n")) (codes ">s\n") Input.Second 2 Kind.OutOfOrder }
+{}
+
+/// The words of each fault, and of the line that tells it.
+pub fn texts()
+    ensures too_few_columns { text_of Kind.TooFewColumns ≡ codes "too few columns" }
+    ensures empty_name { text_of Kind.EmptyName ≡ codes "empty chromosome name" }
+    ensures bad_start { text_of Kind.BadStart ≡ codes "start is not a number" }
+    ensures bad_stop { text_of Kind.BadStop ≡ codes "end is not a number" }
+    ensures empty_feature { text_of Kind.EmptyFeature ≡ codes "start is not below end" }
+    ensures unknown_chrom { text_of Kind.UnknownChrom ≡ codes "chromosome is not in the genome file" }
+    ensures out_of_order { text_of Kind.OutOfOrder ≡ codes "record is out of order" }
+    ensures bad_length { text_of Kind.BadLength ≡ codes "length is not a number" }
+    ensures repeated_chrom { text_of Kind.RepeatedChrom ≡ codes "chromosome is repeated" }
+    ensures bad_flag { text_of Kind.BadFlag ≡ codes "flag is not a number" }
+    ensures bad_position { text_of Kind.BadPosition ≡ codes "position is not a number" }
+    ensures bad_quality { text_of Kind.BadQuality ≡ codes "mapping quality is not a number" }
+    ensures bad_cigar { text_of Kind.BadCigar ≡ codes "CIGAR is malformed" }
+    ensures stop_too_large { text_of Kind.StopTooLarge ≡ codes "end is too large" }
+    ensures text_before_header { text_of Kind.TextBeforeHeader ≡ codes "text before the first header" }
+    ensures no_sequence { text_of Kind.NoSequence ≡ codes "no such sequence from here on" }
+    ensures too_many_held { text_of Kind.TooManyHeld ≡ codes "too many open records" }
+    ensures read_failed { text_of Kind.ReadFailed ≡ codes "reading failed" }
+    ensures write_failed { text_of Kind.WriteFailed ≡ codes "writing failed" }
+    ensures no_memory { text_of Kind.NoMemory ≡ codes "no memory" }
+{}
+
+/// Command lines that can't be used.
+#[tactic(auto, unfolding(bt_tool::specs::model::Report::report_of, bt_lines::specs::model::Lines::lines_from, bt_lines::specs::model::Lines::value_of, bt_bed::specs::model::Good::good_from, bt_bed::specs::model::Good::line_says, bt_bed::specs::model::BedLine::record_of, std::specs::Fmt::digits, bt_bed::specs::model::Positions::stretches_from, bt_bed::specs::model::Positions::with_position, bt_runs::specs::model::Merged::is_bridged, bt_runs::specs::model::Merged::runs_of, bt_runs::specs::model::Merged::merged, bt_runs::specs::model::Merged::ordered_runs, bt_runs::specs::model::Merged::strand_runs, bt_runs::specs::model::Merged::settled_strand_runs, bt_bed::specs::model::Genome::genome_from, bt_bed::specs::model::Genome::entry_of, bt_sweep::specs::model::Lines::lines_for, bt_sweep::specs::model::Hits::hits, bt_sweep::specs::model::Hits::strands_agree, bt_sweep::specs::model::Hits::is_enough, bt_sweep::specs::model::Hits::has_fraction, bt_tool::specs::model::Report::report, bt_tool::specs::model::Options::options, bt_tool::specs::model::Options::word_fault, bt_tool::specs::model::Usage::items_of, bt_tool::specs::model::Fraction::fraction_in))]
+pub fn usage()
+    ensures no_command { AreRefused ([]) (codes "bedtools: no or unknown command\n") }
+    ensures unknown_command { AreRefused (codes "sort" ∷ []) (codes "bedtools: no or unknown command\n") }
+    ensures unknown_option { AreRefused (codes "merge" ∷ codes "-q" ∷ []) (codes "bedtools: unknown option: -q\n") }
+    ensures missing { AreRefused (codes "merge" ∷ codes "-d" ∷ []) (codes "bedtools: value missing: -d\n") }
+    ensures bad { AreRefused (codes "merge" ∷ codes "-d" ∷ codes "x" ∷ []) (codes "bedtools: bad value: -d\n") }
+    ensures required { AreRefused (codes "complement" ∷ []) (codes "bedtools: required option missing\n") }
+    ensures one_of_two { AreRefused (codes "genomecov" ∷ codes "-g" ∷ codes "g" ∷ []) (codes "bedtools: required option missing\n") }
+    ensures exclusive { AreRefused (codes "merge" ∷ codes "-g" ∷ codes "g" ∷ codes "-s" ∷ codes "-S" ∷ codes "+" ∷ []) (codes "bedtools: options exclude one another\n") }
+    ensures two_shapes { AreRefused (codes "intersect" ∷ codes "-a" ∷ codes "x" ∷ codes "-b" ∷ codes "y" ∷ codes "-u" ∷ codes "-c" ∷ []) (codes "bedtools: options exclude one another\n") }
+    ensures overwritten { AreRefused (codes "maskfasta" ∷ codes "-fi" ∷ codes "a" ∷ codes "-bed" ∷ codes "b" ∷ codes "-fo" ∷ codes "b" ∷ []) (codes "bedtools: options exclude one another\n") }
+    ensures twice { AreRefused (codes "intersect" ∷ codes "-a" ∷ codes "-" ∷ codes "-b" ∷ codes "stdin" ∷ []) (codes "bedtools: standard input named twice\n") }
+    ensures missing_first { AreRefused (codes "merge" ∷ codes "-g" ∷ codes "-" ∷ []) (codes "bedtools: standard input named twice\n") }
+    ensures high_fraction { AreRefused (codes "intersect" ∷ codes "-a" ∷ codes "x" ∷ codes "-b" ∷ codes "y" ∷ codes "-f" ∷ codes "1.5" ∷ []) (codes "bedtools: bad value: -f\n") }
+    ensures long_fraction { AreRefused (codes "subtract" ∷ codes "-a" ∷ codes "x" ∷ codes "-b" ∷ codes "y" ∷ codes "-f" ∷ codes "0.5000000000" ∷ []) (codes "bedtools: bad value: -f\n") }
+    ensures two_characters { AreRefused (codes "maskfasta" ∷ codes "-fi" ∷ codes "a" ∷ codes "-bed" ∷ codes "b" ∷ codes "-mc" ∷ codes "xy" ∷ []) (codes "bedtools: bad value: -mc\n") }
+    ensures no_strand { AreRefused (codes "genomecov" ∷ codes "-bg" ∷ codes "-g" ∷ codes "g" ∷ codes "-strand" ∷ codes "." ∷ []) (codes "bedtools: bad value: -strand\n") }
+{}
+
+/// Command lines with their inputs: standard output, standard error and the status.
+#[tactic(auto, unfolding(bt_tool::specs::model::Report::report_of, bt_lines::specs::model::Lines::lines_from, bt_lines::specs::model::Lines::value_of, bt_bed::specs::model::Good::good_from, bt_bed::specs::model::Good::line_says, bt_bed::specs::model::BedLine::record_of, std::specs::Fmt::digits, bt_bed::specs::model::Positions::stretches_from, bt_bed::specs::model::Positions::with_position, bt_runs::specs::model::Merged::is_bridged, bt_runs::specs::model::Merged::runs_of, bt_runs::specs::model::Merged::merged, bt_runs::specs::model::Merged::ordered_runs, bt_runs::specs::model::Merged::strand_runs, bt_runs::specs::model::Merged::settled_strand_runs, bt_bed::specs::model::Genome::genome_from, bt_bed::specs::model::Genome::entry_of, bt_sweep::specs::model::Lines::lines_for, bt_sweep::specs::model::Hits::hits, bt_sweep::specs::model::Hits::strands_agree, bt_sweep::specs::model::Hits::is_enough, bt_sweep::specs::model::Hits::has_fraction, bt_tool::specs::model::Report::report, bt_tool::specs::model::Options::options, bt_tool::specs::model::Options::word_fault, bt_tool::specs::model::Usage::items_of, bt_tool::specs::model::Fraction::fraction_in))]
+pub fn runs()
+    ensures without_a_fault { Shows (codes "merge" ∷ codes "-d" ∷ codes "5" ∷ codes "-d" ∷ codes "0" ∷ []) [] (codes "c\t1\t2\nc\t3\t4\n") [] (codes "c\t1\t2\nc\t3\t4\n") None 0 }
+    ensures of_the_first { Shows (codes "merge" ∷ codes "-i" ∷ codes "a.bed" ∷ []) [] (codes "c\t0\t3\nc\t6\t8\nc\t1\t2\n") []
+        (codes "c\t0\t3\n") (Some (codes "bedtools merge: a.bed:3: record is out of order\n")) 1 }
+    ensures of_standard_input { Shows (codes "merge" ∷ []) [] (codes "c\t0\t3\nc\t6\t8\nc\t1\t2\n") []
+        (codes "c\t0\t3\n") (Some (codes "bedtools merge: stdin:3: record is out of order\n")) 1 }
+    ensures of_the_genome_file { Shows (codes "merge" ∷ codes "-g" ∷ codes "g.txt" ∷ []) (codes "c\t9\nc\t8\n") (codes "c\t0\t3\n") []
+        [] (Some (codes "bedtools merge: g.txt:2: chromosome is repeated\n")) 1 }
+    ensures of_the_second { Shows (codes "intersect" ∷ codes "-a" ∷ codes "a.bed" ∷ codes "-b" ∷ codes "b.bed" ∷ codes "-wa" ∷ codes "-sorted" ∷ []) [] (codes "c\t0\t10\nc\t100\t110\n") (codes "c\t2\t4\nc\t50\t60\nc\tx\t9\n")
+        (codes "c\t0\t10\n") (Some (codes "bedtools intersect: b.bed:3: start is not a number\n")) 1 }
+{}
+
+/// Texts of which reading failed: a piece that was cut off is no line.
+#[tactic(auto, unfolding(bt_tool::specs::model::Report::report_of, bt_lines::specs::model::Lines::lines_from, bt_lines::specs::model::Lines::value_of, bt_bed::specs::model::Good::good_from, bt_bed::specs::model::Good::line_says, bt_bed::specs::model::BedLine::record_of, std::specs::Fmt::digits, bt_bed::specs::model::Positions::stretches_from, bt_bed::specs::model::Positions::with_position, bt_runs::specs::model::Merged::is_bridged, bt_runs::specs::model::Merged::runs_of, bt_runs::specs::model::Merged::merged, bt_runs::specs::model::Merged::ordered_runs, bt_runs::specs::model::Merged::strand_runs, bt_runs::specs::model::Merged::settled_strand_runs, bt_bed::specs::model::Genome::genome_from, bt_bed::specs::model::Genome::entry_of))]
+pub fn cut_texts()
+    ensures after_three_lines { CutTo (Command.Merge 0 MergeStrand.All) (codes "c\t1\t3\nc\t2\t4\nc\t4\t6\n") [] 4 }
+    ensures within_a_line { CutTo (Command.Merge 0 MergeStrand.All) (codes "c\t0\t3\nc\t6\t8\nc\t9\t12") (codes "c\t0\t3\n") 3 }
+    ensures at_once { CutTo (Command.Merge 0 MergeStrand.All) [] [] 1 }
+{}
+
+/// Numbers of at most twelve digits.
+#[tactic(auto, unfolding(bt_lines::specs::model::Lines::value_of))]
+pub fn numbers()
+    ensures zeros_before { value_of (codes "0000000000000000000000012") ≡ Some 12 }
+    ensures greatest { value_of (codes "999999999999") ≡ Some 999999999999 }
+    ensures above { value_of (codes "1000000000000") ≡ None }
+    ensures none { value_of [] ≡ None }
+    ensures no_digit { value_of (codes "1x") ≡ None }
+    ensures sign { value_of (codes "-1") ≡ None }
 {}
