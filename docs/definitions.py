@@ -6,7 +6,7 @@
 The definitions of crates/*/specs/model are put into a crate of their own, with the types that they name and with the worked
 values of bt_laws (`worked.rt`, and those of `reports/options.rt`). In a copy of it each change of definitions.edits is made,
 of those whose names have one of the words, and `rt check` says which worked values aren't what they were. A line has the
-definition, the change and the values. With --write the lines go to definitions.md instead. Ends with 1 where a change breaks
+definition, the change and the values. With --write the lines go to definitions.txt instead. Ends with 1 where a change breaks
 no value, can't be made, or can't be read. Tried by hand: it takes about a minute for each change.
 """
 
@@ -22,20 +22,13 @@ from pathlib import Path
 DOCS = Path(__file__).resolve().parent
 CRATES = DOCS.parent / "crates"
 EDITS = DOCS / "definitions.edits"
-TABLE = DOCS / "definitions.md"
+TABLE = DOCS / "definitions.txt"
 # The crates with definitions, lowest first.
 MODELS = ("bt_lines", "bt_bed", "bt_runs", "bt_sweep", "bt_seq", "bt_tool")
 # What the worked values are written with.
 WORDS = ("WholeRuns", "Worked")
 DECLARED = re.compile(r"Rattle\.(bt_\w+)\.specs\.declared\.([a-z_.]+)\.([A-Z]\w*)")
-HEAD = """# Wrong definitions
-
-Each row is a wrong variant of a definition, and a worked value that refuses it. [definitions.py](definitions.py) tries them and
-writes this page; the changes are in [definitions.edits](definitions.edits).
-
-| file | definition | wrong variant | worked values that refuse it |
-|---|---|---|---|
-"""
+HEAD = "# What definitions.py writes: file, definition, wrong variant, and the worked values that it breaks.\n"
 
 
 def renamed(text):
@@ -190,7 +183,7 @@ def attempt(base, folder, name, changes):
         wrong = "it breaks no worked value"
     file = changes[0][0].removeprefix("crates/").replace("/specs/model", "")
     shown = ", ".join(values[:3]) + (f" and {len(values) - 3} more" if len(values) > 3 else "")
-    return f"| {file} | `{definition}` | {name} | {wrong or shown} |", wrong is None
+    return f"{file}: {definition}: {name}: {wrong or shown}", wrong is None
 
 
 def main():
