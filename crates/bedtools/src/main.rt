@@ -30,6 +30,7 @@ ghost use Rattle.bt_tool.specs.model.Table.{Word};
 ghost use Rattle.bt_tool.specs.model.Usage.{usage_text};
 ghost use Rattle.bt_tool.specs.declared.options.usage.Usage.{Usage};
 ghost use Rattle.bedtools.specs.Ending.{CannotBegin, Ends, ReportsRun, ReportsUnopened};
+ghost use Rattle.bedtools.specs.Opened.{ComesOfRun, IsUnread};
 ghost use Rattle.bedtools.specs.Message.{Says, line_seen};
 
 mod identity;
@@ -103,7 +104,8 @@ fn carry_out(rt: &HostRuntime, plan: &Plan) -> Message
 
 // Runs a plan over its files. `Err` if one can't be opened.
 fn run_opened(rt: &HostRuntime, plan: &Plan) -> Result<Outcome, Message>
-    ensures { IfErr result (CannotBegin (plan_seen plan.now)) }
+    ensures runs { IfOk result (λ outcome. ComesOfRun (plan_seen plan.now) (option_map fault_value outcome.fault)) }
+    ensures unopened { IfErr result (CannotBegin (plan_seen plan.now)) }
 {
     let genome = open_if_named(rt, plan, &plan.genome)?;
     let first = open(rt, plan, plan.first.as_str())?;
@@ -150,7 +152,8 @@ fn open_if_named(
 
 // Opens an input. `Err` if it can't be opened.
 fn open(rt: &HostRuntime, plan: &Plan, name: &str) -> Result<Opened, Message>
-    ensures { IfErr result (ReportsUnopened (plan_seen plan.now) name.now) }
+    ensures unread { IfOk result IsUnread }
+    ensures reports { IfErr result (ReportsUnopened (plan_seen plan.now) name.now) }
 {
     match Opened::open(rt, name) {
         Ok(input) => Ok(input),

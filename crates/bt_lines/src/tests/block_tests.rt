@@ -46,6 +46,23 @@ fn one_line_across_the_border_of_a_block(rt: HostRuntime) -> Result<(), Fail> {
     Ok(())
 }
 
+// Whether a line of this many bytes is given before another.
+fn is_long_given(alloc: Global, length: usize) -> Result<bool, AllocError> {
+    let long = long_line(alloc, length, b"")?;
+    let text = long_line(alloc, length, b"\nb")?;
+    let lines: [Want; 2] = [(long.as_slice(), LineEnd::Lf), (b"b", LineEnd::Absent)];
+    Ok(is_divided(alloc, text.as_slice(), &lines, &[BLOCK]))
+}
+
+// With ample memory no line is too long.
+#[test]
+fn lines_of_megabytes_are_given(rt: HostRuntime) -> Result<(), Fail> {
+    for length in [1_000_000, 1_048_577, 5_000_000] {
+        assert!(rt; is_long_given(rt.alloc(), length)?, "of {length}");
+    }
+    Ok(())
+}
+
 // How many bytes of ten thousand lines of one letter are read in blocks for this many lines.
 fn read_for(alloc: Global, lines: u64) -> Result<Option<usize>, AllocError> {
     let mut text = Vec::new(alloc);

@@ -130,21 +130,13 @@ fn a_put_that_writes_reports_that_it_failed(rt: HostRuntime) -> Result<(), Fail>
     Ok(())
 }
 
-// For how many bytes there is room after this many, and whether a line and its line feed are buffered
-// there.
-fn pair_after(alloc: Global, before: usize) -> Result<(usize, bool), Fail> {
+// Whether a line and its line feed are buffered after this many bytes.
+fn pair_after(alloc: Global, before: usize) -> Result<bool, Fail> {
     let mut output = filled(alloc, before)?;
-    let room = output.room();
-    let is_put = output.try_put_pair(b"line", b"\n");
-    Ok((room, is_put))
+    Ok(output.try_put_pair(b"line", b"\n"))
 }
 
-const PAIRS: [(usize, (usize, bool)); 4] = [
-    (0, (8192, true)),
-    (8187, (5, true)),
-    (8188, (4, false)),
-    (8192, (0, false)),
-];
+const PAIRS: [(usize, bool); 4] = [(0, true), (8187, true), (8188, false), (8192, false)];
 
 // A piece and its line feed are buffered if both fit into the block, also to its last byte.
 #[test]

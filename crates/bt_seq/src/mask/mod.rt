@@ -74,7 +74,8 @@ impl Mask {
             → (stage.lines_ended ≡ false) ⊎ AreInBlocks stage.taken
             → result ≡ length (held_by (last_or None (given stage)) stage.taken) }
     {
-        self.state.kept_len()
+        let Mask { state } = self;
+        state.kept_len()
     }
 
     /// Takes the next line. It is written at once if the records have ended, if it is a blank line

@@ -9,7 +9,7 @@ use Rattle.bt_lines.specs.calls.Line.{line_seen}
 use Rattle.bt_lines.specs.model.Lines.{TextLine}
 use Rattle.bt_lines.specs.calls.Names.{fault_value}
 use Rattle.bt_lines.specs.inside.ReadBuffer.{complete}
-use Rattle.bt_lines.specs.calls.Reader.{DropsLines, FillsLines, GivesLine, HasRead, IsKept, IsSound, MakesLine, NextLine, TellsOwnFailure, buffered_bytes, bytes_left, bytes_taken, end_told, fault_kept, feeds_taken, has_ended, held, input_of, line_at, lines_given, lines_left, source_of}
+use Rattle.bt_lines.specs.calls.Reader.{DropsLines, FillsItsRoom, FillsLines, GivesLine, HasRead, IsKept, IsSound, MakesLine, NextLine, TellsOwnFailure, buffered_bytes, bytes_left, bytes_taken, end_told, fault_kept, feeds_taken, has_ended, held, input_of, line_at, lines_given, lines_left, source_of}
 use Rattle.bt_lines.specs.declared.fault.Fault.{Fault}
 use Rattle.bt_lines.specs.declared.reader.line.Line.{Line}
 use Rattle.bt_lines.specs.declared.reader.line_reader.LineReader.{LineReader}
@@ -45,8 +45,8 @@ module _ {S : Type 0} (device : Source S) where
 
   -- a step that met a fault, which the reader keeps
   pub stops_by : (old new : LineReader S) (fault : Fault) → FillsLines device old (Err fault) new → TellsOwnFailure {A = Bool} device.is_read old (Err fault) new
-      → (other : Fault) → fault_kept new ≡ Some (fault_value other) → NextLine device old (Err other) new
-  stops_by old new fault fills tells other e = grind arith
+      → FillsItsRoom {A = Bool} old (Err fault) new → (other : Fault) → fault_kept new ≡ Some (fault_value other) → NextLine device old (Err other) new
+  stops_by old new fault fills tells room other e = grind arith
 
   cuts_by : (b : Bool) (mid : LineReader S) → 0 < length (buffered_bytes mid) → (b ≡ false → complete mid.buffer ≡ []) → b ≡ true
   unfolding buffered_bytes
@@ -71,6 +71,7 @@ module _ {S : Type 0} (device : Source S) where
       record {
         answers = gives_after old mid new (line_seen line) filled.answers (gives cut line at);
         own_failure = has_read_then device.is_read old mid new (subst (λ (r : Result Bool Fault). TellsOwnFailure device.is_read old r mid) e read) (then cut);
+        memory = tt;
         sound = λ h. sound cut (filled.kept (record { end = h.end; within = h.within }));
       }
 
