@@ -37,6 +37,8 @@ fn whole_blocks_reach_the_sink(rt: HostRuntime) -> Result<(), Fail> {
     for (lengths, want) in &WHOLE_BLOCKS {
         assert_eq!(rt; taken_of(rt.alloc(), *lengths)?, *want, "{lengths:?}");
     }
+    let one_put = filled(rt.alloc(), 10)?.into_sink();
+    assert_eq!(rt; one_put.taken(), b"".as_slice());
     Ok(())
 }
 
