@@ -19,8 +19,8 @@ pub(crate) fn long_line(
 
 // What follows a long line, how that line ends, and how many lines the text has: the second is `b`.
 #[rattlefmt::skip]
-const ENDINGS: [(&[u8], LineEnd, usize); 4] = [
-    (b"\r\nb", LineEnd::CrLf, 2), (b"\nb", LineEnd::Lf, 2),
+const ENDINGS: [(&[u8], LineEnd, usize); 5] = [
+    (b"\r\n", LineEnd::CrLf, 1), (b"\r\nb", LineEnd::CrLf, 2), (b"\nb", LineEnd::Lf, 2),
     (b"\r", LineEnd::Cr, 1), (b"", LineEnd::Absent, 1),
 ];
 

@@ -3,7 +3,7 @@
 use crate::tests::block_tests::long_line;
 use crate::tests::holds;
 use crate::{BLOCK, Fault, Out, ScriptSink, Sink, put_both, put_column, put_line, write_failed};
-use std::alloc::Global;
+use std::alloc::{AllocError, Global};
 use std::process::Abort;
 use std::test::Fail;
 
@@ -37,6 +37,8 @@ fn whole_blocks_reach_the_sink(rt: HostRuntime) -> Result<(), Fail> {
     for (lengths, want) in &WHOLE_BLOCKS {
         assert_eq!(rt; taken_of(rt.alloc(), *lengths)?, *want, "{lengths:?}");
     }
+    let one_put = filled(rt.alloc(), 10)?.into_sink();
+    assert_eq!(rt; one_put.taken(), b"".as_slice());
     Ok(())
 }
 
@@ -194,4 +196,21 @@ fn nothing_is_buffered_after_a_failure(rt: HostRuntime) {
     let is_put = failed.try_put_pair(b"line", b"\n")
         || failed.try_put_interval(b"chr1", 5, 9, b'\n');
     holds(&rt, has_failed && !is_put, "nothing");
+}
+
+// By `rt try --test --fail-alloc N -- refused_growth` for each N from 1. A sink that can't grow has failed: it keeps what
+// it took, and each later call reports a failed write.
+#[test]
+fn refused_growth_of_a_sink(rt: HostRuntime) -> Result<(), Fail> {
+    let text = b"chr1\t100\t500\nchr1\t501\t1000\n".as_slice();
+    let mut output = Out::new(ScriptSink::new(rt.alloc(), 7, None));
+    if output.put(text).is_ok() && output.flush().is_ok() {
+        holds(&rt, output.into_sink().taken() == text, "all is taken");
+        return Ok(());
+    }
+    let is_reported = fails_again(&mut output);
+    let sink = output.into_sink();
+    holds(&rt, is_reported && sink.failed(), "a failed write");
+    holds(&rt, text.starts_with(sink.taken()), "the first bytes");
+    Err(Fail::from(AllocError))
 }

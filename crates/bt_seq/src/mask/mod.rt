@@ -7,6 +7,7 @@ pub(crate) mod mask_state;
 pub(crate) mod mask_want;
 pub(crate) mod matching;
 pub(crate) mod phase;
+pub(crate) mod plain;
 pub(crate) mod window;
 
 ghost use Rattle.std.specs.Prelude.{◌≡◌, ◌<◌, ◌⊎◌, [], Bool, None, OnErr, OnOk, Some, false, length, true};

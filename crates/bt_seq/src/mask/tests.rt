@@ -129,10 +129,10 @@ fn drive(
 }
 
 // Gives a FASTA and a BED text, and returns what the sink has then, and the fault.
-fn give(
+pub(crate) fn give(
     mask: &mut Mask,
     alloc: Global,
-    texts: Texts,
+    texts: (&[u8], &[u8]),
     sink: ScriptSink,
     flushes: bool,
 ) -> (ScriptSink, Result<(), Fault>) {
@@ -162,7 +162,7 @@ fn agrees(alloc: Global, row: &Row) -> bool {
     let (_, (how, full), texts, want) = *row;
     let mut mask = Mask::new(alloc, how, full);
     let sink = ScriptSink::new(alloc, 7, None);
-    let (sink, driven) = give(&mut mask, alloc, texts, sink, false);
+    let (sink, driven) = give(&mut mask, alloc, (texts.0, texts.1), sink, false);
     !sink.failed() && sink.taken() == texts.2 && is_it(driven, want)
 }
 
@@ -189,7 +189,7 @@ const CUT: Texts =
 fn cuts_at(alloc: Global, good: usize) -> bool {
     let mut mask = Mask::new(alloc, MaskHow::Hard(b'N'), false);
     let sink = ScriptSink::new(alloc, 1, Some(good));
-    let (sink, driven) = give(&mut mask, alloc, CUT, sink, true);
+    let (sink, driven) = give(&mut mask, alloc, (CUT.0, CUT.1), sink, true);
     let has_ended = driven == Err(write_failed()) && mask.want() == MaskWant::Nothing;
     has_ended && good < CUT.2.len() && Some(sink.taken()) == CUT.2.get(..good)
 }
