@@ -3,7 +3,9 @@ use Rattle.std.specs.Prelude.{ℕ, ◌-◌, min, max, nat_le, nat_lt, Bool, ◌&
 use Rattle.bt_bed.specs.model.Genome.{Entry}
 use Rattle.bt_bed.specs.model.Feature.{Span}
 use Rattle.bt_bed.specs.declared.record.strand.Strand.{Strand}
-use Rattle.bt_runs.specs.model.Depth.{DepthInterval, depth_of, depth_on, is_counted_by, Begun, Level, begun_after, ended_after, ended_at, depth_lines}
+use Rattle.bt_bed.specs.model.Levels.{Level}
+use Rattle.bt_bed.specs.calls.LevelScan.{Begun, begun_after, ended_after, ended_at}
+use Rattle.bt_runs.specs.model.Depth.{DepthInterval, depth_of, depth_on, is_counted_by, depth_lines}
 use Rattle.bt_runs.specs.inside.Walk.{Walk, Place}
 use Rattle.std.specs.BinaryHeap.{IsHeap}
 use Rattle.std.specs.Ordering.{nat_cmp}

@@ -2,7 +2,8 @@ use Rattle.bt_lines.proofs.Std.{common_steps, ℕ, ◌≡◌, ◌-◌, ◌+◌, 
 use Rattle.bt_lines.proofs.lemmas.Writer.{grown_none}
 use Rattle.bt_bed.specs.model.Feature.{Span}
 use Rattle.bt_runs.specs.inside.Coverage.{begun_seen, still_open, OpenAt}
-use Rattle.bt_runs.specs.model.Depth.{depth_of, reported, ended_after, next_begun, next_ended}
+use Rattle.bt_bed.specs.calls.LevelScan.{ended_after, next_begun, next_ended}
+use Rattle.bt_runs.specs.model.Depth.{depth_of, reported}
 use Rattle.bt_runs.proofs.lemmas.coverage.DepthSteps.{adds_levels, cut_levels, here_depth, no_begun, no_ended, run_depth, turn_begun, turn_ended, turn_more}
 use Rattle.bt_runs.proofs.lemmas.coverage.OpenLemmas.{open_after, same_later}
 use Rattle.bt_runs.proofs.coverage.depths.go_on.Goals as goal

@@ -1,7 +1,8 @@
 use Rattle.bt_lines.proofs.Std.{◌≡◌, ◌-◌, ◌≤◌}
 use Rattle.bt_lines.specs.calls.Output.{Grown}
 use Rattle.bt_runs.specs.inside.Coverage.{begun_seen, levels_on, still_open}
-use Rattle.bt_runs.specs.model.Depth.{depth_lines, depth_of, begun_after, ended_after}
+use Rattle.bt_bed.specs.calls.LevelScan.{begun_after, ended_after}
+use Rattle.bt_runs.specs.model.Depth.{depth_lines, depth_of}
 use Rattle.bt_runs.proofs.coverage.depths.go_on.Given as goal
 
 -- the intervals so far were written, and the records that were open at first are open while they haven't ended
