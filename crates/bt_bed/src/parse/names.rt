@@ -35,11 +35,11 @@ fn have_same_ends(left: &[u8], right: &[u8]) -> bool
     requires short { length left.now ≤ 16 }
     ensures { result ≡ bytes_eq left.now right.now }
 {
-    let (Some(ends), Some(others)) = (long_ends_of(left), long_ends_of(right)) else {
+    let (Some(words), Some(other)) = (long_ends_of(left), long_ends_of(right)) else {
         // Both have eight bytes, so this isn't reached.
         return is_same_text(left, right);
     };
-    ends.0 == others.0 && ends.1 == others.1
+    words.0 == other.0 && words.1 == other.1
 }
 
 // The same for names of any length. Those of an assembly's parts mostly differ in their last byte.
