@@ -22,7 +22,7 @@
 //! ```
 #![tactic(auto)]
 
-ghost use Rattle.std.specs.Prelude.{◌≡◌, Ok, Err, [], is_some, None, Some, option_map, string_bytes, IfOk, IfErr};
+ghost use Rattle.std.specs.Prelude.{◌≡◌, ◌⊎◌, Ok, Err, [], is_some, None, Some, option_map, string_bytes, IfOk, IfErr};
 ghost use Rattle.bt_lines.specs.calls.Names.{fault_value};
 ghost use Rattle.bt_tool.specs.model.Options.{PlanSeen, options};
 ghost use Rattle.bt_tool.specs.calls.Plan.{plan_seen, words_seen};
@@ -31,7 +31,7 @@ ghost use Rattle.bt_tool.specs.model.Usage.{usage_text};
 ghost use Rattle.bt_tool.specs.declared.options.usage.Usage.{Usage};
 ghost use Rattle.bedtools.specs.Ending.{CannotBegin, Ends, ReportsRun, ReportsUnopened};
 ghost use Rattle.bedtools.specs.Opened.{ComesOfRun, IsUnread};
-ghost use Rattle.bedtools.specs.Message.{Says, line_seen};
+ghost use Rattle.bedtools.specs.Message.{Says, SaysNoMemory, line_seen};
 
 mod identity;
 mod message;
@@ -83,7 +83,7 @@ fn words(rt: &HostRuntime) -> io::Result<Vec<String>> {
 fn start(rt: &HostRuntime, words: &[String]) -> Message
     ensures usage { (usage : Usage) → options (words_seen words.now) ≡ Err usage
         → Says (usage_text (words_seen words.now) usage) 2 result }
-    ensures run { (plan : PlanSeen) → options (words_seen words.now) ≡ Ok plan → Ends plan result }
+    ensures run { (plan : PlanSeen) → options (words_seen words.now) ≡ Ok plan → Ends plan result ⊎ SaysNoMemory result }
 {
     match plan(rt.alloc(), words) {
         Ok(plan) => carry_out(rt, &plan),

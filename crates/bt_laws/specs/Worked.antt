@@ -1,5 +1,5 @@
 -- Worked values: what commands give of small inputs, as the public standards and the bedtools manual have it.
-use Rattle.std.specs.Prelude.{◌≡◌, ℕ, Bool, List, [], ◌∷◌, ◌++◌, Option, None, Some, codes}
+use Rattle.std.specs.Prelude.{◌≡◌, ℕ, Bool, true, false, List, [], ◌∷◌, ◌++◌, Option, None, Some, codes}
 use Rattle.bt_lines.specs.model.Fault.{FaultValue, read_failed}
 use Rattle.bt_lines.specs.model.Lines.{Handed, whole_text, text_lines}
 use Rattle.bt_lines.specs.declared.fault.Input.{Input}
