@@ -18,7 +18,8 @@ import sys
 import tempfile
 from pathlib import Path
 
-from compare import COUNTED, NO_OTHERS, PROGRAM, WORKLOADS, check_same, instructions_of, lines_of, prepared, runs_of, time_run
+from compare import COUNTED, NO_OTHERS, PROGRAM, check_same, instructions_of, lines_of, prepared, runs_of, time_run
+from workloads import WORKLOADS
 
 TOP = PROGRAM.parent.parent
 FILE = Path("crates", "bt_tool", "src", "loops", "sweeping.rt")

@@ -27,12 +27,15 @@ from pathlib import Path
 
 import chart
 import compare
+import workloads
 
 HERE = Path(__file__).resolve().parent
 TOP = HERE.parent
 RESULTS = HERE / "results.json"
 # What bench/pipelines.py measured.
 PIPELINES = HERE / "pipelines.json"
+# What bench/odd.py measured.
+ODD = HERE / "odd.json"
 # What is measured of growth: a workload for each command, also the one that the chart shows, by the name of its data.
 SHOWN = {
     "merge": "3 columns",
@@ -58,7 +61,7 @@ PAGES = ("README.md", "bench/README.md")
 
 def reported():
     """The workloads that the tables have."""
-    return [it for it in compare.WORKLOADS if (it.is_reported and "without -g" not in it.name()) or it.name() in ALSO]
+    return [it for it in workloads.WORKLOADS if (it.is_reported and "without -g" not in it.name()) or it.name() in ALSO]
 
 
 def shown(command):
@@ -134,7 +137,7 @@ def grown(command, others, folder, sizes, times):
 
 def sizes_for(records):
     """The sizes at which growth is measured."""
-    return [size * records // compare.TIMED for size in SIZES]
+    return [size * records // workloads.TIMED for size in SIZES]
 
 
 def prepare(folder, records):
@@ -148,15 +151,21 @@ def prepare(folder, records):
     return 0
 
 
+def check_idle():
+    """Ends the bench if the machine isn't idle."""
+    load = os.getloadavg()[0]
+    if load > IDLE:
+        sys.exit(f"the machine isn't idle: its load is {load:.1f}")
+
+
 def measure(records, times, trial, inputs=None):
     """Measures all and writes it, and the pages unless it is a trial. Returns the exit status."""
     valgrind = shutil.which("valgrind")
     absent = [name for name in ("bedtools", "bedops", "samtools", "valgrind") if not shutil.which(name)]
     if absent:
         sys.exit(f"not on PATH: {', '.join(absent)}")
-    load = os.getloadavg()[0]
-    if load > IDLE and not trial:
-        sys.exit(f"the machine isn't idle: its load is {load:.1f}")
+    if not trial:
+        check_idle()
     kept = {
         "commit": commit(), "date": time.strftime("%Y-%m-%d"), "machine": machine(), "records": records, "times": times, "is_trial": bool(trial),
         "bedtools": version_of(["bedtools", "--version"], r"v(\S+)"), "bedops": version_of(["bedops", "--version"], r"version:\s*(\S+)"),
@@ -168,7 +177,7 @@ def measure(records, times, trial, inputs=None):
         kept["workloads"] = [measured(workload, others, folder, records, times, valgrind) for workload in reported()]
         kept["growth"] = {command: grown(command, others, folder, sizes_for(records), times) for command in SHOWN}
     Path(trial or RESULTS).write_text(json.dumps(kept, indent=1) + "\n", encoding="utf-8")
-    return 0 if trial else agree(kept, True)
+    return 0 if trial else agree(True)
 
 
 def digits(number):
@@ -267,7 +276,45 @@ def pipelines(_):
     return "".join(lines) + "\n![whole pipelines: bedtools, the drop-in, rewritten](bench/pipelines.svg)\n\n" + pipeline_caption(measured)
 
 
+def ratio(row):
+    """The part of bedtools' processor time that this program takes."""
+    return row["runs"]["dunekettle"]["seconds"] / row["runs"]["bedtools"]["seconds"]
+
+
+def odd_inputs(kept):
+    """The table of odd inputs, the largest ratio first."""
+    if not kept:
+        return "Odd inputs weren't measured yet.\n"
+    lines = ["| workload | Dunekettle, s | bedtools, s | of bedtools' time | MB | of bedtools |\n|" + "---|" * 6 + "\n"]
+    for row in sorted(kept["odd"], key=ratio, reverse=True):
+        runs = [row["runs"][program] for program in ("dunekettle", "bedtools")]
+        cells = [row["name"], *(digits(run["seconds"]) for run in runs), digits(ratio(row)), *(digits(run["kilobytes"] * 1024 / 1e6) for run in runs)]
+        lines.append(f"| {' | '.join(cells)} |\n")
+    lines.append(f"| **the largest ratio** | | | **{digits(max(map(ratio, kept['odd'])))}** | | |\n")
+    return "".join(lines) + f"\n{odd_caption(kept)}"
+
+
+def odd_caption(kept):
+    """How the odd inputs were measured."""
+    trial = "**A trial on a busy machine, no result.** " if kept["is_trial"] else ""
+    return f"{trial}The least of three runs or five. {kept['machine']}; commit {kept['commit']}, {kept['date']}; bedtools {kept['bedtools']}.\n"
+
+
+def odd_claim(kept):
+    """The sentence of README.md on odd inputs, if they were measured."""
+    if not kept:
+        return ""
+    ratios = [ratio(row) for row in kept["odd"]]
+    slower = sum(part > 1 for part in ratios)
+    on = f"{len(ratios)} workloads of [odd inputs](bench/README.md#odd-inputs)"
+    if slower:
+        return f"Slower than bedtools on {slower} of {on}, by at most {digits(max(ratios))} times its processor time.\n"
+    return f"Never slower than bedtools on {on}: at most {digits(max(ratios))} of its processor time.\n"
+
+
 TABLES = {"summary": summary, "by_command": by_command, "by_workload": by_workload, "growth": growth, "pipelines": pipelines}
+# Those of odd.json, for which it may be missing.
+ODD_TABLES = {"odd_inputs": odd_inputs, "odd_claim": odd_claim}
 
 
 def charts(kept):
@@ -281,20 +328,33 @@ def charts(kept):
     return drawn
 
 
-def agree(kept, is_written):
+def read(path):
+    """The results in a file, or none if it is missing."""
+    return json.loads(path.read_text(encoding="utf-8")) if path.exists() else None
+
+
+def page(path, kept, odd):
+    """The text of a page with its tables."""
+    made = {name: table(kept) for name, table in TABLES.items()} | {name: table(odd) for name, table in ODD_TABLES.items()}
+    return MARKS.sub(lambda match: match[1] + made[match[2]] + match[3], path.read_text(encoding="utf-8"))
+
+
+def agree(is_written):
     """Writes or compares all that is made of the results. Returns the exit status."""
-    made = {TOP / name: MARKS.sub(lambda match: match[1] + TABLES[match[2]](kept) + match[3], (TOP / name).read_text(encoding="utf-8")) for name in PAGES}
+    kept, odd = read(RESULTS), read(ODD)
+    made = {TOP / name: page(TOP / name, kept, odd) for name in PAGES}
     made |= {HERE / name: text for name, text in charts(kept).items()}
     differ = [path for path, text in made.items() if not path.exists() or path.read_text(encoding="utf-8") != text]
     for path in differ:
         if is_written:
             path.write_text(made[path], encoding="utf-8")
-        print(f"{path.relative_to(TOP)}: {'written anew' if is_written else 'not that of bench/results.json: bench/results.py --write'}")
-    if kept["is_trial"]:
-        print("bench/results.json is a trial, which no page may show")
-    print(f"{len(made)} pages and charts, {len(differ)} of them differ from bench/results.json")
-    is_trial = kept["is_trial"] or (PIPELINES.exists() and json.loads(PIPELINES.read_text(encoding="utf-8"))["is_trial"])
-    return 1 if is_trial or (differ and not is_written) or memory_differs(kept) else 0
+        print(f"{path.relative_to(TOP)}: {'written anew' if is_written else 'not that of the results in bench: bench/results.py --write'}")
+    measured = ((path, read(path)) for path in (RESULTS, PIPELINES, ODD))
+    trials = [path.name for path, found in measured if found and found["is_trial"]]
+    for name in trials:
+        print(f"bench/{name} is a trial, which no page may show")
+    print(f"{len(made)} pages and charts, {len(differ)} of them differ from the results in bench")
+    return 1 if trials or (differ and not is_written) or memory_differs(kept) else 0
 
 
 def memory_differs(kept):
@@ -311,15 +371,16 @@ def memory_differs(kept):
 def render(kept, folder):
     """Writes the tables and charts of some results into a folder."""
     folder.mkdir(parents=True, exist_ok=True)
-    for name, text in [*charts(kept).items(), *((f"{name}.md", table(kept)) for name, table in TABLES.items())]:
+    tables, drawn = (ODD_TABLES, {}) if "odd" in kept else (TABLES, charts(kept))
+    for name, text in [*drawn.items(), *((f"{name}.md", table(kept)) for name, table in tables.items())]:
         (folder / name).write_text(text, encoding="utf-8")
     return 0
 
 
 def main():
     if sys.argv[1:2] == ["--render"]:
-        return render(json.loads(Path(sys.argv[2]).read_text(encoding="utf-8")), Path(sys.argv[3]))
-    return agree(json.loads(RESULTS.read_text(encoding="utf-8")), "--write" in sys.argv[1:])
+        return render(read(Path(sys.argv[2])), Path(sys.argv[3]))
+    return agree("--write" in sys.argv[1:])
 
 
 if __name__ == "__main__":

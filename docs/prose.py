@@ -8,8 +8,8 @@ Counted are paragraphs over 80 words, sentences over 22, cells of tables over 30
 a plainer one for each), words of proofs outside the pages on proofs, several terms for one thing, and, in pages that
 describe today, words that tell history. The pages are the Markdown files of the repository and the manual pages that
 are written by hand. Headings and blocks of code aren't counted, and a piece of code in a sentence is one word. So
-counted, all pages together have at most MOST words, without the tables of the bench, which bench/results.py writes. Ends with 1 if a count has risen, a page has no row, a row has no
-page, or the words are too many.
+counted, all pages together have at most MOST words, without the tables of the bench, which bench/results.py writes.
+Ends with 1 if a count has risen, a page has no row, a row has no page, or the words are too many.
 """
 
 import re

@@ -432,7 +432,7 @@ def slurm_cases(top, environment):
 def times(top, count, rounds):
     """Prints the times of whole runs, and of shards with 1, 2 and 4 jobs, the least of so many rounds."""
     sys.path.insert(0, str(TOP / "bench"))
-    from compare import EXONS, READS, Features, write_genome  # pylint: disable=import-outside-toplevel,import-error
+    from workloads import EXONS, READS, Features, write_genome  # pylint: disable=import-outside-toplevel,import-error
     folder = Path(top, "times")
     shutil.copytree(FILES, folder)
     READS.write(folder / "a.bed", count, 1)

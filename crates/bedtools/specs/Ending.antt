@@ -5,6 +5,7 @@ use Rattle.bt_tool.specs.model.Options.{PlanSeen}
 use Rattle.bt_tool.specs.model.Report.{fault_text, status_of}
 use Rattle.bt_tool.specs.model.Table.{Word, tool_name, tool_of}
 use Rattle.bedtools.specs.Message.{Says, cannot_open_text}
+use Rattle.bedtools.specs.Opened.{ComesOfRun}
 use Rattle.bedtools.specs.declared.message.Message.{Message}
 
 -- the file of this name can't be opened
@@ -29,7 +30,12 @@ abbrev pub ReportsRun : PlanSeen → Option FaultValue → Message → Type 0
 ReportsRun plan fault message =
     Says (unwrap_or (option_map (fault_text plan) fault) []) (status_of fault) message
 
+-- a run of the plan was ended with this fault, or without one, and that is reported
+pub record ReportsItsRun (plan : PlanSeen) (message : Message) : Type 0 where
+  pub fault : Option FaultValue
+  pub comes : ComesOfRun plan fault
+  pub reports : ReportsRun plan fault message
+
 -- the plan was carried out, or couldn't be
 abbrev pub Ends : PlanSeen → Message → Type 0
-Ends plan message =
-    CannotBegin plan message ⊎ ((fault : Option FaultValue) × ReportsRun plan fault message)
+Ends plan message = CannotBegin plan message ⊎ ReportsItsRun plan message

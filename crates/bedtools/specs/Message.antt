@@ -41,8 +41,13 @@ line_seen Nothing = []
 line_seen (Text line) = line.items
 line_seen NoMemory = codes "bedtools: no memory\n"
 
+-- a message says that there was no memory
+abbrev pub SaysNoMemory : Message → Type 0
+SaysNoMemory message =
+    line_seen message.line ≡ codes "bedtools: no memory\n" × message.status ≡ 1
+
 -- a message says this line with this exit status; or there was no memory for the line,
 -- which has status 1
 abbrev pub Says : List ℕ → ℕ → Message → Type 0
-Says line status message = (line_seen message.line ≡ line × message.status ≡ status)
-    ⊎ (line_seen message.line ≡ codes "bedtools: no memory\n" × message.status ≡ 1)
+Says line status message =
+    (line_seen message.line ≡ line × message.status ≡ status) ⊎ SaysNoMemory message

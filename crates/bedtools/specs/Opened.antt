@@ -1,8 +1,13 @@
 -- What the program opens: the input that a name means,
 -- and whether a device has failed or was flushed.
-use Rattle.std.specs.Prelude.{Bool, List, ℕ, Option, Some, None, if◌then◌else◌}
-use Rattle.bt_lines.specs.calls.Device.{read_has_failed, read_end_told, write_has_failed, write_is_flushed}
-use Rattle.bt_tool.specs.model.Options.{is_standard_input}
+use Rattle.std.specs.Prelude.{◌≡◌, ◌⊎◌, Bool, true, false, List, ℕ, Option, Some, None, if◌then◌else◌, is_some}
+use Rattle.bt_lines.specs.declared.device.Sink.{Ghosts as Sink}
+use Rattle.bt_lines.specs.declared.device.Source.{Ghosts as Source}
+use Rattle.bt_lines.specs.calls.Faults.{write_failed}
+use Rattle.bt_lines.specs.model.Fault.{FaultValue}
+use Rattle.bt_lines.specs.calls.Device.{TellsFailure, read_has_failed, read_end_told, write_has_failed, write_is_flushed}
+use Rattle.bt_tool.specs.calls.Run.{Runs}
+use Rattle.bt_tool.specs.model.Options.{PlanSeen, is_standard_input}
 use Rattle.bedtools.specs.declared.opened.Input.{Input}
 use Rattle.bedtools.specs.declared.opened.Input.TheVariants.{Standard as StandardInput, File as FileInput}
 use Rattle.bedtools.specs.declared.opened.Opened.{Opened}
@@ -18,6 +23,20 @@ abbrev pub opened_end_told : Opened → Bool
 opened_end_told (File source) = read_end_told source
 opened_end_told (Standard source) = read_end_told source
 
+-- an input as a source: what bytes it has isn't known
+abbrev pub opened_source : Source Opened
+opened_source = record {
+  left = λ _. None;
+  has_failed = opened_has_failed;
+  end_told = opened_end_told;
+  is_read = λ before count after. TellsFailure count (opened_has_failed before) (opened_has_failed after);
+}
+
+-- an input of which nothing was read
+pub record IsUnread (input : Opened) : Type 0 where
+  pub served : opened_has_failed input ≡ false
+  pub going : opened_end_told input ≡ false
+
 abbrev pub output_has_failed : Output → Bool
 output_has_failed (StandardOutput sink) = write_has_failed sink
 output_has_failed (FileOutput sink) = write_has_failed sink
@@ -26,6 +45,32 @@ output_has_failed (FileOutput sink) = write_has_failed sink
 abbrev pub output_is_flushed : Output → Bool
 output_is_flushed (StandardOutput sink) = write_is_flushed sink
 output_is_flushed (FileOutput sink) = write_is_flushed sink
+
+-- an output as a sink: what bytes it took isn't known
+abbrev pub output_sink : Sink Output
+output_sink = record {
+  took = λ _. None;
+  has_failed = output_has_failed;
+  is_flushed = output_is_flushed;
+}
+
+-- A run of a plan ended with this fault, or without one: that of `run` with a plan's command, over inputs that
+-- were opened and not read before, each that the plan names.
+pub record ComesOfRun (plan : PlanSeen) (fault : Option FaultValue) : Type 0 where
+  pub genome : Option Opened
+  pub first : Opened
+  pub second : Option Opened
+  pub out : Output
+  pub genome_after : Option Opened
+  pub first_after : Opened
+  pub second_after : Option Opened
+  pub out_after : Output
+  pub genome_named : is_some genome ≡ is_some plan.names.genome
+  pub second_named : is_some second ≡ is_some plan.names.second
+  pub unread : IsUnread first
+  pub runs : Runs opened_source opened_source opened_source output_sink plan.command genome first second out fault
+      genome_after first_after second_after out_after
+  pub flushed : (fault ≡ Some write_failed) ⊎ (output_is_flushed out_after ≡ true)
 
 -- the file that is opened by its name, or none for standard input
 abbrev pub file_named : List ℕ → Option (List ℕ)

@@ -22,7 +22,7 @@
 //! ```
 #![tactic(auto)]
 
-ghost use Rattle.std.specs.Prelude.{◌≡◌, Ok, Err, [], is_some, None, Some, option_map, string_bytes, IfOk, IfErr};
+ghost use Rattle.std.specs.Prelude.{◌≡◌, ◌⊎◌, Ok, Err, [], is_some, None, Some, option_map, string_bytes, IfOk, IfErr};
 ghost use Rattle.bt_lines.specs.calls.Names.{fault_value};
 ghost use Rattle.bt_tool.specs.model.Options.{PlanSeen, options};
 ghost use Rattle.bt_tool.specs.calls.Plan.{plan_seen, words_seen};
@@ -30,7 +30,8 @@ ghost use Rattle.bt_tool.specs.model.Table.{Word};
 ghost use Rattle.bt_tool.specs.model.Usage.{usage_text};
 ghost use Rattle.bt_tool.specs.declared.options.usage.Usage.{Usage};
 ghost use Rattle.bedtools.specs.Ending.{CannotBegin, Ends, ReportsRun, ReportsUnopened};
-ghost use Rattle.bedtools.specs.Message.{Says, line_seen};
+ghost use Rattle.bedtools.specs.Opened.{ComesOfRun, IsUnread};
+ghost use Rattle.bedtools.specs.Message.{Says, SaysNoMemory, line_seen};
 
 mod identity;
 mod message;
@@ -82,7 +83,7 @@ fn words(rt: &HostRuntime) -> io::Result<Vec<String>> {
 fn start(rt: &HostRuntime, words: &[String]) -> Message
     ensures usage { (usage : Usage) → options (words_seen words.now) ≡ Err usage
         → Says (usage_text (words_seen words.now) usage) 2 result }
-    ensures run { (plan : PlanSeen) → options (words_seen words.now) ≡ Ok plan → Ends plan result }
+    ensures run { (plan : PlanSeen) → options (words_seen words.now) ≡ Ok plan → Ends plan result ⊎ SaysNoMemory result }
 {
     match plan(rt.alloc(), words) {
         Ok(plan) => carry_out(rt, &plan),
@@ -103,7 +104,8 @@ fn carry_out(rt: &HostRuntime, plan: &Plan) -> Message
 
 // Runs a plan over its files. `Err` if one can't be opened.
 fn run_opened(rt: &HostRuntime, plan: &Plan) -> Result<Outcome, Message>
-    ensures { IfErr result (CannotBegin (plan_seen plan.now)) }
+    ensures runs { IfOk result (λ outcome. ComesOfRun (plan_seen plan.now) (option_map fault_value outcome.fault)) }
+    ensures unopened { IfErr result (CannotBegin (plan_seen plan.now)) }
 {
     let genome = open_if_named(rt, plan, &plan.genome)?;
     let first = open(rt, plan, plan.first.as_str())?;
@@ -150,7 +152,8 @@ fn open_if_named(
 
 // Opens an input. `Err` if it can't be opened.
 fn open(rt: &HostRuntime, plan: &Plan, name: &str) -> Result<Opened, Message>
-    ensures { IfErr result (ReportsUnopened (plan_seen plan.now) name.now) }
+    ensures unread { IfOk result IsUnread }
+    ensures reports { IfErr result (ReportsUnopened (plan_seen plan.now) name.now) }
 {
     match Opened::open(rt, name) {
         Ok(input) => Ok(input),

@@ -1,8 +1,8 @@
 //! An input that the program has opened: a file or standard input.
 
-ghost use Rattle.std.specs.Prelude.{◌≡◌, None};
+ghost use Rattle.std.specs.Prelude.{◌≡◌, None, IfOk};
 ghost use Rattle.bt_lines.specs.calls.Device.{TellsFailure};
-ghost use Rattle.bedtools.specs.Opened.{input_meant, file_named, opened_has_failed, opened_end_told};
+ghost use Rattle.bedtools.specs.Opened.{input_meant, file_named, opened_has_failed, opened_end_told, IsUnread};
 
 use bt_lines::{DeviceFailed, FromRead, Source};
 use bt_tool::is_standard_input;
@@ -19,7 +19,9 @@ pub enum Opened {
 
 impl Opened {
     /// Opens the input of this name. `Err` if it can't be opened, or memory runs out.
-    pub fn open(rt: &HostRuntime, name: &str) -> io::Result<Opened> {
+    pub fn open(rt: &HostRuntime, name: &str) -> io::Result<Opened>
+        ensures { IfOk result IsUnread }
+    {
         match input_named(name) {
             Input::Standard => Ok(Opened::Standard(FromRead::new(rt.stdin()))),
             Input::File(name) => Ok(Opened::File(FromRead::new(File::open(rt, name)?))),

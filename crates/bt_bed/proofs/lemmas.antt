@@ -1,5 +1,6 @@
 -- Lemmas by theme.
 pub mod Definitions
+pub mod LevelScans
 pub mod Writing
 pub mod order
 pub mod parse

@@ -6,6 +6,7 @@ pub mod CursorLaws
 pub mod CursorOf
 pub mod Features
 pub mod GenomeTable
+pub mod LevelScan
 pub mod Orders
 pub mod Reading
 pub mod Records

@@ -7,3 +7,4 @@ pub mod Sorted
 pub mod Meeting
 pub mod BedLine
 pub mod Positions
+pub mod Levels

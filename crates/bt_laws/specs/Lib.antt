@@ -9,3 +9,4 @@ pub mod Same
 pub mod Sequences
 pub mod Sweeps
 pub mod WholeRuns
+pub mod Worked

@@ -1,8 +1,10 @@
 -- Merged runs, gaps and depths.
-use Rattle.std.specs.Prelude.{◌≡◌, ℕ, ◌<◌, ◌≤◌, Bool, cond, ◌⊎◌, ⊤, IsTrue, List, [], ◌∷◌, map, Option, Some, None, true, false, not, nat_lt, ◌==◌, filter, ◌++◌, length}
+use Rattle.std.specs.Prelude.{◌≡◌, ℕ, ◌<◌, ◌≤◌, Bool, cond, ⊤, IsTrue, List, [], ◌∷◌, map, Option, Some, None, true, false, not, nat_lt, ◌==◌, filter, ◌++◌, length}
 use Rattle.bt_bed.specs.model.Feature.{Span, Feature, Interval, intervals_of}
 use Rattle.bt_bed.specs.calls.Stretches.{AreStretchesOf}
-use Rattle.bt_runs.specs.model.Depth.{Level, levels_of, DepthInterval, coverage, depth_at, settled_depths}
+use Rattle.bt_bed.specs.model.Levels.{AreLevelsOf, Level}
+use Rattle.bt_bed.specs.calls.LevelScan.{scanned}
+use Rattle.bt_runs.specs.model.Depth.{levels_of, DepthInterval, coverage, depth_at, settled_depths}
 use Rattle.bt_bed.specs.model.Genome.{Entry}
 use Rattle.bt_runs.specs.model.Gaps.{complement, gaps_of, settled_gaps}
 use Rattle.bt_runs.specs.calls.Complementing.{AreTaken, kept_place}
@@ -17,30 +19,7 @@ use Rattle.bt_runs.specs.declared.merge.merge_strand.MergeStrand.{MergeStrand}
 -- Laws of levels: which list of intervals makes up the values of positions, and that a set of
 -- positions is the case of one value.
 
--- the position lies in one of the intervals, and that has the value
-abbrev pub HasValue : List Level → ℕ → ℕ → Type 0
-HasValue [] p value = ⊥
-HasValue (l ∷ ls) p value = ((l.start ≤ p) × (p < l.stop) × (l.value ≡ value)) ⊎ HasValue ls p value
-
--- if the next interval touches this one, its value is another
-abbrev pub DiffersFromNext : Level → List Level → Type 0
-DiffersFromNext l [] = ⊤
-DiffersFromNext l (m ∷ ms) = l.stop ≡ m.start → l.value ≡ m.value → ⊥
-
--- ascending and disjoint, from a first position on: none is empty,
--- and two that touch differ in value
-abbrev pub AreDisjointFrom : ℕ → List Level → Type 0
-AreDisjointFrom first [] = ⊤
-AreDisjointFrom first (l ∷ ls) =
-    (first ≤ l.start) × (l.start < l.stop) × DiffersFromNext l ls × AreDisjointFrom l.stop ls
-
--- the list of intervals that the values of the positions below a length make up
-pub record AreLevelsOf (value : ℕ → Option ℕ) (size : ℕ) (levels : List Level) : Type 0 where
-  pub disjoint : AreDisjointFrom 0 levels
-  pub within : (p v : ℕ) → HasValue levels p v → (p < size) × (value p ≡ Some v)
-  pub whole : (p v : ℕ) → p < size → value p ≡ Some v → HasValue levels p v
-
--- `levels_of` gives this list
+-- `levels_of` gives the list of intervals that the values of the positions below a length make up
 abbrev pub levels_are : Type 0
 levels_are = (value : ℕ → Option ℕ) (size : ℕ) → AreLevelsOf value size (levels_of value size)
 
@@ -49,6 +28,10 @@ abbrev pub levels_only : Type 0
 levels_only =
     (value : ℕ → Option ℕ) (size : ℕ) (levels : List Level) → AreLevelsOf value size levels
     → levels ≡ levels_of value size
+
+-- a scan of the positions finds it
+abbrev pub scan_finds_levels : Type 0
+scan_finds_levels = (value : ℕ → Option ℕ) (size : ℕ) → scanned value size ≡ levels_of value size
 
 -- a span whose positions have a value
 abbrev pub level_on : ℕ → Span → Level

@@ -12,12 +12,13 @@ use Rattle.bt_runs.specs.declared.merge.merge_strand.MergeStrand.{MergeStrand}
 use Rattle.bt_runs.specs.declared.merge.merge_strand.MergeStrand.TheVariants.{All, Each}
 use Rattle.bt_tool.specs.declared.planning.plan_type.Command.{Command}
 use Rattle.bt_tool.specs.declared.planning.plan_type.Command.TheVariants.{Merge, Complement, Coverage, Intersect, Subtract, MaskFasta}
-use Rattle.bt_laws.specs.WholeRuns.{RunWrites, RunsWithoutFault, first_records, piped, with_second, second_alone, two_texts}
+use Rattle.bt_laws.specs.WholeRuns.{RunWrites, RunsWithoutFault, first_records, second_records, piped, with_second, second_alone, two_texts}
 use Rattle.std.specs.List.{AllByRecursion, list_any}
 use Rattle.bt_sweep.specs.calls.Sweeping.{any_overlap}
 use Rattle.bt_sweep.specs.declared.hits.hit_rule.HitRule.{HitRule}
 use Rattle.bt_sweep.specs.declared.output.shape.Shape.TheVariants.{Cut, Missing, Once, Count, OrigA}
 use Rattle.bt_runs.specs.model.Merged.{ordered_runs}
+use Rattle.bt_sweep.specs.model.Hits.{hits_among}
 use Rattle.bt_sweep.specs.model.Lines.{line_with}
 use Rattle.bt_lines.specs.model.Lines.{Handed, whole_text}
 use Rattle.bt_lines.specs.declared.fault.Input.TheVariants.{First, Second}
@@ -219,13 +220,19 @@ pub record HaveCounts (rule : HitRule) (held : Option ℕ) (inputs : Inputs) (co
   pub original : RunWrites (Intersect OrigA rule held) inputs
       (flat_map (λ c. flat_map own_line (replicate c.hits c.at)) counts)
 
--- So -u and -v part the first input. It is enough that the run of -c is without a fault.
+-- a record, and how many of these hit it
+abbrev pub with_hits : HitRule → List Feature → Feature → Counted
+with_hits rule second a = record { at = a; hits = length (hits_among rule a second) }
+
+-- The numbers are those of the hits among all records of the second input. So -u and -v part the first
+-- input. It is enough that the run of -c is without a fault.
 abbrev pub counts_say_all : Type 0
 counts_say_all =
     (rule : HitRule) (held : Option ℕ) (inputs : Inputs) (chromosomes : Option (List Entry))
     → RunsWithoutFault (Intersect Count rule held) inputs chromosomes
     → (counts : List Counted)
     × (map (λ c. c.at) counts ≡ first_records chromosomes inputs)
+    × (counts ≡ map (with_hits rule (second_records chromosomes inputs)) (first_records chromosomes inputs))
     × HaveCounts rule held inputs counts
 
 -- What maskfasta writes, as its input again.

@@ -14,3 +14,4 @@ pub mod runs;
 pub mod same;
 pub mod sequences;
 pub mod sweeps;
+pub mod worked;

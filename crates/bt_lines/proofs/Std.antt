@@ -1,5 +1,5 @@
 -- The words of std that proofs use.
-pub use Rattle.std.proofs.Common.{Bool, Decides, Err, Fits, List, MatchBool, None, Ok, Option, Result, Some, [], add-one, add-zero, add_assoc, ap, append-nil, append_assoc, ap₂, arith, bit_and, bit_or, bit_xor, bytes_eq, codes, cond, decimal, drop, eqb, false, filter, get_or, inl, inr, leb, leb-true, length, length-append, length-take, ltb, map, max, min, nat_eq, nat_le, nat_lt, not, option_to_list, pow-suc, refl, replicate, rules, set, slice_index_or, slice_range, slice_set, subst, suc, sym, take, true, w64, w8, zero, ℕ, ⊎_elim, ◌%◌, ◌&&◌, ◌*◌, ◌++◌, ◌+◌, ◌-◌, ◌/◌, ◌<◌, ◌==◌, ◌^◌, ◌||◌, ◌∙◌, ◌∷◌, ◌≡◌, ◌≤◌, ◌⊎◌}
+pub use Rattle.std.proofs.Common.{Bool, Decides, Err, Fits, List, MatchBool, None, Ok, Option, Result, Some, [], add-one, add-zero, add_assoc, ap, append-nil, append_assoc, ap₂, arith, bit_and, bit_or, bit_xor, bytes_eq, codes, cond, decimal, drop, eqb, false, filter, get_or, inl, inr, leb, leb-true, length, length-append, length-take, ltb, map, max, min, nat_eq, nat_le, nat_lt, not, option_to_list, pow-suc, refl, replicate, rules, set, slice_index_or, slice_range, slice_set, subst, suc, sym, take, true, vec_capacity, w64, w8, zero, ℕ, ⊎_elim, ◌%◌, ◌&&◌, ◌*◌, ◌++◌, ◌+◌, ◌-◌, ◌/◌, ◌<◌, ◌==◌, ◌^◌, ◌||◌, ◌∙◌, ◌∷◌, ◌≡◌, ◌≤◌, ◌⊎◌}
 pub use Rattle.std.proofs.KnownBytes.{Appends-nil, Appends-trans, Consumes-nil, Consumes-trans}
 pub use Rattle.std.proofs.Math.Bool.{or-false}
 pub use Rattle.std.proofs.Math.Dec.{T}

@@ -1,3 +1,4 @@
 -- Lemmas on parse.
 pub mod FeatureLemmas
 pub mod NameLemmas
+pub mod StrandLemmas

@@ -11,6 +11,10 @@ use Rattle.bt_bed.specs.declared.record.raw_record.RawRecord.{RawRecord}
 use Rattle.bt_lines.specs.model.Lines.{TextLine}
 use Rattle.bt_bed.specs.declared.read.cursor.Single.{Single}
 
+-- how many bytes of a record that is kept, its name and its columns from the fourth on, are inline
+abbrev pub inline_size : ℕ
+inline_size = 31
+
 -- A feature as the definitions see it.
 
 abbrev pub feature_lent : BedRef → Feature

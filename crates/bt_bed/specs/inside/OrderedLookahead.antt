@@ -1,7 +1,8 @@
 -- The last record and the chromosome of the one ahead, sorted by some rule.
-use Rattle.std.specs.Prelude.{◌≡◌, ℕ, Bool, ◌&&◌, IsTrue, IfSome, List, [], bytes_eq, is_some, if◌then◌else◌, Option, Some, None, Result, Ok, Err, option_map, unwrap_or}
+use Rattle.std.specs.Prelude.{◌≡◌, ℕ, Bool, ◌&&◌, IsTrue, IfSome, List, [], ◌∷◌, bytes_eq, is_some, if◌then◌else◌, Option, Some, None, Result, Ok, Err, option_map, unwrap_or}
 use Rattle.bt_lines.specs.calls.Names.{fault_value}
 use Rattle.bt_lines.specs.calls.Reader.{buffered_in}
+use Rattle.bt_lines.specs.model.Lines.{TextLine}
 use Rattle.bt_lines.specs.declared.fault.Fault.{Fault}
 use Rattle.bt_lines.specs.declared.fault.Place.{Place}
 use Rattle.bt_lines.specs.declared.reader.line_reader.LineReader.{LineReader}
@@ -44,6 +45,13 @@ module _ {Q : Type 0} where
   -- whether there was a last record, and its chromosome has this name
   abbrev pub goes_on : OrderedLookahead Q → List ℕ → Bool
   goes_on lookahead name = is_some lookahead.last && bytes_eq lookahead.last_name.items name
+
+  -- the next of these lines says a record on the chromosome of the last one, which it may follow
+  pub record HasNext (lookahead : OrderedLookahead Q) (lines : List TextLine) : Type 0 where
+    pub r : Feature
+    pub more : List Feature
+    pub run : run_of (name_in lookahead) (start_in lookahead) lines ≡ r ∷ more
+    pub last : last_in lookahead ≡ Some (record { chrom = name_in lookahead; start = start_in lookahead })
 
   -- the rule and the last record stay
   pub record KeepsLast (old new : OrderedLookahead Q) : Type 0 where

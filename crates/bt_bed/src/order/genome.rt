@@ -4,6 +4,7 @@ ghost use Rattle.std.specs.Prelude.{◌<◌, All};
 
 use crate::order::genome_line::entry;
 use crate::parse::faults::at_line;
+use crate::parse::names::is_same_name;
 use bt_lines::{Fault, Kind, LineReader, Place, Source, no_memory};
 use indexmap::IndexMap;
 use std::alloc::Global;
@@ -20,7 +21,7 @@ pub struct Genome {
 
 #[tactic(auto, unfolding(crate::specs::calls::GenomeTable::entries))]
 impl Genome {
-    ghost use Rattle.std.specs.Prelude.{◌≡◌, false, [], ◌∷◌, ◌++◌, length, slice_get, Some, IfErr, OnOk, option_map};
+    ghost use Rattle.std.specs.Prelude.{◌≡◌, false, [], ◌∷◌, ◌++◌, length, slice_get, Some, IsTrue, IfErr, OnOk, option_map};
     ghost use Rattle.bt_lines.specs.calls.Faults.{no_memory};
     ghost use Rattle.bt_lines.specs.calls.Names.{fault_value};
     ghost use Rattle.bt_bed.specs.model.Genome.{entry_of, new_entry};
@@ -93,6 +94,13 @@ impl Genome {
         ensures some { 0 < result }
     {
         self.lengths[rank]
+    }
+
+    // Whether the chromosome of this name has this rank.
+    pub(crate) fn has_rank(&self, name: &[u8], rank: usize) -> bool
+        ensures { IsTrue result → rank_of (names_of self.now) name.now ≡ Some rank }
+    {
+        rank < self.lengths.len() && is_same_name(self.name(rank), name)
     }
 
     // Adds what a line says.

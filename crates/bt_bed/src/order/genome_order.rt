@@ -3,7 +3,7 @@
 ghost use Rattle.std.specs.Prelude.{◌≡◌, IsTrue};
 ghost use Rattle.bt_bed.specs.inside.RankTotal.{ranks_total};
 ghost use Rattle.bt_bed.specs.calls.GenomeTable.{names_of};
-ghost use Rattle.bt_bed.specs.model.Order.{rank_order};
+ghost use Rattle.bt_bed.specs.model.Order.{rank_of, rank_order};
 
 use crate::order::ChromOrder;
 use crate::order::genome::Genome;
@@ -36,10 +36,28 @@ impl Genome {
         requires right { IsTrue ((rank_order (names_of self.now)).knows right.now) }
         ensures { result ≡ (rank_order (names_of self.now)).compare left.now right.now }
     {
-        match (self.rank(left), self.rank(right)) {
-            (Some(left), Some(right)) => left.cmp(&right),
-            // Both are known, so this isn't reached.
-            _ => Ordering::Equal,
+        // Both are known, so both have a rank.
+        let Some(right) = self.rank(right) else {
+            return Ordering::Equal;
+        };
+        match self.rank_near(left, right) {
+            Some(left) => left.cmp(&right),
+            None => Ordering::Equal,
         }
+    }
+
+    // The rank of a chromosome. Those beside this one are tried first, without a hash: sorted input goes on to the next.
+    fn rank_near(&self, name: &[u8], rank: usize) -> Option<usize>
+        ensures { result ≡ rank_of (names_of self.now) name.now }
+    {
+        let next = rank.saturating_add(1);
+        if self.has_rank(name, next) {
+            return Some(next);
+        }
+        let before = rank.saturating_sub(1);
+        if self.has_rank(name, before) {
+            return Some(before);
+        }
+        self.rank(name)
     }
 }

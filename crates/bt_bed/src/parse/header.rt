@@ -42,8 +42,9 @@ pub(crate) mod tests {
     use super::*;
 
     #[rattlefmt::skip]
-    pub(crate) const HEADERS: [&[u8]; 8] = [
+    pub(crate) const HEADERS: [&[u8]; 10] = [
         b"", b"#", b"#chr1\t1\t2", b"track", b"track\tx", b"track name=x", b"browser", b"browser\t",
+        b"browser position", b"browser\tposition",
     ];
 
     const OTHERS: [&[u8]; 4] = [b"trac", b"trackX\t1\t2", b"brows er", b" track"];

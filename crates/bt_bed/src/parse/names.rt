@@ -1,13 +1,16 @@
 //! Names of chromosomes: whether two are equal.
 
-ghost use Rattle.std.specs.Prelude.{◌≡◌, ◌-◌, ◌≤◌, IfSome, bytes_eq, drop, length, take};
-ghost use Rattle.std.specs.Int.{from_le_bytes, w32};
+ghost use Rattle.std.specs.Prelude.{◌≡◌, ◌-◌, ◌≤◌, ◌<◌, IfSome, bytes_eq, drop, length, take};
+ghost use Rattle.std.specs.Int.{from_le_bytes, w32, w64};
 
 // The longest name that two words of four bytes cover.
-const LONGEST: usize = 8;
+const SHORT: usize = 8;
 
-/// Whether two names are equal. The first four and the last four bytes of a name of four to eight bytes are
-/// read as one number each: names are compared several times a record.
+// The longest one that two words of eight bytes cover.
+const LONGEST: usize = 16;
+
+/// Whether two names are equal. The first and the last bytes of a name of four to sixteen bytes are read as one
+/// number each, of four or eight bytes: names are compared several times a record.
 #[inline(always)]
 pub fn is_same_name(left: &[u8], right: &[u8]) -> bool
     ensures { result ≡ bytes_eq left.now right.now }
@@ -15,10 +18,28 @@ pub fn is_same_name(left: &[u8], right: &[u8]) -> bool
     if left.len() != right.len() || left.len() > LONGEST {
         return is_same_text(left, right);
     }
+    if left.len() > SHORT {
+        return have_same_ends(left, right);
+    }
     let (Some(ends), Some(others)) = (ends_of(left), ends_of(right)) else {
         return is_same_text(left, right);
     };
     ends.0 == others.0 && ends.1 == others.1
+}
+
+// The same for names of nine to sixteen bytes.
+#[inline(always)]
+fn have_same_ends(left: &[u8], right: &[u8]) -> bool
+    requires same { length left.now ≡ length right.now }
+    requires long { 8 < length left.now }
+    requires short { length left.now ≤ 16 }
+    ensures { result ≡ bytes_eq left.now right.now }
+{
+    let (Some(words), Some(other)) = (long_ends_of(left), long_ends_of(right)) else {
+        // Both have eight bytes, so this isn't reached.
+        return is_same_text(left, right);
+    };
+    words.0 == other.0 && words.1 == other.1
 }
 
 // The same for names of any length. Those of an assembly's parts mostly differ in their last byte.
@@ -43,4 +64,16 @@ fn ends_of(name: &[u8]) -> Option<(u32, u32)>
     let first = name.first_chunk::<4>()?;
     let last = name.last_chunk::<4>()?;
     Some((u32::from_le_bytes(*first), u32::from_le_bytes(*last)))
+}
+
+// The first and the last eight bytes, if it has that many.
+#[inline(always)]
+fn long_ends_of(name: &[u8]) -> Option<(u64, u64)>
+    ensures { IfSome result (λ ends. (8 ≤ length name.now)
+        × (ends.0 ≡ from_le_bytes w64 (take 8 name.now))
+        × (ends.1 ≡ from_le_bytes w64 (drop (length name.now - 8) name.now))) }
+{
+    let first = name.first_chunk::<8>()?;
+    let last = name.last_chunk::<8>()?;
+    Some((u64::from_le_bytes(*first), u64::from_le_bytes(*last)))
 }

@@ -84,7 +84,7 @@ mod tests {
     use std::process::Abort;
 
     #[rattlefmt::skip]
-    const RECORDS: [(&[u8], &[u8], Said); 11] = [
+    const RECORDS: [(&[u8], &[u8], Said); 12] = [
         (b"chr1\t5\t9", b"chr1", (5, 9, Dot, b"")),
         (b"chr1\t5\t9\t", b"chr1", (5, 9, Dot, b"\t")),
         (b"chr 1\t007\t9\tn\t0\t-", b"chr 1", (7, 9, Minus, b"\tn\t0\t-")),
@@ -96,6 +96,7 @@ mod tests {
         (b"chr1\t12345678\t123456789\tabcdefghij\t789\t+", b"chr1",
             (12_345_678, 123_456_789, Plus, b"\tabcdefghij\t789\t+")),
         (b"trackX\t1\t2", b"trackX", (1, 2, Dot, b"")),
+        (b"tracks\t1\t2", b"tracks", (1, 2, Dot, b"")),
         (b" \t999999999998\t999999999999", b" ", (999_999_999_998, 999_999_999_999, Dot, b"")),
     ];
 

@@ -1,11 +1,15 @@
 //! The last record and the chromosome of the one ahead, sorted by some rule.
 
+ghost use Rattle.std.specs.Prelude.{◌≡◌, ℕ, Some};
+ghost use Rattle.bt_bed.specs.inside.FirstColumns.{IsRecordName};
+
 use crate::parse::faults::at_line;
 use crate::parse::names::is_same_name;
 use crate::parse::parsing::parse_bed;
+use crate::read::batch::Batch;
 use crate::read::sorted::Sorted;
 use crate::record::bed::BedRef;
-use bt_lines::{Fault, Kind, Place, no_memory};
+use bt_lines::{BufferedLines, Fault, Kind, Place, no_memory};
 use std::alloc::Global;
 
 // What the next record is checked against. The names of chromosomes are in buffers that are used again. A record on the
@@ -21,15 +25,17 @@ pub(crate) struct OrderedLookahead<Q> {
     last: Option<u64>,
     // Whether the record ahead lies on another chromosome than the last.
     is_elsewhere: bool,
+    ghost named: { (start : ℕ) → last ≡ Some start → IsRecordName last_name.items },
 }
 
 #[tactic(auto, unfolding(crate::specs::inside::OrderedLookahead::last_in, crate::specs::inside::OrderedLookahead::name_in, crate::specs::inside::OrderedLookahead::start_in))]
 impl<Q: Sorted> OrderedLookahead<Q> {
-    ghost use Rattle.std.specs.Prelude.{◌≡◌, None, Some};
+    ghost use Rattle.std.specs.Prelude.{◌≡◌, IsTrue, None, Some};
     ghost use Rattle.std.specs.Result.{result_map_both};
+    ghost use Rattle.bt_lines.specs.calls.Reader.{lines_in};
     ghost use Rattle.bt_bed.specs.calls.Bed.{feature_lent};
     ghost use Rattle.bt_bed.specs.model.Good.{in_order};
-    ghost use Rattle.bt_bed.specs.inside.OrderedLookahead.{IsKnownLast, MakesLast, TakesLine, goes_on, last_in, name_in, start_in};
+    ghost use Rattle.bt_bed.specs.inside.OrderedLookahead.{HasNext, IsKnownLast, MakesLast, TakesLine, goes_on, last_in, name_in, start_in};
 
     // No record yet.
     pub(crate) fn new(alloc: Global, rule: Q) -> OrderedLookahead<Q>
@@ -68,6 +74,7 @@ impl<Q: Sorted> OrderedLookahead<Q> {
 
     // Makes a record on the chromosome of the one ahead, which starts here, the last one.
     pub(crate) fn advance(&mut self, start: u64)
+        requires { IsRecordName (name_in self.old) }
         ensures { MakesLast self.old start self.new }
     {
         if self.is_elsewhere {
@@ -75,6 +82,19 @@ impl<Q: Sorted> OrderedLookahead<Q> {
             self.is_elsewhere = false;
         }
         self.last = Some(start);
+    }
+
+    // Whether the next of these lines says a record that may follow the last one on its chromosome, which a batch finds.
+    pub(crate) fn has_next_in(&self, lines: BufferedLines<'_>) -> bool
+        ensures { IsTrue result → HasNext self.now (lines_in lines.entry) }
+    {
+        match self.last {
+            Some(start) if !self.is_elsewhere => {
+                let batch = Batch::new(lines, self.last_name.as_slice(), start);
+                batch.first().is_some()
+            }
+            _ => false,
+        }
     }
 
     // Takes the line that follows the last record's, and returns true if it has a record, which

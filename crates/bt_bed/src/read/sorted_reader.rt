@@ -171,11 +171,12 @@ impl<S: Source, Q: Sorted + Drop> SortedReader<S, Q> {
         ensures placed { IsPlaced (Q.sorting self.old.lookahead.rule)
             (view_with (Q.sorting self.old.lookahead.rule) (fault_in result) self.new.reader self.new.lookahead (buffered_in self.new)) }
     {
+        let mut has_skipped = false;
         loop {
             match self.reader.fill() {
-                Ok(true) => match self.take_line() {
+                Ok(true) => match self.take_line(has_skipped) {
                     Ok(true) => return Ok(true),
-                    Ok(false) => {}
+                    Ok(false) => has_skipped = true,
                     Err(fault) => return Err(fault),
                 },
                 Ok(false) => return Ok(false),
@@ -184,8 +185,9 @@ impl<S: Source, Q: Sorted + Drop> SortedReader<S, Q> {
         }
     }
 
-    // Whether the next line says a record, which is ahead then. Any other line is consumed.
-    fn take_line(&mut self) -> Result<bool, Fault>
+    // Whether the next line says a record, which is ahead then. Any other line is consumed. A line that was skipped may lie
+    // between records of one batch, so that the record after it is looked for there first.
+    fn take_line(&mut self, has_skipped: bool) -> Result<bool, Fault>
         requires none { self.old.is_ahead ≡ false }
         requires going { self.old.fault ≡ None }
         requires some { 0 < length (buffered_bytes self.old.reader) }
@@ -196,6 +198,10 @@ impl<S: Source, Q: Sorted + Drop> SortedReader<S, Q> {
         ensures takes { TakesFirst S.Source (Q.sorting self.old.lookahead.rule) self.old result self.new }
     {
         let mut lines = self.reader.buffered();
+        if has_skipped && self.lookahead.has_next_in(lines) {
+            self.is_ahead = true;
+            return Ok(true);
+        }
         let Some(line) = lines.next() else {
             return Ok(false);
         };

@@ -1,6 +1,7 @@
 //! The text of a record that is kept.
 
-ghost use Rattle.std.specs.Prelude.{◌≡◌, ◌≤◌, ◌++◌, ◌-◌, length, take, IfOk, IfSome};
+ghost use Rattle.std.specs.Prelude.{◌≡◌, ◌≤◌, ◌<◌, ◌++◌, ◌+◌, ◌-◌, length, take, IfNone, IfOk, IfSome, OnErr};
+ghost use Rattle.bt_bed.specs.calls.Bed.{inline_size};
 ghost use Rattle.bt_bed.specs.inside.FirstColumns.{bytes_of};
 
 use bt_lines::copy_piece;
@@ -26,6 +27,7 @@ impl InlineText {
     ) -> Result<(InlineText, u32), AllocError>
         ensures within { IfOk result (λ kept. kept.1 ≤ length (bytes_of kept.0)) }
         ensures filled { IfOk result (λ kept. take (length (bytes_of kept.0) - kept.1) (bytes_of kept.0) ≡ name.now ++ rest.now) }
+        ensures long { OnErr result (inline_size < length name.now + length rest.now) }
     {
         let mut bytes = [0; SHORT];
         if let Some(left) = put_both(&mut bytes, name, rest) {
@@ -56,6 +58,7 @@ fn put_both(bytes: &mut [u8], piece: &[u8], next: &[u8]) -> Option<u32>
     requires { length bytes.old ≤ SHORT }
     ensures within { IfSome result (λ left. left ≤ length bytes.new) }
     ensures put { IfSome result (λ left. take (length bytes.new - left) bytes.new ≡ piece.now ++ next.now) }
+    ensures none { IfNone result (length bytes.old < length piece.now + length next.now) }
 {
     let middle = piece.len();
     let used = middle + next.len();

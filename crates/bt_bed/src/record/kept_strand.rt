@@ -7,7 +7,10 @@ ghost use Rattle.bt_bed.specs.calls.Features.{columns_in};
 
 use crate::parse::parsing::behind;
 use crate::record::strand::Strand;
-use bt_lines::length_before;
+use bt_lines::{copy_piece, length_before};
+
+// Most columns after the third have this many bytes at most.
+const SHORT: usize = 32;
 
 // The strand of the columns that are kept, each with the tab before it: those from an index on.
 #[inline(always)]
@@ -18,11 +21,26 @@ pub(crate) fn kept_strand(text: &[u8], from: usize) -> Strand
     if from == text.len() {
         return Strand::Dot;
     }
-    third_column(behind(text, from + 1))
+    let columns = behind(text, from + 1);
+    if columns.len() <= SHORT {
+        return short_third_column(columns);
+    }
+    third_column(columns)
+}
+
+// The same as `third_column` of a short text: with tabs after it, so that each search ends among its first bytes.
+fn short_third_column(text: &[u8]) -> Strand
+    requires { length text.now ≤ 32 }
+    ensures { result ≡ strand_of (pieces 9 text.now) }
+{
+    let mut padded = [b'\t'; 2 * SHORT];
+    copy_piece(&mut padded[..text.len()], text);
+    third_column(&padded)
 }
 
 // The strand that the third column of a text names.
 #[tactic(auto, using(bt_lines::proofs::lemmas::reader::lines::TextLemmas::before_tab, bt_lines::proofs::lemmas::reader::lines::TextLemmas::without_tab))]
+#[inline(always)]
 fn third_column(text: &[u8]) -> Strand
     ensures { result ≡ strand_of (pieces 9 text.now) }
 {

@@ -1,5 +1,5 @@
 -- What a reader of lines holds, what its calls do, and the lines that are left of those buffered.
-use Rattle.std.specs.Prelude.{◌≡◌, ℕ, suc, ◌+◌, ◌-◌, ◌≤◌, Bool, true, false, List, ◌∷◌, drop, length, nat_lt, take, ◌≢◌, ◌^◌, ◌<◌, ◌⊎◌, [], ◌++◌, Option, Some, None, option_map, Result, Ok, Err, IfSome, ⊤, ◌&&◌, if◌then◌else◌}
+use Rattle.std.specs.Prelude.{◌≡◌, ℕ, suc, ◌+◌, ◌-◌, ◌≤◌, Bool, true, false, List, ◌∷◌, drop, length, nat_lt, take, ◌≢◌, ◌^◌, ◌<◌, ◌⊎◌, [], ◌++◌, Option, Some, None, option_map, Result, Ok, Err, IfSome, ⊤, ◌&&◌, if◌then◌else◌, vec_capacity}
 use Rattle.bt_lines.specs.calls.Line.{Shown, ending_at, line_seen, GivesFirst, line_feeds}
 use Rattle.bt_lines.specs.model.Lines.{TextLine, lines_from, whole_lines_from, bytes_in, spelled}
 use Rattle.bt_lines.specs.inside.Shape.{is_fed, held_at}
@@ -274,11 +274,23 @@ module _ {S : Type 0} where
   TellsOwnFailure IsRead old (Err fault) new = fault_kept old ≡ None
       → TellsReads IsRead old (Some (fault_value fault)) new
 
+  -- how many bytes a line that is longer than a block may have before its buffer has to grow
+  unfoldable pub line_room : LineReader S → ℕ
+  line_room reader = vec_capacity reader.buffer.spilled
+
+  -- memory runs out for the first time only if the bytes of the line so far, those that were held and those
+  -- of this call, fill that room
+  abbrev pub FillsItsRoom : {A : Type 0} → LineReader S → Result A Fault → LineReader S → Type 0
+  FillsItsRoom old (Ok done) new = ⊤
+  FillsItsRoom old (Err fault) new = fault_kept old ≡ None → fault_value fault ≡ no_memory
+      → line_room old + bytes_taken old ≤ length (held old) + bytes_taken new
+
   -- one call of `next`
   pub record NextLine (device : Source S) (old : LineReader S) (answer : Result (Option Line) Fault)
       (new : LineReader S) : Type 0 where
     pub answers : Answers device old answer new
     pub own_failure : TellsOwnFailure device.is_read old answer new
+    pub memory : FillsItsRoom old answer new
     pub sound : IsSound device old → IsSound device new
 
   -- the complete lines that are buffered, as bytes

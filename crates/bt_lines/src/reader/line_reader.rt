@@ -54,13 +54,13 @@ pub struct LineReader<S> {
     ghost last: { IsLast (told_at state) (open_at state) (complete buffer) (unread buffer) },
 }
 
-#[tactic(auto, unfolding(crate::specs::calls::Reader::source_of, crate::specs::calls::Reader::input_of, crate::specs::calls::Reader::lines_given, crate::specs::calls::Reader::bytes_taken, crate::specs::calls::Reader::held, crate::specs::calls::Reader::fault_kept, crate::specs::calls::Reader::has_ended, crate::specs::calls::Reader::line_at, crate::specs::calls::Reader::end_told, crate::specs::calls::Reader::bytes_left, crate::specs::calls::Reader::feeds_taken))]
+#[tactic(auto, unfolding(crate::specs::calls::Reader::source_of, crate::specs::calls::Reader::input_of, crate::specs::calls::Reader::lines_given, crate::specs::calls::Reader::bytes_taken, crate::specs::calls::Reader::held, crate::specs::calls::Reader::fault_kept, crate::specs::calls::Reader::has_ended, crate::specs::calls::Reader::line_at, crate::specs::calls::Reader::end_told, crate::specs::calls::Reader::bytes_left, crate::specs::calls::Reader::feeds_taken, crate::specs::calls::Reader::line_room))]
 impl<S: Source> LineReader<S> {
     ghost use Rattle.std.specs.Prelude.{◌≡◌, ℕ, List, suc, ◌<◌, ◌-◌, ◌≤◌, ◌^◌, None, Some, IsSome, Option, Ok, Err, [], false, true, option_map};
     ghost use Rattle.std.specs.Borrow.{sem};
     ghost use Rattle.std.specs.Io.BufRead.{Rests};
     ghost use Rattle.bt_lines.specs.contracts.reader.line_reader.LineReader.{the_row};
-    ghost use Rattle.bt_lines.specs.calls.Reader.{FillsLines, GivesLine, IsKept, IsPrefix, IsTaken, TakesLines, buffered_bytes, buffered_in, is_open, HasRead, IsSound, NextLine, TellsOwnFailure, line_at, feeds_taken, source_of, input_of, lines_given, bytes_taken, held, fault_kept, has_ended, lines_left, BeginsLines, lines_in};
+    ghost use Rattle.bt_lines.specs.calls.Reader.{FillsItsRoom, FillsLines, GivesLine, IsKept, IsPrefix, IsTaken, TakesLines, buffered_bytes, buffered_in, is_open, HasRead, IsSound, NextLine, TellsOwnFailure, line_at, feeds_taken, source_of, input_of, lines_given, bytes_taken, held, fault_kept, has_ended, lines_left, BeginsLines, lines_in};
     ghost use Rattle.bt_lines.specs.calls.Line.{line_seen};
     ghost use Rattle.bt_lines.specs.model.Lines.{text_lines};
     ghost use Rattle.bt_lines.specs.model.Fault.{read_failed};
@@ -94,6 +94,7 @@ impl<S: Source> LineReader<S> {
     pub fn fill(&mut self) -> Result<bool, Fault>
         ensures fills { FillsLines S.Source self.old result self.new }
         ensures own_failure { TellsOwnFailure S.is_read self.old result self.new }
+        ensures memory { FillsItsRoom self.old result self.new }
     {
         if !self.buffer.lines().is_empty() {
             return Ok(true);
@@ -122,7 +123,7 @@ impl<S: Source> LineReader<S> {
 
     /// The next line, or none at the end of the text. If the source failed in this call or gave more than
     /// 2^63 - 1 bytes, it fails with `ReadFailed`, at the line after the last one given. If the line's
-    /// buffer can't grow, it fails with `NoMemory`. A fault is returned again, and after it and
+    /// buffer has to grow and can't, it fails with `NoMemory`. A fault is returned again, and after it and
     /// after the end nothing is read.
     #[inline(always)]
     pub fn next(&mut self) -> Result<Option<Line<'_>>, Fault>
@@ -281,6 +282,7 @@ impl<S: Source> LineReader<S> {
         requires { complete self.old.buffer ≡ [] }
         ensures fills { FillsLines S.Source self.old result self.new }
         ensures own_failure { TellsOwnFailure S.is_read self.old result self.new }
+        ensures memory { FillsItsRoom self.old result self.new }
     {
         match self.state {
             State::Reading => self.read_more(),
@@ -299,6 +301,7 @@ impl<S: Source> LineReader<S> {
         requires going { self.old.state ≡ State.Reading }
         ensures fills { FillsLines S.Source self.old result self.new }
         ensures own_failure { TellsOwnFailure S.is_read self.old result self.new }
+        ensures memory { FillsItsRoom self.old result self.new }
     {
         match read_lines(&mut self.source, &mut self.buffer, &mut self.taken) {
             Stop::LineFeed => Ok(true),

@@ -1,8 +1,9 @@
 //! The first byte of a value among some bytes, as a line feed or a tab.
 
-ghost use Rattle.std.specs.Prelude.{◌≡◌, ◌≤◌, length, take};
+ghost use Rattle.std.specs.Prelude.{◌≡◌, ◌-◌, ◌≤◌, ◌++◌, length, replicate, take};
 ghost use Rattle.bt_lines.specs.calls.Columns.{IsBefore, IsFirstOf, Lacks};
 
+use crate::writer::copying::copy_short;
 use memchr::memchr;
 
 // How many bytes are searched at once.
@@ -56,10 +57,24 @@ fn late_length(byte: u8, text: &[u8], from: usize) -> usize
         }
         at += NEAR;
     }
-    while at < text.len() && text[at] != byte {
-        at += 1;
+    let rest = &text[at..];
+    match find_near(byte, &padded(rest, !byte)) {
+        Some(place) => at + place,
+        None => text.len(),
     }
-    at
+}
+
+// Fewer than thirty-two bytes, and others of one value after them.
+#[inline]
+fn padded(bytes: &[u8], other: u8) -> [u8; NEAR]
+    requires { length bytes.now ≤ 32 }
+    ensures { result ≡ bytes.now ++ replicate (32 - length bytes.now) other }
+{
+    let mut near = [other; NEAR];
+    if !bytes.is_empty() {
+        copy_short(&mut near[..bytes.len()], bytes);
+    }
+    near
 }
 
 // Where a byte first occurs among thirty-two. This is the only call of `memchr`, which is inlined and folded into a few

@@ -1,6 +1,6 @@
 //! The bytes that a reader has buffered.
 
-ghost use Rattle.std.specs.Prelude.{◌≡◌, ◌+◌, ◌<◌, ◌≤◌, ◌++◌, cond, drop, length, slice_range, take, IfOk, OnOk, OnErr, true};
+ghost use Rattle.std.specs.Prelude.{◌≡◌, ◌+◌, ◌-◌, ◌<◌, ◌≤◌, ◌++◌, cond, drop, length, slice_range, take, vec_capacity, IfOk, OnOk, OnErr, true};
 ghost use Rattle.std.specs.Io.KnownBytes.{Consumes, IsAtEnd, Keeps};
 ghost use Rattle.bt_lines.specs.calls.Output.{block_size};
 ghost use Rattle.bt_lines.specs.inside.Shape.{AreComplete, IsSearched};
@@ -41,7 +41,7 @@ pub(crate) struct ReadBuffer {
 
 #[tactic(auto, unfolding(crate::specs::inside::ReadBuffer::complete, crate::specs::inside::ReadBuffer::unread, crate::specs::inside::ReadBuffer::text_in))]
 impl ReadBuffer {
-    ghost use Rattle.std.specs.Prelude.{◌≡◌, ℕ, List, ◌<◌, ◌≤◌, ◌++◌, ◌∷◌, [], drop, false, length, nat_eq, take, IfOk, OnOk, OnErr, Some, None};
+    ghost use Rattle.std.specs.Prelude.{◌≡◌, ℕ, List, ◌+◌, ◌<◌, ◌≤◌, ◌++◌, ◌∷◌, [], drop, false, length, nat_eq, take, vec_capacity, IfOk, OnOk, OnErr, Some, None};
     ghost use Rattle.bt_lines.specs.inside.ReadBuffer.{FindsLines, MovesPiece, complete, text_in, unread};
     ghost use Rattle.bt_lines.specs.inside.Shape.{is_fed};
     ghost use Rattle.bt_lines.specs.calls.Line.{line_feeds};
@@ -116,6 +116,7 @@ impl ReadBuffer {
     pub(crate) fn find_lines(&mut self) -> bool
         requires { complete self.old ≡ [] }
         ensures finds { FindsLines self.old result self.new }
+        ensures spilled { self.new.spilled ≡ self.old.spilled }
         ensures plain { result ≡ true → self.new.is_spilled ≡ false }
     {
         let from = self.searched;
@@ -199,6 +200,7 @@ impl ReadBuffer {
         ensures unread { unread self.new ≡ unread self.old }
         ensures plain { self.new.is_spilled ≡ false }
         ensures empty { self.new.spilled.items ≡ [] }
+        ensures room { vec_capacity self.new.spilled ≡ vec_capacity self.old.spilled }
     {
         self.clear_lines();
         self.spilled.clear();
@@ -212,6 +214,8 @@ impl ReadBuffer {
         ensures moves { MovesPiece (unread self.old) self.old.spilled.items result (unread self.new) self.new.spilled.items }
         ensures none { complete self.new ≡ [] }
         ensures plain { self.new.is_spilled ≡ false }
+        ensures room { vec_capacity self.old.spilled ≤ vec_capacity self.new.spilled }
+        ensures full { OnErr result (vec_capacity self.old.spilled < length self.old.spilled.items + length (unread self.old)) }
     {
         let from = self.whole;
         let feed = from + line_length(&self.bytes[from..self.end]);
@@ -244,6 +248,7 @@ impl ReadBuffer {
     pub(crate) fn end_spilled(&mut self) -> Result<(), AllocError>
         requires { self.old.is_spilled ≡ false }
         ensures ended { OnOk result (self.new.spilled.items ≡ self.old.spilled.items ++ 10 ∷ []) }
+        ensures full { OnErr result (vec_capacity self.old.spilled ≤ length self.old.spilled.items) }
         ensures lines { complete self.new ≡ complete self.old }
         ensures unread { unread self.new ≡ unread self.old }
         ensures plain { self.new.is_spilled ≡ false }
@@ -314,6 +319,8 @@ fn append_part(
     requires within { stop ≤ block_size }
     ensures added { OnOk result (to.new.items ≡ to.old.items ++ slice_range bytes.now from stop) }
     ensures same { OnErr result (to.new.items ≡ to.old.items) }
+    ensures room { vec_capacity to.old ≤ vec_capacity to.new }
+    ensures full { OnErr result (vec_capacity to.old < length to.old.items + (stop - from)) }
 {
     to.extend_from_slice(&bytes[from..stop])
 }

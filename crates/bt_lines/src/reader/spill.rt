@@ -1,6 +1,6 @@
 //! A line that is longer than a block, and the reads of a source.
 
-ghost use Rattle.std.specs.Prelude.{◌≡◌, ◌<◌, ◌^◌, [], false, length};
+ghost use Rattle.std.specs.Prelude.{◌≡◌, ◌+◌, ◌<◌, ◌≤◌, ◌^◌, [], false, length, vec_capacity};
 ghost use Rattle.bt_lines.specs.calls.Output.{block_size};
 ghost use Rattle.bt_lines.specs.inside.ReadBuffer.{complete, unread};
 ghost use Rattle.bt_lines.specs.calls.Line.{NoLineFeed};
@@ -40,7 +40,8 @@ pub(crate) enum More {
     PastBound,
 }
 
-// Makes at least one line buffered, or the end, if none is. It counts all bytes that it takes.
+// Makes at least one line buffered, or the end, if none is. It counts all bytes that it takes. Memory runs out only if the
+// bytes of the line so far fill the room that the vector had.
 #[tactic(auto, using(crate::proofs::lemmas::reader::block::ReadsLemmas::counts_then, crate::proofs::lemmas::reader::block::BufferLemmas::more_read, crate::proofs::lemmas::reader::block::BufferLemmas::not_full, crate::proofs::lemmas::reader::block::BufferLemmas::unread_fits))]
 pub(crate) fn read_lines<S: Source>(
     source: &mut S,
@@ -52,6 +53,7 @@ pub(crate) fn read_lines<S: Source>(
     ensures buffers { Buffers S.Source source.old (unread buffer.old) taken.old result
         source.new (complete buffer.new) (unread buffer.new) taken.new }
     ensures counted { AreCounted S.is_read result source.old taken.old source.new taken.new }
+    ensures memory { result ≡ Stop.NoMemory → vec_capacity buffer.old.spilled + taken.old ≤ length (unread buffer.old) + taken.new }
 {
     while !buffer.find_lines() {
         if buffer.is_full() {
@@ -80,6 +82,7 @@ fn read_long<S: Source>(source: &mut S, buffer: &mut ReadBuffer, taken: &mut u64
     ensures buffers { Buffers S.Source source.old (unread buffer.old) taken.old result
         source.new (complete buffer.new) (unread buffer.new) taken.new }
     ensures counted { AreCounted S.is_read result source.old taken.old source.new taken.new }
+    ensures memory { result ≡ Stop.NoMemory → vec_capacity buffer.old.spilled + taken.old ≤ length (unread buffer.old) + taken.new }
 {
     buffer.begin_spill();
     'reads: loop {
@@ -118,6 +121,7 @@ fn ask_more<S: Source>(source: &mut S, buffer: &mut ReadBuffer, taken: &mut u64)
     ensures plain { buffer.new.is_spilled ≡ false }
     ensures front { buffer.new.whole ≡ 0 }
     ensures spilled { buffer.new.spilled.items ≡ buffer.old.spilled.items }
+    ensures room { vec_capacity buffer.new.spilled ≡ vec_capacity buffer.old.spilled }
     ensures counted { IsCounted S.is_read result source.old taken.old source.new taken.new }
 {
     let room = BOUND - *taken;

@@ -19,8 +19,8 @@ pub(crate) fn long_line(
 
 // What follows a long line, how that line ends, and how many lines the text has: the second is `b`.
 #[rattlefmt::skip]
-const ENDINGS: [(&[u8], LineEnd, usize); 4] = [
-    (b"\r\nb", LineEnd::CrLf, 2), (b"\nb", LineEnd::Lf, 2),
+const ENDINGS: [(&[u8], LineEnd, usize); 5] = [
+    (b"\r\n", LineEnd::CrLf, 1), (b"\r\nb", LineEnd::CrLf, 2), (b"\nb", LineEnd::Lf, 2),
     (b"\r", LineEnd::Cr, 1), (b"", LineEnd::Absent, 1),
 ];
 
@@ -42,6 +42,23 @@ fn is_given(alloc: Global, length: usize) -> Result<bool, AllocError> {
 fn one_line_across_the_border_of_a_block(rt: HostRuntime) -> Result<(), Fail> {
     for length in [8190, 8191, 8192, 8193, 16383, 16384, 20000] {
         assert!(rt; is_given(rt.alloc(), length)?, "of {length}");
+    }
+    Ok(())
+}
+
+// Whether a line of this many bytes is given before another.
+fn is_long_given(alloc: Global, length: usize) -> Result<bool, AllocError> {
+    let long = long_line(alloc, length, b"")?;
+    let text = long_line(alloc, length, b"\nb")?;
+    let lines: [Want; 2] = [(long.as_slice(), LineEnd::Lf), (b"b", LineEnd::Absent)];
+    Ok(is_divided(alloc, text.as_slice(), &lines, &[BLOCK]))
+}
+
+// With ample memory no line is too long.
+#[test]
+fn lines_of_megabytes_are_given(rt: HostRuntime) -> Result<(), Fail> {
+    for length in [1_000_000, 1_048_577, 5_000_000] {
+        assert!(rt; is_long_given(rt.alloc(), length)?, "of {length}");
     }
     Ok(())
 }

@@ -53,6 +53,90 @@ impl Write for FailsOnce {
     }
 }
 
+// A reader of a text, a byte a call, which then has ended. It counts its calls.
+#[derive(Drop)]
+struct CountsReads {
+    text: &'static [u8],
+    calls: u8,
+}
+
+impl Read for CountsReads {
+    fn read(&mut self, buf: &mut [u8]) -> io::Result<usize> {
+        self.calls = self.calls.saturating_add(1);
+        if self.text.is_empty() || buf.is_empty() {
+            return Ok(0);
+        }
+        buf[0] = self.text[0];
+        self.text = &self.text[1..];
+        Ok(1)
+    }
+}
+
+// Whether reads of two bytes and their end are one call each, and the end is no failure.
+fn ends_in_three_calls() -> bool {
+    let (text, calls) = (b"ab".as_slice(), 0);
+    let mut source = FromRead::new(CountsReads { text, calls });
+    let mut block = [0u8; 4];
+    for count in [1, 1, 0] {
+        if !matches!(source.read(&mut block), Ok(read) if read == count) {
+            return false;
+        }
+    }
+    !source.failed() && source.into_inner().calls == 3
+}
+
+#[test]
+fn an_end_is_one_call_and_no_failure(rt: HostRuntime) {
+    holds(&rt, ends_in_three_calls(), "three calls");
+}
+
+// After the end of a text its reader isn't asked again, nor a second time for that end.
+#[test]
+fn an_end_is_asked_for_once(rt: HostRuntime) {
+    let (text, calls) = (b"a\nb".as_slice(), 0);
+    let source = FromRead::new(CountsReads { text, calls });
+    let mut reader = LineReader::new(rt.alloc(), source, Input::First);
+    let lines: [Want; 2] = [(b"a", LineEnd::Lf), (b"b", LineEnd::Absent)];
+    let are_given = gives_all(&mut reader, &lines)
+        && has_ended(&mut reader)
+        && has_ended(&mut reader);
+    let calls = reader.into_source().into_inner().calls;
+    holds(&rt, are_given && calls == 4, "three bytes and the end");
+}
+
+// A writer that takes everything, and counts its writes and its flushes.
+#[derive(Drop)]
+struct CountsWrites {
+    writes: u8,
+    flushes: u8,
+}
+
+impl Write for CountsWrites {
+    fn write(&mut self, buf: &[u8]) -> io::Result<usize> {
+        self.writes = self.writes.saturating_add(1);
+        Ok(buf.len())
+    }
+
+    fn flush(&mut self) -> io::Result<()> {
+        self.flushes = self.flushes.saturating_add(1);
+        Ok(())
+    }
+}
+
+// Each flush of the sink is one of its writer, and each write is one too.
+#[test]
+fn a_flush_is_one_call(rt: HostRuntime) {
+    let (writes, flushes) = (0, 0);
+    let mut sink = ToWrite::new(CountsWrites { writes, flushes });
+    let are_served = sink.write(b"chr1").is_ok() && sink.flush().is_ok() && sink.flush().is_ok();
+    let writer = sink.into_inner();
+    holds(
+        &rt,
+        are_served && (writer.writes, writer.flushes) == (1, 2),
+        "a write and two flushes",
+    );
+}
+
 // Whether each read fails, and the reader was asked once.
 fn is_asked_once() -> bool {
     let mut source = FromRead::new(fails_at(1));

@@ -3,7 +3,7 @@
 use crate::tests::block_tests::long_line;
 use crate::tests::holds;
 use crate::{BLOCK, Fault, Out, ScriptSink, Sink, put_both, put_column, put_line, write_failed};
-use std::alloc::Global;
+use std::alloc::{AllocError, Global};
 use std::process::Abort;
 use std::test::Fail;
 
@@ -37,6 +37,8 @@ fn whole_blocks_reach_the_sink(rt: HostRuntime) -> Result<(), Fail> {
     for (lengths, want) in &WHOLE_BLOCKS {
         assert_eq!(rt; taken_of(rt.alloc(), *lengths)?, *want, "{lengths:?}");
     }
+    let one_put = filled(rt.alloc(), 10)?.into_sink();
+    assert_eq!(rt; one_put.taken(), b"".as_slice());
     Ok(())
 }
 
@@ -130,21 +132,13 @@ fn a_put_that_writes_reports_that_it_failed(rt: HostRuntime) -> Result<(), Fail>
     Ok(())
 }
 
-// For how many bytes there is room after this many, and whether a line and its line feed are buffered
-// there.
-fn pair_after(alloc: Global, before: usize) -> Result<(usize, bool), Fail> {
+// Whether a line and its line feed are buffered after this many bytes.
+fn pair_after(alloc: Global, before: usize) -> Result<bool, Fail> {
     let mut output = filled(alloc, before)?;
-    let room = output.room();
-    let is_put = output.try_put_pair(b"line", b"\n");
-    Ok((room, is_put))
+    Ok(output.try_put_pair(b"line", b"\n"))
 }
 
-const PAIRS: [(usize, (usize, bool)); 4] = [
-    (0, (8192, true)),
-    (8187, (5, true)),
-    (8188, (4, false)),
-    (8192, (0, false)),
-];
+const PAIRS: [(usize, bool); 4] = [(0, true), (8187, true), (8188, false), (8192, false)];
 
 // A piece and its line feed are buffered if both fit into the block, also to its last byte.
 #[test]
@@ -202,4 +196,21 @@ fn nothing_is_buffered_after_a_failure(rt: HostRuntime) {
     let is_put = failed.try_put_pair(b"line", b"\n")
         || failed.try_put_interval(b"chr1", 5, 9, b'\n');
     holds(&rt, has_failed && !is_put, "nothing");
+}
+
+// By `rt try --test --fail-alloc N -- refused_growth` for each N from 1. A sink that can't grow has failed: it keeps what
+// it took, and each later call reports a failed write.
+#[test]
+fn refused_growth_of_a_sink(rt: HostRuntime) -> Result<(), Fail> {
+    let text = b"chr1\t100\t500\nchr1\t501\t1000\n".as_slice();
+    let mut output = Out::new(ScriptSink::new(rt.alloc(), 7, None));
+    if output.put(text).is_ok() && output.flush().is_ok() {
+        holds(&rt, output.into_sink().taken() == text, "all is taken");
+        return Ok(());
+    }
+    let is_reported = fails_again(&mut output);
+    let sink = output.into_sink();
+    holds(&rt, is_reported && sink.failed(), "a failed write");
+    holds(&rt, text.starts_with(sink.taken()), "the first bytes");
+    Err(Fail::from(AllocError))
 }

@@ -100,13 +100,6 @@ impl<K: Sink> Out<K> {
         Ok(())
     }
 
-    /// For how many bytes [`Out::try_put_pair`] has room, if no write has failed: at most [`BLOCK`].
-    pub fn room(&self) -> usize
-        ensures { result ≤ block_size }
-    {
-        self.held.room()
-    }
-
     /// Puts a piece and a short one after it and returns true, if no write has failed and there is room for
     /// both; else nothing changes. It writes nothing to the sink.
     #[inline(always)]

@@ -8,14 +8,17 @@ use Rattle.bt_bed.specs.model.Order.{rank_of}
 use Rattle.bt_bed.specs.model.Sorted.{Locus}
 use Rattle.bt_runs.specs.calls.Engine.{EngineDef, ruled}
 use Rattle.bt_runs.specs.inside.Coverage.{begun_seen, Known, begun_to, depth_walk, still_open}
-use Rattle.bt_runs.specs.model.Depth.{DepthInterval, coverage, depth_lines, is_counted_by, settled_depths, Begun, Level, levels_of, depth_of, counted_on}
+use Rattle.bt_bed.specs.model.Levels.{Level}
+use Rattle.bt_bed.specs.calls.LevelScan.{Begun}
+use Rattle.bt_runs.specs.model.Depth.{DepthInterval, coverage, depth_lines, is_counted_by, settled_depths, levels_of, depth_of, counted_on}
 use Rattle.bt_runs.specs.calls.Complementing.{AreTaken, length_in}
 use Rattle.bt_runs.specs.inside.Walk.{AreReached, Place, RuleDef, entry_at, is_on, places, walk_step}
 use Rattle.bt_runs.specs.declared.coverage.depth_rule.CurrentChrom.{CurrentChrom}
 use Rattle.bt_runs.specs.declared.coverage.depths.OpenInterval.{OpenInterval}
 use Rattle.bt_runs.specs.declared.engine.rule.Ruled.{Ruled}
 
--- What a count of depths keeps.
+-- What a count of depths keeps. In memory there are the ends of these records: their starts and their order exist in proofs
+-- alone.
 
 -- a span cut at a length
 abbrev pub cut_at : ℕ → Span → Span

@@ -3,14 +3,15 @@ use Rattle.std.specs.Prelude.{ℕ, ◌-◌, min, max, nat_le, nat_lt, Bool, ◌&
 use Rattle.bt_bed.specs.model.Genome.{Entry}
 use Rattle.bt_bed.specs.model.Feature.{Span}
 use Rattle.bt_bed.specs.declared.record.strand.Strand.{Strand}
-use Rattle.bt_runs.specs.model.Depth.{DepthInterval, depth_of, depth_on, is_counted_by, Begun, Level, begun_after, ended_after, ended_at, depth_lines}
+use Rattle.bt_bed.specs.model.Levels.{Level}
+use Rattle.bt_bed.specs.calls.LevelScan.{Begun, begun_after, ended_after, ended_at}
+use Rattle.bt_runs.specs.model.Depth.{DepthInterval, depth_of, depth_on, is_counted_by, depth_lines}
 use Rattle.bt_runs.specs.inside.Walk.{Walk, Place}
 use Rattle.std.specs.BinaryHeap.{IsHeap}
 use Rattle.std.specs.Ordering.{nat_cmp}
 use Rattle.std.specs.declared.cmp.Reverse.{Reverse}
 use Rattle.bt_lines.specs.calls.Faults.{write_failed}
 use Rattle.bt_lines.specs.calls.Output.{Output, FailsToAdd, Grown}
-use Rattle.bt_runs.specs.declared.coverage.open_records.OpenSpan.{OpenSpan}
 use Rattle.bt_runs.specs.declared.coverage.depths.DepthCursor.{DepthCursor}
 use Rattle.bt_runs.specs.declared.coverage.depths.OpenInterval.{OpenInterval}
 use Rattle.bt_runs.specs.declared.engine.failure.Failure.{Failure}
@@ -119,17 +120,11 @@ pub record OpenAt : Type 0 where
   pub at : ℕ
   pub spans : List Span
 
--- a record that is open, where it lies
-abbrev pub span_open : OpenSpan → Span
-span_open s = record { start = s.start; stop = s.stop }
-
-abbrev pub spans_open : List OpenSpan → List Span
-spans_open spans = map span_open spans
-
--- what is kept at a position: spans that start there or before, and the ends of those that are open
-pub record KeepsOpen (at : ℕ) (spans : List Span) (ends : List ℕ) : Type 0 where
+-- what is kept at a position of spans that start there or before: the ends of those that are open
+pub record KeepsEnds (at : ℕ) (spans : List Span) (ends : List (Reverse ℕ)) : Type 0 where
   pub started : All (λ s. s.start ≤ at) spans
-  pub counts : (test : ℕ → Bool) → length (filter test ends) ≡ length (filter (λ s. test s.stop) (still_open at spans))
+  pub order : IsLeastFirst ends
+  pub counts : (test : ℕ → Bool) → length (filter test (ends_of ends)) ≡ length (filter (λ s. test s.stop) (still_open at spans))
 
 -- an interval that isn't ended
 abbrev pub begun_seen : Option OpenInterval → Option Begun

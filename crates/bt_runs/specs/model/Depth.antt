@@ -1,71 +1,21 @@
--- What `bedtools genomecov` gives, and intervals of equal value.
-use Rattle.std.specs.Prelude.{ℕ, zero, suc, ◌+◌, Bool, true, false, cond, List, [], ◌∷◌, ◌++◌, ◌==◌, Option, Some, None, ◌&&◌, ◌||◌, nat_le, nat_lt, length, map, filter, flat_map, codes, decimal}
+-- What `bedtools genomecov` gives: the intervals of equal depth.
+use Rattle.std.specs.Prelude.{ℕ, ◌++◌, Bool, true, cond, List, [], Option, Some, None, ◌&&◌, ◌||◌, nat_le, nat_lt, length, map, filter, flat_map, codes, decimal}
 use Rattle.std.specs.Option.{option_map_or}
 use Rattle.bt_bed.specs.model.Feature.{Feature, intervals_of, Interval, Span, last_of, spans_on, is_strand}
 use Rattle.bt_bed.specs.model.Genome.{Entry, genome_names}
 use Rattle.bt_bed.specs.model.Order.{rank_order}
 use Rattle.bt_bed.specs.declared.record.strand.Strand.{Strand}
 use Rattle.bt_runs.specs.model.Gaps.{is_over_at}
+use Rattle.bt_bed.specs.model.Levels.{Level, OneList}
+use Rattle.bt_bed.proofs.lemmas.LevelScans.{one_list}
 
--- Positions of one chromosome of which some have a value, and the one list of intervals of equal
--- value that they make up. bt_laws says that no other list is (`AreLevelsOf`), and that a set of
--- positions is the case of one value (`stretches_are_levels`).
+-- the one list of intervals of equal value of a chromosome of this length: its type says which list it is, so how it is
+-- found needn't be read
+abbrev pub the_levels : (value : ℕ → Option ℕ) (size : ℕ) → OneList value size
+the_levels = one_list
 
--- an interval of positions that have one value
-pub record Level : Type 0 where
-  pub start : ℕ
-  pub stop : ℕ
-  pub value : ℕ
-
--- an interval that isn't ended: where it began, and its value
-pub record Begun : Type 0 where
-  pub start : ℕ
-  pub value : ℕ
-
--- whether a position goes on with what has begun
-abbrev pub goes_on : Option Begun → Option ℕ → Bool
-goes_on None None = true
-goes_on None (Some value) = false
-goes_on (Some begun) None = false
-goes_on (Some begun) (Some value) = begun.value == value
-
--- what begins at a position
-abbrev pub begun_at : ℕ → Option ℕ → Option Begun
-begun_at p None = None
-begun_at p (Some value) = Some (record { start = p; value = value })
-
--- what has begun, ended at a position
-abbrev pub ended_at : Option Begun → ℕ → List Level
-ended_at None p = []
-ended_at (Some begun) p = record { start = begun.start; stop = p; value = begun.value } ∷ []
-
--- one more position: what has begun with it, and what ends there
-abbrev pub next_begun : ℕ → Option ℕ → Option Begun → Option Begun
-next_begun p value begun = cond (goes_on begun value) begun (begun_at p value)
-
-abbrev pub next_ended : ℕ → Option ℕ → Option Begun → List Level
-next_ended p value begun = cond (goes_on begun value) [] (ended_at begun p)
-
--- what has begun after n positions from the first on, and what ended at one of them
-unfoldable pub begun_after : (ℕ → Option ℕ) → ℕ → ℕ → Option Begun → Option Begun
-begun_after value first zero begun = begun
-begun_after value first (suc n) begun =
-    begun_after value (first + 1) n (next_begun first (value first) begun)
-
-unfoldable pub ended_after : (ℕ → Option ℕ) → ℕ → ℕ → Option Begun → List Level
-ended_after value first zero begun = []
-ended_after value first (suc n) begun =
-    next_ended first (value first) begun
-    ++ ended_after value (first + 1) n (next_begun first (value first) begun)
-
--- the intervals that end within n positions from the first on, and the one that reaches their end
-abbrev pub levels_from : (ℕ → Option ℕ) → ℕ → ℕ → Option Begun → List Level
-levels_from value first n begun =
-    ended_after value first n begun ++ ended_at (begun_after value first n begun) (first + n)
-
--- the intervals of equal value of a chromosome of this length
 abbrev pub levels_of : (ℕ → Option ℕ) → ℕ → List Level
-levels_of value size = levels_from value 0 size None
+levels_of value size = (the_levels value size).levels
 
 -- What `bedtools genomecov` gives with -bg: the intervals of equal depth above 0 of each
 -- chromosome, in the order of the genome file. With -bga it gives those of depth 0 too (bedtools

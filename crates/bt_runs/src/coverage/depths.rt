@@ -3,7 +3,8 @@
 ghost use Rattle.std.specs.Prelude.{◌≡◌, ◌≤◌, ◌-◌, ◌||◌, ◌==◌, IfOk, OnOk, Option, Some, None};
 ghost use Rattle.bt_lines.specs.calls.Output.{Adds};
 ghost use Rattle.bt_runs.specs.inside.Coverage.{begun_seen, levels_on, still_open};
-ghost use Rattle.bt_runs.specs.model.Depth.{depth_lines, depth_of, reported, begun_after, ended_after, ended_at, next_begun, next_ended};
+ghost use Rattle.bt_bed.specs.calls.LevelScan.{begun_after, ended_after, ended_at, next_begun, next_ended};
+ghost use Rattle.bt_runs.specs.model.Depth.{depth_lines, depth_of, reported};
 
 use crate::coverage::depth_line::put_depth;
 use crate::coverage::open_records::OpenRecords;
@@ -55,11 +56,11 @@ pub(crate) fn go_on<K: Sink>(
     let mut begun = begun;
     while position < stop {
         held.go_on(position + 1);
-        let depth = reported(chrom.zeros, held.depth() as u64);
+        let depth = reported(chrom.zeros, held.len() as u64);
         begun = put_next(chrom.name, begun, position, depth, out)?;
         position = held.first_end(stop);
     }
-    held.settle(stop);
+    held.go_on(stop);
     Ok(begun)
 }
 

@@ -1,9 +1,9 @@
 //! The engine of `bedtools genomecov -bg`.
 
+pub(crate) mod counted_spans;
 pub(crate) mod depth_line;
 pub(crate) mod depth_rule;
 pub(crate) mod depths;
-pub(crate) mod open_ends;
 pub(crate) mod open_records;
 
 ghost use Rattle.std.specs.Prelude.{◌≡◌, [], length, true, None, Option, Some};
@@ -23,9 +23,10 @@ use std::alloc::Global;
 use std::marker::Model;
 
 /// The intervals of equal depth of each chromosome, in the order of a genome file, with their depths.
-/// It keeps the counted records that end at the last start or past it, and one unfinished interval. An interval is written
-/// once a record starts past its end, or on a later chromosome. A record on a chromosome that the genome file doesn't have
-/// is skipped. Starts are zero-based, and ends aren't included.
+/// It keeps the ends of the counted records that end at the last start or past it, and one unfinished interval. Where these
+/// records start, and their order, is known in proofs alone. An interval is written once a record starts past its end, or on
+/// a later chromosome. A record on a chromosome that the genome file doesn't have is skipped. Starts are zero-based, and ends
+/// aren't included.
 #[derive(Drop, Debug)]
 pub struct Coverage<'g> {
     rule: Ruled<DepthRule<'g>>,

@@ -1,42 +1,37 @@
 //! The counted records that are open at a position of a chromosome.
 
-ghost use Rattle.std.specs.Prelude.{◌≡◌, ◌+◌, ◌≤◌, [], ◌∷◌, ◌++◌, All, OnOk, drop, length, max};
-ghost use Rattle.bt_runs.specs.inside.Coverage.{still_open, spans_open};
+ghost use Rattle.std.specs.Prelude.{◌≡◌, ◌≤◌, [], ◌∷◌, ◌++◌, All, MatchBool, OnOk, length, max};
+ghost use Rattle.std.specs.BinaryHeap.{heap_items};
+ghost use Rattle.bt_runs.specs.inside.Coverage.{CountsFrom, IsLeastFirst, StartsBelow, ends_of, still_open};
 
-use crate::coverage::open_ends::OpenEnds;
+use crate::coverage::counted_spans::CountedSpans;
+use bt_bed::Bounds;
 use std::alloc::{AllocError, Global};
-use std::collections::VecDeque;
+use std::cmp::Reverse;
+use std::collections::BinaryHeap;
 use std::marker::Model;
 
-// A counted record that was open at its start: it may cover positions to come, until it has ended.
-#[derive(Clone, Copy, Debug)]
-pub(crate) struct OpenSpan {
-    // At most the position of the records.
-    pub(crate) start: u64,
-    // Where it ends. The position may be past it, until the records are settled.
-    pub(crate) stop: u64,
-}
-
-// The counted records of a chromosome, of which those are open that end at a position or past it. The others are dropped by
-// the next `settle`.
+// The counted records of a chromosome that are open: they start at a position or before it, and end there or past it. They may
+// cover positions to come. In memory there are their ends alone.
 #[derive(Drop, Debug)]
 pub(crate) struct OpenRecords {
     // The position, on a chromosome that its owner knows. Only `clear` lowers it.
     at: u64,
-    // In file order.
-    spans: VecDeque<OpenSpan>,
-    // The ends of those that are open.
-    ends: OpenEnds,
+    // The end of each, the least first.
+    ends: BinaryHeap<Reverse<u64>>,
+    // They and those that have ended.
+    counted: CountedSpans,
 }
 
 impl Model for OpenRecords {
-    ghost use Rattle.bt_runs.specs.inside.Coverage.{KeepsOpen, OpenAt, spans_open};
+    ghost use Rattle.std.specs.BinaryHeap.{heap_items};
+    ghost use Rattle.bt_runs.specs.inside.Coverage.{KeepsEnds, OpenAt, still_open};
 
     ghost Value = { OpenAt };
 
-    ghost view = { λ m. record { at = m.at; spans = spans_open m.spans.items } };
+    ghost view = { λ m. record { at = m.at; spans = still_open m.at m.counted.spans } };
 
-    ghost invariant = { λ m. KeepsOpen m.at (spans_open m.spans.items) m.ends };
+    ghost invariant = { λ m. KeepsEnds m.at m.counted.spans (heap_items m.ends) };
 }
 
 impl OpenRecords {
@@ -46,8 +41,8 @@ impl OpenRecords {
     {
         OpenRecords {
             at: 0,
-            spans: VecDeque::new(alloc),
-            ends: OpenEnds::new(alloc),
+            ends: BinaryHeap::new(alloc),
+            counted: CountedSpans::new(),
         }
     }
 
@@ -58,19 +53,10 @@ impl OpenRecords {
         self.at
     }
 
-    // How many are listed.
+    // How many are open.
     #[inline(always)]
     pub(crate) fn len(&self) -> usize
         ensures { result ≡ length self.now.spans }
-    {
-        self.spans.len()
-    }
-
-    // How many are open.
-    #[inline(always)]
-    #[tactic(auto, using(crate::proofs::lemmas::coverage::OpenLemmas::as_many))]
-    pub(crate) fn depth(&self) -> usize
-        ensures { result ≡ length (still_open self.now.at self.now.spans) }
     {
         self.ends.len()
     }
@@ -80,31 +66,20 @@ impl OpenRecords {
         ensures { self.new ≡ record { at = at; spans = [] } }
     {
         self.at = at;
-        self.spans.clear();
         self.ends.clear();
+        self.counted = CountedSpans::new();
     }
 
-    // Goes on to a position. The records that end before it are open no more, and stay in the list.
+    // Goes on to a position. Those that end before it are open no more.
     #[inline(always)]
+    #[tactic(auto, using(crate::proofs::lemmas::coverage::OpenLemmas::open_after, crate::proofs::lemmas::coverage::OpenLemmas::open_started))]
     pub(crate) fn go_on(&mut self, position: u64)
-        ensures at { self.new ≡ record { at = max self.old.at position; spans = self.old.spans } }
+        ensures at { self.new ≡ record { at = max self.old.at position; spans = still_open (max self.old.at position) self.old.spans } }
         ensures started { All (λ s. s.start ≤ self.old.at) self.old.spans }
     {
         self.at = self.at.max(position);
-        self.ends.pass(self.at);
-    }
-
-    // Goes on to a position before which none ends, and drops those that aren't open from the list.
-    #[inline(always)]
-    #[tactic(auto, using(crate::proofs::lemmas::coverage::OpenLemmas::all_stay, crate::proofs::lemmas::coverage::OpenLemmas::keeps_same, crate::proofs::lemmas::coverage::OpenLemmas::open_count))]
-    pub(crate) fn settle(&mut self, position: u64)
-        requires { All (λ s. position ≤ s.stop) (still_open self.old.at self.old.spans) }
-        ensures { self.new ≡ record { at = max self.old.at position; spans = still_open (max self.old.at position) self.old.spans } }
-    {
-        self.at = self.at.max(position);
-        let left = self.ends.len();
-        if left < self.spans.len() {
-            drop_ended(&mut self.spans, self.at, left);
+        if begins_before(&self.ends, self.at) {
+            pop_before(&mut self.ends, self.at);
         }
     }
 
@@ -113,79 +88,54 @@ impl OpenRecords {
     #[inline(always)]
     pub(crate) fn first_end(&self, stop: u64) -> u64
         ensures within { result ≤ stop }
-        ensures ends { All (λ s. result ≤ s.stop) (still_open self.now.at self.now.spans) }
+        ensures ends { All (λ s. result ≤ s.stop) self.now.spans }
         ensures behind { self.now.at ≤ stop → self.now.at ≤ result }
     {
-        self.ends.first(stop)
+        match self.ends.peek() {
+            Some(Reverse(end)) => stop.min(*end),
+            None => stop,
+        }
     }
 
-    // Adds a record that starts at the position, if it is open there. It is out of line, so that the hot loop stays small.
-    #[inline(never)]
+    // Adds a record that starts at the position, if it is open there.
+    #[inline(always)]
     pub(crate) fn push(&mut self, stop: u64) -> Result<(), AllocError>
         ensures added { OnOk result (self.new ≡ record { at = self.old.at; spans = self.old.spans ++ still_open self.old.at (record { start = self.old.at; stop = stop } ∷ []) }) }
     {
         if stop < self.at {
             return Ok(());
         }
-        self.spans.reserve(1)?;
-        self.ends.push(stop)?;
-        self.spans.push_back(OpenSpan {
+        self.ends.push(Reverse(stop))?;
+        let next = Bounds {
             start: self.at,
             stop,
-        })?;
+        };
+        self.counted = self.counted.with(&next);
         Ok(())
     }
 }
 
-// Drops the records that ended before a position, where this many are still open there. Most are first in the list. The
-// others are looked for from its end, where short records come after long ones.
+// Takes out the ends that lie before a position. It is out of line, so that the test before it stays small.
 #[inline(never)]
-fn drop_ended(spans: &mut VecDeque<OpenSpan>, position: u64, left: usize)
-    requires { left ≡ length (still_open position (spans_open spans.old.items)) }
-    ensures { spans_open spans.new.items ≡ still_open position (spans_open spans.old.items) }
+fn pop_before(ends: &mut BinaryHeap<Reverse<u64>>, position: u64)
+    requires { IsLeastFirst (heap_items ends.old) }
+    ensures order { IsLeastFirst (heap_items ends.new) }
+    ensures counts { CountsFrom position (ends_of (heap_items ends.old)) (ends_of (heap_items ends.new)) }
+    ensures left { All (λ end. position ≤ end) (ends_of (heap_items ends.new)) }
 {
-    while left < spans.len() && spans[0].stop < position {
-        spans.pop_front();
-    }
-    if left < spans.len() {
-        let first = first_ended(spans, position, left);
-        drop_from(spans, position, first);
+    while begins_before(ends, position) {
+        ends.pop();
     }
 }
 
-// The index of the first record that ended before a position, where this many are still open there.
-#[tactic(auto, using(crate::proofs::lemmas::coverage::OpenLemmas::none_past, crate::proofs::lemmas::coverage::OpenLemmas::open_within))]
-fn first_ended(spans: &VecDeque<OpenSpan>, position: u64, left: usize) -> usize
-    requires { left ≡ length (still_open position (spans_open spans.now.items)) }
-    ensures within { result ≤ length spans.now.items }
-    ensures count { result + length (still_open position (spans_open (drop result spans.now.items))) ≡ left }
+// Whether the least end lies before a position.
+#[inline(always)]
+fn begins_before(ends: &BinaryHeap<Reverse<u64>>, position: u64) -> bool
+    requires { IsLeastFirst (heap_items ends.now) }
+    ensures { MatchBool result (StartsBelow position (ends_of (heap_items ends.now))) (All (λ end. position ≤ end) (ends_of (heap_items ends.now))) }
 {
-    let mut index = spans.len();
-    let mut ended = index - left;
-    while 0 < ended {
-        index -= 1;
-        if spans[index].stop < position {
-            ended -= 1;
-        }
+    match ends.peek() {
+        Some(Reverse(end)) => *end < position,
+        None => false,
     }
-    index
-}
-
-// Drops those from an index on that ended before a position, where none before it ended.
-fn drop_from(spans: &mut VecDeque<OpenSpan>, position: u64, first: usize)
-    requires within { first ≤ length spans.old.items }
-    requires count { first + length (still_open position (spans_open (drop first spans.old.items))) ≡ length (still_open position (spans_open spans.old.items)) }
-    ensures { spans_open spans.new.items ≡ still_open position (spans_open spans.old.items) }
-{
-    let mut kept = first;
-    let mut index = first;
-    while index < spans.len() {
-        let span = spans[index];
-        if position <= span.stop {
-            spans[kept] = span;
-            kept += 1;
-        }
-        index += 1;
-    }
-    spans.truncate(kept);
 }

@@ -145,10 +145,8 @@ impl Engine for Merge {
         ensures held { KeepsHeld merge_engine self.now result }
     {
         match &self.kind {
-            // No run is open if its end is 0.
-            Kind::Unstranded(merge) => usize::from(merge.rule.run.stop != 0),
-            Kind::PerStrand(merge) if merge.rule.only.is_any => 1,
-            Kind::PerStrand(merge) => merge.rule.runs.len(),
+            Kind::Unstranded(merge) => merge.rule.kept_len(),
+            Kind::PerStrand(merge) => merge.rule.kept_len(),
         }
     }
 }

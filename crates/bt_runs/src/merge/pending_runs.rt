@@ -60,7 +60,11 @@ impl PendingRuns {
     pub(crate) fn len(&self) -> usize
         ensures { result ≡ length self.now }
     {
-        self.runs.len()
+        let PendingRuns {
+            runs,
+            up_to_last: _,
+        } = self;
+        runs.len()
     }
 
     #[inline]

@@ -40,9 +40,9 @@ pub(crate) struct PerStrandMerge {
     // The chromosome of the runs, whose buffer is used again.
     chrom: Vec<u8>,
     // The only run, if no others wait. What the list holds then is unspecified.
-    pub(crate) only: OnlyRun,
+    only: OnlyRun,
     // In the order of their first records; all of them lie on that chromosome.
-    pub(crate) runs: PendingRuns,
+    runs: PendingRuns,
 }
 
 impl Model for PerStrandMerge {
@@ -72,6 +72,19 @@ impl PerStrandMerge {
             only: NONE,
             runs: PendingRuns::new(alloc),
         }
+    }
+
+    // How many runs are kept, as that of a merge without strands says.
+    pub(crate) fn kept_len(&self) -> usize
+        ensures { result ≡ length self.now.kept }
+    {
+        let PerStrandMerge {
+            gap: _,
+            chrom: _,
+            only,
+            runs,
+        } = self;
+        if only.is_any { 1 } else { runs.len() }
     }
 
     // Writes all runs, and keeps none.

@@ -34,7 +34,7 @@ pub(crate) struct UnstrandedMerge {
     strand: MergeStrand,
     // The chromosome that it is on. Its buffer is used again.
     chrom: Vec<u8>,
-    pub(crate) run: OpenRun,
+    run: OpenRun,
 }
 
 impl Model for UnstrandedMerge {
@@ -63,6 +63,20 @@ impl UnstrandedMerge {
             chrom: Vec::new(alloc),
             run: NONE,
         }
+    }
+
+    // How many runs are kept. Each field is named: with one more, in which a list could be kept, this wouldn't compile.
+    pub(crate) fn kept_len(&self) -> usize
+        ensures { result ≡ length self.now.kept }
+    {
+        let UnstrandedMerge {
+            gap: _,
+            strand: _,
+            chrom: _,
+            run,
+        } = self;
+        // No run is open if its end is 0.
+        usize::from(run.stop != 0)
     }
 }
 

@@ -120,4 +120,52 @@ mod tests {
     fn each_byte_is_masked_by_itself(rt: HostRuntime) {
         assert_eq!(rt; first_unlike(&MASKED), None);
     }
+
+    // The values of a byte, twice.
+    fn all_values() -> [u8; 512] {
+        let mut values = [0; 512];
+        for (at, value) in values.iter_mut().enumerate() {
+            *value = (at % 256) as u8;
+        }
+        values
+    }
+
+    // At most a hundred bases, masked together or one by one.
+    fn masked_both_ways(bases: &[u8], how: MaskHow) -> ([u8; 100], [u8; 100])
+        requires { length bases.now ≤ 100 }
+    {
+        let count = bases.len();
+        let mut together = [0; 100];
+        together[..count].copy_from_slice(bases);
+        let mut each = together;
+        mask_slice(&mut together[..count], how);
+        for base in each[..count].iter_mut() {
+            *base = match how {
+                MaskHow::Soft => base.to_ascii_lowercase(),
+                MaskHow::Hard(byte) => byte,
+            };
+        }
+        (together, each)
+    }
+
+    // How many bases there are, and the first value, where masking them together gives something else.
+    fn first_masked_otherwise(values: &[u8; 512], how: MaskHow) -> Option<(usize, usize)> {
+        for count in 0..101_usize {
+            for first in 0..256_usize {
+                let (together, each) = masked_both_ways(&values[first..first + count], how);
+                if together != each {
+                    return Some((count, first));
+                }
+            }
+        }
+        None
+    }
+
+    #[test]
+    fn every_value_is_masked_at_every_place(rt: HostRuntime) {
+        let values = all_values();
+        for how in [MaskHow::Soft, MaskHow::Hard(120)] {
+            assert_eq!(rt; first_masked_otherwise(&values, how), None, "{how:?}");
+        }
+    }
 }

@@ -104,11 +104,23 @@ impl MaskState {
         self.phase.want()
     }
 
-    // How many extents are held.
+    // How many extents are held: the list that is kept is the window's. Each field is named: with one more, in which a second
+    // list could be kept, this wouldn't compile.
     pub(crate) fn kept_len(&self) -> usize
         ensures { result ≡ length self.now.window.held }
     {
-        self.window.len()
+        let MaskState {
+            how: _,
+            full: _,
+            matching: _,
+            window,
+            text: _,
+            ending: _,
+            phase: _,
+            bed_ended: _,
+            decided_to: _,
+        } = self;
+        window.len()
     }
 
     // Whether a line waits.
@@ -347,7 +359,8 @@ impl MaskState {
         Ok(())
     }
 
-    // Keeps a line until it is decided.
+    // Keeps a line until it is decided. That memory runs out only if the buffer has to grow is tested: what is seen of an
+    // engine doesn't say how much room it has.
     fn keep(&mut self, text: &[u8], ending: LineEnd) -> Result<(), Fault>
         ensures { Keeps self.old (record { text = text.now; ending = ending }) result self.new }
     {

@@ -62,14 +62,22 @@ impl Matching {
         }
     }
 
-    // Whether a sequence was given.
+    // Whether a sequence was given. Each field is named, as those of a state are: two names are all that is kept here.
     pub(crate) fn is_named(&self) -> bool
         ensures { result ≡ is_some self.now.name }
     {
-        self.is_named
+        let Matching {
+            name: _,
+            block: _,
+            is_named,
+            has_block: _,
+            is_own: _,
+        } = self;
+        *is_named
     }
 
-    // Goes on to a new sequence. If memory runs out, nothing is known afterwards.
+    // Goes on to a new sequence. If memory runs out, nothing is known afterwards. That it runs out only if the name's buffer
+    // has to grow is tested.
     pub(crate) fn begin(&mut self, name: &[u8]) -> Result<(), AllocError>
         ensures { OnOk result (self.new ≡ named self.old name.now) }
     {

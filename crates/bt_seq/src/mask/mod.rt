@@ -7,6 +7,7 @@ pub(crate) mod mask_state;
 pub(crate) mod mask_want;
 pub(crate) mod matching;
 pub(crate) mod phase;
+pub(crate) mod plain;
 pub(crate) mod window;
 
 ghost use Rattle.std.specs.Prelude.{◌≡◌, ◌<◌, ◌⊎◌, [], Bool, None, OnErr, OnOk, Some, false, length, true};
@@ -74,7 +75,8 @@ impl Mask {
             → (stage.lines_ended ≡ false) ⊎ AreInBlocks stage.taken
             → result ≡ length (held_by (last_or None (given stage)) stage.taken) }
     {
-        self.state.kept_len()
+        let Mask { state } = self;
+        state.kept_len()
     }
 
     /// Takes the next line. It is written at once if the records have ended, if it is a blank line

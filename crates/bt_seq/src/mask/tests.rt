@@ -8,6 +8,7 @@ use bt_bed::{Blocks, Single, parse_bed};
 use bt_lines::{
     BufferedLines, Input, Kind, LineEnd, LineReader, ScriptSink, ScriptSource, write_failed,
 };
+use std::alloc::AllocError;
 
 // The FASTA text, the BED text and what is written.
 type Texts = (&'static [u8], &'static [u8], &'static [u8]);
@@ -128,10 +129,10 @@ fn drive(
 }
 
 // Gives a FASTA and a BED text, and returns what the sink has then, and the fault.
-fn give(
+pub(crate) fn give(
     mask: &mut Mask,
     alloc: Global,
-    texts: Texts,
+    texts: (&[u8], &[u8]),
     sink: ScriptSink,
     flushes: bool,
 ) -> (ScriptSink, Result<(), Fault>) {
@@ -161,7 +162,7 @@ fn agrees(alloc: Global, row: &Row) -> bool {
     let (_, (how, full), texts, want) = *row;
     let mut mask = Mask::new(alloc, how, full);
     let sink = ScriptSink::new(alloc, 7, None);
-    let (sink, driven) = give(&mut mask, alloc, texts, sink, false);
+    let (sink, driven) = give(&mut mask, alloc, (texts.0, texts.1), sink, false);
     !sink.failed() && sink.taken() == texts.2 && is_it(driven, want)
 }
 
@@ -188,7 +189,7 @@ const CUT: Texts =
 fn cuts_at(alloc: Global, good: usize) -> bool {
     let mut mask = Mask::new(alloc, MaskHow::Hard(b'N'), false);
     let sink = ScriptSink::new(alloc, 1, Some(good));
-    let (sink, driven) = give(&mut mask, alloc, CUT, sink, true);
+    let (sink, driven) = give(&mut mask, alloc, (CUT.0, CUT.1), sink, true);
     let has_ended = driven == Err(write_failed()) && mask.want() == MaskWant::Nothing;
     has_ended && good < CUT.2.len() && Some(sink.taken()) == CUT.2.get(..good)
 }
@@ -278,6 +279,41 @@ const HELD: [Step; 16] = [
 #[test]
 fn records_that_reach_into_the_line_are_held(rt: HostRuntime) {
     assert_eq!(rt; first_otherwise(rt.alloc(), &HELD).0, None);
+}
+
+// So many bytes after the first one.
+fn long_text(alloc: Global, first: &[u8], byte: u8, size: usize) -> Result<Vec<u8>, AllocError> {
+    let mut text = Vec::new(alloc);
+    text.extend_from_slice(first)?;
+    text.resize(first.len() + size, byte)?;
+    Ok(text)
+}
+
+// Whether the first base of a line is masked, where the line and its sequence's name have so many bytes.
+fn masks_long(alloc: Global, size: usize) -> Result<bool, AllocError> {
+    let header = long_text(alloc, b">", b's', size)?;
+    let bases = long_text(alloc, b"", b'A', size)?;
+    let mut record = long_text(alloc, b"", b's', size)?;
+    record.extend_from_slice(b"\t0\t1")?;
+    let mut out = Out::new(ScriptSink::new(alloc, 8192, None));
+    let mut mask = Mask::new(alloc, MaskHow::Soft, false);
+    let are_given = give_line(&mut mask, header.as_slice(), &mut out)
+        && takes(&mut mask, record.as_slice(), &mut out) == Some(false)
+        && give_line(&mut mask, bases.as_slice(), &mut out)
+        && takes(&mut mask, record.as_slice(), &mut out) == Some(true)
+        && takes(&mut mask, b"t\t0\t1", &mut out) == Some(false);
+    let is_flushed = out.flush().is_ok();
+    let sink = out.into_sink();
+    Ok(are_given && is_flushed && sink.taken().get(header.len() + 1) == Some(&b'a'))
+}
+
+// With ample memory no name and no line is too long.
+#[test]
+fn long_names_and_lines_are_masked(rt: HostRuntime) -> Result<(), AllocError> {
+    for size in [255, 256, 70_000, 1_048_577] {
+        assert!(rt; masks_long(rt.alloc(), size)?, "{size} bytes");
+    }
+    Ok(())
 }
 
 #[rattlefmt::skip]

@@ -112,11 +112,16 @@ impl Window {
         Ok(())
     }
 
-    // How many extents are held.
+    // How many extents are held, in the only list.
     pub(crate) fn len(&self) -> usize
         ensures { result ≡ length self.now.held }
     {
-        self.held.len()
+        let Window {
+            before: _,
+            bases: _,
+            held,
+        } = self;
+        held.len()
     }
 
     // Whether nothing is held.

@@ -10,7 +10,8 @@ pub trait Held: Drop {
     ghost records: { Self → List Feature };
 
     /// Adds a record after the others. If memory runs out, the record is handed back and the list
-    /// stays as it was.
+    /// stays as it was. That this happens only if a growth was refused is tested: the contracts of std don't say when
+    /// a map can't grow.
     fn push(&mut self, rec: Rec) -> Result<(), Rec>
         ensures pushed { OnOk result (records self.new ≡ records self.old ++ rec ∷ []) }
         ensures back { IfErr result (λ back. (back ≡ rec) × (records self.new ≡ records self.old)) };

@@ -85,7 +85,8 @@ impl Held for HeldIndex {
     }
 
     fn len(&self) -> usize {
-        self.list.len()
+        let HeldIndex { list, ends: _ } = self;
+        list.len()
     }
 }
 

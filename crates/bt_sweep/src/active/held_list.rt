@@ -113,7 +113,8 @@ impl Held for HeldList {
     }
 
     fn len(&self) -> usize {
-        self.records.len()
+        let HeldList { records, rising: _ } = self;
+        records.len()
     }
 }
 

@@ -83,7 +83,8 @@ impl<'o, H: Held, O: ChromOrder> Sweep<'o, H, O> {
         ensures stage { (order : Order) (stage : Stage) → StandsAt order stage (state_of self.now)
             → H.records result.now ≡ held_for (last_given (given stage)) stage.taken }
     {
-        self.state.held()
+        let Sweep { order: _, state } = self;
+        state.held()
     }
 
     /// Takes records of both inputs, one after another, as [`Sweep::give_a`] and [`Sweep::give_b`] do with each, as long as

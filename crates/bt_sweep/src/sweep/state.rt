@@ -102,10 +102,20 @@ impl<H: Held> State<H> {
         }
     }
 
+    // The list that is kept. Each field is named: with one more, in which a second list could be kept, this wouldn't compile.
     pub(crate) fn held(&self) -> &H
         ensures { H.records result.now ≡ self.now.held }
     {
-        &self.held
+        let State {
+            alloc: _,
+            shape: _,
+            rule: _,
+            limit: _,
+            current: _,
+            held,
+            phase: _,
+        } = self;
+        held
     }
 
     pub(crate) fn phase(&self) -> Phase
@@ -228,7 +238,8 @@ impl<H: Held> State<H> {
         Err(too_many_held(line))
     }
 
-    // Holds it, as it ends after that one's start. It returns false if there is no room for it, or memory runs out.
+    // Holds it, as it ends after that one's start. It returns false if there is no room for it, or memory runs out. That
+    // memory runs out only if a growth was refused is tested: no clause says how much room a list has.
     #[inline(never)]
     fn hold<B: Record>(&mut self, start: u64, b: &B) -> bool
         requires none { self.old.current ≡ None }

@@ -4,13 +4,13 @@ use self::Step::{EndSecond, First, Holds, HoldsAt, Second, Wants};
 use super::*;
 use crate::active::held_index::HeldIndex;
 use crate::active::held_list::HeldList;
-use crate::output::shape::Shape::Cut;
+use crate::output::shape::Shape::{Count, Cut};
 use crate::plain::plain_intersect;
 use crate::sweep::want::Want::{A, B};
 use crate::tests::worked::{RuledCase, SHAPES, records_of, worked_cases};
 use crate::tests::{genome, output, start_of};
 use bt_bed::Taken::{No, Yes};
-use bt_bed::parse_bed;
+use bt_bed::{ByteOrder, parse_bed};
 use bt_lines::{Kind, ScriptSink};
 use std::alloc::AllocError;
 use std::process::Abort;
@@ -210,10 +210,10 @@ fn first_that_goes_otherwise<H: Held, O: ChromOrder, K: Sink>(
 // What steps show in a sweep that was given nothing before, the steps, and what is written then.
 type Stepped = (&'static str, &'static [Step], &'static [u8]);
 
-// What is written before the second input's third line, which is at fault, are the lines of the first record, which the
-// second line decides.
+// If a line is at fault, the lines of the records that are decided by then are written: the second input's third line in the
+// third case, that one or the first input's second line in the fourth, and the second input's first line in the sixth.
 #[rattlefmt::skip]
-const STEPPED: [Stepped; 3] = [
+const STEPPED: [Stepped; 7] = [
     ("records are held until one starts past them", &[
         Wants(A), First(b"chr1\t0\t100"), Wants(B), Second(b"chr1\t10\t20", Yes), Wants(B),
         Second(b"chr1\t55\t58", Yes), Wants(B), Second(b"chr1\t90\t95", Yes), Holds(3), EndSecond,
@@ -228,22 +228,52 @@ const STEPPED: [Stepped; 3] = [
         First(b"chr1\t0\t10"), Second(b"chr1\t2\t4", Yes), Second(b"chr1\t50\t60", No),
         First(b"chr1\t100\t110"), Second(b"chr1\t50\t60", Yes), Holds(0), Wants(B),
     ], b"chr1\t2\t4\n"),
+    ("a record that starts past the first one decides it", &[
+        First(b"chr1\t0\t10"), Second(b"chr1\t2\t4", Yes), Second(b"chr1\t50\t60", No), Wants(A),
+    ], b"chr1\t2\t4\n"),
+    ("a record of a later chromosome decides it", &[
+        First(b"chr1\t0\t10"), Second(b"chr1\t2\t4", Yes), Second(b"chr2\t0\t5", No), Wants(A),
+    ], b"chr1\t2\t4\n"),
+    ("nothing is decided before the first record of the second input", &[
+        First(b"chr1\t0\t10"), Wants(B), Holds(0),
+    ], b""),
+    ("records of equal starts hit in the order in which they come", &[
+        First(b"chr1\t0\t10"), Second(b"chr1\t2\t9", Yes), Second(b"chr1\t2\t4", Yes),
+        Second(b"chr1\t2\t20", Yes), Holds(3), EndSecond, First(b"chr1\t0\t3"), Wants(A),
+    ], b"chr1\t2\t9\nchr1\t2\t4\nchr1\t2\t10\nchr1\t2\t3\nchr1\t2\t3\nchr1\t2\t3\n"),
 ];
 
-// The first of these whose steps or whose output are otherwise, and the index of the step.
+// The index of the first step that a sweep over these goes otherwise, or one past the last if its output is another.
+fn stepped_otherwise<H: Held, O: ChromOrder>(
+    alloc: Global,
+    held: H,
+    order: &O,
+    case: &Stepped,
+) -> Option<usize>
+    requires { H.records held ≡ [] }
+{
+    let (_, steps, want) = *case;
+    let mut sweep = Sweep::new(alloc, held, Cut, HitRule::any_overlap(), None, order);
+    let mut out = output(alloc, 100);
+    let found = first_that_goes_otherwise(&mut sweep, steps, &mut out);
+    let is_flushed = out.flush().is_ok();
+    if found.is_none() && (!is_flushed || out.into_sink().taken() != want) {
+        return Some(steps.len());
+    }
+    found
+}
+
+// The first of these that goes otherwise with either form of held records, and the index of the step.
 fn first_stepped_otherwise(
     alloc: Global,
     cases: &[Stepped],
-) -> Result<Option<(&'static str, Option<usize>)>, Fail> {
+) -> Result<Option<(&'static str, usize)>, Fail> {
     let genome = genome(alloc)?;
-    for (name, steps, want) in cases {
-        let (held, rule) = (HeldList::new(alloc), HitRule::any_overlap());
-        let mut sweep = Sweep::new(alloc, held, Cut, rule, None, &genome);
-        let mut out = output(alloc, 100);
-        let found = first_that_goes_otherwise(&mut sweep, steps, &mut out);
-        let is_flushed = out.flush().is_ok();
-        if found.is_some() || !is_flushed || out.into_sink().taken() != *want {
-            return Ok(Some((*name, found)));
+    for case in cases {
+        let listed = stepped_otherwise(alloc, HeldList::new(alloc), &genome, case);
+        let indexed = stepped_otherwise(alloc, HeldIndex::new(alloc), &genome, case);
+        if let Some(index) = listed.or(indexed) {
+            return Ok(Some((case.0, index)));
         }
     }
     Ok(None)
@@ -252,6 +282,49 @@ fn first_stepped_otherwise(
 #[test]
 fn steps_go_as_they_say(rt: HostRuntime) -> Result<(), Fail> {
     assert_eq!(rt; first_stepped_otherwise(rt.alloc(), &STEPPED)?, None);
+    Ok(())
+}
+
+// Gives a thousand records of the second input, each within the one before it. Returns true if all are taken.
+fn takes_nested<H: Held, O: ChromOrder, K: Sink>(
+    alloc: Global,
+    sweep: &mut Sweep<'_, H, O>,
+    out: &mut Out<K>,
+) -> Result<bool, AllocError> {
+    for start in 0..1000_u32 {
+        let line = format!(in alloc; "chr1\t{start}\t{}", 10_000 - start)?;
+        if give_second(sweep, 1, Some(&line.as_bytes()), out) != Ok(Yes) {
+            return Ok(false);
+        }
+    }
+    Ok(true)
+}
+
+// Whether three records are written with how many of a thousand nested ones hit them.
+fn counts_nested<H: Held>(alloc: Global, held: H) -> Result<bool, AllocError>
+    requires { H.records held ≡ [] }
+{
+    let rule = HitRule::any_overlap();
+    let mut sweep = Sweep::new(alloc, held, Count, rule, None, &ByteOrder);
+    let mut out = output(alloc, 100);
+    let is_given = goes(&mut sweep, First(b"chr1\t0\t10000"), &mut out)
+        && takes_nested(alloc, &mut sweep, &mut out)?;
+    let later = [
+        EndSecond,
+        First(b"chr1\t9500\t9600"),
+        First(b"chr1\t9999\t10000"),
+    ];
+    let found = first_that_goes_otherwise(&mut sweep, &later, &mut out);
+    let is_done = is_given && found.is_none() && out.flush().is_ok();
+    let want = b"chr1\t0\t10000\t1000\nchr1\t9500\t9600\t500\nchr1\t9999\t10000\t1\n";
+    Ok(is_done && out.into_sink().taken() == want.as_slice())
+}
+
+#[test]
+fn nested_records_are_counted(rt: HostRuntime) -> Result<(), Fail> {
+    let listed = counts_nested(rt.alloc(), HeldList::new(rt.alloc()))?;
+    let indexed = counts_nested(rt.alloc(), HeldIndex::new(rt.alloc()))?;
+    assert_eq!(rt; (listed, indexed), (true, true));
     Ok(())
 }
 

@@ -94,15 +94,19 @@ fn give_short<H: Held>(
     }
 }
 
-// Only the record of the first input needs memory.
-fn give_beside_one<H: Held>(rt: &impl Abort, alloc: Global, held: H) -> Result<(), Fail>
+// Only the record of the first input may need memory.
+fn give_beside_one<H: Held>(
+    rt: &impl Abort,
+    alloc: Global,
+    held: H,
+    first: &[u8],
+) -> Result<(), Fail>
     requires { H.records held ≡ [] }
 {
     let rule = HitRule::any_overlap();
     let mut sweep = Sweep::new(alloc, held, Shape::Count, rule, None, &ByteOrder);
     let mut out = output(alloc, 512);
-    let Ok(Some(bed)) = parse_bed(b"chr1\t50000\t50001\tmore columns than stand inside a record")
-    else {
+    let Ok(Some(bed)) = parse_bed(first) else {
         return Err(Fail::new("a record"));
     };
     if sweep.want() == Want::A && sweep.give_a(&bed, &mut out).is_err() {
@@ -112,8 +116,17 @@ fn give_beside_one<H: Held>(rt: &impl Abort, alloc: Global, held: H) -> Result<(
     Ok(())
 }
 
+// The record that waits: one that is kept without memory, and one that isn't.
+#[rattlefmt::skip]
+const BESIDE: [&[u8]; 2] = [
+    b"chr1\t50000\t50001", b"chr1\t50000\t50001\tmore columns than stand inside a record",
+];
+
 #[test]
 fn refused_growth_beside_records_that_are_not_held(rt: HostRuntime) -> Result<(), Fail> {
-    give_beside_one(&rt, rt.alloc(), HeldList::new(rt.alloc()))?;
-    give_beside_one(&rt, rt.alloc(), HeldIndex::new(rt.alloc()))
+    for first in &BESIDE {
+        give_beside_one(&rt, rt.alloc(), HeldList::new(rt.alloc()), first)?;
+        give_beside_one(&rt, rt.alloc(), HeldIndex::new(rt.alloc()), first)?;
+    }
+    Ok(())
 }

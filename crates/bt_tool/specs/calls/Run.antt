@@ -85,13 +85,14 @@ IsWithin told text n = (told ≡ false) ⊎ (n ≤ length (text_lines text))
 
 -- How far an input was read by the time that this was written. For some n, at least 1, it handed over
 -- at most its first n lines and a block, and what its first n - 1 lines settle was taken, except at
--- most a block. Unless a write failed, all of it was put, and nothing more if a fault stopped the run.
--- `Beside` says of that n how far another input was read.
-pub record ReadsNoFurther (Beside : ℕ → Type 0) (settles : List TextLine → List ℕ)
-    (text : List ℕ) (left : Option (List ℕ)) (before : List ℕ)
+-- most a block. None of these is at fault: so if a line is, n is at most its number. Unless a write failed, all
+-- of it was put, and nothing more if a fault stopped the run. `Beside` says of that n how far another input was read.
+pub record ReadsNoFurther (Beside : ℕ → Type 0) (faults : List TextLine → Option FaultValue)
+    (settles : List TextLine → List ℕ) (text : List ℕ) (left : Option (List ℕ)) (before : List ℕ)
     (took : Option (List ℕ)) (WriteFailed Stopped : Type 0) (put : Option (List ℕ)) : Type 0 where
   pub n : ℕ
   pub some : 1 ≤ n
+  pub faultless : faults (take (n - 1) (text_lines text)) ≡ None
   pub handed : List ℕ
   pub consumed : Consumes (Some text) left handed
   pub read : length handed ≤ bytes_in (take n (text_lines text)) + block_size
@@ -120,6 +121,8 @@ module _ {G : Type 0} (device : Source G) where
     pub named : is_some table ≡ is_some before
     pub distinct : IfSome table (λ table. AreDistinct (names_of table))
     pub served : ServesIf device.has_failed before after
+    -- the file's end was reported
+    pub ended : OfBoth (λ before after. device.end_told after ≡ true) before after
 
   -- the genome file is at fault, or couldn't be read
   pub record LacksChromosomes (before after : Option G) (fault : FaultValue) : Type 0 where
@@ -210,7 +213,7 @@ module _ {A B : Type 0} (source_a : Source A) (source_b : Source B) (behaviour :
         → ReadsNoFurther (λ n. IsWithin (source_a.end_told first_after) one.text n
         → OfBoth (HandsUpTo source_b.left (behaviour.reaches two (take n (text_lines one.text)) + block_size))
         second second_after)
-        (behaviour.settles two) one.text (source_a.left first_after) before grown.took
+        behaviour.faults (behaviour.settles two) one.text (source_a.left first_after) before grown.took
         (grown.has_failed ≡ true) (IsFaultButWrite fault) grown.put
     -- what the fault may be, whatever the devices do
     pub named : (told : FaultValue) → fault ≡ Some told
@@ -255,12 +258,13 @@ module _ {G A B K : Type 0} (source_g : Source G) (source_a : Source A) (source_
     pub second_input : OfBoth (Holds source_b.left) second inputs.second
 
   -- A fault of an input other than the genome file, of a kind that a line of it can have. With a
-  -- genome file that is by some list of its chromosomes, and without one in the order of the names'
-  -- bytes, if no chromosome is unknown.
+  -- genome file that is by the list of its chromosomes (if its text is unknown, by some list), and without one
+  -- in the order of the names' bytes, if no chromosome is unknown.
   pub record TellsOther (command : Command) (genome : Option G) (first first_after : A)
       (second second_after : Option B) (told : FaultValue) : Type 0 where
     pub chromosomes : Option (List Entry)
     pub named : is_some chromosomes ≡ is_some genome
+    pub of_file : (file : Option Handed) → OfBoth (Holds source_g.left) genome file → chromosomes_of file ≡ Ok chromosomes
     pub tells : TellsInput source_a (behaviour_of command chromosomes).FirstKinds First
         first first_after told
         ⊎ TellsInputIf source_b (behaviour_of command chromosomes).SecondKinds Second
@@ -294,14 +298,16 @@ module _ {G A B K : Type 0} (source_g : Source G) (source_a : Source A) (source_
     -- However the run ends, if the devices tell their bytes, there is an n. The first input handed over at
     -- most its first n lines and a block. What its first n - 1 lines settle was written, except at
     -- most a block if a write failed. At any other fault, running out of memory among them, what was
-    -- written is exactly that. If the first input's end wasn't reported, or it has an n-th line, the
+    -- written is exactly that. None of these n - 1 lines is at fault: so no line after one at fault was read,
+    -- except for a block. If the first input's end wasn't reported, or it has an n-th line, the
     -- second handed over at most what those n lines need and a block. So if it handed over more, n is
-    -- past the last line, and all lines of the first input were settled.
+    -- past the last line, no line of the first input is at fault, and all of them were settled.
     pub near : (inputs : Inputs) (before : List ℕ) → HoldInputs genome first second inputs
         → sink.took out ≡ Some before
         → ReadsNoFurther (λ n. IsWithin (source_a.end_told first_after) inputs.first.text n
         → OfBoth (HandsUpTo source_b.left ((behaviour_on command (chromosomes_of inputs.genome)).reaches
         inputs.second (take n (text_lines inputs.first.text)) + block_size)) second second_after)
+        (behaviour_on command (chromosomes_of inputs.genome)).faults
         ((behaviour_on command (chromosomes_of inputs.genome)).settles inputs.second) inputs.first.text
         (source_a.left first_after) before (sink.took out_after) (fault ≡ Some write_failed)
         (IsFaultButWrite fault) (sink.took out_after)
@@ -320,6 +326,10 @@ module _ {G A B K : Type 0} (source_g : Source G) (source_a : Source A) (source_
     pub untouched : (told : FaultValue) → fault ≡ Some told
         → (place : Place) → told.place ≡ Some place → place.input ≡ Genome
         → (first_after ≡ first) × (second_after ≡ second)
+    -- Nor was it, whatever ended the run, unless the genome file was read up to its end without a fault. So
+    -- it wasn't if memory ran out before that end.
+    pub begun : ((first_after ≡ first) × (second_after ≡ second))
+        ⊎ ((table : Option GenomeTable) × KnowsChromosomes source_g genome genome_after table)
     -- What the fault may be, whatever the devices do. It is one that a line of an input can have (without
     -- a genome file none of it, and no unknown chromosome). Or it is a failed read, only if its source
     -- failed or may have passed the bound; a failed write, only if the sink failed; or running out of

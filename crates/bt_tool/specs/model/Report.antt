@@ -6,10 +6,11 @@ use Rattle.bt_bed.specs.model.Order.{byte_order, Order, rank_order}
 use Rattle.bt_bed.specs.model.Feature.{Feature}
 use Rattle.bt_bed.specs.model.BedLine.{IsBedKind}
 use Rattle.bt_bed.specs.model.Genome.{Entry, genome_names, genome_handed}
-use Rattle.bt_bed.specs.model.Good.{Format, bed_format}
+use Rattle.bt_bed.specs.model.Good.{Format, bed_format, good}
 use Rattle.bt_bed.specs.model.Sorted.{sorting_of}
 use Rattle.bt_seq.specs.model.Alignment.{sam_format, is_sam_kind}
 use Rattle.bt_seq.specs.declared.mask.mask_how.MaskHow.{MaskHow}
+use Rattle.bt_seq.specs.model.Masked.{sequence_format}
 use Rattle.bt_sweep.specs.model.Lines.{subtract_shape}
 use Rattle.bt_sweep.specs.declared.hits.hit_rule.HitRule.{HitRule}
 use Rattle.bt_sweep.specs.declared.output.shape.Shape.{Shape}
@@ -17,7 +18,7 @@ use Rattle.bt_tool.specs.model.Written.{is_fasta_kind, is_mask_kind, mask_reache
 use Rattle.bt_tool.specs.declared.planning.plan_type.Command.{Command}
 use Rattle.bt_tool.specs.declared.planning.plan_type.Command.TheVariants.{Merge, Complement, Intersect, Subtract, Coverage, BamToBed, MaskFasta}
 use Rattle.bt_lines.specs.model.Fault.{FaultValue, InputNames, line_of}
-use Rattle.bt_lines.specs.declared.fault.Input.TheVariants.{Genome}
+use Rattle.bt_lines.specs.declared.fault.Input.TheVariants.{First, Genome}
 use Rattle.bt_tool.specs.model.Options.{Named, PlanSeen, options}
 use Rattle.bt_tool.specs.model.Table.{Word, tool_name, tool_of}
 use Rattle.bt_tool.specs.model.Usage.{usage_text}
@@ -44,6 +45,8 @@ pub record Behaviour : Type 1 where
   pub report : Handed → Option Handed → Report
   -- the bytes that the first lines of the first input settle
   pub settles : Option Handed → List TextLine → List ℕ
+  -- the fault of the first of these lines that is at fault, if one is
+  pub faults : List TextLine → Option FaultValue
   -- how much of the second input these lines need: its bytes up to the first record that decides
   -- all members among them
   pub reaches : Option Handed → List TextLine → ℕ
@@ -56,6 +59,7 @@ abbrev pub of_members : {A State : Type 0} → (Kind → Type 0) → Written A �
 of_members Kinds written format = record {
   report = λ first second. members_report written format first;
   settles = λ second. members_settle written format;
+  faults = λ lines. (good format First lines).fault;
   reaches = λ second lines. 0;
   FirstKinds = Kinds;
   SecondKinds = λ kind. ⊥;
@@ -70,6 +74,7 @@ abbrev pub of_intersect : Order → Shape → HitRule → Option ℕ → Behavio
 of_intersect order shape rule limit = record {
   report = λ first second. intersect_report order shape rule limit first (or_empty second);
   settles = λ second. intersect_settles order shape rule (or_empty second);
+  faults = λ lines. (good (bed_format (sorting_of order)) First lines).fault;
   reaches = λ second. intersect_reaches order (or_empty second);
   FirstKinds = IsBedKind order;
   SecondKinds = IsSweptKind order limit;
@@ -79,6 +84,7 @@ abbrev pub of_maskfasta : MaskHow → Bool → Behaviour
 of_maskfasta how full = record {
   report = λ first second. mask_report how full first (or_empty second);
   settles = λ second. mask_settles how full (or_empty second);
+  faults = λ lines. (good (sequence_format full) First lines).fault;
   reaches = λ second. mask_reaches full (or_empty second);
   FirstKinds = IsOneOf is_fasta_kind;
   SecondKinds = IsOneOf is_mask_kind;
@@ -130,6 +136,7 @@ behaviour_on command (Ok chromosomes) = behaviour_of command chromosomes
 behaviour_on command (Err fault) = record {
   report = λ first second. record { output = []; fault = Some fault };
   settles = λ second lines. [];
+  faults = λ lines. None;
   reaches = λ second lines. 0;
   FirstKinds = λ kind. ⊥;
   SecondKinds = λ kind. ⊥;

@@ -221,7 +221,8 @@ fn copied(alloc: Global, name: Option<&str>) -> Result<Option<String>, AllocErro
     }
 }
 
-// The plan of these items, with copies of the names.
+// The plan of these items, with copies of the names. That it fails only if a copy was refused is tested, with each option:
+// the contracts of std don't say when an allocation fails.
 fn made(alloc: Global, tool: Tool, given: Given<'_>) -> Result<Plan, AllocError>
     requires table { table_lent given.table.now ≡ table_of tool }
     requires whole { fault_together (table_of tool) (items_in given) ≡ None }

@@ -8,7 +8,8 @@ use Rattle.bt_lines.specs.declared.fault.Kind.{Kind}
 use Rattle.bt_bed.specs.model.Order.{is_among, rank_of}
 use Rattle.bt_bed.specs.calls.Orders.{AreDistinct}
 use Rattle.bt_bed.specs.model.Genome.{Entry, genome_names, genome_from, genome_with, new_entry, entry_of, with_entry, genome_of}
-use Rattle.bt_bed.proofs.lemmas.parse.NameLemmas.{name_ne-sym, name_eq-sym}
+use Rattle.std.specs.List.{AllByRecursion, IsDistinct}
+use Rattle.bt_bed.proofs.lemmas.parse.NameLemmas.{name_eq, name_ne-sym, name_eq-sym}
 use Rattle.bt_lines.specs.declared.fault.Place.{Place}
 use Rattle.bt_bed.specs.calls.Reading.{IsLost, LinesPass}
 use Rattle.bt_bed.specs.model.BedLine.{fault_at_line}
@@ -193,6 +194,26 @@ placed_from (chromosome ∷ more) name n = grind (arith, (placed_from more name 
 pub placed_by_rank : (chromosomes : List (Vec ℕ Global × ℕ)) (name : List ℕ)
     → position (λ key. bytes_eq name key.items) (keys_of chromosomes) ≡ rank_of (genome_names (map entry_seen chromosomes)) name
 placed_by_rank chromosomes name = grind (arith, position_from-zero, placed_from, plus_none)
+
+-- a name that isn't that of any of these chromosomes isn't the one at a rank
+other_at : (name : List ℕ) (chromosomes : List (Vec ℕ Global × ℕ)) (one : List ℕ) (rank : ℕ) → AllByRecursion (λ key. bytes_eq name key.items ≡ false) (keys_of chromosomes)
+    → slice_get (genome_names (map entry_seen chromosomes)) rank ≡ Some one → bytes_eq name one ≡ false
+other_at name [] one rank others at = cc
+other_at name (chromosome ∷ more) one zero others at =
+    let same : chromosome.0.items ≡ one = cc in
+    subst (λ (n : List ℕ). bytes_eq name n ≡ false) same others.0
+other_at name (chromosome ∷ more) one (suc rank) others at = other_at name more one rank others.1 at
+
+-- the name at a rank has that rank, since no name comes twice
+pub ranked_at : (chromosomes : List (Vec ℕ Global × ℕ)) (name : List ℕ) (rank : ℕ) → IsDistinct (λ a b. bytes_eq a.items b.items) (keys_of chromosomes)
+    → slice_get (genome_names (map entry_seen chromosomes)) rank ≡ Some name → rank_of (genome_names (map entry_seen chromosomes)) name ≡ Some rank
+unfolding IsDistinct
+ranked_at [] name rank distinct at = cc
+ranked_at (chromosome ∷ more) name zero distinct at =
+    let same : chromosome.0.items ≡ name = cc in
+    rw (name_eq chromosome.0.items name same) refl
+ranked_at (chromosome ∷ more) name (suc rank) distinct at =
+    rw (other_at chromosome.0.items more name rank distinct.0 at, ranked_at more name rank distinct.1 at) refl
 
 inserted_last : (chromosomes : List (Vec ℕ Global × ℕ)) (name : Vec ℕ Global) (size : ℕ) → is_among (genome_names (map entry_seen chromosomes)) name.items ≡ false
     → insert_entry (λ a b. bytes_eq a.items b.items) chromosomes name size ≡ chromosomes ++ (name, size) ∷ []

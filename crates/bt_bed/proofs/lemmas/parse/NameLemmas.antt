@@ -30,21 +30,27 @@ cases_name a b = elim (cases_Bool (bytes_eq a b)) [ inl t ↦ inl (same_name a b
 pub name_eq-sym : (a b : List ℕ) → bytes_eq a b ≡ bytes_eq b a
 name_eq-sym a b = elim (cases_name a b) [ inl e ↦ name_eq a b e ∙ sym (name_eq b a (sym e)) | inr f ↦ f ∙ sym (name_ne-sym a b f) ]
 
--- bytes that are one number are the same
+-- four bytes that are one number are the same
 words_same : (x y : List ℕ) → length x ≡ 4 → length y ≡ 4 → ((i : ℕ) → get_or x i 0 < 256)
     → ((i : ℕ) → get_or y i 0 < 256)
     → from_le_bytes w32 x ≡ from_le_bytes w32 y → x ≡ y
 words_same x y m n xs ys e = grind (arith, (le_bytes_4 x (from_le_bytes w32 x) m xs refl), (le_bytes_4 y (from_le_bytes w32 x) n ys e))
 
--- names of at most eight bytes whose first four bytes are the same, as are the last four
-ends_same : (a b : List ℕ) → length a ≡ length b → 4 ≤ length a → length a ≤ 8 → take 4 a ≡ take 4 b
-    → drop (length a - 4) a ≡ drop (length b - 4) b → a ≡ b
-ends_same a b n some short first last =
+-- so many bytes are the same if they are one number
+abbrev Tells : (List ℕ → ℕ) → ℕ → Type 0
+Tells number size = (x y : List ℕ) → length x ≡ size → length y ≡ size → ((i : ℕ) → get_or x i 0 < 256)
+    → ((i : ℕ) → get_or y i 0 < 256) → number x ≡ number y → x ≡ y
+
+-- names of at most twice so many bytes whose first ones are the same, as are the last ones
+ends_same : (size : ℕ) (a b : List ℕ) → length a ≡ length b → size ≤ length a → length a ≤ 2 * size → take size a ≡ take size b
+    → drop (length a - size) a ≡ drop (length b - size) b → a ≡ b
+ends_same size a b n some short first last =
     let back : (xs : List ℕ) → length xs ≡ length a
-    → drop (8 - length a) (drop (length xs - 4) xs) ≡ drop 4 xs
-    = λ xs m. let whole : (length xs - 4) + (8 - length a) ≡ 4 = omega arith in
-    drop-drop (8 - length a) (length xs - 4) xs ∙ ap (λ (k : ℕ). drop k xs) whole in
-    grind arith
+    → drop (2 * size - length a) (drop (length xs - size) xs) ≡ drop size xs
+    = λ xs m. let whole : (length xs - size) + (2 * size - length a) ≡ size = omega arith in
+    drop-drop (2 * size - length a) (length xs - size) xs ∙ ap (λ (k : ℕ). drop k xs) whole in
+    let behind : drop size a ≡ drop size b = sym (back a refl) ∙ ap (λ (xs : List ℕ). drop (2 * size - length a) xs) last ∙ back b (sym n) in
+    sym (take-append-drop size a) ∙ ap (λ (xs : List ℕ). xs ++ drop size a) first ∙ ap (λ (xs : List ℕ). take size b ++ xs) behind ∙ take-append-drop size b
 
 byte_in_front : (xs : List ℕ) (n : ℕ) → n ≤ length xs → ((i : ℕ) → get_or xs i 0 < 256) → (i : ℕ)
     → get_or (take n xs) i 0 < 256
@@ -54,8 +60,31 @@ byte_behind : (xs : List ℕ) (n : ℕ) → ((i : ℕ) → get_or xs i 0 < 256) 
     → get_or (drop n xs) i 0 < 256
 byte_behind xs n all i = rw (get_or-drop n xs i 0) (all (n + i))
 
--- the first four and the last four bytes, each as one number, tell whether two names of four to
--- eight bytes are one
+-- the first and the last bytes, each as one number, tell whether two names of at most twice so many are one
+numbers_tell : (number : List ℕ → ℕ) (size : ℕ) → Tells number size → (a b : List ℕ) {first last other_first other_last : ℕ} → length a ≡ length b
+    → size ≤ length a → length a ≤ 2 * size
+    → ((i : ℕ) → get_or a i 0 < 256) → ((i : ℕ) → get_or b i 0 < 256)
+    → first ≡ number (take size a) → last ≡ number (drop (length a - size) a)
+    → other_first ≡ number (take size b)
+    → other_last ≡ number (drop (length b - size) b)
+    → first ≡ other_first → eqb last other_last ≡ bytes_eq a b
+numbers_tell number size tells a b {last} {other_last} n some short fits other_fits f l g m e =
+    let front : take size a ≡ take size b = tells (take size a) (take size b)
+    (omega (arith, length-take size a)) (omega (arith, length-take size b))
+    (byte_in_front a size some fits) (byte_in_front b size (omega arith) other_fits) (sym f ∙ e ∙ g) in
+    elim (cases_Bool (eqb last other_last)) [
+      | inl same ↦
+          let back : drop (length a - size) a ≡ drop (length b - size) b =
+          tells (drop (length a - size) a) (drop (length b - size) b)
+          (omega (arith, length-drop (length a - size) a))
+          (omega (arith, length-drop (length b - size) b))
+          (byte_behind a (length a - size) fits) (byte_behind b (length b - size) other_fits)
+          (sym l ∙ eqb-true last other_last same ∙ m) in
+          same ∙ sym (name_eq a b (ends_same size a b n some short front back))
+      | inr other ↦ grind (arith, name_ne)
+    ]
+
+-- four bytes at each end, of names of four to eight
 pub ends_tell : (a b : List ℕ) {first last other_first other_last : ℕ} → length a ≡ length b
     → 4 ≤ length a → length a ≤ 8
     → ((i : ℕ) → get_or a i 0 < 256) → ((i : ℕ) → get_or b i 0 < 256)
@@ -63,21 +92,7 @@ pub ends_tell : (a b : List ℕ) {first last other_first other_last : ℕ} → l
     → other_first ≡ from_le_bytes w32 (take 4 b)
     → other_last ≡ from_le_bytes w32 (drop (length b - 4) b)
     → first ≡ other_first → eqb last other_last ≡ bytes_eq a b
-ends_tell a b {last} {other_last} n some short fits other_fits f l g m e =
-    let front : take 4 a ≡ take 4 b = words_same (take 4 a) (take 4 b)
-    (omega (arith, length-take 4 a)) (omega (arith, length-take 4 b))
-    (byte_in_front a 4 some fits) (byte_in_front b 4 (omega arith) other_fits) (sym f ∙ e ∙ g) in
-    elim (cases_Bool (eqb last other_last)) [
-      | inl same ↦
-          let back : drop (length a - 4) a ≡ drop (length b - 4) b =
-          words_same (drop (length a - 4) a) (drop (length b - 4) b)
-          (omega (arith, length-drop (length a - 4) a))
-          (omega (arith, length-drop (length b - 4) b))
-          (byte_behind a (length a - 4) fits) (byte_behind b (length b - 4) other_fits)
-          (sym l ∙ eqb-true last other_last same ∙ m) in
-          same ∙ sym (name_eq a b (ends_same a b n some short front back))
-      | inr other ↦ grind (arith, name_ne)
-    ]
+ends_tell = numbers_tell (from_le_bytes w32) 4 words_same
 
 -- Lemmas on the name of a chromosome and the tab after it as one number.
 
@@ -125,6 +140,25 @@ front_same (suc k) (x ∷ a) (y ∷ b) p q fit other m n e =
     let parts = low_same x y (worth a + p * 256 ^ k) (worth b + q * 256 ^ k) (fit 0) (other 0)
     (sym (raise_one x (worth a) p k) ∙ e ∙ raise_one y (worth b) q k) in
     grind (arith, (front_same k a b p q (λ i. fit (suc i)) (λ i. other (suc i)) (omega arith) (omega arith) parts.1))
+
+-- eight bytes that are one number are the same
+eights_same : (x y : List ℕ) → length x ≡ 8 → length y ≡ 8 → ((i : ℕ) → get_or x i 0 < 256)
+    → ((i : ℕ) → get_or y i 0 < 256)
+    → from_le_bytes w64 x ≡ from_le_bytes w64 y → x ≡ y
+eights_same x y m n xs ys e =
+    let one : worth x ≡ worth y = sym (worth_is x (omega arith)) ∙ e ∙ worth_is y (omega arith) in
+    let same : take 8 x ≡ take 8 y = front_same 8 x y 0 0 xs ys (omega arith) (omega arith) (omega (arith, one)) in
+    sym (subst (λ (k : ℕ). take k x ≡ x) m (take-length x)) ∙ same ∙ subst (λ (k : ℕ). take k y ≡ y) n (take-length y)
+
+-- eight bytes at each end, of names of eight to sixteen
+pub long_ends_tell : (a b : List ℕ) {first last other_first other_last : ℕ} → length a ≡ length b
+    → 8 ≤ length a → length a ≤ 16
+    → ((i : ℕ) → get_or a i 0 < 256) → ((i : ℕ) → get_or b i 0 < 256)
+    → first ≡ from_le_bytes w64 (take 8 a) → last ≡ from_le_bytes w64 (drop (length a - 8) a)
+    → other_first ≡ from_le_bytes w64 (take 8 b)
+    → other_last ≡ from_le_bytes w64 (drop (length b - 8) b)
+    → first ≡ other_first → eqb last other_last ≡ bytes_eq a b
+long_ends_tell = numbers_tell (from_le_bytes w64) 8 eights_same
 
 -- what is lost of a product is a multiple of the other factor
 lost_parts : (a b f k n : ℕ) → f * k ≡ n → 0 < n → (a * f) % n ≡ (b * f) % n → a + (b * f / n) * k ≡ b + (a * f / n) * k

@@ -5,9 +5,11 @@ use Rattle.bt_bed.specs.model.Feature.{Feature, Span}
 use Rattle.bt_bed.specs.model.Genome.{Entry}
 use Rattle.bt_bed.specs.model.Good.{items_in, bed_good}
 use Rattle.bt_bed.specs.declared.record.strand.Strand.{Strand}
-use Rattle.bt_laws.specs.Runs.{interval_at, AreDisjointFrom, DiffersFromNext, HasValue}
-use Rattle.bt_runs.specs.model.Depth.{DepthInterval, counted_on, coverage, depth_lines, depth_of, depth_on, depths_on, Level, levels_of}
-use Rattle.bt_laws.proofs.lemmas.single.LevelLemmas.{gaps_depth_0, are_levels, looser, only_levels}
+use Rattle.bt_bed.specs.model.Levels.{AreDisjointFrom, DiffersFromNext, HasValue, Level}
+use Rattle.bt_laws.specs.Runs.{interval_at}
+use Rattle.bt_runs.specs.model.Depth.{DepthInterval, counted_on, coverage, depth_lines, depth_of, depth_on, depths_on, levels_of}
+use Rattle.bt_bed.proofs.lemmas.LevelScans.{looser}
+use Rattle.bt_laws.proofs.lemmas.single.LevelLemmas.{gaps_depth_0, are_levels, only_levels}
 use Rattle.bt_tool.specs.model.Report.{entries_in, order_of}
 use Rattle.bt_tool.specs.model.Written.{complement_written, coverage_written}
 use Rattle.bt_tool.specs.declared.planning.plan_type.Command.TheVariants.{Complement, Coverage}

@@ -23,8 +23,9 @@ use Rattle.bt_laws.proofs.lemmas.parts.PartMerge.{named_all, listed_all}
 use Rattle.bt_lines.specs.model.Lines.{pieces}
 use Rattle.bt_bed.specs.model.Genome.{Entry, genome_names}
 use Rattle.bt_bed.specs.inside.RankTotal.{ranks_total}
-use Rattle.bt_laws.specs.Runs.{interval_at, AreDisjointFrom, AreLevelsOf, HasValue}
-use Rattle.bt_runs.specs.model.Depth.{DepthInterval, coverage, depth_line, depth_lines, depth_of, depths_on, counted_on, Level, levels_of}
+use Rattle.bt_bed.specs.model.Levels.{AreDisjointFrom, AreLevelsOf, HasValue, Level}
+use Rattle.bt_laws.specs.Runs.{interval_at}
+use Rattle.bt_runs.specs.model.Depth.{DepthInterval, coverage, depth_line, depth_lines, depth_of, depths_on, counted_on, levels_of}
 use Rattle.bt_runs.specs.model.Gaps.{complement, gaps_of, gaps_on, is_asked}
 use Rattle.bt_laws.proofs.lemmas.single.LevelLemmas.{are_levels}
 

@@ -30,8 +30,10 @@ use Rattle.bt_laws.proofs.lemmas.Lists.{all_any, filter_all, flat_map_same, all_
 use Rattle.bt_laws.proofs.lemmas.same.SameRuns.{alike_merged, complement_on, fault_as, told_same, writes_is, here_all, merge_on, none_there, all_counted}
 use Rattle.bt_laws.proofs.lemmas.parts.PartTexts.{order_total}
 use Rattle.bt_lines.specs.model.Lines.{whole_text}
-use Rattle.bt_laws.specs.Runs.{interval_at, HasValue}
-use Rattle.bt_runs.specs.model.Depth.{DepthInterval, counted_on, coverage, depth_at, depth_of, depth_on, depths_on, Level, begun_after, ended_after, levels_of}
+use Rattle.bt_bed.specs.model.Levels.{HasValue, Level}
+use Rattle.bt_laws.specs.Runs.{interval_at}
+use Rattle.bt_bed.specs.calls.LevelScan.{begun_after, ended_after}
+use Rattle.bt_runs.specs.model.Depth.{DepthInterval, counted_on, coverage, depth_at, depth_of, depth_on, depths_on, levels_of}
 use Rattle.bt_runs.proofs.lemmas.order.FileOrder.{spans_on-append}
 use Rattle.bt_laws.proofs.lemmas.single.LevelLemmas.{are_levels}
 use Rattle.bt_laws.proofs.lemmas.pipes.DepthParts.{shown}

@@ -21,7 +21,7 @@ use Rattle.bt_tool.specs.model.Report.{order_of, behaviour_of, Inputs, or_empty,
 use Rattle.bt_tool.specs.model.Written.{met_report, met_within, Report, report_by, Written, merge_written}
 use Rattle.bt_tool.specs.declared.planning.plan_type.Command.TheVariants.{Intersect, Subtract, Merge}
 use Rattle.bt_laws.specs.WholeRuns.{RunsWithoutFault, first_records, second_records, RunWrites, of_second, with_second}
-use Rattle.bt_laws.specs.Same.{Counted, counts_say_all, missing_is_whole, own_line, merged_second_missing, merged_second_once, merged_second_subtract, one_base}
+use Rattle.bt_laws.specs.Same.{Counted, counts_say_all, missing_is_whole, own_line, with_hits, merged_second_missing, merged_second_once, merged_second_subtract, one_base}
 use Rattle.bt_laws.proofs.lemmas.Lists.{all_any, flat_map_same, map_map, all_so}
 use Rattle.bt_laws.proofs.lemmas.parts.PartSweep.{all_true}
 use Rattle.bt_laws.proofs.lemmas.pipes.PipeLaws.{intersect_whole, limit_whole, subtract_whole, well_there, SameCover, runs_cover, same_sym}
@@ -77,20 +77,17 @@ writes_lines shape rule held inputs chromosomes well = record { output = interse
 -- ---- numbers of hits
 
 module _ (rule : HitRule) (second : List Feature) where
-  abbrev with_hits : Feature → Counted
-  with_hits a = record { at = a; hits = length (hits_among rule a second) }
-
-  count_lines : (as_read : List Feature) → intersect Count rule as_read second ≡ flat_map (λ (c : Counted). line_with (bed_text c.at ∷ decimal c.hits ∷ [])) (map with_hits as_read)
+  count_lines : (as_read : List Feature) → intersect Count rule as_read second ≡ flat_map (λ (c : Counted). line_with (bed_text c.at ∷ decimal c.hits ∷ [])) (map (with_hits rule second) as_read)
   unfolding lines_for
   count_lines [] = refl
   count_lines (a ∷ more) = ap (λ l. line_with (bed_text a ∷ decimal (length (hits_among rule a second)) ∷ []) ++ l) (count_lines more)
 
-  once_lines : (as_read : List Feature) → intersect Once rule as_read second ≡ flat_map (λ (c : Counted). own_line c.at) (filter (λ (c : Counted). nat_lt 0 c.hits) (map with_hits as_read))
+  once_lines : (as_read : List Feature) → intersect Once rule as_read second ≡ flat_map (λ (c : Counted). own_line c.at) (filter (λ (c : Counted). nat_lt 0 c.hits) (map (with_hits rule second) as_read))
   unfolding lines_for
   once_lines [] = refl
   once_lines (a ∷ more) = ap (λ l. lines_of Once a (hits_among rule a second) ++ l) (once_lines more) ∙ (grind arith)
 
-  missing_of : (as_read : List Feature) → intersect Missing rule as_read second ≡ flat_map (λ (c : Counted). own_line c.at) (filter (λ (c : Counted). c.hits == 0) (map with_hits as_read))
+  missing_of : (as_read : List Feature) → intersect Missing rule as_read second ≡ flat_map (λ (c : Counted). own_line c.at) (filter (λ (c : Counted). c.hits == 0) (map (with_hits rule second) as_read))
   unfolding lines_for
   missing_of [] = refl
   missing_of (a ∷ more) = ap (λ l. lines_of Missing a (hits_among rule a second) ++ l) (missing_of more) ∙ (grind arith)
@@ -99,7 +96,7 @@ module _ (rule : HitRule) (second : List Feature) where
   often a [] = refl
   often a (b ∷ found) = ap (λ l. own_line a ++ l) (often a found)
 
-  original_lines : (as_read : List Feature) → intersect OrigA rule as_read second ≡ flat_map (λ (c : Counted). flat_map own_line (replicate c.hits c.at)) (map with_hits as_read)
+  original_lines : (as_read : List Feature) → intersect OrigA rule as_read second ≡ flat_map (λ (c : Counted). flat_map own_line (replicate c.hits c.at)) (map (with_hits rule second) as_read)
   unfolding lines_for
   original_lines [] = refl
   original_lines (a ∷ more) = ap₂ (λ x y. x ++ y) (often a (hits_among rule a second)) (original_lines more)
@@ -111,6 +108,7 @@ counts_all rule held inputs chromosomes well =
     let writes : (shape : Shape) → RunWrites (Intersect shape rule held) inputs (intersect shape rule firsts seconds) = λ shape. writes_lines shape rule held inputs chromosomes (other_shape Count shape rule held inputs chromosomes well) in (
       map (with_hits rule seconds) firsts,
       map_map (with_hits rule seconds) (λ c. c.at) (λ a. a) firsts (all_any _ firsts (λ a. refl)) ∙ map-id firsts,
+      refl,
       record {
         count = subst (RunWrites (Intersect Count rule held) inputs) (count_lines rule seconds firsts) (writes Count);
         once = subst (RunWrites (Intersect Once rule held) inputs) (once_lines rule seconds firsts) (writes Once);

@@ -4,7 +4,8 @@ use Rattle.bt_bed.specs.model.Feature.{Feature, Span}
 use Rattle.bt_bed.specs.model.Genome.{Entry}
 use Rattle.bt_bed.specs.declared.record.strand.Strand.{Strand}
 use Rattle.bt_bed.specs.declared.record.strand.Strand.TheVariants.{Plus, Minus, Dot}
-use Rattle.bt_runs.specs.model.Depth.{DepthInterval, Begun}
+use Rattle.bt_bed.specs.calls.LevelScan.{Begun}
+use Rattle.bt_runs.specs.model.Depth.{DepthInterval}
 
 -- on the chromosome whose name is one byte
 abbrev on : ℕ → ℕ → ℕ → Strand → Feature

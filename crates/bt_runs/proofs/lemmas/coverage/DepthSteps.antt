@@ -7,7 +7,9 @@ use Rattle.bt_bed.specs.model.Order.{rank_order, rank_of}
 use Rattle.bt_bed.specs.calls.Orders.{AreDistinct}
 use Rattle.bt_bed.specs.model.Sorted.{has_records}
 use Rattle.bt_bed.specs.declared.record.strand.Strand.{Strand}
-use Rattle.bt_runs.specs.model.Depth.{DepthInterval, counted_on, coverage, depth_of, depth_on, depths_on, is_counted_by, is_ended_by, settled_depths, Level, levels_of, depth_lines, depth_line, Begun, reported, begun_after, ended_after, next_begun, next_ended}
+use Rattle.bt_bed.specs.model.Levels.{Level}
+use Rattle.bt_bed.specs.calls.LevelScan.{Begun, begun_after, ended_after, next_begun, next_ended}
+use Rattle.bt_runs.specs.model.Depth.{DepthInterval, counted_on, coverage, depth_of, depth_on, depths_on, is_counted_by, is_ended_by, settled_depths, levels_of, depth_lines, depth_line, reported}
 use Rattle.bt_runs.specs.inside.Coverage.{Known, depth_walk, known_by, levels_by, levels_left, levels_on, bare_of, depths_left, known_seen, place_seen, seen, CountAnswers, OpenAt, depth_text, still_open}
 use Rattle.bt_runs.proofs.lemmas.order.ByChromosome.{Divides, Owes, Written, found_at, size_there, size_ranked, found_entry, name_at}
 use Rattle.bt_runs.proofs.lemmas.coverage.OpenLemmas.{counted_elsewhere, counted_append, counted_none, bare_levels, known_at, known_first, known_next, left_end, settled_and_left, settled_at, settled_end, settled_first, settled_next, with_counted, across_known, none_open, all_open, walk_depth}

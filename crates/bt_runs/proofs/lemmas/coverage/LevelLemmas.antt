@@ -1,10 +1,7 @@
--- A scan of the positions finds the intervals of equal value, and no other list has them; scans in parts, and scans that see the same values.
+-- Scans of the positions in parts, scans that see the same values, and where their intervals begin and stop.
 use Rattle.bt_lines.proofs.Std.{◌≡◌, ℕ, zero, suc, ◌+◌, ◌<◌, ◌≤◌, List, [], ◌∷◌, ◌++◌, refl, arith, true, Option, Some, None, ⊤}
-use Rattle.bt_runs.specs.model.Depth.{Begun, Level, begun_after, ended_after, levels_from, next_begun, next_ended, goes_on}
-
-pub levels_more : (value : ℕ → Option ℕ) (p n : ℕ) (begun : Option Begun) → levels_from value p (suc n) begun ≡ next_ended p (value p) begun ++ levels_from value (p + 1) n (next_begun p (value p) begun)
-unfolding begun_after ended_after
-levels_more value p n begun = grind arith
+use Rattle.bt_bed.specs.model.Levels.{Level}
+use Rattle.bt_bed.specs.calls.LevelScan.{Begun, begun_after, ended_after, levels_from, next_begun, next_ended, goes_on}
 
 -- a scan in two parts
 pub scan_split : (value : ℕ → Option ℕ) (a b p : ℕ) (g : Option Begun) → (begun_after value p (a + b) g ≡ begun_after value (p + a) b (begun_after value p a g))

@@ -1,15 +1,17 @@
 -- The records that are open at a position and at later ones, how many of them cover a position, and their ends, counted by every test of an end.
-use Rattle.bt_lines.proofs.Std.{common_steps, ◌≡◌, ℕ, ◌+◌, ◌<◌, ◌≤◌, inl, inr, List, [], ◌∷◌, ◌++◌, refl, sym, ap, ◌∙◌, arith, All, filter, length, max, nat_le, not, false, cond, ◌&&◌, nat_lt, slice_index_or, subst, drop, Bool, MatchBool, true, IfSome, IsSome, Option, Some, None, cases_Bool, cases_lt, lt-ltb, le-ltb, le-leb, length-map, map-append, length-filter_both, All-filter, All-head, All-nil, All-tail, All-weaker, filter-append, filter_agree, filter_passes, IsUpperBound, PopsGreatest, IsPermutation, nat_cmp, IsPermutation-map, sum_by-IsPermutation, length-filter, ap₂, length-append, map, bytes_eq, or_parts, ◌-◌, append_assoc, append-nil, zero, suc}
+use Rattle.bt_lines.proofs.Std.{common_steps, ◌≡◌, ℕ, ◌+◌, ◌<◌, ◌≤◌, inl, inr, List, [], ◌∷◌, ◌++◌, refl, sym, ap, ◌∙◌, arith, All, filter, length, nat_le, not, false, cond, ◌&&◌, nat_lt, slice_index_or, subst, Bool, MatchBool, true, IfSome, IsSome, Option, Some, None, cases_Bool, cases_lt, lt-ltb, le-ltb, le-leb, map-append, length-filter_both, All-filter, All-head, All-nil, All-tail, All-weaker, All-push, filter-append, filter_agree, filter_passes, IsUpperBound, PopsGreatest, IsPermutation, nat_cmp, IsPermutation-map, sum_by-IsPermutation, length-filter, ap₂, length-append, map, bytes_eq, or_parts, ◌-◌, append_assoc, append-nil, zero, suc}
 use Rattle.bt_bed.specs.model.Feature.{Span, Feature, intervals_of}
-use Rattle.bt_runs.specs.model.Depth.{covers, depth_at, counted_on, depth_of, reported, Begun, Level, begun_after, ended_after, ended_at, levels_of, begun_at, goes_on, levels_from}
+use Rattle.bt_bed.specs.model.Levels.{Level}
+use Rattle.bt_bed.specs.calls.LevelScan.{Begun, begun_after, ended_after, ended_at, begun_at, goes_on, levels_from}
+use Rattle.bt_runs.specs.model.Depth.{covers, depth_at, counted_on, depth_of, reported, levels_of}
 use Rattle.bt_runs.specs.calls.Covering.{cut_at, open_at, begun_across}
-use Rattle.bt_runs.specs.inside.Coverage.{still_open, CountsFrom, IsLeastFirst, StartsBelow, ends_of, KeepsOpen, span_open, spans_open, Known, known_by, levels_by, levels_left}
-use Rattle.bt_runs.specs.declared.coverage.open_records.OpenSpan.{OpenSpan}
+use Rattle.bt_runs.specs.inside.Coverage.{still_open, CountsFrom, IsLeastFirst, StartsBelow, ends_of, KeepsEnds, Known, known_by, levels_by, levels_left}
 use Rattle.std.specs.declared.cmp.Reverse.{Reverse}
 use Rattle.bt_bed.specs.model.Sorted.{has_records}
 use Rattle.bt_bed.specs.declared.record.strand.Strand.{Strand}
 use Rattle.bt_runs.proofs.lemmas.order.FileOrder.{spans_on-append}
-use Rattle.bt_runs.proofs.lemmas.coverage.LevelLemmas.{AreSame, StopIn, scan_run, scan_same, scan_split, ended_after-stop, stop_wider, BeginsBelow, BeginsFrom, begun_after-below, levels_more, stop_both}
+use Rattle.bt_runs.proofs.lemmas.coverage.LevelLemmas.{AreSame, StopIn, scan_run, scan_same, scan_split, ended_after-stop, stop_wider, BeginsBelow, BeginsFrom, begun_after-below, stop_both}
+use Rattle.bt_bed.proofs.lemmas.LevelScans.{levels_more}
 
 -- what a filter keeps
 module _ {X : Type 0} (p : X → Bool) where
@@ -44,6 +46,10 @@ open_after first later spans up =
     sym (filter_both (λ (s : Span). nat_le first s.stop) (λ s. nat_le later s.stop) spans)
     ∙ filter_agree (λ (s : Span). nat_le first s.stop && nat_le later s.stop) (λ s. nat_le later s.stop) (λ s. grind arith) spans
 
+-- those that are the same at a position are at a later one
+pub same_later : (first later : ℕ) (xs ys : List Span) → first ≤ later → still_open first xs ≡ still_open first ys → still_open later xs ≡ still_open later ys
+same_later first later xs ys up same = sym (open_after first later xs up) ∙ ap (still_open later) same ∙ open_after first later ys up
+
 -- none of them ends before
 pub all_open : (position : ℕ) (spans : List Span) → All (λ s. position ≤ s.stop) (still_open position spans)
 all_open position spans = grind (arith, filter_passes)
@@ -73,20 +79,6 @@ module _ (at position : ℕ) (first now : List Span) (low : at ≤ position) (sa
 -- where there are no more than are still open, all of them are
 pub all_stay : (position : ℕ) (spans : List Span) → length spans ≤ length (still_open position spans) → still_open position spans ≡ spans
 all_stay position spans many = filter_full (λ (s : Span). nat_le position s.stop) spans many
-
--- no more are open than are listed, and none past the end
-pub open_within : (position : ℕ) (items : List OpenSpan) → length (still_open position (spans_open items)) ≤ length items
-open_within position items =
-    let few = filter_few (λ (s : Span). nat_le position s.stop) (spans_open items) in
-    grind (arith, length-map)
-
-pub none_past : (items : List OpenSpan) → drop (length items) items ≡ []
-none_past [] = refl
-none_past (s ∷ ss) = none_past ss
-
--- those of two lists
-pub open_both : (position : ℕ) (first more : List OpenSpan) → still_open position (spans_open (first ++ more)) ≡ still_open position (spans_open first) ++ still_open position (spans_open more)
-open_both position first more = ap (still_open position) (map-append span_open first more) ∙ filter-append (λ (s : Span). nat_le position s.stop) (spans_open first) (spans_open more)
 
 all_pass : {X : Type 0} (xs : List X) → filter (λ x. true) xs ≡ xs
 all_pass [] = refl
@@ -120,34 +112,33 @@ pub counts_less : (position e : ℕ) (old ends new : List ℕ) → e < position 
 counts_less position e old ends new ended counts moved test = grind (arith, (same_count (λ e. nat_le position e && test e) ends (e ∷ new) moved))
 
 -- what is kept at a later position, once the ends before it are out
-module _ (first position : ℕ) (spans : List Span) (ends new : List ℕ) (up : first ≤ position) (kept : KeepsOpen first spans ends) (from : CountsFrom position ends new) (all : All (λ e. position ≤ e) new) where
-  ends_later : (test : ℕ → Bool) → length (filter test new) ≡ length (filter (λ s. test s.stop) (still_open position spans))
-  ends_later test =
-      sym (ap length (filter_both (λ e. nat_le position e) test new ∙ ap (filter test) (all_from (λ e. e) position new all)))
+module _ (first position : ℕ) (spans : List Span) (old new : List (Reverse ℕ)) (kept : KeepsEnds first spans old) (up : first ≤ position) where
+  ends_later : CountsFrom position (ends_of old) (ends_of new) → All (λ e. position ≤ e) (ends_of new) → (test : ℕ → Bool) → length (filter test (ends_of new)) ≡ length (filter (λ s. test s.stop) (still_open position spans))
+  ends_later from all test =
+      sym (ap length (filter_both (λ e. nat_le position e) test (ends_of new) ∙ ap (filter test) (all_from (λ e. e) position (ends_of new) all)))
       ∙ from test
       ∙ kept.counts (λ e. nat_le position e && test e)
       ∙ ap length (filter_both (λ (s : Span). nat_le position s.stop) (λ s. test s.stop) (still_open first spans))
       ∙ ap (λ l. length (filter (λ (s : Span). test s.stop) l)) (open_after first position spans up)
 
-  pub keeps_later : KeepsOpen position spans new
-  keeps_later = grind (arith, ends_later)
-
--- where none ends before a later position, the same are open there
-module _ (first position : ℕ) (spans : List Span) (ends : List ℕ) (kept : KeepsOpen first spans ends) (all : All (λ s. position ≤ s.stop) (still_open first spans)) where
-  abbrev later : ℕ
-  later = max first position
-
-  pub keeps_same : KeepsOpen later (still_open later spans) ends
-  keeps_same = record {
-    started = All-filter (λ s. nat_le later s.stop) (λ s. s.start ≤ later) spans (All-weaker (λ s. s.start ≤ first) (λ s. s.start ≤ later) (λ s low. omega arith) spans kept.started);
-    counts = λ test.
-        kept.counts test
-        ∙ ap (λ l. length (filter (λ (s : Span). test s.stop) l)) (sym (grind (arith, open_after, stay_open)) ∙ sym (open_after later later spans (omega arith)));
+  pub keeps_later : IsLeastFirst new → CountsFrom position (ends_of old) (ends_of new) → All (λ e. position ≤ e) (ends_of new) → KeepsEnds position spans new
+  keeps_later order from all = record {
+    started = All-weaker (λ s. s.start ≤ first) (λ s. s.start ≤ position) (λ s low. omega arith) spans kept.started;
+    order = order;
+    counts = ends_later from all;
   }
 
-  -- as many as there are ends
-  pub open_count : length ends ≡ length (still_open later spans)
-  open_count = as_many ends (still_open first spans) kept.counts ∙ ap length (sym (grind (arith, open_after, stay_open)))
+-- those that are open start at the position or before it
+pub open_started : (at : ℕ) (spans : List Span) (ends : List (Reverse ℕ)) → KeepsEnds at spans ends → All (λ s. s.start ≤ at) (still_open at spans)
+open_started at spans ends kept = All-filter (λ (s : Span). nat_le at s.stop) (λ s. s.start ≤ at) spans kept.started
+
+-- what is kept with one more
+pub keeps_more : (at : ℕ) (spans : List Span) (x : Reverse ℕ) (old new : List (Reverse ℕ)) → KeepsEnds at spans old → at ≤ x.0 → IsLeastFirst new → IsPermutation (x ∷ old) new → KeepsEnds at (spans ++ record { start = at; stop = x.0 } ∷ []) new
+keeps_more at spans x old new kept up order moved = record {
+  started = All-push (λ (s : Span). s.start ≤ at) spans _ kept.started (omega arith);
+  order = order;
+  counts = λ test. same_count test (x.0 ∷ ends_of old) (ends_of new) (ends_permuted _ new moved) ∙ grind (arith, filter-append, length-append, (kept.counts test));
+}
 
 -- the top of a heap whose least is the first
 pub top_least : (xs : List (Reverse ℕ)) (x : Reverse ℕ) → IsUpperBound (λ x y. nat_cmp y.0 x.0) x xs → All (λ e. x.0 ≤ e) (ends_of xs)

@@ -1,5 +1,5 @@
 -- Lemmas on a reader of sorted records.
-use Rattle.bt_lines.proofs.Std.{◌≡◌, ℕ, suc, ◌-◌, ◌<◌, ◌≤◌, Bool, true, false, List, [], ◌∷◌, ◌++◌, length, take, drop, Option, Some, None, Ok, refl, sym, ap, ◌∙◌, subst, arith, length-take, take-append-drop, if◌then◌else◌, IfSome, IsTrue, option_map, ForSome, Result, Err, inl, inr}
+use Rattle.bt_lines.proofs.Std.{◌≡◌, ℕ, suc, ◌-◌, ◌<◌, ◌≤◌, Bool, true, false, List, [], ◌∷◌, ◌++◌, length, take, drop, Option, Some, None, Ok, refl, sym, ap, ◌∙◌, subst, arith, length-take, take-append-drop, if◌then◌else◌, is_some, IfSome, IsTrue, option_map, ForSome, Result, Err, inl, inr}
 use Rattle.bt_lines.specs.declared.device.Source.{Ghosts as Source}
 use Rattle.bt_lines.proofs.lemmas.reader.lines.TakingLemmas.{is_prefix, next_bytes, next_number}
 use Rattle.bt_lines.specs.calls.Reader.{DropsLines, TakesLines, bytes_left, buffered_in as lines_buffered, fault_kept as line_fault, input_of, lines_given, lines_left, source_of, GivesEnd, GivesFault, HasRead, IsKept, MakesLine, bytes_taken}
@@ -13,12 +13,16 @@ use Rattle.bt_bed.proofs.lemmas.Definitions.{line_said}
 use Rattle.bt_bed.proofs.lemmas.read.batch.RecordsLemmas.{placed_there, run_some, says_of_line}
 use Rattle.bt_bed.proofs.lemmas.read.good.SaidRuns.{LinesSay, good_said, order_behind, order_is_said, place_behind, run_behind, run_is_said, run_says, said_fewer, said_in_order, say_fewer, say_front, FirstOfRun, first_of_run, says_again}
 use Rattle.bt_bed.specs.model.Feature.{Feature}
-use Rattle.bt_bed.specs.model.BedLine.{fault_at_line}
+use Rattle.bt_bed.specs.model.BedLine.{fault_at_line, record_of}
 use Rattle.bt_bed.specs.model.Good.{Format, Good, Member, or_else, bed_format, line_says, locus_at}
 use Rattle.bt_bed.specs.model.Sorted.{Locus, Sorting}
-use Rattle.bt_bed.specs.inside.OrderedLookahead.{HoldsChrom, LineTaken, MakesLast, ahead_of, last_in, name_in, start_in, KeepsLast}
+use Rattle.bt_bed.specs.inside.OrderedLookahead.{HasNext, HoldsChrom, IsKnownLast, LineTaken, MakesLast, ahead_of, last_in, name_in, start_in, KeepsLast}
 use Rattle.bt_bed.specs.calls.Reading.{AreSaid, BeginsComing, MemberReader, Takes, good_behind, good_coming, members_from, state_behind, with_members, AnswersFault, Fills, IsLost, TellsOwnFailure}
-use Rattle.bt_bed.specs.calls.Bed.{is_some_left, run_of}
+use Rattle.bt_bed.specs.calls.Batch.{StandsFirst, left, left_after}
+use Rattle.bt_bed.specs.calls.Bed.{is_some_left, record_in, run_of}
+use Rattle.bt_bed.specs.declared.read.batch.Batch.{Batch}
+use Rattle.bt_bed.specs.declared.record.raw_record.RawRecord.{RawRecord}
+use Rattle.bt_bed.proofs.lemmas.parse.NameLemmas.{name_eq}
 use Rattle.bt_bed.specs.calls.SortedReader.{IsPlaced, IsTaken, are_in_order, buffered_in, count_in, view_in, view_with, FindsRecord, LosesLine, SkipsLine, TakesFirst, TakesOne}
 use Rattle.bt_bed.specs.declared.read.batch.Consumed.{Consumed}
 use Rattle.bt_bed.specs.declared.read.lookahead.OrderedLookahead.{OrderedLookahead}
@@ -72,6 +76,13 @@ some_taken n (r ∷ records) some within =
       ap (λ l. r ∷ l) (sym (take-append-drop (n - 1) records)) ∙ ap (λ k. r ∷ (take (n - 1) records ++ drop k (r ∷ records))) (sym less),
       omega (arith, less, length-take (n - 1) records, within),
     )
+
+-- a record was ahead of which some were taken
+pub was_some : {S Q : Type 0} (sorted : SortedReader S Q) (consumed : Consumed) → IsTaken sorted consumed → 0 < count_in sorted consumed → sorted.is_ahead ≡ true
+unfolding buffered_in
+was_some sorted consumed is some =
+    let parts = some_taken (count_in sorted consumed) (buffered_in sorted) some is.within in
+    (is_ahead_by sorted.is_ahead (run_of (name_in sorted.lookahead) (start_in sorted.lookahead) (lines_buffered sorted.reader)) parts.0 _ parts.3).0
 
 -- a record that is said lies on a known chromosome
 knows_said : (sorting : Sorting) (state : Option Locus) (text : List ℕ) (r : Feature) → line_says sorting state text ≡ Ok (Some r) → IsTrue (sorting.knows r.chrom)
@@ -214,6 +225,42 @@ pub record Found {Q : Type 0} (sorting : Sorting) (old new : OrderedLookahead Q)
 
 pub found_of : {Q : Type 0} (sorting : Sorting) (old new : OrderedLookahead Q) (text : List ℕ) → LineTaken sorting text old true new → Found sorting old new text
 found_of sorting old new text taken = grind arith
+
+-- the record of a line that goes on is found there
+pub record FoundNext {Q : Type 0} (sorting : Sorting) (lookahead : OrderedLookahead Q) (lines : List TextLine) : Type 0 where
+  pub line : TextLine
+  pub more : List TextLine
+  pub lines_are : lines ≡ line ∷ more
+  pub found : Found sorting lookahead lookahead line.text
+
+goes_on_says : (sorting : Sorting) (place : Locus) (text : List ℕ) (r : Feature) → IsTrue (sorting.knows place.chrom) → record_of text ≡ Ok (Some r) → r.chrom ≡ place.chrom → place.start ≤ r.start
+    → line_says sorting (Some place) text ≡ Ok (Some r)
+unfolding line_says
+goes_on_says sorting place text r known says on above = grind (arith, name_eq)
+
+pub found_next : {Q : Type 0} (sorting : Sorting) (lookahead : OrderedLookahead Q) (lines : List TextLine) → IsKnownLast sorting (last_in lookahead) → HasNext lookahead lines → FoundNext sorting lookahead lines
+found_next sorting lookahead lines known next =
+    let place : Locus = record { chrom = name_in lookahead; start = start_in lookahead } in
+    let first = first_of_run (name_in lookahead) (start_in lookahead) lines next.r next.more next.run in
+    let is_known : IsTrue (sorting.knows (name_in lookahead)) = rw next.last at known in
+    record {
+      line = first.line;
+      more = first.more;
+      lines_are = first.lines_are;
+      found = record {
+        r = next.r;
+        says = ap (λ last. line_says sorting last first.line.text) next.last ∙ goes_on_says sorting place first.line.text next.r is_known first.says first.chrom first.above;
+        holds = record {
+          name_is = sym first.chrom;
+          start_is = rw (next.last, name_eq (name_in lookahead) next.r.chrom (sym first.chrom)) refl;
+        };
+      };
+    }
+
+-- a record that a batch has first
+pub some_first : (batch : Batch) (first : Option RawRecord) → is_some first ≡ true → IfSome first (StandsFirst batch) → (r : Feature) × (more : List Feature) × (left batch ≡ r ∷ more)
+some_first batch None some first = cc
+some_first batch (Some raw) some first = (record_in raw, left_after batch (record_in raw).start, first.left_is)
 
 -- one that wasn't says nothing
 pub skipped_of : {Q : Type 0} (sorting : Sorting) (old new : OrderedLookahead Q) (text : List ℕ) → LineTaken sorting text old false new → line_says sorting (last_in old) text ≡ Ok None

@@ -1,5 +1,5 @@
 -- Lemmas on making a line buffered, and on the step to the next line by it.
-use Rattle.bt_lines.proofs.Std.{common_steps, rules, ◌≡◌, ℕ, ◌-◌, ◌<◌, Bool, true, false, List, [], ◌++◌, length, take, Option, Result, None, Some, Ok, Err, sym, ap, ◌∙◌, subst, append_assoc, length-append, arith, option_map, is_some, IfSome, IsSome, false≢true, ◌+◌, ◌≤◌, ◌∷◌, drop, eqb, take-add, take-append-drop, take_at, drop_at, length-take-le, length-drop, All-append}
+use Rattle.bt_lines.proofs.Std.{common_steps, rules, ◌≡◌, ℕ, ◌-◌, ◌<◌, Bool, true, false, List, [], ◌++◌, length, take, Option, Result, None, Some, Ok, Err, sym, ap, ◌∙◌, subst, append_assoc, length-append, arith, option_map, is_some, IfSome, IsSome, false≢true, ◌+◌, ◌≤◌, ◌∷◌, drop, eqb, take-add, take-append-drop, take_at, drop_at, length-take-le, length-drop, All-append, replicate, get_or, get_or-append_right, get_or-append_seam, get_or-replicate, get_or_append_left, length-replicate, drop_more, take-append-le}
 use Rattle.bt_lines.specs.declared.device.Source.{Ghosts as Source}
 use Rattle.bt_lines.proofs.lemmas.reader.block.ReadsLemmas.{has_read_then}
 use Rattle.bt_lines.proofs.lemmas.reader.lines.StepLemmas.{none_told}
@@ -9,7 +9,7 @@ use Rattle.bt_lines.specs.calls.Line.{line_seen}
 use Rattle.bt_lines.specs.model.Lines.{TextLine}
 use Rattle.bt_lines.specs.calls.Names.{fault_value}
 use Rattle.bt_lines.specs.inside.ReadBuffer.{complete}
-use Rattle.bt_lines.specs.calls.Reader.{DropsLines, FillsLines, GivesLine, HasRead, IsKept, IsSound, MakesLine, NextLine, TellsOwnFailure, buffered_bytes, bytes_left, bytes_taken, end_told, fault_kept, feeds_taken, has_ended, held, input_of, line_at, lines_given, lines_left, source_of}
+use Rattle.bt_lines.specs.calls.Reader.{DropsLines, FillsItsRoom, FillsLines, GivesLine, HasRead, IsKept, IsSound, MakesLine, NextLine, TellsOwnFailure, buffered_bytes, bytes_left, bytes_taken, end_told, fault_kept, feeds_taken, has_ended, held, input_of, line_at, lines_given, lines_left, source_of}
 use Rattle.bt_lines.specs.declared.fault.Fault.{Fault}
 use Rattle.bt_lines.specs.declared.reader.line.Line.{Line}
 use Rattle.bt_lines.specs.declared.reader.line_reader.LineReader.{LineReader}
@@ -45,8 +45,8 @@ module _ {S : Type 0} (device : Source S) where
 
   -- a step that met a fault, which the reader keeps
   pub stops_by : (old new : LineReader S) (fault : Fault) → FillsLines device old (Err fault) new → TellsOwnFailure {A = Bool} device.is_read old (Err fault) new
-      → (other : Fault) → fault_kept new ≡ Some (fault_value other) → NextLine device old (Err other) new
-  stops_by old new fault fills tells other e = grind arith
+      → FillsItsRoom {A = Bool} old (Err fault) new → (other : Fault) → fault_kept new ≡ Some (fault_value other) → NextLine device old (Err other) new
+  stops_by old new fault fills tells room other e = grind arith
 
   cuts_by : (b : Bool) (mid : LineReader S) → 0 < length (buffered_bytes mid) → (b ≡ false → complete mid.buffer ≡ []) → b ≡ true
   unfolding buffered_bytes
@@ -71,6 +71,7 @@ module _ {S : Type 0} (device : Source S) where
       record {
         answers = gives_after old mid new (line_seen line) filled.answers (gives cut line at);
         own_failure = has_read_then device.is_read old mid new (subst (λ (r : Result Bool Fault). TellsOwnFailure device.is_read old r mid) e read) (then cut);
+        memory = tt;
         sound = λ h. sound cut (filled.kept (record { end = h.end; within = h.within }));
       }
 
@@ -119,3 +120,26 @@ pub feed_first : (value : ℕ) (text near : List ℕ) (n place : ℕ) → near �
 feed_first value text near n place e h first =
     subst (λ (k : ℕ). IsFirstOf value text (Some k)) (omega arith)
     (feed_behind value text 0 (omega arith) (λ k d below. absurd (omega (arith, below))) near n place (chunk_first text near n e h) first)
+
+-- a value that is first among some bytes with others of one value after them is first among those bytes
+module _ (value other : ℕ) (text : List ℕ) (n : ℕ) (differs : other ≡ value → ⊥) where
+  read_at : (place : ℕ) → IsFirstOf value (text ++ replicate n other) (Some place) → get_or (text ++ replicate n other) place 0 ≡ value
+  read_at place first = rw first.1 (grind (arith, length-take-le, get_or-append_seam))
+
+  inside_text : (place : ℕ) → IsFirstOf value (text ++ replicate n other) (Some place) → place < length text
+  inside_text place first = grind (arith, (read_at place first), get_or-append_right, get_or-replicate, length-append, length-replicate)
+
+  pub first_before_pad : (place : ℕ) → IsFirstOf value (text ++ replicate n other) (Some place) → IsFirstOf value text (Some place)
+  first_before_pad place first =
+      let inside = inside_text place first in
+      let read : get_or text place 0 ≡ value = sym (get_or_append_left text (replicate n other) 0 place inside) ∙ read_at place first in
+      let cut : text ≡ take place text ++ value ∷ drop (place + 1) text = sym (take-append-drop place text) ∙ ap (λ l. take place text ++ l) (drop_more text place 0 inside ∙ ap (λ b. b ∷ drop (place + 1) text) read) in
+      (inside, cut, subst (Lacks value) (take-append-le place text (replicate n other) (omega (arith, inside))) first.2)
+
+-- what is left of a text
+pub chunk_left : (text : List ℕ) (at : ℕ) (rest : List ℕ) → rest ≡ take (length text - at) (drop at text) → Chunk text at rest (length rest)
+chunk_left text at rest e = grind (arith, common_steps)
+
+-- it isn't among some bytes if it isn't with others after them
+pub none_before_pad : (value : ℕ) (text others : List ℕ) → Lacks value (text ++ others) → Lacks value text
+none_before_pad value text others none = λ k d h. subst (λ b. eqb b value ≡ false) (get_or_append_left text others d k h) (none k d (omega (arith, h, length-append text others)))

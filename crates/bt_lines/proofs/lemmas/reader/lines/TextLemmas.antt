@@ -1,10 +1,10 @@
 -- Lemmas on the lines of a text.
-use Rattle.bt_lines.proofs.Std.{common_steps, ◌≡◌, ℕ, suc, ◌+◌, ◌<◌, Bool, true, false, cond, List, [], ◌∷◌, ◌++◌, length, take, drop, get_or, refl, sym, ap, ◌∙◌, append_assoc, append-nil, eqb, arith, flat_map, join_with_byte, ends_with_byte, strip_last, take-append-drop, drop_more, drop_all, slice_split_at, slice_split_none, length-slice_split, join_with_byte-slice_split, eqb-true, zero, ◌≤◌, subst, length-append, All-push, All-nil, All-head, All-tail, sum_by-append, false≢true, All, Option, Some, None, get_or-take, get_or_default, length-take-le, take_all, false_from_ne_true}
+use Rattle.bt_lines.proofs.Std.{common_steps, ◌≡◌, ℕ, suc, ◌+◌, ◌<◌, Bool, true, false, cond, List, [], ◌∷◌, ◌++◌, length, take, drop, get_or, refl, sym, ap, ◌∙◌, append_assoc, append-nil, eqb, arith, flat_map, join_with_byte, ends_with_byte, strip_last, take-append-drop, drop_more, drop_all, slice_split_at, slice_split_none, length-slice_split, join_with_byte-slice_split, eqb-true, zero, ◌≤◌, subst, length-append, All-push, All-nil, All-head, All-tail, sum_by-append, false≢true, All, Option, Some, None, get_or-take, get_or_default, length-take-le, take_all, false_from_ne_true, get_or-le-sum_by, is_some, nat_le, nat_tests}
 use Rattle.bt_lines.specs.model.Lines.{pieces, fed_line, last_line, numbered, lines_from, spelled, end_bytes, TextLine, whole_lines_from, numbered_whole, bytes_in}
 use Rattle.bt_lines.specs.calls.Columns.{IsBefore, IsFirstOf, Lacks, CutAt}
 use Rattle.bt_lines.specs.calls.Line.{NoLineFeed, line_feeds, AreNumbered}
 use Rattle.bt_lines.specs.declared.reader.line.LineEnd.TheVariants.{Lf, CrLf}
-use Rattle.memchr.specs.Find.{FindsNeedle, IsFirstByte, OccursAt, Passes, is_byte}
+use Rattle.memchr.specs.Find.{FindsNeedle, IsFirstByte, IsLastByte, OccursAt, Passes, is_byte}
 
 -- a piece is followed by others
 numbered-more : (n : ℕ) (piece : List ℕ) (rest : List (List ℕ)) → 0 < length rest → numbered n (piece ∷ rest) ≡ fed_line n piece ∷ numbered (suc n) rest
@@ -193,6 +193,10 @@ pieces_cut s bytes i first =
 -- a text without a separator is one piece
 pub pieces_whole : (s : ℕ) (bytes : List ℕ) → IsFirstByte (is_byte s) bytes None → pieces s bytes ≡ bytes ∷ []
 pieces_whole s bytes nowhere = grind (arith, (slice_split_none (λ x. eqb x s) bytes (λ k d h. rw (get_or_default bytes k d 0 h) (false_from_ne_true _ (nowhere k (omega arith) h)))))
+
+-- a text has two pieces at least if it has a separator
+pub two_pieces : (s : ℕ) (bytes : List ℕ) (found : Option ℕ) → IsLastByte (is_byte s) bytes found → is_some found ≡ nat_le 2 (length (pieces s bytes))
+two_pieces s bytes found is_last = grind (arith, pieces_whole, get_or-le-sum_by, length-slice_split, nat_tests)
 
 -- the first tab divides the first column from the others
 pub tab_divides : (text : List ℕ) (found : Option ℕ) → IsFirstByte (is_byte 9) text found → IsFirstOf 9 text found × CutAt text found

@@ -1,5 +1,7 @@
-use Rattle.bt_lines.proofs.Std.{◌≡◌, false, arith, eqb, rules, eqb-true, false_from_ne_true, All-more}
-use Rattle.bt_lines.proofs.lemmas.reader.block.FillLemmas.{before_feed, chunk_inside, chunk_of, feed_behind, none_behind}
+use Rattle.bt_lines.proofs.Std.{◌+◌, ◌-◌, ◌≡◌, List, Some, arith, common_steps, drop, length, refl, replicate, rules, subst, take, w8, ℕ}
+use Rattle.bt_lines.proofs.lemmas.reader.block.FillLemmas.{before_feed, chunk_inside, chunk_left, chunk_of, feed_behind, first_before_pad, none_before_pad, none_behind}
+use Rattle.bt_lines.specs.calls.Columns.{IsFirstOf, Lacks}
+use Rattle.std.specs.Int.{bit_not}
 use Rattle.bt_lines.proofs.reader.newline.late_length.Goals as goal
 
 pub overflow_add-result : goal.overflow_add-result
@@ -24,9 +26,20 @@ loop-near-preserved c =
     let near = chunk_of text at _ 32 c.in-Some.ensures.cases.same c.in-Some.ensures.cases.enough in
     (chunk_inside c.args.byte text at c.loop-near.invariant.0 c.loop-near.invariant.1 _ 32 near, none_behind c.args.byte text at c.loop-near.invariant.0 c.loop-near.invariant.1 _ 32 near c.in_default-find_near.ensures)
 
-pub loop-at-preserved : goal.loop-at-preserved
-loop-at-preserved c = (
-  omega (arith, c.loop-at-test.true),
-  All-more (λ b. eqb b c.args.byte ≡ false) c.args.text.now c.loop-at.at 0 c.loop-at-test.true c.loop-at.invariant.1
-      (false_from_ne_true _ (λ e. c.if-text-at.true (eqb-true _ _ e))),
-)
+pub returns-in-Some-find_near-2 : goal.returns-in-Some-find_near-2
+returns-in-Some-find_near-2 c =
+    let text = c.args.text.now in
+    let at = c.loop-near.at in
+    let rest : List ℕ = take (length text - at) (drop at text) in
+    let first = first_before_pad c.args.byte (bit_not w8 c.args.byte) rest (32 - length rest) (λ e. omega (arith, e)) c.in-Some-find_near-2.place (subst (λ bytes. IsFirstOf c.args.byte bytes (Some c.in-Some-find_near-2.place)) c.padded.ensures c.in-Some-find_near-2.ensures) in
+    before_feed c.args.byte _ _ (feed_behind c.args.byte text at c.loop-near.invariant.0 c.loop-near.invariant.1 rest _ c.in-Some-find_near-2.place (chunk_left text at rest refl) first)
+
+pub returns-in-None : goal.returns-in-None
+returns-in-None c =
+    let text = c.args.text.now in
+    let at = c.loop-near.at in
+    let rest : List ℕ = take (length text - at) (drop at text) in
+    let none = none_before_pad c.args.byte rest (replicate (32 - length rest) (bit_not w8 c.args.byte)) (subst (Lacks c.args.byte) c.padded.ensures c.in-None.ensures) in
+    let clear = none_behind c.args.byte text at c.loop-near.invariant.0 c.loop-near.invariant.1 rest (length rest) (chunk_left text at rest refl) none in
+    let all : at + length rest ≡ length text = grind (arith, common_steps) in
+    record { within = omega arith; clear = subst (λ (n : ℕ). Lacks c.args.byte (take n text)) all clear; cut = λ h. absurd (omega (arith, h)) }

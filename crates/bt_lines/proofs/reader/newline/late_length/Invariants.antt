@@ -8,9 +8,3 @@ invariant-loop-near l = (l.at ≤ length l.text) × Lacks l.byte (take l.at l.te
 
 abbrev pub decreases-loop-near : goal.decreases-loop-near
 decreases-loop-near l = length l.text - l.at
-
-abbrev pub invariant-loop-at : goal.invariant-loop-at
-invariant-loop-at l = (l.at ≤ length l.text) × Lacks l.byte (take l.at l.text)
-
-abbrev pub decreases-loop-at : goal.decreases-loop-at
-decreases-loop-at l = length l.text - l.at

@@ -4,7 +4,7 @@ use Rattle.bt_lines.proofs.lemmas.reader.block.ReadsLemmas.{counts_none, fails_t
 use Rattle.bt_lines.proofs.reader.spill.read_lines.Goals as goal
 
 pub loop-buffer-init : goal.loop-buffer-init
-loop-buffer-init g c = (none_yet _ _ _ _ c.requires.counted, counts_none g.S.Source.is_read _ _ _ _ refl refl, c.requires.none)
+loop-buffer-init g c = (none_yet _ _ _ _ c.requires.counted, counts_none g.S.Source.is_read _ _ _ _ refl refl, c.requires.none, refl)
 
 pub read_long-requires-clause-some : goal.read_long-requires-clause-some
 read_long-requires-clause-some g c = some_full _ c.if-is_full.ensures

@@ -1,4 +1,4 @@
-use Rattle.bt_lines.proofs.Std.{◌≡◌, ◌-◌, ◌^◌, []}
+use Rattle.bt_lines.proofs.Std.{◌≡◌, ◌-◌, ◌^◌, [], vec_capacity}
 use Rattle.bt_lines.specs.inside.ReadBuffer.{complete, unread}
 use Rattle.bt_lines.specs.calls.Device.{ReadsCounted}
 use Rattle.bt_lines.proofs.lemmas.reader.block.BufferLemmas.{ReadSoFar}
@@ -9,6 +9,7 @@ invariant-loop-buffer g l =
     ReadSoFar g.S.Source l.initial.source (unread l.initial.buffer) l.initial.taken l.source (unread l.buffer) l.taken
     × ReadsCounted g.S.Source.is_read l.initial.source l.initial.taken l.source l.taken
     × (complete l.buffer ≡ [])
+    × (vec_capacity l.buffer.spilled ≡ vec_capacity l.initial.buffer.spilled)
 
 abbrev pub decreases-loop-buffer : goal.decreases-loop-buffer
 decreases-loop-buffer g l = 2 ^ 63 - l.taken

@@ -1,6 +1,6 @@
 use Rattle.bt_lines.proofs.Std.{err_from_is_err_and}
 use Rattle.bt_runs.specs.inside.Coverage.{known_seen, begun_to, ended_to}
-use Rattle.bt_runs.specs.model.Depth.{ended_at}
+use Rattle.bt_bed.specs.calls.LevelScan.{ended_at}
 use Rattle.bt_runs.proofs.lemmas.coverage.DepthSteps.{left_cut}
 use Rattle.bt_runs.proofs.coverage.depth_rule.put_rest.Goals as goal
 

@@ -112,7 +112,7 @@ module _ {S A State : Type 0} {written : Written A} {Taken : List A → Type 0} 
   near_by : {one : Handed} {before took : List ℕ} → Holds device.left first one → out.put ≡ Some before → out.took ≡ Some took → (bytes : List ℕ) × Hands device.left old.below bytes new.below
       → {past : List (Member A)} → IsReadFor device old past past new → {grown : Output} → TookButBlock out (written.settled (member_items past)) grown
       → (Stopped : Type 0) → (Stopped → PutsLines out (written.settled (member_items past)) grown)
-      → ReadsNoFurther (λ n. IsWithin (device.end_told last) one.text n → ⊤) (members_settle written format) one.text (device.left last) before grown.took (grown.has_failed ≡ true) Stopped grown.put
+      → ReadsNoFurther (λ n. IsWithin (device.end_told last) one.text n → ⊤) (λ lines. (good format First lines).fault) (members_settle written format) one.text (device.left last) before grown.took (grown.has_failed ≡ true) Stopped grown.put
   near_by {before} {took} holds put known hands {past} read {grown} kept Stopped exact =
       let text = holds.text in
       let e = holds.known in
@@ -120,14 +120,16 @@ module _ {S A State : Type 0} {written : Written A} {Taken : List A → Type 0} 
       let handed = handed_to device old driven.starts new driven.ended count text e read.to.near hands in
       let b = subst (λ (g : Good A). (rest : List (Member A)) × (g.members ≡ past ++ rest) × IsBeyond count (record { members = rest; fault = g.fault })) (good_whole format First text)
       (of_text text e (λ good. (rest : List (Member A)) × (good.members ≡ past ++ rest) × IsBeyond count (record { members = rest; fault = good.fault })) read.to.behind) in
+      let on_first : good format First (take count (text_lines text)) ≡ record { members = past; fault = None } =
+      first_from format First count 1 format.begin (text_lines text) (omega arith) (lines_are_numbered 1 text) b.1 refl read.low b.2 in
       let on_lines : written.settled (member_items past) ≡ members_settle written format (take count (text_lines text)) =
-      sym (ap (λ (g : Good A). written.settled (items_in g))
-      (first_from format First count 1 format.begin (text_lines text) (omega arith) (lines_are_numbered 1 text) b.1 refl read.low b.2)) in
+      sym (ap (λ (g : Good A). written.settled (items_in g)) on_first) in
       let settled = subst (λ l. TookButBlock out l grown) on_lines kept in
       let less : suc count - 1 ≡ count = omega arith in
-      subst (λ (h : Handed). ReadsNoFurther (λ n. IsWithin (device.end_told last) h.text n → ⊤) (members_settle written format) h.text (device.left last) before grown.took (grown.has_failed ≡ true) Stopped grown.put) (sym holds.is) (record {
+      subst (λ (h : Handed). ReadsNoFurther (λ n. IsWithin (device.end_told last) h.text n → ⊤) (λ lines. (good format First lines).fault) (members_settle written format) h.text (device.left last) before grown.took (grown.has_failed ≡ true) Stopped grown.put) (sym holds.is) (record {
         n = suc count;
         some = omega arith;
+        faultless = rw less (ap (λ (g : Good A). g.fault) on_first);
         handed = handed.0;
         consumed = subst (λ o. Consumes o (device.left last) handed.0) e handed.1;
         read = handed.2;
@@ -189,7 +191,7 @@ module _ {S A State : Type 0} {written : Written A} {Taken : List A → Type 0} 
     report_whole one holds = rw holds.is (report_of (whole_text holds.text) fed.past None (of_text holds.text holds.known (λ good. (good.members ≡ fed.past) × (good.fault ≡ None)) fed.whole))
 
     near_end : (fault : Option FaultValue) → (IsFaultButWrite fault → ⊥) → (one : Handed) (two : Option Handed) (before taken : List ℕ) → Holds device.left first one → OfBoth (Holds device.left) None two → out.put ≡ Some before → out.took ≡ Some taken
-        → ReadsNoFurther (λ n. IsWithin (device.end_told last) one.text n → ⊤) (members_settle written format) one.text (device.left last) before finished.took (finished.has_failed ≡ true) (IsFaultButWrite fault) finished.put
+        → ReadsNoFurther (λ n. IsWithin (device.end_told last) one.text n → ⊤) (λ lines. (good format First lines).fault) (members_settle written format) one.text (device.left last) before finished.took (finished.has_failed ≡ true) (IsFaultButWrite fault) finished.put
     near_end fault never one two before taken holds others put known =
         near_by holds put known fed.took.bytes fed.took.read
         (took_later out grown finished (written.settled (member_items fed.took.before)) fed.took.grows goes fed.took.kept) (IsFaultButWrite fault) (λ stops. absurd (never stops))
@@ -448,7 +450,7 @@ module _ {order : Order} (total : IsTotal order) where
     written = alone_writes device device (of_records order (merge_written order d strand))
         (λ one two. ap (λ m. members_report (merge_as_they_come m) (bed_format (sorting_of order)) one) begun ∙ (grind (arith, report_same, placed_good)))
         (λ two lines. ap (λ m. members_settle (merge_as_they_come m) (bed_format (sorting_of order)) lines) begun ∙ (grind (arith, settled_same, placed_lines)))
-        None (λ t tells. tells) runs.written;
+        (λ lines. refl) None (λ t tells. tells) runs.written;
     reads = runs.reads;
     own_failure = runs.own_failure;
   }

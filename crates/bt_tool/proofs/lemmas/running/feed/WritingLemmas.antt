@@ -1,5 +1,5 @@
 -- What a command of one input writes, as what any command writes of its inputs.
-use Rattle.bt_lines.proofs.Std.{◌≡◌, ℕ, ◌+◌, ◌-◌, ◌≤◌, true, List, ◌++◌, length, Option, None, Some, take, sym, ap, ◌∙◌, subst, arith, inl, inr, ◌⊎◌, IfSome, suc, ◌^◌, ◌<◌, false, drop, All, take-append-add}
+use Rattle.bt_lines.proofs.Std.{◌≡◌, ℕ, ◌+◌, ◌-◌, ◌≤◌, refl, true, List, ◌++◌, length, Option, None, Some, take, sym, ap, ◌∙◌, subst, arith, inl, inr, ◌⊎◌, IfSome, suc, ◌^◌, ◌<◌, false, drop, All, take-append-add}
 use Rattle.bt_lines.specs.declared.device.Source.{Ghosts as Source}
 use Rattle.bt_lines.specs.model.Fault.{FaultValue}
 use Rattle.bt_lines.specs.model.Lines.{Handed, TextLine, text_lines, bytes_in}
@@ -23,12 +23,12 @@ use Rattle.bt_bed.specs.calls.Reading.{IsBeyond}
 use Rattle.bt_tool.specs.inside.Feed.{ComeFirst}
 
 -- how far an input was read, by lines that settle the same, more that is said beside it, and what was taken and put later
-pub near_as : (Beside More : ℕ → Type 0) → ((n : ℕ) → Beside n → More n) → {mine yours : List TextLine → List ℕ} → ((lines : List TextLine) → mine lines ≡ yours lines)
+pub near_as : (Beside More : ℕ → Type 0) → ((n : ℕ) → Beside n → More n) → {faults others : List TextLine → Option FaultValue} → ((lines : List TextLine) → faults lines ≡ others lines) → {mine yours : List TextLine → List ℕ} → ((lines : List TextLine) → mine lines ≡ yours lines)
     → {text : List ℕ} {left : Option (List ℕ)} {before : List ℕ} {took more : Option (List ℕ)} (Cut Failed Stopped Stops : Type 0) {put later : Option (List ℕ)}
     → ((size : ℕ) → IfSome took (λ taken. size ≤ length taken + block_size) → IfSome more (λ taken. size ≤ length taken + block_size))
     → ((size : ℕ) → Cut ⊎ IsPutTo size put → Failed ⊎ IsPutTo size later) → ((bytes : List ℕ) → (Stopped → put ≡ Some bytes) → Stops → later ≡ Some bytes)
-    → ReadsNoFurther Beside mine text left before took Cut Stopped put → ReadsNoFurther More yours text left before more Failed Stops later
-near_as Beside More adds {mine} {yours} same {text} {before} {took} Cut Failed Stopped Stops {put} takes keeps stays near =
+    → ReadsNoFurther Beside faults mine text left before took Cut Stopped put → ReadsNoFurther More others yours text left before more Failed Stops later
+near_as Beside More adds alike {mine} {yours} same {text} {before} {took} Cut Failed Stopped Stops {put} takes keeps stays near =
     let bytes : List ℕ = before ++ yours (take (near.n - 1) (text_lines text)) in
     let size : ℕ = length bytes in
     let equal : before ++ mine (take (near.n - 1) (text_lines text)) ≡ bytes = ap (λ l. before ++ l) (same (take (near.n - 1) (text_lines text))) in
@@ -36,6 +36,7 @@ near_as Beside More adds {mine} {yours} same {text} {before} {took} Cut Failed S
     record {
       n = near.n;
       some = near.some;
+      faultless = sym (alike (take (near.n - 1) (text_lines text))) ∙ near.faultless;
       handed = near.handed;
       consumed = near.consumed;
       read = near.read;
@@ -52,6 +53,7 @@ is_whole device first last fault handed holds of_input = record { text = holds.t
 module _ {A B : Type 0} (source_a : Source A) (source_b : Source B) where
   -- what a command of one input writes, a second that isn't touched beside it, by a behaviour that says the same
   module _ {mine : Behaviour} (yours : Behaviour) (same : (one : Handed) (two : Option Handed) → mine.report one None ≡ yours.report one two) (same_settle : (two : Option Handed) (lines : List TextLine) → mine.settles None lines ≡ yours.settles two lines)
+      (same_faults : (lines : List TextLine) → mine.faults lines ≡ yours.faults lines)
       {first : A} (second : Option B) {out : Output} {fault : Option FaultValue} {first_after : A} {grown : Output}
       (same_kinds : (t : FaultValue) → TellsInput source_a mine.FirstKinds First first first_after t → TellsInput source_a yours.FirstKinds First first first_after t) (w : WritesBy source_a source_a mine first None out fault first_after None grown) where
     pub alone_writes : WritesBy source_a source_b yours first second out fault first_after second grown
@@ -70,7 +72,7 @@ module _ {A B : Type 0} (source_a : Source A) (source_b : Source B) where
           ((s.0.0, grind arith), s.1);
       near = λ one two before taken holds others put known.
           near_as _ (λ n. IsWithin (source_a.end_told first_after) one.text n → OfBoth (HandsUpTo source_b.left (yours.reaches two (take n (text_lines one.text)) + block_size)) second second)
-          (λ n beside end. grind arith) (same_settle two) (grown.has_failed ≡ true) (grown.has_failed ≡ true) (IsFaultButWrite fault) (IsFaultButWrite fault)
+          (λ n beside end. grind arith) same_faults (same_settle two) (grown.has_failed ≡ true) (grown.has_failed ≡ true) (IsFaultButWrite fault) (IsFaultButWrite fault)
           (λ size took. took) (λ size kept. kept) (λ bytes is stops. is stops) (w.near one None before taken holds tt put known);
       named = λ t e. elim (w.named t e) [
         | inl tells ↦ elim tells [ inl tells ↦ inl (inl (same_kinds t tells)) | inr none ↦ absurd none ]
@@ -88,7 +90,7 @@ module _ {A B : Type 0} (source_a : Source A) (source_b : Source B) where
   behaves_alone {command} chromosomes same same_settle e {first} {second} {out} {fault} {first_after} {grown} w =
       let behaviour = behaviour_of command chromosomes in
       subst (λ (command : Command). WritesBy source_a source_b (behaviour_of command chromosomes) first second out fault first_after second grown) (sym e)
-      (alone_writes behaviour same same_settle second (λ t tells. tells) w)
+      (alone_writes behaviour same same_settle (λ lines. refl) second (λ t tells. tells) w)
 
 -- Lemmas that tell faults apart.
 

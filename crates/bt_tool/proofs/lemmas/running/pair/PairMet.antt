@@ -2,7 +2,7 @@
 use Rattle.bt_lines.proofs.Std.{ℕ, ◌||◌, List, is_none, ◌≡◌, suc, ◌+◌, ◌≤◌, ◌<◌, Bool, true, false, [], ◌∷◌, ◌++◌, Option, None, Some, refl, sym, ap, ◌∙◌, subst, append_assoc, append-nil, arith, flat_map, inl, inr, ◌⊎◌, ◌≢◌, All, IfSome, IsSome, option_to_list, take, list_all, false≢true, or_from, map-append, All-head, All-tail}
 use Rattle.bt_lines.specs.model.Fault.{FaultValue}
 use Rattle.bt_lines.specs.calls.Faults.{no_memory, write_failed}
-use Rattle.bt_bed.specs.model.Good.{Good, items_in, or_else, Format, Member, good_handed}
+use Rattle.bt_bed.specs.model.Good.{Good, items_in, or_else, Format, Member, good, good_handed}
 use Rattle.bt_bed.specs.model.Meeting.{Met, Rule, join_report, written}
 use Rattle.bt_tool.specs.inside.Pair.{JoinDef, MayCome, Pair, Serves, PairEnds, FirstStops, InputsEnd, LimitStops, RestStops, SecondFails, SecondStops, Why}
 use Rattle.bt_lines.specs.declared.device.Source.{Ghosts as Source}
@@ -391,12 +391,13 @@ module _ {A B X Y U V : Type 0} {join : JoinDef X Y} {pair : Pair A B X Y U V} {
     abbrev pub NearBoth : Type 0
     NearBoth = (one two before taken : List ℕ) → pair.source_a.left one_before ≡ Some one → pair.source_b.left two_before ≡ Some two → out.put ≡ Some before → out.took ≡ Some taken
         → ReadsNoFurther (λ n. IsWithin (pair.source_a.end_told one_after) one n → HandsUpTo pair.source_b.left (reaches (whole_text two) (take n (text_lines one)) + block_size) two_before two_after)
-        (settles (whole_text two)) one (pair.source_a.left one_after) before grown.took (grown.has_failed ≡ true) (IsFaultButWrite fault) grown.put
+        (λ lines. (good first_format First lines).fault) (settles (whole_text two)) one (pair.source_a.left one_after) before grown.took (grown.has_failed ≡ true) (IsFaultButWrite fault) grown.put
 
     abbrev behaviour : Behaviour
     behaviour = record {
       report = λ one two. met_report (met_by join (good_one one) (good_two (or_empty two)));
       settles = λ two. settles (or_empty two);
+      faults = λ lines. (good first_format First lines).fault;
       reaches = λ two. reaches (or_empty two);
       FirstKinds = join.first_kinds;
       SecondKinds = join.second_kinds;

@@ -11,7 +11,7 @@ use Rattle.bt_lines.specs.declared.fault.Kind.{Kind}
 use Rattle.bt_lines.proofs.lemmas.reader.lines.TextLemmas.{bytes_in-append, lines_are_numbered}
 use Rattle.bt_bed.specs.model.Feature.{Feature}
 use Rattle.bt_bed.specs.model.Good.{Format, Good, Member, good, good_from, good_handed, good_with, items_in}
-use Rattle.bt_bed.specs.calls.Reading.{MemberReader, good_coming, BeginsComing, ahead_in, first_from as first_of_members}
+use Rattle.bt_bed.specs.calls.Reading.{BeginsComing, IsBeyond, MemberReader, ahead_in, first_from as first_of_members, good_coming}
 use Rattle.bt_bed.proofs.lemmas.read.good.SaidLemmas.{ascend_from, first_from}
 use Rattle.bt_tool.specs.model.Written.{bytes_up_to}
 use Rattle.bt_tool.specs.calls.Run.{IsFaultButWrite, IsWithin, ReadsNoFurther}
@@ -131,6 +131,12 @@ module _ {A B X Y U V : Type 0} {join : JoinDef X Y} {pair : Pair A B X Y U V} {
         ap (flat_map (λ x. join.bytes x (items_in good_two))) (grind (arith, first_from, (lines_are_numbered 1 one)))
         ∙ ((near.wrote.settles known).whatever (items_in good_two) good_two.fault (in_order (whole_text two)) may).1
 
+    -- none of them is at fault
+    faultless : (good first_format First (take count (text_lines one))).fault ≡ None
+    faultless =
+        let b = of_one (λ good. (rest : List (Member X)) × (good.members ≡ near.past ++ rest) × IsBeyond count (record { members = rest; fault = good.fault })) near.first_near.to.behind in
+        ap (λ (g : Good X). g.fault) (first_from first_format First count 1 first_format.begin (text_lines one) (omega arith) (lines_are_numbered 1 one) b.1 refl near.first_near.low b.2)
+
     -- the second input was read as far as they need
     beside_by : AsksFor join pair out near.given_first second → HandsUpTo pair.source_b.left (reaches (whole_text two) (take (suc count) (text_lines one)) + block_size) two_before two_after
     beside_by asks =
@@ -145,7 +151,7 @@ module _ {A B X Y U V : Type 0} {join : JoinDef X Y} {pair : Pair A B X Y U V} {
   -- how far both inputs were read
   pub near_both : (one two before taken : List ℕ) → pair.source_a.left one_before ≡ Some one → pair.source_b.left two_before ≡ Some two → out.put ≡ Some before → out.took ≡ Some taken
       → ReadsNoFurther (λ n. IsWithin (pair.source_a.end_told one_after) one n → HandsUpTo pair.source_b.left (reaches (whole_text two) (take n (text_lines one)) + block_size) two_before two_after)
-      (settles (whole_text two)) one (pair.source_a.left one_after) before grown.took (grown.has_failed ≡ true) (IsFaultButWrite fault) grown.put
+      (λ lines. (good first_format First lines).fault) (settles (whole_text two)) one (pair.source_a.left one_after) before grown.took (grown.has_failed ≡ true) (IsFaultButWrite fault) grown.put
   near_both one two before taken e f put took =
       let handed = handed_to pair.source_a pair.first begins first ended count one e near.first_near.to.near near.wrote.first_bytes in
       let less : suc count - 1 ≡ count = omega arith in
@@ -154,6 +160,7 @@ module _ {A B X Y U V : Type 0} {join : JoinDef X Y} {pair : Pair A B X Y U V} {
       record {
         n = suc count;
         some = omega arith;
+        faultless = rw less (faultless one two e f);
         handed = handed.0;
         consumed = subst (λ o. Consumes o (pair.source_a.left one_after) handed.0) e handed.1;
         read = handed.2;

@@ -106,6 +106,11 @@ none_settle : (command : Command) (chromosomes : Option (List Entry)) (second : 
 unfolding good_from settled_gaps settled_depths
 none_settle command chromosomes second = grind (arith, no_strand_settled)
 
+-- and none is at fault
+none_at_fault : (command : Command) (chromosomes : Result (Option (List Entry)) FaultValue) → (behaviour_on command chromosomes).faults [] ≡ None
+unfolding good_from
+none_at_fault command chromosomes = grind arith
+
 -- chromosomes that were read aren't at fault
 other_chromosomes : (chromosomes : Result (Option (List Entry)) FaultValue) (entries : Option (List Entry)) (wrong : FaultValue) → chromosomes ≡ Ok entries → chromosomes ≡ Err wrong → ⊥
 other_chromosomes chromosomes entries wrong o e = cc
@@ -117,8 +122,8 @@ write_by b other p1 = grind arith
 -- an input that wasn't touched was read at most up to its first line
 near_untouched : (Beside : ℕ → Type 0) → ((n : ℕ) → Beside n) → (command : Command) (chromosomes : Result (Option (List Entry)) FaultValue) (second : Option Handed) {text before : List ℕ} {left took more : Option (List ℕ)} → left ≡ Some text → took ≡ Some before → Grows took more
     → (Failed Stops : Type 0) {later : Option (List ℕ)} → Failed ⊎ IsPutTo (length (before ++ [])) later → (Stops → later ≡ Some (before ++ []))
-    → ReadsNoFurther Beside ((behaviour_on command chromosomes).settles second) text left before more Failed Stops later
-near_untouched Beside has command chromosomes second e t g Failed Stops kept exact = grind (arith, common_steps, none_settle)
+    → ReadsNoFurther Beside (behaviour_on command chromosomes).faults ((behaviour_on command chromosomes).settles second) text left before more Failed Stops later
+near_untouched Beside has command chromosomes second e t g Failed Stops kept exact = grind (arith, common_steps, none_settle, none_at_fault)
 
 -- a run writes to an output over a sink, which it gives back
 pub record WritesOver {K : Type 0} (sink : Sink K) (out out_after : K) (begun new : Output) : Type 0 where
@@ -190,7 +195,7 @@ module _ {G A B K : Type 0} (source_g : Source G) (source_a : Source A) (source_
           (f.0, f.1, writes_over.took_after ∙ f.2, ap (λ (r : Report). r.output) (report_is inputs (knows.told inputs.genome holds.genome_file)) ∙ f.3);
       near = λ inputs before holds known.
           let near = writes.near inputs.first inputs.second before before holds.first_input holds.second_input (writes_over.put ∙ known) (writes_over.took ∙ known) in
-          rw (knows.told inputs.genome holds.genome_file, writes_over.took_after) (near_as _ _ (λ n beside. beside) (λ lines. refl) (mid.has_failed ≡ true)
+          rw (knows.told inputs.genome holds.genome_file, writes_over.took_after) (near_as _ _ (λ n beside. beside) (λ lines. refl) (λ lines. refl) (mid.has_failed ≡ true)
           (answer ≡ Some write_failed) (IsFaultButWrite fault) (IsFaultButWrite answer) (λ size. took_more_than begun.took mid.took new.took before size (writes_over.took ∙ known) writes.grows flushes.grows) (λ size kept. kept_by begun mid new fault answer size kept flushes.ends)
           (λ bytes is stops. exact_by begun mid new fault answer bytes is stops flushes.ends) near);
       served = λ none.
@@ -201,6 +206,7 @@ module _ {G A B K : Type 0} (source_g : Source G) (source_a : Source A) (source_
       untouched = λ t e place at is.
           let there = lies t.place place at is in
           absurd (others_elsewhere t (writes.named t (placed_by begun mid new fault answer t e there flushes.ends)) there);
+      begun = inr (table, knows);
       named = λ t e.
           rw writes_over.failed_after (named_by begun mid new fault answer (λ t e. of_others t (writes.named t e)) flushes.ends t e);
     }
@@ -249,6 +255,7 @@ module _ {G A B K : Type 0} (source_g : Source G) (source_a : Source A) (source_
           absurd (let apart : None ≡ Some wrong = sym (served_by begun mid new fault answer flushes.ends none).0 ∙ stops.0 in cc);
       after_genome = λ file holds wrong e. (stops.1, stops.2);
       untouched = λ t e place at is. (stops.1, stops.2);
+      begun = inl (stops.1, stops.2);
       named = λ t e.
           rw writes_over.failed_after (named_by begun mid new fault answer (λ t e. genome_named t lacks.named (some_is wrong t (sym stops.0 ∙ e))) flushes.ends t e);
     }

@@ -1,6 +1,6 @@
 use Rattle.bt_lines.proofs.Std.{arith, refl}
 use Rattle.bt_lines.proofs.lemmas.reader.lines.BufferedLemmas.{some_lines}
-use Rattle.bt_bed.proofs.lemmas.read.batch.SortedReaderLemmas.{sorted_ahead, sorted_placed, sorted_takes, was_ahead}
+use Rattle.bt_bed.proofs.lemmas.read.batch.SortedReaderLemmas.{name_is_record, sorted_ahead, sorted_placed, sorted_takes, was_ahead, was_some}
 use Rattle.bt_bed.specs.calls.SortedReader.{buffered_in, count_in}
 use Rattle.bt_bed.proofs.read.sorted_reader.SortedReader.consume.Goals as goal
 use Rattle.bt_lines.proofs.lemmas.reader.lines.TakingLemmas.{given_below}
@@ -8,6 +8,11 @@ use Rattle.bt_lines.proofs.lemmas.reader.lines.TakingLemmas.{given_below}
 pub returns-then-consumed-eq0-clause-takes : goal.returns-then-consumed-eq0-clause-takes
 returns-then-consumed-eq0-clause-takes g c =
     grind (arith, given_below)
+
+pub advance-requires : goal.advance-requires
+advance-requires g c =
+    let some = some_lines c.args.self.now.reader c.args.consumed.lines (count_in c.args.self.now c.args.consumed) c.requires.taken.lines c.if-consumed-eq0.false in
+    name_is_record c.args.self.now (was_some c.args.self.now c.args.consumed c.requires.taken some)
 
 pub invariant_of-self : goal.invariant_of-self
 invariant_of-self g c = grind (arith, some_lines, sorted_ahead, was_ahead)

@@ -3,11 +3,35 @@ use Rattle.bt_lines.proofs.lemmas.reader.lines.BufferedLemmas.{lines_taken}
 use Rattle.bt_lines.proofs.lemmas.reader.lines.TakingLemmas.{some_buffered}
 use Rattle.bt_lines.specs.calls.Reader.{lines_in, buffered_in as lines_buffered}
 use Rattle.bt_lines.specs.calls.Line.{line_seen}
-use Rattle.bt_bed.proofs.lemmas.read.batch.SortedReaderLemmas.{found_buffered, found_in_order, found_of, found_some, skipped_of}
+use Rattle.bt_bed.proofs.lemmas.read.batch.SortedReaderLemmas.{found_buffered, found_in_order, found_next, found_of, found_some, skipped_of}
 use Rattle.bt_bed.specs.inside.OrderedLookahead.{name_in}
 use Rattle.bt_bed.specs.calls.Bed.{run_of}
 use Rattle.bt_bed.specs.calls.SortedReader.{buffered_in}
 use Rattle.bt_bed.proofs.read.sorted_reader.SortedReader.take_line.Goals as goal
+
+pub returns-then-has_next_in-clause-takes : goal.returns-then-has_next_in-clause-takes
+unfolding buffered_in
+returns-then-has_next_in-clause-takes g c =
+    let sorting = g.Q.Sorted.sorting c.args.self.now.lookahead.rule in
+    let lookahead = c.args.self.now.lookahead in
+    let lines = lines_buffered c.args.self.now.reader in
+    let next = found_next sorting lookahead (lines_in c.buffered-lines.result) c.requires.known (c.has_next_in.ensures c.if-has_next_in.true) in
+    let first : lines ≡ next.line ∷ next.more = sym c.buffered-lines.ensures.lines ∙ next.lines_are in
+    record {
+      line = next.line;
+      more = next.more;
+      first = first;
+      takes = record {
+        r = next.found.r;
+        says = next.found.says;
+        same = refl;
+        ahead = refl;
+        more = run_of (name_in lookahead) next.found.r.start next.more;
+        buffered = found_buffered sorting lookahead lookahead next.line next.more next.found.r next.found.says next.found.holds lines first;
+        in_order = found_in_order sorting lookahead lookahead next.line next.more next.found.r next.found.says next.found.holds lines first;
+      };
+      keeps = record { rule = refl; last = refl };
+    }
 
 pub returns-in_default-clause-takes : goal.returns-in_default-clause-takes
 returns-in_default-clause-takes g c = absurd (some_buffered c.args.self.now.reader c.requires.some (sym c.buffered-lines.ensures.lines ∙ c.in_default.ensures.none))

@@ -10,6 +10,7 @@ returns-then-cut_line g c = (
     record {
       answers = c.if-cut_line.ensures.cut refl c.last_line.result c.last_line.ensures;
       own_failure = c.if-cut_line.ensures.reads_nothing refl;
+      memory = tt;
       sound = λ h. c.if-cut_line.ensures.sound refl (record { end = h.end; within = h.within });
     },
   ),

@@ -3,7 +3,7 @@ use Rattle.bt_lines.proofs.lemmas.reader.block.FillLemmas.{moves_by, stops_by}
 use Rattle.bt_lines.proofs.reader.line_reader.LineReader.step.Goals as goal
 
 pub returns-in-Err-clause-stopped : goal.returns-in-Err-clause-stopped
-returns-in-Err-clause-stopped g c = λ e fault kept. stops_by _ c.args.self.now _ c.in-Err._fault c.in-Err.ensures.fills c.in-Err.ensures.own_failure fault kept
+returns-in-Err-clause-stopped g c = λ e fault kept. stops_by _ c.args.self.now _ c.in-Err._fault c.in-Err.ensures.fills c.in-Err.ensures.own_failure c.in-Err.ensures.memory fault kept
 
 pub returns-in-Ok-true-clause-moved : goal.returns-in-Ok-true-clause-moved
 returns-in-Ok-true-clause-moved g c = λ e line at.

@@ -1,0 +1,54 @@
+use Rattle.bt_lines.proofs.Std.{refl}
+use Rattle.bt_bed.specs.model.BedLine.{record_of}
+use Rattle.bt_bed.specs.model.Good.{good_from, line_says}
+use Rattle.bt_bed.specs.model.Positions.{stretches_from, with_position}
+use Rattle.bt_lines.specs.model.Lines.{lines_from, value_of}
+use Rattle.bt_sweep.specs.model.Hits.{has_fraction, hits, is_enough, strands_agree}
+use Rattle.bt_sweep.specs.model.Lines.{lines_for, pieces}
+use Rattle.bt_tool.specs.model.Report.{report_of}
+use Rattle.std.specs.Fmt.{digits}
+use Rattle.bt_laws.proofs.worked.strands.Goals as goal
+
+pub returns-clause-both_plus : goal.returns-clause-both_plus
+unfolding report_of lines_from value_of good_from line_says record_of digits lines_for hits strands_agree is_enough has_fraction stretches_from with_position pieces
+returns-clause-both_plus c = refl
+
+pub returns-clause-both_minus : goal.returns-clause-both_minus
+unfolding report_of lines_from value_of good_from line_says record_of digits lines_for hits strands_agree is_enough has_fraction stretches_from with_position pieces
+returns-clause-both_minus c = refl
+
+pub returns-clause-plus_beside_minus : goal.returns-clause-plus_beside_minus
+unfolding report_of lines_from value_of good_from line_says record_of digits lines_for hits strands_agree is_enough has_fraction stretches_from with_position pieces
+returns-clause-plus_beside_minus c = refl
+
+pub returns-clause-minus_beside_plus : goal.returns-clause-minus_beside_plus
+unfolding report_of lines_from value_of good_from line_says record_of digits lines_for hits strands_agree is_enough has_fraction stretches_from with_position pieces
+returns-clause-minus_beside_plus c = refl
+
+pub returns-clause-without_a_strand : goal.returns-clause-without_a_strand
+unfolding report_of lines_from value_of good_from line_says record_of digits lines_for hits strands_agree is_enough has_fraction stretches_from with_position pieces
+returns-clause-without_a_strand c = refl
+
+pub returns-clause-none_beside_a_point : goal.returns-clause-none_beside_a_point
+unfolding report_of lines_from value_of good_from line_says record_of digits lines_for hits strands_agree is_enough has_fraction stretches_from with_position pieces
+returns-clause-none_beside_a_point c = refl
+
+pub returns-clause-none_beside_plus : goal.returns-clause-none_beside_plus
+unfolding report_of lines_from value_of good_from line_says record_of digits lines_for hits strands_agree is_enough has_fraction stretches_from with_position pieces
+returns-clause-none_beside_plus c = refl
+
+pub returns-clause-minus_beside_none : goal.returns-clause-minus_beside_none
+unfolding report_of lines_from value_of good_from line_says record_of digits lines_for hits strands_agree is_enough has_fraction stretches_from with_position pieces
+returns-clause-minus_beside_none c = refl
+
+pub returns-clause-not_asked : goal.returns-clause-not_asked
+unfolding report_of lines_from value_of good_from line_says record_of digits lines_for hits strands_agree is_enough has_fraction stretches_from with_position pieces
+returns-clause-not_asked c = refl
+
+pub returns-clause-left_by_the_other : goal.returns-clause-left_by_the_other
+unfolding report_of lines_from value_of good_from line_says record_of digits lines_for hits strands_agree is_enough has_fraction stretches_from with_position pieces
+returns-clause-left_by_the_other c = refl
+
+pub returns-clause-cut_by_its_own : goal.returns-clause-cut_by_its_own
+unfolding report_of lines_from value_of good_from line_says record_of digits lines_for hits strands_agree is_enough has_fraction stretches_from with_position pieces
+returns-clause-cut_by_its_own c = refl
