@@ -16,7 +16,7 @@ case $name in dunekettle | */*) echo "NAME=$name is taken, or no name"; exit 1 ;
 
 # The front, and the names of bedtools that lead to it: relative links, so that a folder may be moved.
 install -D "$top/front/dunekettle" "$root/bin/dunekettle"
-sed "s|/dunekettle-bedtools\$|/$name|" "$top/front/dunekettle" > "$root/bin/dunekettle"
+sed "s|^dk_name=.*|dk_name=$name|" "$top/front/dunekettle" > "$root/bin/dunekettle"
 mkdir -p "$root/lib/dunekettle/bin"
 for file in judge.sh hints.sh check.awk help.txt; do
     install -m 644 "$top/front/$file" "$root/lib/dunekettle/$file"
