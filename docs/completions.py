@@ -5,6 +5,8 @@ zsh and fish of the program and of its front.
     docs/completions.py            sees that these files have what would be made
     docs/completions.py --write    writes them
 
+It also makes of OPTIONS.md front/instead.txt: what a hint says to write instead of an option that is marked "no".
+
 Each line of front/options.txt is a command, or an option of one: its word, its value, its default and a line of
 help. COMMANDS.md has to have a table with the same options and values for each command, and an example of each
 option; how a command is called is taken from there, and the version from CHANGELOG.md. `make install` puts its NAME
@@ -20,16 +22,20 @@ NAME = "dunekettle-bedtools"
 FRONT = "dunekettle"
 FILES = ("FILE", "GENOME", "FASTA", "BED")
 # What the front has beside the commands: its word, and what it does.
-OWN = {"help": "shows the options of a command", "check": "says whether the commands can take a file, and why not"}
+OWN = {"help": "shows the options of a command", "check": "says whether the commands can take a file, and why not",
+       "report": "says how many calls of a pipeline Dunekettle took, and why not the others"}
 # The options of `check`, as those of the commands.
 CHECK = [("-g", "GENOME", "", "the order of the chromosomes"), ("--json", "", "", "writes JSON")]
 VARIABLES = {
     "DUNEKETTLE_HINTS=0": "dunekettle gives no hints, and becomes the program",
-    "DUNEKETTLE_TELL=1": "the drop-in says which program takes a command line, and why; a path instead of 1 is a file for it",
+    "DUNEKETTLE_TELL=1": "the drop-in says which program takes a command line, and why; a path instead of 1 is a file for it, which report reads",
     "DUNEKETTLE_ALWAYS=1": "the drop-in never asks the original",
     "DUNEKETTLE_STREAMS=1": "the drop-in takes standard input and pipes as sorted BED without odd lines",
 }
 WIDTH = 80
+# What to write instead of an option of bedtools, from OPTIONS.md: a link to a recipe, or any link.
+RECIPE = re.compile(r"\[[^]]*\]\(RECIPES\.md#([^)]*)\)")
+LINK = re.compile(r"\[([^]]*)\]\([^)]*\)")
 # Where the manual page has the options.
 MAN = re.compile(r'(\.\\" docs/completions.py --write writes from here\n).*?(\.\\" to here\n)', re.DOTALL)
 
@@ -101,6 +107,7 @@ def help_text(kit, commands):
              "dunekettle help COMMAND                  the options of a command, also COMMAND --help",
              "dunekettle check FILE.. [-g GENOME] [--json]",
              "                                         whether the commands can take these files",
+             "dunekettle report FILE                   what DUNEKETTLE_TELL=FILE wrote, in all",
              "dunekettle --version                     the version, the kit and the commands", "",
              "Input is sorted by chromosome and start: LC_ALL=C sort -k1,1 -k2,2n", ""]
     calls = {command: f"{FRONT} {synopsis(command, section)}" for command, section in sections(commands).items()}
@@ -120,7 +127,39 @@ def help_text(kit, commands):
                        "commands can take them all, else 1."), ""]
     for option, value, _, text in CHECK:
         lines += wrapped(f"  {(option + ' ' + value).rstrip():<15}", text)
+    lines += ["% report", "dunekettle report FILE", "",
+              *wrapped("", "Reads the file that DUNEKETTLE_TELL names, which has a line for each call of the drop-in, and says how many "
+                       "calls there were, how many of them Dunekettle took, and why not the others. Status 1 if it has no call.")]
     return lines
+
+
+def headings():
+    """The headings of RECIPES.md, by what a link to each says."""
+    found = re.findall(r"^## (.*)$", (TOP / "docs" / "RECIPES.md").read_text(encoding="utf-8"), re.MULTILINE)
+    return {heading.lower().replace(" ", "-"): heading for heading in found}
+
+
+def advice(cell, names):
+    """A cell of OPTIONS.md as a hint: a recipe, or to leave the option out, or nothing."""
+    recipe = RECIPE.search(cell)
+    if recipe and not cell.startswith("none"):
+        return f'docs/RECIPES.md, "{names[recipe[1]]}"'
+    if cell.startswith("leave it out"):
+        return LINK.sub(r"\1", cell).replace("`", "")
+    return ""
+
+
+def instead_text():
+    """A line for each option that OPTIONS.md marks "no": the command, the option and the hint, tab-separated."""
+    names, command, lines = headings(), "", []
+    for line in (TOP / "docs" / "OPTIONS.md").read_text(encoding="utf-8").splitlines():
+        if line.startswith("## "):
+            command = line[3:]
+        elif line.startswith("| `-") and line.split(" | ")[1] == "no":
+            options, _, cell = line.strip("| ").split(" | ")
+            lines += [f"{command}\t{option}\t{advice(cell, names)}" for option in re.findall(r"`(-\w+)`", options)]
+    recipe = names["compare-with-several-files-of-b"]
+    return [*lines, f'intersect\tseveral -b\tdocs/RECIPES.md, "{recipe}"']
 
 
 def wrapped(lead, text, indent=None):
@@ -165,6 +204,7 @@ def all_words(name, commands):
     if name == FRONT:
         words["help"] = (OWN["help"], [])
         words["check"] = (OWN["check"], CHECK)
+        words["report"] = (OWN["report"], [])
     return words
 
 
@@ -185,7 +225,8 @@ def bash_file(name, commands):
                   for option, value, _, _ in options if kind_of(value) == kind]
         lines.append(f"        {' | '.join(places)}) {action} ;;")
     if name == FRONT:
-        lines += [f"        help:*) lines=({' '.join(commands)}) ;;", "        check:*) [[ $word == -* ]] || { compopt -o default; return; } ;;&"]
+        lines += [f"        help:*) lines=({' '.join(commands)}) ;;", "        report:*) compopt -o default; return ;;",
+                  "        check:*) [[ $word == -* ]] || { compopt -o default; return; } ;;&"]
     for command, (_, options) in words.items():
         if options:
             lines.append(f"        {command}:*) lines=(")
@@ -210,7 +251,7 @@ def zsh_file(name, commands):
     lines += [")", "if ((CURRENT == 2)); then", "    _describe command commands", "    return", "fi",
               "local command=$words[2]", "shift words", "((CURRENT--))", "case $command in"]
     if name == FRONT:
-        lines += ["help)", "    _describe command commands ;;"]
+        lines += ["help)", "    _describe command commands ;;", "report)", "    _files ;;"]
     for command, (_, options) in words.items():
         if options:
             lines += [f"{command})", "    _arguments \\"]
@@ -236,7 +277,7 @@ def fish_file(name, commands):
         lines.append(f"complete -c {name} -n __fish_use_subcommand -a {command} -d {fish_quoted(purpose)}")
     if name == FRONT:
         lines += [f"complete -c {name} -n '__fish_seen_subcommand_from help' -a '{' '.join(commands)}'",
-                  f"complete -c {name} -n '__fish_seen_subcommand_from check' -F"]
+                  f"complete -c {name} -n '__fish_seen_subcommand_from check report' -F"]
     for command, (_, options) in words.items():
         for option, value, _, text in options:
             how = {"file": " -r -F", "strand": " -x -a '+ -'", "other": " -x", "none": ""}[kind_of(value)]
@@ -264,7 +305,7 @@ def fish_quoted(text):
 
 def made(kit, commands):
     """Each file and its text."""
-    files = {"front/help.txt": help_text(kit, commands)}
+    files = {"front/help.txt": help_text(kit, commands), "front/instead.txt": instead_text()}
     for name in (NAME, FRONT):
         for shell, lines in (("bash", bash_file), ("zsh", zsh_file), ("fish", fish_file)):
             files[f"completions/{name}.{shell}"] = lines(name, commands)

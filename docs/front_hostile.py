@@ -34,7 +34,9 @@ FILES = {
     "cr.bed": b"chr1\t2\t6\rchr1\t4\t9\r", "spaces.bed": b"chr1 2 6\n", "names.bed": b"name\tstart\tend\nchr1\t2\t6\n",
     "bare.bed": b"1\t2\t6\n", "natural.bed": b"chr2\t2\t6\nchr10\t2\t6\n", "cram.cram": b"CRAM\3\0", "a\nb.bed": b"chr1\t2\t6\n",
     "dot.bed": b"chr1\t2\t6\ta\t0\t.\n", "short.bed": b"chr1\t2\t6\nchr1\t5\n", "no_base.bed": b"chr1\t5\t5\n",
-    "crlf.bed": b"chr1\t2\t6\r\n\r\n", "s.fa": b">chr1\nACGT\n", "past_end.bed": b"chr1\t25\t30\n",
+    "crlf.bed": b"chr1\t2\t6\r\n\r\n", "s.fa": b">chr1\nACGT\n", "past_end.bed": b"chr1\t25\t30\n", "turned.bed": b"chr1\t9\t5\n",
+    "described.fa": b">chr1 a description\nACGT\n", "two.fa": b">chr1\nACGTACGT\n>chr2\nACGTACGT\n", "back.bed": b"chr2\t2\t6\nchr1\t2\t6\n",
+    "f2.bed": b"chr7\t2\t6\n",
     "cut.fa": b">chr1\nACGT", "cut.bed": b"chr1\t1\t2\n", "zero_pos.sam": b"@SQ\tSN:chr1\tLN:20\nr\t0\tchr1\t0\t9\t4M\t*\t0\t0\t*\t*\n", "s.fa.fai": b"chr1\t4\t6\t4\t5\n", "stdin": b"chr1\t2\t6\n", "-x": b"chr1\t2\t6\n",
 }
 # The words after `dunekettle`, the fault that the program reports, and a part of the hint.
@@ -58,15 +60,55 @@ HINTS = [
     ("merge -i cr.bed", "cr.bed:1: end is not a number", "its lines end with CR alone: tr"),
     ("merge -i spaces.bed", "spaces.bed:1: too few columns", "its columns are separated by spaces: tr"),
     ("merge -i short.bed", "short.bed:2: too few columns", "line 2 is: chr1 5"),
-    ("merge -i no_base.bed", "no_base.bed:1: start is not below end", "left out by awk -F'\\t' '$2 + 0 < $3 + 0' no_base.bed"),
+    ("merge -i no_base.bed", "no_base.bed:1: start is not below end", "left out by awk -F'\\t' '$2 + 0 != $3 + 0' no_base.bed"),
     ("maskfasta -fi s.fa -bed unsorted.bed", "unsorted.bed:2: record is out of order", "is that of the sequences: samtools faidx s.fa; awk"),
     ("bamtobed -i f.bed", "f.bed:1: too few columns", "line 1 is: chr1 2 6"),
     ("merge -i names.bed", "names.bed:1: start is not a number", "its first line names the columns: tail -n +2"),
     ("merge -i bare.bed -g g.txt", "bare.bed:1: chromosome is not in the genome file", "in g.txt 1 is there as chr1"),
     ("merge -i none.bed", "none.bed: cannot be opened", "none.bed isn't there"),
     ("merge -i .", ".:1: reading failed", ". is a directory"),
-    ("intersect -a f.bed", None, "usage: dunekettle intersect -a FILE -b FILE"),
+    ("merge -i turned.bed", "turned.bed:1: start is not below end", "line 1 is chr1 9 5, and has its start after its end"),
+    ("maskfasta -fi s.fa -bed bare.bed", "bare.bed:1: no such sequence from here on", "in s.fa 1 is there as chr1"),
+    ("maskfasta -fi s.fa -bed f2.bed", "f2.bed:1: no such sequence from here on", "in s.fa chr7 is not there, but chr1 .."),
+    ("maskfasta -fi described.fa -bed bare.bed", "bare.bed:1: no such sequence from here on", "in described.fa 1 is there as chr1"),
+    ("maskfasta -fi two.fa -bed back.bed", "back.bed:2: no such sequence from here on", "chr1 2 6 comes after chr2 2 6; the order in use is that of the sequences"),
+    ("complement -i bare.bed -g g.txt", "bare.bed:1: chromosome is not in the genome file", "in g.txt 1 is there as chr1"),
+    ("complement -i f.bed -g f.bed", "f.bed:2: chromosome is repeated", "f.bed is BED. -g takes names and lengths"),
+    ("genomecov -bg -i f2.bed -g bare.bed", "f2.bed:1: chromosome is not in the genome file", "bare.bed is BED. -g takes names and lengths"),
+    ("complement -i f.bed -g s.fa", "s.fa:1: too few columns", "s.fa is FASTA. -g takes names and lengths: a genome file or a .fai index, as samtools faidx s.fa makes it"),
+    ("intersect -a f.bed", None, "intersect needs -b FILE"),
+    ("subtract", None, "subtract needs -a FILE, and -b FILE"),
+    ("complement -i f.bed", None, "complement needs -g GENOME"),
+    ("genomecov -i f.bed -g g.txt", None, 'genomecov needs -bg or -bga (the histogram: docs/RECIPES.md, "Write depths in another form")'),
+    ("genomecov", None, "genomecov needs -g GENOME, and -bg or -bga"),
+    ("maskfasta -fi s.fa", None, "maskfasta needs -bed BED"),
+    ("intersect -a f.bed -b f.bed -u -v", None, "leave out one of -u, -v"),
+    ("intersect -a f.bed -b f.bed -wa -wo", None, "leave out one of -wo, -wa"),
+    ("merge -i f.bed -s -S +", None, "leave out one of -s, -S"),
+    ("maskfasta -fi s.fa -bed f.bed -soft -mc x", None, "leave out one of -soft, -mc"),
+    ("maskfasta -fi s.fa -bed f.bed -fo s.fa", None, "-fo may not be the name of an input"),
+    ("intersect -a - -b -", None, "write one of them to a file first"),
+    ("merge f.bed", None, "write -i f.bed"),
+    ("merge -d 5 f.bed", None, "write -i f.bed"),
+    ("bamtobed sam.sam", None, "write -i sam.sam"),
+    ("intersect f.bed f2.bed", None, "write -a f.bed"),
+    ("intersect -a f.bed f2.bed", None, "write -b f2.bed"),
+    ("maskfasta s.fa f.bed", None, "write -fi s.fa"),
+    ("merge -i f.bed f2.bed", None, "-i takes one file"),
+    ("merge none.bed", None, "usage: dunekettle merge"),
+    ("intersect -a f.bed -b f.bed f2.bed", None, 'intersect has no several -b: docs/RECIPES.md, "Compare with several files of B", does it; or bedtools'),
+    ("subtract -a f.bed -b f.bed f2.bed", None, "-b takes one file"),
+    ("merge -i f.bed -d x", None, "-d takes 0 to 999999999999"),
+    ("merge -i f.bed -d -3", None, 'docs/RECIPES.md, "Merge by an overlap"'),
+    ("intersect -a f.bed -b f.bed -f 1.5", None, "-f takes a fraction from 0 to 1, with nine decimals at most, as 0.5"),
+    ("subtract -a f.bed -b f.bed -held x", None, "-held takes 0 to 999999999999"),
+    ("genomecov -strand x -bg -i f.bed -g g.txt", None, "-strand takes + or -"),
+    ("maskfasta -fi s.fa -bed f.bed -mc xy", None, "-mc takes one printable ASCII character"),
+    ("merge -i", None, "usage: dunekettle merge"),
+    ("merge -x", None, "usage: dunekettle merge"),
     ("marge", None, "see dunekettle --help"),
+    ("sort -i f.bed", None, "LC_ALL=C sort -k1,1 -k2,2n FILE"),
+    ("closest -a f.bed -b f.bed", None, "closest is a command of bedtools alone; the drop-in"),
 ]
 
 
@@ -99,11 +141,26 @@ def try_hints(place, folder, count):
             count.expect(f"the advice for {line}: {script}", (True, "", 0), (run[0].startswith(b"chr1"), run[1], run[2]))
         quiet = call([front, *line.split()], folder, environment(DUNEKETTLE_HINTS="0"))
         count.expect(f"no hint of {line}", plain, quiet)
+    try_options(front, folder, count)
     output, said, status = call([front, "merge"], folder, environment(), input=FILES["unsorted.bed"])
     count.expect("the hint of a stream", (1, True), (status, "LC_ALL=C sort -k1,1 -k2,2n" in said))
     if os.getuid():
         (folder / "closed.bed").touch(0o200)
         count.expect("no permission", True, "may not read" in call([front, "merge", "-i", "closed.bed"], folder, environment())[1])
+
+
+def try_options(front, folder, count):
+    """Each option that OPTIONS.md marks "no" has as its hint the recipe that the page names, or to leave it out, or bedtools."""
+    page, rows = (TOP / "docs" / "OPTIONS.md").read_text(encoding="utf-8"), 0
+    for part in page.split("\n## ")[1:]:
+        command = part.split("\n", 1)[0]
+        for words, cell in re.findall(r"^\| (.*`-.*) \| no \| (.*) \|$", part, re.MULTILINE):
+            wanted = "leave it out: " if cell.startswith("leave") else "docs/RECIPES.md" if re.match(r"(?!none).*RECIPES", cell) else "has no {}: bedtools"
+            for option in re.findall(r"`(-\w+)`", words) if words.startswith("`") else []:
+                rows += 1
+                said = call([front, command, option], folder, environment())[1].splitlines()[-1]
+                count.expect(f"the hint of {command} {option}", True, said.startswith("dunekettle: ") and wanted.format(option) in said)
+    count.expect("options of OPTIONS.md", True, rows > 50)
 
 
 def try_help(place, folder, count):
@@ -127,8 +184,8 @@ def try_help(place, folder, count):
                               ("numbers.vcf", "VCF", None), ("gff.gff", "GFF", None), ("sam.sam", "SAM", None), ("utf16.bed", "UTF-16", None),
                               ("mark.bed", "byte order mark", None), ("cr.bed", "CR", None), ("s.fa", "FASTA", None), ("g.txt", "genome file", None), ("s.fa.fai", "genome file", None), ("./stdin", "BED", "bytes")):
         count.expect(f"check: {name}", (kind, order), (reports[name]["kind"], reports[name]["order"]))
-    count.expect("check: what is taken", ["./stdin", "a\nb.bed", "bare.bed", "crlf.bed", "cut.bed", "cut.fa", "dot.bed", "f.bed", "g.txt", "past_end.bed", "s.fa", "s.fa.fai",
-                                             "sam.sam", "zero_pos.sam"],
+    count.expect("check: what is taken", ["./stdin", "a\nb.bed", "bare.bed", "crlf.bed", "cut.bed", "cut.fa", "described.fa", "dot.bed", "f.bed", "f2.bed", "g.txt", "past_end.bed",
+                                             "s.fa", "s.fa.fai", "sam.sam", "two.fa", "zero_pos.sam"],
                  sorted(name for name, report in reports.items() if report["taken"]))
     count.expect("check: strands and lines", (1, 1, 2), (reports["dot.bed"]["without_strand"], reports["crlf.bed"]["blank_lines"], reports["crlf.bed"]["cr_lf"]))
     output, _, status = call([front, "check", "natural.bed", "-g", "g.txt"], folder, environment())
