@@ -15,6 +15,7 @@ import re
 import resource
 import shutil
 import signal
+import socket
 import subprocess
 import sys
 import tempfile
@@ -292,7 +293,7 @@ def try_paths(place, folder, count):
             is_needed = "help" not in part and "hints" not in part
             output, said, status = call(["bedtools", "merge", "-i", "f.bed"], folder, env)
             count.expect(f"{part} {how}", (b"merge\0-i\0f.bed\0", "", 7) if is_needed else (MERGED, "", 0), (output, said, status))
-            count.expect(f"{part} {how}: --version", 0, call(["bedtools", "--version"], folder, env)[2])
+            count.expect(f"{part} {how}: --version", (b"--version\0", "", 7), call(["bedtools", "--version"], folder, env))
             if "bedtools" not in part and how != "half":
                 status = call([broken / "bin" / "dunekettle", "merge", "-i", "unsorted.bed"], folder, env)[2]
                 count.expect(f"{part} {how}: a fault", 1, status)
@@ -301,6 +302,16 @@ def try_paths(place, folder, count):
     env = {**environment(), "PATH": f"{bare}:{tools}:{says}"}
     count.expect("the script alone", (b"merge\0-i\0f.bed\0", "", 7), call(["bedtools", "merge", "-i", "f.bed"], folder, env))
     count.expect("the script alone, mergeBed", (b"merge\0-i\0f.bed\0", "", 7), call(["mergeBed", "-i", "f.bed"], folder, env))
+    # A copy finds the installation by the program on PATH, or says why not.
+    shutil.copy(place / "bin" / "dunekettle", bare / "dk")
+    with_it = {**env, "PATH": f"{bare}:{place / 'bin'}:{tools}:{says}"}
+    count.expect("a copy, and the program on PATH", (MERGED, "", 0), call(["bedtools", "merge", "-i", "f.bed"], folder, with_it))
+    count.expect("a copy of the front", (MERGED, "", 0), call(["dk", "merge", "-i", "f.bed"], folder, with_it))
+    count.expect("its help", True, call(["dk", "help", "merge"], folder, with_it)[0].startswith(b"dunekettle merge "))
+    for words, more in ((["dk", "merge", "-i", "f.bed"], [says]), (["dk", "--version"], [says]), (["dk", "check", "f.bed"], [says]), (["bedtools", "merge", "-i", "f.bed"], []),
+                        (["mergeBed", "-h"], []), (["bedtools", "sort"], [])):
+        output, said, status = call(words, folder, {**env, "PATH": os.pathsep.join(map(str, [bare, tools, *more]))})
+        count.expect(f"a copy alone: {words}", (b"", 127, 1, True), (output, status, len(said.splitlines()), f"{words[0]} is a copy, and there is no dunekettle-bedtools on PATH" in said))
     shown = {**environment(), "line": "mine", "version": "mine", "PATH": os.pathsep.join(map(str, [drop_in(place), top / "shows", tools]))}
     output = call(["bedtools", "--version"], folder, shown)[0]
     count.expect("the environment of --version", (True, True), (b"\nline=mine\n" in b"\n" + output, b"\nversion=mine\n" in b"\n" + output))
@@ -416,9 +427,10 @@ def try_streams(place, folder, count):
 
 def try_signals(place, folder, count):
     """A signal ends a call as it ends the program, and nothing of it goes on."""
-    for name, words, env in (("program", [place / "bin" / "dunekettle-bedtools"], environment()), ("dunekettle", [place / "bin" / "dunekettle"], environment()),
-                             ("no hints", [place / "bin" / "dunekettle"], environment(DUNEKETTLE_HINTS="0")),
-                             ("bedtools", [drop_in(place) / "bedtools"], environment(drop_in(place), DUNEKETTLE_ALWAYS="1"))):
+    ways = (("program", [place / "bin" / "dunekettle-bedtools"], environment()), ("dunekettle", [place / "bin" / "dunekettle"], environment()),
+            ("no hints", [place / "bin" / "dunekettle"], environment(DUNEKETTLE_HINTS="0")),
+            ("bedtools", [drop_in(place) / "bedtools"], environment(drop_in(place), DUNEKETTLE_ALWAYS="1")))
+    for name, words, env in ways:
         for sent in (signal.SIGTERM, signal.SIGHUP, signal.SIGINT, signal.SIGQUIT):
             child = subprocess.Popen([*words, "merge"], cwd=folder, env=env, stdin=subprocess.PIPE, stdout=subprocess.PIPE, stderr=subprocess.DEVNULL)
             child.stdin.write(b"chr1\t2\t6\n")
@@ -435,6 +447,87 @@ def try_signals(place, folder, count):
         (folder / "many.bed").write_bytes(9999 * b"chr1\t2\t6\n")
         limited = shell(f"ulimit -c 0; (ulimit -f 1; exec {words[0]} intersect -sorted -u -a many.bed -b f.bed > out.bed); echo $?", folder, env)[0]
         count.expect(f"{name} after a file that is too large", b"153\n", limited)
+
+
+def try_checks(place, folder, count):
+    """A signal ends the drop-in in its check, and each process of it."""
+    slow = folder.parent / "slow"
+    slow.mkdir()
+    # An awk that waits beside a child of its own.
+    (slow / "awk").write_text("#!/bin/sh\nsleep 60 &\nsleep 60\n", encoding="utf-8")
+    (slow / "awk").chmod(0o755)
+    for words in (["sh"], ["dash"], ["bash", "--posix"], ["busybox", "sh"]):
+        for sent in (signal.SIGTERM, signal.SIGHUP, signal.SIGINT):
+            env = environment(drop_in(place), slow, SLOW_CHECK=str(folder))
+            child = subprocess.Popen([shutil.which(words[0]), *words[1:], drop_in(place) / "bedtools", "merge", "-i", "f.bed"], cwd=folder, env=env, stdout=subprocess.PIPE,
+                                     stderr=subprocess.DEVNULL)
+            time.sleep(0.3)
+            child.send_signal(sent)
+            status = child.wait(timeout=20)
+            time.sleep(0.1)
+            count.expect(f"{words}: {sent.name} in the check", (-sent, []), (status, with_variable(f"SLOW_CHECK={folder}")))
+
+
+def with_variable(line):
+    """The processes that have a variable in their environment."""
+    found = []
+    for process in Path("/proc").glob("[0-9]*"):
+        try:
+            if line.encode() in (process / "environ").read_bytes().split(b"\0"):
+                found.append(process.name)
+        except OSError:
+            pass
+    return found
+
+
+def try_gone_readers(place, folder, count):
+    """A reader that goes away ends a call of the drop-in by SIGPIPE, silently, as it ends bedtools."""
+    (folder / "long.bed").write_text("".join(f"chr1\t{9 * n}\t{9 * n + 5}\n" for n in range(99_999)), encoding="utf-8")
+    (folder / "long.fa").write_text(">chr1\n" + 99_999 * "ACGTACGT\n", encoding="utf-8")
+    env = environment(drop_in(place))
+    lines = ["merge -i long.bed", "intersect -u -a long.bed -b long.bed", "complement -i long.bed -g far.txt", "maskfasta -fi long.fa -bed f.bed -fo /dev/stdout"]
+    (folder / "far.txt").write_bytes(b"chr1\t9000000\n")
+    for words in (["sh"], ["dash"], ["bash", "--posix"], ["busybox", "sh"], ["mksh"], ["yash"]):
+        if not shutil.which(words[0]):
+            continue
+        program = " ".join([shutil.which(words[0]), *words[1:], str(drop_in(place) / "bedtools")])
+        for line in lines:
+            for more in ({}, {"DUNEKETTLE_ALWAYS": "1"}):
+                found = call(["bash", "-c", f"{program} {line} | head -n 1 > /dev/null; exit ${{PIPESTATUS[0]}}"], folder, {**env, **more})
+                count.expect(f"a reader that is gone: {program} {line}", (b"", "", 141), found)
+    # A signal that is ignored ends nothing: the program says what it couldn't do.
+    found = call(["bash", "-c", f"trap '' PIPE; bedtools {lines[0]} | head -n 1 > /dev/null; exit ${{PIPESTATUS[0]}}"], folder, {**env, "DUNEKETTLE_ALWAYS": "1"})
+    count.expect("a reader that is gone, SIGPIPE ignored", (b"", "bedtools merge: writing failed\n", 1), found)
+    # A socket is as a pipe. What isn't read before the reader goes away has no status of its own.
+    ours, theirs = socket.socketpair()
+    child = subprocess.Popen(["bedtools", *lines[0].split()], cwd=folder, env=env, stdout=theirs, stderr=subprocess.PIPE)
+    theirs.close()
+    ours.recv(99)
+    ours.close()
+    count.expect("a socket that is gone", (b"", -signal.SIGPIPE), (child.stderr.read(), child.wait()))
+    # Where the output goes elsewhere, nothing is written to the pipe.
+    found = shell("bedtools maskfasta -fi long.fa -bed f.bed -fo /dev/full | cat", folder, {**env, "DUNEKETTLE_ALWAYS": "1"})
+    count.expect("a full -fo beside a pipe", (b"", "bedtools maskfasta: writing failed\n"), found[:2])
+    found = shell("bedtools merge -i long.bed | cat > /dev/null; bedtools merge -i f.bed | cat", folder, env)
+    count.expect("a reader that stays", (MERGED, "", 0), found)
+
+
+def try_report(place, folder, count):
+    """What `report` says of the file that DUNEKETTLE_TELL names, and of one that has no call."""
+    front, told = place / "bin" / "dunekettle", folder.parent / "report.txt"
+    env = {**environment(), "DUNEKETTLE_TELL": str(told), "PATH": os.pathsep.join(map(str, [drop_in(place), folder.parent / "says", folder.parent / "tools"]))}
+    for line in ("merge -i f.bed", "merge -i unsorted.bed", "merge -i natural.bed", "merge -i f.bed -c 4 -o count", "intersect -u -a f.bed -b f.bed", "sort -i f.bed", "--version"):
+        call(["bedtools", *line.split()], folder, env)
+    wanted = ("6 calls, of which 5 of the seven commands; Dunekettle took 2 of 5 (40 percent)\n  merge       1 of 4 (25 percent)\n"
+              "  intersect   1 of 1 (100 percent)\nwhy bedtools took the others:\n       2  merge: record is out of order\n       1  merge: unknown option: -c\n")
+    count.expect("report", (wanted.encode(), "", 0), call([front, "report", told], folder, env))
+    for name in ("mawk", "gawk", "busybox"):
+        if shutil.which(name):
+            words = [name, "awk"][: 1 + (name == "busybox")]
+            count.expect(f"report by {name}", wanted.encode(), call([*words, "-f", TOP / "front" / "report.awk"], folder, environment(), input=told.read_bytes())[0])
+    for words, status in (([], 2), (["none"], 2), (["."], 2), ([told, told], 2), (["f.bed"], 1)):
+        output, said, found = call([front, "report", *words], folder, env)
+        count.expect(f"report {words}", (b"", status, 1), (output, found, len(said.splitlines())))
 
 
 def try_rest(place, folder, count):
@@ -460,7 +553,7 @@ def try_rest(place, folder, count):
     count.expect("a file that changes", (b"", "bedtools merge: changes.bed:2: record is out of order\n", 1), found)
     for name, there in (("missing", top / "nowhere"), ("a file", folder / "f.bed")):
         found = call([place / "bin" / "dunekettle", "merge", "-i", "unsorted.bed"], folder, environment(TMPDIR=str(there)))
-        count.expect(f"temporary folder {name}", (b"", "bedtools merge: unsorted.bed:2: record is out of order\n", 1), found)
+        count.expect(f"temporary folder {name}", (2, 1), (len(found[1].splitlines()), found[2]))
     temporary = top / "temporary"
     temporary.mkdir()
     env = environment(drop_in(place), TMPDIR=str(temporary))
@@ -584,6 +677,9 @@ def main():
         try_names(place, folder, count)
         try_streams(place, folder, count)
         try_signals(place, folder, count)
+        try_checks(place, folder, count)
+        try_gone_readers(place, folder, count)
+        try_report(place, folder, count)
         try_rest(place, folder, count)
         try_awks(place, folder, count)
         try_page(place, folder, count)
