@@ -10,9 +10,10 @@ PATH of a script: there `bedtools` fails. Both are run by bash over files of eac
 a genome file over files in natural order too; a kind over which bedtools itself ends with an error is skipped. If a
 line below the block begins with `Not the same over`, the kinds that it names must differ. The recipes with the words
 exchanged that the page names, the options that are left out, and the command lines that stay as they are, are tried
-in the same way; so is the block that compares the two programs, with both on PATH. With words, only the recipes are
-run whose command lines have all of them. Ends with 1 if one differs, or a script is longer or wider than a page
-should have it, and with 0 and a word if there is no such bedtools.
+in the same way; so is the block that compares the two programs, with both on PATH. The histogram is tried over a genome
+of 3,100,000,000 bases too, by mawk, gawk and the awk of busybox. With words, only the recipes are run whose command
+lines have all of them. Ends with 1 if one differs, or a script is longer or wider than a page should have it, and
+with 0 and a word if there is no such bedtools.
 """
 
 import gzip
@@ -94,6 +95,14 @@ VARIANTS = [
     ("-a genes.gff -b b.bed -u", ["-u", "-wa"], ["-u |", "-wa |"]),
     ("-a calls.vcf -b b.bed -u", ["-u", "-v"], ["-u |", "-v |"]),
 ]
+# The histogram of a genome of 3,100,000,000 bases in 310 chromosomes, of which one has features. bedtools 2.30.0 wrote it
+# in 154 seconds of processor, so it stands here. Then the awks that have to write it, and the command line.
+WHOLE_GENOME = ("".join(f"chr3\t{row}\n" for row in ("0\t9009300\t10000000\t0.90093", "1\t707900\t10000000\t0.07079", "2\t282800\t10000000\t0.02828"))
+                + "".join(f"chr{number}\t0\t10000000\t10000000\t1\n" for number in range(1, 311) if number != 3)
+                + "".join(f"genome\t{row}\n" for row in ("0\t3099009300\t3100000000\t0.99968", "1\t707900\t3100000000\t0.000228355",
+                                                       "2\t282800\t3100000000\t9.12258e-05")))
+AWKS = ("mawk", "gawk", "busybox awk")
+HISTOGRAM = "bedtools genomecov -i a.bed -g genome.txt"
 # Options that change no output, and are left out.
 LEFT_OUT = [
     ("merge -bed -iobuf 1M -i a.bed", "merge -i a.bed"),
@@ -303,6 +312,29 @@ def all_recipes():
         yield f"bedtools {words}", [f"dunekettle-bedtools {words}"], ("no sign", "three columns")
 
 
+def whole_genome_differs(page_recipes, folders):
+    """Runs the recipe of the histogram over a whole genome by each awk, and returns how many differ."""
+    folder, wrong = folders["whole genome"], 0
+    Path(folder).mkdir()
+    Path(folder, "genome.txt").write_text("".join(f"chr{number}\t10000000\n" for number in range(1, 311)), encoding="utf-8")
+    Path(folder, "a.bed").write_text("".join(f"chr3\t{start}\t{start + 900}\n" for start in range(0, 990_000, 700)), encoding="utf-8")
+    script = next("\n".join(lines) for command, lines, _ in page_recipes if command == HISTOGRAM)
+    for awk in AWKS:
+        name, *words = awk.split()
+        if not shutil.which(name):
+            print(f"no {name}: passed over")
+            continue
+        made = f"{folder}/{name}"
+        Path(made).mkdir()
+        Path(made, "awk").write_text("#!/bin/sh\nexec " + " ".join([shutil.which(name), *words, '"$@"\n']), encoding="utf-8")
+        Path(made, "awk").chmod(0o755)
+        ours, error, status = wrote(f"{folders['functions']}\n{script}", folder, f"{made}:{folders['ours']}")
+        if (ours, status) != (WHOLE_GENOME.encode(), 0):
+            wrong += 1
+            print(f"the histogram of a whole genome by {awk}, status {status}:\n{short(ours)}    {error.strip()}")
+    return wrong
+
+
 def comparisons_differ(page, folders):
     """Runs the block that compares both programs over each kind, and returns how many end with another status than 0."""
     scripts = ["\n".join(lines) for lines, _ in blocks(page) if lines[0].startswith(BOTH)]
@@ -343,10 +375,12 @@ def main():
             folders[kind] = f"{top}/{kind}"
             Path(folders[kind]).mkdir()
             fill(folders[kind], kind)
+        folders["whole genome"] = f"{top}/whole genome"
         chosen = [recipe for recipe in all_recipes() if all(word in recipe[0] for word in sys.argv[1:])]
         wrong = sum(tried(command, "\n".join(lines), differ, folders) for command, lines, differ in chosen)
         if not sys.argv[1:]:
             wrong += comparisons_differ(page, folders)
+            wrong += whole_genome_differs(list(recipes(page)), folders)
     for first in too_large(page):
         wrong += 1
         print(f"{first}: more than {LINES} lines, or wider than {COLUMNS} columns")
