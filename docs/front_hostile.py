@@ -450,22 +450,27 @@ def try_signals(place, folder, count):
 
 
 def try_checks(place, folder, count):
-    """A signal ends the drop-in in its check, and each process of it."""
-    slow = folder.parent / "slow"
-    slow.mkdir()
-    # An awk that waits beside a child of its own.
-    (slow / "awk").write_text("#!/bin/sh\nsleep 60 &\nsleep 60\n", encoding="utf-8")
-    (slow / "awk").chmod(0o755)
-    for words in (["sh"], ["dash"], ["bash", "--posix"], ["busybox", "sh"]):
-        for sent in (signal.SIGTERM, signal.SIGHUP, signal.SIGINT):
-            env = environment(drop_in(place), slow, SLOW_CHECK=str(folder))
-            child = subprocess.Popen([shutil.which(words[0]), *words[1:], drop_in(place) / "bedtools", "merge", "-i", "f.bed"], cwd=folder, env=env, stdout=subprocess.PIPE,
-                                     stderr=subprocess.DEVNULL)
-            time.sleep(0.3)
+    """A signal ends the drop-in in its check, whenever it comes, and each process of it."""
+    with (folder / "checked.bed").open("w", encoding="utf-8") as file:
+        file.writelines(f"chr1\t{9 * n}\t{9 * n + 5}\ta name\t0\t{'+-'[n % 2]}\n" for n in range(800_000))
+    mark = f"SLOW_CHECK={folder}"
+    env = environment(drop_in(place), SLOW_CHECK=str(folder))
+    lines = ("intersect -s -u -a checked.bed -b checked.bed", "genomecov -bg -scale 2 -i checked.bed -g far.txt", "merge -i <(cat checked.bed)")
+    (folder / "far.txt").write_bytes(b"chr1\t9000000\n")
+    for words in (["dash"], ["bash", "--posix"], ["busybox", "sh"]):
+        if not shutil.which(words[0]):
+            continue
+        for number, line in enumerate(lines * 4):
+            sent = (signal.SIGTERM, signal.SIGHUP, signal.SIGINT)[number // 3 % 3]
+            script = f"exec {' '.join(words)} {drop_in(place) / 'bedtools'} {line}"
+            # Nobody reads what it writes, so that it doesn't end by itself.
+            child = subprocess.Popen(["bash", "-c", script], cwd=folder, env=env, stdout=subprocess.PIPE, stderr=subprocess.DEVNULL)
+            time.sleep(0.02 + 0.06 * number)
             child.send_signal(sent)
-            status = child.wait(timeout=20)
-            time.sleep(0.1)
-            count.expect(f"{words}: {sent.name} in the check", (-sent, []), (status, with_variable(f"SLOW_CHECK={folder}")))
+            status, begun = child.wait(timeout=20), time.monotonic()
+            while (left := with_variable(mark)) and time.monotonic() - begun < 1:
+                time.sleep(0.02)
+            count.expect(f"{words}: {sent.name} in the check of {line}", (-sent, []), (status, left))
 
 
 def with_variable(line):

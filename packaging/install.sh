@@ -18,8 +18,8 @@ case $name in dunekettle | */*) echo "NAME=$name is taken, or no name"; exit 1 ;
 install -D "$top/front/dunekettle" "$root/bin/dunekettle"
 sed "s|^dk_name=.*|dk_name=$name|" "$top/front/dunekettle" > "$root/bin/dunekettle"
 mkdir -p "$root/lib/dunekettle/bin"
-for file in judge.sh hints.sh usage.sh check.awk report.awk help.txt instead.txt; do
-    install -m 644 "$top/front/$file" "$root/lib/dunekettle/$file"
+for file in "$top"/front/*.sh "$top"/front/*.awk "$top/front/help.txt" "$top/front/instead.txt"; do
+    install -m 644 "$file" "$root/lib/dunekettle/${file##*/}"
 done
 for link in bedtools mergeBed complementBed intersectBed subtractBed genomeCoverageBed maskFastaFromBed bamToBed; do
     ln -sf ../../../bin/dunekettle "$root/lib/dunekettle/bin/$link"
