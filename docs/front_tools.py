@@ -57,11 +57,11 @@ def environment(*first, **more):
 
 def call(words, folder, env, **how):
     """Runs a command, and gives its output, what it said, and its status."""
-    how = {"stdin": subprocess.DEVNULL, **how}
+    how = {"stdin": subprocess.DEVNULL, "timeout": 120, **how}
     if "input" in how:
         del how["stdin"]
     done = subprocess.run([*map(os.fspath, words)], cwd=folder, env=env, stdout=subprocess.PIPE, stderr=subprocess.PIPE,
-                          check=False, timeout=120, **how)
+                          check=False, **how)
     return done.stdout, done.stderr.decode(errors="replace"), done.returncode
 
 
