@@ -5,7 +5,8 @@ import random
 import subprocess
 from pathlib import Path
 
-SIZES = {"chr1": 60_000_000, "chr2": 50_000_000, "chr3": 40_000_000, "chr10": 30_000_000, "chr11": 24_000_000, "chrX": 32_000_000}
+SIZES = {"chr1": 60_000_000, "chr2": 58_000_000, "chr3": 52_000_000, "chr4": 50_000_000, "chr5": 48_000_000, "chr6": 46_000_000, "chr10": 42_000_000,
+         "chr11": 40_000_000, "chr12": 36_000_000, "chrX": 50_000_000}
 SMALL = {"chr1": 120_000, "chr10": 60_000, "chr2": 90_000}
 
 
@@ -22,11 +23,12 @@ def by_bytes(rows):
 
 def spread(draw, count, shortest, longest):
     """Features at random places."""
+    chromosomes = list(SIZES)
     for number in range(count):
-        chromosome = draw.choice(list(SIZES))
-        length = draw.randrange(shortest, longest)
-        start = draw.randrange(SIZES[chromosome] - length)
-        yield number, chromosome, start, start + length, draw.choice("+-")
+        chromosome = chromosomes[int(draw.random() * len(chromosomes))]
+        length = shortest + int(draw.random() * (longest - shortest))
+        start = int(draw.random() * (SIZES[chromosome] - length))
+        yield number, chromosome, start, start + length, "+-"[draw.random() < 0.5]
 
 
 def make_features(folder, draw):
@@ -34,11 +36,11 @@ def make_features(folder, draw):
     for sample in (1, 2, 3):
         write(folder, f"peaks_{sample}.narrowPeak", by_bytes(
             [c, s, e, f"sample{sample}", draw.randrange(1000), ".", round(draw.random() * 20, 3), -1, -1, (e - s) // 2]
-            for _, c, s, e, _ in spread(draw, 40_000, 100, 800)))
+            for _, c, s, e, _ in spread(draw, 80_000, 100, 800)))
     peaks = Path(folder, "peaks_1.narrowPeak").read_bytes()
     subprocess.run(["gzip", "-c"], input=peaks, stdout=Path(folder, "peaks.bed.gz").open("wb"), check=True)
     write(folder, "blacklist.bed", by_bytes([c, s, e] for _, c, s, e, _ in spread(draw, 300, 500, 5000)))
-    genes = list(spread(draw, 12_000, 2_000, 40_000))
+    genes = list(spread(draw, 24_000, 2_000, 40_000))
     write(folder, "genes.bed", by_bytes([c, s, e, f"gene{n}", 0, strand] for n, c, s, e, strand in genes))
     exons, transcripts, lines = [], [], ["##description: genes of a trial"]
     for n, c, s, e, strand in genes:
@@ -56,7 +58,7 @@ def make_features(folder, draw):
     write(folder, "exons.bed", by_bytes(exons))
     write(folder, "transcripts.bed12", by_bytes(transcripts))
     Path(folder, "genes.gtf").write_text("\n".join(lines) + "\n", encoding="utf-8")
-    write(folder, "unsorted.bed", [[c, s, e, f"window{n}"] for n, c, s, e, _ in spread(draw, 20_000, 200, 2000)])
+    write(folder, "unsorted.bed", [[c, s, e, f"window{n}"] for n, c, s, e, _ in spread(draw, 40_000, 200, 2000)])
     return transcripts
 
 
@@ -65,7 +67,7 @@ def make_others(folder, draw):
     write(folder, "chrom.sizes", SIZES.items())
     write(folder, "sorted.sizes", sorted(SIZES.items()))
     order = list(SIZES)
-    reads = sorted((order.index(c), s, strand) for _, c, s, _, strand in spread(draw, 150_000, 6000, 6001))
+    reads = sorted((order.index(c), s, strand) for _, c, s, _, strand in spread(draw, 300_000, 6000, 6001))
     lines = [f"@SQ\tSN:{c}\tLN:{size}" for c, size in SIZES.items()]
     for number, (rank, start, strand) in enumerate(reads):
         cigar = draw.choice(["75M"] * 6 + ["30M2D45M", "40M1200N35M", "20M4I51M", "5S70M"])
@@ -116,21 +118,21 @@ def spliced(draw, transcripts, count):
 
 def make_reads(folder, draw, transcripts):
     """BAM files of ChIP, its input, RNA and capture, with the targets of the last, and the fragments of ATAC."""
-    write_bam(folder, "chip.bam", SIZES, ((c, s, "50M", strand) for _, c, s, _, strand in spread(draw, 500_000, 50, 51)))
-    write_bam(folder, "input.bam", SIZES, ((c, s, "50M", strand) for _, c, s, _, strand in spread(draw, 400_000, 50, 51)))
-    write_bam(folder, "rna.bam", SIZES, spliced(draw, transcripts, 300_000))
-    targets = [(c, s, e) for _, c, s, e, _ in spread(draw, 6_000, 200, 500) if s > 200]
+    write_bam(folder, "chip.bam", SIZES, ((c, s, "50M", strand) for _, c, s, _, strand in spread(draw, 700_000, 50, 51)))
+    write_bam(folder, "input.bam", SIZES, ((c, s, "50M", strand) for _, c, s, _, strand in spread(draw, 500_000, 50, 51)))
+    write_bam(folder, "rna.bam", SIZES, spliced(draw, transcripts, 400_000))
+    targets = [(c, s, e) for _, c, s, e, _ in spread(draw, 20_000, 200, 500) if s > 200]
     write(folder, "targets.bed", by_bytes([c, s, e, f"target{n}"] for n, (c, s, e) in enumerate(targets)))
-    reads = ((c, draw.randrange(s - 70, e), draw.choice(["100M"] * 9 + ["60M2D40M"]), draw.choice("+-")) for c, s, e in (draw.choice(targets) for _ in range(400_000)))
+    reads = ((c, draw.randrange(s - 70, e), draw.choice(["100M"] * 9 + ["60M2D40M"]), draw.choice("+-")) for c, s, e in (draw.choice(targets) for _ in range(500_000)))
     write_bam(folder, "capture.bam", SIZES, reads)
-    fragments = by_bytes([c, s, e, f"cell{n % 700}"] for n, c, s, e, _ in spread(draw, 300_000, 40, 600))
+    fragments = by_bytes([c, s, e, f"cell{n % 700}"] for n, c, s, e, _ in spread(draw, 400_000, 40, 600))
     text = "".join("\t".join(map(str, row)) + "\n" for row in fragments)
     Path(folder, "fragments.bed.gz").write_bytes(gzip.compress(text.encode(), 6))
 
 
 def make_rest(folder, draw):
     """Segments and gaps of CNV, the repeats of a genome and of contigs, and a virus with its reads and amplicons."""
-    write(folder, "segments.bed", by_bytes([c, s, e, f"segment{n}"] for n, c, s, e, _ in spread(draw, 400, 100_000, 2_000_000)))
+    write(folder, "segments.bed", by_bytes([c, s, e, f"segment{n}"] for n, c, s, e, _ in spread(draw, 800, 100_000, 2_000_000)))
     write(folder, "gaps.bed", by_bytes([c, s, e] for _, c, s, e, _ in spread(draw, 60, 10_000, 50_000)))
     families = ("Alu", "L1", "MIR", "simple", "LTR")
     repeats = by_bytes([c, s, e, families[n % 5], draw.randrange(9999), strand] for n, c, s, e, strand in spread(draw, 250_000, 30, 900))
@@ -138,7 +140,7 @@ def make_rest(folder, draw):
     make_sequences(folder, draw, "contigs.fa", "contig.repeats.bed", {"contig1": 12_000_000, "contig2": 9_000_000, "contig3": 6_000_000})
     virus = {"NC_045512.2": 29_903}
     make_sequences(folder, draw, "virus.fa", "virus.repeats.bed", virus)
-    write_bam(folder, "virus.bam", virus, (("NC_045512.2", int(29_753 * draw.random() ** 2), "150M", draw.choice("+-")) for _ in range(20_000)))
+    write_bam(folder, "virus.bam", virus, (("NC_045512.2", int(29_753 * draw.random() ** 2), "150M", draw.choice("+-")) for _ in range(200_000)))
     write(folder, "primers.bed", [["NC_045512.2", at, at + 400, f"amplicon{n}", n % 2 + 1, "+"] for n, at in enumerate(range(30, 29_400, 300))])
 
 

@@ -23,7 +23,7 @@ import time
 from pathlib import Path
 
 from examples import examples_of
-from front_tools import TOP, Count, PROGRAM, call, drop_in, environment, install, original, shell, tools_alone
+from front_tools import TOP, Count, PROGRAM, call, drop_in, install, looking, original, shell, tools_alone
 
 MERGED = b"chr1\t2\t9\n"
 FILES = {
@@ -126,8 +126,8 @@ def try_hints(place, folder, count):
     """Each fault has its hint behind it, on one line, and none where they are left out."""
     front = place / "bin" / "dunekettle"
     for line, fault, part in HINTS:
-        output, said, status = call([front, *line.split()], folder, environment())
-        plain = call([place / "bin" / "dunekettle-bedtools", *line.split()], folder, environment())
+        output, said, status = call([front, *line.split()], folder, looking())
+        plain = call([place / "bin" / "dunekettle-bedtools", *line.split()], folder, looking())
         lines = said.splitlines()
         count.expect(f"the fault of {line}", plain, (output, lines[0] + "\n", status))
         if fault:
@@ -138,16 +138,16 @@ def try_hints(place, folder, count):
         if advice and line.startswith("merge"):
             again = " -g g.txt" if "-g" in line else ""
             script = advice[1] if "| dunekettle merge" in advice[1] else f"{advice[1]} | dunekettle merge -i -{again}"
-            run = shell(script, folder, environment(place / "bin"))
+            run = shell(script, folder, looking(place / "bin"))
             count.expect(f"the advice for {line}: {script}", (True, "", 0), (run[0].startswith(b"chr1"), run[1], run[2]))
-        quiet = call([front, *line.split()], folder, environment(DUNEKETTLE_HINTS="0"))
+        quiet = call([front, *line.split()], folder, looking(DUNEKETTLE_HINTS="0"))
         count.expect(f"no hint of {line}", plain, quiet)
     try_options(front, folder, count)
-    output, said, status = call([front, "merge"], folder, environment(), input=FILES["unsorted.bed"])
+    output, said, status = call([front, "merge"], folder, looking(), input=FILES["unsorted.bed"])
     count.expect("the hint of a stream", (1, True), (status, "LC_ALL=C sort -k1,1 -k2,2n" in said))
     if os.getuid():
         (folder / "closed.bed").touch(0o200)
-        count.expect("no permission", True, "may not read" in call([front, "merge", "-i", "closed.bed"], folder, environment())[1])
+        count.expect("no permission", True, "may not read" in call([front, "merge", "-i", "closed.bed"], folder, looking())[1])
 
 
 def try_options(front, folder, count):
@@ -159,7 +159,7 @@ def try_options(front, folder, count):
             wanted = "leave it out: " if cell.startswith("leave") else "docs/RECIPES.md" if re.match(r"(?!none).*RECIPES", cell) else "has no {}: bedtools"
             for option in re.findall(r"`(-\w+)`", words) if words.startswith("`") else []:
                 rows += 1
-                said = call([front, command, option], folder, environment())[1].splitlines()[-1]
+                said = call([front, command, option], folder, looking())[1].splitlines()[-1]
                 count.expect(f"the hint of {command} {option}", True, said.startswith("dunekettle: ") and wanted.format(option) in said)
     count.expect("options of OPTIONS.md", True, rows > 50)
 
@@ -169,16 +169,16 @@ def try_help(place, folder, count):
     front = place / "bin" / "dunekettle"
     program = place / "bin" / "dunekettle-bedtools"
     for command in ("merge", "complement", "intersect", "subtract", "genomecov", "bamtobed", "maskfasta"):
-        gave = [call([front, *words], folder, environment()) for words in (["help", command], [command, "--help"], [command, "-h"])]
+        gave = [call([front, *words], folder, looking()) for words in (["help", command], [command, "--help"], [command, "-h"])]
         count.expect(f"help of {command}", (True, True, 0), (gave[0] == gave[1] == gave[2], gave[0][0].startswith(f"dunekettle {command} ".encode()), gave[0][2]))
         # Each option that the help names is one of the program.
         for line in gave[0][0].decode().splitlines():
             if line.startswith("  -"):
-                unknown = b"" if "unknown option" not in call([program, command, line.split()[0]], folder, environment())[1] else line
+                unknown = b"" if "unknown option" not in call([program, command, line.split()[0]], folder, looking())[1] else line
                 count.expect(f"an option of {command}", b"", unknown)
-    count.expect("version", True, call([front, "--version"], folder, environment())[0].startswith(b"Dunekettle "))
-    count.expect("help of nothing", 2, call([front, "help", "nothing"], folder, environment())[2])
-    output, _, status = call([front, "check", "--json", *(name for name in FILES if name != "-x"), "none.bed"], folder, environment())
+    count.expect("version", True, call([front, "--version"], folder, looking())[0].startswith(b"Dunekettle "))
+    count.expect("help of nothing", 2, call([front, "help", "nothing"], folder, looking())[2])
+    output, _, status = call([front, "check", "--json", *(name for name in FILES if name != "-x"), "none.bed"], folder, looking())
     reports = {report["file"]: report for report in json.loads(output)}
     count.expect("check: status", 1, status)
     for name, kind, order in (("f.bed", "BED", "bytes"), ("unsorted.bed", "BED", "none"), ("natural.bed", "BED", "numbers"), ("vcf.vcf", "VCF", None),
@@ -189,9 +189,9 @@ def try_help(place, folder, count):
                                              "s.fa", "s.fa.fai", "sam.sam", "two.fa", "zero_pos.sam"],
                  sorted(name for name, report in reports.items() if report["taken"]))
     count.expect("check: strands and lines", (1, 1, 2), (reports["dot.bed"]["without_strand"], reports["crlf.bed"]["blank_lines"], reports["crlf.bed"]["cr_lf"]))
-    output, _, status = call([front, "check", "natural.bed", "-g", "g.txt"], folder, environment())
+    output, _, status = call([front, "check", "natural.bed", "-g", "g.txt"], folder, looking())
     count.expect("check -g", (1, True), (status, b"chromosome is not in the genome file" in output))
-    output, _, status = call([front, "check", "f.bed", "bare.bed"], folder, environment())
+    output, _, status = call([front, "check", "f.bed", "bare.bed"], folder, looking())
     count.expect("check of two", (0, True), (status, b"chr1: in 1 of 2 files" in output))
 
 
@@ -209,7 +209,7 @@ def try_originals(place, folder, count):
     paths = {"none": [], "links": [links], "copies": [copies], "programs": [programs], "another place": [drop_in(other)],
              "all": [drop_in(place), links, copies, programs, drop_in(other), links]}
     for name, folders in paths.items():
-        env = {**environment(), "PATH": os.pathsep.join(map(str, [drop_in(place), *folders, tools]))}
+        env = {**looking(), "PATH": os.pathsep.join(map(str, [drop_in(place), *folders, tools]))}
         count.expect(f"original {name}: merge", (MERGED, "", 0), call(["bedtools", "merge", "-i", "f.bed"], folder, env))
         count.expect(f"original {name}: sort", (b"", "bedtools: no or unknown command\n", 2), call(["bedtools", "sort", "-i", "f.bed"], folder, env))
         count.expect(f"original {name}: -c", (b"", "bedtools: unknown option: -c\n", 2), call(["mergeBed", "-i", "f.bed", "-c", "1"], folder, env))
@@ -224,11 +224,11 @@ def try_originals(place, folder, count):
         (top / name / "bedtools").write_text(f"#!/bin/sh\n{script}\n", encoding="utf-8")
         (top / name / "bedtools").chmod(0o755)
     for name, folders in (("again", ["again"]), ("child", ["child"]), ("both", ["again", "child"]), ("both, changed", ["child", "again"])):
-        env = {**environment(), "PATH": os.pathsep.join(map(str, [drop_in(place), *(top / f for f in folders), tools]))}
+        env = {**looking(), "PATH": os.pathsep.join(map(str, [drop_in(place), *(top / f for f in folders), tools]))}
         count.expect(f"wrapper {name}", (b"", "bedtools: no or unknown command\n", 2), call(["bedtools", "sort"], folder, env))
         env["PATH"] += os.pathsep + str(top / "says")
         count.expect(f"wrapper {name}, then an original", (b"sort\0", "", 7), call(["bedtools", "sort"], folder, env))
-    env = {**environment(), "PATH": os.pathsep.join(map(str, [drop_in(place), top / "says", tools]))}
+    env = {**looking(), "PATH": os.pathsep.join(map(str, [drop_in(place), top / "says", tools]))}
     for words in (["sort", "a b", "", "line\nfeed", "*", "-i", "\\", "'\"$(x)"], ["merge", "-i", "a\nnone.bed"], ["merge", "--", "-i", "f.bed"], ["--", "merge"],
                   ["", "merge"], [], ["merge", "-i", "f.bed", ""], ["merge", "-i"], ["merge", "-i", "f.bed", "-i", "f.bed"], ["merge", "-"],
                   ["intersect", "-a", "f.bed", "-b", "f.bed", "f.bed"], ["merge", "-i", "numbers.vcf"], ["merge", "-i", "."], ["merge", "-i", ""]):
@@ -241,7 +241,7 @@ def try_originals(place, folder, count):
     count.expect("TELL", (MERGED, True, 0), (told[0], told[1].startswith("dunekettle: Dunekettle takes merge: "), told[2]))
     call(["bedtools", "merge", "-c"], folder, {**env, "DUNEKETTLE_TELL": str(top / "told.txt")})
     long = "x" * 100_000
-    count.expect("a long word", 2, call([place / "bin" / "dunekettle", "merge", long], folder, environment())[2])
+    count.expect("a long word", 2, call([place / "bin" / "dunekettle", "merge", long], folder, looking())[2])
     count.expect("a long name", (7, f"merge\0-i\0{long}\0".encode()), call(["bedtools", "merge", "-i", long], folder, env)[2::-2])
     # What the caller exports goes through as it is, whatever names the scripts use.
     (top / "shows").mkdir()
@@ -262,13 +262,13 @@ def try_paths(place, folder, count):
     says, tools, bare = top / "says", top / "tools", top / "bare"
     bare.mkdir()
     for entry in ("", ":", "::", f":{top / 'nowhere'}", f"{top / 'nowhere'}:", f"{top / 'nowhere'}::{top / 'nowhere'}"):
-        env = {**environment(), "PATH": f"{drop_in(place)}:{tools}:{entry}"}
+        env = {**looking(), "PATH": f"{drop_in(place)}:{tools}:{entry}"}
         # The original is in the folder in which it is called.
         count.expect(f"PATH with {entry!r}", 7, call(["bedtools", "sort"], says, env)[2])
     for shell_name in (["dash"], ["bash", "--posix"], ["busybox", "sh"], ["mksh"], ["yash"]):
         if shutil.which(shell_name[0]):
             words = [shutil.which(shell_name[0]), *shell_name[1:], drop_in(place) / "bedtools", "sort"]
-            count.expect(f"PATH with an empty end, {shell_name[0]}", 7, call(words, says, {**environment(), "PATH": f"{tools}:"})[2])
+            count.expect(f"PATH with an empty end, {shell_name[0]}", 7, call(words, says, {**looking(), "PATH": f"{tools}:"})[2])
     for missing in ("grep", "awk", "cat", "tail", "readlink"):
         few = top / f"no {missing}"
         few.mkdir()
@@ -277,7 +277,7 @@ def try_paths(place, folder, count):
                 (few / tool.name).symlink_to(os.readlink(tool))
         for line in ("sort", "merge -i unsorted.bed", "intersect -s -u -a f.bed -b dot.bed", "intersect -a f.bed -b f.bed", "complement -i past_end.bed -g g.txt",
                      "maskfasta -fi cut.fa -bed cut.bed -fo masked.fa", "bamtobed -i zero_pos.sam"):
-            env = {**environment(), "PATH": f"{drop_in(place)}:{few}:{says}"}
+            env = {**looking(), "PATH": f"{drop_in(place)}:{few}:{says}"}
             count.expect(f"no {missing}: {line}", 7, call(["bedtools", *line.split()], folder, env)[2])
     for part in ("lib/dunekettle/judge.sh", "bin/dunekettle-bedtools", "lib/dunekettle/help.txt", "lib/dunekettle/hints.sh"):
         for how in ("missing", "empty", "half", "a folder"):
@@ -289,7 +289,7 @@ def try_paths(place, folder, count):
             elif how != "missing":
                 (broken / part).write_bytes(text[: len(text) // 2 if how == "half" else 0])
                 (broken / part).chmod(0o755)
-            env = {**environment(), "PATH": f"{drop_in(broken)}:{tools}:{says}"}
+            env = {**looking(), "PATH": f"{drop_in(broken)}:{tools}:{says}"}
             is_needed = "help" not in part and "hints" not in part
             output, said, status = call(["bedtools", "merge", "-i", "f.bed"], folder, env)
             count.expect(f"{part} {how}", (b"merge\0-i\0f.bed\0", "", 7) if is_needed else (MERGED, "", 0), (output, said, status))
@@ -299,7 +299,7 @@ def try_paths(place, folder, count):
                 count.expect(f"{part} {how}: a fault", 1, status)
     shutil.copy(place / "bin" / "dunekettle", bare / "bedtools")
     (bare / "mergeBed").symlink_to("bedtools")
-    env = {**environment(), "PATH": f"{bare}:{tools}:{says}"}
+    env = {**looking(), "PATH": f"{bare}:{tools}:{says}"}
     count.expect("the script alone", (b"merge\0-i\0f.bed\0", "", 7), call(["bedtools", "merge", "-i", "f.bed"], folder, env))
     count.expect("the script alone, mergeBed", (b"merge\0-i\0f.bed\0", "", 7), call(["mergeBed", "-i", "f.bed"], folder, env))
     # A copy finds the installation by the program on PATH, or says why not.
@@ -312,7 +312,7 @@ def try_paths(place, folder, count):
                         (["mergeBed", "-h"], []), (["bedtools", "sort"], [])):
         output, said, status = call(words, folder, {**env, "PATH": os.pathsep.join(map(str, [bare, tools, *more]))})
         count.expect(f"a copy alone: {words}", (b"", 127, 1, True), (output, status, len(said.splitlines()), f"{words[0]} is a copy, and there is no dunekettle-bedtools on PATH" in said))
-    shown = {**environment(), "line": "mine", "version": "mine", "PATH": os.pathsep.join(map(str, [drop_in(place), top / "shows", tools]))}
+    shown = {**looking(), "line": "mine", "version": "mine", "PATH": os.pathsep.join(map(str, [drop_in(place), top / "shows", tools]))}
     output = call(["bedtools", "--version"], folder, shown)[0]
     count.expect("the environment of --version", (True, True), (b"\nline=mine\n" in b"\n" + output, b"\nversion=mine\n" in b"\n" + output))
 
@@ -322,7 +322,7 @@ def try_names(place, folder, count):
     odd = folder.parent / "odd names"
     odd.mkdir()
     (odd / "g.txt").write_bytes(FILES["g.txt"])
-    front, env = place / "bin" / "dunekettle", environment(place / "bin")
+    front, env = place / "bin" / "dunekettle", looking(place / "bin")
     packed = (folder / "zip.gz").read_bytes()
     parts = "x;touch PWNED;", "$(touch PWNED)", "`touch PWNED`", "a b", "it's", "-x", "x=1", "a&touch PWNED&", "a|touch PWNED", "*", "\\", '"', "~", "#", "\u00e9"
     for name in parts:
@@ -381,16 +381,16 @@ def try_names(place, folder, count):
 def try_streams(place, folder, count):
     """Standard input is left as it is; closed streams are as for the program alone; a stream goes by its order."""
     front, program = place / "bin" / "dunekettle", place / "bin" / "dunekettle-bedtools"
-    env = environment(drop_in(place))
-    alone = {**environment(), "PATH": os.pathsep.join(map(str, [drop_in(place), folder.parent / "says", folder.parent / "tools"]))}
+    env = looking(drop_in(place))
+    alone = {**looking(), "PATH": os.pathsep.join(map(str, [drop_in(place), folder.parent / "says", folder.parent / "tools"]))}
     for name in ("bedtools", str(front)):
         for line in ("merge -i f.bed", "merge -x", "merge -i none.bed"):
             output = shell(f"{name} {line} > /dev/null 2>&1; cat", folder, alone, input=b"left as it is")[0]
             count.expect(f"standard input after {name} {line}", b"left as it is", output)
     for line in ("merge -i f.bed", "merge -i unsorted.bed", "merge", "merge -x", "complement -g g.txt"):
         for streams in ("<&-", ">&-", "2>&-", "<&- >&-", ">&- 2>&-", "<&- >&- 2>&-", "> /dev/full"):
-            wanted = shell(f"{program} {line} {streams}", folder, environment(), input=FILES["f.bed"])
-            found = shell(f"{front} {line} {streams}", folder, environment(), input=FILES["f.bed"])
+            wanted = shell(f"{program} {line} {streams}", folder, looking(), input=FILES["f.bed"])
+            found = shell(f"{front} {line} {streams}", folder, looking(), input=FILES["f.bed"])
             hints = "".join(said + "\n" for said in found[1].splitlines() if not said.startswith("dunekettle: "))
             count.expect(f"dunekettle {line} {streams}", wanted, (found[0], hints, found[2]))
             always = shell(f"bedtools {line} {streams}", folder, {**env, "DUNEKETTLE_ALWAYS": "1"}, input=FILES["f.bed"])
@@ -427,9 +427,9 @@ def try_streams(place, folder, count):
 
 def try_signals(place, folder, count):
     """A signal ends a call as it ends the program, and nothing of it goes on."""
-    ways = (("program", [place / "bin" / "dunekettle-bedtools"], environment()), ("dunekettle", [place / "bin" / "dunekettle"], environment()),
-            ("no hints", [place / "bin" / "dunekettle"], environment(DUNEKETTLE_HINTS="0")),
-            ("bedtools", [drop_in(place) / "bedtools"], environment(drop_in(place), DUNEKETTLE_ALWAYS="1")))
+    ways = (("program", [place / "bin" / "dunekettle-bedtools"], looking()), ("dunekettle", [place / "bin" / "dunekettle"], looking()),
+            ("no hints", [place / "bin" / "dunekettle"], looking(DUNEKETTLE_HINTS="0")),
+            ("bedtools", [drop_in(place) / "bedtools"], looking(drop_in(place), DUNEKETTLE_ALWAYS="1")))
     for name, words, env in ways:
         for sent in (signal.SIGTERM, signal.SIGHUP, signal.SIGINT, signal.SIGQUIT):
             child = subprocess.Popen([*words, "merge"], cwd=folder, env=env, stdin=subprocess.PIPE, stdout=subprocess.PIPE, stderr=subprocess.DEVNULL)
@@ -454,7 +454,7 @@ def try_checks(place, folder, count):
     with (folder / "checked.bed").open("w", encoding="utf-8") as file:
         file.writelines(f"chr1\t{9 * n}\t{9 * n + 5}\ta name\t0\t{'+-'[n % 2]}\n" for n in range(800_000))
     mark = f"SLOW_CHECK={folder}"
-    env = environment(drop_in(place), SLOW_CHECK=str(folder))
+    env = looking(drop_in(place), SLOW_CHECK=str(folder))
     lines = ("intersect -s -u -a checked.bed -b checked.bed", "genomecov -bg -scale 2 -i checked.bed -g far.txt", "merge -i <(cat checked.bed)")
     (folder / "far.txt").write_bytes(b"chr1\t9000000\n")
     for words in (["dash"], ["bash", "--posix"], ["busybox", "sh"]):
@@ -489,7 +489,7 @@ def try_gone_readers(place, folder, count):
     """A reader that goes away ends a call of the drop-in by SIGPIPE, silently, as it ends bedtools."""
     (folder / "long.bed").write_text("".join(f"chr1\t{9 * n}\t{9 * n + 5}\n" for n in range(99_999)), encoding="utf-8")
     (folder / "long.fa").write_text(">chr1\n" + 99_999 * "ACGTACGT\n", encoding="utf-8")
-    env = environment(drop_in(place))
+    env = looking(drop_in(place))
     lines = ["merge -i long.bed", "intersect -u -a long.bed -b long.bed", "complement -i long.bed -g far.txt", "maskfasta -fi long.fa -bed f.bed -fo /dev/stdout"]
     (folder / "far.txt").write_bytes(b"chr1\t9000000\n")
     for words in (["sh"], ["dash"], ["bash", "--posix"], ["busybox", "sh"], ["mksh"], ["yash"]):
@@ -520,7 +520,7 @@ def try_gone_readers(place, folder, count):
 def try_report(place, folder, count):
     """What `report` says of the file that DUNEKETTLE_TELL names, and of one that has no call."""
     front, told = place / "bin" / "dunekettle", folder.parent / "report.txt"
-    env = {**environment(), "DUNEKETTLE_TELL": str(told), "PATH": os.pathsep.join(map(str, [drop_in(place), folder.parent / "says", folder.parent / "tools"]))}
+    env = {**looking(), "DUNEKETTLE_TELL": str(told), "PATH": os.pathsep.join(map(str, [drop_in(place), folder.parent / "says", folder.parent / "tools"]))}
     for line in ("merge -i f.bed", "merge -i unsorted.bed", "merge -i natural.bed", "merge -i f.bed -c 4 -o count", "intersect -u -a f.bed -b f.bed", "sort -i f.bed", "--version"):
         call(["bedtools", *line.split()], folder, env)
     wanted = ("6 calls, of which 5 of the seven commands; Dunekettle took 2 of 5 (40 percent)\n  merge       1 of 4 (25 percent)\n"
@@ -529,7 +529,7 @@ def try_report(place, folder, count):
     for name in ("mawk", "gawk", "busybox"):
         if shutil.which(name):
             words = [name, "awk"][: 1 + (name == "busybox")]
-            count.expect(f"report by {name}", wanted.encode(), call([*words, "-f", TOP / "front" / "report.awk"], folder, environment(), input=told.read_bytes())[0])
+            count.expect(f"report by {name}", wanted.encode(), call([*words, "-f", TOP / "front" / "report.awk"], folder, looking(), input=told.read_bytes())[0])
     for words, status in (([], 2), (["none"], 2), (["."], 2), ([told, told], 2), (["f.bed"], 1)):
         output, said, found = call([front, "report", *words], folder, env)
         count.expect(f"report {words}", (b"", status, 1), (output, found, len(said.splitlines())))
@@ -539,29 +539,29 @@ def try_rest(place, folder, count):
     """A file that changes, folders with odd names, a temporary folder that can't be used, 200 calls at once, shells."""
     top = folder.parent
     odd = install(top / "odd * place").rename(top / "odd *\nplace")
-    env = environment(drop_in(odd))
+    env = looking(drop_in(odd))
     count.expect("an odd place", (MERGED, "", 0), call(["bedtools", "merge", "-i", "f.bed"], folder, env))
-    count.expect("dunekettle there", (MERGED, "", 0), call([odd / "bin" / "dunekettle", "merge", "-i", "f.bed"], folder, environment()))
+    count.expect("dunekettle there", (MERGED, "", 0), call([odd / "bin" / "dunekettle", "merge", "-i", "f.bed"], folder, looking()))
     moved = odd.rename(top / "moved")
-    count.expect("a place that was moved", (MERGED, "", 0), call([drop_in(moved) / "mergeBed", "-i", "f.bed"], folder, environment()))
+    count.expect("a place that was moved", (MERGED, "", 0), call([drop_in(moved) / "mergeBed", "-i", "f.bed"], folder, looking()))
     (top / "home").mkdir()
     (top / "home" / "dk").symlink_to(place / "bin" / "dunekettle")
     (top / "home" / "bedtools").symlink_to("../there/lib/dunekettle/bin/bedtools")
-    count.expect("a link to the front", (MERGED, "", 0), call([top / "home" / "dk", "merge", "-i", "f.bed"], folder, environment()))
-    count.expect("a link to the drop-in", (MERGED, "", 0), call([top / "home" / "bedtools", "merge", "-i", "f.bed"], folder, environment()))
+    count.expect("a link to the front", (MERGED, "", 0), call([top / "home" / "dk", "merge", "-i", "f.bed"], folder, looking()))
+    count.expect("a link to the drop-in", (MERGED, "", 0), call([top / "home" / "bedtools", "merge", "-i", "f.bed"], folder, looking()))
     # An awk that spoils the file after it was looked at.
     (top / "spoils").mkdir()
     (top / "spoils" / "awk").write_text(f'#!/bin/sh\n{shutil.which("awk")} "$@"\nstatus=$?\nprintf "chr1\\t9\\t12\\nchr1\\t2\\t6\\n" > changes.bed\nexit $status\n', encoding="utf-8")
     (top / "spoils" / "awk").chmod(0o755)
     (folder / "changes.bed").write_bytes(FILES["f.bed"])
-    found = call(["bedtools", "merge", "-i", "changes.bed"], folder, environment(drop_in(place), top / "spoils"))
+    found = call(["bedtools", "merge", "-i", "changes.bed"], folder, looking(drop_in(place), top / "spoils"))
     count.expect("a file that changes", (b"", "bedtools merge: changes.bed:2: record is out of order\n", 1), found)
     for name, there in (("missing", top / "nowhere"), ("a file", folder / "f.bed")):
-        found = call([place / "bin" / "dunekettle", "merge", "-i", "unsorted.bed"], folder, environment(TMPDIR=str(there)))
+        found = call([place / "bin" / "dunekettle", "merge", "-i", "unsorted.bed"], folder, looking(TMPDIR=str(there)))
         count.expect(f"temporary folder {name}", (2, 1), (len(found[1].splitlines()), found[2]))
     temporary = top / "temporary"
     temporary.mkdir()
-    env = environment(drop_in(place), TMPDIR=str(temporary))
+    env = looking(drop_in(place), TMPDIR=str(temporary))
     calls = [["bedtools", "merge", "-i", "f.bed"], [place / "bin" / "dunekettle", "merge", "-i", "f.bed"]] * 100
     with concurrent.futures.ThreadPoolExecutor(200) as pool:
         found = list(pool.map(lambda words: call(words, folder, env), calls))
@@ -574,12 +574,12 @@ def try_rest(place, folder, count):
         name = " ".join(words)
         words[0] = shutil.which(words[0])
         for script, line in (("bin/dunekettle", "merge -i f.bed"), ("lib/dunekettle/bin/bedtools", "merge -i f.bed"), ("lib/dunekettle/bin/mergeBed", "-i f.bed")):
-            found = call([*words, place / script, *line.split()], folder, environment(drop_in(place)))
+            found = call([*words, place / script, *line.split()], folder, looking(drop_in(place)))
             count.expect(f"{name} {script}", (MERGED, "", 0), found)
-        found = call([*words, place / "bin" / "dunekettle", "merge", "-i", "unsorted.bed"], folder, environment())
+        found = call([*words, place / "bin" / "dunekettle", "merge", "-i", "unsorted.bed"], folder, looking())
         count.expect(f"{name}: a hint", (2, 1), (len(found[1].splitlines()), found[2]))
         found = call([*words, drop_in(place) / "bedtools", "intersect", "-s", "-u", "-a", "f.bed", "-b", "dot.bed"], folder,
-                     {**environment(), "DUNEKETTLE_TELL": "1", "PATH": os.pathsep.join(map(str, [top / "says", top / "tools"]))})
+                     {**looking(), "DUNEKETTLE_TELL": "1", "PATH": os.pathsep.join(map(str, [top / "says", top / "tools"]))})
         count.expect(f"{name}: strands", (7, True), (found[2], "records without a strand" in found[1]))
 
 
@@ -609,7 +609,7 @@ def try_awks(place, folder, count):
         made.mkdir()
         (made / "awk").write_text(f"#!/bin/sh\nexec {shutil.which(name)} {'awk ' if name == 'busybox' else ''}\"$@\"\n", encoding="utf-8")
         (made / "awk").chmod(0o755)
-        env = {**environment(), "PATH": os.pathsep.join(map(str, [drop_in(place), made, top / "says", top / "tools"]))}
+        env = {**looking(), "PATH": os.pathsep.join(map(str, [drop_in(place), made, top / "says", top / "tools"]))}
         for line in (*ours, *theirs):
             words = ["bedtools", *line.split(" ")]
             count.expect(f"{name}: {line}", 0 if line in ours else 7, call(words, folder, env)[2])
@@ -621,7 +621,7 @@ def try_page(place, folder, count):
     """The examples of DROPIN.md, in a folder of their own, with the front and the drop-in on PATH."""
     made = folder.parent / "page"
     made.mkdir()
-    env = environment(drop_in(place), place / "bin")
+    env = looking(drop_in(place), place / "bin")
     for number, command, wanted in examples_of((TOP / "docs" / "DROPIN.md").read_text(encoding="utf-8")):
         output, said, _ = shell(command, made, env)
         count.expect(f"DROPIN.md:{number}: {command}", wanted, (output.decode() + said).splitlines())
@@ -629,7 +629,7 @@ def try_page(place, folder, count):
 
 def show_costs(place, folder):
     """The milliseconds of a call, the middle of several on a small file."""
-    env, rows = environment(drop_in(place)), []
+    env, rows = looking(drop_in(place)), []
     theirs = original()
     for name, words, more in (("the program", [place / "bin" / "dunekettle-bedtools"], {}), ("dunekettle", [place / "bin" / "dunekettle"], {}),
                               ("dunekettle, no hints", [place / "bin" / "dunekettle"], {"DUNEKETTLE_HINTS": "0"}),

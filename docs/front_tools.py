@@ -12,8 +12,8 @@ PROGRAM = TOP / "bin" / "bedtools"
 # Who took a command line, as DUNEKETTLE_TELL says it.
 TOLD = re.compile(r"^dunekettle: (.*?) takes (\w*)", re.MULTILINE)
 # The tools that the front calls, and those of the trials.
-TOOLS = ("sh", "bash", "awk", "cat", "cut", "dash", "env", "grep", "gzip", "head", "mkfifo", "mktemp", "od", "printf", "readlink",
-         "rm", "sed", "sleep", "sort", "tail", "tr", "wc")
+TOOLS = ("sh", "bash", "awk", "cat", "cmp", "cut", "dash", "df", "env", "grep", "gzip", "head", "mkfifo", "mktemp", "od", "printf",
+         "readlink", "rm", "samtools", "sed", "sleep", "sort", "tail", "tr", "wc")
 
 
 def original():
@@ -53,6 +53,11 @@ def environment(*first, **more):
     path = os.pathsep.join([*map(str, first), os.environ["PATH"]])
     plain = {name: value for name, value in os.environ.items() if not name.startswith("DUNEKETTLE_")}
     return {**plain, "PATH": path, **more}
+
+
+def looking(*first, **more):
+    """The same of a call whose files the drop-in looks at, however small they are."""
+    return environment(*first, **{"DUNEKETTLE_SMALL": "0", **more})
 
 
 def call(words, folder, env, **how):

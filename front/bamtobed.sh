@@ -14,11 +14,12 @@ take_bamtobed() {
     [ -n "$dk_why" ] || by_program 'samtools reads its file as it is' bamtobed "$@"
 }
 
-# look_at_text: sets `dk_why` unless samtools writes the SAM text as it is, and so htslib reads it so, and each alignment
-# and each block has a base
+# look_at_text: sets `dk_why` unless samtools writes the SAM text as it is, so that htslib reads it so, and each
+# alignment and each block has a base
 look_at_text() {
-    LC_ALL=C grep -qaE "^[^$TAB@][^$TAB]*$TAB[0-9]+$TAB[^$TAB]*$TAB[0-9]+$TAB[0-9]+$TAB(\
-([0-9]+[ISHP])*$TAB|([0-9]+[A-Z=])*0|([0-9]+[ISHP])*[0-9]+N|[^$TAB]*N([0-9]+[ISHP])*([0-9]+N|$TAB))" < "$dk_i" &
+    dk_text="[^$TAB]*$TAB" dk_number="[0-9]+$TAB" dk_none='([0-9]+[ISHP])*'
+    dk_odd="$dk_none$TAB|([0-9]+[A-Z=])*0|${dk_none}[0-9]+N|[^$TAB]*N$dk_none([0-9]+N|$TAB)"
+    LC_ALL=C grep -qaE "^[^@]$dk_text$dk_number$dk_text$dk_number$dk_number($dk_odd)" < "$dk_i" &
     await $!
     [ $? = 1 ] || { dk_why="$dk_i has alignments or blocks without a base"; return; }
     : > "$dk_spare"

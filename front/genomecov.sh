@@ -3,6 +3,7 @@
 
 # take_genomecov WORD..: becomes the program, or writes what awk makes of its output, or sets `dk_why`
 take_genomecov() {
+    [ "$dk_copied" != known ] || by_program 'DUNEKETTLE_STREAMS says what its stream has' genomecov "$@"
     if [ -n "$dk_ibam" ]; then cover_alignments
     elif has_word -split; then cover_blocks
     else cover_features
@@ -21,7 +22,8 @@ take_genomecov() {
 set_genome() {
     dk_bases=$(LC_ALL=C awk -F '\t' '
         $0 == "" { next }
-        /^#|\r/ || $1 == "" || $1 in seen || $2 !~ /^[1-9][0-9]*$/ || length($2) > 10 || $2 + 0 > 2147483647 { bad = 1; exit }
+        /^#|\r/ || $1 == "" || $1 in seen || $2 !~ /^[1-9][0-9]*$/ { bad = 1; exit }
+        length($2) > 10 || $2 + 0 > 2147483647 { bad = 1; exit }
         { seen[$1]; bases += $2 }
         END { if (bad || !bases || bases > 4294967295) exit 1; printf "%.0f\n", bases }' < "$1" 2> /dev/null) ||
         dk_why="the chromosomes of $1 may be others for bedtools"
@@ -59,10 +61,11 @@ look_at_ordered() {
 pick_strand() {
     has_strands '[-+]' "$dk_i" || { dk_why="$dk_i has records without a strand"; return; }
     [ "$dk_form" != -bg ] || return 0
-    has_room "$(wc -c < "$dk_i")" && open_files picked || { dk_why='TMPDIR has no room for one strand'; return; }
+    dk_why='TMPDIR has no room for one strand'
+    if ! has_room "$(wc -c < "$dk_i")" || ! open_files picked; then return; fi
     LC_ALL=C awk -F '\t' -v strand="$dk_strand" '$6 == strand || $6 == strand "\r"' < "$dk_i" > "$dk_picked" &
-    await $! || { dk_why='TMPDIR has no room for one strand'; return; }
-    dk_i=$dk_picked dk_strand=''
+    await $! || return 0
+    dk_why='' dk_i=$dk_picked dk_strand=''
     find_spans "$dk_i" "$dk_genome"
 }
 
@@ -70,13 +73,18 @@ pick_strand() {
 cover_blocks() {
     set_genome "$dk_g"
     [ -n "$dk_why" ] || look_at_lines "$dk_i"
-    [ -n "$dk_why" ] || has_room "$(($(wc -c < "$dk_i") * 4))" && open_files blocks || dk_why='TMPDIR has no room for blocks'
     [ -z "$dk_why" ] || return 0
-    : > "$dk_spans"
-    { LC_ALL=C awk -v strand="$dk_strand" -v names="$dk_spans" -f "$dk_files/bed12_blocks.awk" < "$dk_i" || echo >> "$dk_spans"; } |
-        LC_ALL=C sort -k4,4 -k2,2n > "$dk_blocks" 2> /dev/null &
-    await $! && ! grep -q '^$' "$dk_spans" || { dk_why="$dk_i isn't plain BED12"; return; }
+    open_blocks "$(($(wc -c < "$dk_i") * 4))" || return 0
+    { LC_ALL=C awk -v strand="$dk_strand" -v names="$dk_spans" -f "$dk_files/bed12_blocks.awk" < "$dk_i" ||
+        echo >> "$dk_spans"; } | LC_ALL=C sort -k4,4 -k2,2n > "$dk_blocks" 2> /dev/null &
+    if ! await $! || grep -q '^$' "$dk_spans"; then dk_why="$dk_i isn't plain BED12"; return; fi
     look_at_blocks "$dk_g"
+}
+
+# open_blocks BYTES: opens the file `dk_blocks`, or sets `dk_why`
+open_blocks() {
+    if has_room "$1" && open_files blocks; then : > "$dk_spans"; else dk_why='TMPDIR has no room for blocks'; fi
+    [ -z "$dk_why" ]
 }
 
 # look_at_blocks GENOME: puts the blocks into the place of -i, if they are in order
@@ -89,15 +97,21 @@ look_at_blocks() {
 
 # cover_alignments: the same of a BAM file, by samtools, where that pays
 cover_alignments() {
-    command -v samtools > /dev/null && is_bam "$dk_ibam" || { dk_why="there is no samtools, or $dk_ibam is no BAM"; return; }
-    samtools view -H "$dk_ibam" < /dev/null 2> /dev/null | LC_ALL=C awk -F '\t' '/^@SQ/ {
-        for (at = 2; at <= NF; at++) { if ($at ~ /^SN:/) name = substr($at, 4); if ($at ~ /^LN:/) size = substr($at, 4) }
-        print name "\t" size }' > "$dk_genome" &
+    dk_why="there is no samtools, or $dk_ibam is no BAM"
+    command -v samtools > /dev/null && is_bam "$dk_ibam" || return 0
+    dk_why=''
+    samtools view -H "$dk_ibam" < /dev/null 2> /dev/null | LC_ALL=C awk -F '\t' '
+        /^@SQ/ {
+            for (at = 2; at <= NF; at++) parts[substr($at, 1, 3)] = substr($at, 4)
+            print parts["SN:"] "\t" parts["LN:"]
+        }' > "$dk_genome" &
     await $!
     set_genome "$dk_genome"
     [ -z "$dk_why" ] || return 0
-    [ "$dk_bases" -ge 20000000 ] && [ "$((dk_bases / 2))" -ge "$(wc -c < "$dk_ibam")" ] ||
-        { dk_why='bedtools goes over its genome as quickly'; return; }
+    if [ "$dk_bases" -lt 20000000 ] || [ "$((dk_bases / 2))" -lt "$(wc -c < "$dk_ibam")" ]; then
+        dk_why='bedtools goes over its genome as quickly'
+        return
+    fi
     find_blocks
     [ -n "$dk_why" ] || look_at_blocks "$dk_genome"
 }
@@ -108,13 +122,12 @@ find_blocks() {
     dk_most=$((dk_room * 16)) dk_gaps=''
     ! has_word -split || dk_gaps=1
     has_room "$((dk_most * 4))" || dk_most=$((dk_room * 2))
-    has_room "$((dk_most * 4))" && open_files blocks || { dk_why='TMPDIR has no room for blocks'; return; }
-    : > "$dk_spans"
+    open_blocks "$((dk_most * 4))" || return 0
     : > "$dk_spare"
     { samtools view -F 4 "$dk_ibam" < /dev/null 2> /dev/null || echo >> "$dk_spans"; } |
         LC_ALL=C awk -v gaps="$dk_gaps" -v strand="$dk_strand" -v most="$dk_most" -v names="$dk_spans" \
-            -v sorter="LC_ALL=C sort -k4,4 -k2,2n > $dk_spare" -f "$dk_files/sam_blocks.awk" > "$dk_blocks" 2> /dev/null &
-    await $! && ! grep -q '^$' "$dk_spans" || { dk_why="$dk_ibam is odd, or too long for TMPDIR"; return; }
+            -v sorter="LC_ALL=C sort -k4,4 -k2,2n > $dk_spare" -f "$dk_files/sam_blocks.awk" > "$dk_blocks" &
+    if ! await $! || grep -q '^$' "$dk_spans"; then dk_why="$dk_ibam is odd, or too long for TMPDIR"; return; fi
     [ -s "$dk_spare" ] || return 0
     dk_first=$dk_blocks
     open_files blocks || { dk_why='TMPDIR takes no file'; return; }

@@ -1,4 +1,4 @@
-# shellcheck shell=sh
+# shellcheck shell=sh disable=SC2034,SC2154
 # Hints, and the check of files: read by `dunekettle`, which has set `program`, `files` and NL.
 
 # clean: standard input without bytes that change a terminal

@@ -5,7 +5,7 @@ BEGIN { FS = OFS = "\t" }
 
 function put_row(name, depth, count, bases) {
     count -= 4294967296 * int(count / 4294967296)
-    print name, depth, sprintf("%.0f", count), sprintf("%.0f", bases), sprintf("%g", single(single(count) / single(bases)))
+    printf "%s\t%d\t%.0f\t%.0f\t%g\n", name, depth, count, bases, single(single(count) / single(bases))
 }
 
 function put_chromosome(  depth) {

@@ -51,8 +51,11 @@ read_words() {
 
 # judge_words WORD..: sets `dk_why` if the original has to take them, whatever is in the files
 judge_words() {
-    [ -f "$dk_program" ] && [ -s "$dk_program" ] && [ -x "$dk_program" ] || { dk_why="there is no $dk_program"; return; }
-    for dk_tool in awk cat cut df grep head mkfifo mktemp rm sort tail tr wc; do
+    if [ ! -f "$dk_program" ] || [ ! -s "$dk_program" ] || [ ! -x "$dk_program" ]; then
+        dk_why="there is no $dk_program"
+        return
+    fi
+    for dk_tool in awk cat df grep head mkfifo mktemp rm sort tail tr wc; do
         command -v "$dk_tool" > /dev/null || { dk_why="there is no $dk_tool"; return; }
     done
     if [ "$dk_command" = genomecov ]; then judge_coverage_words "$@"; return; fi
@@ -112,7 +115,7 @@ try_words() {
         ! takes_value "$dk_word" || { shift; dk_count=$((dk_count - 1)); }
         dk_count=$((dk_count - 1))
     done
-    dk_fault=$("$dk_program" "$dk_command" "$@" 2>&1 > /dev/null < /dev/null) || failed "$dk_fault"
+    { dk_fault=$("$dk_program" "$dk_command" "$@" 2>&1 > /dev/null < /dev/null); } 2> /dev/null || failed "$dk_fault"
 }
 
 # failed TEXT: sets `dk_why` to the last line of what the program said before it ended with a fault
@@ -160,7 +163,7 @@ look_at_lines() {
     "$ZIPPED"*) dk_why="$1 begins as a gzip file"; return ;;
     esac
     LC_ALL=C tr -dc '\000' < "$1" > "$dk_spare" &
-    await $! && [ ! -s "$dk_spare" ] || { dk_why="$1 has a NUL"; return; }
+    if ! await $! || [ -s "$dk_spare" ]; then dk_why="$1 has a NUL"; return; fi
     LC_ALL=C awk 'length < 2 || length > 1023 || /\r\r$/ { exit 1 }
         END { print int(NR / 1000000) }' < "$1" > "$dk_spare" 2> /dev/null &
     await $! && read -r dk_millions < "$dk_spare" ||
@@ -214,14 +217,14 @@ has_short_records() {
     await $! && [ ! -s "$dk_spans" ]
 }
 
-# has_several_hits: whether a record of -a has several hits, which bedtools lists in an order of its own without -sorted.
-# In the file `dk_spare` are, for each record with hits, its columns and its hits.
+# has_several_hits: whether a record of -a has several hits, which bedtools lists in an order of its own without
+# -sorted. In the file `dk_spare` are, for each record with hits, its columns and its hits.
 has_several_hits() {
     set -- -a "$dk_a" -b "$dk_b" ${dk_g:+-g "$dk_g"} ${dk_f:+-f "$dk_f"}
     ! has_word -r || set -- "$@" -r
     ! has_word -s || set -- "$@" -s
     "$dk_program" intersect -c "$@" < /dev/null 2> /dev/null |
-        LC_ALL=C awk -F '\t' '$NF > 0 { print NF - 1, $NF } $NF > 1 { several = 1 } END { exit !several }' > "$dk_spare" &
+        LC_ALL=C awk -F '\t' '$NF { print NF - 1, $NF } $NF > 1 { several = 1 } END { exit !several }' > "$dk_spare" &
     await $!
 }
 
@@ -235,21 +238,24 @@ lists_hits() {
 # look_at_features FILE..: sets `dk_why` for merge, complement, intersect and subtract
 look_at_features() {
     [ -z "$dk_g" ] || look_at_genome "$dk_g"
+    [ -z "$dk_why" ] || return 0
     for dk_input; do
-        [ -n "$dk_why" ] || look_at "$dk_input" "$dk_g"
+        [ "$dk_copied" != known ] || ! is_stream "$dk_input" || continue
+        look_at "$dk_input" "$dk_g"
         [ -n "$dk_why" ] || look_closer "$dk_input" "$dk_g"
         [ -z "$dk_why" ] || return
-        if [ -n "$dk_f" ] && { [ "$dk_input" = "$dk_a" ] || has_word -r; } && ! has_short_records "$dk_input" "$dk_g"; then
+        [ -z "$dk_f" ] || [ "$dk_input" != "$dk_a" ] && ! has_word -r || has_short_records "$dk_input" "$dk_g" ||
             dk_why='bedtools compares -f by seven digits, too few for the longest records'
-            return
-        fi
+        [ -z "$dk_why" ] || return
     done
 }
 
-# streams_are_known: whether DUNEKETTLE_STREAMS takes the one stream as sorted BED, and no option goes by what else it has
+# streams_are_known: whether DUNEKETTLE_STREAMS takes the one stream as sorted BED, and no option goes by what else it
+# has
 streams_are_known() {
     [ "$dk_streams" = 1 ] && [ "${DUNEKETTLE_STREAMS-}" = 1 ] || return
-    for dk_word in -s -S -f -bga -strand; do ! has_word "$dk_word" || return; done
+    for dk_word in -s -S -f -strand -split -scale; do ! has_word "$dk_word" || return; done
+    case $dk_command$dk_words in bamtobed* | maskfasta*) return 1 ;; genomecov*' -bg '* | [!g]*) ;; *) return 1 ;; esac
 }
 
 # look_at_sequences: sets `dk_why` for maskfasta: bedtools writes headers up to their first space, and each line as long
@@ -264,7 +270,8 @@ look_at_sequences() {
     await $! || return
     wc -l < "$dk_fi" > "$dk_spans" &
     await $! || return
-    { cat "$dk_spare"; cat "$dk_spans"; } | LC_ALL=C awk -v width="$dk_width" -f "$dk_files/sequence_sizes.awk" > "$dk_genome" || return
+    { cat "$dk_spare"; cat "$dk_spans"; } |
+        LC_ALL=C awk -v width="$dk_width" -f "$dk_files/sequence_sizes.awk" > "$dk_genome" || return
     dk_why=''
     look_at "$dk_bed" "$dk_genome"
     [ -n "$dk_why" ] || ends_fit "$dk_genome" || dk_why="$dk_bed goes past the end of a sequence"

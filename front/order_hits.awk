@@ -1,6 +1,6 @@
-# The hits of intersect, those of each record in the order of bedtools without -sorted: by the level of the bin that has
-# the hit whole, the smallest first, and else as they are. The file `hits_file` has for each record with hits its columns
-# and its hits; of a line `value` says if all columns are written, or the record's alone.
+# The hits of intersect, those of each record in the order of bedtools without -sorted: by the level of the bin that
+# has the hit whole, the smallest first, and else as they are. The file `hits_file` has for each record with hits its
+# columns and its hits; of a line `value` says if all columns are written, or the record's alone.
 
 BEGIN { FS = "\t" }
 

@@ -8,14 +8,13 @@ plan() {
     dk_command=$1 dk_why='' dk_children='' dk_folder=''
     dk_room=${DUNEKETTLE_ROOM:-67108864} dk_small=${DUNEKETTLE_SMALL:-262144}
     shift
-    case $dk_room$dk_small in *[!0-9]*) by_original 'DUNEKETTLE_ROOM or DUNEKETTLE_SMALL is no number' "$dk_command" "$@" ;; esac
+    case $dk_room$dk_small in *[!0-9]*) dk_why='DUNEKETTLE_ROOM or DUNEKETTLE_SMALL is no number' ;; esac
     read_options "$@"
     [ -n "$dk_why" ] || judge_words "$@"
     [ -n "$dk_why" ] || find_copies "$@"
     [ -n "$dk_why" ] || [ -n "$dk_copied" ] || is_worth_it
     [ -n "$dk_why" ] || is_known_version
     [ -z "$dk_why" ] || by_original "$dk_why" "$dk_command" "$@"
-    [ "$dk_copied" != known ] || by_program 'DUNEKETTLE_STREAMS says what its stream has' "$dk_command" "$@"
     ! reads_standard_input || set -- "$@" -i -
     open_copies "$@" || by_original 'TMPDIR takes no file, or too many are open' "$dk_command" "$@"
     heed_signals
@@ -50,10 +49,10 @@ kind_of_input() {
     case $1 in -i | -a | -b | -bed) [ "$dk_command" = bamtobed ] || ! is_zipped "$2" || dk_kind=gzip ;; esac
 }
 
-# find_copies WORD..: sets `dk_copied` if inputs have to be copied, to `known` if DUNEKETTLE_STREAMS says what they have,
-# and `dk_why` if they can't be
+# find_copies WORD..: sets `dk_copied` if inputs have to be copied, to `known` if DUNEKETTLE_STREAMS says what the
+# stream has, and `dk_why` if they can't be
 find_copies() {
-    dk_copied='' dk_streams=0 dk_before='' dk_one=''
+    dk_copied='' dk_streams=0 dk_before='' dk_one='' dk_odd=''
     ! reads_standard_input || set -- "$@" -i -
     for dk_word; do
         kind_of_input "$dk_before" "$dk_word"
@@ -61,21 +60,22 @@ find_copies() {
         [ "$dk_kind" != stream ] || count_stream "$dk_word"
         dk_before=$dk_word
     done
-    [ "$dk_streams" != 0 ] || return 0
-    if streams_are_known; then dk_copied=known
+    if [ "$dk_streams" = 0 ]; then return
+    elif streams_are_known; then dk_copied=known
+    elif [ -n "$dk_odd" ]; then dk_why=$dk_odd
     elif [ "$dk_streams" -gt 2 ]; then dk_why='more than two of its inputs are streams'
     elif [ "$dk_room" = 0 ]; then dk_why='DUNEKETTLE_ROOM is 0'
     elif ! has_room "$((dk_room * 2))"; then dk_why='TMPDIR has no room for its streams'
     fi
 }
 
-# count_stream FILE: sets `dk_why` if it is the one that was counted before, or none that can be copied
+# count_stream FILE: sets `dk_odd` if it is the one that was counted before, or none that can be copied
 count_stream() {
     dk_streams=$((dk_streams + 1))
     case $1 in - | stdin | /dev/std* | /dev/fd/0 | /proc/*) set -- /dev/fd/0 ;; esac
-    [ "$1" != "$dk_one" ] || dk_why='two of its inputs are one stream'
+    [ "$1" != "$dk_one" ] || dk_odd='two of its inputs are one stream'
     dk_one=$1
-    [ -r "$1" ] && [ ! -c "$1" ] || dk_why="$1 is no stream that can be copied"
+    [ -r "$1" ] && [ ! -c "$1" ] || dk_odd="$1 is no stream that can be copied"
 }
 
 # is_worth_it: sets `dk_why` where the original is quicker than a look at the files. genomecov goes over each base.
@@ -87,7 +87,7 @@ is_worth_it() {
     esac
     dk_bytes=0
     for dk_input; do
-        [ -f "$dk_input" ] && [ -r "$dk_input" ] || { dk_why="$dk_input is no file that can be read"; return; }
+        if [ ! -f "$dk_input" ] || [ ! -r "$dk_input" ]; then dk_why="$dk_input is no file that can be read"; return; fi
         dk_bytes=$((dk_bytes + $(wc -c < "$dk_input")))
     done
     [ "$dk_bytes" -lt "$dk_least" ] || return 0
@@ -100,13 +100,13 @@ is_large_genome() {
     LC_ALL=C awk -F '\t' '{ bases += $2 } END { exit bases < 20000000 }' < "$dk_g" 2> /dev/null
 }
 
-# is_known_version: sets `dk_why` if the original isn't one that all was compared with, and the command line isn't one of
-# those for which all versions write the same
+# is_known_version: sets `dk_why` if the original isn't one that all was compared with, and the command line isn't one
+# of those for which all versions write the same
 is_known_version() {
     case $dk_command$dk_words in
-    *' -f '* | *' -r '* | *' -s '* | *' -S '* | *' -strand '* | *' -split '* | *' -bga '* | *' -scale '* | *' -ibam '*) ;;
-    merge* | complement* | subtract* | intersect*' -u '* | intersect*' -v '* | intersect*' -c '* | genomecov*' -bg '*) return ;;
-    intersect*' -sorted '*) return ;;
+    *' -f '* | *' -r '* | *' -s '* | *' -S '* | *' -strand '* | *' -split '* | *' -scale '* | *' -ibam '*) ;;
+    merge* | complement* | subtract* | genomecov*' -bg '*) return ;;
+    intersect*' -u '* | intersect*' -v '* | intersect*' -c '* | intersect*' -sorted '*) return ;;
     esac
     [ -n "${dk_original-}" ] || dk_original=$(find_original)
     [ -n "$dk_original" ] || return 0
@@ -119,7 +119,7 @@ is_known_version() {
 # open_copies WORD..: opens each stream, and a file for the copy of each stream and gzip file. Nothing is read yet.
 open_copies() {
     dk_from='' dk_copies='' dk_before=''
-    [ -n "$dk_copied" ] || return 0
+    [ "$dk_copied" = 1 ] || return 0
     for dk_word; do
         kind_of_input "$dk_before" "$dk_word"
         if [ "$dk_kind" = stream ]; then
@@ -142,6 +142,7 @@ open_copies() {
 # with_copies WORD..: reads the streams, puts each copy into the place of its input, and goes on
 with_copies() {
     dk_count=$# dk_before='' dk_left=$dk_copies dk_to=''
+    [ -n "$dk_copies" ] || dk_count=0
     while [ "$dk_count" -gt 0 ]; do
         kind_of_input "$dk_before" "$1"
         dk_before=$1
@@ -160,9 +161,12 @@ with_copies() {
         dk_count=$((dk_count - 1))
     done
     [ -z "$dk_from" ] || copy_streams "$@"
-    [ -z "$dk_copied" ] || { close_file "$dk_marks"; read_options "$@"; }
-    open_files spans spare genome || dk_why='TMPDIR takes no file, or too many are open'
-    [ -n "$dk_why" ] || [ -z "$dk_copied" ] || is_worth_it
+    if [ -n "$dk_copies" ]; then
+        close_file "$dk_marks"
+        read_options "$@"
+        [ -n "$dk_why" ] || is_worth_it
+    fi
+    [ -n "$dk_why" ] || open_files spans spare genome || dk_why='TMPDIR takes no file, or too many are open'
     [ -n "$dk_why" ] || decide "$@"
     by_original "$dk_why" "$dk_command" "$@"
 }
@@ -228,7 +232,7 @@ decide() {
     case $dk_command in
     genomecov | bamtobed)
         dk_why='the installation is broken'
-        ! read_part "$dk_command.sh" || { dk_why=''; take_"$dk_command" "$@"; }
+        ! read_part "$dk_command.sh" || { dk_why='' && take_"$dk_command" "$@"; }
         return
         ;;
     maskfasta) look_at_sequences ;;
@@ -236,6 +240,7 @@ decide() {
     *) look_at_features "$dk_i" ;;
     esac
     [ -z "$dk_why" ] || return 0
+    [ "$dk_copied" != known ] || by_program 'DUNEKETTLE_STREAMS says what its stream has' "$dk_command" "$@"
     if lists_hits && has_several_hits; then order_hits "$@"; fi
     by_program 'its words and its files are as it takes them' "$dk_command" "$@"
 }
@@ -248,8 +253,8 @@ order_hits() {
     write_through order_hits.awk "$dk_columns" intersect "$@"
 }
 
-# write_through FILTER VALUE WORD..: writes what awk makes of the output of the program, which the words run, and ends as
-# both do
+# write_through FILTER VALUE WORD..: writes what awk makes of the output of the program, which the words run, and ends
+# as both do
 write_through() {
     dk_filter=$1 dk_value=$2
     shift 2

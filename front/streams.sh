@@ -1,14 +1,16 @@
 # shellcheck shell=sh disable=SC2034,SC2154
 # Files without a name, work in the background, and copies of streams: read by the drop-in of `dunekettle`.
 
-# open_files NAME..: opens an empty file for each, and sets `dk_NAME` to where it is. Its name in TMPDIR is gone by then,
-# so that nothing is left of it, however this ends.
+# open_files NAME..: opens an empty file for each, and sets `dk_NAME` to where it is. Its name in TMPDIR is gone by
+# then, so that nothing is left of it, however this ends.
 open_files() {
     dk_folder=$(mktemp -d "${TMPDIR:-/tmp}/dunekettle-XXXXXX" 2> /dev/null) || return
     dk_opened=0
     for dk_name; do
-        free_descriptor && eval "command exec $dk_free<> \"\$dk_folder/file\"" && rm -f "$dk_folder/file" &&
-            true < "/dev/fd/$dk_free" || break
+        free_descriptor || break
+        eval "command exec $dk_free<> \"\$dk_folder/file\"" || break
+        rm -f "$dk_folder/file"
+        true < "/dev/fd/$dk_free" || break
         eval "dk_$dk_name=/dev/fd/$dk_free"
         dk_opened=$((dk_opened + 1))
     done 2> /dev/null

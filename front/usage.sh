@@ -1,4 +1,4 @@
-# shellcheck shell=sh
+# shellcheck shell=sh disable=SC2034,SC2154
 # Hints after a fault of the command line: read by hints.sh, with `fault`, `command` and `files` set, and its functions.
 
 # What -d and -held take

@@ -1,10 +1,12 @@
 #!/bin/bash
-# Viral: the reads of each amplicon of several samples, as a workflow calls it.
+# Viral: the reads of each amplicon of three samples, as a workflow calls it.
 set -euo pipefail
 
-for sample in a b c d e f; do
-    bash -c "set -euo pipefail; bedtools bamtobed -i virus.bam |
-        bedtools intersect -F 0.5 -c -a primers.bed -b stdin > $sample.counts.bed"
-    bash -c "set -euo pipefail; bedtools merge -i primers.bed -d 50 > $sample.amplicons.bed"
+for sample in a b c; do
+    bash -c "set -euo pipefail; bedtools bamtobed -i virus.bam > $sample.reads.bed"
+    bash -c "set -euo pipefail; bedtools intersect -sorted -c -a primers.bed -b $sample.reads.bed > $sample.counts.bed"
+    bash -c "set -euo pipefail; bedtools intersect -sorted -u -f 0.9 -a $sample.reads.bed -b primers.bed | wc -l"
+    bash -c "set -euo pipefail; bedtools merge -i $sample.reads.bed -d 50 > $sample.covered.bed"
 done
-cat ./?.counts.bed ./?.amplicons.bed
+bedtools intersect -F 0.5 -c -a primers.bed -b a.reads.bed
+cat ./?.counts.bed ./?.covered.bed
