@@ -1,17 +1,16 @@
 # shellcheck shell=sh disable=SC2034,SC2154
-# bamtobed of SAM text, and with -split of BAM, both by samtools: read by the drop-in of `dunekettle`.
+# bamtobed of SAM text that samtools writes as it is: read by the drop-in of `dunekettle`. Of BAM bedtools is as quick.
 
-# take_bamtobed WORD..: becomes the program, or writes what it makes of a BAM file, or sets `dk_why`
+# take_bamtobed WORD..: becomes the program, or sets `dk_why`
 take_bamtobed() {
-    command -v samtools > /dev/null || { dk_why='there is no samtools'; return; }
     dk_line=''
     IFS= read -r dk_line < "$dk_i" 2> /dev/null
     case $dk_line in
-    @*) look_at_text ;;
-    "$ZIPPED"*) write_blocks ;;
-    *) dk_why="$dk_i is neither SAM with header lines nor BAM" ;;
+    @*) command -v samtools > /dev/null && command -v cmp > /dev/null || dk_why='there is no samtools, or no cmp' ;;
+    *) dk_why="$dk_i isn't SAM text with header lines" ;;
     esac
-    [ -n "$dk_why" ] || by_program 'samtools reads its file as it is' bamtobed "$@"
+    [ -n "$dk_why" ] || look_at_text
+    [ -n "$dk_why" ] || by_program 'samtools writes its file as it is' bamtobed "$@"
 }
 
 # look_at_text: sets `dk_why` unless samtools writes the SAM text as it is, so that htslib reads it so, and each
@@ -27,20 +26,4 @@ look_at_text() {
     await $! && [ ! -s "$dk_spare" ] || dk_why="$dk_i is SAM text that htslib reads otherwise"
 }
 
-# write_blocks: writes what the program makes of the alignments of a BAM file, once it is known that all are plain
-write_blocks() {
-    dk_why='bedtools reads BAM as quickly'
-    has_word -split && [ "$(wc -c < "$dk_i")" -le "$dk_room" ] || return
-    dk_why="$dk_i has alignments or blocks without a base, or TMPDIR has no room for the others"
-    is_bam "$dk_i" && has_room "$((dk_room * 16))" || return
-    : > "$dk_spare"
-    { samtools view -F 4 "$dk_i" < /dev/null 2> /dev/null || echo >> "$dk_spare"; } |
-        { LC_ALL=C awk -f "$dk_files/read_columns.awk" || echo >> "$dk_spare"; } |
-        "$dk_program" bamtobed -split > "$dk_genome" 2> /dev/null &
-    await $! && [ ! -s "$dk_spare" ] || return 0
-    tell 'Dunekettle takes bamtobed: samtools reads its file'
-    cat "$dk_genome" &
-    await $!
-    finish $?
-}
 dk_part=bamtobed.sh

@@ -90,7 +90,7 @@ open_blocks() {
 # look_at_blocks GENOME: puts the blocks into the place of -i, if they are in order
 look_at_blocks() {
     order_genome "$1"
-    dk_i=$dk_blocks dk_strand='' dk_millions=$(($(wc -c < "$dk_blocks") / 10000000))
+    dk_i=$dk_blocks dk_strand=''
     [ -n "$dk_why" ] || find_spans "$dk_i" "$dk_genome"
     [ -n "$dk_why" ] || look_at_names "$dk_i"
 }
@@ -138,7 +138,7 @@ find_blocks() {
 
 # is_deep WORD..: whether the program, which they run, writes a depth of a million: bedtools rounds it
 is_deep() {
-    [ "$dk_millions" != 0 ] || return
+    [ "$(wc -l < "$dk_i")" -ge 1000000 ] || return
     "$dk_program" "$@" < /dev/null 2> /dev/null | LC_ALL=C grep -q '[0-9]\{7\}$' &
     await $!
 }
@@ -151,5 +151,19 @@ write_form() {
     -d | -dz) write_through each_base.awk "$dk_form" "$@" ;;
     *) write_through scaled.awk "${dk_scale:-1}" "$@" ;;
     esac
+}
+
+# write_through FILTER VALUE WORD..: writes what awk makes of the output of the program, which the words run, and ends
+# as both do
+write_through() {
+    dk_filter=$1 dk_value=$2
+    shift 2
+    : > "$dk_spans"
+    { "$dk_program" "$@" < /dev/null || echo > "$dk_spans"; } |
+        LC_ALL=C awk -v value="$dk_value" -f "$dk_files/float.awk" -f "$dk_files/$dk_filter" &
+    await $!
+    dk_status=$?
+    [ "$dk_status" != 0 ] || [ ! -s "$dk_spans" ] || dk_status=1
+    finish "$dk_status"
 }
 dk_part=genomecov.sh

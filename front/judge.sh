@@ -5,6 +5,8 @@
 # Larger than any end
 FAR=999999999999
 MARK=$(printf '\357\273\277') ZIPPED=$(printf '\037\213') CR=$(printf '\r')
+KILOBYTE=xxxx
+for dk_part in 1 2 3 4; do KILOBYTE=$KILOBYTE$KILOBYTE$KILOBYTE$KILOBYTE; done
 
 # has_word OPTION: whether it stands in the command line
 has_word() { case $dk_words in *" $1 "*) ;; *) return 1 ;; esac; }
@@ -64,6 +66,7 @@ judge_words() {
     case $dk_command$dk_words in
     *' -held '*) return ;; # which bedtools only refuses
     merge*' -s '*) dk_why='merge -s of bedtools leaves overlaps and another order'; return ;;
+    merge*' -S '* | maskfasta*) dk_why='bedtools is as quick as a look at the files'; return ;;
     complement*' -i '* | merge*) ;;
     complement*) dk_why='bedtools needs -i'; return ;;
     bamtobed*' -split '*) ! has_word -cigar || dk_why='bedtools leaves out -cigar beside -split' ;;
@@ -133,7 +136,7 @@ is_stream() {
 is_bam() { [ "$(gzip -dc < "$1" 2> /dev/null | head -c 3)" = BAM ]; }
 
 # look_at FILE [GENOME]: sets `dk_why` if merge doesn't take it, or if bedtools passes over lines of it or cuts them;
-# else `dk_millions` of lines, and in the file `dk_spans` each chromosome with its first start and its last end
+# else the file `dk_spans` has each chromosome with its first start and its last end
 look_at() {
     find_spans "$@"
     [ -n "$dk_why" ] || look_at_names "$1"
@@ -164,10 +167,12 @@ look_at_lines() {
     esac
     LC_ALL=C tr -dc '\000' < "$1" > "$dk_spare" &
     if ! await $! || [ -s "$dk_spare" ]; then dk_why="$1 has a NUL"; return; fi
-    LC_ALL=C awk 'length < 2 || length > 1023 || /\r\r$/ { exit 1 }
-        END { print int(NR / 1000000) }' < "$1" > "$dk_spare" 2> /dev/null &
-    await $! && read -r dk_millions < "$dk_spare" ||
-        dk_why="$1 has a blank line, one of over 1,023 bytes, or one that ends with CR CR"
+    LC_ALL=C grep -qaE "^.?\$|$CR$CR" < "$1" &
+    await $!
+    [ $? = 1 ] || { dk_why="$1 has a blank line, or one with CR CR"; return; }
+    LC_ALL=C tr -c '\n' x < "$1" | LC_ALL=C grep -qF "$KILOBYTE" &
+    await $!
+    [ $? = 1 ] || dk_why="$1 has a line of over 1,023 bytes"
 }
 
 # look_at_genome FILE: a comment with a tab is a chromosome of bedtools
@@ -181,7 +186,6 @@ look_closer() {
     intersect*' -s '* | subtract*' -s '*)
         has_strands '[-+]' "$1" || dk_why="$1 has records without a strand"
         ;;
-    merge*' -S '*) has_strands '[-+.]' "$1" || dk_why="$1 has records whose sixth column is no strand" ;;
     complement*) ends_fit "$2" || dk_why="$1 goes past the end of a chromosome" ;;
     esac
 }
@@ -211,21 +215,20 @@ has_short_records() {
         dk_digits=${dk_digits%?} dk_limit=$((dk_limit / 10))
     done
     [ "$dk_limit" -gt 0 ] || return
-    LC_ALL=C awk -F '\t' -v OFS='\t' -v end=1000000000000 '{ print $1, 0, end }' < "$dk_spans" > "$dk_spare"
+    LC_ALL=C awk -F '\t' -v OFS='\t' -v end="$FAR" '{ print $1, 0, end }' < "$dk_spans" > "$dk_spare"
     "$dk_program" intersect -u -r -f "$(printf '0.%09d' "$dk_limit")" -a "$1" -b "$dk_spare" ${2:+-g "$2"} \
         < /dev/null > "$dk_spans" 2> /dev/null &
     await $! && [ ! -s "$dk_spans" ]
 }
 
-# has_several_hits: whether a record of -a has several hits, which bedtools lists in an order of its own without
-# -sorted. In the file `dk_spare` are, for each record with hits, its columns and its hits.
-has_several_hits() {
+# has_single_hits: whether no record of -a has several hits, which bedtools lists in an order of its own without -sorted
+has_single_hits() {
     set -- -a "$dk_a" -b "$dk_b" ${dk_g:+-g "$dk_g"} ${dk_f:+-f "$dk_f"}
     ! has_word -r || set -- "$@" -r
     ! has_word -s || set -- "$@" -s
-    "$dk_program" intersect -c "$@" < /dev/null 2> /dev/null |
-        LC_ALL=C awk -F '\t' '$NF { print NF - 1, $NF } $NF > 1 { several = 1 } END { exit !several }' > "$dk_spare" &
+    "$dk_program" intersect -c "$@" < /dev/null 2> /dev/null | LC_ALL=C grep -qav "${TAB}[01]\$" &
     await $!
+    [ $? = 1 ]
 }
 
 # lists_hits: whether intersect lists the hits of a record, and not by the order of -sorted
@@ -258,22 +261,4 @@ streams_are_known() {
     case $dk_command$dk_words in bamtobed* | maskfasta*) return 1 ;; genomecov*' -bg '* | [!g]*) ;; *) return 1 ;; esac
 }
 
-# look_at_sequences: sets `dk_why` for maskfasta: bedtools writes headers up to their first space, and each line as long
-# as the first. Lines that aren't as long are headers and the last lines of sequences.
-look_at_sequences() {
-    dk_why="bedtools writes the headers or the lines of $dk_fi otherwise"
-    [ "$(tail -c 1 < "$dk_fi" && echo .)" = "$NL." ] || return
-    dk_line='' dk_width=$(head -n 2 < "$dk_fi" | tail -n 1)
-    dk_width=${#dk_width}
-    [ "$dk_width" -gt 0 ] && [ "$dk_width" -le 255 ] || return
-    LC_ALL=C grep -anvE "^[^>$CR][^$CR]{$((dk_width - 1))}\$" < "$dk_fi" > "$dk_spare" &
-    await $! || return
-    wc -l < "$dk_fi" > "$dk_spans" &
-    await $! || return
-    { cat "$dk_spare"; cat "$dk_spans"; } |
-        LC_ALL=C awk -v width="$dk_width" -f "$dk_files/sequence_sizes.awk" > "$dk_genome" || return
-    dk_why=''
-    look_at "$dk_bed" "$dk_genome"
-    [ -n "$dk_why" ] || ends_fit "$dk_genome" || dk_why="$dk_bed goes past the end of a sequence"
-}
 dk_part=judge.sh

@@ -82,7 +82,6 @@ count_stream() {
 is_worth_it() {
     case $dk_command in
     intersect | subtract) set -- "$dk_a" "$dk_b"; dk_least=$((dk_small / 2)) ;;
-    maskfasta) set -- "$dk_fi" "$dk_bed"; dk_least=$dk_small ;;
     *) set -- "${dk_ibam:-$dk_i}"; dk_least=$dk_small ;;
     esac
     dk_bytes=0
@@ -128,11 +127,11 @@ open_copies() {
             - | stdin) eval "command exec $dk_free<&0" ;;
             *) eval "command exec $dk_free< \"\$dk_word\"" ;;
             esac 2> /dev/null || return
-            dk_from="$dk_from $dk_free"
+            dk_from="${dk_from:+$dk_from }$dk_free"
         fi
         if [ -n "$dk_kind" ]; then
             open_files copy || return
-            dk_copies="$dk_copies $dk_copy"
+            dk_copies="${dk_copies:+$dk_copies }$dk_copy"
         fi
         dk_before=$dk_word
     done
@@ -149,12 +148,15 @@ with_copies() {
         if [ -z "$dk_kind" ]; then
             set -- "$@" "$1"
         else
-            dk_left=${dk_left# }
             dk_copy=${dk_left%% *}
             dk_left=${dk_left#"$dk_copy"}
+            dk_left=${dk_left# }
             case $dk_kind in
-            stream) set -- "$@" "$dk_copy"; dk_to="$dk_to $dk_copy" ;;
-            gzip) if unzip "$1" "$dk_copy"; then set -- "$@" "$dk_copy"; else set -- "$@" "$1"; fi ;;
+            stream) set -- "$@" "$dk_copy"; dk_to="${dk_to:+$dk_to }$dk_copy" ;;
+            gzip)
+                if unzip "$1" "$dk_copy"; then eval "dk_zipped_${dk_copy##*/}=\$1"; else dk_copy=$1; fi
+                set -- "$@" "$dk_copy"
+                ;;
             esac
         fi
         shift
@@ -168,25 +170,40 @@ with_copies() {
     fi
     [ -n "$dk_why" ] || open_files spans spare genome || dk_why='TMPDIR takes no file, or too many are open'
     [ -n "$dk_why" ] || decide "$@"
+    with_gzip_files "$@"
+}
+
+# with_gzip_files WORD..: becomes the original, with the gzip files themselves
+with_gzip_files() {
+    for dk_word; do
+        case $dk_word in /dev/fd/[3-9]) eval "dk_word=\${dk_zipped_${dk_word##*/}:-\$dk_word}" ;; esac
+        set -- "$@" "$dk_word"
+        shift
+    done
     by_original "$dk_why" "$dk_command" "$@"
 }
 
 # unzip FILE COPY: sets `dk_why` if it is no whole gzip file, or a long one
 unzip() {
     { gzip -dc < "$1" 2> /dev/null || echo "$2 1" > "$dk_marks"; } | head -c "$((dk_room + 1))" > "$2" 2> /dev/null &
-    await $! && [ ! -s "$dk_marks" ] && [ "$(wc -c < "$2")" -le "$dk_room" ] && return
+    await $! && [ ! -s "$dk_marks" ] && is_one_part "$1" "$2" && [ "$(wc -c < "$2")" -le "$dk_room" ] && return
     : > "$dk_marks"
-    dk_why="$1 is a long gzip file, or a broken one"
+    dk_why="$1 is a long gzip file, or a broken one, or one of several parts"
     return 1
+}
+
+# is_one_part FILE COPY: whether a gzip file is in blocks, as bgzip writes it, or of one part, whose length is at its
+# end. Of others bedtools may read the first part alone.
+is_one_part() {
+    [ "$(od -A n -t x1 -N 4 < "$1" | tr -d ' \n')" != 1f8b0804 ] || return 0
+    dk_length=$(tail -c 4 < "$1" | od -A n -t u1 | awk '{ print $1 + 256 * ($2 + 256 * ($3 + 256 * $4)) }')
+    [ "$dk_length" = "$(wc -c < "$2")" ]
 }
 
 # copy_streams WORD..: copies all streams at once. A long one goes to the original, behind its copy.
 copy_streams() {
-    dk_streams=0 dk_left=$dk_to
-    for dk_stream in $dk_from; do
-        dk_left=${dk_left# }
-        dk_copy=${dk_left%% *}
-        dk_left=${dk_left#"$dk_copy"}
+    dk_streams=0 dk_pairs="$dk_from/$dk_to"
+    while next_copy; do
         copy_stream "$dk_stream" "$dk_copy" &
         dk_children="$dk_children $!"
         dk_streams=$((dk_streams + 1))
@@ -197,34 +214,10 @@ copy_streams() {
         say 'TMPDIR has no room for a stream, which is lost'
         exit 1
     fi
-    [ -z "$dk_long" ] || pour "$@"
+    dk_from=${dk_pairs%%/*} dk_to=${dk_pairs#*/}
+    [ -z "$dk_long" ] || pour_out "$@"
     dk_children=''
     for dk_stream in $dk_from; do close_file "$dk_stream"; done
-}
-
-# pour WORD..: runs the original, with pipes in the place of the copies, in which the streams go on
-pour() {
-    dk_left=$dk_to dk_feeds=''
-    for dk_stream in $dk_from; do
-        dk_left=${dk_left# }
-        dk_copy=${dk_left%% *}
-        dk_left=${dk_left#"$dk_copy"}
-        open_feed "$dk_stream" "$dk_copy" || { end_children; say 'TMPDIR takes no pipe: a stream is lost'; exit 1; }
-        close_file "$dk_stream"
-    done
-    ( by_original 'its stream is long' "$dk_command" "$@" ) &
-    dk_taker=$!
-    dk_children="$dk_children $dk_taker"
-    for dk_copy in $dk_to; do close_file "$dk_copy"; done
-    wait "$dk_taker"
-    dk_status=$?
-    # shellcheck disable=SC2086
-    kill -s TERM $dk_children 2> /dev/null
-    for dk_feed in $dk_feeds; do
-        wait "$dk_feed" 2> /dev/null
-        case $? in 0 | 141 | 143) ;; *) say 'a stream was lost'; exit 1 ;; esac
-    done
-    finish "$dk_status"
 }
 
 # decide WORD..: becomes the program, or sets `dk_why`
@@ -235,35 +228,15 @@ decide() {
         ! read_part "$dk_command.sh" || { dk_why='' && take_"$dk_command" "$@"; }
         return
         ;;
-    maskfasta) look_at_sequences ;;
     intersect | subtract) look_at_features "$dk_a" "$dk_b" ;;
     *) look_at_features "$dk_i" ;;
     esac
     [ -z "$dk_why" ] || return 0
     [ "$dk_copied" != known ] || by_program 'DUNEKETTLE_STREAMS says what its stream has' "$dk_command" "$@"
-    if lists_hits && has_several_hits; then order_hits "$@"; fi
+    if lists_hits && ! has_single_hits; then
+        dk_why='bedtools orders the hits of a record otherwise; -sorted orders them'
+        return
+    fi
     by_program 'its words and its files are as it takes them' "$dk_command" "$@"
-}
-
-# order_hits WORD..: writes the hits of each record in the order of bedtools, which the file `dk_spare` counts
-order_hits() {
-    dk_columns=all
-    has_word -wb || has_word -wo || { dk_columns=first; set -- "$@" -wb; }
-    tell 'Dunekettle takes intersect: awk orders the hits of each record'
-    write_through order_hits.awk "$dk_columns" intersect "$@"
-}
-
-# write_through FILTER VALUE WORD..: writes what awk makes of the output of the program, which the words run, and ends
-# as both do
-write_through() {
-    dk_filter=$1 dk_value=$2
-    shift 2
-    : > "$dk_spans"
-    { "$dk_program" "$@" < /dev/null || echo > "$dk_spans"; } |
-        LC_ALL=C awk -v value="$dk_value" -v hits_file="$dk_spare" -f "$dk_files/float.awk" -f "$dk_files/$dk_filter" &
-    await $!
-    dk_status=$?
-    [ "$dk_status" != 0 ] || [ ! -s "$dk_spans" ] || dk_status=1
-    finish "$dk_status"
 }
 dk_part=plan.sh

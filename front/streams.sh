@@ -65,20 +65,28 @@ await_copies() {
     done
 }
 
+# next_copy: takes the next stream and its copy from the lists `dk_from` and `dk_to`
+next_copy() {
+    [ -n "$dk_to" ] || return
+    dk_stream=${dk_from%% *} dk_copy=${dk_to%% *}
+    dk_from=${dk_from#"$dk_stream"} dk_to=${dk_to#"$dk_copy"}
+    dk_from=${dk_from# } dk_to=${dk_to# }
+}
+
 # copies_are_marked COUNT: sets `dk_long` if one is too long, and `dk_lost` if one failed
 copies_are_marked() {
     dk_marked=0 dk_long='' dk_lost=''
-    while read -r dk_copy dk_status; do
+    while read -r dk_mark dk_status; do
         dk_marked=$((dk_marked + 1))
         [ "$dk_status" = 0 ] || dk_lost=1
-        [ "$(wc -c < "$dk_copy")" -le "$dk_room" ] || dk_long=1
+        [ "$(wc -c < "$dk_mark")" -le "$dk_room" ] || dk_long=1
     done < "$dk_marks"
     [ -n "$dk_long$dk_lost" ] || [ "$dk_marked" -ge "$1" ]
 }
 
 # is_marked COPY: whether nothing more comes into it
 is_marked() {
-    while read -r dk_copy dk_status; do [ "$dk_copy" != "$1" ] || return 0; done < "$dk_marks"
+    while read -r dk_mark dk_status; do [ "$dk_mark" != "$1" ] || return 0; done < "$dk_marks"
     return 1
 }
 
@@ -92,16 +100,46 @@ feed() {
         dk_at=$dk_size
         [ -n "$dk_ended" ] || sleep 0.1 2> /dev/null || sleep 1
     done
-    cat <&"$1"
+    exec cat <&"$1"
 }
 
-# open_feed STREAM COPY: puts a pipe into the place of the copy, from which comes what `feed` writes
-open_feed() {
-    dk_folder=$(mktemp -d "${TMPDIR:-/tmp}/dunekettle-XXXXXX") && mkfifo "$dk_folder/pipe" || return
-    feed "$1" "$2" > "$dk_folder/pipe" &
-    dk_feeds="$dk_feeds $!" dk_children="$dk_children $!"
-    eval "exec ${2##*/}< \"\$dk_folder/pipe\""
-    rm -rf "$dk_folder"
-    dk_folder=''
+# feed_marked STREAM COPY: the same, marked with its process, and if it lost something
+feed_marked() {
+    feed "$1" "$2" &
+    printf 'feeder %s\n' $! >> "$dk_marks"
+    wait $!
+    case $? in 0 | 141 | 143) ;; *) echo lost >> "$dk_marks" ;; esac
+}
+
+# pour WORD..: runs the original, with a pipe in the place of each copy, in which its stream goes on
+pour() {
+    next_copy || by_original 'its stream is long' "$dk_command" "$@"
+    feed_marked "$dk_stream" "$dk_copy" | {
+        eval "exec ${dk_copy##*/}<&0"
+        close_file "$dk_stream"
+        pour "$@"
+    } &
+    dk_children="$dk_children $!"
+    trap 'kill $dk_children; exit 143' TERM
+    wait $!
+    exit
+}
+
+# pour_out WORD..: the same, until the original ends; then nothing is fed any longer
+pour_out() {
+    ( pour "$@" ) &
+    dk_taker=$!
+    dk_children="$dk_children $dk_taker"
+    wait "$dk_taker"
+    dk_status=$?
+    while read -r dk_mark dk_feeder; do
+        case $dk_mark in
+        feeder) kill -s TERM "$dk_feeder" ;;
+        lost) dk_status=lost ;;
+        esac
+    done < "$dk_marks" 2> /dev/null
+    end_children
+    [ "$dk_status" != lost ] || { say 'a stream was lost'; exit 1; }
+    finish "$dk_status"
 }
 dk_part=streams.sh
