@@ -11,6 +11,7 @@ plan() {
     case $dk_room$dk_small in *[!0-9]*) dk_why='DUNEKETTLE_ROOM or DUNEKETTLE_SMALL is no number' ;; esac
     read_options "$@"
     [ -n "$dk_why" ] || judge_words "$@"
+    [ -n "$dk_why" ] || ! has_word -held || by_program 'bedtools only refuses -held' "$dk_command" "$@"
     [ -n "$dk_why" ] || find_copies "$@"
     [ -n "$dk_why" ] || [ -n "$dk_copied" ] || is_worth_it
     [ -n "$dk_why" ] || is_known_version
