@@ -33,7 +33,7 @@ def spread(draw, count, shortest, longest):
 
 def make_features(folder, draw):
     """Peaks, genes, their exons and transcripts, a blacklist, and windows in no order. Returns the transcripts."""
-    for sample in (1, 2, 3):
+    for sample in range(1, 9):
         write(folder, f"peaks_{sample}.narrowPeak", by_bytes(
             [c, s, e, f"sample{sample}", draw.randrange(1000), ".", round(draw.random() * 20, 3), -1, -1, (e - s) // 2]
             for _, c, s, e, _ in spread(draw, 80_000, 100, 800)))

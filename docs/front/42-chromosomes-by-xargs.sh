@@ -2,8 +2,9 @@
 # Each chromosome in a process of its own, by xargs.
 set -euo pipefail
 
-cut -f 1 sorted.sizes > names.txt
-xargs -P 2 -I{} sh -c 'grep -w "^{}" exons.bed > "exons.{}.bed"' < names.txt
-xargs -P 2 -I{} sh -c 'bedtools merge -d 5 -i "exons.{}.bed" > "merged.{}.bed"' < names.txt
-xargs -P 2 -I{} sh -c 'bedtools intersect -u -sorted -a "merged.{}.bed" -b peaks_2.narrowPeak > "hits.{}.bed"' < names.txt
-xargs -I{} cat "hits.{}.bed" < names.txt
+bedtools bamtobed -i chip.bam > all.bed
+cut -f 1 chrom.sizes > names.txt
+xargs -P 2 -I{} sh -c 'grep -w "^{}" all.bed > "reads.{}.bed"' < names.txt
+xargs -P 2 -I{} sh -c 'bedtools merge -d 100 -i "reads.{}.bed" > "merged.{}.bed"' < names.txt
+xargs -P 2 -I{} sh -c 'bedtools intersect -c -sorted -a "merged.{}.bed" -b "reads.{}.bed" > "counts.{}.bed"' < names.txt
+xargs -I{} cat "counts.{}.bed" < names.txt | cksum
