@@ -5,8 +5,9 @@ import random
 import subprocess
 from pathlib import Path
 
-SIZES = {"chr1": 60_000_000, "chr2": 58_000_000, "chr3": 52_000_000, "chr4": 50_000_000, "chr5": 48_000_000, "chr6": 46_000_000, "chr10": 42_000_000,
-         "chr11": 40_000_000, "chr12": 36_000_000, "chrX": 50_000_000}
+# A genome of a thousand million bases, about that of a chicken.
+SIZES = {"chr1": 130_000_000, "chr2": 120_000_000, "chr3": 110_000_000, "chr4": 105_000_000, "chr5": 100_000_000, "chr6": 95_000_000,
+         "chr10": 90_000_000, "chr11": 85_000_000, "chr12": 80_000_000, "chrX": 85_000_000}
 SMALL = {"chr1": 120_000, "chr10": 60_000, "chr2": 90_000}
 
 

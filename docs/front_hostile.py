@@ -490,7 +490,9 @@ def try_gone_readers(place, folder, count):
     (folder / "long.bed").write_text("".join(f"chr1\t{9 * n}\t{9 * n + 5}\n" for n in range(99_999)), encoding="utf-8")
     (folder / "long.fa").write_text(">chr1\n" + 99_999 * "ACGTACGT\n", encoding="utf-8")
     env = looking(drop_in(place))
-    lines = ["merge -i long.bed", "intersect -u -a long.bed -b long.bed", "complement -i long.bed -g far.txt", "maskfasta -fi long.fa -bed f.bed -fo /dev/stdout"]
+    lines = ["merge -i long.bed", "intersect -u -a long.bed -b long.bed", "complement -i long.bed -g far.txt", "maskfasta -fi long.fa -bed f.bed -fo /dev/stdout",
+             "genomecov -bg -i long.bed -g far.txt", "genomecov -bga -scale 0.5 -i long.bed -g far.txt", "genomecov -d -i long.bed -g far.txt",
+             "intersect -wa -wb -a long.bed -b long.bed", "merge -i <(cat long.bed)"]
     (folder / "far.txt").write_bytes(b"chr1\t9000000\n")
     for words in (["sh"], ["dash"], ["bash", "--posix"], ["busybox", "sh"], ["mksh"], ["yash"]):
         if not shutil.which(words[0]):
