@@ -219,7 +219,7 @@ def try_originals(place, folder, count):
             output, _, status = call(["bedtools", *words], folder, env)
             count.expect(f"original {name}: {words}", (True, 0), (output.startswith(b"dunekettle "), status))
     # An original that says what it was given, and two that call bedtools on PATH again: one in its place, one as a child.
-    for name, script in (("says", "printf '%s\\0' \"$@\"\nexit 7"), ("again", 'exec bedtools "$@"'), ("child", 'bedtools "$@"')):
+    for name, script in (("says", "case $* in --version) echo bedtools v2.30.0; exit ;; esac\nprintf '%s\\0' \"$@\"\nexit 7"), ("again", 'exec bedtools "$@"'), ("child", 'bedtools "$@"')):
         (top / name).mkdir()
         (top / name / "bedtools").write_text(f"#!/bin/sh\n{script}\n", encoding="utf-8")
         (top / name / "bedtools").chmod(0o755)
@@ -279,7 +279,8 @@ def try_paths(place, folder, count):
                      "maskfasta -fi cut.fa -bed cut.bed -fo masked.fa", "bamtobed -i zero_pos.sam"):
             env = {**looking(), "PATH": f"{drop_in(place)}:{few}:{says}"}
             count.expect(f"no {missing}: {line}", 7, call(["bedtools", *line.split()], folder, env)[2])
-    for part in ("lib/dunekettle/judge.sh", "bin/dunekettle-bedtools", "lib/dunekettle/help.txt", "lib/dunekettle/hints.sh"):
+    for part in ("lib/dunekettle/judge.sh", "lib/dunekettle/plan.sh", "lib/dunekettle/streams.sh", "bin/dunekettle-bedtools", "lib/dunekettle/help.txt",
+                 "lib/dunekettle/hints.sh"):
         for how in ("missing", "empty", "half", "a folder"):
             broken = install(top / f"{Path(part).name} {how}")
             text = (broken / part).read_bytes()
@@ -398,30 +399,29 @@ def try_streams(place, folder, count):
             if line == "merge -i f.bed":
                 judged = shell(f"bedtools {line} {streams}", folder, alone, input=FILES["f.bed"])
                 count.expect(f"bedtools {line} {streams}", wanted, judged)
-    # A stream goes to bedtools, unless DUNEKETTLE_STREAMS says that it is sorted BED.
-    ours = ("intersect -sorted -a - -b f.bed -u -g g.txt", "complement -i - -g g.txt", "intersect -g g.txt -sorted -u -a f.bed -b /dev/stdin", "merge -i -", "merge",
-            "complement -i stdin -g g.txt", "intersect -a - -b f.bed -u", "intersect -sorted -a - -b f.bed -u", "genomecov -bg -i - -g g.txt", "subtract -a f.bed -b /dev/fd/0",
-            "merge -i link.bed", "merge -i /dev/./stdin")
-    theirs = ("intersect -sorted -a - -b /dev/stdin", "bamtobed", "bamtobed -i -", "intersect -sorted -g g.txt -s -a - -b f.bed", "maskfasta -fi s.fa -bed -",
-              "maskfasta -fi - -bed f.bed", "merge -S + -i -", "intersect -f 0.5 -u -a - -b f.bed", "genomecov -bga -i - -g g.txt", "complement -g g.txt", "genomecov -bg -g g.txt",
-              "merge -i f.bed.gz -", "intersect -sorted -u -a - -b unsorted.bed")
+    # A stream is copied and looked at, unless DUNEKETTLE_STREAMS says that it is sorted BED. A device isn't copied.
+    known = ("intersect -sorted -a - -b f.bed -u -g g.txt", "complement -i - -g g.txt", "intersect -g g.txt -sorted -u -a f.bed -b /dev/stdin", "merge -i -", "merge",
+             "complement -i stdin -g g.txt", "intersect -a - -b f.bed -u", "intersect -sorted -a - -b f.bed -u", "genomecov -bg -i - -g g.txt", "subtract -a f.bed -b /dev/fd/0",
+             "merge -i link.bed", "merge -i /dev/./stdin")
+    seen = ("intersect -sorted -g g.txt -s -u -a - -b f.bed", "intersect -f 0.5 -u -a - -b f.bed", "genomecov -bga -i - -g g.txt", "genomecov -i - -g g.txt")
+    theirs = ("intersect -sorted -a - -b /dev/stdin", "bamtobed", "bamtobed -i -", "maskfasta -fi s.fa -bed -", "maskfasta -fi - -bed f.bed", "merge -S + -i -", "complement -g g.txt",
+              "genomecov -bg -g g.txt", "merge -i f.bed.gz -", "intersect -sorted -u -a - -b unsorted.bed")
     (folder / "link.bed").symlink_to("/dev/stdin")
-    for line in (*ours, *theirs):
+    for line in (*known, *seen, *theirs):
         for asked in ("0", "1"):
             for source in ("", "< f.bed", "cat f.bed |"):
                 script = f"bedtools {line} {source}" if "|" not in source else f"{source} bedtools {line}"
                 status = shell(script, folder, {**alone, "DUNEKETTLE_STREAMS": asked})[2]
-                count.expect(f"a stream: {script}, STREAMS={asked}", 0 if line in ours and asked == "1" else 7, status)
+                is_ours = line in known and (source or asked == "1") or line in seen and source
+                count.expect(f"a stream: {script}, STREAMS={asked}", 0 if is_ours else 7, status)
     (folder / "link.bed").unlink()
     found = call(["bedtools", "merge"], folder, {**alone, "DUNEKETTLE_STREAMS": "1"}, input=FILES["f.bed"])
     count.expect("STREAMS", (MERGED, "", 0), found)
-    # What only Dunekettle takes it takes of a stream too.
-    found = call(["bedtools", "merge", "-i", "-", "-g", "g.txt"], folder, alone, input=FILES["f.bed"])
-    count.expect("merge -g of a stream", (MERGED, "", 0), found)
-    for line in ("merge -i <(cat f.bed)", "complement -i <(cat f.bed) -g g.txt", "complement -i f.bed -g <(cat g.txt)", "intersect -sorted -g g.txt -u -a f.bed -b <(cat f.bed)"):
-        count.expect(f"a pipe of a shell: {line}", 7, call(["bash", "-c", f"bedtools {line}"], folder, alone)[2])
+    for line in ("merge -i <(cat f.bed)", "complement -i <(cat f.bed) -g g.txt", "complement -i f.bed -g <(cat g.txt)", "intersect -sorted -g g.txt -u -a f.bed -b <(cat f.bed)",
+                 "intersect -u -a <(cat f.bed) -b <(cat f.bed)", "genomecov -i <(cat f.bed) -g <(cat g.txt)"):
+        count.expect(f"a pipe of a shell: {line}", 0, call(["bash", "-c", f"bedtools {line}"], folder, alone)[2])
     os.mkfifo(folder / "pipe")
-    count.expect("a named pipe", 7, call(["bedtools", "complement", "-i", "pipe", "-g", "g.txt"], folder, alone)[2])
+    count.expect("a named pipe", 0, shell("cat f.bed > pipe & bedtools complement -i pipe -g g.txt", folder, alone)[2])
     (folder / "pipe").unlink()
 
 
@@ -591,11 +591,13 @@ def try_awks(place, folder, count):
     (folder / "d.bed").write_bytes(b"chr1\t2\t6\ta\t0\t+\nchr2\t4\t8\tb\t0\t-\n")
     (folder / "late.bed").write_bytes(b"chr2\t4\t8\tb\t0\t-\n")
     (folder / "two.fa").write_bytes(b">chr1\nACGTA\nACGTA\nAC\n>chr2\nACGTA\nACGT\n")
-    (folder / "uneven.fa").write_bytes(b">chr1\nACG\nACGTA\n")
+    (folder / "blocks.bed").write_bytes(b"chr2\t1\t8\tt\t0\t+\t1\t8\t0\t2\t2,3,\t0,4,\n")
     ours = ("complement -i d.bed -g g.txt", "genomecov -bga -i d.bed -g g.txt", "intersect -s -u -a d.bed -b f.bed", "intersect -a d.bed -b d.bed",
-            "intersect -f 0.25 -u -a d.bed -b f.bed", "maskfasta -fi two.fa -bed d.bed -fo masked.fa", "bamtobed -i sam.sam", "merge -i a\nb.bed", "merge -i crlf2.bed")
-    theirs = ("complement -i past.bed -g g.txt", "genomecov -bga -i late.bed -g g.txt", "intersect -s -u -a d.bed -b dot.bed", "intersect -a f.bed -b f.bed",
-              "intersect -f 0.25000001 -u -a long.bed -b f.bed", "maskfasta -fi uneven.fa -bed late.bed -fo masked.fa", "bamtobed -i zero.sam", "merge -i crlf.bed",
+            "intersect -f 0.25 -u -a d.bed -b f.bed", "bamtobed -i sam.sam", "merge -i a\nb.bed", "merge -i crlf2.bed", "genomecov -i late.bed -g g.txt",
+            "genomecov -d -i d.bed -g g.txt", "genomecov -dz -i d.bed -g g.txt", "genomecov -bg -scale 0.3 -i d.bed -g g.txt", "genomecov -bga -strand + -i d.bed -g g.txt",
+            "genomecov -bga -i late.bed -g g.txt", "genomecov -bg -split -i blocks.bed -g g.txt")
+    theirs = ("complement -i past.bed -g g.txt", "intersect -s -u -a d.bed -b dot.bed", "intersect -a f.bed -b f.bed",
+              "intersect -f 0.25000001 -u -a long.bed -b f.bed", "maskfasta -fi two.fa -bed d.bed -fo masked.fa", "bamtobed -i zero.sam", "merge -i crlf.bed",
               "merge -i numbers.vcf", "merge -i wide.bed")
     (folder / "past.bed").write_bytes(b"chr1\t25\t30\n")
     (folder / "long.bed").write_bytes(b"chr1\t0\t70\n")

@@ -6,9 +6,9 @@ files of sorted BED.
 
 The rules: genomecov in any order of chromosomes, its forms, its blocks of BED12 and of BAM; bamtobed through samtools;
 the order of hits; streams that are short, long, or two of one producer; gzip files; bytes that bedtools reads
-otherwise. Each command line has to write the same bytes with the same status, whoever takes it, and leave no file in
-TMPDIR. Shows how many of each rule Dunekettle took. Ends with 1 where one differs, and with 0 and a word where there is
-no bedtools 2.30.0.
+otherwise. Each command line has to write the same bytes with the same status, and leave no file in TMPDIR; if bedtools
+ends with another status than 0, Dunekettle may take it. Shows how many of each rule Dunekettle took. Ends with 1 where
+one differs, and with 0 and a word where there is no bedtools 2.30.0.
 """
 
 import concurrent.futures
@@ -230,7 +230,8 @@ def try_seed(rule, seed, theirs, place, with_awk):
         found = ran(line, drop_in(place) / "bedtools", folder, env, source)
         left = [file.name for file in temporary.iterdir()]
     taker = (TOLD.findall(found[2]) or [("nobody", "")])[0][0]
-    wrong = "" if wanted[:2] == found[:2] and not left else f"{rule} {seed}: {line}, taken by {taker}, left {left}\n  wanted {wanted!r:.700}\n  found  {found!r:.700}\n  files  {files!r:.1500}"
+    is_refused = wanted[1] != 0 and taker == "Dunekettle"
+    wrong = "" if (wanted[:2] == found[:2] or is_refused) and not left else f"{rule} {seed}: {line}, taken by {taker}, left {left}\n  wanted {wanted!r:.700}\n  found  {found!r:.700}\n  files  {files!r:.1500}"
     return rule, "Dunekettle" if taker == "Dunekettle" else "bedtools", wrong
 
 

@@ -167,9 +167,9 @@ look_at_lines() {
     esac
     LC_ALL=C tr -dc '\000' < "$1" > "$dk_spare" &
     if ! await $! || [ -s "$dk_spare" ]; then dk_why="$1 has a NUL"; return; fi
-    LC_ALL=C grep -qaE "^.?\$|$CR$CR" < "$1" &
+    LC_ALL=C grep -qaE "^.?\$|$CR$CR|^##fileformat=VCF" < "$1" &
     await $!
-    [ $? = 1 ] || { dk_why="$1 has a blank line, or one with CR CR"; return; }
+    [ $? = 1 ] || { dk_why="$1 has a blank line, CR CR, or a header line of VCF"; return; }
     LC_ALL=C tr -c '\n' x < "$1" | LC_ALL=C grep -qF "$KILOBYTE" &
     await $!
     [ $? = 1 ] || dk_why="$1 has a line of over 1,023 bytes"
