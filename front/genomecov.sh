@@ -159,11 +159,15 @@ write_through() {
     dk_filter=$1 dk_value=$2
     shift 2
     : > "$dk_spans"
-    { "$dk_program" "$@" < /dev/null || echo > "$dk_spans"; } |
+    { "$dk_program" "$@" < /dev/null 2> "$dk_spans" || echo >> "$dk_spans"; } |
         LC_ALL=C awk -v value="$dk_value" -f "$dk_files/float.awk" -f "$dk_files/$dk_filter" &
     await $!
     dk_status=$?
-    [ "$dk_status" != 0 ] || [ ! -s "$dk_spans" ] || dk_status=1
+    # Without a reader awk ends by SIGPIPE. What the program then says isn't a fault of its own.
+    if [ "$dk_status" = 0 ] && [ -s "$dk_spans" ]; then
+        grep . < "$dk_spans" >&2
+        dk_status=1
+    fi
     finish "$dk_status"
 }
 dk_part=genomecov.sh
