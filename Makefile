@@ -93,7 +93,8 @@ check-differences: $(PROGRAM)
 
 # The front and the drop-in: hostile cases, random command lines, and pipelines, unchanged, with the drop-in first on PATH.
 check-front: $(PROGRAM)
-	! command -v shellcheck > /dev/null || shellcheck -x front/dunekettle packaging/*.sh docs/front/*.sh examples/recipes/*.sh
+	! command -v shellcheck > /dev/null || \
+	shellcheck -x front/dunekettle front/*.sh packaging/*.sh docs/front/*.sh examples/recipes/*.sh
 	docs/front_hostile.py
 	docs/front_random.py
 	docs/front.py

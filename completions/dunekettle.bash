@@ -13,6 +13,7 @@ _dunekettle() {
             'maskfasta  (writes the lines of a FASTA file, with N instead of each base that a record of the BED file covers)'
             'help  (shows the options of a command)'
             'check  (says whether the commands can take a file, and why not)'
+            'report  (says how many calls of a pipeline Dunekettle took, and why not the others)'
         )
     else
         case $command:${COMP_WORDS[COMP_CWORD - 1]} in
@@ -20,6 +21,7 @@ _dunekettle() {
         merge:-S | genomecov:-strand) lines=(+ -) ;;
         merge:-d | intersect:-f | intersect:-held | subtract:-f | subtract:-held | maskfasta:-mc) return ;;
         help:*) lines=(merge complement intersect subtract genomecov bamtobed maskfasta) ;;
+        report:*) compopt -o default; return ;;
         check:*) [[ $word == -* ]] || { compopt -o default; return; } ;;&
         merge:*) lines=(
             '-i  (the features; - or stdin is standard input)'

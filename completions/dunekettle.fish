@@ -9,8 +9,9 @@ complete -c dunekettle -n __fish_use_subcommand -a bamtobed -d 'writes each alig
 complete -c dunekettle -n __fish_use_subcommand -a maskfasta -d 'writes the lines of a FASTA file, with N instead of each base that a record of the BED file covers'
 complete -c dunekettle -n __fish_use_subcommand -a help -d 'shows the options of a command'
 complete -c dunekettle -n __fish_use_subcommand -a check -d 'says whether the commands can take a file, and why not'
+complete -c dunekettle -n __fish_use_subcommand -a report -d 'says how many calls of a pipeline Dunekettle took, and why not the others'
 complete -c dunekettle -n '__fish_seen_subcommand_from help' -a 'merge complement intersect subtract genomecov bamtobed maskfasta'
-complete -c dunekettle -n '__fish_seen_subcommand_from check' -F
+complete -c dunekettle -n '__fish_seen_subcommand_from check report' -F
 complete -c dunekettle -n '__fish_seen_subcommand_from merge' -o i -r -F -d 'the features; - or stdin is standard input'
 complete -c dunekettle -n '__fish_seen_subcommand_from merge' -o g -r -F -d 'the chromosomes in their order: a genome file or a .fai index'
 complete -c dunekettle -n '__fish_seen_subcommand_from merge' -o d -x -d 'joins features up to N bases apart too'

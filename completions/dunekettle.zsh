@@ -11,6 +11,7 @@ commands=(
     'maskfasta:writes the lines of a FASTA file, with N instead of each base that a record of the BED file covers'
     'help:shows the options of a command'
     'check:says whether the commands can take a file, and why not'
+    'report:says how many calls of a pipeline Dunekettle took, and why not the others'
 )
 if ((CURRENT == 2)); then
     _describe command commands
@@ -22,6 +23,8 @@ shift words
 case $command in
 help)
     _describe command commands ;;
+report)
+    _files ;;
 merge)
     _arguments \
         '-i[the features; - or stdin is standard input]:FILE:_files' \

@@ -20,12 +20,13 @@ NAME = "dunekettle-bedtools"
 FRONT = "dunekettle"
 FILES = ("FILE", "GENOME", "FASTA", "BED")
 # What the front has beside the commands: its word, and what it does.
-OWN = {"help": "shows the options of a command", "check": "says whether the commands can take a file, and why not"}
+OWN = {"help": "shows the options of a command", "check": "says whether the commands can take a file, and why not",
+       "report": "says how many calls of a pipeline Dunekettle took, and why not the others"}
 # The options of `check`, as those of the commands.
 CHECK = [("-g", "GENOME", "", "the order of the chromosomes"), ("--json", "", "", "writes JSON")]
 VARIABLES = {
     "DUNEKETTLE_HINTS=0": "dunekettle gives no hints, and becomes the program",
-    "DUNEKETTLE_TELL=1": "the drop-in says which program takes a command line, and why; a path instead of 1 is a file for it",
+    "DUNEKETTLE_TELL=1": "the drop-in says which program takes a command line, and why; a path instead of 1 is a file for it, which report reads",
     "DUNEKETTLE_ALWAYS=1": "the drop-in never asks the original",
     "DUNEKETTLE_STREAMS=1": "the drop-in takes standard input and pipes as sorted BED without odd lines",
 }
@@ -99,6 +100,7 @@ def help_text(kit, commands):
              "dunekettle help COMMAND                  the options of a command, also COMMAND --help",
              "dunekettle check FILE.. [-g GENOME] [--json]",
              "                                         whether the commands can take these files",
+             "dunekettle report FILE                   what DUNEKETTLE_TELL=FILE wrote, in all",
              "dunekettle --version                     the version, the kit and the commands", "",
              "Input is sorted by chromosome and start: LC_ALL=C sort -k1,1 -k2,2n", ""]
     calls = {command: f"{FRONT} {synopsis(command, section)}" for command, section in sections(commands).items()}
@@ -118,6 +120,9 @@ def help_text(kit, commands):
                        "commands can take them all, else 1."), ""]
     for option, value, _, text in CHECK:
         lines += wrapped(f"  {(option + ' ' + value).rstrip():<15}", text)
+    lines += ["% report", "dunekettle report FILE", "",
+              *wrapped("", "Reads the file that DUNEKETTLE_TELL names, which has a line for each call of the drop-in, and says how many "
+                       "calls there were, how many of them Dunekettle took, and why not the others. Status 1 if it has no call.")]
     return lines
 
 
@@ -145,6 +150,7 @@ def all_words(name, commands):
     if name == FRONT:
         words["help"] = (OWN["help"], [])
         words["check"] = (OWN["check"], CHECK)
+        words["report"] = (OWN["report"], [])
     return words
 
 
@@ -165,7 +171,8 @@ def bash_file(name, commands):
                   for option, value, _, _ in options if kind_of(value) == kind]
         lines.append(f"        {' | '.join(places)}) {action} ;;")
     if name == FRONT:
-        lines += [f"        help:*) lines=({' '.join(commands)}) ;;", "        check:*) [[ $word == -* ]] || { compopt -o default; return; } ;;&"]
+        lines += [f"        help:*) lines=({' '.join(commands)}) ;;", "        report:*) compopt -o default; return ;;",
+                  "        check:*) [[ $word == -* ]] || { compopt -o default; return; } ;;&"]
     for command, (_, options) in words.items():
         if options:
             lines.append(f"        {command}:*) lines=(")
@@ -190,7 +197,7 @@ def zsh_file(name, commands):
     lines += [")", "if ((CURRENT == 2)); then", "    _describe command commands", "    return", "fi",
               "local command=$words[2]", "shift words", "((CURRENT--))", "case $command in"]
     if name == FRONT:
-        lines += ["help)", "    _describe command commands ;;"]
+        lines += ["help)", "    _describe command commands ;;", "report)", "    _files ;;"]
     for command, (_, options) in words.items():
         if options:
             lines += [f"{command})", "    _arguments \\"]
@@ -216,7 +223,7 @@ def fish_file(name, commands):
         lines.append(f"complete -c {name} -n __fish_use_subcommand -a {command} -d {fish_quoted(purpose)}")
     if name == FRONT:
         lines += [f"complete -c {name} -n '__fish_seen_subcommand_from help' -a '{' '.join(commands)}'",
-                  f"complete -c {name} -n '__fish_seen_subcommand_from check' -F"]
+                  f"complete -c {name} -n '__fish_seen_subcommand_from check report' -F"]
     for command, (_, options) in words.items():
         for option, value, _, text in options:
             how = {"file": " -r -F", "strand": " -x -a '+ -'", "other": " -x", "none": ""}[kind_of(value)]

@@ -15,6 +15,7 @@ import re
 import resource
 import shutil
 import signal
+import socket
 import subprocess
 import sys
 import tempfile
@@ -22,7 +23,8 @@ import time
 from pathlib import Path
 
 from examples import examples_of
-from front_tools import TOP, Count, PROGRAM, call, drop_in, environment, install, original, shell, tools_alone
+from front_tools import TOP, Count, PROGRAM, call, drop_in, install, looking, original, shell, tools_alone
+from migrating import options
 
 MERGED = b"chr1\t2\t9\n"
 FILES = {
@@ -34,7 +36,9 @@ FILES = {
     "cr.bed": b"chr1\t2\t6\rchr1\t4\t9\r", "spaces.bed": b"chr1 2 6\n", "names.bed": b"name\tstart\tend\nchr1\t2\t6\n",
     "bare.bed": b"1\t2\t6\n", "natural.bed": b"chr2\t2\t6\nchr10\t2\t6\n", "cram.cram": b"CRAM\3\0", "a\nb.bed": b"chr1\t2\t6\n",
     "dot.bed": b"chr1\t2\t6\ta\t0\t.\n", "short.bed": b"chr1\t2\t6\nchr1\t5\n", "no_base.bed": b"chr1\t5\t5\n",
-    "crlf.bed": b"chr1\t2\t6\r\n\r\n", "s.fa": b">chr1\nACGT\n", "past_end.bed": b"chr1\t25\t30\n",
+    "crlf.bed": b"chr1\t2\t6\r\n\r\n", "s.fa": b">chr1\nACGT\n", "past_end.bed": b"chr1\t25\t30\n", "turned.bed": b"chr1\t9\t5\n",
+    "described.fa": b">chr1 a description\nACGT\n", "two.fa": b">chr1\nACGTACGT\n>chr2\nACGTACGT\n", "back.bed": b"chr2\t2\t6\nchr1\t2\t6\n",
+    "f2.bed": b"chr7\t2\t6\n",
     "cut.fa": b">chr1\nACGT", "cut.bed": b"chr1\t1\t2\n", "zero_pos.sam": b"@SQ\tSN:chr1\tLN:20\nr\t0\tchr1\t0\t9\t4M\t*\t0\t0\t*\t*\n", "s.fa.fai": b"chr1\t4\t6\t4\t5\n", "stdin": b"chr1\t2\t6\n", "-x": b"chr1\t2\t6\n",
 }
 # The words after `dunekettle`, the fault that the program reports, and a part of the hint.
@@ -58,15 +62,55 @@ HINTS = [
     ("merge -i cr.bed", "cr.bed:1: end is not a number", "its lines end with CR alone: tr"),
     ("merge -i spaces.bed", "spaces.bed:1: too few columns", "its columns are separated by spaces: tr"),
     ("merge -i short.bed", "short.bed:2: too few columns", "line 2 is: chr1 5"),
-    ("merge -i no_base.bed", "no_base.bed:1: start is not below end", "left out by awk -F'\\t' '$2 + 0 < $3 + 0' no_base.bed"),
+    ("merge -i no_base.bed", "no_base.bed:1: start is not below end", "left out by awk -F'\\t' '$2 + 0 != $3 + 0' no_base.bed"),
     ("maskfasta -fi s.fa -bed unsorted.bed", "unsorted.bed:2: record is out of order", "is that of the sequences: samtools faidx s.fa; awk"),
     ("bamtobed -i f.bed", "f.bed:1: too few columns", "line 1 is: chr1 2 6"),
     ("merge -i names.bed", "names.bed:1: start is not a number", "its first line names the columns: tail -n +2"),
     ("merge -i bare.bed -g g.txt", "bare.bed:1: chromosome is not in the genome file", "in g.txt 1 is there as chr1"),
     ("merge -i none.bed", "none.bed: cannot be opened", "none.bed isn't there"),
     ("merge -i .", ".:1: reading failed", ". is a directory"),
-    ("intersect -a f.bed", None, "usage: dunekettle intersect -a FILE -b FILE"),
+    ("merge -i turned.bed", "turned.bed:1: start is not below end", "line 1 is chr1 9 5, and has its start after its end"),
+    ("maskfasta -fi s.fa -bed bare.bed", "bare.bed:1: no such sequence from here on", "in s.fa 1 is there as chr1"),
+    ("maskfasta -fi s.fa -bed f2.bed", "f2.bed:1: no such sequence from here on", "in s.fa chr7 is not there, but chr1 .."),
+    ("maskfasta -fi described.fa -bed bare.bed", "bare.bed:1: no such sequence from here on", "in described.fa 1 is there as chr1"),
+    ("maskfasta -fi two.fa -bed back.bed", "back.bed:2: no such sequence from here on", "chr1 2 6 comes after chr2 2 6; the order in use is that of the sequences"),
+    ("complement -i bare.bed -g g.txt", "bare.bed:1: chromosome is not in the genome file", "in g.txt 1 is there as chr1"),
+    ("complement -i f.bed -g f.bed", "f.bed:2: chromosome is repeated", "f.bed is BED. -g takes names and lengths"),
+    ("genomecov -bg -i f2.bed -g bare.bed", "f2.bed:1: chromosome is not in the genome file", "bare.bed is BED. -g takes names and lengths"),
+    ("complement -i f.bed -g s.fa", "s.fa:1: too few columns", "s.fa is FASTA. -g takes names and lengths: a genome file or a .fai index, as samtools faidx s.fa makes it"),
+    ("intersect -a f.bed", None, "intersect needs -b FILE"),
+    ("subtract", None, "subtract needs -a FILE, and -b FILE"),
+    ("complement -i f.bed", None, "complement needs -g GENOME"),
+    ("genomecov -i f.bed -g g.txt", None, 'genomecov needs -bg or -bga (the histogram: docs/RECIPES.md, histogram.sh)'),
+    ("genomecov", None, "genomecov needs -g GENOME, and -bg or -bga"),
+    ("maskfasta -fi s.fa", None, "maskfasta needs -bed BED"),
+    ("intersect -a f.bed -b f.bed -u -v", None, "leave out one of -u, -v"),
+    ("intersect -a f.bed -b f.bed -wa -wo", None, "leave out one of -wo, -wa"),
+    ("merge -i f.bed -s -S +", None, "leave out one of -s, -S"),
+    ("maskfasta -fi s.fa -bed f.bed -soft -mc x", None, "leave out one of -soft, -mc"),
+    ("maskfasta -fi s.fa -bed f.bed -fo s.fa", None, "-fo may not be the name of an input"),
+    ("intersect -a - -b -", None, "write one of them to a file first"),
+    ("merge f.bed", None, "write -i f.bed"),
+    ("merge -d 5 f.bed", None, "write -i f.bed"),
+    ("bamtobed sam.sam", None, "write -i sam.sam"),
+    ("intersect f.bed f2.bed", None, "write -a f.bed"),
+    ("intersect -a f.bed f2.bed", None, "write -b f2.bed"),
+    ("maskfasta s.fa f.bed", None, "write -fi s.fa"),
+    ("merge -i f.bed f2.bed", None, "-i takes one file"),
+    ("merge none.bed", None, "usage: dunekettle merge"),
+    ("intersect -a f.bed -b f.bed f2.bed", None, "intersect has no several -b: docs/RECIPES.md, intersect-files.sh, does it; or bedtools"),
+    ("subtract -a f.bed -b f.bed f2.bed", None, "-b takes one file"),
+    ("merge -i f.bed -d x", None, "-d takes 0 to 999999999999"),
+    ("merge -i f.bed -d -3", None, "docs/RECIPES.md, merge-overlap.sh"),
+    ("intersect -a f.bed -b f.bed -f 1.5", None, "-f takes a fraction from 0 to 1, with nine decimals at most, as 0.5"),
+    ("subtract -a f.bed -b f.bed -held x", None, "-held takes 0 to 999999999999"),
+    ("genomecov -strand x -bg -i f.bed -g g.txt", None, "-strand takes + or -"),
+    ("maskfasta -fi s.fa -bed f.bed -mc xy", None, "-mc takes one printable ASCII character"),
+    ("merge -i", None, "usage: dunekettle merge"),
+    ("merge -x", None, "usage: dunekettle merge"),
     ("marge", None, "see dunekettle --help"),
+    ("sort -i f.bed", None, "LC_ALL=C sort -k1,1 -k2,2n FILE"),
+    ("closest -a f.bed -b f.bed", None, "closest is a command of bedtools alone; the drop-in"),
 ]
 
 
@@ -83,8 +127,8 @@ def try_hints(place, folder, count):
     """Each fault has its hint behind it, on one line, and none where they are left out."""
     front = place / "bin" / "dunekettle"
     for line, fault, part in HINTS:
-        output, said, status = call([front, *line.split()], folder, environment())
-        plain = call([place / "bin" / "dunekettle-bedtools", *line.split()], folder, environment())
+        output, said, status = call([front, *line.split()], folder, looking())
+        plain = call([place / "bin" / "dunekettle-bedtools", *line.split()], folder, looking())
         lines = said.splitlines()
         count.expect(f"the fault of {line}", plain, (output, lines[0] + "\n", status))
         if fault:
@@ -95,15 +139,26 @@ def try_hints(place, folder, count):
         if advice and line.startswith("merge"):
             again = " -g g.txt" if "-g" in line else ""
             script = advice[1] if "| dunekettle merge" in advice[1] else f"{advice[1]} | dunekettle merge -i -{again}"
-            run = shell(script, folder, environment(place / "bin"))
+            run = shell(script, folder, looking(place / "bin"))
             count.expect(f"the advice for {line}: {script}", (True, "", 0), (run[0].startswith(b"chr1"), run[1], run[2]))
-        quiet = call([front, *line.split()], folder, environment(DUNEKETTLE_HINTS="0"))
+        quiet = call([front, *line.split()], folder, looking(DUNEKETTLE_HINTS="0"))
         count.expect(f"no hint of {line}", plain, quiet)
-    output, said, status = call([front, "merge"], folder, environment(), input=FILES["unsorted.bed"])
+    try_options(front, folder, count)
+    output, said, status = call([front, "merge"], folder, looking(), input=FILES["unsorted.bed"])
     count.expect("the hint of a stream", (1, True), (status, "LC_ALL=C sort -k1,1 -k2,2n" in said))
     if os.getuid():
         (folder / "closed.bed").touch(0o200)
-        count.expect("no permission", True, "may not read" in call([front, "merge", "-i", "closed.bed"], folder, environment())[1])
+        count.expect("no permission", True, "may not read" in call([front, "merge", "-i", "closed.bed"], folder, looking())[1])
+
+
+def try_options(front, folder, count):
+    """Each option that options.tsv has as not taken has as its hint the script of its row, or to leave it out, or bedtools."""
+    rows = [(command, option, text) for command, words, taken, text in options() if taken == "no" for option in words if option.startswith("-")]
+    for command, option, text in rows:
+        wanted = "leave it out" if text.startswith("leave") else "docs/RECIPES.md, " if re.match(r"(?!none).*\.sh`", text) else f"has no {option}: bedtools"
+        said = call([front, command, option], folder, looking())[1].splitlines()[-1]
+        count.expect(f"the hint of {command} {option}", True, said.startswith("dunekettle: ") and wanted in said)
+    count.expect("options of options.tsv", True, len(rows) > 50)
 
 
 def try_help(place, folder, count):
@@ -111,29 +166,29 @@ def try_help(place, folder, count):
     front = place / "bin" / "dunekettle"
     program = place / "bin" / "dunekettle-bedtools"
     for command in ("merge", "complement", "intersect", "subtract", "genomecov", "bamtobed", "maskfasta"):
-        gave = [call([front, *words], folder, environment()) for words in (["help", command], [command, "--help"], [command, "-h"])]
+        gave = [call([front, *words], folder, looking()) for words in (["help", command], [command, "--help"], [command, "-h"])]
         count.expect(f"help of {command}", (True, True, 0), (gave[0] == gave[1] == gave[2], gave[0][0].startswith(f"dunekettle {command} ".encode()), gave[0][2]))
         # Each option that the help names is one of the program.
         for line in gave[0][0].decode().splitlines():
             if line.startswith("  -"):
-                unknown = b"" if "unknown option" not in call([program, command, line.split()[0]], folder, environment())[1] else line
+                unknown = b"" if "unknown option" not in call([program, command, line.split()[0]], folder, looking())[1] else line
                 count.expect(f"an option of {command}", b"", unknown)
-    count.expect("version", True, call([front, "--version"], folder, environment())[0].startswith(b"Dunekettle "))
-    count.expect("help of nothing", 2, call([front, "help", "nothing"], folder, environment())[2])
-    output, _, status = call([front, "check", "--json", *(name for name in FILES if name != "-x"), "none.bed"], folder, environment())
+    count.expect("version", True, call([front, "--version"], folder, looking())[0].startswith(b"Dunekettle "))
+    count.expect("help of nothing", 2, call([front, "help", "nothing"], folder, looking())[2])
+    output, _, status = call([front, "check", "--json", *(name for name in FILES if name != "-x"), "none.bed"], folder, looking())
     reports = {report["file"]: report for report in json.loads(output)}
     count.expect("check: status", 1, status)
     for name, kind, order in (("f.bed", "BED", "bytes"), ("unsorted.bed", "BED", "none"), ("natural.bed", "BED", "numbers"), ("vcf.vcf", "VCF", None),
                               ("numbers.vcf", "VCF", None), ("gff.gff", "GFF", None), ("sam.sam", "SAM", None), ("utf16.bed", "UTF-16", None),
                               ("mark.bed", "byte order mark", None), ("cr.bed", "CR", None), ("s.fa", "FASTA", None), ("g.txt", "genome file", None), ("s.fa.fai", "genome file", None), ("./stdin", "BED", "bytes")):
         count.expect(f"check: {name}", (kind, order), (reports[name]["kind"], reports[name]["order"]))
-    count.expect("check: what is taken", ["./stdin", "a\nb.bed", "bare.bed", "crlf.bed", "cut.bed", "cut.fa", "dot.bed", "f.bed", "g.txt", "past_end.bed", "s.fa", "s.fa.fai",
-                                             "sam.sam", "zero_pos.sam"],
+    count.expect("check: what is taken", ["./stdin", "a\nb.bed", "bare.bed", "crlf.bed", "cut.bed", "cut.fa", "described.fa", "dot.bed", "f.bed", "f2.bed", "g.txt", "past_end.bed",
+                                             "s.fa", "s.fa.fai", "sam.sam", "two.fa", "zero_pos.sam"],
                  sorted(name for name, report in reports.items() if report["taken"]))
     count.expect("check: strands and lines", (1, 1, 2), (reports["dot.bed"]["without_strand"], reports["crlf.bed"]["blank_lines"], reports["crlf.bed"]["cr_lf"]))
-    output, _, status = call([front, "check", "natural.bed", "-g", "g.txt"], folder, environment())
+    output, _, status = call([front, "check", "natural.bed", "-g", "g.txt"], folder, looking())
     count.expect("check -g", (1, True), (status, b"chromosome is not in the genome file" in output))
-    output, _, status = call([front, "check", "f.bed", "bare.bed"], folder, environment())
+    output, _, status = call([front, "check", "f.bed", "bare.bed"], folder, looking())
     count.expect("check of two", (0, True), (status, b"chr1: in 1 of 2 files" in output))
 
 
@@ -151,7 +206,7 @@ def try_originals(place, folder, count):
     paths = {"none": [], "links": [links], "copies": [copies], "programs": [programs], "another place": [drop_in(other)],
              "all": [drop_in(place), links, copies, programs, drop_in(other), links]}
     for name, folders in paths.items():
-        env = {**environment(), "PATH": os.pathsep.join(map(str, [drop_in(place), *folders, tools]))}
+        env = {**looking(), "PATH": os.pathsep.join(map(str, [drop_in(place), *folders, tools]))}
         count.expect(f"original {name}: merge", (MERGED, "", 0), call(["bedtools", "merge", "-i", "f.bed"], folder, env))
         count.expect(f"original {name}: sort", (b"", "bedtools: no or unknown command\n", 2), call(["bedtools", "sort", "-i", "f.bed"], folder, env))
         count.expect(f"original {name}: -c", (b"", "bedtools: unknown option: -c\n", 2), call(["mergeBed", "-i", "f.bed", "-c", "1"], folder, env))
@@ -161,16 +216,16 @@ def try_originals(place, folder, count):
             output, _, status = call(["bedtools", *words], folder, env)
             count.expect(f"original {name}: {words}", (True, 0), (output.startswith(b"dunekettle "), status))
     # An original that says what it was given, and two that call bedtools on PATH again: one in its place, one as a child.
-    for name, script in (("says", "printf '%s\\0' \"$@\"\nexit 7"), ("again", 'exec bedtools "$@"'), ("child", 'bedtools "$@"')):
+    for name, script in (("says", "case $* in --version) echo bedtools v2.30.0; exit ;; esac\nprintf '%s\\0' \"$@\"\nexit 7"), ("again", 'exec bedtools "$@"'), ("child", 'bedtools "$@"')):
         (top / name).mkdir()
         (top / name / "bedtools").write_text(f"#!/bin/sh\n{script}\n", encoding="utf-8")
         (top / name / "bedtools").chmod(0o755)
     for name, folders in (("again", ["again"]), ("child", ["child"]), ("both", ["again", "child"]), ("both, changed", ["child", "again"])):
-        env = {**environment(), "PATH": os.pathsep.join(map(str, [drop_in(place), *(top / f for f in folders), tools]))}
+        env = {**looking(), "PATH": os.pathsep.join(map(str, [drop_in(place), *(top / f for f in folders), tools]))}
         count.expect(f"wrapper {name}", (b"", "bedtools: no or unknown command\n", 2), call(["bedtools", "sort"], folder, env))
         env["PATH"] += os.pathsep + str(top / "says")
         count.expect(f"wrapper {name}, then an original", (b"sort\0", "", 7), call(["bedtools", "sort"], folder, env))
-    env = {**environment(), "PATH": os.pathsep.join(map(str, [drop_in(place), top / "says", tools]))}
+    env = {**looking(), "PATH": os.pathsep.join(map(str, [drop_in(place), top / "says", tools]))}
     for words in (["sort", "a b", "", "line\nfeed", "*", "-i", "\\", "'\"$(x)"], ["merge", "-i", "a\nnone.bed"], ["merge", "--", "-i", "f.bed"], ["--", "merge"],
                   ["", "merge"], [], ["merge", "-i", "f.bed", ""], ["merge", "-i"], ["merge", "-i", "f.bed", "-i", "f.bed"], ["merge", "-"],
                   ["intersect", "-a", "f.bed", "-b", "f.bed", "f.bed"], ["merge", "-i", "numbers.vcf"], ["merge", "-i", "."], ["merge", "-i", ""]):
@@ -183,7 +238,7 @@ def try_originals(place, folder, count):
     count.expect("TELL", (MERGED, True, 0), (told[0], told[1].startswith("dunekettle: Dunekettle takes merge: "), told[2]))
     call(["bedtools", "merge", "-c"], folder, {**env, "DUNEKETTLE_TELL": str(top / "told.txt")})
     long = "x" * 100_000
-    count.expect("a long word", 2, call([place / "bin" / "dunekettle", "merge", long], folder, environment())[2])
+    count.expect("a long word", 2, call([place / "bin" / "dunekettle", "merge", long], folder, looking())[2])
     count.expect("a long name", (7, f"merge\0-i\0{long}\0".encode()), call(["bedtools", "merge", "-i", long], folder, env)[2::-2])
     # What the caller exports goes through as it is, whatever names the scripts use.
     (top / "shows").mkdir()
@@ -204,13 +259,13 @@ def try_paths(place, folder, count):
     says, tools, bare = top / "says", top / "tools", top / "bare"
     bare.mkdir()
     for entry in ("", ":", "::", f":{top / 'nowhere'}", f"{top / 'nowhere'}:", f"{top / 'nowhere'}::{top / 'nowhere'}"):
-        env = {**environment(), "PATH": f"{drop_in(place)}:{tools}:{entry}"}
+        env = {**looking(), "PATH": f"{drop_in(place)}:{tools}:{entry}"}
         # The original is in the folder in which it is called.
         count.expect(f"PATH with {entry!r}", 7, call(["bedtools", "sort"], says, env)[2])
     for shell_name in (["dash"], ["bash", "--posix"], ["busybox", "sh"], ["mksh"], ["yash"]):
         if shutil.which(shell_name[0]):
             words = [shutil.which(shell_name[0]), *shell_name[1:], drop_in(place) / "bedtools", "sort"]
-            count.expect(f"PATH with an empty end, {shell_name[0]}", 7, call(words, says, {**environment(), "PATH": f"{tools}:"})[2])
+            count.expect(f"PATH with an empty end, {shell_name[0]}", 7, call(words, says, {**looking(), "PATH": f"{tools}:"})[2])
     for missing in ("grep", "awk", "cat", "tail", "readlink"):
         few = top / f"no {missing}"
         few.mkdir()
@@ -219,9 +274,10 @@ def try_paths(place, folder, count):
                 (few / tool.name).symlink_to(os.readlink(tool))
         for line in ("sort", "merge -i unsorted.bed", "intersect -s -u -a f.bed -b dot.bed", "intersect -a f.bed -b f.bed", "complement -i past_end.bed -g g.txt",
                      "maskfasta -fi cut.fa -bed cut.bed -fo masked.fa", "bamtobed -i zero_pos.sam"):
-            env = {**environment(), "PATH": f"{drop_in(place)}:{few}:{says}"}
+            env = {**looking(), "PATH": f"{drop_in(place)}:{few}:{says}"}
             count.expect(f"no {missing}: {line}", 7, call(["bedtools", *line.split()], folder, env)[2])
-    for part in ("lib/dunekettle/judge.sh", "bin/dunekettle-bedtools", "lib/dunekettle/help.txt", "lib/dunekettle/hints.sh"):
+    for part in ("lib/dunekettle/judge.sh", "lib/dunekettle/plan.sh", "lib/dunekettle/streams.sh", "bin/dunekettle-bedtools", "lib/dunekettle/help.txt",
+                 "lib/dunekettle/hints.sh"):
         for how in ("missing", "empty", "half", "a folder"):
             broken = install(top / f"{Path(part).name} {how}")
             text = (broken / part).read_bytes()
@@ -231,20 +287,30 @@ def try_paths(place, folder, count):
             elif how != "missing":
                 (broken / part).write_bytes(text[: len(text) // 2 if how == "half" else 0])
                 (broken / part).chmod(0o755)
-            env = {**environment(), "PATH": f"{drop_in(broken)}:{tools}:{says}"}
+            env = {**looking(), "PATH": f"{drop_in(broken)}:{tools}:{says}"}
             is_needed = "help" not in part and "hints" not in part
             output, said, status = call(["bedtools", "merge", "-i", "f.bed"], folder, env)
             count.expect(f"{part} {how}", (b"merge\0-i\0f.bed\0", "", 7) if is_needed else (MERGED, "", 0), (output, said, status))
-            count.expect(f"{part} {how}: --version", 0, call(["bedtools", "--version"], folder, env)[2])
+            count.expect(f"{part} {how}: --version", (b"--version\0", "", 7), call(["bedtools", "--version"], folder, env))
             if "bedtools" not in part and how != "half":
                 status = call([broken / "bin" / "dunekettle", "merge", "-i", "unsorted.bed"], folder, env)[2]
                 count.expect(f"{part} {how}: a fault", 1, status)
     shutil.copy(place / "bin" / "dunekettle", bare / "bedtools")
     (bare / "mergeBed").symlink_to("bedtools")
-    env = {**environment(), "PATH": f"{bare}:{tools}:{says}"}
+    env = {**looking(), "PATH": f"{bare}:{tools}:{says}"}
     count.expect("the script alone", (b"merge\0-i\0f.bed\0", "", 7), call(["bedtools", "merge", "-i", "f.bed"], folder, env))
     count.expect("the script alone, mergeBed", (b"merge\0-i\0f.bed\0", "", 7), call(["mergeBed", "-i", "f.bed"], folder, env))
-    shown = {**environment(), "line": "mine", "version": "mine", "PATH": os.pathsep.join(map(str, [drop_in(place), top / "shows", tools]))}
+    # A copy finds the installation by the program on PATH, or says why not.
+    shutil.copy(place / "bin" / "dunekettle", bare / "dk")
+    with_it = {**env, "PATH": f"{bare}:{place / 'bin'}:{tools}:{says}"}
+    count.expect("a copy, and the program on PATH", (MERGED, "", 0), call(["bedtools", "merge", "-i", "f.bed"], folder, with_it))
+    count.expect("a copy of the front", (MERGED, "", 0), call(["dk", "merge", "-i", "f.bed"], folder, with_it))
+    count.expect("its help", True, call(["dk", "help", "merge"], folder, with_it)[0].startswith(b"dunekettle merge "))
+    for words, more in ((["dk", "merge", "-i", "f.bed"], [says]), (["dk", "--version"], [says]), (["dk", "check", "f.bed"], [says]), (["bedtools", "merge", "-i", "f.bed"], []),
+                        (["mergeBed", "-h"], []), (["bedtools", "sort"], [])):
+        output, said, status = call(words, folder, {**env, "PATH": os.pathsep.join(map(str, [bare, tools, *more]))})
+        count.expect(f"a copy alone: {words}", (b"", 127, 1, True), (output, status, len(said.splitlines()), f"{words[0]} is a copy, and there is no dunekettle-bedtools on PATH" in said))
+    shown = {**looking(), "line": "mine", "version": "mine", "PATH": os.pathsep.join(map(str, [drop_in(place), top / "shows", tools]))}
     output = call(["bedtools", "--version"], folder, shown)[0]
     count.expect("the environment of --version", (True, True), (b"\nline=mine\n" in b"\n" + output, b"\nversion=mine\n" in b"\n" + output))
 
@@ -254,7 +320,7 @@ def try_names(place, folder, count):
     odd = folder.parent / "odd names"
     odd.mkdir()
     (odd / "g.txt").write_bytes(FILES["g.txt"])
-    front, env = place / "bin" / "dunekettle", environment(place / "bin")
+    front, env = place / "bin" / "dunekettle", looking(place / "bin")
     packed = (folder / "zip.gz").read_bytes()
     parts = "x;touch PWNED;", "$(touch PWNED)", "`touch PWNED`", "a b", "it's", "-x", "x=1", "a&touch PWNED&", "a|touch PWNED", "*", "\\", '"', "~", "#", "\u00e9"
     for name in parts:
@@ -313,16 +379,16 @@ def try_names(place, folder, count):
 def try_streams(place, folder, count):
     """Standard input is left as it is; closed streams are as for the program alone; a stream goes by its order."""
     front, program = place / "bin" / "dunekettle", place / "bin" / "dunekettle-bedtools"
-    env = environment(drop_in(place))
-    alone = {**environment(), "PATH": os.pathsep.join(map(str, [drop_in(place), folder.parent / "says", folder.parent / "tools"]))}
+    env = looking(drop_in(place))
+    alone = {**looking(), "PATH": os.pathsep.join(map(str, [drop_in(place), folder.parent / "says", folder.parent / "tools"]))}
     for name in ("bedtools", str(front)):
         for line in ("merge -i f.bed", "merge -x", "merge -i none.bed"):
             output = shell(f"{name} {line} > /dev/null 2>&1; cat", folder, alone, input=b"left as it is")[0]
             count.expect(f"standard input after {name} {line}", b"left as it is", output)
     for line in ("merge -i f.bed", "merge -i unsorted.bed", "merge", "merge -x", "complement -g g.txt"):
         for streams in ("<&-", ">&-", "2>&-", "<&- >&-", ">&- 2>&-", "<&- >&- 2>&-", "> /dev/full"):
-            wanted = shell(f"{program} {line} {streams}", folder, environment(), input=FILES["f.bed"])
-            found = shell(f"{front} {line} {streams}", folder, environment(), input=FILES["f.bed"])
+            wanted = shell(f"{program} {line} {streams}", folder, looking(), input=FILES["f.bed"])
+            found = shell(f"{front} {line} {streams}", folder, looking(), input=FILES["f.bed"])
             hints = "".join(said + "\n" for said in found[1].splitlines() if not said.startswith("dunekettle: "))
             count.expect(f"dunekettle {line} {streams}", wanted, (found[0], hints, found[2]))
             always = shell(f"bedtools {line} {streams}", folder, {**env, "DUNEKETTLE_ALWAYS": "1"}, input=FILES["f.bed"])
@@ -330,38 +396,38 @@ def try_streams(place, folder, count):
             if line == "merge -i f.bed":
                 judged = shell(f"bedtools {line} {streams}", folder, alone, input=FILES["f.bed"])
                 count.expect(f"bedtools {line} {streams}", wanted, judged)
-    # A stream goes to bedtools, unless DUNEKETTLE_STREAMS says that it is sorted BED.
-    ours = ("intersect -sorted -a - -b f.bed -u -g g.txt", "complement -i - -g g.txt", "intersect -g g.txt -sorted -u -a f.bed -b /dev/stdin", "merge -i -", "merge",
-            "complement -i stdin -g g.txt", "intersect -a - -b f.bed -u", "intersect -sorted -a - -b f.bed -u", "genomecov -bg -i - -g g.txt", "subtract -a f.bed -b /dev/fd/0",
-            "merge -i link.bed", "merge -i /dev/./stdin")
-    theirs = ("intersect -sorted -a - -b /dev/stdin", "bamtobed", "bamtobed -i -", "intersect -sorted -g g.txt -s -a - -b f.bed", "maskfasta -fi s.fa -bed -",
-              "maskfasta -fi - -bed f.bed", "merge -S + -i -", "intersect -f 0.5 -u -a - -b f.bed", "genomecov -bga -i - -g g.txt", "complement -g g.txt", "genomecov -bg -g g.txt",
-              "merge -i f.bed.gz -", "intersect -sorted -u -a - -b unsorted.bed")
+    # A stream is copied and looked at, unless DUNEKETTLE_STREAMS says that it is sorted BED. A device isn't copied.
+    known = ("intersect -sorted -a - -b f.bed -u -g g.txt", "complement -i - -g g.txt", "intersect -g g.txt -sorted -u -a f.bed -b /dev/stdin", "merge -i -", "merge",
+             "complement -i stdin -g g.txt", "intersect -a - -b f.bed -u", "intersect -sorted -a - -b f.bed -u", "genomecov -bg -i - -g g.txt", "subtract -a f.bed -b /dev/fd/0",
+             "merge -i link.bed", "merge -i /dev/./stdin")
+    seen = ("intersect -sorted -g g.txt -s -u -a - -b f.bed", "intersect -f 0.5 -u -a - -b f.bed", "genomecov -bga -i - -g g.txt", "genomecov -i - -g g.txt")
+    theirs = ("intersect -sorted -a - -b /dev/stdin", "bamtobed", "bamtobed -i -", "maskfasta -fi s.fa -bed -", "maskfasta -fi - -bed f.bed", "merge -S + -i -", "complement -g g.txt",
+              "genomecov -bg -g g.txt", "merge -i f.bed.gz -", "intersect -sorted -u -a - -b unsorted.bed")
     (folder / "link.bed").symlink_to("/dev/stdin")
-    for line in (*ours, *theirs):
+    for line in (*known, *seen, *theirs):
         for asked in ("0", "1"):
             for source in ("", "< f.bed", "cat f.bed |"):
                 script = f"bedtools {line} {source}" if "|" not in source else f"{source} bedtools {line}"
                 status = shell(script, folder, {**alone, "DUNEKETTLE_STREAMS": asked})[2]
-                count.expect(f"a stream: {script}, STREAMS={asked}", 0 if line in ours and asked == "1" else 7, status)
+                is_ours = line in known and (source or asked == "1") or line in seen and source
+                count.expect(f"a stream: {script}, STREAMS={asked}", 0 if is_ours else 7, status)
     (folder / "link.bed").unlink()
     found = call(["bedtools", "merge"], folder, {**alone, "DUNEKETTLE_STREAMS": "1"}, input=FILES["f.bed"])
     count.expect("STREAMS", (MERGED, "", 0), found)
-    # What only Dunekettle takes it takes of a stream too.
-    found = call(["bedtools", "merge", "-i", "-", "-g", "g.txt"], folder, alone, input=FILES["f.bed"])
-    count.expect("merge -g of a stream", (MERGED, "", 0), found)
-    for line in ("merge -i <(cat f.bed)", "complement -i <(cat f.bed) -g g.txt", "complement -i f.bed -g <(cat g.txt)", "intersect -sorted -g g.txt -u -a f.bed -b <(cat f.bed)"):
-        count.expect(f"a pipe of a shell: {line}", 7, call(["bash", "-c", f"bedtools {line}"], folder, alone)[2])
+    for line in ("merge -i <(cat f.bed)", "complement -i <(cat f.bed) -g g.txt", "complement -i f.bed -g <(cat g.txt)", "intersect -sorted -g g.txt -u -a f.bed -b <(cat f.bed)",
+                 "intersect -u -a <(cat f.bed) -b <(cat f.bed)", "genomecov -i <(cat f.bed) -g <(cat g.txt)"):
+        count.expect(f"a pipe of a shell: {line}", 0, call(["bash", "-c", f"bedtools {line}"], folder, alone)[2])
     os.mkfifo(folder / "pipe")
-    count.expect("a named pipe", 7, call(["bedtools", "complement", "-i", "pipe", "-g", "g.txt"], folder, alone)[2])
+    count.expect("a named pipe", 0, shell("cat f.bed > pipe & bedtools complement -i pipe -g g.txt", folder, alone)[2])
     (folder / "pipe").unlink()
 
 
 def try_signals(place, folder, count):
     """A signal ends a call as it ends the program, and nothing of it goes on."""
-    for name, words, env in (("program", [place / "bin" / "dunekettle-bedtools"], environment()), ("dunekettle", [place / "bin" / "dunekettle"], environment()),
-                             ("no hints", [place / "bin" / "dunekettle"], environment(DUNEKETTLE_HINTS="0")),
-                             ("bedtools", [drop_in(place) / "bedtools"], environment(drop_in(place), DUNEKETTLE_ALWAYS="1"))):
+    ways = (("program", [place / "bin" / "dunekettle-bedtools"], looking()), ("dunekettle", [place / "bin" / "dunekettle"], looking()),
+            ("no hints", [place / "bin" / "dunekettle"], looking(DUNEKETTLE_HINTS="0")),
+            ("bedtools", [drop_in(place) / "bedtools"], looking(drop_in(place), DUNEKETTLE_ALWAYS="1")))
+    for name, words, env in ways:
         for sent in (signal.SIGTERM, signal.SIGHUP, signal.SIGINT, signal.SIGQUIT):
             child = subprocess.Popen([*words, "merge"], cwd=folder, env=env, stdin=subprocess.PIPE, stdout=subprocess.PIPE, stderr=subprocess.DEVNULL)
             child.stdin.write(b"chr1\t2\t6\n")
@@ -380,33 +446,121 @@ def try_signals(place, folder, count):
         count.expect(f"{name} after a file that is too large", b"153\n", limited)
 
 
+def try_checks(place, folder, count):
+    """A signal ends the drop-in in its check, whenever it comes, and each process of it."""
+    with (folder / "checked.bed").open("w", encoding="utf-8") as file:
+        file.writelines(f"chr1\t{9 * n}\t{9 * n + 5}\ta name\t0\t{'+-'[n % 2]}\n" for n in range(800_000))
+    mark = f"SLOW_CHECK={folder}"
+    env = looking(drop_in(place), SLOW_CHECK=str(folder))
+    lines = ("intersect -s -u -a checked.bed -b checked.bed", "genomecov -bg -scale 2 -i checked.bed -g far.txt", "merge -i <(cat checked.bed)")
+    (folder / "far.txt").write_bytes(b"chr1\t9000000\n")
+    for words in (["dash"], ["bash", "--posix"], ["busybox", "sh"]):
+        if not shutil.which(words[0]):
+            continue
+        for number, line in enumerate(lines * 4):
+            sent = (signal.SIGTERM, signal.SIGHUP, signal.SIGINT)[number // 3 % 3]
+            script = f"exec {' '.join(words)} {drop_in(place) / 'bedtools'} {line}"
+            # Nobody reads what it writes, so that it doesn't end by itself.
+            child = subprocess.Popen(["bash", "-c", script], cwd=folder, env=env, stdout=subprocess.PIPE, stderr=subprocess.DEVNULL)
+            time.sleep(0.02 + 0.06 * number)
+            child.send_signal(sent)
+            status, begun = child.wait(timeout=20), time.monotonic()
+            while (left := with_variable(mark)) and time.monotonic() - begun < 1:
+                time.sleep(0.02)
+            count.expect(f"{words}: {sent.name} in the check of {line}", (-sent, []), (status, left))
+
+
+def with_variable(line):
+    """The processes that have a variable in their environment."""
+    found = []
+    for process in Path("/proc").glob("[0-9]*"):
+        try:
+            if line.encode() in (process / "environ").read_bytes().split(b"\0"):
+                found.append(process.name)
+        except OSError:
+            pass
+    return found
+
+
+def try_gone_readers(place, folder, count):
+    """A reader that goes away ends a call of the drop-in by SIGPIPE, silently, as it ends bedtools."""
+    (folder / "long.bed").write_text("".join(f"chr1\t{9 * n}\t{9 * n + 5}\n" for n in range(99_999)), encoding="utf-8")
+    (folder / "long.fa").write_text(">chr1\n" + 99_999 * "ACGTACGT\n", encoding="utf-8")
+    env = looking(drop_in(place))
+    lines = ["merge -i long.bed", "intersect -u -a long.bed -b long.bed", "complement -i long.bed -g far.txt", "maskfasta -fi long.fa -bed f.bed -fo /dev/stdout",
+             "genomecov -bg -i long.bed -g far.txt", "genomecov -bga -scale 0.5 -i long.bed -g far.txt", "genomecov -d -i long.bed -g far.txt",
+             "intersect -wa -wb -a long.bed -b long.bed", "merge -i <(cat long.bed)"]
+    (folder / "far.txt").write_bytes(b"chr1\t9000000\n")
+    for words in (["sh"], ["dash"], ["bash", "--posix"], ["busybox", "sh"], ["mksh"], ["yash"]):
+        if not shutil.which(words[0]):
+            continue
+        program = " ".join([shutil.which(words[0]), *words[1:], str(drop_in(place) / "bedtools")])
+        for line in lines:
+            for more in ({}, {"DUNEKETTLE_ALWAYS": "1"})[: 1 if " -scale " in line or " -d " in line else 2]:
+                found = call(["bash", "-c", f"{program} {line} | head -n 1 > /dev/null; exit ${{PIPESTATUS[0]}}"], folder, {**env, **more})
+                count.expect(f"a reader that is gone: {program} {line}", (b"", "", 141), found)
+    # A signal that is ignored ends nothing: the program says what it couldn't do.
+    found = call(["bash", "-c", f"trap '' PIPE; bedtools {lines[0]} | head -n 1 > /dev/null; exit ${{PIPESTATUS[0]}}"], folder, {**env, "DUNEKETTLE_ALWAYS": "1"})
+    count.expect("a reader that is gone, SIGPIPE ignored", (b"", "bedtools merge: writing failed\n", 1), found)
+    # A socket is as a pipe. What isn't read before the reader goes away has no status of its own.
+    ours, theirs = socket.socketpair()
+    child = subprocess.Popen(["bedtools", *lines[0].split()], cwd=folder, env=env, stdout=theirs, stderr=subprocess.PIPE)
+    theirs.close()
+    ours.recv(99)
+    ours.close()
+    count.expect("a socket that is gone", (b"", -signal.SIGPIPE), (child.stderr.read(), child.wait()))
+    # Where the output goes elsewhere, nothing is written to the pipe.
+    found = shell("bedtools maskfasta -fi long.fa -bed f.bed -fo /dev/full | cat", folder, {**env, "DUNEKETTLE_ALWAYS": "1"})
+    count.expect("a full -fo beside a pipe", (b"", "bedtools maskfasta: writing failed\n"), found[:2])
+    found = shell("bedtools merge -i long.bed | cat > /dev/null; bedtools merge -i f.bed | cat", folder, env)
+    count.expect("a reader that stays", (MERGED, "", 0), found)
+
+
+def try_report(place, folder, count):
+    """What `report` says of the file that DUNEKETTLE_TELL names, and of one that has no call."""
+    front, told = place / "bin" / "dunekettle", folder.parent / "report.txt"
+    env = {**looking(), "DUNEKETTLE_TELL": str(told), "PATH": os.pathsep.join(map(str, [drop_in(place), folder.parent / "says", folder.parent / "tools"]))}
+    for line in ("merge -i f.bed", "merge -i unsorted.bed", "merge -i natural.bed", "merge -i f.bed -c 4 -o count", "intersect -u -a f.bed -b f.bed", "sort -i f.bed", "--version"):
+        call(["bedtools", *line.split()], folder, env)
+    wanted = ("6 calls, of which 5 of the seven commands; Dunekettle took 2 of 5 (40 percent)\n  merge       1 of 4 (25 percent)\n"
+              "  intersect   1 of 1 (100 percent)\nwhy bedtools took the others:\n       2  merge: record is out of order\n       1  merge: unknown option: -c\n")
+    count.expect("report", (wanted.encode(), "", 0), call([front, "report", told], folder, env))
+    for name in ("mawk", "gawk", "busybox"):
+        if shutil.which(name):
+            words = [name, "awk"][: 1 + (name == "busybox")]
+            count.expect(f"report by {name}", wanted.encode(), call([*words, "-f", TOP / "front" / "report.awk"], folder, looking(), input=told.read_bytes())[0])
+    for words, status in (([], 2), (["none"], 2), (["."], 2), ([told, told], 2), (["f.bed"], 1)):
+        output, said, found = call([front, "report", *words], folder, env)
+        count.expect(f"report {words}", (b"", status, 1), (output, found, len(said.splitlines())))
+
+
 def try_rest(place, folder, count):
     """A file that changes, folders with odd names, a temporary folder that can't be used, 200 calls at once, shells."""
     top = folder.parent
     odd = install(top / "odd * place").rename(top / "odd *\nplace")
-    env = environment(drop_in(odd))
+    env = looking(drop_in(odd))
     count.expect("an odd place", (MERGED, "", 0), call(["bedtools", "merge", "-i", "f.bed"], folder, env))
-    count.expect("dunekettle there", (MERGED, "", 0), call([odd / "bin" / "dunekettle", "merge", "-i", "f.bed"], folder, environment()))
+    count.expect("dunekettle there", (MERGED, "", 0), call([odd / "bin" / "dunekettle", "merge", "-i", "f.bed"], folder, looking()))
     moved = odd.rename(top / "moved")
-    count.expect("a place that was moved", (MERGED, "", 0), call([drop_in(moved) / "mergeBed", "-i", "f.bed"], folder, environment()))
+    count.expect("a place that was moved", (MERGED, "", 0), call([drop_in(moved) / "mergeBed", "-i", "f.bed"], folder, looking()))
     (top / "home").mkdir()
     (top / "home" / "dk").symlink_to(place / "bin" / "dunekettle")
     (top / "home" / "bedtools").symlink_to("../there/lib/dunekettle/bin/bedtools")
-    count.expect("a link to the front", (MERGED, "", 0), call([top / "home" / "dk", "merge", "-i", "f.bed"], folder, environment()))
-    count.expect("a link to the drop-in", (MERGED, "", 0), call([top / "home" / "bedtools", "merge", "-i", "f.bed"], folder, environment()))
+    count.expect("a link to the front", (MERGED, "", 0), call([top / "home" / "dk", "merge", "-i", "f.bed"], folder, looking()))
+    count.expect("a link to the drop-in", (MERGED, "", 0), call([top / "home" / "bedtools", "merge", "-i", "f.bed"], folder, looking()))
     # An awk that spoils the file after it was looked at.
     (top / "spoils").mkdir()
     (top / "spoils" / "awk").write_text(f'#!/bin/sh\n{shutil.which("awk")} "$@"\nstatus=$?\nprintf "chr1\\t9\\t12\\nchr1\\t2\\t6\\n" > changes.bed\nexit $status\n', encoding="utf-8")
     (top / "spoils" / "awk").chmod(0o755)
     (folder / "changes.bed").write_bytes(FILES["f.bed"])
-    found = call(["bedtools", "merge", "-i", "changes.bed"], folder, environment(drop_in(place), top / "spoils"))
+    found = call(["bedtools", "merge", "-i", "changes.bed"], folder, looking(drop_in(place), top / "spoils"))
     count.expect("a file that changes", (b"", "bedtools merge: changes.bed:2: record is out of order\n", 1), found)
     for name, there in (("missing", top / "nowhere"), ("a file", folder / "f.bed")):
-        found = call([place / "bin" / "dunekettle", "merge", "-i", "unsorted.bed"], folder, environment(TMPDIR=str(there)))
-        count.expect(f"temporary folder {name}", (b"", "bedtools merge: unsorted.bed:2: record is out of order\n", 1), found)
+        found = call([place / "bin" / "dunekettle", "merge", "-i", "unsorted.bed"], folder, looking(TMPDIR=str(there)))
+        count.expect(f"temporary folder {name}", (2, 1), (len(found[1].splitlines()), found[2]))
     temporary = top / "temporary"
     temporary.mkdir()
-    env = environment(drop_in(place), TMPDIR=str(temporary))
+    env = looking(drop_in(place), TMPDIR=str(temporary))
     calls = [["bedtools", "merge", "-i", "f.bed"], [place / "bin" / "dunekettle", "merge", "-i", "f.bed"]] * 100
     with concurrent.futures.ThreadPoolExecutor(200) as pool:
         found = list(pool.map(lambda words: call(words, folder, env), calls))
@@ -419,12 +573,12 @@ def try_rest(place, folder, count):
         name = " ".join(words)
         words[0] = shutil.which(words[0])
         for script, line in (("bin/dunekettle", "merge -i f.bed"), ("lib/dunekettle/bin/bedtools", "merge -i f.bed"), ("lib/dunekettle/bin/mergeBed", "-i f.bed")):
-            found = call([*words, place / script, *line.split()], folder, environment(drop_in(place)))
+            found = call([*words, place / script, *line.split()], folder, looking(drop_in(place)))
             count.expect(f"{name} {script}", (MERGED, "", 0), found)
-        found = call([*words, place / "bin" / "dunekettle", "merge", "-i", "unsorted.bed"], folder, environment())
+        found = call([*words, place / "bin" / "dunekettle", "merge", "-i", "unsorted.bed"], folder, looking())
         count.expect(f"{name}: a hint", (2, 1), (len(found[1].splitlines()), found[2]))
         found = call([*words, drop_in(place) / "bedtools", "intersect", "-s", "-u", "-a", "f.bed", "-b", "dot.bed"], folder,
-                     {**environment(), "DUNEKETTLE_TELL": "1", "PATH": os.pathsep.join(map(str, [top / "says", top / "tools"]))})
+                     {**looking(), "DUNEKETTLE_TELL": "1", "PATH": os.pathsep.join(map(str, [top / "says", top / "tools"]))})
         count.expect(f"{name}: strands", (7, True), (found[2], "records without a strand" in found[1]))
 
 
@@ -434,11 +588,13 @@ def try_awks(place, folder, count):
     (folder / "d.bed").write_bytes(b"chr1\t2\t6\ta\t0\t+\nchr2\t4\t8\tb\t0\t-\n")
     (folder / "late.bed").write_bytes(b"chr2\t4\t8\tb\t0\t-\n")
     (folder / "two.fa").write_bytes(b">chr1\nACGTA\nACGTA\nAC\n>chr2\nACGTA\nACGT\n")
-    (folder / "uneven.fa").write_bytes(b">chr1\nACG\nACGTA\n")
+    (folder / "blocks.bed").write_bytes(b"chr2\t1\t8\tt\t0\t+\t1\t8\t0\t2\t2,3,\t0,4,\n")
     ours = ("complement -i d.bed -g g.txt", "genomecov -bga -i d.bed -g g.txt", "intersect -s -u -a d.bed -b f.bed", "intersect -a d.bed -b d.bed",
-            "intersect -f 0.25 -u -a d.bed -b f.bed", "maskfasta -fi two.fa -bed d.bed -fo masked.fa", "bamtobed -i sam.sam", "merge -i a\nb.bed", "merge -i crlf2.bed")
-    theirs = ("complement -i past.bed -g g.txt", "genomecov -bga -i late.bed -g g.txt", "intersect -s -u -a d.bed -b dot.bed", "intersect -a f.bed -b f.bed",
-              "intersect -f 0.25000001 -u -a long.bed -b f.bed", "maskfasta -fi uneven.fa -bed late.bed -fo masked.fa", "bamtobed -i zero.sam", "merge -i crlf.bed",
+            "intersect -f 0.25 -u -a d.bed -b f.bed", "bamtobed -i sam.sam", "merge -i a\nb.bed", "merge -i crlf2.bed", "genomecov -i late.bed -g g.txt",
+            "genomecov -d -i d.bed -g g.txt", "genomecov -dz -i d.bed -g g.txt", "genomecov -bg -scale 0.3 -i d.bed -g g.txt", "genomecov -bga -strand + -i d.bed -g g.txt",
+            "genomecov -bga -i late.bed -g g.txt", "genomecov -bg -split -i blocks.bed -g g.txt")
+    theirs = ("complement -i past.bed -g g.txt", "intersect -s -u -a d.bed -b dot.bed", "intersect -a f.bed -b f.bed",
+              "intersect -f 0.25000001 -u -a long.bed -b f.bed", "maskfasta -fi two.fa -bed d.bed -fo masked.fa", "bamtobed -i zero.sam", "merge -i crlf.bed",
               "merge -i numbers.vcf", "merge -i wide.bed")
     (folder / "past.bed").write_bytes(b"chr1\t25\t30\n")
     (folder / "long.bed").write_bytes(b"chr1\t0\t70\n")
@@ -454,7 +610,7 @@ def try_awks(place, folder, count):
         made.mkdir()
         (made / "awk").write_text(f"#!/bin/sh\nexec {shutil.which(name)} {'awk ' if name == 'busybox' else ''}\"$@\"\n", encoding="utf-8")
         (made / "awk").chmod(0o755)
-        env = {**environment(), "PATH": os.pathsep.join(map(str, [drop_in(place), made, top / "says", top / "tools"]))}
+        env = {**looking(), "PATH": os.pathsep.join(map(str, [drop_in(place), made, top / "says", top / "tools"]))}
         for line in (*ours, *theirs):
             words = ["bedtools", *line.split(" ")]
             count.expect(f"{name}: {line}", 0 if line in ours else 7, call(words, folder, env)[2])
@@ -466,7 +622,7 @@ def try_page(place, folder, count):
     """The examples of cases/front.txt, in a folder of their own, with the front and the drop-in on PATH."""
     made = folder.parent / "page"
     made.mkdir()
-    env = environment(drop_in(place), place / "bin")
+    env = looking(drop_in(place), place / "bin")
     for number, command, wanted in examples_of((TOP / "docs" / "cases" / "front.txt").read_text(encoding="utf-8")):
         output, said, _ = shell(command, made, env)
         count.expect(f"front.txt:{number}: {command}", wanted, (output.decode() + said).splitlines())
@@ -474,7 +630,7 @@ def try_page(place, folder, count):
 
 def show_costs(place, folder):
     """The milliseconds of a call, the middle of several on a small file."""
-    env, rows = environment(drop_in(place)), []
+    env, rows = looking(drop_in(place)), []
     theirs = original()
     for name, words, more in (("the program", [place / "bin" / "dunekettle-bedtools"], {}), ("dunekettle", [place / "bin" / "dunekettle"], {}),
                               ("dunekettle, no hints", [place / "bin" / "dunekettle"], {"DUNEKETTLE_HINTS": "0"}),
@@ -527,6 +683,9 @@ def main():
         try_names(place, folder, count)
         try_streams(place, folder, count)
         try_signals(place, folder, count)
+        try_checks(place, folder, count)
+        try_gone_readers(place, folder, count)
+        try_report(place, folder, count)
         try_rest(place, folder, count)
         try_awks(place, folder, count)
         try_page(place, folder, count)

@@ -19,7 +19,7 @@ import sys
 import tempfile
 from pathlib import Path
 
-from front_tools import TOLD, Count, call, drop_in, environment, install, original
+from front_tools import TOLD, Count, call, drop_in, install, looking, original
 
 CHROMOSOMES = ["chr1", "chr2", "chr10", "chrX"]
 ODD = ["", "#c", "# c d", "track x", "TRACK\t5\t9", ">x\t1\t2", "browser", "visibility\t1\t2", "chr 1\t2\t6", " ", "\r", "!\t1\t2",
@@ -162,7 +162,7 @@ def try_streams(draw, theirs, ours, folder, count):
     for kind, text in streams(draw, folder).items():
         for line in ("complement -i stdin -g g.txt", "complement -i - -g g.txt -L", "intersect -sorted -g g.txt -a b.bed -b - -c", "intersect -sorted -g g.txt -u -a - -b b.bed",
                      "intersect -sorted -g g.txt -v -a /dev/stdin -b b.bed", "merge -i -", "merge", "subtract -a b.bed -b stdin", "genomecov -bg -i - -g g.txt", "bamtobed -i -"):
-            wanted, found = ran(theirs, line.split(), folder, environment(), input=text), ran(ours / "bedtools", line.split(), folder, environment(ours), input=text)
+            wanted, found = ran(theirs, line.split(), folder, looking(), input=text), ran(ours / "bedtools", line.split(), folder, looking(ours), input=text)
             count.expect(f"{kind} | bedtools {line}", wanted[:2], found[:2])
 
 
@@ -179,7 +179,7 @@ def try_fractions(draw, theirs, ours, folder, count):
         (folder / "b.bed").write_text("".join(f"c{n:03}\t0\t{shared}\n" for n, (_, shared) in enumerate(pairs)), encoding="utf-8")
         for line in (["intersect", "-u"], ["intersect", "-u", "-r"], ["subtract"]):
             line = [*line, "-f", fraction, "-a", "a.bed", "-b", "b.bed"]
-            wanted, found = ran(theirs, line, folder, environment()), ran(ours / "bedtools", line, folder, environment(ours, DUNEKETTLE_TELL="1"))
+            wanted, found = ran(theirs, line, folder, looking()), ran(ours / "bedtools", line, folder, looking(ours, DUNEKETTLE_TELL="1"))
             count.expect(" ".join(line), (wanted[:2], "Dunekettle"), (found[:2], TOLD.findall(found[2])[0][0]))
 
 
@@ -192,12 +192,12 @@ def main():
     with tempfile.TemporaryDirectory() as made:
         folder = Path(made)
         ours = drop_in(install(folder / "there"))
-        env = environment(ours, DUNEKETTLE_TELL="1")
+        env = looking(ours, DUNEKETTLE_TELL="1")
         for number in range(cases):
             for name, make in (("a.bed", features), ("b.bed", features), ("g.txt", genome), ("s.fa", sequences), ("m.bed", masks), ("r.sam", alignments)):
                 (folder / name).write_bytes(make(draw).encode())
             line = words(draw)
-            wanted, found = ran(theirs, line, folder, environment()), ran(ours / "bedtools", line, folder, env)
+            wanted, found = ran(theirs, line, folder, looking()), ran(ours / "bedtools", line, folder, env)
             taker = TOLD.findall(found[2])[0][0]
             takers[taker] = takers.get(taker, 0) + 1
             if wanted[1] == 0 or taker != "Dunekettle":

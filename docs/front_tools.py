@@ -12,8 +12,8 @@ PROGRAM = TOP / "bin" / "bedtools"
 # Who took a command line, as DUNEKETTLE_TELL says it.
 TOLD = re.compile(r"^dunekettle: (.*?) takes (\w*)", re.MULTILINE)
 # The tools that the front calls, and those of the trials.
-TOOLS = ("sh", "bash", "awk", "cat", "cut", "dash", "env", "grep", "gzip", "head", "mkfifo", "mktemp", "od", "printf", "readlink",
-         "rm", "sed", "sleep", "sort", "tail", "tr", "wc")
+TOOLS = ("sh", "bash", "awk", "cat", "cmp", "cut", "dash", "df", "env", "grep", "gzip", "head", "mkfifo", "mktemp", "od", "printf",
+         "readlink", "rm", "samtools", "sed", "sleep", "sort", "tail", "tr", "wc")
 
 
 def original():
@@ -55,13 +55,18 @@ def environment(*first, **more):
     return {**plain, "PATH": path, **more}
 
 
+def looking(*first, **more):
+    """The same of a call whose files the drop-in looks at, however small they are."""
+    return environment(*first, **{"DUNEKETTLE_SMALL": "0", **more})
+
+
 def call(words, folder, env, **how):
     """Runs a command, and gives its output, what it said, and its status."""
-    how = {"stdin": subprocess.DEVNULL, **how}
+    how = {"stdin": subprocess.DEVNULL, "timeout": 120, **how}
     if "input" in how:
         del how["stdin"]
     done = subprocess.run([*map(os.fspath, words)], cwd=folder, env=env, stdout=subprocess.PIPE, stderr=subprocess.PIPE,
-                          check=False, timeout=120, **how)
+                          check=False, **how)
     return done.stdout, done.stderr.decode(errors="replace"), done.returncode
 
 

@@ -1,4 +1,4 @@
-# shellcheck shell=sh
+# shellcheck shell=sh disable=SC2034,SC2154
 # Hints, and the check of files: read by `dunekettle`, which has set `program`, `files` and NL.
 
 # clean: standard input without bytes that change a terminal
@@ -80,16 +80,12 @@ hint() {
     "bedtools $command: "*': cannot be opened') hint_unopened ;;
     "bedtools $command: "*:[0-9]*': '*) number=${file##*:} file=${file%:*}; hint_place "$@" ;;
     "bedtools: argument is not UTF-8") ;;
-    "bedtools: "*) hint_usage ;;
+    "bedtools: "*)
+        # shellcheck source=usage.sh source-path=SCRIPTDIR
+        . "$files/usage.sh"
+        hint_usage "$@"
+        ;;
     esac
-}
-
-hint_usage() {
-    synopsis=$(LC_ALL=C part=$command awk '
-        $1 == "%" { found = $2 == ENVIRON["part"]; next }
-        found && !NF { exit }
-        found' "$files/help.txt" | tr -s '\n ' ' ')
-    if [ -n "$synopsis" ]; then say "usage: ${synopsis% }"; else say 'the commands: see dunekettle --help'; fi
 }
 
 hint_unopened() {
@@ -102,13 +98,38 @@ hint_unopened() {
 
 hint_place() {
     case $text in
+    'chromosome is repeated' | 'length is not a number' | 'chromosome is not in the genome file' | 'too few columns')
+        ! hint_genome || return 0
+        ;;
+    esac
+    case $text in
     'too few columns' | 'start is not a number' | 'end is not a number' | 'start is not below end' | 'text before'*)
         hint_kind "$@"
         ;;
     'reading failed') [ ! -d "$file" ] || advise "$file is a directory" ;;
     'record is out of order') hint_order ;;
-    'chromosome is not in the genome file') hint_name ;;
+    'chromosome is not in the genome file' | 'no such sequence from here on') hint_name ;;
     esac
+}
+
+# hint_genome: what -g takes, if it was given a file of another kind
+hint_genome() {
+    [ -n "$g" ] && ! is_stream "$g" || return
+    [ "$file" = "$g" ] || [ "$text" = 'chromosome is not in the genome file' ] || return
+    kind=$(kind_of "$g")
+    case $kind in
+    BED) is_bed "$g" || return; more='' ;;
+    FASTA) more=", as samtools faidx $(quoted_name "$g") makes it" ;;
+    GFF | SAM | VCF) more='' ;;
+    *) return 1 ;;
+    esac
+    advise "$g is $kind. -g takes names and lengths: a genome file or a .fai index$more"
+}
+
+# is_bed FILE: whether its first records have a start and an end
+is_bed() {
+    LC_ALL=C awk -F '\t' '/^(#|track|browser)/ { next } $2 !~ /^[0-9]+$/ || $3 !~ /^[0-9]+\r?$/ { exit 1 }
+        ++records > 4 { exit }' < "$1"
 }
 
 hint_kind() {
@@ -119,12 +140,20 @@ hint_kind() {
     kind=$(kind_of "$file")
     pipe=$(pipe_for "$kind" "$file")
     case $pipe$text in
-    'start is not below end')
-        advise "records without a base are left out by awk -F'\\t' '\$2 + 0 < \$3 + 0' $(quoted_name "$file")"
-        ;;
+    'start is not below end') hint_ends ;;
     ?*"$text") advise "$(in_words "$kind"): $pipe$(piped_words "$@")" ;;
     *) say "line $number is: $(sed -n "${number}p" < "$file" | cut -c 1-60 | LC_ALL=C tr -c '[:print:]\n' ' ')" ;;
     esac
+}
+
+# A record without a base, or one whose ends are exchanged
+hint_ends() {
+    ends=$(sed -n "${number}p" < "$file" | LC_ALL=C awk -F '\t' '$2 + 0 > $3 + 0 { print $1, $2, $3 }' | printable)
+    if [ -n "$ends" ]; then
+        advise "line $number is $ends, and has its start after its end: is it a record at all, and are both exchanged?"
+    else
+        advise "records without a base are left out by awk -F'\\t' '\$2 + 0 != \$3 + 0' $(quoted_name "$file")"
+    fi
 }
 
 # piped_words WORD..: the rest of a pipe, in which standard input is read instead of the file, if nothing else reads it
@@ -191,13 +220,16 @@ hint_order() {
     advise "${places%"$NL"?}; the order in use is that of $order: $(sort_line "$file")$more"
 }
 
-# The names of the genome file that differ from one by chr, zeros, letters' case, or MT for M
+# The names of the genome file, or of the sequences, that differ from the record's by chr, zeros, letters' case, or MT
+# for M. A sequence of that name that comes earlier is a matter of order.
 hint_name() {
-    if is_stream "$file"; then
-        advise "dunekettle help lists the options; the names of $g are in its first column"
+    names=$g
+    [ "$command" != maskfasta ] || names=$fi
+    if is_stream "$file" || is_stream "$names"; then
+        advise "the names of $file have to be those of $names, byte for byte"
         return
     fi
-    near=$(sed -n "${number}p" < "$file" | cat - "$g" | LC_ALL=C awk -F '\t' '
+    near=$({ sed -n "${number}p" < "$file"; all_names; } | LC_ALL=C awk -F '\t' '
         function plain(name) {
             name = tolower(name)
             sub(/^chr_?/, "", name)
@@ -206,10 +238,22 @@ hint_name() {
         }
         NR == 1 { wanted = $1; next }
         /^#/ { next }
+        $1 == wanted { is_there = 1 }
         plain($1) == plain(wanted) { found = found " " $1 }
         NR < 5 { first = first " " $1 }
-        END { print wanted (found != "" ? " is there as" found : " is not there, but" first " ..") }' | printable)
-    advise "in $g $near"
+        END {
+            if (!is_there) print wanted (found != "" ? " is there as" found : " is not there, but" first " ..")
+        }' | printable)
+    if [ -n "$near" ]; then advise "in $names $near"; else hint_order; fi
+}
+
+# The lines of the genome file, or the names of the sequences
+all_names() {
+    case $command$words in
+    maskfasta*' -fullHeader '*) sed -n 's/^>//p' < "$fi" ;;
+    maskfasta*) sed -n "s/^>\\([^ $TAB]*\\).*/\\1/p" < "$fi" ;;
+    *) cat -- "$g" ;;
+    esac
 }
 
 # check FILE.. [-g GENOME] [--json]: status 0 if the seven commands can take each file

@@ -38,7 +38,14 @@ expect_front() {
         "$("$1/bin/dunekettle" check "$folder/sorted.bed")"
     expect "$2: its version" "Dunekettle $(sed -n 's/^## //p' CHANGELOG.md | head -n 1)" "$("$1/bin/dunekettle" --version | sed -n '1s/,.*//p')"
     expect "$2: the drop-in" "chr1	2	9" "$("$1/lib/dunekettle/bin/mergeBed" -i "$folder/sorted.bed")"
-    expect "$2: who took it" "dunekettle: Dunekettle takes merge" "$(DUNEKETTLE_TELL=1 "$1/lib/dunekettle/bin/bedtools" merge -i "$folder/sorted.bed" 2>&1 > /dev/null | cut -d : -f 1,2)"
+    expect "$2: who took it" "dunekettle: Dunekettle takes merge" "$(DUNEKETTLE_TELL=1 "$1/lib/dunekettle/bin/bedtools" merge -i "$folder/long.bed" 2>&1 > /dev/null | cut -d : -f 1,2)"
+    DUNEKETTLE_TELL=$folder/told.txt "$1/lib/dunekettle/bin/bedtools" merge -i "$folder/long.bed" > /dev/null
+    expect "$2: its report" "1 call, of which 1 of the seven commands; Dunekettle took 1 of 1 (100 percent)" \
+        "$("$1/bin/dunekettle" report "$folder/told.txt" | head -n 1)"
+    rm -f "$folder/told.txt"
+    cp "$1/bin/dunekettle" "$folder/copy"
+    expect "$2: a copy of the front" "chr1	2	9" "$(records | PATH=$1/bin:$PATH "$folder/copy" merge)"
+    expect "$2: a reader that goes away" "141" "$(set +e; "$1/lib/dunekettle/bin/bedtools" merge -i "$folder/long.bed" | head -n 1 > /dev/null; echo "${PIPESTATUS[0]}")"
     expect "$2: its links" "8" "$(find "$1/lib/dunekettle/bin" -type l -exec test -x {} \; -print | wc -l)"
 }
 
@@ -56,6 +63,7 @@ in_zsh() { # what zsh shows behind a tab
 }
 
 records > "$folder/sorted.bed"
+awk 'BEGIN { for (n = 0; n < 99999; n++) print "chr1\t" 9 * n "\t" 9 * n + 5 }' > "$folder/long.bed"
 share=$folder/there/share
 make --silent install DESTDIR= PREFIX="$folder/there" NAME=trial-tools
 expect "the installed program" "chr1	2	9" "$(records | "$folder/there/bin/trial-tools" merge)"
@@ -83,6 +91,7 @@ expect "strands in bash" "+ -" "$(in_bash "trial-tools merge -S ''")"
 expect "a command of the front in bash" "check" "$(in_bash 'dunekettle ch' dunekettle)"
 expect "options of the front in bash" "-wa -wb -wo" "$(in_bash 'dunekettle intersect -w' dunekettle)"
 expect "options of its check in bash" "--json" "$(in_bash 'dunekettle check --' dunekettle)"
+expect "its report in bash" "report" "$(in_bash 'dunekettle rep' dunekettle)"
 expect "commands behind help in bash" "merge" "$(in_bash 'dunekettle help me' dunekettle)"
 if has fish; then
     expect "a command in fish" "merge" "$(in_fish 'trial-tools me')"

@@ -16,10 +16,10 @@ case $name in dunekettle | */*) echo "NAME=$name is taken, or no name"; exit 1 ;
 
 # The front, and the names of bedtools that lead to it: relative links, so that a folder may be moved.
 install -D "$top/front/dunekettle" "$root/bin/dunekettle"
-sed "s|/dunekettle-bedtools\$|/$name|" "$top/front/dunekettle" > "$root/bin/dunekettle"
+sed "s|^dk_name=.*|dk_name=$name|" "$top/front/dunekettle" > "$root/bin/dunekettle"
 mkdir -p "$root/lib/dunekettle/bin"
-for file in judge.sh hints.sh check.awk; do
-    install -m 644 "$top/front/$file" "$root/lib/dunekettle/$file"
+for file in "$top"/front/*.sh "$top"/front/*.awk "$top/front/instead.txt"; do
+    install -m 644 "$file" "$root/lib/dunekettle/${file##*/}"
 done
 sed "s|share/doc/dunekettle-bedtools|share/doc/$name|" "$top/front/help.txt" > "$root/lib/dunekettle/help.txt"
 chmod 644 "$root/lib/dunekettle/help.txt"

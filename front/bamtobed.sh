@@ -1,0 +1,29 @@
+# shellcheck shell=sh disable=SC2034,SC2154
+# bamtobed of SAM text that samtools writes as it is: read by the drop-in of `dunekettle`. Of BAM bedtools is as quick.
+
+# take_bamtobed WORD..: becomes the program, or sets `dk_why`
+take_bamtobed() {
+    dk_line=''
+    IFS= read -r dk_line < "$dk_i" 2> /dev/null
+    case $dk_line in
+    @*) command -v samtools > /dev/null && command -v cmp > /dev/null || dk_why='there is no samtools, or no cmp' ;;
+    *) dk_why="$dk_i isn't SAM text with header lines" ;;
+    esac
+    [ -n "$dk_why" ] || look_at_text
+    [ -n "$dk_why" ] || by_program 'samtools writes its file as it is' bamtobed "$@"
+}
+
+# look_at_text: sets `dk_why` unless samtools writes the SAM text as it is, so that htslib reads it so, and each
+# alignment and each block has a base
+look_at_text() {
+    dk_text="[^$TAB]*$TAB" dk_number="[0-9]+$TAB" dk_none='([0-9]+[ISHP])*'
+    dk_odd="$dk_none$TAB|([0-9]+[A-Z=])*0|${dk_none}[0-9]+N|[^$TAB]*N$dk_none([0-9]+N|$TAB)"
+    LC_ALL=C grep -qaE "^[^@]$dk_text$dk_number$dk_text$dk_number$dk_number($dk_odd)" < "$dk_i" &
+    await $!
+    [ $? = 1 ] || { dk_why="$dk_i has alignments or blocks without a base"; return; }
+    : > "$dk_spare"
+    { samtools view --no-PG -h "$dk_i" < /dev/null 2> /dev/null || echo > "$dk_spare"; } | cmp -s - "$dk_i" &
+    await $! && [ ! -s "$dk_spare" ] || dk_why="$dk_i is SAM text that htslib reads otherwise"
+}
+
+dk_part=bamtobed.sh
