@@ -53,10 +53,25 @@ end_by() {
     as_signalled "$1"
 }
 
+# end_children: ends what runs in the background, and what feeds the original
 end_children() {
     # shellcheck disable=SC2086
-    [ -z "$dk_children" ] || { kill -s TERM $dk_children; wait; } 2> /dev/null
+    {
+        [ -z "$dk_children" ] || kill -s TERM $dk_children
+        [ -z "$dk_marks" ] || end_feeders
+        wait
+    } 2> /dev/null
     dk_children=''
+}
+
+# end_feeders: ends those that are marked, and sets `dk_status` if one lost something
+end_feeders() {
+    while read -r dk_mark dk_feeder; do
+        case $dk_mark in
+        feeder) kill -s TERM "$dk_feeder" ;;
+        lost) dk_status=lost ;;
+        esac
+    done < "$dk_marks"
 }
 
 # await PROCESS: waits for it, so that a signal isn't late, and gives its status
@@ -163,12 +178,6 @@ pour_out() {
     dk_children="$dk_children $dk_taker"
     wait "$dk_taker"
     dk_status=$?
-    while read -r dk_mark dk_feeder; do
-        case $dk_mark in
-        feeder) kill -s TERM "$dk_feeder" ;;
-        lost) dk_status=lost ;;
-        esac
-    done < "$dk_marks" 2> /dev/null
     end_children
     [ "$dk_status" != lost ] || { say 'a stream was lost'; exit 1; }
     finish "$dk_status"

@@ -38,7 +38,7 @@ expect_front() {
         "$("$1/bin/dunekettle" check "$folder/sorted.bed")"
     expect "$2: its version" "Dunekettle $(sed -n 's/^## //p' CHANGELOG.md | head -n 1)" "$("$1/bin/dunekettle" --version | sed -n '1s/,.*//p')"
     expect "$2: the drop-in" "chr1	2	9" "$("$1/lib/dunekettle/bin/mergeBed" -i "$folder/sorted.bed")"
-    expect "$2: who took it" "dunekettle: Dunekettle takes merge" "$(DUNEKETTLE_TELL=1 "$1/lib/dunekettle/bin/bedtools" merge -i "$folder/sorted.bed" 2>&1 > /dev/null | cut -d : -f 1,2)"
+    expect "$2: who took it" "dunekettle: Dunekettle takes merge" "$(DUNEKETTLE_SMALL=0 DUNEKETTLE_TELL=1 "$1/lib/dunekettle/bin/bedtools" merge -i "$folder/sorted.bed" 2>&1 > /dev/null | cut -d : -f 1,2)"
     expect "$2: its links" "8" "$(find "$1/lib/dunekettle/bin" -type l -exec test -x {} \; -print | wc -l)"
 }
 
