@@ -91,12 +91,16 @@ check-differences: $(PROGRAM)
 	docs/differences.py
 	docs/recipes.py
 
-# The front and the drop-in: hostile cases, random command lines, and pipelines, unchanged, with the drop-in first on PATH.
+# The front and the drop-in: hostile cases, streams and the temporary folder, random command lines, what calls cost, and
+# pipelines, unchanged, with the drop-in first on PATH.
 check-front: $(PROGRAM)
 	! command -v shellcheck > /dev/null || \
 	shellcheck -x front/dunekettle front/*.sh packaging/*.sh docs/front/*.sh examples/recipes/*.sh
 	docs/front_hostile.py
+	docs/front_streams.py
 	docs/front_random.py
+	docs/front_rules.py
+	docs/front_costs.py
 	docs/front.py
 
 # The recipes of docs/SHARDS.md, whose bytes have to be those of the whole, and times with 1, 2 and 4 jobs.

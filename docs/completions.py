@@ -29,6 +29,8 @@ VARIABLES = {
     "DUNEKETTLE_TELL=1": "the drop-in says which program takes a command line, and why; a path instead of 1 is a file for it, which report reads",
     "DUNEKETTLE_ALWAYS=1": "the drop-in never asks the original",
     "DUNEKETTLE_STREAMS=1": "the drop-in takes standard input and pipes as sorted BED without odd lines",
+    "DUNEKETTLE_ROOM=0": "the drop-in copies no stream; a number of bytes instead of 0 is how much of one it copies",
+    "DUNEKETTLE_SMALL=0": "the drop-in looks at the smallest inputs too; a number of bytes instead of 0 is from where on",
 }
 WIDTH = 80
 

@@ -5,7 +5,7 @@
 
 # plan COMMAND WORD..: becomes the program or the original
 plan() {
-    dk_command=$1 dk_why='' dk_children='' dk_folder=''
+    dk_command=$1 dk_why='' dk_children='' dk_folder='' dk_marks=''
     dk_room=${DUNEKETTLE_ROOM:-67108864} dk_small=${DUNEKETTLE_SMALL:-262144}
     shift
     case $dk_room$dk_small in *[!0-9]*) dk_why='DUNEKETTLE_ROOM or DUNEKETTLE_SMALL is no number' ;; esac
@@ -166,6 +166,7 @@ with_copies() {
     [ -z "$dk_from" ] || copy_streams "$@"
     if [ -n "$dk_copies" ]; then
         close_file "$dk_marks"
+        dk_marks=''
         read_options "$@"
         [ -n "$dk_why" ] || is_worth_it
     fi

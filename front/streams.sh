@@ -28,6 +28,16 @@ has_room() {
     [ "${dk_kilobytes:-0}" -ge "$(($1 / 1024))" ] 2> /dev/null
 }
 
+# end_feeders: ends those that are marked, and sets `dk_status` if one lost something
+end_feeders() {
+    while read -r dk_mark dk_feeder; do
+        case $dk_mark in
+        feeder) kill -s TERM "$dk_feeder" ;;
+        lost) dk_status=lost ;;
+        esac
+    done < "$dk_marks"
+}
+
 # await PROCESS: waits for it, so that a signal isn't late, and gives its status
 await() {
     dk_children=$1
@@ -132,12 +142,6 @@ pour_out() {
     dk_children="$dk_children $dk_taker"
     wait "$dk_taker"
     dk_status=$?
-    while read -r dk_mark dk_feeder; do
-        case $dk_mark in
-        feeder) kill -s TERM "$dk_feeder" ;;
-        lost) dk_status=lost ;;
-        esac
-    done < "$dk_marks" 2> /dev/null
     end_children
     [ "$dk_status" != lost ] || { say 'a stream was lost'; exit 1; }
     finish "$dk_status"
