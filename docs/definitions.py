@@ -35,6 +35,8 @@ def renamed(text):
     """The words of a file of specs or of code, as the crate of definitions has them."""
     text = re.sub(r"Rattle\.(bt_\w+)\.specs\.model\.", r"Rattle.definitions.specs.\1.", text)
     text = re.sub(r"Rattle\.bt_laws\.specs\.", "Rattle.definitions.specs.bt_laws.", text)
+    text = re.sub(r"Rattle\.bt_laws\.proofs\.", "Rattle.definitions.proofs.", text)
+    text = text.replace("Rattle.bt_lines.proofs.Std.", "Rattle.std.proofs.Common.")
     text = re.sub(r"Rattle\.(bt_\w+)\.specs\.declared\.", r"Rattle.definitions.specs.declared.\1.", text)
     return re.sub(r"\b(bt_\w+)::specs::model::", r"crate::specs::\1::", text)
 
@@ -123,6 +125,10 @@ def make(folder):
     (crate / "specs/Lib.antt").write_text("".join(f"pub mod {name}\n" for name in sorted([*names, "bt_laws"])))
     types = types_of([*texts, (CRATES / "bt_laws/src/worked.rt").read_text()])
     (crate / "src/worked.rt").write_text(worked_text(types))
+    for answers in (CRATES / "bt_laws/proofs/worked").glob("*/Answers.antt"):
+        copy = crate / "proofs/worked" / answers.parent.name
+        copy.mkdir(parents=True)
+        (copy / answers.name).write_text(renamed(answers.read_text()))
     (crate / "src/lib.rt").write_text(f"//! Definitions and worked values.\n#![tactic(auto)]\n\npub mod worked;\n\n{module_text(types)}\n")
     return crate
 
