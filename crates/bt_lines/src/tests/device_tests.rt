@@ -97,7 +97,9 @@ fn an_end_is_asked_for_once(rt: HostRuntime) {
     let source = FromRead::new(CountsReads { text, calls });
     let mut reader = LineReader::new(rt.alloc(), source, Input::First);
     let lines: [Want; 2] = [(b"a", LineEnd::Lf), (b"b", LineEnd::Absent)];
-    let are_given = gives_all(&mut reader, &lines) && has_ended(&mut reader) && has_ended(&mut reader);
+    let are_given = gives_all(&mut reader, &lines)
+        && has_ended(&mut reader)
+        && has_ended(&mut reader);
     let calls = reader.into_source().into_inner().calls;
     holds(&rt, are_given && calls == 4, "three bytes and the end");
 }
