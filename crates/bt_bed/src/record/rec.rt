@@ -109,29 +109,6 @@ mod tests {
         Ok(rec.as_bed().chrom == b"chr1".as_slice() && said(rec.as_bed()) == want)
     }
 
-    // Whether a record with so many bytes after its end is kept.
-    fn is_long_kept(alloc: Global, bytes: usize) -> Result<bool, AllocError> {
-        let mut line = Vec::new(alloc);
-        line.extend_from_slice(b"chr1\t8\t9\t")?;
-        for _ in 0..bytes {
-            line.push(b'x')?;
-        }
-        let Some(bed) = record(line.as_slice()) else {
-            return Ok(false);
-        };
-        let rec = bed.to_rec(alloc)?;
-        Ok(rec.as_bed().rest.len() == bytes + 1 && said(rec.as_bed()) == said(bed))
-    }
-
-    // With ample memory no record is too long to be kept.
-    #[test]
-    fn long_records_are_kept(rt: HostRuntime) -> Result<(), Fail> {
-        for bytes in [1000, 1001, 65_536, 5_000_000] {
-            assert!(rt; is_long_kept(rt.alloc(), bytes)?, "{bytes} bytes");
-        }
-        Ok(())
-    }
-
     #[test]
     fn records_are_kept_and_lent_as_they_were(rt: HostRuntime) -> Result<(), Fail> {
         for (line, want) in &RECORDS {
