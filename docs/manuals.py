@@ -4,8 +4,9 @@
     docs/manuals.py            fails if a page isn't that of these files
     docs/manuals.py --write    writes them
 
-Text, lists and examples are those of COMMANDS.md, without pictures and tables; the options are those of options.txt. The
-date is that of man/bedtools.1. Ends with 1 if one differs.
+Text, lists and examples are those of COMMANDS.md, without pictures and tables; the options are those of options.txt. An
+example that reads a file of an earlier command begins with the lines that make it. The date is that of man/bedtools.1.
+Ends with 1 if one differs.
 """
 
 import re
@@ -16,6 +17,8 @@ from completions import NAME, TOP, default_in_words, read_options, sections, syn
 # Pieces of a paragraph: code, and a link, of which the text is left.
 LINK = re.compile(r"\[([^\]]*)\]\([^)]*\)")
 CODE = re.compile(r"`([^`]*)`")
+# A line of an example that makes a file, or adds to it.
+MAKES = re.compile(r"^    \$ printf .* (>>?) (\S+)$", re.MULTILINE)
 
 
 def escaped(text):
@@ -40,6 +43,24 @@ def words(text):
     return f"\\&{made}" if made.startswith((".", "'")) else made
 
 
+def files_before(section):
+    """The files that the examples of COMMANDS.md before a section make, each with the lines that do."""
+    text, made = (TOP / "docs" / "COMMANDS.md").read_text(encoding="utf-8"), {}
+    for match in MAKES.finditer(text[:text.index(section)]):
+        made[match[2]] = [*(made.get(match[2], []) if match[1] == ">>" else []), match[0]]
+    return made
+
+
+def missing(block, made):
+    """The lines that make the files which a block reads, if none before it has. What it makes itself is missing no more."""
+    lines = []
+    for name in list(made):
+        if re.search(rf"(?<![\w./]){re.escape(name)}(?![\w.])", "\n".join(block)):
+            makers = made.pop(name)
+            lines += [] if any(match[2] == name for match in MAKES.finditer("\n".join(block))) else makers
+    return lines
+
+
 def example(block):
     """A block of commands and what they write, with the name of the front."""
     lines = [line[4:].replace(NAME, "dunekettle") for line in block]
@@ -52,14 +73,14 @@ def blocks_of(section):
     return [block.split("\n") for block in re.split(r"\n\n+", section.strip("\n"))]
 
 
-def body(section):
-    """The text of a section: paragraphs, lists and examples."""
+def body(section, made):
+    """The text of a section: paragraphs, lists and examples. `made` has the files that come from before it."""
     lines = []
     for block in blocks_of(section):
         if block[0].startswith(("|", "<!--")) or block[0].startswith("    ") and not block[0].startswith("    $ "):
             continue
         if block[0].startswith("    "):
-            lines += example(block)
+            lines += example([*missing(block, made), *block])
         elif block[0].startswith("### "):
             lines.append(f".Ss \\&{block[0][4:]}")
         elif block[0].startswith("- "):
@@ -74,12 +95,13 @@ def body(section):
 
 def manual(command, purpose, options, section, date):
     """The text of a command's page."""
+    made = files_before(section)
     lines = [f".Dd {date}", f".Dt DUNEKETTLE-{command.upper()} 1", ".Os", ".Sh NAME", f".Nm dunekettle-{command}", f".Nd {purpose}", ".Sh SYNOPSIS",
-             escaped(f"dunekettle {synopsis(command, section)}"), ".Sh DESCRIPTION", *body(section.split("\n| option |")[0]), ".Sh OPTIONS", ".Bl -tag -width Ds"]
+             escaped(f"dunekettle {synopsis(command, section)}"), ".Sh DESCRIPTION", *body(section.split("\n| option |")[0], made), ".Sh OPTIONS", ".Bl -tag -width Ds"]
     for option, value, default, text in options:
         lines += [f".It \\fB{escaped(option)}\\fP {value}".rstrip(), f"{text[0].upper()}{text[1:]}.", default_in_words(default)]
-    lines += [".El", ".Sh EXAMPLES", *body("\n\n".join(section.split("\n\n")[options_end(section):])), ".Sh EXIT STATUS", ".Bl -tag -width Ds",
-              ".It 0", "All output was written.", ".It 1", "A fault of an input, of reading or writing, or of memory.", ".It 2", "The command line can't be used.", ".El",
+    lines += [".El", ".Sh EXAMPLES", *body("\n\n".join(section.split("\n\n")[options_end(section):]), made), ".Sh EXIT STATUS", ".Bl -tag -width Ds",
+              ".It 0", "All output was written.", ".It 1", "An error of an input, of reading or writing, or of memory.", ".It 2", "The command line can't be used.", ".El",
               ".Sh SEE ALSO", f".Xr {NAME} 1 ,", ".Xr dunekettle 1", ".Pp", f"This page is that of Dunekettle {version()}.", ".Pa docs/COMMANDS.md",
               "has pictures too,", ".Pa docs/ERRORS.md", "each message,", ".Pa docs/MIGRATING.md", "what differs from bedtools 2.30.0."]
     return "".join(f"{line}\n" for line in lines)
