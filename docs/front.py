@@ -30,7 +30,7 @@ SEVEN = ("merge", "complement", "intersect", "subtract", "genomecov", "bamtobed"
 # beside the hundredths of a second by which two runs of one differ.
 TAKEN, LEFT, LONGER, SECONDS = 0.85, 0.25, 1.1, 0.02
 # The table of the scripts in MIGRATING.md.
-TABLE = re.compile(r"(<!-- docs/front.py --write: pipelines -->\n).*?(<!-- it ends here -->)", re.DOTALL)
+TABLE = re.compile(r"(<!-- a script writes: pipelines -->\n).*?(<!-- it ends here -->)", re.DOTALL)
 # A Python that has pybedtools.
 PYTHONS = ("/usr/bin/python3", sys.executable)
 SNAKEFILE = """

@@ -25,7 +25,7 @@ COUNTS = ("paragraphs", "sentences", "cells", "dialect", "history", "proofs", "t
 PARAGRAPH, SENTENCE, CELL = 80, 22, 30
 MOST = 26_000
 # The tables of the bench and of the drop-in, with the lines around them.
-MEASURED = re.compile(r"<!-- (?:bench/results|docs/front\w*).py --write: \w+ -->\n.*?<!-- it ends here -->", re.DOTALL)
+MEASURED = re.compile(r"<!-- (?:bench/results.py --write|a script writes): \w+ -->\n.*?<!-- it ends here -->", re.DOTALL)
 # So many lines has the front page at most.
 FRONT, LINES = "README.md", 100
 # Pages whose subject is what changed.
