@@ -98,7 +98,7 @@ def help_text(kit, commands):
     """The help of the front: a part for each command, behind a line that begins with a percent sign."""
     lines = [f"Dunekettle {version()}", "% version", f"Dunekettle {version()}, proved with {kit}", f"commands: {' '.join(commands)}",
              "% dunekettle",
-             "dunekettle COMMAND [OPTION..]            runs a command; a hint may follow its fault",
+             "dunekettle COMMAND [OPTION..]            runs a command; a hint may follow its error",
              "dunekettle help COMMAND                  the options of a command, also COMMAND --help",
              "dunekettle check FILE.. [-g GENOME] [--json]",
              "                                         whether the commands can take these files",
