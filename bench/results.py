@@ -226,14 +226,14 @@ def summary(kept):
 
 
 def by_command(kept):
-    """The table of bench/README.md by command: how much less each takes."""
+    """The table of bench/README.md by command: how much less each takes. Its caption is that of the next one."""
     lines = []
     lines.append("| command | times less processor time than bedtools | memory | memory of bedtools |\n|---|---|---|---|\n")
     for command in SHOWN:
         rows = [row for row in kept["workloads"] if row["command"] == command]
         ours, theirs = ([row["runs"][program]["kilobytes"] for row in rows] for program in ("dunekettle", "bedtools"))
         lines.append(f"| `{command}` | {spread([times_less(row) for row in rows], digits)} | {spread(ours, megabytes)} | {spread(theirs, megabytes)} |\n")
-    return "".join(lines) + f"\n{caption(kept)}"
+    return "".join(lines)
 
 
 def by_workload(kept):

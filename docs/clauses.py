@@ -23,10 +23,12 @@ CALL = re.compile(r"^( *)(pub(?:\([^)]*\))? )?(?:const )?fn (\w+)")
 CLAUSE = re.compile(r"\bensures\*? (\w+ )?\{")
 PART = re.compile(r"\s*(?:ensures|requires|measure|decreases)\b\*?[^{;]*\{")
 IMPORT = re.compile(r"^\s*ghost use Rattle\.(\w+)\.specs\.([\w.]+)\.\{([^}]*)\}", re.MULTILINE)
-# Of a call with more clauses only their number is said.
-MANY = 12
+# Of a call with more clauses only their number is said, and of a law, which has a sentence.
+MANY, MANY_OF_LAW = 12, 4
 # So many words of a sentence are shown.
-LONG = 20
+LONG = 16
+# Laws that a page has in words, with their conditions: those of pipes and of the same bytes PIPES.md, of parts SHARDS.md.
+IN_WORDS = {"pipes", "same", "counts", "parts"}
 # What a call returns that may have run out of memory.
 MEMORY = {"Fault", "AllocError", "Refusal"}
 # What tests.tsv says of a call that only writes, or passes a fault on.
@@ -141,10 +143,10 @@ def rows():
                     yield crate, file, f"{owner}::{name}" if owner else name, said, refusal_of(head)
 
 
-def shown_clauses(clauses):
+def shown_clauses(clauses, many=MANY):
     """The clauses of a call: their names, and the words that they name, each once."""
     parts, seen = [], set()
-    if len(clauses) > MANY:
+    if len(clauses) > many:
         words = dict.fromkeys(word for _, named in clauses for word in named)
         return f"{len(clauses)} clauses, on " + ", ".join(f"[`{word}`](../{path.relative_to(TOP)})" for word, path in words)
     for name, words in clauses:
@@ -170,7 +172,8 @@ def page(found):
     """The text of the page."""
     lines = ["# Clauses: the index of the contracts\n\n",
              "`docs/clauses.py` writes this page from the sources: each public call, what it may return instead of success, its clauses, and the words of "
-             "`specs/` that they name. The comment above a call says it in words; two dots: there it goes on, as with conditions. [PROVED](PROVED.md) says what all of it comes to.\n\n"
+             "`specs/` that they name. The comment above a call says it in words; two dots: there it goes on. [PIPES](PIPES.md) has the laws of pipes in words, "
+             "[SHARDS](SHARDS.md#which-parts-give-the-same-bytes) those of parts, [PROVED](PROVED.md) what all of it comes to.\n\n"
              "Every call returns, whatever it is given. One without an arrow has no answer for a failure: `None` is an answer. Only after a `Fault`, an "
              "`AllocError` or a `Refusal` can memory have run out. That it had cause is shown by clauses `quiet` and `memory`, and by "
              "[tests with ample memory](tests.tsv).\n"]
@@ -178,8 +181,8 @@ def page(found):
         rows_here = [row for row in found if row[0] == crate]
         lines.append(f"\n## {crate}\n\n")
         for _, file, call, clauses, refusal in rows_here:
-            text = shown_clauses(clauses)
-            if crate == "bt_laws":
+            text = shown_clauses(clauses, MANY_OF_LAW if crate == "bt_laws" else MANY)
+            if crate == "bt_laws" and not IN_WORDS & {file.stem, file.parent.name}:
                 text = f"{sentence_of(file, call)} {text}".strip()
             if text or refusal:
                 lines.append(f"- [`{call}`](../{file.relative_to(TOP)})" + (f" → `{refusal}`" if refusal else "") + f": {text or 'one clause'}\n")

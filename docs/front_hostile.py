@@ -291,7 +291,7 @@ def try_paths(place, folder, count):
             is_needed = "help" not in part and "hints" not in part
             output, said, status = call(["bedtools", "merge", "-i", "f.bed"], folder, env)
             count.expect(f"{part} {how}", (b"merge\0-i\0f.bed\0", "", 7) if is_needed else (MERGED, "", 0), (output, said, status))
-            count.expect(f"{part} {how}: --version", (b"--version\0", "", 7), call(["bedtools", "--version"], folder, env))
+            count.expect(f"{part} {how}: --version", (b"bedtools v2.30.0\n", "", 0), call(["bedtools", "--version"], folder, env))
             if "bedtools" not in part and how != "half":
                 status = call([broken / "bin" / "dunekettle", "merge", "-i", "unsorted.bed"], folder, env)[2]
                 count.expect(f"{part} {how}: a fault", 1, status)

@@ -8,7 +8,7 @@ Counted are paragraphs over 80 words, sentences over 22, cells of tables over 30
 a plainer one for each), words of proofs outside the pages on proofs, several terms for one thing, and, in pages that
 describe today, words that tell history. The pages are the Markdown files of the repository and the manual pages that
 are written by hand. Headings and blocks of code aren't counted, and a piece of code in a sentence is one word. So
-counted, all pages together have at most MOST words, without the tables of the bench, which bench/results.py writes.
+counted, all pages together have at most MOST words, without the tables of what was measured, which scripts write.
 Ends with 1 if a count has risen, a page has no row, a row has no page, or the words are too many.
 """
 
@@ -24,8 +24,8 @@ MADE = ("docs/CLAUSES.md",)
 COUNTS = ("paragraphs", "sentences", "cells", "dialect", "history", "proofs", "terms")
 PARAGRAPH, SENTENCE, CELL = 80, 22, 30
 MOST = 26_000
-# What bench/results.py writes into a page, with the lines around it.
-MEASURED = re.compile(r"<!-- bench/results.py --write: \w+ -->\n.*?<!-- it ends here -->", re.DOTALL)
+# The tables of the bench and of the drop-in, with the lines around them.
+MEASURED = re.compile(r"<!-- (?:bench/results.py --write|a script writes): \w+ -->\n.*?<!-- it ends here -->", re.DOTALL)
 # So many lines has the front page at most.
 FRONT, LINES = "README.md", 100
 # Pages whose subject is what changed.
@@ -141,7 +141,7 @@ def found_in(path):
 
 
 def words_of(path):
-    """How many words a page has, without the tables of the bench."""
+    """How many words a page has, without what was measured."""
     written = MEASURED.sub("", path.read_text(encoding="utf-8"))
     return sum(len(plain(text).replace("|", " ").split()) for _, text in paragraphs(written))
 

@@ -5,7 +5,8 @@
 
 # plan COMMAND WORD..: becomes the program or the original
 plan() {
-    dk_command=$1 dk_why='' dk_children='' dk_folder='' dk_marks=''
+    dk_command=$1 dk_why='' dk_children='' dk_folder='' dk_marks='' dk_stdin=''
+    for dk_free in 3 4 5 6 7 8 9; do unset "dk_word_$dk_free"; done
     dk_room=${DUNEKETTLE_ROOM:-67108864} dk_small=${DUNEKETTLE_SMALL:-262144}
     shift
     case $dk_room$dk_small in *[!0-9]*) dk_why='DUNEKETTLE_ROOM or DUNEKETTLE_SMALL is no number' ;; esac
@@ -153,9 +154,13 @@ with_copies() {
             dk_left=${dk_left#"$dk_copy"}
             dk_left=${dk_left# }
             case $dk_kind in
-            stream) set -- "$@" "$dk_copy"; dk_to="${dk_to:+$dk_to }$dk_copy" ;;
+            stream)
+                case $1 in - | stdin) dk_stdin=$dk_copy; eval "dk_word_${dk_copy##*/}=\$1" ;; esac
+                set -- "$@" "$dk_copy"
+                dk_to="${dk_to:+$dk_to }$dk_copy"
+                ;;
             gzip)
-                if unzip "$1" "$dk_copy"; then eval "dk_zipped_${dk_copy##*/}=\$1"; else dk_copy=$1; fi
+                if unzip "$1" "$dk_copy"; then eval "dk_word_${dk_copy##*/}=\$1"; else dk_copy=$1; fi
                 set -- "$@" "$dk_copy"
                 ;;
             esac
@@ -172,16 +177,17 @@ with_copies() {
     fi
     [ -n "$dk_why" ] || open_files spans spare genome || dk_why='TMPDIR takes no file, or too many are open'
     [ -n "$dk_why" ] || decide "$@"
-    with_gzip_files "$@"
+    to_original "$@"
 }
 
-# with_gzip_files WORD..: becomes the original, with the gzip files themselves
-with_gzip_files() {
+# to_original WORD..: becomes the original, with the gzip files themselves, and the copy of standard input in its place
+to_original() {
     for dk_word; do
-        case $dk_word in /dev/fd/[3-9]) eval "dk_word=\${dk_zipped_${dk_word##*/}:-\$dk_word}" ;; esac
+        case $dk_word in /dev/fd/[3-9]) eval "dk_word=\${dk_word_${dk_word##*/}:-\$dk_word}" ;; esac
         set -- "$@" "$dk_word"
         shift
     done
+    [ -z "$dk_stdin" ] || exec < "$dk_stdin"
     by_original "$dk_why" "$dk_command" "$@"
 }
 

@@ -1,12 +1,13 @@
 #!/bin/bash
-# Viral: the reads of each amplicon of three samples, as a workflow calls it.
+# Viral: the reads of the amplicons of both pools of primers, as a workflow calls it.
 set -euo pipefail
 
-for sample in a b c; do
-    bash -c "set -euo pipefail; bedtools bamtobed -i virus.bam > $sample.reads.bed"
-    bash -c "set -euo pipefail; bedtools intersect -sorted -c -a primers.bed -b $sample.reads.bed > $sample.counts.bed"
-    bash -c "set -euo pipefail; bedtools intersect -sorted -u -f 0.9 -a $sample.reads.bed -b primers.bed | wc -l"
-    bash -c "set -euo pipefail; bedtools merge -i $sample.reads.bed -d 50 > $sample.covered.bed"
+bedtools bamtobed -i virus.bam > virus.bed
+for pool in 1 2; do
+    awk -v pool=$pool '$5 == pool' primers.bed > pool_$pool.bed
+    bash -c "set -euo pipefail; bedtools intersect -sorted -c -a pool_$pool.bed -b virus.bed > counts_$pool.bed"
+    bash -c "set -euo pipefail; bedtools intersect -sorted -u -f 0.9 -a virus.bed -b pool_$pool.bed | wc -l"
+    bash -c "set -euo pipefail; bedtools subtract -a virus.bed -b pool_$pool.bed | wc -l"
 done
-bedtools intersect -F 0.5 -c -a primers.bed -b a.reads.bed
-cat ./?.counts.bed ./?.covered.bed
+bedtools intersect -F 0.5 -c -a primers.bed -b virus.bed
+cat counts_?.bed
