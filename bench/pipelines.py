@@ -109,7 +109,7 @@ def measured(name, folder, place):
         sys.exit(f"{name}: the forms write different bytes")
     what = re.search(r"^# (.*)", (HERE / "pipelines" / f"{name}.sh").read_text(encoding="utf-8"), re.MULTILINE)[1]
     calls, by_us = taken(name, folder, place)
-    row = {"name": name, "what": what, "seconds": {form: round(min(all_), 2) for form, all_ in times.items()}, "calls": calls, "taken": by_us}
+    row = {"name": name, "what": what, "seconds": {form: round(min(all_), 3) for form, all_ in times.items()}, "calls": calls, "taken": by_us}
     print(row, flush=True)
     return row
 

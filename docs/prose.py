@@ -4,7 +4,7 @@
     docs/prose.py [-v] [PAGE..]    compares each page, or these, with prose.txt; with -v it says where each count is
     docs/prose.py --write          stores the counts that have fallen, and those of new pages
 
-Counted are paragraphs over 80 words, sentences over 22, cells of tables over 30, words of this project's dialect (with
+Counted are paragraphs over 80 words, sentences over 22, cells of tables over 25, words of this project's dialect (with
 a plainer one for each), words of proofs outside the pages on proofs, several terms for one thing, and, in pages that
 describe today, words that tell history. The pages are the Markdown files of the repository and the manual pages that
 are written by hand. Headings and blocks of code aren't counted, and a piece of code in a sentence is one word. So
@@ -22,7 +22,7 @@ PAGES = ("*.md", "docs/*.md", "bench/*.md", "packaging/*.md", "crates/*/README.m
 # Made by a script of the sources.
 MADE = ("docs/CLAUSES.md",)
 COUNTS = ("paragraphs", "sentences", "cells", "dialect", "history", "proofs", "terms")
-PARAGRAPH, SENTENCE, CELL = 80, 22, 30
+PARAGRAPH, SENTENCE, CELL = 80, 22, 25
 MOST = 26_000
 # The tables of the bench and of the drop-in, with the lines around them.
 MEASURED = re.compile(r"<!-- (?:bench/results.py --write|a script writes): \w+ -->\n.*?<!-- it ends here -->", re.DOTALL)
