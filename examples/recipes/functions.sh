@@ -5,6 +5,11 @@
 set -euo pipefail
 export LC_ALL=C
 unset "${!opt_@}"
+# Without words a script shows how it is called: its own head.
+if [ $# = 0 ] || [ "$1" = --help ]; then
+    sed -n '2,9{/^# shellcheck/q; s/^# //p}' "$0" >&2
+    exit 2
+fi
 TAB=$(printf '\t')
 
 # bt COMMAND WORD..: the program, with the genome file GENOME if there is one
