@@ -25,7 +25,7 @@ from front_tools import TOLD, TOP, drop_in, environment, install, original
 
 # The table of MIGRATING.md.
 TABLE = re.compile(r"(<!-- a script writes: costs -->\n).*?(<!-- it ends here -->)", re.DOTALL)
-HEAD = "| call | taken by | bedtools | with the drop-in | by the clock | with the drop-in |\n|---|---|---|---|---|---|\n"
+HEAD = "| call | taken by | bedtools, processor | drop-in | bedtools, clock | drop-in |\n|---|---|---|---|---|---|\n"
 SIZES = {"chr1": 120_000_000, "chr2": 100_000_000, "chrX": 80_000_000, "chr10": 60_000_000}
 READS, EXONS = 200_000, 40_000  # on each chromosome
 CALLS = """
