@@ -2,7 +2,7 @@
 """Tries pipelines as people have them, unchanged, with the drop-in first on PATH and without it.
 
     docs/front.py [WORD..]     runs the scripts of docs/front/ whose names have one of these words; without one all
-    docs/front.py --write      writes the table of MIGRATING.md anew
+    docs/front.py --write      writes front_pipelines.tsv and the table of MIGRATING.md anew
 
 The 45 scripts of docs/front/ run over files that docs/front_data.py makes; so do 27 calls of pybedtools, a rule of
 Snakemake, a module as nf-core has them, and a Makefile. Both runs have to write the same bytes and to end with the same
@@ -31,6 +31,8 @@ SEVEN = ("merge", "complement", "intersect", "subtract", "genomecov", "bamtobed"
 TAKEN, LEFT, LONGER, SECONDS = 0.85, 0.25, 1.1, 0.02
 # The table of the scripts in MIGRATING.md.
 TABLE = re.compile(r"(<!-- a script writes: pipelines -->\n).*?(<!-- it ends here -->)", re.DOTALL)
+# The file of all rows, its columns, and how many of those that gain and lose most are on the page.
+ROWS, COLUMNS, MOST = "front_pipelines.tsv", ("pipeline", "calls", "taken", "seconds without", "with"), 5
 # A Python that has pybedtools.
 PYTHONS = ("/usr/bin/python3", sys.executable)
 SNAKEFILE = """
@@ -134,10 +136,13 @@ def goals_missed(rows):
 
 
 def write_table(rows):
-    """Puts the rows into MIGRATING.md."""
+    """Puts all rows into front_pipelines.tsv, and into MIGRATING.md their sum and those that gain and lose most."""
     page = HERE / "MIGRATING.md"
-    lines = [f"{summary(rows)}.", "", "| pipeline | calls | taken | seconds without | with |", "|---|---|---|---|---|"]
-    lines += [f"| {name[3:].replace('-', ' ')} | {calls} | {taken} | {before:.2f} | {after:.2f} |" for name, calls, taken, before, after in rows]
+    shown = [(name[3:].replace("-", " "), str(calls), str(taken), f"{before:.2f}", f"{after:.2f}") for name, calls, taken, before, after in rows]
+    (HERE / ROWS).write_text("".join("\t".join(row) + "\n" for row in [COLUMNS, *shown]), encoding="utf-8")
+    by_gain = sorted(shown, key=lambda row: float(row[4]) - float(row[3]))
+    lines = [f"{summary(rows)}. [All rows]({ROWS}); those that gain and lose most:", ""]
+    lines += [f"| {' | '.join(row)} |" for row in (COLUMNS, ["---"] * 5, *by_gain[:MOST], *by_gain[-MOST:])]
     text = page.read_text(encoding="utf-8")
     page.write_text(TABLE.sub(lambda found: found[1] + "\n".join(["", *lines, "", ""]) + found[2], text), encoding="utf-8")
 

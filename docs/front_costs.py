@@ -6,7 +6,7 @@
 The files are made here: 800,000 reads as BED, SAM and BAM on a genome of 360,000,000 bases, exons, transcripts and
 sequences, and small ones. For each call it shows who took it and the seconds of both, of the processor and by the
 clock, the less of two runs, and compares the bytes. With words it tries the calls that have one of them. --write puts
-the table into docs/MIGRATING.md. Ends with 1 if bytes differ, or if a call that Dunekettle takes needs over a tenth more of
+all rows into front_costs.tsv and some into MIGRATING.md. Ends with 1 if bytes differ, or if a call that Dunekettle takes needs over a tenth more of
 the processor than bedtools.
 """
 
@@ -25,7 +25,25 @@ from front_tools import TOLD, TOP, drop_in, environment, install, original
 
 # The table of MIGRATING.md.
 TABLE = re.compile(r"(<!-- a script writes: costs -->\n).*?(<!-- it ends here -->)", re.DOTALL)
-HEAD = "| call | taken by | bedtools, processor | drop-in | bedtools, clock | drop-in |\n|---|---|---|---|---|---|\n"
+COLUMNS = ("call", "taken by", "bedtools, processor", "drop-in", "bedtools, clock", "drop-in")
+# The file of all rows, and the calls whose rows are on the page.
+ROWS = Path(__file__).resolve().parent / "front_costs.tsv"
+SHOWN = """
+merge -i reads.bed
+cat reads.bed | merge
+complement -i reads.bed -g sorted.sizes
+intersect -u -a reads.bed -b exons.bed
+intersect -wa -wb -a reads.bed -b exons.bed
+intersect -c -a exons.bed -b reads.bed
+subtract -a reads.bed -b exons.bed
+genomecov -bg -i reads.bed -g sorted.sizes
+genomecov -i reads.bed -g sorted.sizes
+genomecov -bg -ibam reads.bam
+bamtobed -i reads.sam
+bamtobed -i reads.bam
+maskfasta -fi long.fa -bed repeats.bed -fo masked.fa
+merge -i few.bed
+""".strip().splitlines()
 SIZES = {"chr1": 120_000_000, "chr2": 100_000_000, "chrX": 80_000_000, "chr10": 60_000_000}
 READS, EXONS = 200_000, 40_000  # on each chromosome
 CALLS = """
@@ -144,9 +162,24 @@ def try_call(line, theirs, ours, folder):
     is_same = len({one[2] for runs in tries for one in runs}) == 1
     taker = "Dunekettle" if tries[1][0][3] == "Dunekettle" else "bedtools"
     is_cheap = taker == "bedtools" or least[1][0] <= least[0][0] * 1.1 + 0.005
-    row = f"| `{line.replace('|', chr(92) + '|')}` | {taker} | {least[0][0]:.2f} | {least[1][0]:.2f} | {least[0][1]:.2f} | {least[1][1]:.2f} |"
-    print(row + ("" if is_same else " BYTES DIFFER") + ("" if is_cheap else " DEARER"), flush=True)
+    row = [line, taker, *(f"{least[who][which]:.2f}" for which in (0, 1) for who in (0, 1))]
+    print(as_row(row) + ("" if is_same else " BYTES DIFFER") + ("" if is_cheap else " DEARER"), flush=True)
     return row, is_same and is_cheap
+
+
+def as_row(cells):
+    """A row of the page's table: the call, and numbers."""
+    line, *others = cells
+    return f"| `{line.replace('|', chr(92) + '|')}` | {' | '.join(others)} |"
+
+
+def write_table(rows):
+    """Puts all rows into front_costs.tsv, and those of SHOWN into MIGRATING.md."""
+    ROWS.write_text("".join("\t".join(row) + "\n" for row in [COLUMNS, *rows]), encoding="utf-8")
+    page = TOP / "docs" / "MIGRATING.md"
+    lines = [f"| {' | '.join(COLUMNS)} |", f"|{'---|' * len(COLUMNS)}", *(as_row(row) for row in rows if row[0] in SHOWN)]
+    text = page.read_text(encoding="utf-8")
+    page.write_text(TABLE.sub(lambda found: found[1] + "".join(f"{line}\n" for line in lines) + found[2], text), encoding="utf-8")
 
 
 def main():
@@ -163,9 +196,7 @@ def main():
         print("| call | taken by | processor: bedtools | with the drop-in | clock: bedtools | with the drop-in |")
         rows = [try_call(line, theirs, ours, folder) for line in calls]
     if "--write" in sys.argv:
-        page = TOP / "docs" / "MIGRATING.md"
-        lines = [HEAD, *(f"{row}\n" for row, _ in rows)]
-        page.write_text(TABLE.sub(lambda found: found[1] + "".join(lines) + found[2], page.read_text(encoding="utf-8")), encoding="utf-8")
+        write_table([row for row, _ in rows])
     wrong = sum(not is_right for _, is_right in rows)
     print(f"costs: {len(rows)} calls, {wrong} of them not as they have to be")
     return 1 if wrong else 0
