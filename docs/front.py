@@ -2,7 +2,7 @@
 """Tries pipelines as people have them, unchanged, with the drop-in first on PATH and without it.
 
     docs/front.py [WORD..]     runs the scripts of docs/front/ whose names have one of these words; without one all
-    docs/front.py --write      writes front_pipelines.tsv and the table of MIGRATING.md anew
+    docs/front.py --write      writes front_pipelines.tsv, the table of MIGRATING.md and the line of README anew
 
 The 45 scripts of docs/front/ run over files that docs/front_data.py makes; so do 27 calls of pybedtools, a rule of
 Snakemake, a module as nf-core has them, and a Makefile. Both runs have to write the same bytes and to end with the same
@@ -31,6 +31,7 @@ SEVEN = ("merge", "complement", "intersect", "subtract", "genomecov", "bamtobed"
 TAKEN, LEFT, LONGER, SECONDS = 0.85, 0.25, 1.1, 0.02
 # The table of the scripts in MIGRATING.md.
 TABLE = re.compile(r"(<!-- a script writes: pipelines -->\n).*?(<!-- it ends here -->)", re.DOTALL)
+GAIN = re.compile(r"(<!-- a script writes: gain -->\n).*?(<!-- it ends here -->)", re.DOTALL)
 # The file of all rows, its columns, and how many of those that gain and lose most are on the page.
 ROWS, COLUMNS, MOST = "front_pipelines.tsv", ("pipeline", "calls", "taken", "seconds without", "with"), 5
 # A Python that has pybedtools.
@@ -136,7 +137,7 @@ def goals_missed(rows):
 
 
 def write_table(rows):
-    """Puts all rows into front_pipelines.tsv, and into MIGRATING.md their sum and those that gain and lose most."""
+    """Puts all rows into front_pipelines.tsv, into MIGRATING.md their sum and those that gain and lose most, into README the sum."""
     page = HERE / "MIGRATING.md"
     shown = [(name[3:].replace("-", " "), str(calls), str(taken), f"{before:.2f}", f"{after:.2f}") for name, calls, taken, before, after in rows]
     (HERE / ROWS).write_text("".join("\t".join(row) + "\n" for row in [COLUMNS, *shown]), encoding="utf-8")
@@ -145,6 +146,9 @@ def write_table(rows):
     lines += [f"| {' | '.join(row)} |" for row in (COLUMNS, ["---"] * 5, *by_gain[:MOST], *by_gain[-MOST:])]
     text = page.read_text(encoding="utf-8")
     page.write_text(TABLE.sub(lambda found: found[1] + "\n".join(["", *lines, "", ""]) + found[2], text), encoding="utf-8")
+    first = HERE.parent / "README.md"
+    gain = f"**With the drop-in, unchanged**: {summary(rows)} ([which](docs/MIGRATING.md#what-was-tried)).\n"
+    first.write_text(GAIN.sub(lambda found: found[1] + gain + found[2], first.read_text(encoding="utf-8")), encoding="utf-8")
 
 
 def try_pybedtools(folder, env, count):

@@ -5,9 +5,9 @@
 
 The files are made here: 800,000 reads as BED, SAM and BAM on a genome of 360,000,000 bases, exons, transcripts and
 sequences, and small ones. For each call it shows who took it and the seconds of both, of the processor and by the
-clock, the less of two runs, and compares the bytes. With words it tries the calls that have one of them. --write puts
-all rows into front_costs.tsv and some into MIGRATING.md. Ends with 1 if bytes differ, or if a call that Dunekettle takes needs over a tenth more of
-the processor than bedtools.
+clock, the less of two runs, and compares the bytes. With words it tries the calls that have one of them. Without
+words --write puts all rows into front_costs.tsv and some into MIGRATING.md. Ends with 1 if bytes differ, or if a call
+that Dunekettle takes needs over a tenth more of the processor than bedtools.
 """
 
 import hashlib
@@ -195,7 +195,7 @@ def main():
         make_files(folder, random.Random(11))
         print("| call | taken by | processor: bedtools | with the drop-in | clock: bedtools | with the drop-in |")
         rows = [try_call(line, theirs, ours, folder) for line in calls]
-    if "--write" in sys.argv:
+    if "--write" in sys.argv and not words:
         write_table([row for row, _ in rows])
     wrong = sum(not is_right for _, is_right in rows)
     print(f"costs: {len(rows)} calls, {wrong} of them not as they have to be")
