@@ -1,11 +1,11 @@
-//! Complement and coverage beside the plain programs, over all inputs of at most three records of positions below 6.
+//! Merge, complement and coverage beside the plain programs, over all inputs of at most three records of positions below 6.
 
 use crate::engine::Engine;
-use crate::plain::PlainSpan;
 use crate::plain::depths::plain_depths;
 use crate::plain::gaps::plain_gaps;
+use crate::plain::{PlainSpan, plain_runs};
 use crate::tests::testing::{feed_line, genome, holds, output};
-use crate::{Complement, Coverage};
+use crate::{Complement, Coverage, Merge, MergeStrand};
 use bt_bed::Genome;
 use std::alloc::{AllocError, Global};
 use std::test::Fail;
@@ -81,17 +81,17 @@ fn writes<E: Engine + Drop>(
     Ok(is_fed && is_ended && out.into_sink().taken() == wanted)
 }
 
-// The lines of the gaps that the plain program gives.
-fn gap_lines(alloc: Global, spans: &[PlainSpan]) -> Result<Vec<u8>, AllocError> {
+// The lines of runs or gaps.
+fn span_lines(alloc: Global, found: &[PlainSpan]) -> Result<Vec<u8>, AllocError> {
     let mut lines = Vec::new(alloc);
-    for gap in plain_gaps(alloc, spans, SIZE)?.as_slice() {
-        let line = format!(in alloc; "c\t{}\t{}\n", gap.start, gap.stop)?;
+    for span in found {
+        let line = format!(in alloc; "c\t{}\t{}\n", span.start, span.stop)?;
         lines.extend_from_slice(line.as_bytes())?;
     }
     Ok(lines)
 }
 
-// The lines of the depths that it gives.
+// The lines of the depths that the plain program gives.
 fn depth_lines(alloc: Global, spans: &[PlainSpan], zeros: bool) -> Result<Vec<u8>, AllocError> {
     let mut lines = Vec::new(alloc);
     for found in plain_depths(alloc, spans, SIZE, zeros)?.as_slice() {
@@ -102,12 +102,28 @@ fn depth_lines(alloc: Global, spans: &[PlainSpan], zeros: bool) -> Result<Vec<u8
     Ok(lines)
 }
 
+// How many of the inputs a merge writes otherwise, with gaps below 3.
+fn merged_otherwise(alloc: Global, inputs: &Inputs) -> Result<u64, AllocError> {
+    let mut count = 0u64;
+    for input in inputs.as_slice() {
+        let spans = input.as_slice();
+        for gap in 0..3u64 {
+            let runs = span_lines(alloc, plain_runs(alloc, spans, gap)?.as_slice())?;
+            let merge = Merge::new(alloc, gap, MergeStrand::All);
+            if !writes(alloc, merge, spans, runs.as_slice())? {
+                count = count.saturating_add(1);
+            }
+        }
+    }
+    Ok(count)
+}
+
 // How many of the inputs a complement or a coverage writes otherwise.
 fn unlike(alloc: Global, genome: &Genome, inputs: &Inputs) -> Result<u64, AllocError> {
     let mut count = 0u64;
     for input in inputs.as_slice() {
         let spans = input.as_slice();
-        let gaps = gap_lines(alloc, spans)?;
+        let gaps = span_lines(alloc, plain_gaps(alloc, spans, SIZE)?.as_slice())?;
         let complement = Complement::new(genome, false);
         let mut is_same = writes(alloc, complement, spans, gaps.as_slice())?;
         for zeros in &[false, true] {
@@ -120,6 +136,14 @@ fn unlike(alloc: Global, genome: &Genome, inputs: &Inputs) -> Result<u64, AllocE
         }
     }
     Ok(count)
+}
+
+#[test]
+fn runs_are_those_of_the_plain_program(rt: HostRuntime) -> Result<(), Fail> {
+    let inputs = small_inputs(rt.alloc())?;
+    let count = merged_otherwise(rt.alloc(), &inputs)?;
+    holds(&rt, count == 0, "as the plain program");
+    Ok(())
 }
 
 #[test]

@@ -1,8 +1,8 @@
 -- What the plain program for depths adds, against the definition of intervals of equal value.
-use Rattle.bt_lines.proofs.Std.{◌≡◌, ℕ, ◌+◌, ◌-◌, ◌<◌, ◌≤◌, ◌⊎◌, inl, inr, List, [], ◌∷◌, ◌++◌, append_assoc, refl, sym, ap, ◌∙◌, arith, map-append, Option, Some, None, length, filter, nat_le, nat_lt, ◌&&◌, Bool, true, false}
+use Rattle.bt_lines.proofs.Std.{◌≡◌, ℕ, ◌+◌, ◌-◌, ◌<◌, ◌≤◌, ◌⊎◌, inl, inr, List, [], ◌∷◌, ◌++◌, append_assoc, refl, ap, arith, map-append, Option, Some, None, length, filter, nat_le, nat_lt, ◌&&◌, Bool, true, false}
 use Rattle.bt_runs.specs.declared.plain.PlainSpan.{PlainSpan}
 use Rattle.bt_runs.specs.declared.plain.depths.PlainDepth.{PlainDepth}
-use Rattle.bt_bed.specs.model.Levels.{AreDisjointFrom, AreLevelsOf, DiffersFromNext, HasValue, Level}
+use Rattle.bt_bed.specs.model.Levels.{AreDisjointFrom, AreLevelsOf, HasValue, Level}
 use Rattle.bt_runs.specs.model.Depth.{depth_at, depth_of, levels_of, the_levels}
 use Rattle.bt_runs.specs.inside.PlainRuns.{levels_in, spans_in, with_value_after, with_value}
 
