@@ -68,12 +68,13 @@ check-docs: $(PROGRAM)
 	bench/results.py
 
 # Closed standard streams, full disks, directories: what no proof says of real files. Then want of memory, in small address
-# spaces and with each growth refused, what is allocated over many records, random bytes, and the laws of docs/PIPES.md
+# spaces and with each growth refused, none of it in large sizes, what is allocated over many records, random bytes, and the laws of docs/PIPES.md
 # on random inputs.
 check-program: $(PROGRAM)
 	docs/edges.py
 	docs/scarce.py
 	docs/refusals.py
+	docs/ample.py
 	docs/allocations.py
 	docs/hostile.py
 	docs/laws.py

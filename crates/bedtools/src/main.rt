@@ -30,7 +30,7 @@ ghost use Rattle.bt_tool.specs.model.Table.{Word};
 ghost use Rattle.bt_tool.specs.model.Usage.{usage_text};
 ghost use Rattle.bt_tool.specs.declared.options.usage.Usage.{Usage};
 ghost use Rattle.bedtools.specs.Ending.{CannotBegin, Ends, ReportsRun, ReportsUnopened};
-ghost use Rattle.bedtools.specs.Opened.{ComesOfRun, IsUnread};
+ghost use Rattle.bedtools.specs.Opened.{ComesOfRun, IsFresh};
 ghost use Rattle.bedtools.specs.Message.{Says, SaysNoMemory, line_seen};
 
 mod identity;
@@ -152,7 +152,7 @@ fn open_if_named(
 
 // Opens an input. `Err` if it can't be opened.
 fn open(rt: &HostRuntime, plan: &Plan, name: &str) -> Result<Opened, Message>
-    ensures unread { IfOk result IsUnread }
+    ensures unread { IfOk result IsFresh }
     ensures reports { IfErr result (ReportsUnopened (plan_seen plan.now) name.now) }
 {
     match Opened::open(rt, name) {

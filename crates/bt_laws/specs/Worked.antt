@@ -46,7 +46,7 @@ abbrev pub Shows : List Word → List ℕ → List ℕ → List ℕ → List ℕ
 Shows words genome first second output line status =
     report words genome first second ≡ record { output = output; line = line; status = status }
 
--- words can't be used, whatever the texts, which is told by this line
+-- words can't be used, whatever the texts, and this line says why
 abbrev pub AreRefused : List Word → List ℕ → Type 0
 AreRefused words line =
     (genome first second : List ℕ) → Shows words genome first second [] (Some line) 2

@@ -10,6 +10,7 @@ pub fn records_without_hits_are_whole()
 {}
 
 /// What -u, -v and -wa write can be read off -c.
+#[tactic(auto, using(crate::proofs::lemmas::same::SameSweeps::counts_all))]
 pub fn numbers_of_hits_say_all()
     ensures { counts_say_all }
 {}

@@ -279,7 +279,8 @@ module _ {S : Type 0} where
   line_room reader = vec_capacity reader.buffer.spilled
 
   -- memory runs out for the first time only if the bytes of the line so far, those that were held and those
-  -- of this call, fill that room
+  -- of this call, fill that room. A reader that has held no line longer than a block has no room yet: of it
+  -- this says nothing.
   abbrev pub FillsItsRoom : {A : Type 0} → LineReader S → Result A Fault → LineReader S → Type 0
   FillsItsRoom old (Ok done) new = ⊤
   FillsItsRoom old (Err fault) new = fault_kept old ≡ None → fault_value fault ≡ no_memory

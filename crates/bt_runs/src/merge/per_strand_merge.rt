@@ -74,7 +74,7 @@ impl PerStrandMerge {
         }
     }
 
-    // How many runs are kept, as that of a merge without strands says.
+    // How many runs are kept. Each field is named, as in a merge without strands.
     pub(crate) fn kept_len(&self) -> usize
         ensures { result ≡ length self.now.kept }
     {

@@ -76,8 +76,8 @@ impl Matching {
         *is_named
     }
 
-    // Goes on to a new sequence. If memory runs out, nothing is known afterwards. That it runs out only if the name's buffer
-    // has to grow is tested.
+    // Goes on to a new sequence. If memory runs out, nothing is known afterwards. `docs/ample.py` tries that it
+    // runs out only if the name's buffer has to grow.
     pub(crate) fn begin(&mut self, name: &[u8]) -> Result<(), AllocError>
         ensures { OnOk result (self.new ≡ named self.old name.now) }
     {

@@ -8,7 +8,6 @@ use bt_bed::{Blocks, Single, parse_bed};
 use bt_lines::{
     BufferedLines, Input, Kind, LineEnd, LineReader, ScriptSink, ScriptSource, write_failed,
 };
-use std::alloc::AllocError;
 
 // The FASTA text, the BED text and what is written.
 type Texts = (&'static [u8], &'static [u8], &'static [u8]);
@@ -279,41 +278,6 @@ const HELD: [Step; 16] = [
 #[test]
 fn records_that_reach_into_the_line_are_held(rt: HostRuntime) {
     assert_eq!(rt; first_otherwise(rt.alloc(), &HELD).0, None);
-}
-
-// So many bytes after the first one.
-fn long_text(alloc: Global, first: &[u8], byte: u8, size: usize) -> Result<Vec<u8>, AllocError> {
-    let mut text = Vec::new(alloc);
-    text.extend_from_slice(first)?;
-    text.resize(first.len() + size, byte)?;
-    Ok(text)
-}
-
-// Whether the first base of a line is masked, where the line and its sequence's name have so many bytes.
-fn masks_long(alloc: Global, size: usize) -> Result<bool, AllocError> {
-    let header = long_text(alloc, b">", b's', size)?;
-    let bases = long_text(alloc, b"", b'A', size)?;
-    let mut record = long_text(alloc, b"", b's', size)?;
-    record.extend_from_slice(b"\t0\t1")?;
-    let mut out = Out::new(ScriptSink::new(alloc, 8192, None));
-    let mut mask = Mask::new(alloc, MaskHow::Soft, false);
-    let are_given = give_line(&mut mask, header.as_slice(), &mut out)
-        && takes(&mut mask, record.as_slice(), &mut out) == Some(false)
-        && give_line(&mut mask, bases.as_slice(), &mut out)
-        && takes(&mut mask, record.as_slice(), &mut out) == Some(true)
-        && takes(&mut mask, b"t\t0\t1", &mut out) == Some(false);
-    let is_flushed = out.flush().is_ok();
-    let sink = out.into_sink();
-    Ok(are_given && is_flushed && sink.taken().get(header.len() + 1) == Some(&b'a'))
-}
-
-// With ample memory no name and no line is too long.
-#[test]
-fn long_names_and_lines_are_masked(rt: HostRuntime) -> Result<(), AllocError> {
-    for size in [255, 256, 70_000, 1_048_577] {
-        assert!(rt; masks_long(rt.alloc(), size)?, "{size} bytes");
-    }
-    Ok(())
 }
 
 #[rattlefmt::skip]

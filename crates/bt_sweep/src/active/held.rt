@@ -10,8 +10,8 @@ pub trait Held: Drop {
     ghost records: { Self → List Feature };
 
     /// Adds a record after the others. If memory runs out, the record is handed back and the list
-    /// stays as it was. That this happens only if a growth was refused is tested: the contracts of std don't say when
-    /// a map can't grow.
+    /// stays as it was. The contracts of std don't say when a map can't grow, so `docs/ample.py`
+    /// tries that this happens only if a growth was refused.
     fn push(&mut self, rec: Rec) -> Result<(), Rec>
         ensures pushed { OnOk result (records self.new ≡ records self.old ++ rec ∷ []) }
         ensures back { IfErr result (λ back. (back ≡ rec) × (records self.new ≡ records self.old)) };

@@ -98,29 +98,6 @@ fn push_nested<H: Held>(alloc: Global, held: &mut H) -> Result<bool, Fail> {
     Ok(true)
 }
 
-// Adds that many records, each of which starts a base after the one before it.
-fn push_many<H: Held>(alloc: Global, held: &mut H, count: u32) -> Result<bool, Fail> {
-    for start in 0..count {
-        let line = format!(in alloc; "chr1\t{start}\t5000000")?;
-        if !push(alloc, held, line.as_bytes())? {
-            return Ok(false);
-        }
-    }
-    Ok(held.len() == count as usize)
-}
-
-fn holds_many<H: Held>(rt: &impl Abort, alloc: Global, mut held: H) -> Result<(), Fail> {
-    assert!(rt; push_many(alloc, &mut held, 1_000_002)?);
-    Ok(())
-}
-
-// With ample memory no record is one too many.
-#[test]
-fn many_records_are_held(rt: HostRuntime) -> Result<(), Fail> {
-    holds_many(&rt, rt.alloc(), HeldList::new(rt.alloc()))?;
-    holds_many(&rt, rt.alloc(), HeldIndex::new(rt.alloc()))
-}
-
 #[rattlefmt::skip]
 const LEFT_OF_NESTED: [Left; 4] = [
     (9000, 1000, Some(0), Some(999)), (9500, 500, Some(0), Some(499)), (9999, 1, Some(0), Some(0)),

@@ -238,8 +238,8 @@ impl<H: Held> State<H> {
         Err(too_many_held(line))
     }
 
-    // Holds it, as it ends after that one's start. It returns false if there is no room for it, or memory runs out. That
-    // memory runs out only if a growth was refused is tested: no clause says how much room a list has.
+    // Holds it, as it ends after that one's start. It returns false if there is no room for it, or memory runs out. No
+    // clause says how much room a list has, so `docs/ample.py` tries that memory runs out only if a growth was refused.
     #[inline(never)]
     fn hold<B: Record>(&mut self, start: u64, b: &B) -> bool
         requires none { self.old.current ≡ None }
