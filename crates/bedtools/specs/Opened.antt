@@ -33,7 +33,7 @@ opened_source = record {
 }
 
 -- an input of which nothing was read
-pub record IsUnread (input : Opened) : Type 0 where
+pub record IsFresh (input : Opened) : Type 0 where
   pub served : opened_has_failed input ≡ false
   pub going : opened_end_told input ≡ false
 
@@ -67,7 +67,7 @@ pub record ComesOfRun (plan : PlanSeen) (fault : Option FaultValue) : Type 0 whe
   pub out_after : Output
   pub genome_named : is_some genome ≡ is_some plan.names.genome
   pub second_named : is_some second ≡ is_some plan.names.second
-  pub unread : IsUnread first
+  pub unread : IsFresh first
   pub runs : Runs opened_source opened_source opened_source output_sink plan.command genome first second out fault
       genome_after first_after second_after out_after
   pub flushed : (fault ≡ Some write_failed) ⊎ (output_is_flushed out_after ≡ true)
