@@ -55,7 +55,7 @@ output_sink = record {
 }
 
 -- A run of a plan's command can end with this fault, or without one: over some inputs, those that the plan names, of
--- which the first wasn't read before. Which inputs these were no value shows; the program's tests do.
+-- which the first wasn't read before. That they are the opened ones `run_over` says, of the files that it gets.
 pub record ComesOfRun (plan : PlanSeen) (fault : Option FaultValue) : Type 0 where
   pub genome : Option Opened
   pub first : Opened

@@ -22,7 +22,7 @@
 //! ```
 #![tactic(auto)]
 
-ghost use Rattle.std.specs.Prelude.{◌≡◌, ◌⊎◌, Ok, Err, [], is_some, None, Some, option_map, string_bytes, IfOk, IfErr};
+ghost use Rattle.std.specs.Prelude.{◌≡◌, ◌⊎◌, Ok, Err, [], is_some, true, None, Some, option_map, string_bytes, IfOk, IfErr};
 ghost use Rattle.bt_lines.specs.calls.Names.{fault_value};
 ghost use Rattle.bt_tool.specs.model.Options.{PlanSeen, options};
 ghost use Rattle.bt_tool.specs.calls.Plan.{plan_seen, words_seen};
@@ -30,7 +30,9 @@ ghost use Rattle.bt_tool.specs.model.Table.{Word};
 ghost use Rattle.bt_tool.specs.model.Usage.{usage_text};
 ghost use Rattle.bt_tool.specs.declared.options.usage.Usage.{Usage};
 ghost use Rattle.bedtools.specs.Ending.{CannotBegin, Ends, ReportsRun, ReportsUnopened};
-ghost use Rattle.bedtools.specs.Opened.{ComesOfRun, IsFresh};
+ghost use Rattle.bt_lines.specs.calls.Faults.{write_failed};
+ghost use Rattle.bt_tool.specs.calls.Run.{Runs};
+ghost use Rattle.bedtools.specs.Opened.{IsFresh, opened_source, output_sink, output_is_flushed};
 ghost use Rattle.bedtools.specs.Message.{Says, SaysNoMemory, line_seen};
 
 mod identity;
@@ -39,7 +41,7 @@ mod opened;
 mod output;
 mod stand_ins;
 
-use bt_tool::{Outcome, Plan, Refusal, plan, run};
+use bt_tool::{Ended, Outcome, Plan, Refusal, plan, run};
 use identity::is_input;
 use message::{Message, MessageLine, Obstacle};
 use opened::Opened;
@@ -96,23 +98,59 @@ fn start(rt: &HostRuntime, words: &[String]) -> Message
 fn carry_out(rt: &HostRuntime, plan: &Plan) -> Message
     ensures { Ends (plan_seen plan.now) result }
 {
-    match run_opened(rt, plan) {
-        Ok(outcome) => end_of(rt.alloc(), plan, &outcome),
+    match open_files(rt, plan) {
+        Ok(files) => {
+            let ended = run_over(rt.alloc(), plan, files);
+            end_of(rt.alloc(), plan, &ended.outcome)
+        }
         Err(message) => message,
     }
 }
 
-// Runs a plan over its files. `Err` if one can't be opened.
-fn run_opened(rt: &HostRuntime, plan: &Plan) -> Result<Outcome, Message>
-    ensures runs { IfOk result (λ outcome. ComesOfRun (plan_seen plan.now) (option_map fault_value outcome.fault)) }
+// The opened files of a plan.
+struct Files {
+    genome: Option<Opened>,
+    first: Opened,
+    second: Option<Opened>,
+    output: Output,
+}
+
+// Runs a plan over its opened files, and hands them back.
+fn run_over(alloc: Global, plan: &Plan, files: Files) -> Ended<Opened, Opened, Opened, Output>
+    requires genome { is_some files.genome ≡ is_some plan.now.genome }
+    requires second { is_some files.second ≡ is_some plan.now.second }
+    ensures report { Runs opened_source opened_source opened_source output_sink plan.now.command
+        files.genome files.first files.second files.output (option_map fault_value result.outcome.fault)
+        result.genome result.first result.second result.out }
+    ensures flushed { (option_map fault_value result.outcome.fault ≡ Some write_failed)
+        ⊎ (output_is_flushed result.out ≡ true) }
+{
+    let Files {
+        genome,
+        first,
+        second,
+        output,
+    } = files;
+    run(alloc, plan, genome, first, second, output)
+}
+
+// Opens the files of a plan, of which nothing is read. `Err` if one can't be opened.
+fn open_files(rt: &HostRuntime, plan: &Plan) -> Result<Files, Message>
+    ensures genome { IfOk result (λ files. is_some files.genome ≡ is_some plan.now.genome) }
+    ensures second { IfOk result (λ files. is_some files.second ≡ is_some plan.now.second) }
+    ensures fresh { IfOk result (λ files. IsFresh files.first) }
     ensures unopened { IfErr result (CannotBegin (plan_seen plan.now)) }
 {
     let genome = open_if_named(rt, plan, &plan.genome)?;
     let first = open(rt, plan, plan.first.as_str())?;
     let second = open_if_named(rt, plan, &plan.second)?;
     let output = open_output(rt, plan)?;
-    let ended = run(rt.alloc(), plan, genome, first, second, output);
-    Ok(ended.outcome)
+    Ok(Files {
+        genome,
+        first,
+        second,
+        output,
+    })
 }
 
 // Creates the output file of a plan, or takes standard output if it has none. `Err` if it can't be

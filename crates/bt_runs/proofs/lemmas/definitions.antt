@@ -1,3 +1,4 @@
 -- Lemmas on definitions.
+pub mod PlainLevels
 pub mod PlainSpans
 pub mod Standing

@@ -1,8 +1,10 @@
 -- What the plain program is said to do, in the words of the definitions.
-use Rattle.std.specs.Prelude.{ℕ, ◌+◌, ◌-◌, ◌≤◌, cond, ◌==◌, List, [], ◌∷◌, map}
+use Rattle.std.specs.Prelude.{ℕ, ◌+◌, ◌-◌, ◌≤◌, cond, ◌==◌, ◌&&◌, List, [], ◌∷◌, map}
 use Rattle.bt_runs.specs.declared.plain.PlainSpan.{PlainSpan}
 use Rattle.bt_bed.specs.model.Feature.{Span}
 use Rattle.bt_bed.specs.calls.Stretches.{IsCovered}
+use Rattle.bt_bed.specs.model.Levels.{Level}
+use Rattle.bt_runs.specs.declared.plain.depths.PlainDepth.{PlainDepth}
 
 -- a span of the program as one of the definitions
 abbrev pub span_in : PlainSpan → Span
@@ -31,3 +33,24 @@ with_next_after s (t ∷ ts) p = s ∷ with_next_after t ts p
 abbrev pub with_next : List Span → ℕ → List Span
 with_next [] p = record { start = p; stop = p + 1 } ∷ []
 with_next (s ∷ ss) p = with_next_after s ss p
+
+-- an interval of the program as one of the definitions
+abbrev pub level_in : PlainDepth → Level
+level_in d = record { start = d.start; stop = d.stop; value = d.depth }
+
+-- each of them so
+abbrev pub levels_in : List PlainDepth → List Level
+levels_in depths = map level_in depths
+
+-- the first interval and the others, with the next position and its value:
+-- it belongs to the last of them if that ends there and has this value
+abbrev pub with_value_after : Level → List Level → ℕ → ℕ → List Level
+with_value_after l [] p v =
+    cond (l.stop == p && l.value == v) (record { start = l.start; stop = p + 1; value = v } ∷ [])
+    (l ∷ record { start = p; stop = p + 1; value = v } ∷ [])
+with_value_after l (m ∷ ms) p v = l ∷ with_value_after m ms p v
+
+-- the intervals with the next position
+abbrev pub with_value : List Level → ℕ → ℕ → List Level
+with_value [] p v = record { start = p; stop = p + 1; value = v } ∷ []
+with_value (l ∷ ls) p v = with_value_after l ls p v

@@ -5,7 +5,7 @@ ghost use Rattle.bt_runs.specs.declared.engine.failure.Failure.TheVariants.{Memo
 ghost use Rattle.bt_lines.specs.calls.Output.{Adds};
 ghost use Rattle.bt_bed.specs.calls.GenomeTable.{entries};
 ghost use Rattle.bt_runs.specs.inside.Coverage.{known_seen, seen, CountAnswers, bare_of, depths_left, known_by, levels_by, levels_left, levels_on};
-ghost use Rattle.bt_runs.specs.calls.Covering.{IsAfter, depth_rule, settled_known, with_chrom};
+ghost use Rattle.bt_runs.specs.calls.Covering.{IsAfter, depth_rule, kept_in, settled_known, with_chrom};
 ghost use Rattle.bt_runs.specs.model.Depth.{depth_lines, is_counted_by};
 ghost use Rattle.bt_runs.specs.inside.Walk.{AreReached, begun, is_on, left_before, left_of};
 
@@ -53,14 +53,14 @@ pub(crate) struct DepthRule<'g> {
     // The strand that is counted; `None` if all records are.
     strand: Option<Strand>,
     // `None` before the first record on a chromosome of the genome file.
-    pub(crate) current: Option<DepthCursor>,
+    current: Option<DepthCursor>,
     // Whether the last record lies there; else the genome file doesn't have its chromosome.
     is_known: bool,
     // The name and the length of the chromosome that the last record lies on.
     name: &'g [u8],
     length: u64,
     // Those of the current chromosome.
-    pub(crate) held: OpenRecords,
+    held: OpenRecords,
 }
 
 impl<'g> Model for DepthRule<'g> {
@@ -105,6 +105,25 @@ impl<'g> DepthRule<'g> {
             name: &[],
             length: 0,
             held: OpenRecords::new(alloc),
+        }
+    }
+
+    // How many records are kept. Each field is named: with one more, in which a list could be kept, this wouldn't compile.
+    pub(crate) fn kept_len(&self) -> usize
+        ensures { result ≡ length (kept_in self.now) }
+    {
+        let DepthRule {
+            chroms: _,
+            strand: _,
+            current,
+            is_known: _,
+            name: _,
+            length: _,
+            held,
+        } = self;
+        match current {
+            None => 0,
+            Some(_) => held.len(),
         }
     }
 }

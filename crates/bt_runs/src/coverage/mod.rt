@@ -125,10 +125,7 @@ impl Engine for Coverage<'_> {
         ensures list { result ≡ length (kept_in self.now.rule) }
         ensures held { KeepsHeld coverage_engine self.now result }
     {
-        match self.rule.rule.current {
-            None => 0,
-            Some(_) => self.rule.rule.held.len(),
-        }
+        self.rule.rule.kept_len()
     }
 }
 

@@ -53,12 +53,17 @@ impl OpenRecords {
         self.at
     }
 
-    // How many are open.
+    // How many are open. Each field is named: with one more, in which a list could be kept, this wouldn't compile.
     #[inline(always)]
     pub(crate) fn len(&self) -> usize
         ensures { result ≡ length self.now.spans }
     {
-        self.ends.len()
+        let OpenRecords {
+            at: _,
+            ends,
+            counted: _,
+        } = self;
+        ends.len()
     }
 
     // Goes to a position at which none is open.

@@ -1,7 +1,7 @@
 -- Scans of the positions in parts, scans that see the same values, and where their intervals begin and stop.
 use Rattle.bt_lines.proofs.Std.{◌≡◌, ℕ, zero, suc, ◌+◌, ◌<◌, ◌≤◌, List, [], ◌∷◌, ◌++◌, refl, arith, true, Option, Some, None, ⊤}
 use Rattle.bt_bed.specs.model.Levels.{Level}
-use Rattle.bt_bed.specs.calls.LevelScan.{Begun, begun_after, ended_after, levels_from, next_begun, next_ended, goes_on}
+use Rattle.bt_bed.specs.calls.LevelScan.{Begun, begun_after, ended_after, next_begun, next_ended, goes_on}
 
 -- a scan in two parts
 pub scan_split : (value : ℕ → Option ℕ) (a b p : ℕ) (g : Option Begun) → (begun_after value p (a + b) g ≡ begun_after value (p + a) b (begun_after value p a g))

@@ -1,9 +1,11 @@
 -- What the plain programs ask of their spans, and the scans of a chromosome's positions, against the definitions of runs and gaps.
-use Rattle.bt_lines.proofs.Std.{◌≡◌, ℕ, ◌+◌, ◌-◌, ◌<◌, ◌≤◌, ◌⊎◌, inl, inr, List, [], ◌∷◌, ◌++◌, append_assoc, refl, sym, ap, ◌∙◌, arith, Bool, true, false, ◌&&◌, Decides, nat_le, nat_lt, All, list_any, false≢true, Decides-and, Decides-or, Decides-ltb, map-append, All-head, All-tail}
+use Rattle.bt_lines.proofs.Std.{◌≡◌, ℕ, ◌+◌, ◌-◌, ◌<◌, ◌≤◌, ◌⊎◌, inl, inr, List, [], ◌∷◌, ◌++◌, append_assoc, refl, sym, ap, ◌∙◌, arith, Bool, true, false, ◌&&◌, Decides, nat_le, nat_lt, All, list_any, false≢true, cases_lt, subst, Decides-and, Decides-or, Decides-ltb, map-append, All-head, All-tail}
 use Rattle.bt_runs.specs.declared.plain.PlainSpan.{PlainSpan}
 use Rattle.bt_bed.specs.model.Feature.{Span}
 use Rattle.bt_bed.specs.calls.Stretches.{IsCovered, AreApartFrom, AreStretchesOf}
+use Rattle.bt_runs.specs.model.Gaps.{gaps_of}
 use Rattle.bt_runs.specs.model.Merged.{runs_of}
+use Rattle.bt_runs.proofs.lemmas.complement.Walks.{only_gaps}
 use Rattle.bt_runs.specs.calls.MergedRuns.{Bridged}
 use Rattle.bt_runs.specs.inside.PlainRuns.{spans_in, with_next_after, with_next}
 use Rattle.bt_runs.proofs.lemmas.merge.Bridging.{Decides-le, only_runs}
@@ -74,3 +76,22 @@ next_joined front run p e = grind (arith, map-append, with_next-last)
 
 pub next_apart : (front : List PlainSpan) (run : PlainSpan) (p : ℕ) → (run.stop ≡ p → ⊥) → spans_in ((front ++ run ∷ []) ++ record { start = p; stop = p + 1 } ∷ []) ≡ with_next (spans_in (front ++ run ∷ [])) p
 next_apart front run p other = grind (arith, map-append, append_assoc, with_next-last)
+
+-- without the next position, of which it isn't so
+pub below_without : (P : ℕ → Type 0) (n : ℕ) (spans : List Span) → AreBelow P n spans → (P n → ⊥) → AreBelow P (n + 1) spans
+below_without P n spans r other = record {
+  apart = r.apart;
+  within = λ q c. let w = r.within q c in (let below = w.0 in omega arith, w.1);
+  whole = λ q w. elim (cases_lt q n) [
+    | inl low ↦ r.whole q (low, w.1)
+    | inr high ↦ let here : q ≡ n = let below = w.0 in omega arith in absurd (other (subst P here w.1))
+  ];
+}
+
+-- those of the bare positions are the gaps
+pub gaps_below : (size : ℕ) (spans gaps : List Span) → AreBelow (λ p. IsCovered spans p → ⊥) size gaps → gaps ≡ gaps_of size spans
+gaps_below size spans gaps r = only_gaps size spans gaps (record {
+  apart = r.apart;
+  within = λ q c. let w = r.within q c in record { within = w.0; bare = w.1 };
+  whole = λ q b. r.whole q (b.within, b.bare);
+})

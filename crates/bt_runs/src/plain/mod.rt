@@ -1,5 +1,8 @@
 //! The merged runs of one chromosome, by a scan of its positions: slow, and plainly what the
-//! definition says. Tests compare the merge with it.
+//! definition says. Tests compare the merge with it. Its modules have gaps and depths in the same way.
+
+pub(crate) mod depths;
+pub(crate) mod gaps;
 
 ghost use Rattle.bt_runs.specs.model.Merged.{runs_of};
 ghost use Rattle.bt_runs.specs.calls.MergedRuns.{Bridged};
