@@ -273,7 +273,7 @@ def pipelines(_):
     for row in measured["pipelines"]:
         theirs, front, ours = (digits(row["seconds"][form]) for form in ("bedtools", "drop-in", "rewritten"))
         lines.append(f"| {row['what']} | {theirs} | {front} | {row['taken']} of {row['calls']} | {ours} |\n")
-    return "".join(lines) + "\n![whole pipelines: bedtools, the drop-in, rewritten](bench/pipelines.svg)\n\n" + pipeline_caption(measured)
+    return "".join(lines) + "\n![whole pipelines: bedtools, the drop-in, rewritten](bench/pipelines.svg)\n" + pipeline_caption(measured)
 
 
 def ratio(row):

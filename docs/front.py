@@ -148,7 +148,7 @@ def write_table(rows):
     page.write_text(TABLE.sub(lambda found: found[1] + "\n".join(["", *lines, "", ""]) + found[2], text), encoding="utf-8")
     first = HERE.parent / "README.md"
     calls, taken, before, after = (sum(row[at] for row in rows) for at in (1, 2, 3, 4))
-    gain = (f"**With the drop-in**, [{len(rows)} pipelines](docs/MIGRATING.md#what-was-tried) as they are took {after:.0f} seconds of processor instead of "
+    gain = (f"- **With the drop-in**, [{len(rows)} pipelines](docs/MIGRATING.md#what-was-tried) as they are took {after:.0f} seconds of processor instead of "
             f"{before:.0f}. It gave {taken} of {calls} calls to Dunekettle.\n")
     first.write_text(GAIN.sub(lambda found: found[1] + gain + found[2], first.read_text(encoding="utf-8")), encoding="utf-8")
 
