@@ -174,7 +174,7 @@ def page(found):
              "`docs/clauses.py` writes this page from the sources: each public call, what it may return instead of success, its clauses, and the words of "
              "`specs/` that they name. The comment above a call says it in words; two dots: there it goes on. [PIPES](PIPES.md) has the laws of pipes in words, "
              "[SHARDS](SHARDS.md#which-parts-give-the-same-bytes) those of parts, [PROVED](PROVED.md) what all of it comes to.\n\n"
-             "Every call returns, whatever it is given. One without an arrow has no answer for a failure: `None` is an answer. Only after a `Fault`, an "
+             "Every call returns, whatever it is given. One without an arrow has no answer for a failure: `None` is an answer, and the fault of `run` is in its outcome. Only after a `Fault`, an "
              "`AllocError` or a `Refusal` can memory have run out. That it had cause is shown by clauses `quiet` and `memory`, and by "
              "[tests with ample memory](tests.tsv).\n"]
     for crate in dict.fromkeys(row[0] for row in found):
