@@ -149,12 +149,12 @@ find_spans() {
     await $! || failed "$(tail -n 1 "$dk_spans")"
 }
 
-# look_at_names FILE: chromosomes that bedtools passes over, and ends that it takes for negative ones
+# look_at_names FILE: chromosomes that bedtools passes over, and ends for which its bins may lack a hit
 look_at_names() {
     LC_ALL=C awk -F '\t' '
         tolower($1) ~ /^(track|browser|visibility|!|>|chr[ \013\014\r]|chrom([ \013\014\r]|$))/ { exit 1 }
-        $3 > 2147483647 { exit 1 }' < "$dk_spans" ||
-        dk_why="$1 has lines that bedtools passes over, or an end above 2,147,483,647"
+        $3 > 536870912 { exit 1 }' < "$dk_spans" ||
+        dk_why="$1 has lines that bedtools passes over, or an end above 536,870,912"
 }
 
 # look_at_lines FILE
