@@ -43,21 +43,13 @@ read_options() {
 # is_option_with_value OPTION: the same of this command: -d of genomecov has none
 is_option_with_value() { [ "$dk_command$1" != genomecov-d ] && takes_value "$1"; }
 
-# read_words WORD..: the same for the hints, whose variables have no prefix
-# shellcheck disable=SC2034,SC2154
-read_words() {
-    dk_command=$command dk_why=''
-    read_options "$@"
-    i=$dk_i a=$dk_a b=$dk_b g=$dk_g f=$dk_f d=$dk_d fi=$dk_fi bed=$dk_bed fo=$dk_fo words=$dk_words why=$dk_why
-}
-
 # judge_words WORD..: sets `dk_why` if the original has to take them, whatever is in the files
 judge_words() {
     if [ ! -f "$dk_program" ] || [ ! -s "$dk_program" ] || [ ! -x "$dk_program" ]; then
         dk_why="there is no $dk_program"
         return
     fi
-    for dk_tool in awk cat df grep head mkfifo mktemp rm sort tail tr wc; do
+    for dk_tool in awk cat cut df grep head mktemp rm sort tail tr uniq wc; do
         command -v "$dk_tool" > /dev/null || { dk_why="there is no $dk_tool"; return; }
     done
     if [ "$dk_command" = genomecov ]; then judge_coverage_words "$@"; return; fi
@@ -244,13 +236,32 @@ look_at_features() {
     [ -z "$dk_why" ] || return 0
     for dk_input; do
         [ "$dk_copied" != known ] || ! is_stream "$dk_input" || continue
-        look_at "$dk_input" "$dk_g"
-        [ -n "$dk_why" ] || look_closer "$dk_input" "$dk_g"
-        [ -z "$dk_why" ] || return
-        [ -z "$dk_f" ] || [ "$dk_input" != "$dk_a" ] && ! has_word -r || has_short_records "$dk_input" "$dk_g" ||
-            dk_why='bedtools compares -f by seven digits, too few for the longest records'
+        look_at_feature "$dk_input"
+        case $dk_why in *'record is out of order') ! find_order "$@" || look_at_feature "$dk_input" ;; esac
         [ -z "$dk_why" ] || return
     done
+}
+
+# look_at_feature FILE
+look_at_feature() {
+    look_at "$1" "$dk_g"
+    [ -n "$dk_why" ] || look_closer "$1" "$dk_g"
+    [ -z "$dk_why" ] || return
+    [ -z "$dk_f" ] || [ "$1" != "$dk_a" ] && ! has_word -r || has_short_records "$1" "$dk_g" ||
+        dk_why='bedtools compares -f by seven digits, too few for the longest records'
+}
+
+# find_order FILE..: puts the chromosomes of all files into the genome file `dk_genome`, in an order that fits each, if
+# there is one and bedtools takes any: so it does without -g and -sorted
+find_order() {
+    [ -z "$dk_g" ] && [ "$dk_copied" != known ] && ! has_word -sorted || return
+    : > "$dk_spans"
+    for dk_file; do
+        { LC_ALL=C cut -f 1 < "$dk_file" | LC_ALL=C uniq; printf '\t\n'; } >> "$dk_spans" 2> /dev/null &
+        await $! || return
+    done
+    LC_ALL=C awk -f "$dk_files/common_order.awk" < "$dk_spans" > "$dk_genome" 2> /dev/null || return
+    dk_why='' dk_g=$dk_genome dk_ordered=1
 }
 
 # streams_are_known: whether DUNEKETTLE_STREAMS takes the one stream as sorted BED, and no option goes by what else it
