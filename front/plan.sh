@@ -5,7 +5,7 @@
 
 # plan COMMAND WORD..: becomes the program or the original
 plan() {
-    dk_command=$1 dk_why='' dk_children='' dk_folder='' dk_marks='' dk_stdin=''
+    dk_command=$1 dk_why='' dk_children='' dk_folder='' dk_marks='' dk_stdin='' dk_ordered=''
     for dk_free in 3 4 5 6 7 8 9; do unset "dk_word_$dk_free"; done
     dk_room=${DUNEKETTLE_ROOM:-67108864} dk_small=${DUNEKETTLE_SMALL:-262144}
     shift
@@ -245,6 +245,7 @@ decide() {
         dk_why='bedtools orders the hits of a record otherwise; -sorted orders them'
         return
     fi
+    [ -z "$dk_ordered" ] || set -- "$@" -g "$dk_genome"
     by_program 'its words and its files are as it takes them' "$dk_command" "$@"
 }
 dk_part=plan.sh
