@@ -8,15 +8,13 @@ open_files() {
     dk_opened=0
     for dk_name; do
         free_descriptor || break
-        eval "command exec $dk_free<> \"\$dk_folder/file\"" || break
-        rm -f "$dk_folder/file"
-        true < "/dev/fd/$dk_free" || break
+        eval "command exec $dk_free<> \"\$dk_folder/\$dk_name\"" || break
         eval "dk_$dk_name=/dev/fd/$dk_free"
         dk_opened=$((dk_opened + 1))
     done 2> /dev/null
     rm -rf "$dk_folder"
     dk_folder=''
-    [ "$dk_opened" = $# ]
+    [ "$dk_opened" = $# ] && { true < "/dev/fd/$dk_free"; } 2> /dev/null
 }
 
 # close_file FILE: closes one that was opened here

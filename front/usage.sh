@@ -1,5 +1,5 @@
 # shellcheck shell=sh disable=SC2034,SC2154
-# Hints after a fault of the command line: read by hints.sh, with `fault`, `dk_command` and `files` set, and its functions.
+# Hints after a fault of the command line: read by hints.sh, which has set `fault`, `dk_command` and `files`.
 
 # What -d and -held take
 NUMBERS='0 to 999999999999'
