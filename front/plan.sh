@@ -9,7 +9,7 @@ plan() {
     for dk_free in 3 4 5 6 7 8 9; do unset "dk_word_$dk_free"; done
     dk_room=${DUNEKETTLE_ROOM:-67108864} dk_small=${DUNEKETTLE_SMALL:-262144}
     shift
-    case $dk_room$dk_small in *[!0-9]*) dk_why='DUNEKETTLE_ROOM or DUNEKETTLE_SMALL is no number' ;; esac
+    { is_count "$dk_room" && is_count "$dk_small"; } || dk_why='DUNEKETTLE_ROOM or DUNEKETTLE_SMALL is no number'
     read_options "$@"
     [ -n "$dk_why" ] || judge_first
     [ -n "$dk_why" ] || has_word -held || find_copies "$@"
@@ -23,6 +23,9 @@ plan() {
     heed_signals
     with_copies "$@"
 }
+
+# is_count WORD: whether it is a number that the shell can compute with. One with a leading zero it may take as octal.
+is_count() { case $1 in 0) ;; '' | *[!0-9]* | 0* | ????????????????*) return 1 ;; esac; }
 
 # reads_standard_input: whether it does without saying so
 reads_standard_input() { case $dk_command in merge | bamtobed) ! has_word -i ;; *) return 1 ;; esac; }
