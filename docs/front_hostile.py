@@ -520,7 +520,7 @@ def try_report(place, folder, count):
     """What `report` says of the file that DUNEKETTLE_TELL names, and of one that has no call."""
     front, told = place / "bin" / "dunekettle", folder.parent / "report.txt"
     env = {**looking(), "DUNEKETTLE_TELL": str(told), "PATH": os.pathsep.join(map(str, [drop_in(place), folder.parent / "says", folder.parent / "tools"]))}
-    for line in ("merge -i f.bed", "merge -i unsorted.bed", "merge -i natural.bed", "merge -i f.bed -c 4 -o count", "intersect -u -a f.bed -b f.bed", "sort -i f.bed", "--version"):
+    for line in ("merge -i f.bed", "merge -i unsorted.bed", "merge -d 1 -i unsorted.bed", "merge -i f.bed -c 4 -o count", "intersect -u -a f.bed -b f.bed", "sort -i f.bed", "--version"):
         call(["bedtools", *line.split()], folder, env)
     wanted = ("6 calls, of which 5 of the seven commands; Dunekettle took 2 of 5 (40 percent)\n  merge       1 of 4 (25 percent)\n"
               "  intersect   1 of 1 (100 percent)\nwhy bedtools took the others:\n       2  merge: record is out of order\n       1  merge: unknown option: -c\n")

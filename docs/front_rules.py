@@ -2,9 +2,9 @@
 """Gives the drop-in and bedtools 2.30.0 the same random command lines, for each rule by which the drop-in takes more than
 files of sorted BED.
 
-    docs/front_rules.py [SEED [CASES [JOBS]]]
+    docs/front_rules.py [SEED [CASES [JOBS [RULE]]]]
 
-The rules: genomecov in any order of chromosomes, its forms, its blocks of BED12 and of BAM; bamtobed through samtools;
+The rules: files in an order of chromosomes of their own; genomecov in any order of them, its forms, its blocks of BED12 and of BAM; bamtobed through samtools;
 the order of hits; streams that are short, long, or two of one producer; gzip files; bytes that bedtools reads
 otherwise. Each command line has to write the same bytes with the same status, and leave no file in TMPDIR; if bedtools
 ends with another status than 0, Dunekettle may take it. Shows how many of each rule Dunekettle took. Ends with 1 where
@@ -204,7 +204,39 @@ def odd_bytes(draw):
     return files, line, ""
 
 
-RULES = {"coverage": coverage, "alignments": alignments, "hits": hits, "streams": streams, "gzip": zipped, "odd bytes": odd_bytes}
+def own_orders(draw):
+    """merge, intersect and subtract of files in orders of their own: one for both, or others; a chromosome may come back,
+    and starts may go back."""
+    order = draw.sample(NAMES, draw.randint(2, 7))
+    def text(few):
+        names = [name for name in order if draw.random() < 0.8]
+        if draw.random() < 0.15:
+            draw.shuffle(names)
+        if names and draw.random() < 0.06:
+            names.append(draw.choice(names))
+        rows, columns = [], draw.choice([3, 4, 6, 6])
+        for name in names:
+            made = [[name, start, start + draw.choice([1, 2, 10, 60]), "x", 0, draw.choice("+-")][:columns]
+                    for start in (draw.randrange(300) * draw.choice([1, 1, 100]) for _ in range(draw.choice([1, 2, few])))]
+            rows += made if draw.random() < 0.03 else sorted(made, key=lambda row: row[1])
+        lines = text_of(rows, draw.choice(["\n"] * 5 + ["\r\n"])).splitlines(keepends=True)
+        if draw.random() < 0.3:
+            odd = [b"#c\n", b"#c\td\n", b"track x\n", b"browser x\n", b"track\t1\t5\n", b"trackx\t1\t5\n", b"\n", b"\t1\t5\n", b"# 1\t1\t5\n", b"chr9\t7\t9\n"]
+            lines.insert(draw.choice([0, 0, draw.randint(0, len(lines))]), draw.choice(odd[:4] * 3 + odd))
+        return b"".join(lines)
+    files = {"a.bed": text(9), "b.bed": text(draw.choice([2, 9]))}
+    line = draw.choice([["merge", "-i", "a.bed"], ["merge", "-i", "a.bed"], ["merge", "-d", "50", "-i", "a.bed"], ["subtract", "-a", "a.bed", "-b", "b.bed"], ["subtract", "-A", "-a", "a.bed", "-b", "b.bed"],
+                        ["subtract", "-s", "-a", "a.bed", "-b", "b.bed"], ["subtract", "-f", "0.5", "-a", "a.bed", "-b", "b.bed"], ["intersect", "-sorted", "-u", "-a", "a.bed", "-b", "b.bed"],
+                        *(["intersect", *form, "-a", "a.bed", "-b", draw.choice(["b.bed"] * 8 + ["a.bed"])] for form in (["-u"], ["-v"], ["-c"], ["-c", "-s"], ["-u", "-f", "0.3"], ["-v", "-f", "0.5", "-r"], [], ["-wa"], ["-wb"], ["-wo"], ["-wa", "-wb"]))])
+    if draw.random() < 0.1:
+        files["g.txt"] = text_of([name, 40_000] for name in order)
+        line = [*line, "-g", "g.txt"]
+    if draw.random() < 0.2:
+        return files, "PROGRAM " + " ".join(f"<(cat {word})" if word.endswith(".bed") and draw.random() < 0.6 else word for word in line), ""
+    return files, line, ""
+
+
+RULES = {"own orders": own_orders, "coverage": coverage, "alignments": alignments, "hits": hits, "streams": streams, "gzip": zipped, "odd bytes": odd_bytes}
 
 
 def ran(line, program, folder, env, source):
@@ -239,7 +271,7 @@ def main():
     theirs = original()
     if not theirs:
         return 0
-    seed, cases, jobs = (int(word) for word in (sys.argv[1:] + ["1", "400", "2"][len(sys.argv) - 1 :])[:3])
+    seed, cases, jobs = (int(word) for word in (sys.argv[1:4] + ["1", "400", "2"][len(sys.argv[:4]) - 1 :])[:3])
     taken, wrong = {}, 0
     with tempfile.TemporaryDirectory() as made, concurrent.futures.ThreadPoolExecutor(jobs) as pool:
         place, awks = install(Path(made, "there")), []
@@ -250,7 +282,7 @@ def main():
             (folder / "awk").chmod(0o755)
             if subprocess.run([folder / "awk", "BEGIN { exit }"], stdin=subprocess.DEVNULL, stderr=subprocess.DEVNULL, check=False).returncode == 0:
                 awks.append(folder)
-        rules = list(RULES)
+        rules = sys.argv[4:] or list(RULES)
         futures = [pool.submit(try_seed, rules[n % len(rules)], seed * 1_000_000 + n, theirs, place, awks[n % 7 % len(awks) :][:1]) for n in range(cases)]
         for future in concurrent.futures.as_completed(futures):
             rule, taker, difference = future.result()

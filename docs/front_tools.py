@@ -13,7 +13,7 @@ PROGRAM = TOP / "bin" / "bedtools"
 TOLD = re.compile(r"^dunekettle: (.*?) takes (\w*)", re.MULTILINE)
 # The tools that the front calls, and those of the trials.
 TOOLS = ("sh", "bash", "awk", "cat", "cmp", "cut", "dash", "df", "env", "grep", "gzip", "head", "mkfifo", "mktemp", "od", "printf",
-         "readlink", "rm", "samtools", "sed", "sleep", "sort", "tail", "tr", "wc")
+         "readlink", "rm", "samtools", "sed", "sleep", "sort", "tail", "tr", "uniq", "wc")
 
 
 def original():

@@ -3,12 +3,8 @@
 
 # take_bamtobed WORD..: becomes the program, or sets `dk_why`
 take_bamtobed() {
-    dk_line=''
-    IFS= read -r dk_line < "$dk_i" 2> /dev/null
-    case $dk_line in
-    @*) command -v samtools > /dev/null && command -v cmp > /dev/null || dk_why='there is no samtools, or no cmp' ;;
-    *) dk_why="$dk_i isn't SAM text with header lines" ;;
-    esac
+    judge_alignments
+    command -v samtools > /dev/null && command -v cmp > /dev/null || dk_why='there is no samtools, or no cmp'
     [ -n "$dk_why" ] || look_at_text
     [ -n "$dk_why" ] || by_program 'samtools writes its file as it is' bamtobed "$@"
 }

@@ -32,8 +32,10 @@ set_genome() {
 # order_genome FILE: puts its chromosomes into the file `dk_genome`, first those that are named in the file `dk_spans`,
 # in their order there, then the others
 order_genome() {
-    dk_lines=$({ cat "$dk_spans"; echo; cat -- "$1"; } | LC_ALL=C awk -f "$dk_files/order_genome.awk")
-    printf '%s\n' "$dk_lines" > "$dk_genome" || dk_why='TMPDIR has no room for a genome file'
+    if ! dk_lines=$({ cat "$dk_spans" && echo && cat -- "$1" && printf '\n.\n'; } |
+        LC_ALL=C awk -f "$dk_files/order_genome.awk") || ! printf '%s\n' "$dk_lines" > "$dk_genome"; then
+        dk_why='the order of its chromosomes finds no room'
+    fi
 }
 
 # cover_features: looks at a BED file, whose chromosomes may have any order
@@ -100,13 +102,17 @@ cover_alignments() {
     dk_why="there is no samtools, or $dk_ibam is no BAM"
     command -v samtools > /dev/null && is_bam "$dk_ibam" || return 0
     dk_why=''
-    samtools view -H "$dk_ibam" < /dev/null 2> /dev/null | LC_ALL=C awk -F '\t' '
+    : > "$dk_spans"
+    { samtools view -H "$dk_ibam" < /dev/null 2> /dev/null || echo >> "$dk_spans"; } | LC_ALL=C awk -F '\t' '
         /^@SQ/ {
             for (at = 2; at <= NF; at++) parts[substr($at, 1, 3)] = substr($at, 4)
             print parts["SN:"] "\t" parts["LN:"]
         }' > "$dk_genome" &
-    await $!
-    set_genome "$dk_genome"
+    if await $! && [ ! -s "$dk_spans" ]; then
+        set_genome "$dk_genome"
+    else
+        dk_why="samtools can't read the header of $dk_ibam"
+    fi
     [ -z "$dk_why" ] || return 0
     if [ "$dk_bases" -lt 20000000 ] || [ "$((dk_bases / 2))" -lt "$(wc -c < "$dk_ibam")" ]; then
         dk_why='bedtools goes over its genome as quickly'

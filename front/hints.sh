@@ -46,7 +46,7 @@ kind_of() {
 # pipe_for KIND FILE: the command that makes BED (or text) of it, or nothing
 pipe_for() {
     set -- "$1" "$(quoted_name "$2")"
-    case $1$command in
+    case $1$dk_command in
     BAMbamtobed | CRAMbamtobed) printf '%s\n' "samtools view $2" ;;
     BAM* | CRAM*) printf '%s\n' "samtools view $2 | dunekettle bamtobed" ;;
     gzip*) printf '%s\n' "zcat $2" ;;
@@ -67,18 +67,17 @@ pipe_for() {
 
 # hint FAULT COMMAND WORD..: what to do about a fault, in one line
 hint() {
-    fault=$1 command=$2
+    fault=$1 dk_command=$2 dk_why=''
     shift 2
     # shellcheck source=judge.sh source-path=SCRIPTDIR
     . "$files/judge.sh"
-    why=''
-    read_words "$@"
+    read_options "$@"
     text=${fault##*: }
-    file=${fault#"bedtools $command: "}
+    file=${fault#"bedtools $dk_command: "}
     file=${file%": $text"}
     case $fault in
-    "bedtools $command: "*': cannot be opened') hint_unopened ;;
-    "bedtools $command: "*:[0-9]*': '*) number=${file##*:} file=${file%:*}; hint_place "$@" ;;
+    "bedtools $dk_command: "*': cannot be opened') hint_unopened ;;
+    "bedtools $dk_command: "*:[0-9]*': '*) number=${file##*:} file=${file%:*}; hint_place "$@" ;;
     "bedtools: argument is not UTF-8") ;;
     "bedtools: "*)
         # shellcheck source=usage.sh source-path=SCRIPTDIR
@@ -89,7 +88,7 @@ hint() {
 }
 
 hint_unopened() {
-    if [ "$file" = "$fo" ]; then advise "$file can't be made, or it is an input under another name"
+    if [ "$file" = "$dk_fo" ]; then advise "$file can't be made, or it is an input under another name"
     elif [ ! -e "$file" ]; then advise "$file isn't there"
     elif [ -d "$file" ]; then advise "$file is a directory"
     elif [ ! -r "$file" ]; then advise "you may not read $file: ls -l shows who may"
@@ -114,16 +113,16 @@ hint_place() {
 
 # hint_genome: what -g takes, if it was given a file of another kind
 hint_genome() {
-    [ -n "$g" ] && ! is_stream "$g" || return
-    [ "$file" = "$g" ] || [ "$text" = 'chromosome is not in the genome file' ] || return
-    kind=$(kind_of "$g")
+    [ -n "$dk_g" ] && ! is_stream "$dk_g" || return
+    [ "$file" = "$dk_g" ] || [ "$text" = 'chromosome is not in the genome file' ] || return
+    kind=$(kind_of "$dk_g")
     case $kind in
-    BED) is_bed "$g" || return; more='' ;;
-    FASTA) more=", as samtools faidx $(quoted_name "$g") makes it" ;;
+    BED) is_bed "$dk_g" || return; more='' ;;
+    FASTA) more=", as samtools faidx $(quoted_name "$dk_g") makes it" ;;
     GFF | SAM | VCF) more='' ;;
     *) return 1 ;;
     esac
-    advise "$g is $kind. -g takes names and lengths: a genome file or a .fai index$more"
+    advise "$dk_g is $kind. -g takes names and lengths: a genome file or a .fai index$more"
 }
 
 # is_bed FILE: whether its first records have a start and an end
@@ -177,7 +176,7 @@ piped_words() {
         fi
         shift
     done
-    printf '%s\n' " | dunekettle $command$piped"
+    printf '%s\n' " | dunekettle $dk_command$piped"
 }
 
 # in_words KIND
@@ -194,9 +193,9 @@ in_words() {
 
 # sort_line FILE: how to sort it by the order in use
 sort_line() {
-    genome=$g
+    genome=$dk_g
     case $1 in -) ;; *) set -- "$(quoted_name "$1")" ;; esac
-    if [ "$command" = maskfasta ]; then genome=$fi.fai; printf 'samtools faidx %s; ' "$(quoted_name "$fi")"; fi
+    if [ "$dk_command" = maskfasta ]; then genome=$dk_fi.fai; printf 'samtools faidx %s; ' "$(quoted_name "$dk_fi")"; fi
     if [ -n "$genome" ]; then
         printf '%s' "awk -F'\\t' 'NR == FNR { rank[\$1] = NR; next } { print rank[\$1] + 0 \"\\t\" \$0 }' "
         printf '%s\n' "$(quoted_name "$genome") $1 | sort -s -t \"\$(printf '\\t')\" -k1,1n -k3,3n | cut -f 2-"
@@ -207,7 +206,7 @@ sort_line() {
 
 # The record, the one before it, the order in use and how to sort by it
 hint_order() {
-    case $command in maskfasta) order='the sequences' ;; *) order=${g:-"the names' bytes"} ;; esac
+    case $dk_command in maskfasta) order='the sequences' ;; *) order=${dk_g:-"the names' bytes"} ;; esac
     if is_stream "$file"; then
         advise "the order in use is that of $order: $(sort_line -)"
         return
@@ -223,8 +222,8 @@ hint_order() {
 # The names of the genome file, or of the sequences, that differ from the record's by chr, zeros, letters' case, or MT
 # for M. A sequence of that name that comes earlier is a matter of order.
 hint_name() {
-    names=$g
-    [ "$command" != maskfasta ] || names=$fi
+    names=$dk_g
+    [ "$dk_command" != maskfasta ] || names=$dk_fi
     if is_stream "$file" || is_stream "$names"; then
         advise "the names of $file have to be those of $names, byte for byte"
         return
@@ -249,22 +248,22 @@ hint_name() {
 
 # The lines of the genome file, or the names of the sequences
 all_names() {
-    case $command$words in
-    maskfasta*' -fullHeader '*) sed -n 's/^>//p' < "$fi" ;;
-    maskfasta*) sed -n "s/^>\\([^ $TAB]*\\).*/\\1/p" < "$fi" ;;
-    *) cat -- "$g" ;;
+    case $dk_command$dk_words in
+    maskfasta*' -fullHeader '*) sed -n 's/^>//p' < "$dk_fi" ;;
+    maskfasta*) sed -n "s/^>\\([^ $TAB]*\\).*/\\1/p" < "$dk_fi" ;;
+    *) cat -- "$dk_g" ;;
     esac
 }
 
 # check FILE.. [-g GENOME] [--json]: status 0 if the seven commands can take each file
 check() {
-    g='' json='' status=0 command=merge names='' several='' ended=''
+    dk_g='' json='' status=0 dk_command=merge names='' several='' ended=''
     count=$#
     while [ "$count" -gt 0 ]; do
         case $ended$1 in
         -g)
             if [ "$count" = 1 ] || [ ! -f "$2" ]; then say 'check: -g needs a genome file'; exit 2; fi
-            g=$2
+            dk_g=$2
             shift
             count=$((count - 1))
             ;;
@@ -278,7 +277,8 @@ check() {
     done
     [ $# -gt 0 ] || { say 'check FILE.. [-g GENOME] [--json]'; exit 2; }
     [ $# -eq 1 ] || several=1
-    export g json
+    genome=$dk_g
+    export genome json
     separator='['
     for file; do
         [ -z "$json" ] || printf '%s' "$separator"
@@ -304,7 +304,7 @@ check_file() {
         case $kind in
         BED | text | empty | spaces | 'names of columns')
             input=$1
-            fault=$("$program" merge -i "$1" ${g:+-g "$g"} 2>&1 > /dev/null)
+            fault=$("$program" merge -i "$1" ${dk_g:+-g "$dk_g"} 2>&1 > /dev/null)
             ;;
         SAM) input=$1 pipe=''; fault=$("$program" bamtobed -i "$1" 2>&1 > /dev/null) ;;
         FASTA) input=$1; fault=$("$program" maskfasta -fi "$1" -bed /dev/null 2>&1 > /dev/null) ;;

@@ -43,30 +43,30 @@ read_options() {
 # is_option_with_value OPTION: the same of this command: -d of genomecov has none
 is_option_with_value() { [ "$dk_command$1" != genomecov-d ] && takes_value "$1"; }
 
-# read_words WORD..: the same for the hints, whose variables have no prefix
-# shellcheck disable=SC2034,SC2154
-read_words() {
-    dk_command=$command dk_why=''
-    read_options "$@"
-    i=$dk_i a=$dk_a b=$dk_b g=$dk_g f=$dk_f d=$dk_d fi=$dk_fi bed=$dk_bed fo=$dk_fo words=$dk_words why=$dk_why
-}
-
-# judge_words WORD..: sets `dk_why` if the original has to take them, whatever is in the files
-judge_words() {
+# judge_first: sets `dk_why` if something lacks, or if bedtools is as quick whatever the words and the files are
+judge_first() {
     if [ ! -f "$dk_program" ] || [ ! -s "$dk_program" ] || [ ! -x "$dk_program" ]; then
         dk_why="there is no $dk_program"
         return
     fi
-    for dk_tool in awk cat df grep head mkfifo mktemp rm sort tail tr wc; do
+    for dk_tool in awk cat cut df grep head mktemp rm sort tail tr uniq wc; do
         command -v "$dk_tool" > /dev/null || { dk_why="there is no $dk_tool"; return; }
     done
+    case $dk_command$dk_words in
+    *' -held '*) ;;
+    merge*' -S '* | maskfasta*) dk_why='bedtools is as quick as a look at the files' ;;
+    bamtobed*) is_stream "$dk_i" || judge_alignments ;;
+    esac
+}
+
+# judge_words WORD..: sets `dk_why` if the original has to take them, whatever is in the files
+judge_words() {
     if [ "$dk_command" = genomecov ]; then judge_coverage_words "$@"; return; fi
     try_words "$@"
     [ -z "$dk_why" ] || return
     case $dk_command$dk_words in
     *' -held '*) return ;; # which bedtools only refuses
     merge*' -s '*) dk_why='merge -s of bedtools leaves overlaps and another order'; return ;;
-    merge*' -S '* | maskfasta*) dk_why='bedtools is as quick as a look at the files'; return ;;
     complement*' -i '* | merge*) ;;
     complement*) dk_why='bedtools needs -i'; return ;;
     bamtobed*' -split '*) ! has_word -cigar || dk_why='bedtools leaves out -cigar beside -split' ;;
@@ -74,6 +74,13 @@ judge_words() {
     case $dk_f in *[1-9]*) ;; ?*) dk_why='bedtools refuses a fraction of 0'; return ;; esac
     [ "$dk_d" -le 2147483647 ] || dk_why="-d $dk_d is too large for bedtools"
 }
+
+# judge_alignments: sets `dk_why` unless the input of bamtobed begins as SAM text. Of BAM bedtools is as quick.
+judge_alignments() {
+    dk_line=''
+    IFS= read -r dk_line < "$dk_i"
+    case $dk_line in @*) ;; *) dk_why="$dk_i isn't SAM text with header lines" ;; esac
+} 2> /dev/null
 
 # judge_coverage_words WORD..: the same for genomecov, of whose forms the program has two. Sets `dk_form`.
 judge_coverage_words() {
@@ -221,7 +228,8 @@ has_short_records() {
     await $! && [ ! -s "$dk_spans" ]
 }
 
-# has_single_hits: whether no record of -a has several hits, which bedtools lists in an order of its own without -sorted
+# has_single_hits: whether no record of -a has several hits, as far as the program goes without a fault. bedtools lists
+# several in an order of its own without -sorted.
 has_single_hits() {
     set -- -a "$dk_a" -b "$dk_b" ${dk_g:+-g "$dk_g"} ${dk_f:+-f "$dk_f"}
     ! has_word -r || set -- "$@" -r
@@ -231,11 +239,12 @@ has_single_hits() {
     [ $? = 1 ]
 }
 
-# lists_hits: whether intersect lists the hits of a record, and not by the order of -sorted
-lists_hits() {
-    [ "$dk_command" = intersect ] || return
-    for dk_word in -sorted -u -v -c; do ! has_word "$dk_word" || return; done
-    ! has_word -wa || has_word -wb || has_word -wo
+# look_at_hits: sets `dk_why` if intersect lists several hits of a record, and not by the order of -sorted
+look_at_hits() {
+    [ "$dk_command" = intersect ] || return 0
+    for dk_word in -sorted -u -v -c; do ! has_word "$dk_word" || return 0; done
+    ! has_word -wa || has_word -wb || has_word -wo || return 0
+    has_single_hits || dk_why='bedtools orders the hits of a record otherwise; -sorted orders them'
 }
 
 # look_at_features FILE..: sets `dk_why` for merge, complement, intersect and subtract
@@ -244,13 +253,32 @@ look_at_features() {
     [ -z "$dk_why" ] || return 0
     for dk_input; do
         [ "$dk_copied" != known ] || ! is_stream "$dk_input" || continue
-        look_at "$dk_input" "$dk_g"
-        [ -n "$dk_why" ] || look_closer "$dk_input" "$dk_g"
-        [ -z "$dk_why" ] || return
-        [ -z "$dk_f" ] || [ "$dk_input" != "$dk_a" ] && ! has_word -r || has_short_records "$dk_input" "$dk_g" ||
-            dk_why='bedtools compares -f by seven digits, too few for the longest records'
+        look_at_feature "$dk_input"
+        case $dk_why in *'record is out of order') ! find_order "$@" || look_at_feature "$dk_input" ;; esac
         [ -z "$dk_why" ] || return
     done
+}
+
+# look_at_feature FILE
+look_at_feature() {
+    look_at "$1" "$dk_g"
+    [ -n "$dk_why" ] || look_closer "$1" "$dk_g"
+    [ -z "$dk_why" ] || return
+    [ -z "$dk_f" ] || [ "$1" != "$dk_a" ] && ! has_word -r || has_short_records "$1" "$dk_g" ||
+        dk_why='bedtools compares -f by seven digits, too few for the longest records'
+}
+
+# find_order FILE..: puts the chromosomes of all files into the genome file `dk_genome`, in an order that fits each, if
+# there is one and bedtools takes any: so it does without -g and -sorted
+find_order() {
+    [ -z "$dk_g" ] && [ "$dk_copied" != known ] && ! has_word -sorted || return
+    : > "$dk_spans"
+    for dk_file; do
+        { LC_ALL=C cut -f 1 < "$dk_file" | LC_ALL=C uniq; printf '\t\n'; } >> "$dk_spans" 2> /dev/null &
+        await $! || return
+    done
+    LC_ALL=C awk -f "$dk_files/common_order.awk" < "$dk_spans" > "$dk_genome" 2> /dev/null || return
+    dk_why='' dk_g=$dk_genome dk_ordered=1
 }
 
 # streams_are_known: whether DUNEKETTLE_STREAMS takes the one stream as sorted BED, and no option goes by what else it

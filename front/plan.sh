@@ -5,16 +5,17 @@
 
 # plan COMMAND WORD..: becomes the program or the original
 plan() {
-    dk_command=$1 dk_why='' dk_children='' dk_folder='' dk_marks='' dk_stdin=''
+    dk_command=$1 dk_why='' dk_children='' dk_folder='' dk_marks='' dk_stdin='' dk_ordered=''
     for dk_free in 3 4 5 6 7 8 9; do unset "dk_word_$dk_free"; done
     dk_room=${DUNEKETTLE_ROOM:-67108864} dk_small=${DUNEKETTLE_SMALL:-262144}
     shift
-    case $dk_room$dk_small in *[!0-9]*) dk_why='DUNEKETTLE_ROOM or DUNEKETTLE_SMALL is no number' ;; esac
+    { is_count "$dk_room" && is_count "$dk_small"; } || dk_why='DUNEKETTLE_ROOM or DUNEKETTLE_SMALL is no number'
     read_options "$@"
+    [ -n "$dk_why" ] || judge_first
+    [ -n "$dk_why" ] || has_word -held || find_copies "$@"
+    [ -n "$dk_why" ] || has_word -held || [ -n "$dk_copied" ] || is_worth_it
     [ -n "$dk_why" ] || judge_words "$@"
     [ -n "$dk_why" ] || ! has_word -held || by_program 'bedtools only refuses -held' "$dk_command" "$@"
-    [ -n "$dk_why" ] || find_copies "$@"
-    [ -n "$dk_why" ] || [ -n "$dk_copied" ] || is_worth_it
     [ -n "$dk_why" ] || is_known_version
     [ -z "$dk_why" ] || by_original "$dk_why" "$dk_command" "$@"
     ! reads_standard_input || set -- "$@" -i -
@@ -22,6 +23,9 @@ plan() {
     heed_signals
     with_copies "$@"
 }
+
+# is_count WORD: whether it is a number that the shell can compute with. One with a leading zero it may take as octal.
+is_count() { case $1 in 0) ;; '' | *[!0-9]* | 0* | ????????????????*) return 1 ;; esac; }
 
 # reads_standard_input: whether it does without saying so
 reads_standard_input() { case $dk_command in merge | bamtobed) ! has_word -i ;; *) return 1 ;; esac; }
@@ -83,18 +87,40 @@ count_stream() {
 # is_worth_it: sets `dk_why` where the original is quicker than a look at the files. genomecov goes over each base.
 is_worth_it() {
     case $dk_command in
-    intersect | subtract) set -- "$dk_a" "$dk_b"; dk_least=$((dk_small / 2)) ;;
-    *) set -- "${dk_ibam:-$dk_i}"; dk_least=$dk_small ;;
+    intersect | subtract) set -- "$dk_a" "$dk_b" ;;
+    *) set -- "${dk_ibam:-$dk_i}" ;;
     esac
-    dk_bytes=0
     for dk_input; do
         if [ ! -f "$dk_input" ] || [ ! -r "$dk_input" ]; then dk_why="$dk_input is no file that can be read"; return; fi
-        dk_bytes=$((dk_bytes + $(wc -c < "$dk_input")))
     done
+    count_bytes "$@"
+    least_bytes
     [ "$dk_bytes" -lt "$dk_least" ] || return 0
     if [ "$dk_command" = genomecov ] && { [ -n "$dk_ibam" ] || is_large_genome; }; then return; fi
-    dk_original=$(find_original)
+    find_original
     [ -z "$dk_original" ] || dk_why='its inputs are small'
+}
+
+# least_bytes: sets `dk_least` to the bytes from which a look at the files costs no more than the original, as measured
+# for each kind of call. Copies are paid by then.
+least_bytes() {
+    case $dk_command$dk_words in
+    intersect*' -f '* | intersect*' -s '* | subtract*' -f '* | subtract*' -s '*) dk_least=12 ;;
+    intersect*' -u '* | intersect*' -v '* | intersect*' -c '*) dk_least=4 ;;
+    intersect*) dk_least=16 ;;
+    merge* | subtract*) dk_least=2 ;;
+    *) dk_least=1 ;;
+    esac
+    dk_least=$((dk_small * dk_least))
+    [ -z "$dk_copied" ] || dk_least=$((dk_least / 2))
+}
+
+# count_bytes FILE..: sets `dk_bytes` to those of all
+count_bytes() {
+    dk_bytes=$(wc -c -- "$@")
+    dk_bytes=${dk_bytes##*"$NL"}
+    dk_bytes=${dk_bytes#"${dk_bytes%%[! ]*}"}
+    dk_bytes=${dk_bytes%% *}
 }
 
 is_large_genome() {
@@ -109,7 +135,7 @@ is_known_version() {
     merge* | complement* | subtract* | genomecov*' -bg '*) return ;;
     intersect*' -u '* | intersect*' -v '* | intersect*' -c '* | intersect*' -sorted '*) return ;;
     esac
-    [ -n "${dk_original-}" ] || dk_original=$(find_original)
+    [ -n "${dk_original-}" ] || find_original
     [ -n "$dk_original" ] || return 0
     case $(DUNEKETTLE_TRIED=${DUNEKETTLE_TRIED-}:$dk_original "$dk_original" --version < /dev/null 2> /dev/null) in
     'bedtools v2.30.0'* | 'bedtools v2.31.'*) ;;
@@ -236,14 +262,19 @@ decide() {
         ! read_part "$dk_command.sh" || { dk_why='' && take_"$dk_command" "$@"; }
         return
         ;;
-    intersect | subtract) look_at_features "$dk_a" "$dk_b" ;;
+    intersect | subtract)
+        [ "$dk_copied" = known ] || look_at_hits
+        [ -n "$dk_why" ] || look_at_features "$dk_a" "$dk_b"
+        ;;
     *) look_at_features "$dk_i" ;;
     esac
     [ -z "$dk_why" ] || return 0
     [ "$dk_copied" != known ] || by_program 'DUNEKETTLE_STREAMS says what its stream has' "$dk_command" "$@"
-    if lists_hits && ! has_single_hits; then
-        dk_why='bedtools orders the hits of a record otherwise; -sorted orders them'
-        return
+    if [ -n "$dk_ordered" ]; then
+        # Without the genome file the hits of a part of the chromosomes were seen.
+        look_at_hits
+        [ -z "$dk_why" ] || return 0
+        set -- "$@" -g "$dk_genome"
     fi
     by_program 'its words and its files are as it takes them' "$dk_command" "$@"
 }

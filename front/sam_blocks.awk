@@ -44,8 +44,10 @@ function put_block() {
     else if (has_block) {
         bytes += 40
         print $3, start, start + bases, place | sorter
+        is_sorted = 1
     } else print $3, start, start + bases, place
     has_block = 1
 }
 
-END { close(sorter) }
+# What the sorter lost would be lost from the depths
+END { if (is_sorted && close(sorter) != 0) exit 1 }

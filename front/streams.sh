@@ -8,15 +8,13 @@ open_files() {
     dk_opened=0
     for dk_name; do
         free_descriptor || break
-        eval "command exec $dk_free<> \"\$dk_folder/file\"" || break
-        rm -f "$dk_folder/file"
-        true < "/dev/fd/$dk_free" || break
+        eval "command exec $dk_free<> \"\$dk_folder/\$dk_name\"" || break
         eval "dk_$dk_name=/dev/fd/$dk_free"
         dk_opened=$((dk_opened + 1))
     done 2> /dev/null
     rm -rf "$dk_folder"
     dk_folder=''
-    [ "$dk_opened" = $# ]
+    [ "$dk_opened" = $# ] && { true < "/dev/fd/$dk_free"; } 2> /dev/null
 }
 
 # close_file FILE: closes one that was opened here
@@ -59,7 +57,7 @@ copy_stream() {
     head -c "$((dk_room + 1))" <&"$1" > "$2" 2> /dev/null &
     dk_head=$!
     wait "$dk_head"
-    printf '%s %s\n' "$2" $? >> "$dk_marks"
+    printf '%s %s\n' "$2" $? >> "$dk_marks" 2> /dev/null
 }
 
 # await_copies COUNT: waits until that many are marked, or one is too long or lost. One that is too long may keep its
@@ -83,14 +81,17 @@ next_copy() {
     dk_from=${dk_from# } dk_to=${dk_to# }
 }
 
-# copies_are_marked COUNT: sets `dk_long` if one is too long, and `dk_lost` if one failed
+# copies_are_marked COUNT: sets `dk_long` if one is too long, and `dk_lost` if one failed, or is over without a mark,
+# for which a full disk may have no room
 copies_are_marked() {
-    dk_marked=0 dk_long='' dk_lost=''
+    dk_marked=0 dk_long='' dk_lost='' dk_over=0
+    for dk_child in $dk_children; do kill -0 "$dk_child" 2> /dev/null || dk_over=$((dk_over + 1)); done
     while read -r dk_mark dk_status; do
         dk_marked=$((dk_marked + 1))
         [ "$dk_status" = 0 ] || dk_lost=1
         [ "$(wc -c < "$dk_mark")" -le "$dk_room" ] || dk_long=1
     done < "$dk_marks"
+    [ "$dk_over" -le "$dk_marked" ] || dk_lost=1
     [ -n "$dk_long$dk_lost" ] || [ "$dk_marked" -ge "$1" ]
 }
 

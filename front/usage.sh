@@ -1,5 +1,5 @@
 # shellcheck shell=sh disable=SC2034,SC2154
-# Hints after a fault of the command line: read by hints.sh, with `fault`, `command` and `files` set, and its functions.
+# Hints after a fault of the command line: read by hints.sh, which has set `fault`, `dk_command` and `files`.
 
 # What -d and -held take
 NUMBERS='0 to 999999999999'
@@ -29,7 +29,7 @@ hint_usage() {
 
 # How the command is called
 hint_synopsis() {
-    synopsis=$(LC_ALL=C part=$command awk '
+    synopsis=$(LC_ALL=C part=$dk_command awk '
         $1 == "%" { found = $2 == ENVIRON["part"]; next }
         found && !NF { exit }
         found' "$files/help.txt" | tr -s '\n ' ' ')
@@ -38,13 +38,13 @@ hint_synopsis() {
 
 # A command that bedtools has, or none
 hint_command() {
-    case $command in
+    case $dk_command in
     sort) say 'sort is a command of bedtools; for Dunekettle: LC_ALL=C sort -k1,1 -k2,2n FILE' ;;
     annotate | bamtofastq | bed12tobed6 | bedpetobam | bedtobam | closest | cluster | coverage | expand | fisher | \
         flank | getfasta | groupby | igv | jaccard | links | makewindows | map | multicov | multiinter | nuc | \
         overlap | pairtobed | pairtopair | random | reldist | sample | shift | shuffle | slop | spacing | split | \
         summary | tag | unionbedg | window)
-        say "$command is a command of bedtools alone; the drop-in lets one script call both: docs/MIGRATING.md"
+        say "$dk_command is a command of bedtools alone; the drop-in lets one script call both: docs/MIGRATING.md"
         ;;
     *) hint_synopsis ;;
     esac
@@ -52,14 +52,14 @@ hint_command() {
 
 # hint_option OPTION: what to write for an option of bedtools, or how the command is called
 hint_option() {
-    instead=$(LC_ALL=C command=$command option=$1 awk -F '\t' '
+    instead=$(LC_ALL=C command=$dk_command option=$1 awk -F '\t' '
         $1 == ENVIRON["command"] && $2 == ENVIRON["option"] { print $3 "." }' "$files/instead.txt")
     case $instead in
     '') hint_synopsis ;;
-    leave*) say "$command has no $1: ${instead%.}" ;;
+    leave*) say "$dk_command has no $1: ${instead%.}" ;;
     *)
         [ "$instead" = . ] || instead="${instead%.}, does it; or "
-        say "$command has no $1: ${instead#.}bedtools, to which the drop-in (docs/MIGRATING.md) gives such a call"
+        say "$dk_command has no $1: ${instead#.}bedtools, to which the drop-in (docs/MIGRATING.md) gives such a call"
         ;;
     esac
 }
@@ -69,7 +69,7 @@ hint_file() {
     [ -e "$1" ] || { hint_synopsis; return; }
     bare=$1
     shift
-    case $command in
+    case $dk_command in
     intersect | subtract) set -- -a -b "$@" ;;
     maskfasta) set -- -fi -bed "$@" ;;
     *) set -- -i -i "$@" ;;
@@ -78,7 +78,7 @@ hint_file() {
     shift 2
     if ! given "$first" "$@"; then advise "write $first $(quoted_name "$bare")"
     elif ! given "$second" "$@"; then advise "write $second $(quoted_name "$bare")"
-    elif [ "$command" = intersect ]; then hint_option 'several -b'
+    elif [ "$dk_command" = intersect ]; then hint_option 'several -b'
     else say "$second takes one file: several become one by LC_ALL=C sort -k1,1 -k2,2n FILE FILE"
     fi
 }
@@ -98,7 +98,7 @@ hint_value() {
 # hint_missing WORD..: the options that the command needs
 hint_missing() {
     missing=''
-    case $command in
+    case $dk_command in
     complement) need -g GENOME "$@" ;;
     intersect | subtract) need -a FILE "$@"; need -b FILE "$@" ;;
     maskfasta) need -fi FASTA "$@"; need -bed BED "$@" ;;
@@ -108,7 +108,7 @@ hint_missing() {
             missing="$missing, and -bg or -bga (the histogram: docs/RECIPES.md, histogram.sh)"
         ;;
     esac
-    advise "$command needs ${missing#, and }"
+    advise "$dk_command needs ${missing#, and }"
 }
 
 # need OPTION VALUE WORD..: puts an option that isn't given to `missing`
@@ -122,7 +122,7 @@ need() {
 # hint_pair WORD..: the options that exclude one another
 hint_pair() {
     pair=''
-    case $command in
+    case $dk_command in
     merge) pair='-s, -S' ;;
     maskfasta) if given -soft "$@" && given -mc "$@"; then pair='-soft, -mc'; fi ;;
     intersect)
