@@ -284,8 +284,10 @@ def main():
                 awks.append(folder)
         rules = sys.argv[4:] or list(RULES)
         futures = [pool.submit(try_seed, rules[n % len(rules)], seed * 1_000_000 + n, theirs, place, awks[n % 7 % len(awks) :][:1]) for n in range(cases)]
-        for future in concurrent.futures.as_completed(futures):
+        for done, future in enumerate(concurrent.futures.as_completed(futures), 1):
             rule, taker, difference = future.result()
+            if done % 1000 == 0:
+                print(f"{done} of {cases}", file=sys.stderr, flush=True)
             taken.setdefault(rule, {}).setdefault(taker, 0)
             taken[rule][taker] += 1
             if difference:

@@ -18,14 +18,14 @@ take_genomecov() {
     by_program 'its words and its files are as it takes them' "$@"
 }
 
-# set_genome FILE: sets `dk_bases`, and `dk_why` unless each line of it is a chromosome that bedtools reads as such
-set_genome() {
-    dk_bases=$(LC_ALL=C awk -F '\t' '
+# look_at_chromosomes FILE: sets `dk_why` unless each line of it is a chromosome that bedtools reads as such
+look_at_chromosomes() {
+    LC_ALL=C awk -F '\t' '
         $0 == "" { next }
         /^#|\r/ || $1 == "" || $1 in seen || $2 !~ /^[1-9][0-9]*$/ { bad = 1; exit }
         length($2) > 10 || $2 + 0 > 2147483647 { bad = 1; exit }
         { seen[$1]; bases += $2 }
-        END { if (bad || !bases || bases > 4294967295) exit 1; printf "%.0f\n", bases }' < "$1" 2> /dev/null) ||
+        END { exit bad || !bases || bases > 4294967295 }' < "$1" 2> /dev/null ||
         dk_why="the chromosomes of $1 may be others for bedtools"
 }
 
@@ -40,7 +40,7 @@ order_genome() {
 
 # cover_features: looks at a BED file, whose chromosomes may have any order
 cover_features() {
-    set_genome "$dk_g"
+    look_at_chromosomes "$dk_g"
     [ -n "$dk_why" ] || look_at_ordered "$dk_i" "$dk_g"
     [ -n "$dk_why" ] || [ -z "$dk_strand" ] || pick_strand
     [ -n "$dk_why" ] || [ "$dk_form" = -bg ] || order_genome "$dk_g"
@@ -73,7 +73,7 @@ pick_strand() {
 
 # cover_blocks: makes BED of the blocks of a file of BED12, and puts it into the place of -i
 cover_blocks() {
-    set_genome "$dk_g"
+    look_at_chromosomes "$dk_g"
     [ -n "$dk_why" ] || look_at_lines "$dk_i"
     [ -z "$dk_why" ] || return 0
     open_blocks "$(($(wc -c < "$dk_i") * 4))" || return 0
@@ -99,9 +99,7 @@ look_at_blocks() {
 
 # cover_alignments: the same of a BAM file, by samtools, where that pays
 cover_alignments() {
-    dk_why="there is no samtools, or $dk_ibam is no BAM"
-    command -v samtools > /dev/null && is_bam "$dk_ibam" || return 0
-    dk_why=''
+    is_bam "$dk_ibam" || { dk_why="$dk_ibam is no BAM"; return; }
     : > "$dk_spans"
     { samtools view -H "$dk_ibam" < /dev/null 2> /dev/null || echo >> "$dk_spans"; } | LC_ALL=C awk -F '\t' '
         /^@SQ/ {
@@ -109,16 +107,11 @@ cover_alignments() {
             print parts["SN:"] "\t" parts["LN:"]
         }' > "$dk_genome" &
     if await $! && [ ! -s "$dk_spans" ]; then
-        set_genome "$dk_genome"
+        look_at_chromosomes "$dk_genome"
     else
         dk_why="samtools can't read the header of $dk_ibam"
     fi
-    [ -z "$dk_why" ] || return 0
-    if [ "$dk_bases" -lt 20000000 ] || [ "$((dk_bases / 2))" -lt "$(wc -c < "$dk_ibam")" ]; then
-        dk_why='bedtools goes over its genome as quickly'
-        return
-    fi
-    find_blocks
+    [ -n "$dk_why" ] || find_blocks
     [ -n "$dk_why" ] || look_at_blocks "$dk_genome"
 }
 

@@ -94,9 +94,13 @@ is_worth_it() {
         if [ ! -f "$dk_input" ] || [ ! -r "$dk_input" ]; then dk_why="$dk_input is no file that can be read"; return; fi
     done
     count_bytes "$@"
+    if [ -n "$dk_ibam" ]; then
+        alignments_pay || dk_why='bedtools goes over its genome as quickly, or there is no samtools'
+        return
+    fi
     least_bytes
     [ "$dk_bytes" -lt "$dk_least" ] || return 0
-    if [ "$dk_command" = genomecov ] && { [ -n "$dk_ibam" ] || is_large_genome; }; then return; fi
+    if [ "$dk_command" = genomecov ] && is_large_genome; then return; fi
     find_original
     [ -z "$dk_original" ] || dk_why='its inputs are small'
 }
@@ -121,6 +125,14 @@ count_bytes() {
     dk_bytes=${dk_bytes##*"$NL"}
     dk_bytes=${dk_bytes#"${dk_bytes%%[! ]*}"}
     dk_bytes=${dk_bytes%% *}
+}
+
+# alignments_pay: whether samtools is there, and the genome of -ibam is large beside its bytes
+alignments_pay() {
+    command -v samtools > /dev/null || return
+    samtools view -H "$dk_ibam" < /dev/null 2> /dev/null | LC_ALL=C awk -v bytes="$dk_bytes" '
+        /^@SQ/ && match($0, /\tLN:[0-9]+/) { bases += substr($0, RSTART + 4, RLENGTH - 4) }
+        END { exit bases < 20000000 || bases < bytes * 2 }'
 }
 
 is_large_genome() {
@@ -249,7 +261,14 @@ copy_streams() {
         exit 1
     fi
     dk_from=${dk_pairs%%/*} dk_to=${dk_pairs#*/}
-    [ -z "$dk_long" ] || pour_out "$@"
+    # bedtools reads a gzip file, but no gzip stream: it gets one as it came.
+    dk_way=''
+    for dk_copy in $dk_to; do ! is_zipped "$dk_copy" || dk_way='its stream is gzip'; done
+    [ -z "$dk_long" ] || dk_way='its stream is long'
+    if [ -n "$dk_way" ]; then
+        dk_why=$dk_way
+        pour_out "$@"
+    fi
     dk_children=''
     for dk_stream in $dk_from; do close_file "$dk_stream"; done
 }

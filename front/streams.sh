@@ -124,7 +124,6 @@ feed_marked() {
 
 # pour WORD..: runs the original, with a pipe in the place of each copy, in which its stream goes on
 pour() {
-    dk_why='its stream is long'
     next_copy || to_original "$@"
     feed_marked "$dk_stream" "$dk_copy" | {
         eval "exec ${dk_copy##*/}<&0"
