@@ -1,9 +1,10 @@
 use Rattle.bt_lines.proofs.Std.{refl}
+use Rattle.bt_bed.specs.calls.LevelScan.{begun_after, ended_after}
 use Rattle.bt_bed.specs.model.BedLine.{record_of}
 use Rattle.bt_bed.specs.model.Genome.{entry_of, genome_from}
 use Rattle.bt_bed.specs.model.Good.{good_from, line_says}
 use Rattle.bt_lines.specs.model.Lines.{lines_from, value_of}
-use Rattle.bt_runs.specs.model.Depth.{begun_after, coverage, depth_of, ended_after, settled_depths}
+use Rattle.bt_runs.specs.model.Depth.{coverage, depth_of, settled_depths}
 use Rattle.bt_tool.specs.model.Report.{report_of}
 use Rattle.std.specs.Fmt.{digits}
 use Rattle.bt_laws.proofs.worked.depths.Goals as goal
