@@ -4,6 +4,7 @@
 # take_genomecov WORD..: becomes the program, or writes what awk makes of its output, or sets `dk_why`
 take_genomecov() {
     [ "$dk_copied" != known ] || by_program 'DUNEKETTLE_STREAMS says what its stream has' genomecov "$@"
+    tells_failed_writes || { dk_why='awk ends well where a write failed'; return; }
     if [ -n "$dk_ibam" ]; then cover_alignments
     elif has_word -split; then cover_blocks
     else cover_features
@@ -17,6 +18,10 @@ take_genomecov() {
     if [ -n "$dk_scale" ] || is_deep "$@"; then write_form "$@"; fi
     by_program 'its words and its files are as it takes them' "$@"
 }
+
+# tells_failed_writes: whether awk ends with a fault where a write failed. That of busybox doesn't, and what it lost would
+# be lost silently.
+tells_failed_writes() { [ -c /dev/full ] && ! LC_ALL=C awk 'BEGIN { print "x" }' > /dev/full; } 2> /dev/null
 
 # look_at_chromosomes FILE: sets `dk_why` unless each line of it is a chromosome that bedtools reads as such
 look_at_chromosomes() {

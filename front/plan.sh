@@ -119,12 +119,13 @@ least_bytes() {
     [ -z "$dk_copied" ] || dk_least=$((dk_least / 2))
 }
 
-# count_bytes FILE..: sets `dk_bytes` to those of all
+# count_bytes FILE..: sets `dk_bytes` to those of all, or to 0 if a name with a line feed hides them
 count_bytes() {
     dk_bytes=$(wc -c -- "$@")
     dk_bytes=${dk_bytes##*"$NL"}
     dk_bytes=${dk_bytes#"${dk_bytes%%[! ]*}"}
     dk_bytes=${dk_bytes%% *}
+    case $dk_bytes in '' | *[!0-9]*) dk_bytes=0 ;; esac
 }
 
 # alignments_pay: whether samtools is there, and the genome of -ibam is large beside its bytes
