@@ -19,8 +19,8 @@ take_genomecov() {
     by_program 'its words and its files are as it takes them' "$@"
 }
 
-# tells_failed_writes: whether awk ends with a fault where a write failed. That of busybox doesn't, and what it lost would
-# be lost silently.
+# tells_failed_writes: whether awk ends with a fault where a write failed. That of busybox doesn't, and what it loses is
+# lost silently.
 tells_failed_writes() { [ -c /dev/full ] && ! LC_ALL=C awk 'BEGIN { print "x" }' > /dev/full; } 2> /dev/null
 
 # look_at_chromosomes FILE: sets `dk_why` unless each line of it is a chromosome that bedtools reads as such

@@ -53,7 +53,7 @@ finish() {
 
 # copy_stream STREAM COPY: copies the descriptor to the file, at most a byte more than `dk_room`, and marks how it ended
 copy_stream() {
-    trap 'kill "$dk_head"; exit 143' TERM
+    trap 'kill "$dk_head" 2> /dev/null; exit 143' TERM
     head -c "$((dk_room + 1))" <&"$1" > "$2" 2> /dev/null &
     dk_head=$!
     wait "$dk_head"
