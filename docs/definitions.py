@@ -168,7 +168,7 @@ def edits():
 
 def definition_at(text, at):
     """The definition in which a place of a file lies."""
-    names = re.findall(r"^(?:abbrev pub|unfoldable pub|pub record|pub) (\S+)", text[: text.index("\n", at) + 1], re.M)
+    names = re.findall(r"^ *(?:abbrev pub|unfoldable pub|pub record) (\S+)", text[: text.index("\n", at) + 1], re.M)
     return names[-1] if names else "?"
 
 
