@@ -6,8 +6,8 @@
 
 A small crate gets the definitions of crates/*/specs/model, the types that they name, and the worked values of bt_laws. It is
 proved. Then each change of definitions.edits is made in a copy, of those whose names have one of the words, and `rt check`
-says which values aren't what they were: of values with proofs of their own the first in each function. A row has the file, the
-definition, the change and the values. With --write the rows go to definitions.txt.
+says which values aren't what they were. A row has the file, the definition, the change and the values. With --write the rows
+go to definitions.txt.
 
 A change whose name begins with `control: ` means the same as before and has to break no value: what breaks one isn't that a
 changed definition can't be computed. Ends with 1 where a change can't be made or read, or the wrong ones break no value.
@@ -188,7 +188,7 @@ def make_changes(crate, changes):
 
 def broken_values(said):
     """The worked values that aren't what they were, by what a check says."""
-    found = re.findall(r"^\./proofs/(?:\w+/)*(\w+)/Answers\.antt:\d+:\d+: error: `returns-clause-(\w+)`: [^\n]*the two types", said, re.M)
+    found = re.findall(r"^\./proofs/(?:\w+/)*(\w+)/Answers\.antt:\d+:\d+: error: `returns-clause-(\w+)`: [^\n]*\btypes?\b", said, re.M)
     for function, goals in re.findall(r"^fn definitions::(?:\w+::)*(\w+): no proof: .*`search` did not prove (.*)$", said, re.M):
         found += [(function, goal) for goal in re.findall(r"returns-clause-(\w+)", goals)]
     found += [("levels", lemma) for lemma in re.findall(r"^\./proofs/LevelScans\.antt:\d+:\d+: error: `(\w+)`", said, re.M)]
