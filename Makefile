@@ -1,4 +1,5 @@
-# make builds bin/bedtools, make example runs it, make test is the gate, make mutants tries further wrong bodies.
+# make builds bin/bedtools, make example runs it, make test is the gate, make mutants tries further wrong bodies, and
+# make definitions wrong definitions.
 # make check-docs checks the docs, make check-program the program at its edges, make check-speed its instructions,
 # make check-differences compares it with bedtools 2.30.0, make check-front runs pipelines through its front, make check-shards
 # runs it in shards. make install PREFIX=.. NAME=.. copies the program, its front, their docs, manual pages and completions,
@@ -26,8 +27,8 @@ SOURCES := crates.txt $(shell find crates -name out -prune -o -type f \( -name '
 DOCS := README.md CHANGELOG.md LICENSE $(wildcard docs/*.md docs/*.svg) $(wildcard bench/*.md bench/*.svg) \
 	CITATION.cff $(shell find examples/shards examples/recipes -type f)
 
-.PHONY: all example test mutants check-docs check-program check-speed check-differences check-front check-shards check-packages \
-	pictures completions install uninstall dist deb clean
+.PHONY: all example test mutants definitions check-docs check-program check-speed check-differences check-front check-shards \
+	check-packages pictures completions install uninstall dist deb clean
 
 all: $(PROGRAM)
 
@@ -55,6 +56,10 @@ mutants:
 	rm -rf crates/*/must-fail && \
 	for mutants in crates/*/mutants; do mv $$mutants $$(dirname $$mutants)/must-fail; done && \
 	rt must-fail; status=$$?; rm -rf $$copy; exit $$status
+
+# Wrong definitions, each of which has to break a worked value; docs/definitions.txt gets what breaks.
+definitions:
+	docs/definitions.py --write
 
 # The shell examples of the pages and of docs/cases write what is below them, the example on each crate's first page is its
 # test, each link leads somewhere, tables of rows and of clauses are those of their files and sources, the completions have the
