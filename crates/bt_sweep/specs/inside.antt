@@ -2,3 +2,4 @@
 pub mod Held
 pub mod Joining
 pub mod Pieces
+pub mod Shapes

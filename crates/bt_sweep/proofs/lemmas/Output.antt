@@ -14,9 +14,11 @@ use Rattle.bt_sweep.proofs.lemmas.definitions.HitLemmas.{enough_of_nothing}
 use Rattle.bt_sweep.specs.model.Lines.{piece_line, pieces, hit_line, line_with, lines_for, lines_of}
 use Rattle.bt_sweep.specs.inside.Pieces.{free_after, gap_lines, lines_before}
 use Rattle.bt_sweep.proofs.lemmas.definitions.PieceLemmas.{walked}
-use Rattle.bt_sweep.proofs.lemmas.Plain.{each_hit}
+use Rattle.bt_sweep.specs.inside.Shapes.{shape_with}
+use Rattle.bt_sweep.specs.declared.output.shape.HitShape.{HitShape}
+use Rattle.bt_sweep.specs.declared.output.shape.HitShape.TheVariants.{Cut as EachCut, OrigA as EachOrigA, CutAndB as EachCutAndB, OrigBoth as EachOrigBoth, Overlap as EachOverlap}
 use Rattle.bt_sweep.specs.declared.output.shape.Shape.{Shape}
-use Rattle.bt_sweep.specs.declared.output.shape.Shape.TheVariants.{Cut, OrigA, CutAndB, OrigBoth, Overlap, Once, Missing, Count, Pieces, Whole}
+use Rattle.bt_sweep.specs.declared.output.shape.Shape.TheVariants.{Once, Missing, Count, Pieces, Whole}
 
 -- Lemmas on records that come by their starts, and where those begin that start at a place or after it.
 
@@ -316,6 +318,14 @@ module _ {A : Type 0} (a : Feature) (bs : List Feature) (out grown : Output) (r 
       rw is (line_adds (bed_text a ∷ decimal (length (hits_among rule a bs)) ∷ []) out grown r
       (subst (λ (m : ℕ). Puts out (line_with (bed_text a ∷ decimal m ∷ [])) r grown) e puts))
 
+  each_line : (hit : HitShape) → lines_for (shape_with hit) rule a bs ≡ flat_map (hit_line (shape_with hit) a) (hits_among rule a bs)
+  unfolding lines_for
+  each_line EachCut = refl
+  each_line EachOrigA = refl
+  each_line EachCutAndB = refl
+  each_line EachOrigBoth = refl
+  each_line EachOverlap = refl
+
   -- a line for each hit
-  pub hits_adds : (shape ≡ Cut) ⊎ ((shape ≡ OrigA) ⊎ ((shape ≡ CutAndB) ⊎ ((shape ≡ OrigBoth) ⊎ (shape ≡ Overlap)))) → Adds out (flat_map (hit_line shape a) (hits_among rule a bs)) r grown → Adds out (lines_for shape rule a bs) r grown
-  hits_adds is adds = subst (λ (l : List ℕ). Adds out l r grown) (sym (each_hit a bs shape rule is)) adds
+  pub hits_adds : (hit : HitShape) → shape ≡ shape_with hit → Adds out (flat_map (hit_line (shape_with hit) a) (hits_among rule a bs)) r grown → Adds out (lines_for shape rule a bs) r grown
+  hits_adds hit is adds = subst (λ (s : Shape). Adds out (lines_for s rule a bs) r grown) (sym is) (subst (λ (l : List ℕ). Adds out l r grown) (sym (each_line hit)) adds)

@@ -26,3 +26,13 @@ pub enum Shape {
     /// The record, if nothing hits it (subtract, `-A`).
     Whole,
 }
+
+// The shapes that have a line for each hit.
+#[derive(Clone, Copy)]
+pub(crate) enum HitShape {
+    Cut,
+    OrigA,
+    CutAndB,
+    OrigBoth,
+    Overlap,
+}

@@ -7,6 +7,7 @@ ghost use Rattle.bt_bed.specs.model.BedLine.{bed_text, cut_to};
 ghost use Rattle.bt_sweep.specs.calls.Held.{AreOn, AreRising, CanHit};
 ghost use Rattle.std.specs.List.{list_any};
 ghost use Rattle.bt_sweep.specs.model.Hits.{hits, hits_among, shared_bases};
+ghost use Rattle.bt_sweep.specs.inside.Shapes.{shape_with};
 ghost use Rattle.bt_sweep.specs.model.Lines.{hit_line, line_with, lines_for};
 
 use crate::active::held::Held;
@@ -14,7 +15,7 @@ use crate::hits::hit::{count_started_hits, is_any_hit, is_hit};
 use crate::hits::hit_rule::HitRule;
 use crate::hits::started::count_started;
 use crate::output::pieces::put_pieces;
-use crate::output::shape::Shape;
+use crate::output::shape::{HitShape, Shape};
 use crate::output::source_record::{SourceRecord, put_record};
 use crate::output::unmatched::put_unmatched;
 use bt_bed::{BedRef, Rec, Record, put_bed, put_cut};
@@ -64,9 +65,11 @@ pub(crate) fn put_lines<H: Held, K: Sink>(
         }
         Shape::Once => put_where(is_any_hit(rule, bed, held), a, out),
         Shape::Missing | Shape::Whole => put_where(!is_any_hit(rule, bed, held), a, out),
-        Shape::Cut | Shape::OrigA | Shape::CutAndB | Shape::OrigBoth | Shape::Overlap => {
-            put_hits(shape, rule, a, held, out)
-        }
+        Shape::Cut => put_hits(HitShape::Cut, rule, a, held, out),
+        Shape::OrigA => put_hits(HitShape::OrigA, rule, a, held, out),
+        Shape::CutAndB => put_hits(HitShape::CutAndB, rule, a, held, out),
+        Shape::OrigBoth => put_hits(HitShape::OrigBoth, rule, a, held, out),
+        Shape::Overlap => put_hits(HitShape::Overlap, rule, a, held, out),
         Shape::Pieces => put_pieces(rule, bed, held, count_started(held, bed.stop), out),
     }
 }
@@ -74,14 +77,14 @@ pub(crate) fn put_lines<H: Held, K: Sink>(
 // Puts a line for each held record that hits the record, if they come by their starts.
 #[inline(always)]
 fn put_hits<H: Held, K: Sink>(
-    shape: Shape,
+    shape: HitShape,
     rule: HitRule,
     a: &SourceRecord<'_>,
     held: &H,
     out: &mut Out<K>,
 ) -> Result<(), Fault>
     requires { AreOn a.now.bed.chrom.now (H.records held.now) }
-    ensures { AreRising (H.records held.now) → Adds out.old.output (flat_map (hit_line shape (feature_lent a.now.bed))
+    ensures { AreRising (H.records held.now) → Adds out.old.output (flat_map (hit_line (shape_with shape) (feature_lent a.now.bed))
         (hits_among rule (feature_lent a.now.bed) (H.records held.now))) result out.new.output }
 {
     let count = count_started(held, a.bed.stop);
@@ -95,14 +98,14 @@ fn put_hits<H: Held, K: Sink>(
 #[tactic(auto, using(crate::proofs::lemmas::definitions::HitLemmas::hit_overlaps))]
 #[inline(always)]
 fn put_if_hit<K: Sink>(
-    shape: Shape,
+    shape: HitShape,
     rule: HitRule,
     a: &SourceRecord<'_>,
     b: Option<&Rec>,
     out: &mut Out<K>,
 ) -> Result<(), Fault>
     requires { AreOn a.now.bed.chrom.now (option_to_list (option_copied b)) }
-    ensures { Adds out.old.output (flat_map (hit_line shape (feature_lent a.now.bed))
+    ensures { Adds out.old.output (flat_map (hit_line (shape_with shape) (feature_lent a.now.bed))
         (hits_among rule (feature_lent a.now.bed) (option_to_list (option_copied b.entry)))) result out.new.output }
 {
     let Some(b) = b else {
@@ -115,27 +118,26 @@ fn put_if_hit<K: Sink>(
     put_hit(shape, a, &b, out)
 }
 
-// Puts the line of a record that shares a base with the record, in a shape that has one for each hit.
+// Puts the line of a record that shares a base with the record.
 #[inline(always)]
 fn put_hit<K: Sink>(
-    shape: Shape,
+    shape: HitShape,
     a: &SourceRecord<'_>,
     b: &BedRef<'_>,
     out: &mut Out<K>,
 ) -> Result<(), Fault>
     requires { 0 < shared_bases (feature_lent a.now.bed) (feature_lent b.now) }
-    ensures { Adds out.old.output (hit_line shape (feature_lent a.now.bed) (feature_lent b.now)) result out.new.output }
+    ensures { Adds out.old.output (hit_line (shape_with shape) (feature_lent a.now.bed) (feature_lent b.now)) result out.new.output }
 {
     let bed = &a.bed;
     let start = bed.start.max(b.start);
     let stop = bed.stop.min(b.stop);
     match shape {
-        Shape::Cut => put_cut(bed, start, stop, b"\n", out),
-        Shape::OrigA => put_record(a, b"\n", out),
-        Shape::CutAndB => put_both(bed, start, stop, b, out),
-        Shape::OrigBoth => put_beside(a, b, out),
-        Shape::Overlap => put_overlap(a, b, stop.saturating_sub(start), out),
-        Shape::Once | Shape::Missing | Shape::Count | Shape::Pieces | Shape::Whole => Ok(()),
+        HitShape::Cut => put_cut(bed, start, stop, b"\n", out),
+        HitShape::OrigA => put_record(a, b"\n", out),
+        HitShape::CutAndB => put_cut_beside(bed, start, stop, b, out),
+        HitShape::OrigBoth => put_beside(a, b, out),
+        HitShape::Overlap => put_overlap(a, b, stop.saturating_sub(start), out),
     }
 }
 
@@ -150,9 +152,9 @@ fn put_where<K: Sink>(is_put: bool, a: &SourceRecord<'_>, out: &mut Out<K>) -> R
     Ok(())
 }
 
-// Puts a part of a record, and another record after it.
+// Puts a part of a record, and another record beside it.
 #[tactic(auto, using(std::proofs::lemmas::Result::err_from_is_err_and, bt_lines::proofs::lemmas::Writer::fails_before, bt_lines::proofs::lemmas::Writer::puts_more))]
-fn put_both<K: Sink>(
+fn put_cut_beside<K: Sink>(
     a: &BedRef<'_>,
     start: u64,
     stop: u64,
@@ -176,7 +178,7 @@ fn put_counted<K: Sink>(a: &SourceRecord<'_>, count: u64, out: &mut Out<K>) -> R
     put_number(count, b"\n", out)
 }
 
-// Puts two records.
+// Puts two records beside one another.
 #[tactic(auto, using(std::proofs::lemmas::Result::err_from_is_err_and, bt_lines::proofs::lemmas::Writer::fails_before, bt_lines::proofs::lemmas::Writer::puts_more))]
 fn put_beside<K: Sink>(a: &SourceRecord<'_>, b: &BedRef<'_>, out: &mut Out<K>) -> Result<(), Fault>
     ensures { Puts out.old.output (line_with (bed_text (feature_lent a.now.bed)
