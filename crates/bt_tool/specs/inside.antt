@@ -3,5 +3,6 @@ pub mod Feed
 pub mod MaskLoop
 pub mod Pair
 pub mod Rounds
+pub mod Setup
 pub mod SweepLoop
 pub mod UsageKinds

@@ -29,9 +29,9 @@
 //! ```
 #![tactic(auto)]
 
-pub use options::plan;
+pub use options::checking::is_standard_input;
 pub use options::usage::{Refusal, Usage, usage_line};
-pub use planning::checking::is_standard_input;
+pub use planning::plan;
 pub use planning::plan_type::{Command, Plan};
 pub use running::outcome::Outcome;
 pub use running::{Ended, run};

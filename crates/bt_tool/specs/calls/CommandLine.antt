@@ -4,7 +4,7 @@ use Rattle.bt_tool.specs.declared.options.usage.Usage.{Usage}
 use Rattle.bt_tool.specs.model.Table.{Word, Table, fits, takes, table_of}
 use Rattle.bt_tool.specs.declared.options.takes.Takes.{Takes}
 use Rattle.bt_tool.specs.model.Usage.{names_word, Item, spelled, no_command}
-use Rattle.bt_tool.specs.declared.planning.tool.Tool.{Tool}
+use Rattle.bt_tool.specs.declared.options.tool.Tool.{Tool}
 use Rattle.bt_tool.specs.model.Options.{PlanSeen, fault_past, checked, command_of}
 use Rattle.bt_tool.specs.declared.options.usage.Refusal.{Refusal}
 use Rattle.bt_tool.specs.declared.options.usage.Refusal.TheVariants.{Usage as InWords, NoMemory}

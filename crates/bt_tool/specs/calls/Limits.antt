@@ -22,7 +22,7 @@ is_limit (Some most) = nat_le most max_number
 
 -- whether the numbers of a command are within their limits
 abbrev pub is_within_limits : Command → Bool
-is_within_limits (Merge d strand) = nat_le d max_number
+is_within_limits (Merge gap strand) = nat_le gap max_number
 is_within_limits (Complement limit) = true
 is_within_limits (Intersect shape rule held) =
     nat_le rule.billionths one_in_billionths && is_limit held

@@ -12,8 +12,8 @@ use Rattle.bt_sweep.specs.declared.hits.hit_rule.HitRule.{HitRule}
 use Rattle.bt_sweep.specs.declared.output.shape.Shape.{Shape}
 use Rattle.bt_sweep.specs.declared.output.shape.Shape.TheVariants.{Cut, OrigA, CutAndB, OrigBoth, Overlap, Once, Missing, Count}
 use Rattle.bt_tool.specs.declared.planning.plan_type.Command.{Command}
-use Rattle.bt_tool.specs.declared.planning.tool.Tool.{Tool}
-use Rattle.bt_tool.specs.declared.planning.tool.Tool.TheVariants.{Merge, Complement, Intersect, Subtract, Coverage, BamToBed, MaskFasta}
+use Rattle.bt_tool.specs.declared.options.tool.Tool.{Tool}
+use Rattle.bt_tool.specs.declared.options.tool.Tool.TheVariants.{Merge, Complement, Intersect, Subtract, Coverage, BamToBed, MaskFasta}
 use Rattle.bt_tool.specs.declared.options.usage.Usage.{Usage}
 use Rattle.bt_tool.specs.model.Table.{character_of, Word, Table, command_named, table_of, takes}
 use Rattle.bt_tool.specs.model.Fraction.{fraction_of}

@@ -101,8 +101,8 @@ entries_in chromosomes = unwrap_or chromosomes []
 
 -- what each command does, by the chromosomes of the genome file, if there is one
 abbrev pub behaviour_of : Command → Option (List Entry) → Behaviour
-behaviour_of (Merge d strand) chromosomes =
-    of_records (order_of chromosomes) (merge_written (order_of chromosomes) d strand)
+behaviour_of (Merge gap strand) chromosomes =
+    of_records (order_of chromosomes) (merge_written (order_of chromosomes) gap strand)
 behaviour_of (Complement limit) chromosomes =
     of_records (order_of chromosomes) (complement_written (entries_in chromosomes) limit)
 behaviour_of (Coverage zeros strand) chromosomes =

@@ -8,8 +8,8 @@ use Rattle.bt_tool.specs.model.Fraction.{fraction_of}
 use Rattle.bt_tool.specs.declared.planning.plan_type.Command.{Command}
 use Rattle.bt_tool.specs.declared.options.takes.Takes.{Takes}
 use Rattle.bt_tool.specs.declared.options.takes.Takes.TheVariants.{Nothing, FileName, Number, Fraction, Strand, Character}
-use Rattle.bt_tool.specs.declared.planning.tool.Tool.{Tool}
-use Rattle.bt_tool.specs.declared.planning.tool.Tool.TheVariants.{Merge, Complement, Intersect, Subtract, Coverage, BamToBed, MaskFasta}
+use Rattle.bt_tool.specs.declared.options.tool.Tool.{Tool}
+use Rattle.bt_tool.specs.declared.options.tool.Tool.TheVariants.{Merge, Complement, Intersect, Subtract, Coverage, BamToBed, MaskFasta}
 use Rattle.bt_tool.specs.declared.planning.plan_type.Command.TheVariants as does
 
 -- a word of the command line, as its bytes

@@ -37,25 +37,25 @@ pub record Written (A : Type 0) : Type 0 where
 
 -- the merged runs, chromosomes in order, and those that the last record closes
 abbrev pub pooled_written : Order → ℕ → MergeStrand → Written Feature
-pooled_written order d strand = record {
-  whole = λ records. interval_lines (ordered_runs order d strand records);
+pooled_written order gap strand = record {
+  whole = λ records. interval_lines (ordered_runs order gap strand records);
   settled = λ records. interval_lines
-      (passed_by d (ordered_runs order d strand records) (last_of (intervals_of records)));
+      (passed_by gap (ordered_runs order gap strand records) (last_of (intervals_of records)));
 }
 
 -- the runs of each strand, all listed by their first records: the first ones, as long as
 -- the last record closes them
 abbrev pub strands_written : ℕ → Written Feature
-strands_written d = record {
-  whole = λ records. interval_lines (places_of (strand_runs d records));
-  settled = λ records. interval_lines (places_of (settled_strand_runs d records));
+strands_written gap = record {
+  whole = λ records. interval_lines (places_of (strand_runs gap records));
+  settled = λ records. interval_lines (places_of (settled_strand_runs gap records));
 }
 
 -- what merge writes, by the records that it merges
 abbrev pub merge_written : Order → ℕ → MergeStrand → Written Feature
-merge_written order d Each = strands_written d
-merge_written order d All = pooled_written order d All
-merge_written order d (One strand) = pooled_written order d (One strand)
+merge_written order gap Each = strands_written gap
+merge_written order gap All = pooled_written order gap All
+merge_written order gap (One strand) = pooled_written order gap (One strand)
 
 -- the gaps between the records
 abbrev pub complement_written : List Entry → Bool → Written Feature

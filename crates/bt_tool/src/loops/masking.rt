@@ -6,7 +6,7 @@ ghost use Rattle.bt_lines.specs.calls.Output.{HoldsBlock};
 ghost use Rattle.bt_tool.specs.model.Report.{of_maskfasta};
 ghost use Rattle.bt_tool.specs.calls.Run.{RunsBy};
 
-use crate::loops::sources::Sources;
+use crate::loops::Sources;
 use crate::loops::two_inputs::{TwoInputEngine, run_two};
 use bt_bed::Blocks;
 use bt_lines::{Fault, Input, LineReader, Out, Sink, Source};

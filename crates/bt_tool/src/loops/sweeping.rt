@@ -16,7 +16,7 @@ ghost use Rattle.bt_tool.specs.inside.Feed.{ConsumesGiven, HasTaken, KeepsOwnFau
 ghost use Rattle.bt_tool.specs.inside.SweepLoop.{ReadsRest};
 ghost use Rattle.bt_tool.specs.calls.Run.{AnswersNoRead, RunsBy};
 
-use crate::loops::sources::Sources;
+use crate::loops::Sources;
 use crate::loops::two_inputs::{TwoInputEngine, run_two};
 use bt_bed::{ChromOrder, Records};
 use bt_lines::{Fault, Input, LineReader, Out, Sink, Source};

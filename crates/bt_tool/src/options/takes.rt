@@ -1,9 +1,8 @@
 //! What an option takes after its own word.
 
 ghost use Rattle.std.specs.Prelude.{◌≡◌, None, Some};
-ghost use Rattle.bt_tool.specs.model.Table.{fits};
+ghost use Rattle.bt_tool.specs.model.Table.{character_of, fits};
 
-use crate::options::character::character;
 use crate::options::fraction::fraction;
 use bt_lines::number;
 
@@ -42,5 +41,15 @@ impl Takes {
             Takes::Strand => value == "+" || value == "-",
             Takes::Character => character(value).is_some(),
         }
+    }
+}
+
+/// The byte of a word of one printable character of ASCII, no space.
+pub(crate) fn character(word: &str) -> Option<u8>
+    ensures { result ≡ character_of word.now }
+{
+    match word.as_bytes() {
+        [byte] if byte.is_ascii_graphic() => Some(*byte),
+        _ => None,
     }
 }

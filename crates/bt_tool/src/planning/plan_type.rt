@@ -4,7 +4,7 @@ ghost use Rattle.bt_tool.specs.calls.Limits.{is_within_limits, IsNamedBy};
 ghost use Rattle.bt_tool.specs.model.Table.{table_of, tool_of};
 ghost use Rattle.std.specs.Prelude.{IsTrue};
 
-use crate::planning::tool::Tool;
+use crate::options::tool::Tool;
 use bt_bed::Strand;
 use bt_runs::MergeStrand;
 use bt_seq::MaskHow;

@@ -15,13 +15,14 @@ ghost use Rattle.bt_tool.specs.model.Report.{behaviour_of, entries_in, of_inters
 ghost use Rattle.bt_tool.specs.calls.Inputs.{OfBoth};
 ghost use Rattle.bt_tool.specs.calls.Run.{ReadsChromosomes, Runs, AnswersNoRead, IsOwnFailure, IsOwnFailureIf, ReadsServe, TellsNoRead, TellsOwnReads, RunsAlone, RunsBy};
 ghost use Rattle.bt_tool.specs.calls.Limits.{is_within_limits, IsNamedBy};
+ghost use Rattle.bt_tool.specs.inside.Setup.{chromosomes_in};
 ghost use Rattle.bt_tool.specs.model.Table.{table_of, tool_of};
 ghost use Rattle.bt_tool.specs.model.Written.{complement_written, coverage_written, merge_written};
 
+use crate::loops::Sources;
 use crate::loops::converting::convert;
 use crate::loops::driving::drive;
 use crate::loops::masking::mask;
-use crate::loops::sources::Sources;
 use crate::loops::sweeping::{SweepConfig, sweep};
 use crate::planning::plan_type::{Command, Plan};
 use crate::running::flushing::flushed;
@@ -167,14 +168,14 @@ fn write_records<A: Source, B: Source, K: Sink>(
     requires second { IsNamedBy (table_of (tool_of command)) (table_of (tool_of command)).second sources.second }
     requires distinct { IfSome setup.now.genome.now (λ table. AreDistinct (names_of table)) }
     requires block { HoldsBlock out.old.output.took out.old.output.put }
-    ensures runs { RunsBy A.Source B.Source (behaviour_of command (option_map entries setup.now.genome.now))
+    ensures runs { RunsBy A.Source B.Source (behaviour_of command (chromosomes_in setup.now))
         sources.first sources.second out.old.output (option_map fault_value result.0) result.1.first result.1.second out.new.output }
     ensures second { is_some result.1.second ≡ is_some sources.second }
 {
     let Sources { first, second } = sources;
     match command {
-        Command::Merge { d, strand } => {
-            let (fault, first) = merge(setup, d, strand, first, out);
+        Command::Merge { d: gap, strand } => {
+            let (fault, first) = merge(setup, gap, strand, first, out);
             (fault, Sources { first, second })
         }
         Command::Complement { limit } => {
@@ -215,18 +216,18 @@ fn write_records<A: Source, B: Source, K: Sink>(
 // Merges the records of an input, in the order of the genome file, or of the names' bytes without one.
 fn merge<A: Source, K: Sink>(
     setup: &Setup<'_>,
-    d: u64,
+    gap: u64,
     strand: MergeStrand,
     first: A,
     out: &mut Out<K>,
 ) -> (Option<Fault>, A)
-    requires limit { d ≤ max_number }
+    requires limit { gap ≤ max_number }
     requires block { HoldsBlock out.old.output.took out.old.output.put }
     ensures { RunsAlone A.Source
-        (of_records (order_of (option_map entries setup.now.genome.now)) (merge_written (order_of (option_map entries setup.now.genome.now)) d strand))
+        (of_records (order_of (chromosomes_in setup.now)) (merge_written (order_of (chromosomes_in setup.now)) gap strand))
         first out.old.output (option_map fault_value result.0) result.1 out.new.output }
 {
-    let engine = Merge::new(setup.alloc, d, strand);
+    let engine = Merge::new(setup.alloc, gap, strand);
     match setup.genome {
         Some(genome) => drive(setup.alloc, genome, engine, first, out),
         None => drive(setup.alloc, &ByteOrder, engine, first, out),
@@ -244,7 +245,7 @@ fn complement<A: Source, K: Sink>(
     requires distinct { IfSome setup.now.genome.now (λ table. AreDistinct (names_of table)) }
     requires block { HoldsBlock out.old.output.took out.old.output.put }
     ensures { RunsAlone A.Source
-        (of_records (order_of (option_map entries setup.now.genome.now)) (complement_written (entries_in (option_map entries setup.now.genome.now)) limit))
+        (of_records (order_of (chromosomes_in setup.now)) (complement_written (entries_in (chromosomes_in setup.now)) limit))
         first out.old.output (option_map fault_value result.0) result.1 out.new.output }
 {
     let Some(genome) = setup.genome else {
@@ -266,7 +267,7 @@ fn cover<A: Source, K: Sink>(
     requires distinct { IfSome setup.now.genome.now (λ table. AreDistinct (names_of table)) }
     requires block { HoldsBlock out.old.output.took out.old.output.put }
     ensures { RunsAlone A.Source
-        (of_records (order_of (option_map entries setup.now.genome.now)) (coverage_written (entries_in (option_map entries setup.now.genome.now)) zeros strand))
+        (of_records (order_of (chromosomes_in setup.now)) (coverage_written (entries_in (chromosomes_in setup.now)) zeros strand))
         first out.old.output (option_map fault_value result.0) result.1 out.new.output }
 {
     let Some(genome) = setup.genome else {
@@ -294,7 +295,7 @@ fn sweep_both<A: Source, B: Source, K: Sink>(
     requires second { IsSome sources.second }
     requires block { HoldsBlock out.old.output.took out.old.output.put }
     ensures runs { RunsBy A.Source B.Source
-        (of_intersect (order_of (option_map entries setup.now.genome.now)) config.shape config.rule config.limit)
+        (of_intersect (order_of (chromosomes_in setup.now)) config.shape config.rule config.limit)
         sources.first sources.second out.old.output (option_map fault_value result.0) result.1.first result.1.second out.new.output }
     ensures second { is_some result.1.second ≡ is_some sources.second }
 {

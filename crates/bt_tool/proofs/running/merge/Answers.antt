@@ -39,10 +39,10 @@ drive-requires-in-None-clause-begins g c = merge_begins_whole c.new-engine.resul
 pub returns-in-Some : goal.returns-in-Some
 returns-in-Some g c =
     let names = names_of c.in-Some.genome in
-    rw c.in-Some.is (merge_runs (ranks_total names) g.A.Source c.args.d c.args.strand c.new-engine.result c.new-engine.ensures.begun
+    rw c.in-Some.is (merge_runs (ranks_total names) g.A.Source c.args.gap c.args.strand c.new-engine.result c.new-engine.ensures.begun
     c.args.first c.args.out.now.output (option_map fault_value c.drive.result.0) c.drive.result.1 c.drive.new.out.output c.drive.ensures)
 
 pub returns-in-None : goal.returns-in-None
 returns-in-None g c =
-    rw c.in-None.is (merge_runs bytes_total g.A.Source c.args.d c.args.strand c.new-engine.result c.new-engine.ensures.begun
+    rw c.in-None.is (merge_runs bytes_total g.A.Source c.args.gap c.args.strand c.new-engine.result c.new-engine.ensures.begun
     c.args.first c.args.out.now.output (option_map fault_value c.drive-in-None.result.0) c.drive-in-None.result.1 c.drive-in-None.new.out.output c.drive-in-None.ensures)

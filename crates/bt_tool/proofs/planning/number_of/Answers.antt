@@ -1,7 +1,7 @@
 use Rattle.bt_lines.proofs.Std.{sym, ap, ◌∙◌, ◌≤◌, subst, unwrap_or}
 use Rattle.bt_lines.specs.model.Lines.{max_number}
 use Rattle.bt_tool.proofs.lemmas.Options.{number-limit-or}
-use Rattle.bt_tool.proofs.options.number_of.Goals as goal
+use Rattle.bt_tool.proofs.planning.number_of.Goals as goal
 
 pub returns-in-Some-clause-limit : goal.returns-in-Some-clause-limit
 returns-in-Some-clause-limit c =

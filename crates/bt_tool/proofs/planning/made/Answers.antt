@@ -3,7 +3,7 @@ use Rattle.bt_tool.specs.calls.Given.{items_in}
 use Rattle.bt_tool.specs.model.Options.{Named, named_by}
 use Rattle.bt_tool.specs.model.Table.{table_of, tool_of}
 use Rattle.bt_tool.proofs.lemmas.Options.{named, named-output, tool-by}
-use Rattle.bt_tool.proofs.options.made.Goals as goal
+use Rattle.bt_tool.proofs.planning.made.Goals as goal
 
 pub invariant_of-result : goal.invariant_of-result
 invariant_of-result c =

@@ -1,7 +1,7 @@
 use Rattle.bt_lines.proofs.Std.{sym, ◌∙◌, ap, not}
 use Rattle.bt_tool.specs.calls.Given.{items_in}
 use Rattle.bt_tool.proofs.lemmas.Planning.{lacks-by_one, lacks-none, lacks-one, lacks-required}
-use Rattle.bt_tool.proofs.planning.checking.lacks_option.Goals as goal
+use Rattle.bt_tool.proofs.options.checking.lacks_option.Goals as goal
 
 pub returns-then-lacks_required : goal.returns-then-lacks_required
 returns-then-lacks_required c =

@@ -3,7 +3,7 @@ use Rattle.bt_tool.specs.calls.Given.{items_in}
 use Rattle.bt_tool.specs.calls.Lent.{names_lent, table_lent}
 use Rattle.bt_tool.specs.model.Options.{has_exclusive, overwrites}
 use Rattle.bt_tool.proofs.lemmas.Planning.{exclusive-lent, or-first, or-second}
-use Rattle.bt_tool.proofs.planning.checking.excludes.Goals as goal
+use Rattle.bt_tool.proofs.options.checking.excludes.Goals as goal
 
 pub returns-then-gives_both : goal.returns-then-gives_both
 returns-then-gives_both c =

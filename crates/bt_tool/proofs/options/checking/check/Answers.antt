@@ -3,7 +3,7 @@ use Rattle.bt_tool.specs.calls.Given.{items_in}
 use Rattle.bt_tool.specs.calls.Lent.{table_lent}
 use Rattle.bt_tool.specs.model.Options.{has_exclusive, overwrites, reads_twice}
 use Rattle.bt_tool.proofs.lemmas.Planning.{together-exclusive, together-none, together-twice}
-use Rattle.bt_tool.proofs.planning.checking.check.Goals as goal
+use Rattle.bt_tool.proofs.options.checking.check.Goals as goal
 
 pub returns-then-excludes : goal.returns-then-excludes
 returns-then-excludes c =

@@ -1,7 +1,7 @@
 use Rattle.bt_lines.proofs.Std.{sym, ap, ◌∙◌, ◌≤◌, subst, unwrap_or}
 use Rattle.bt_tool.specs.model.Fraction.{one_in_billionths}
 use Rattle.bt_tool.proofs.lemmas.Fraction.{fraction-limit-or}
-use Rattle.bt_tool.proofs.options.billionths_of.Goals as goal
+use Rattle.bt_tool.proofs.planning.billionths_of.Goals as goal
 
 pub returns-in-Some-clause-limit : goal.returns-in-Some-clause-limit
 returns-in-Some-clause-limit c =

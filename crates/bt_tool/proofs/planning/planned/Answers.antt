@@ -3,7 +3,7 @@ use Rattle.bt_tool.specs.calls.Plan.{words_seen}
 use Rattle.bt_tool.specs.model.Table.{table_of}
 use Rattle.bt_tool.proofs.lemmas.Options.{options-no_command, fault-items, fault-tellable, fault-word, plan-items, same_table, together_at}
 use Rattle.bt_tool.specs.calls.Given.{items_in}
-use Rattle.bt_tool.proofs.options.planned.Goals as goal
+use Rattle.bt_tool.proofs.planning.planned.Goals as goal
 
 pub returns-in_err-tool-clause-refused : goal.returns-in_err-tool-clause-refused
 returns-in_err-tool-clause-refused c =
