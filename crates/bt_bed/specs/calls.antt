@@ -11,4 +11,5 @@ pub mod Orders
 pub mod Reading
 pub mod Records
 pub mod SortedReader
+pub mod Stage
 pub mod Stretches

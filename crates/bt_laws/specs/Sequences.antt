@@ -4,7 +4,7 @@ use Rattle.std.specs.List.{list_all, last_or, AllByRecursion}
 use Rattle.bt_bed.specs.model.Feature.{Span, Feature}
 use Rattle.bt_seq.specs.model.Alignment.{Alignment, reference_length, Part, each_operation, is_letter, operations_in, alignment_blocks, blocks_of, is_skip, with_bases}
 use Rattle.bt_seq.specs.calls.Alignments.{EndsAt}
-use Rattle.bt_seq.specs.declared.sam.operation.Operation.{Operation}
+use Rattle.bt_seq.specs.declared.sam.cigar.Operation.{Operation}
 use Rattle.bt_lines.specs.model.Lines.{is_number, whole_text}
 use Rattle.bt_bed.specs.model.Good.{Good, items_in, block_good}
 use Rattle.bt_bed.specs.calls.Orders.{AreInBlocks}
@@ -118,8 +118,8 @@ quiet_records_are_taken =
     (out : Output)
     (answer : Result Taken Fault) (new : Masking) (grown : Output)
     → GivesBed how full stage line r out answer new grown
-    → decided line (stage.taken ++ r ∷ []) ≡ false
-    → held_for line (stage.taken ++ r ∷ []) ≡ held_for line stage.taken
+    → decided line (stage.inputs.taken ++ r ∷ []) ≡ false
+    → held_for line (stage.inputs.taken ++ r ∷ []) ≡ held_for line stage.inputs.taken
     → (answer ≡ Ok Yes) × (grown ≡ out)
 
 -- Laws of blocks and of the sequences to which they belong.

@@ -14,7 +14,8 @@ use Rattle.bt_sweep.specs.model.Lines.{intersect, intersect_met, sweep_rule}
 use Rattle.bt_sweep.specs.calls.LineLaws.{subtract}
 use Rattle.bt_sweep.specs.declared.hits.hit_rule.HitRule.{HitRule}
 use Rattle.bt_sweep.specs.declared.output.shape.Shape.{Shape}
-use Rattle.bt_sweep.specs.calls.Sweeping.{Sweeping, leaves_some, Stage, GivesB, any_overlap}
+use Rattle.bt_sweep.specs.calls.Sweeping.{Sweeping, leaves_some, GivesB, any_overlap}
+use Rattle.bt_bed.specs.calls.Stage.{Stage}
 use Rattle.bt_lines.specs.model.Fault.{FaultValue}
 use Rattle.bt_lines.specs.calls.Output.{Output}
 use Rattle.bt_lines.specs.declared.fault.Fault.{Fault}
@@ -82,7 +83,7 @@ taken_are_first =
 -- and nothing is written
 abbrev pub quiet_are_taken : Type 0
 quiet_are_taken =
-    (order : Order) (stage : Stage) (a b : Feature) (line : ℕ) (old : Sweeping) (out : Output)
+    (order : Order) (stage : Stage Feature Feature) (a b : Feature) (line : ℕ) (old : Sweeping) (out : Output)
     (answer : Result Taken Fault) (new : Sweeping) (grown : Output)
     → GivesB order stage a b line old out answer new grown → decides order a b ≡ false
     → is_held a b ≡ false

@@ -42,12 +42,10 @@ mod tests;
 
 pub use bamtobed::bam_to_bed::BamToBed;
 pub use bt_bed::Taken;
-pub use mask::Mask;
 pub use mask::mask_how::{MaskHow, mask_slice};
-pub use mask::mask_want::MaskWant;
+pub use mask::{Mask, MaskWant};
 pub use sam::SamRef;
 pub use sam::block_iter::SamBlocks;
-pub use sam::cigar::cigar_span;
-pub use sam::operation::Operation;
+pub use sam::cigar::{Operation, cigar_span};
 pub use sam::sam_text::sam_line;
 pub use sam::splitting::blocks;

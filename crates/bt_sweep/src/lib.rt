@@ -49,5 +49,4 @@ pub use active::held_list::HeldList;
 pub use bt_bed::Taken;
 pub use hits::hit_rule::HitRule;
 pub use output::shape::Shape;
-pub use sweep::Sweep;
-pub use sweep::want::Want;
+pub use sweep::{Sweep, Want};

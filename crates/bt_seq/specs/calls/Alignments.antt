@@ -2,7 +2,7 @@
 use Rattle.std.specs.Prelude.{◌≡◌, ℕ, ◌+◌, List, min, Option, Some, option_map, true, Err}
 use Rattle.bt_lines.specs.declared.fault.Kind.{Kind}
 use Rattle.bt_bed.specs.calls.Reading.{is_of_line}
-use Rattle.bt_seq.specs.declared.sam.operation.Operation.{Operation}
+use Rattle.bt_seq.specs.declared.sam.cigar.Operation.{Operation}
 use Rattle.bt_seq.specs.model.Alignment.{reference_length, length_of, alignment_of, is_sam_kind}
 
 -- the smaller of a reference length, with `more` bases beside it, and a million million

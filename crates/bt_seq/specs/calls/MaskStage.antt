@@ -10,43 +10,27 @@ use Rattle.bt_lines.specs.declared.fault.Input.TheVariants.{Second}
 use Rattle.bt_lines.specs.declared.fault.Kind.TheVariants.{NoSequence}
 use Rattle.bt_seq.specs.inside.Window.{masked_in}
 use Rattle.bt_seq.specs.declared.mask.mask_how.MaskHow.{MaskHow}
-use Rattle.bt_seq.specs.declared.mask.mask_want.MaskWant.{MaskWant}
-use Rattle.bt_seq.specs.declared.mask.mask_want.MaskWant.TheVariants.{Line, Bed, Nothing}
+use Rattle.bt_seq.specs.declared.mask.MaskWant.{MaskWant}
+use Rattle.bt_seq.specs.declared.mask.MaskWant.TheVariants.{Line, Bed, Nothing}
 use Rattle.bt_bed.specs.model.Good.{Member}
 use Rattle.bt_bed.specs.calls.Orders.{AreInBlocks}
+use Rattle.bt_bed.specs.calls.Stage.{Follows, Stage, at_start, given, with_first, with_first_ended, with_second, with_second_ended, with_written}
 use Rattle.bt_lines.specs.calls.Reader.{lines_in}
 use Rattle.bt_lines.specs.declared.reader.buffered_lines.BufferedLines.{BufferedLines}
-use Rattle.bt_seq.specs.declared.sam.extent.Extent.{Extent}
+use Rattle.bt_seq.specs.declared.mask.extent.Extent.{Extent}
 
 -- How far a masking engine has come: which lines of the FASTA input are written, which one waits, and
 -- which records of the BED input were taken. Then what it wants there, and what it holds.
 
--- How far it has come: the lines that are written, the one that isn't, and the records that were taken.
--- Then the one that decided the line written last and wasn't taken since,
--- and whether each input has ended.
+-- How far it has come with its inputs, and the record that decided the line written last, if that one
+-- wasn't taken since.
 pub record MaskStage : Type 0 where
-  pub written : List SequenceLine
-  pub waiting : Option SequenceLine
-  pub taken : List Feature
+  pub inputs : Stage SequenceLine Feature
   pub ahead : Option Feature
-  pub lines_ended : Bool
-  pub bed_ended : Bool
 
 -- at the start
 abbrev pub first_stage : MaskStage
-first_stage =
-    record {
-      written = [];
-      waiting = None;
-      taken = [];
-      ahead = None;
-      lines_ended = false;
-      bed_ended = false;
-    }
-
--- all lines that were given
-abbrev pub given : MaskStage → List SequenceLine
-given stage = stage.written ++ option_to_list stage.waiting
+first_stage = record { inputs = at_start; ahead = None }
 
 -- how far a line has come
 abbrev pub reached_by : Option SequenceLine → Reached
@@ -55,7 +39,7 @@ reached_by (Some line) = record { names = line.names; bases = bases_up_to line }
 
 -- how far the lines given have come
 abbrev pub reached : MaskStage → Reached
-reached stage = reached_by (last_or None (given stage))
+reached stage = reached_by (last_or None (given stage.inputs))
 
 -- what is wanted: a record while a line waits, then a line; after the last line the records
 -- that are left; and nothing once both inputs have ended
@@ -66,7 +50,7 @@ want_of false true false = Bed
 want_of false true true = Nothing
 
 abbrev pub want_at : MaskStage → MaskWant
-want_at stage = want_of (is_some stage.waiting) stage.lines_ended stage.bed_ended
+want_at stage = want_of (is_some stage.inputs.waiting) stage.inputs.first_ended stage.inputs.second_ended
 
 -- a record may be given next: any, or the one that is ahead
 abbrev pub IsNext : Option Feature → Feature → Type 0
@@ -95,31 +79,27 @@ is_written_ahead (Some r) taken line = not (is_header line.text) && decided line
 -- come, or if it is no header and the record ahead decides it.
 abbrev pub is_written_at_once : MaskStage → SequenceLine → Bool
 is_written_at_once stage line =
-    stage.bed_ended || (is_unnamed line.names || is_written_ahead stage.ahead stage.taken line)
+    stage.inputs.second_ended || (is_unnamed line.names || is_written_ahead stage.ahead stage.inputs.taken line)
 
 -- the stage with one more line
 abbrev pub with_line : MaskStage → SequenceLine → MaskStage
-with_line stage line = cond (is_written_at_once stage line)
-    (record stage { written = stage.written ++ line ∷ [] }) (record stage { waiting = Some line })
+with_line stage line =
+    record stage { inputs = with_first (is_written_at_once stage line) stage.inputs line }
 
 -- the stage with one more record
 abbrev pub with_record : MaskStage → Feature → MaskStage
-with_record stage r = record stage { taken = stage.taken ++ r ∷ []; ahead = None }
+with_record stage r = record { inputs = with_second stage.inputs r; ahead = None }
 
--- the stage with the line that waits written
-abbrev pub with_written : MaskStage → MaskStage
-with_written stage = record stage { written = given stage; waiting = None }
-
--- the same, since this record decided it
+-- the stage with the line that waits written, since this record decided it
 abbrev pub with_decided : MaskStage → Feature → MaskStage
-with_decided stage r = record (with_written stage) { ahead = Some r }
+with_decided stage r = record { inputs = with_written stage.inputs; ahead = Some r }
 
 -- the stage after the end of the lines, and after that of the records
 abbrev pub with_lines_ended : MaskStage → MaskStage
-with_lines_ended stage = record stage { lines_ended = true }
+with_lines_ended stage = record stage { inputs = with_first_ended stage.inputs }
 
 abbrev pub with_bed_ended : MaskStage → MaskStage
-with_bed_ended stage = record (with_written stage) { bed_ended = true }
+with_bed_ended stage = record stage { inputs = with_second_ended stage.inputs }
 
 -- How a masking engine goes on from one stage to another, and which lines are settled then.
 
@@ -140,18 +120,18 @@ SayEach full reached (line ∷ lines) (item ∷ items) =
 
 -- the records that were seen: those taken, and the one ahead
 abbrev pub seen_at : MaskStage → List Feature
-seen_at stage = stage.taken ++ cond stage.bed_ended [] (option_to_list stage.ahead)
+seen_at stage = stage.inputs.taken ++ cond stage.inputs.second_ended [] (option_to_list stage.ahead)
 
 -- these may be all records: those seen are the first, and after their end the only ones
 pub record MayFollow (stage : MaskStage) (records : List Feature) : Type 0 where
   pub more : List Feature
   pub begins : records ≡ seen_at stage ++ more
-  pub all : stage.bed_ended ≡ true → more ≡ []
+  pub all : stage.inputs.second_ended ≡ true → more ≡ []
 
 -- whatever records follow in order, these lines are decided and have these bytes
 pub record SettlesLines (how : MaskHow) (stage : MaskStage) (lines : List SequenceLine)
     (bytes : List ℕ) : Type 0 where
-  pub are_decided : (records : List Feature) → MayFollow stage records → stage.bed_ended ≡ false
+  pub are_decided : (records : List Feature) → MayFollow stage records → stage.inputs.second_ended ≡ false
       → list_all (λ line. decided line records) lines ≡ true
   pub bytes_are : (records : List Feature) → AreInBlocks records → MayFollow stage records
       → flat_map (masked_line how records) lines ≡ bytes
@@ -163,11 +143,7 @@ pub record GoesOn (how : MaskHow) (full : Bool) (old : MaskStage) (lines : List 
   pub items : List SequenceLine
   pub say : SayEach full (reached old) lines items
   pub newly : List SequenceLine
-  pub given_is : given new ≡ given old ++ items
-  pub written_is : new.written ≡ old.written ++ newly
-  pub taken_is : new.taken ≡ old.taken ++ records
-  pub lines_ended_is : new.lines_ended ≡ old.lines_ended
-  pub bed_ended_is : new.bed_ended ≡ old.bed_ended
+  pub follows : Follows old.inputs items newly records new.inputs
   pub settles : SettlesLines how new newly bytes
   pub sees : (later : List Feature) → MayFollow new later → MayFollow old later
 

@@ -19,8 +19,8 @@ use Rattle.bt_lines.specs.declared.fault.Kind.TheVariants.{TextBeforeHeader, NoS
 use Rattle.bt_lines.specs.declared.reader.line.LineEnd.{LineEnd}
 use Rattle.bt_seq.specs.inside.Window.{masked_in, Bounds, gone_on, limit, no_bases}
 use Rattle.bt_seq.specs.declared.mask.mask_how.MaskHow.{MaskHow}
-use Rattle.bt_seq.specs.declared.mask.mask_want.MaskWant.{MaskWant}
-use Rattle.bt_seq.specs.declared.mask.mask_want.MaskWant.TheVariants.{Line, Bed, Nothing}
+use Rattle.bt_seq.specs.declared.mask.MaskWant.{MaskWant}
+use Rattle.bt_seq.specs.declared.mask.MaskWant.TheVariants.{Line, Bed, Nothing}
 
 -- Which sequence the block of a record belongs to, as an engine comes to know it line by line.
 

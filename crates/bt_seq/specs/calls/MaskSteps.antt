@@ -4,7 +4,8 @@ use Rattle.std.specs.List.{last_or}
 use Rattle.bt_bed.specs.model.Feature.{Feature}
 use Rattle.bt_bed.specs.model.BedLine.{fault_at_line}
 use Rattle.bt_bed.specs.calls.Orders.{AreInBlocks}
-use Rattle.bt_seq.specs.calls.MaskStage.{extent_of, MaskStage, given, held_by, reached_by, want_at, is_written_at_once, reached, with_bed_ended, with_decided, with_line, with_record, LineBefore, GoesOn, PassesLines, IsNext, held_for}
+use Rattle.bt_bed.specs.calls.Stage.{given}
+use Rattle.bt_seq.specs.calls.MaskStage.{extent_of, MaskStage, held_by, reached_by, want_at, is_written_at_once, reached, with_bed_ended, with_decided, with_line, with_record, LineBefore, GoesOn, PassesLines, IsNext, held_for}
 use Rattle.bt_seq.specs.calls.MaskState.{Masking, Waiting, left_after}
 use Rattle.bt_seq.specs.inside.Masking.{KnowsStage}
 use Rattle.bt_seq.specs.model.Masked.{decided, is_unnamed, SequenceLine, is_header, masked_line, line_says}
@@ -18,13 +19,13 @@ use Rattle.bt_lines.specs.declared.fault.Fault.{Fault}
 use Rattle.bt_lines.specs.declared.fault.Input.TheVariants.{First, Second}
 use Rattle.bt_lines.specs.declared.fault.Kind.{Kind}
 use Rattle.bt_lines.specs.declared.fault.Kind.TheVariants.{NoSequence}
-use Rattle.bt_seq.specs.declared.mask.mask_want.MaskWant.TheVariants.{Nothing, Line, Bed}
+use Rattle.bt_seq.specs.declared.mask.MaskWant.TheVariants.{Nothing, Line, Bed}
 use Rattle.bt_bed.specs.declared.read.cursor.Cursor.{Ghosts as Cursor}
 use Rattle.bt_bed.specs.declared.record.taken.Taken.{Taken}
 use Rattle.bt_bed.specs.declared.record.taken.Taken.TheVariants.{Yes, No}
 use Rattle.bt_lines.specs.calls.Reader.{lines_in}
 use Rattle.bt_lines.specs.declared.reader.buffered_lines.BufferedLines.{BufferedLines}
-use Rattle.bt_seq.specs.declared.mask.mask_want.MaskWant.{MaskWant}
+use Rattle.bt_seq.specs.declared.mask.MaskWant.{MaskWant}
 
 -- The stage of a masking engine.
 
@@ -40,8 +41,8 @@ kept_line line = record { text = line.text; ending = line.ending }
 
 -- a line waits only while neither input has ended, and after a header
 pub record Waits (stage : MaskStage) (line : SequenceLine) : Type 0 where
-  pub lines : stage.lines_ended ≡ false
-  pub bed : stage.bed_ended ≡ false
+  pub lines : stage.inputs.first_ended ≡ false
+  pub bed : stage.inputs.second_ended ≡ false
   pub named : is_unnamed line.names ≡ false
   -- a header has no bases before it
   pub header : is_header line.text ≡ true → line.before ≡ 0
@@ -49,23 +50,23 @@ pub record Waits (stage : MaskStage) (line : SequenceLine) : Type 0 where
 -- The engine is at the stage, if this line was given last: what waits, what is wanted and what is held are
 -- those of the stage.
 pub record IsAtStage (stage : MaskStage) (last : Option SequenceLine) (m : Masking) : Type 0 where
-  pub waiting_is : m.waiting ≡ option_map kept_line stage.waiting
+  pub waiting_is : m.waiting ≡ option_map kept_line stage.inputs.waiting
   pub want_is : m.want ≡ want_at stage
-  pub bed_ended_is : m.bed_ended ≡ stage.bed_ended
-  pub waits : (line : SequenceLine) → stage.waiting ≡ Some line → Waits stage line
+  pub bed_ended_is : m.bed_ended ≡ stage.inputs.second_ended
+  pub waits : (line : SequenceLine) → stage.inputs.waiting ≡ Some line → Waits stage line
   -- what is held is what the last line needs: after the end of the lines too,
   -- if the records of each block rise
-  pub holds : (stage.lines_ended ≡ false) ⊎ AreInBlocks stage.taken
-      → m.window.held ≡ map extent_of (held_by last stage.taken)
+  pub holds : (stage.inputs.first_ended ≡ false) ⊎ AreInBlocks stage.inputs.taken
+      → m.window.held ≡ map extent_of (held_by last stage.inputs.taken)
   -- no record was taken but those that left the last line undecided
-  pub is_open : stage.lines_ended ≡ false → IsOpen last stage.taken
+  pub is_open : stage.inputs.first_ended ≡ false → IsOpen last stage.inputs.taken
   -- each block taken belongs to a sequence
-  pub owned : is_some (left_after (reached_by last).names stage.taken) ≡ true
+  pub owned : is_some (left_after (reached_by last).names stage.inputs.taken) ≡ true
   pub inside : KnowsStage stage last m
 
 -- the engine is at the stage
 abbrev pub MaskStandsAt : MaskStage → Masking → Type 0
-MaskStandsAt stage m = IsAtStage stage (last_or None (given stage)) m
+MaskStandsAt stage m = IsAtStage stage (last_or None (given stage.inputs)) m
 
 -- it is at the stage, and masks and names sequences like this
 pub record MaskMovesTo (how : MaskHow) (full : Bool) (stage : MaskStage)
@@ -80,19 +81,19 @@ pub record MaskMovesTo (how : MaskHow) (full : Bool) (stage : MaskStage)
 -- and else none
 abbrev pub bytes_with : MaskHow → MaskStage → SequenceLine → List ℕ
 bytes_with how stage line =
-    cond (is_written_at_once stage line) (masked_line how stage.taken line) []
+    cond (is_written_at_once stage line) (masked_line how stage.inputs.taken line) []
 
 -- whether a line may need memory: a header for its name, and for its text a line that waits, or
 -- into which a record reaches
 abbrev pub may_need_memory : MaskStage → SequenceLine → Bool
 may_need_memory stage line =
     is_header line.text || (not (is_written_at_once stage line)
-    || nat_lt 0 (length (held_for line stage.taken)))
+    || nat_lt 0 (length (held_for line stage.inputs.taken)))
 
 -- if a record decides a line, it stays as it is, whatever follows in order
 abbrev pub IsSettled : MaskHow → MaskStage → SequenceLine → Type 0
 IsSettled how stage line =
-    (r : Feature) → decided line (stage.taken ++ r ∷ []) ≡ true → LineBefore how line stage.taken r
+    (r : Feature) → decided line (stage.inputs.taken ++ r ∷ []) ≡ true → LineBefore how line stage.inputs.taken r
 
 -- one more line of the FASTA input
 module _ (how : MaskHow) (full : Bool) (stage : MaskStage) (line : TextLine) (out : Output) where
@@ -132,27 +133,27 @@ module _ (how : MaskHow) (full : Bool) (stage : MaskStage) (line : SequenceLine)
     (out : Output) where
   -- it leaves the line undecided, and is taken
   pub record TakesRecord (new : Masking) (grown : Output) : Type 0 where
-    pub undecided : decided line (stage.taken ++ r ∷ []) ≡ false
+    pub undecided : decided line (stage.inputs.taken ++ r ∷ []) ≡ false
     pub stands : MaskMovesTo how full (with_record stage r) new
     pub same_output : grown ≡ out
 
   -- it decides the line, which is written as it stays, whatever follows in order
   pub record WritesLine (new : Masking) (grown : Output) : Type 0 where
-    pub decides : decided line (stage.taken ++ r ∷ []) ≡ true
+    pub decides : decided line (stage.inputs.taken ++ r ∷ []) ≡ true
     pub stands : MaskMovesTo how full (with_decided stage r) new
-    pub puts : Grown out (masked_line how stage.taken line) grown
-    pub settled : LineBefore how line stage.taken r
+    pub puts : Grown out (masked_line how stage.inputs.taken line) grown
+    pub settled : LineBefore how line stage.inputs.taken r
 
   -- it decides the line, which couldn't be written
   pub record FailsToWriteLine (fault : FaultValue) (grown : Output) : Type 0 where
-    pub decides : decided line (stage.taken ++ r ∷ []) ≡ true
-    pub fails : FailsToAdd out (masked_line how stage.taken line) fault grown
-    pub settled : LineBefore how line stage.taken r
+    pub decides : decided line (stage.inputs.taken ++ r ∷ []) ≡ true
+    pub fails : FailsToAdd out (masked_line how stage.inputs.taken line) fault grown
+    pub settled : LineBefore how line stage.inputs.taken r
 
   -- it leaves the line undecided and has to be held, for which there is no memory
   pub record FailsToHoldRecord (fault : FaultValue) (grown : Output) : Type 0 where
-    pub undecided : decided line (stage.taken ++ r ∷ []) ≡ false
-    pub to_hold : held_for line (stage.taken ++ r ∷ []) ≡ held_for line stage.taken ++ r ∷ []
+    pub undecided : decided line (stage.inputs.taken ++ r ∷ []) ≡ false
+    pub to_hold : held_for line (stage.inputs.taken ++ r ∷ []) ≡ held_for line stage.inputs.taken ++ r ∷ []
     pub is : fault ≡ no_memory
     pub same_output : grown ≡ out
 
@@ -169,8 +170,8 @@ module _ (how : MaskHow) (full : Bool) (stage : MaskStage) (r : Feature) (number
     (out : Output) where
   -- its block belongs to none, which no block before it does
   pub record LacksSequence (fault : FaultValue) (grown : Output) : Type 0 where
-    pub owned_before : is_some (left_after (reached stage).names stage.taken) ≡ true
-    pub unowned : left_after (reached stage).names (stage.taken ++ r ∷ []) ≡ None
+    pub owned_before : is_some (left_after (reached stage).names stage.inputs.taken) ≡ true
+    pub unowned : left_after (reached stage).names (stage.inputs.taken ++ r ∷ []) ≡ None
     pub is : fault ≡ fault_at_line Second number NoSequence
     pub same_output : grown ≡ out
 
@@ -185,9 +186,9 @@ abbrev pub EndsRecords : {A : Type 0} → MaskHow → Bool → MaskStage → Seq
     → Result A Fault → Masking → Output → Type 0
 EndsRecords how full stage line out (Ok done) new grown =
     MaskMovesTo how full (with_bed_ended stage) new
-    × Grown out (masked_line how stage.taken line) grown
+    × Grown out (masked_line how stage.inputs.taken line) grown
 EndsRecords how full stage line out (Err fault) new grown =
-    (new.want ≡ Nothing) × FailsToAdd out (masked_line how stage.taken line) (fault_value fault) grown
+    (new.want ≡ Nothing) × FailsToAdd out (masked_line how stage.inputs.taken line) (fault_value fault) grown
 
 -- what it does after the last line: nothing is written, and nothing more is wanted
 abbrev pub EndsCheck : {A : Type 0} → MaskHow → Bool → MaskStage → Output → Result A Fault → Masking
@@ -273,7 +274,7 @@ module _ {C R : Type 0} (cursor : Cursor C R) where
           × FailsAtLines how full comes.stage failing through fault grown)
           ⊎ ((r : Feature) × (later : C) × (failing ≡ []) × (want_at comes.stage ≡ Bed)
           × cursor.gives records (r ∷ []) later
-          × FailsAtRecord how full comes.stage.waiting comes.stage r (cursor.line later) through fault grown)
+          × FailsAtRecord how full comes.stage.inputs.waiting comes.stage r (cursor.line later) through fault grown)
 
     -- what the result says
     abbrev pub BothCome : {A : Type 0} → Result A Fault → Masking → C → Output → Type 0

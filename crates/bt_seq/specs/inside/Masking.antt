@@ -8,14 +8,14 @@ use Rattle.bt_seq.specs.calls.MaskStage.{MaskStage, reached_by, want_at, PassesL
 use Rattle.bt_seq.specs.calls.MaskState.{Knows, KnowsEarlier, Matched, Masking, passed, stays_as_given, goes_on, left_after}
 use Rattle.bt_seq.specs.model.Masked.{decided, is_unnamed, names_behind, SequenceLine, is_header}
 use Rattle.bt_seq.specs.inside.Window.{Bounds, limit, gone_on}
-use Rattle.bt_seq.specs.declared.mask.mask_want.MaskWant.TheVariants.{Line, Nothing, Bed}
+use Rattle.bt_seq.specs.declared.mask.MaskWant.TheVariants.{Line, Nothing, Bed}
 use Rattle.bt_lines.specs.calls.Reader.{PassesLine, rest_in}
 use Rattle.bt_lines.specs.calls.Names.{fault_value}
 use Rattle.bt_lines.specs.calls.Output.{Output, FailsToAdd, Grown}
 use Rattle.bt_lines.specs.declared.reader.buffered_lines.BufferedLines.{BufferedLines}
 use Rattle.bt_lines.specs.declared.fault.Fault.{Fault}
 use Rattle.bt_seq.specs.declared.mask.copy_through.CopyThrough.{CopyThrough}
-use Rattle.bt_seq.specs.declared.mask.mask_want.MaskWant.{MaskWant}
+use Rattle.bt_seq.specs.declared.mask.MaskWant.{MaskWant}
 use Rattle.bt_seq.specs.declared.mask.phase.Phase.{Phase}
 use Rattle.bt_seq.specs.declared.mask.phase.Phase.TheVariants.{Lines, Waits, Checks, Ended}
 
@@ -78,19 +78,19 @@ pub record KnowsStage (stage : MaskStage) (last : Option SequenceLine) (m : Mask
   pub counts : Counts last m.window
   pub name_is : m.matched.name ≡ last_or None (reached_by last).names
   -- if no line waits and records may come, those taken and the one ahead decide the last line
-  pub is_decided : stage.waiting ≡ None → stage.bed_ended ≡ false
-      → IsDecided last (stage.taken ++ option_to_list stage.ahead)
-  pub in_range : AreInRange stage.taken
-  pub knows : stage.bed_ended ≡ false
-      → KnowsNext (is_some stage.waiting) (reached_by last).names stage.taken stage.ahead m.matched
+  pub is_decided : stage.inputs.waiting ≡ None → stage.inputs.second_ended ≡ false
+      → IsDecided last (stage.inputs.taken ++ option_to_list stage.ahead)
+  pub in_range : AreInRange stage.inputs.taken
+  pub knows : stage.inputs.second_ended ≡ false
+      → KnowsNext (is_some stage.inputs.waiting) (reached_by last).names stage.inputs.taken stage.ahead m.matched
   -- while lines are wanted after the first header, and records may come, one is ahead
-  pub has_ahead : want_at stage ≡ Line → stage.bed_ended ≡ false
+  pub has_ahead : want_at stage ≡ Line → stage.inputs.second_ended ≡ false
       → is_unnamed (reached_by last).names ≡ false → is_some stage.ahead ≡ true
   pub ahead_in_range : (r : Feature) → stage.ahead ≡ Some r → r.start < limit
   -- if no line waits, it is known how far the record ahead decides lines
-  pub decided_to_is : stage.waiting ≡ None → stage.bed_ended ≡ false → (r : Feature)
+  pub decided_to_is : stage.inputs.waiting ≡ None → stage.inputs.second_ended ≡ false → (r : Feature)
       → stage.ahead ≡ Some r
-      → m.decided_to ≡ decided_up_to (left_after (reached_by last).names (stage.taken ++ r ∷ [])) r
+      → m.decided_to ≡ decided_up_to (left_after (reached_by last).names (stage.inputs.taken ++ r ∷ [])) r
 
 -- Lines of bases that are copied through, several at once.
 

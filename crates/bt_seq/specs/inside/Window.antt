@@ -3,7 +3,7 @@ use Rattle.std.specs.Prelude.{ℕ, suc, ◌+◌, ◌&&◌, Bool, List, [], ◌�
 use Rattle.std.specs.List.{list_any}
 use Rattle.bt_seq.specs.model.Masked.{masked_byte}
 use Rattle.bt_seq.specs.declared.mask.mask_how.MaskHow.{MaskHow}
-use Rattle.bt_seq.specs.declared.sam.extent.Extent.{Extent}
+use Rattle.bt_seq.specs.declared.mask.extent.Extent.{Extent}
 
 -- how far bases are counted: above every number of a BED file
 abbrev pub limit : ℕ

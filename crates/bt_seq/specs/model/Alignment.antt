@@ -1,7 +1,7 @@
 -- Alignments of a SAM input, their blocks, and their BED lines.
 use Rattle.std.specs.Prelude.{ℕ, ◌+◌, ◌==◌, ◌||◌, Bool, List, [], ◌∷◌, codes, bytes_eq, sum_by, Option, Some, None, option_and_then, option_map, if◌then◌else◌, ◌-◌, true, length, bit_and, nat_le, nat_lt, not, Result, Ok, Err, ◌++◌, flat_map, decimal, ⊤, false}
 use Rattle.bt_lines.specs.model.Lines.{value_of, pieces, max_number}
-use Rattle.bt_seq.specs.declared.sam.operation.Operation.{Operation}
+use Rattle.bt_seq.specs.declared.sam.cigar.Operation.{Operation}
 use Rattle.bt_lines.specs.declared.fault.Kind.{Kind}
 use Rattle.bt_lines.specs.declared.fault.Kind.TheVariants.{TooFewColumns, EmptyName, BadFlag, BadPosition, BadQuality, BadCigar, StopTooLarge}
 use Rattle.std.specs.List.{take_while, join_with_byte}

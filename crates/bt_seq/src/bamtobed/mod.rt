@@ -2,4 +2,3 @@
 
 pub(crate) mod bam_to_bed;
 pub(crate) mod bed_line;
-pub(crate) mod put_text;

@@ -1,7 +1,8 @@
 //! Lines of bases that are copied through unchanged.
 
-ghost use Rattle.std.specs.Prelude.{◌≤◌};
+ghost use Rattle.std.specs.Prelude.{◌≡◌, ◌≤◌, ◌&&◌, nat_le, not};
 ghost use Rattle.bt_seq.specs.inside.Window.{limit};
+ghost use Rattle.bt_seq.specs.model.Masked.{is_header};
 
 use crate::mask::header_name::is_header;
 use crate::mask::window::up_to_limit;
@@ -47,7 +48,7 @@ impl<'a> CopyThrough<'a> {
             return false;
         };
         let bases = up_to_limit(self.bases, text.len());
-        if is_header(text) || to < bases {
+        if !is_decided_to(text, bases, to) {
             return false;
         }
         self.lines.consume(size);
@@ -55,4 +56,13 @@ impl<'a> CopyThrough<'a> {
         self.bases = bases;
         true
     }
+}
+
+// Whether a line of this text, which has the bases of its sequence up to this one, is known to be decided, if those up to `to`
+// are. A header never is: its name may be that of the next record.
+#[inline(always)]
+pub(crate) fn is_decided_to(text: &[u8], bases: u64, to: u64) -> bool
+    ensures { result ≡ (not (is_header text.now) && nat_le bases to) }
+{
+    !is_header(text) && bases <= to
 }

@@ -12,13 +12,13 @@ ghost use Rattle.bt_seq.specs.calls.MaskState.{ChecksBed, Keeps, Moves, TakesBed
 ghost use Rattle.bt_seq.specs.model.Masked.{is_header};
 ghost use Rattle.bt_seq.specs.inside.Window.{limit, no_bases};
 
-use crate::bamtobed::put_text::put_text;
-use crate::mask::copy_through::CopyThrough;
+use crate::mask::MaskWant;
+use crate::mask::copy_through::{CopyThrough, is_decided_to};
 use crate::mask::header_name::{is_header, name_in};
 use crate::mask::mask_how::MaskHow;
-use crate::mask::mask_want::MaskWant;
 use crate::mask::matching::{Matching, Owner};
 use crate::mask::phase::Phase;
+use crate::mask::put_text::put_text;
 use crate::mask::window::{LIMIT, Window};
 use bt_bed::{BedRef, Cursor, Taken, at_line};
 use bt_lines::{
@@ -296,12 +296,11 @@ impl MaskState {
         self.bed_ended || !self.matching.is_named() || self.is_known(text)
     }
 
-    // Whether the record ahead is known to decide a line of this text. A header is never known: its name
-    // may be that of the record.
+    // Whether the record ahead is known to decide a line of this text.
     fn is_known(&self, text: &[u8]) -> bool
         ensures { result ≡ (not (is_header text.now) && nat_le self.now.window.bases self.now.decided_to) }
     {
-        !is_header(text) && !self.window.reaches(self.decided_to)
+        is_decided_to(text, self.window.bases(), self.decided_to)
     }
 
     // Whether a record of a block with this owner decides the line that waits.

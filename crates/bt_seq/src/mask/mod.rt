@@ -1,13 +1,14 @@
 //! The engine of `bedtools maskfasta`.
 
 pub(crate) mod copy_through;
+pub(crate) mod extent;
 pub(crate) mod header_name;
 pub(crate) mod mask_how;
 pub(crate) mod mask_state;
-pub(crate) mod mask_want;
 pub(crate) mod matching;
 pub(crate) mod phase;
 pub(crate) mod plain;
+pub(crate) mod put_text;
 pub(crate) mod window;
 
 ghost use Rattle.std.specs.Prelude.{◌≡◌, ◌<◌, ◌⊎◌, [], Bool, None, OnErr, OnOk, Some, false, length, true};
@@ -16,17 +17,28 @@ ghost use Rattle.bt_bed.specs.calls.Bed.{feature_lent};
 ghost use Rattle.bt_bed.specs.calls.Orders.{AreInBlocks};
 ghost use Rattle.bt_lines.specs.calls.Line.{line_seen};
 ghost use Rattle.bt_lines.specs.declared.reader.buffered_lines.BufferedLines.{BufferedLines};
-ghost use Rattle.bt_seq.specs.calls.MaskStage.{IsNext, MaskStage, first_stage, given, held_by, want_at, with_lines_ended};
+ghost use Rattle.bt_bed.specs.calls.Stage.{given};
+ghost use Rattle.bt_seq.specs.calls.MaskStage.{IsNext, MaskStage, first_stage, held_by, want_at, with_lines_ended};
 ghost use Rattle.bt_seq.specs.calls.MaskSteps.{MaskMovesTo, MaskStandsAt, GivesBoth, Stays, StopsAt, left_to_give, ChecksRecord, EndsCheck, EndsRecords, GivesNextLine, GivesBed};
 ghost use Rattle.bt_seq.specs.model.Masked.{SequenceLine};
 
 use crate::mask::mask_how::MaskHow;
 use crate::mask::mask_state::MaskState;
-use crate::mask::mask_want::MaskWant;
 use bt_bed::{BedRef, Cursor, Record, Taken};
 use bt_lines::{BufferedLines, Fault, Line, Out, Sink};
 use std::alloc::Global;
 use std::marker::Model;
+
+/// What a [`Mask`] wants next.
+#[derive(Clone, Copy, Debug, PartialEq, Eq)]
+pub enum MaskWant {
+    /// A line of the FASTA input, or its end.
+    Line,
+    /// A record of the BED input, or its end.
+    Bed,
+    /// Nothing more: both inputs have ended, or a fault was returned.
+    Nothing,
+}
 
 /// Masks the bases of a FASTA input that records of a BED input cover. It is given what it wants
 /// ([`Mask::want`]): the lines of the FASTA input and the records of the BED input, each one after
@@ -72,8 +84,8 @@ impl Mask {
     /// a block rise.
     pub fn kept_len(&self) -> usize
         ensures stage { (stage : MaskStage) → MaskStandsAt stage self.now
-            → (stage.lines_ended ≡ false) ⊎ AreInBlocks stage.taken
-            → result ≡ length (held_by (last_or None (given stage)) stage.taken) }
+            → (stage.inputs.first_ended ≡ false) ⊎ AreInBlocks stage.inputs.taken
+            → result ≡ length (held_by (last_or None (given stage.inputs)) stage.inputs.taken) }
     {
         let Mask { state } = self;
         state.kept_len()
@@ -190,11 +202,11 @@ impl Mask {
     ) -> Result<Taken, Fault>
         requires { self.old.want ≡ MaskWant.Bed }
         ensures waits { (stage : MaskStage) (waiting : SequenceLine)
-            → MaskStandsAt stage self.old → stage.waiting ≡ Some waiting
+            → MaskStandsAt stage self.old → stage.inputs.waiting ≡ Some waiting
             → IsNext stage.ahead (feature_lent bed.now)
             → GivesBed self.old.how self.old.full stage waiting (feature_lent bed.now) out.old.output result self.new out.new.output }
         ensures none_waits { (stage : MaskStage)
-            → MaskStandsAt stage self.old → stage.waiting ≡ None
+            → MaskStandsAt stage self.old → stage.inputs.waiting ≡ None
             → IsNext stage.ahead (feature_lent bed.now)
             → ChecksRecord self.old.how self.old.full stage (feature_lent bed.now) line out.old.output result self.new out.new.output }
         ensures stops { OnErr result (self.new.want ≡ MaskWant.Nothing) }
@@ -213,10 +225,10 @@ impl Mask {
     pub fn end_bed<K: Sink>(&mut self, out: &mut Out<K>) -> Result<(), Fault>
         requires { self.old.want ≡ MaskWant.Bed }
         ensures waits { (stage : MaskStage) (waiting : SequenceLine)
-            → MaskStandsAt stage self.old → stage.waiting ≡ Some waiting
+            → MaskStandsAt stage self.old → stage.inputs.waiting ≡ Some waiting
             → EndsRecords self.old.how self.old.full stage waiting out.old.output result self.new out.new.output }
         ensures none_waits { (stage : MaskStage)
-            → MaskStandsAt stage self.old → stage.waiting ≡ None
+            → MaskStandsAt stage self.old → stage.inputs.waiting ≡ None
             → EndsCheck self.old.how self.old.full stage out.old.output result self.new out.new.output }
         ensures stops { OnErr result (self.new.want ≡ MaskWant.Nothing) }
     {

@@ -1,6 +1,6 @@
 //! How far a masking engine has come.
 
-use crate::mask::mask_want::MaskWant;
+use crate::mask::MaskWant;
 
 // What a masking engine wants, and what for.
 #[derive(Clone, Copy, Debug)]

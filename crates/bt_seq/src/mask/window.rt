@@ -3,8 +3,8 @@
 ghost use Rattle.std.specs.Prelude.{◌≡◌, ◌+◌, ◌≤◌, [], ◌∷◌, ◌++◌, OnOk, OnErr, filter, length, min, nat_eq, nat_lt, true, if◌then◌else◌};
 ghost use Rattle.bt_seq.specs.inside.Window.{gone_on, limit, masked_in, no_bases};
 
+use crate::mask::extent::{Extent, mask_extents};
 use crate::mask::mask_how::MaskHow;
-use crate::sam::extent::{Extent, mask_extents};
 use std::alloc::{AllocError, Global};
 use std::marker::Model;
 

@@ -5,9 +5,15 @@ ghost use Rattle.bt_seq.specs.model.Alignment.{consumes_reference, covered_by, i
 ghost use Rattle.bt_seq.specs.calls.Alignments.{span_with};
 ghost use Rattle.bt_seq.specs.inside.Sam.{IsFirst, IsWithin};
 
-use crate::sam::operation::Operation;
 use crate::sam::sam_text::number_in;
 use bt_lines::MAX_NUMBER;
+
+/// An operation of a CIGAR: a number and a letter (SAM specification, section 1.4, field 6, CIGAR). No call gives one; laws name it.
+#[derive(Clone, Copy, Debug)]
+pub struct Operation {
+    pub(crate) length: u64,
+    pub(crate) letter: u8,
+}
 
 /// A reference length is exact up to here.
 const SPAN_LIMIT: u64 = 1_000_000_000_000;

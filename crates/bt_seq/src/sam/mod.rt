@@ -2,10 +2,8 @@
 
 pub(crate) mod block_iter;
 pub(crate) mod cigar;
-pub(crate) mod extent;
 pub(crate) mod fields;
 pub(crate) mod first_block;
-pub(crate) mod operation;
 pub(crate) mod sam_text;
 pub(crate) mod splitting;
 

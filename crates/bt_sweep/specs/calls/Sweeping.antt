@@ -3,13 +3,14 @@ use Rattle.std.specs.Prelude.{◌≡◌, ℕ, Bool, true, false, List, Option, i
 use Rattle.bt_bed.specs.model.Feature.{Feature, intervals_of}
 use Rattle.bt_bed.specs.model.BedLine.{fault_at_line}
 use Rattle.bt_sweep.specs.declared.hits.hit_rule.HitRule.{HitRule}
-use Rattle.bt_sweep.specs.declared.sweep.phase.Phase.{Phase}
-use Rattle.bt_sweep.specs.declared.sweep.phase.Phase.TheVariants.{Both, First, Over}
+use Rattle.bt_sweep.specs.declared.sweep.state.Phase.{Phase}
+use Rattle.bt_sweep.specs.declared.sweep.state.Phase.TheVariants.{Both, SecondEnded, Over}
 use Rattle.bt_sweep.specs.declared.output.shape.Shape.{Shape}
-use Rattle.bt_sweep.specs.declared.sweep.want.Want.{Want}
-use Rattle.bt_sweep.specs.declared.sweep.want.Want.TheVariants.{A as WantA, B as WantB, Nothing}
+use Rattle.bt_sweep.specs.declared.sweep.Want.{Want}
+use Rattle.bt_sweep.specs.declared.sweep.Want.TheVariants.{A as WantA, B as WantB, Nothing}
 use Rattle.std.specs.List.{list_any, list_all}
 use Rattle.bt_bed.specs.calls.Orders.{ArePlaced}
+use Rattle.bt_bed.specs.calls.Stage.{Stage, given, with_first, with_second, with_second_ended, with_written}
 use Rattle.bt_bed.specs.model.Order.{Order}
 use Rattle.bt_sweep.specs.model.Hits.{decides, decided}
 pub use Rattle.bt_sweep.specs.model.Hits.{is_held, held_for}
@@ -58,7 +59,7 @@ want_of false false = WantA
 
 abbrev pub is_over : Phase → Bool
 is_over Both = false
-is_over First = false
+is_over SecondEnded = false
 is_over Over = true
 
 abbrev pub want_in : Sweeping → Want
@@ -66,25 +67,8 @@ want_in sweep = want_of (is_some sweep.current) (is_over sweep.phase)
 
 -- After which records of both inputs a sweep is.
 
--- How far a sweep has come: the records of the first input whose lines are written, the one whose
--- lines aren't, and the records of the second input that were taken. Last, whether each input has ended.
-pub record Stage : Type 0 where
-  pub written : List Feature
-  pub waiting : Option Feature
-  pub taken : List Feature
-  pub a_ended : Bool
-  pub b_ended : Bool
-
--- at the start
-abbrev pub first_stage : Stage
-first_stage = record { written = []; waiting = None; taken = []; a_ended = false; b_ended = false }
-
--- all records of the first input that were given
-abbrev pub given : Stage → List Feature
-given stage = stage.written ++ option_to_list stage.waiting
-
 -- the records of both inputs are in order
-pub record IsInOrder (order : Order) (stage : Stage) : Type 0 where
+pub record IsInOrder (order : Order) (stage : Stage Feature Feature) : Type 0 where
   pub first : ArePlaced order (intervals_of (given stage))
   pub second : ArePlaced order (intervals_of stage.taken)
 
@@ -110,45 +94,29 @@ pub record HoldsFor (order : Order) (as_given taken held : List Feature) : Type 
 
 -- how far it has come with its inputs, by whether each has ended
 abbrev pub phase_of : Bool → Bool → Phase
-phase_of true b_ended = Over
-phase_of false true = First
+phase_of true second_ended = Over
+phase_of false true = SecondEnded
 phase_of false false = Both
 
 -- the sweep is after these
-pub record StandsAt (order : Order) (stage : Stage) (sweep : Sweeping) : Type 0 where
+pub record StandsAt (order : Order) (stage : Stage Feature Feature) (sweep : Sweeping) : Type 0 where
   pub current_is : sweep.current ≡ stage.waiting
-  pub phase_is : sweep.phase ≡ phase_of stage.a_ended stage.b_ended
+  pub phase_is : sweep.phase ≡ phase_of stage.first_ended stage.second_ended
   pub holds : HoldsFor order (given stage) stage.taken sweep.held
   -- no more records are held than the limit allows
   pub within : IfSome sweep.limit (λ most. length sweep.held ≤ most)
   -- a record waits only while neither input has ended
-  pub unended : is_some stage.waiting ≡ true → (stage.a_ended ≡ false) × (stage.b_ended ≡ false)
+  pub unended : is_some stage.waiting ≡ true → (stage.first_ended ≡ false) × (stage.second_ended ≡ false)
 
 -- it is after these, and writes and holds by the same rules
-pub record MovesTo (order : Order) (old : Sweeping) (stage : Stage) (new : Sweeping) : Type 0 where
+pub record MovesTo (order : Order) (old : Sweeping) (stage : Stage Feature Feature) (new : Sweeping) : Type 0 where
   pub stands : StandsAt order stage new
   pub same : SameConfig old new
 
 -- the stage with one more record of the first input: its lines are written at once if the second
 -- input has ended
-abbrev pub with_a : Stage → Feature → Stage
-with_a stage a = cond stage.b_ended
-    (record stage { written = stage.written ++ a ∷ [] }) (record stage { waiting = Some a })
-
--- the stage with one more record of the second input
-abbrev pub with_b : Stage → Feature → Stage
-with_b stage b = record stage { taken = stage.taken ++ b ∷ [] }
-
--- the stage with the lines of the waiting record written
-abbrev pub with_lines : Stage → Stage
-with_lines stage = record stage { written = given stage; waiting = None }
-
--- the stage after the end of the first input, and after that of the second
-abbrev pub with_a_ended : Stage → Stage
-with_a_ended stage = record stage { a_ended = true }
-
-abbrev pub with_b_ended : Stage → Stage
-with_b_ended stage = record (with_lines stage) { b_ended = true }
+abbrev pub with_a : Stage Feature Feature → Feature → Stage Feature Feature
+with_a stage a = with_first stage.second_ended stage a
 
 -- How records of the second input meet those of the first: which they decide, and for which they are taken.
 
@@ -208,18 +176,18 @@ GivesKnown {B} cursor order from =
 -- What the calls of a sweep do.
 
 -- the second input goes on, so that the record given is to be kept, and there is no memory for it
-pub record FailsToKeepA (stage : Stage) (fault : FaultValue) (out grown : Output) : Type 0 where
-  pub goes_on : stage.b_ended ≡ false
+pub record FailsToKeepA (stage : Stage Feature Feature) (fault : FaultValue) (out grown : Output) : Type 0 where
+  pub goes_on : stage.second_ended ≡ false
   pub is : fault ≡ no_memory
   pub same_output : grown ≡ out
 
 -- the lines that are written when a is given: its own if the second input has ended,
 -- and else none
-abbrev pub lines_with : Sweeping → Stage → Feature → List ℕ
-lines_with sweep stage a = cond stage.b_ended (lines_for sweep.shape sweep.rule a stage.taken) []
+abbrev pub lines_with : Sweeping → Stage Feature Feature → Feature → List ℕ
+lines_with sweep stage a = cond stage.second_ended (lines_for sweep.shape sweep.rule a stage.taken) []
 
 -- what a call with the next record of the first input does; after a fault nothing is wanted
-abbrev pub GivesA : {A : Type 0} → Order → Stage → Feature → Sweeping → Output → Result A Fault → Sweeping
+abbrev pub GivesA : {A : Type 0} → Order → Stage Feature Feature → Feature → Sweeping → Output → Result A Fault → Sweeping
     → Output → Type 0
 GivesA order stage a old out (Ok done) new grown =
     MovesTo order old (with_a stage a) new × Grown out (lines_with old stage a) grown
@@ -229,27 +197,27 @@ GivesA order stage a old out (Err fault) new grown =
     ⊎ FailsToKeepA stage (fault_value fault) out grown)
 
 -- what the end of the second input does, while a waits
-abbrev pub EndsB : {A : Type 0} → Order → Stage → Feature → Sweeping → Output → Result A Fault → Sweeping
+abbrev pub EndsB : {A : Type 0} → Order → Stage Feature Feature → Feature → Sweeping → Output → Result A Fault → Sweeping
     → Output → Type 0
 EndsB order stage a old out (Ok done) new grown =
-    MovesTo order old (with_b_ended stage) new
+    MovesTo order old (with_second_ended stage) new
     × Grown out (lines_for old.shape old.rule a stage.taken) grown
 EndsB order stage a old out (Err fault) new grown =
     (want_in new ≡ Nothing)
     × FailsToAdd out (lines_for old.shape old.rule a stage.taken) (fault_value fault) grown
 
 -- one more record of the second input, at a line, while a waits
-module _ (order : Order) (stage : Stage) (a b : Feature) (line : ℕ) (old : Sweeping) (out : Output) where
+module _ (order : Order) (stage : Stage Feature Feature) (a b : Feature) (line : ℕ) (old : Sweeping) (out : Output) where
   -- it leaves a undecided, and is taken
   pub record TakesB (new : Sweeping) (grown : Output) : Type 0 where
     pub undecided : decides order a b ≡ false
-    pub stands : MovesTo order old (with_b stage b) new
+    pub stands : MovesTo order old (with_second stage b) new
     pub same_output : grown ≡ out
 
   -- it decides a: the lines of a are written, which stay whatever follows in order
   pub record WritesA (new : Sweeping) (grown : Output) : Type 0 where
     pub decides : decides order a b ≡ true
-    pub stands : MovesTo order old (with_lines stage) new
+    pub stands : MovesTo order old (with_written stage) new
     pub puts : Grown out (lines_for old.shape old.rule a stage.taken) grown
     pub settled : LinesBefore order old.shape old.rule a stage.taken b
 
@@ -278,13 +246,13 @@ module _ (order : Order) (stage : Stage) (a b : Feature) (line : ℕ) (old : Swe
 
 -- the stage with the lines of more records written, another one that waits, and more records of
 -- the second input taken
-abbrev pub stage_after : Stage → List Feature → Option Feature → List Feature → Stage
+abbrev pub stage_after : Stage Feature Feature → List Feature → Option Feature → List Feature → Stage Feature Feature
 stage_after stage newly waiting seconds =
     record stage { written = stage.written ++ newly; waiting = waiting; taken = stage.taken ++ seconds }
 
 -- the second input has ended, or these of it decide each
 abbrev pub Settles : Order → Phase → List Feature → List Feature → Type 0
-Settles order phase as_given bs = (phase ≡ First) ⊎ AreDecided order as_given bs
+Settles order phase as_given bs = (phase ≡ SecondEnded) ⊎ AreDecided order as_given bs
 
 -- Records of both inputs were consumed, after `before` of the first: those that are settled are `newly`, and one
 -- may wait.
@@ -320,9 +288,9 @@ abbrev pub IsThis : Order → Order → Type 0
 IsThis order other = other ≡ order
 
 -- At every stage that it is at, if all that were given and taken are in order.
-abbrev pub AtEach : Order → Sweeping → List Feature → List Feature → (Stage → Type 0) → Type 0
+abbrev pub AtEach : Order → Sweeping → List Feature → List Feature → (Stage Feature Feature → Type 0) → Type 0
 AtEach order old firsts seconds P =
-    (stage : Stage) → StandsAt order stage old
+    (stage : Stage Feature Feature) → StandsAt order stage old
     → ArePlaced order (intervals_of (given stage ++ firsts))
     → ArePlaced order (intervals_of (stage.taken ++ seconds))
     → P stage

@@ -16,12 +16,12 @@ use Rattle.bt_sweep.specs.calls.Sweeping.{Proceeds, SharesBase, AreDecided, Cann
 use Rattle.bt_sweep.specs.calls.Held.{CanHit}
 use Rattle.bt_sweep.specs.model.Lines.{intersect, line_with, lines_of}
 use Rattle.bt_sweep.specs.declared.output.shape.Shape.{Shape}
-use Rattle.bt_sweep.specs.declared.sweep.phase.Phase.TheVariants.{Over, First}
+use Rattle.bt_sweep.specs.declared.sweep.state.Phase.TheVariants.{Over, SecondEnded}
 use Rattle.bt_sweep.specs.declared.output.unmatched.Unmatched.{Unmatched}
 use Rattle.bt_sweep.specs.declared.output.unmatched.Unmatched.TheVariants.{Nothing, Itself, Counted}
 use Rattle.std.specs.declared.cmp.Ordering.{Ordering}
 use Rattle.std.specs.declared.cmp.Ordering.TheVariants.{Less, Equal, Greater}
-use Rattle.bt_sweep.specs.declared.sweep.phase.Phase.{Phase}
+use Rattle.bt_sweep.specs.declared.sweep.state.Phase.{Phase}
 use Rattle.bt_sweep.specs.declared.sweep.relation.Relation.{Relation}
 use Rattle.bt_sweep.specs.declared.sweep.relation.Relation.TheVariants.{Unknown, Before, Beside, After}
 
@@ -278,7 +278,7 @@ PutsOr false out bytes grown = FailsToAdd out bytes write_failed grown
 module _ {B S : Type 0} (cursor : Cursor B S) (order : Order) (phase : Phase) (chrom : List ℕ) (seconds : B) where
   -- the second input goes on, and the chromosome of these records is known, which is compared so
   pub record Compares (is : Ordering) : Type 0 where
-    pub going : phase ≡ First → ⊥
+    pub going : phase ≡ SecondEnded → ⊥
     pub known : order.knows (cursor.name seconds) ≡ true
     pub compared : order.compare (cursor.name seconds) chrom ≡ is
 
@@ -291,11 +291,11 @@ module _ {B S : Type 0} (cursor : Cursor B S) (order : Order) (phase : Phase) (c
     pub compares : Compares Greater
 
   abbrev pub Relates : Relation → Type 0
-  Relates Unknown = cursor.has_ended seconds × (phase ≡ First → ⊥)
+  Relates Unknown = cursor.has_ended seconds × (phase ≡ SecondEnded → ⊥)
   Relates Before = Compares Less
   Relates Beside = Compares Equal
-  Relates After = (phase ≡ First) ⊎ LiesAfter
+  Relates After = (phase ≡ SecondEnded) ⊎ LiesAfter
 
 -- the same cursor; its end also says that the second input hasn't ended
 abbrev pub going_on : {B S : Type 0} → Phase → Cursor B S → Cursor B S
-going_on phase cursor = record cursor { has_ended = λ to. cursor.has_ended to × (phase ≡ First → ⊥) }
+going_on phase cursor = record cursor { has_ended = λ to. cursor.has_ended to × (phase ≡ SecondEnded → ⊥) }

@@ -1,10 +1,8 @@
 //! The sweep over two sorted inputs.
 
 pub(crate) mod pending;
-pub(crate) mod phase;
 pub(crate) mod relation;
 pub(crate) mod state;
-pub(crate) mod want;
 
 ghost use Rattle.std.specs.Prelude.{◌≡◌, IsTrue, Some};
 ghost use Rattle.bt_bed.specs.model.Feature.{Feature};
@@ -13,13 +11,22 @@ use crate::active::held::Held;
 use crate::hits::hit_rule::HitRule;
 use crate::output::shape::Shape;
 use crate::sweep::pending::Pending;
-use crate::sweep::phase::Phase;
 use crate::sweep::relation::{Relation, relation_of};
 use crate::sweep::state::{State, skip};
-use crate::sweep::want::Want;
 use bt_bed::{BedRef, ChromOrder, Cursor, Record, Single, Taken};
 use bt_lines::{Fault, Out, Sink};
 use std::alloc::Global;
+
+/// What a sweep wants next: a record of an input or its end.
+#[derive(Clone, Copy, Debug, PartialEq, Eq)]
+pub enum Want {
+    /// The first input.
+    A,
+    /// The second input.
+    B,
+    /// Nothing more: the first input has ended, or a fault was returned.
+    Nothing,
+}
 
 /// Compares two inputs that are sorted in one order of the chromosomes, and writes the lines of each
 /// record of the first as soon as no later record of the second can hit it. It is given what it wants
@@ -41,7 +48,8 @@ impl<'o, H: Held, O: ChromOrder> Sweep<'o, H, O> {
     ghost use Rattle.std.specs.Prelude.{◌≡◌, ℕ, All, List, [], IsOk, IsTrue, None, OnErr, OnOk, Option, Some, is_some};
     ghost use Rattle.bt_bed.specs.calls.Bed.{feature_lent};
     ghost use Rattle.bt_bed.specs.model.Order.{Order};
-    ghost use Rattle.bt_sweep.specs.calls.Sweeping.{IsInOrder, MovesTo, Stage, StandsAt, first_stage, given, held_for, last_given, with_a, with_a_ended, with_b, EndsB, GivesA, GivesB, AdvancesOn, IsThis, Settles, GivesKnown, LeavesLast, want_in, want_of, no_cursor};
+    ghost use Rattle.bt_sweep.specs.calls.Sweeping.{IsInOrder, MovesTo, StandsAt, held_for, last_given, with_a, EndsB, GivesA, GivesB, AdvancesOn, IsThis, Settles, GivesKnown, LeavesLast, want_in, want_of, no_cursor};
+    ghost use Rattle.bt_bed.specs.calls.Stage.{at_start, given, Stage, with_first_ended, with_second};
     ghost use Rattle.bt_sweep.specs.calls.SweepView.{order_of, state_of};
     ghost use Rattle.bt_sweep.specs.calls.Held.{CanHit};
     ghost use Rattle.bt_sweep.specs.inside.Joining.{Joins, going_on, line_in, pending_in};
@@ -57,7 +65,7 @@ impl<'o, H: Held, O: ChromOrder> Sweep<'o, H, O> {
         order: &'o O,
     ) -> Sweep<'o, H, O>
         requires { H.records held ≡ [] }
-        ensures stands { StandsAt (O.order order.now) first_stage (state_of result) }
+        ensures stands { StandsAt (O.order order.now) at_start (state_of result) }
         ensures shape { (state_of result).shape ≡ shape }
         ensures rule { (state_of result).rule ≡ rule }
         ensures limit { (state_of result).limit ≡ limit }
@@ -72,7 +80,7 @@ impl<'o, H: Held, O: ChromOrder> Sweep<'o, H, O> {
     /// What it wants next.
     pub fn want(&self) -> Want
         ensures is { result ≡ want_in (state_of self.now) }
-        ensures stage { (order : Order) (stage : Stage) → StandsAt order stage (state_of self.now) → result ≡ want_of (is_some stage.waiting) stage.a_ended }
+        ensures stage { (order : Order) (stage : Stage Feature Feature) → StandsAt order stage (state_of self.now) → result ≡ want_of (is_some stage.waiting) stage.first_ended }
     {
         self.state.want()
     }
@@ -80,7 +88,7 @@ impl<'o, H: Held, O: ChromOrder> Sweep<'o, H, O> {
     /// The records of the second input that it holds.
     pub fn held(&self) -> &H
         ensures is { H.records result.now ≡ (state_of self.now).held }
-        ensures stage { (order : Order) (stage : Stage) → StandsAt order stage (state_of self.now)
+        ensures stage { (order : Order) (stage : Stage Feature Feature) → StandsAt order stage (state_of self.now)
             → H.records result.now ≡ held_for (last_given (given stage)) stage.taken }
     {
         let Sweep { order: _, state } = self;
@@ -120,7 +128,7 @@ impl<'o, H: Held, O: ChromOrder> Sweep<'o, H, O> {
     pub fn give_a<K: Sink>(&mut self, a: &BedRef<'_>, out: &mut Out<K>) -> Result<(), Fault>
         requires want { want_in (state_of self.old) ≡ Want.A }
         requires known { IsTrue ((order_of self.old).knows a.now.chrom.now) }
-        ensures gives { (stage : Stage) → StandsAt (order_of self.old) stage (state_of self.old)
+        ensures gives { (stage : Stage Feature Feature) → StandsAt (order_of self.old) stage (state_of self.old)
             → IsInOrder (order_of self.old) (with_a stage (feature_lent a.now))
             → GivesA (order_of self.old) stage (feature_lent a.now) (state_of self.old) out.old.output result
             (state_of self.new) out.new.output }
@@ -133,8 +141,8 @@ impl<'o, H: Held, O: ChromOrder> Sweep<'o, H, O> {
     /// Takes the end of the first input. Nothing is written, and nothing more is wanted.
     pub fn end_a(&mut self)
         requires { want_in (state_of self.old) ≡ Want.A }
-        ensures stands { (stage : Stage) → StandsAt (order_of self.old) stage (state_of self.old)
-            → MovesTo (order_of self.old) (state_of self.old) (with_a_ended stage) (state_of self.new) }
+        ensures stands { (stage : Stage Feature Feature) → StandsAt (order_of self.old) stage (state_of self.old)
+            → MovesTo (order_of self.old) (state_of self.old) (with_first_ended stage) (state_of self.new) }
         ensures nothing { want_in (state_of self.new) ≡ Want.Nothing }
         ensures order { order_of self.new ≡ order_of self.old }
     {
@@ -154,9 +162,9 @@ impl<'o, H: Held, O: ChromOrder> Sweep<'o, H, O> {
     ) -> Result<Taken, Fault>
         requires want { want_in (state_of self.old) ≡ Want.B }
         requires known { IsTrue ((order_of self.old).knows b.now.chrom.now) }
-        ensures gives { (stage : Stage) (a : Feature)
+        ensures gives { (stage : Stage Feature Feature) (a : Feature)
             → StandsAt (order_of self.old) stage (state_of self.old) → stage.waiting ≡ Some a
-            → IsInOrder (order_of self.old) (with_b stage (feature_lent b.now))
+            → IsInOrder (order_of self.old) (with_second stage (feature_lent b.now))
             → GivesB (order_of self.old) stage a (feature_lent b.now) line (state_of self.old) out.old.output result
             (state_of self.new) out.new.output }
         ensures stops { OnErr result (want_in (state_of self.new) ≡ Want.Nothing) }
@@ -176,7 +184,7 @@ impl<'o, H: Held, O: ChromOrder> Sweep<'o, H, O> {
     #[tactic(auto, using(std::proofs::lemmas::Result::err_from_is_err_and, crate::proofs::lemmas::sweep::KeepLemmas::known_none, crate::proofs::lemmas::sweep::SingleLemmas::same_some, crate::proofs::lemmas::sweep::SingleLemmas::stops_end))]
     pub fn end_b<K: Sink>(&mut self, out: &mut Out<K>) -> Result<(), Fault>
         requires { want_in (state_of self.old) ≡ Want.B }
-        ensures gives { (stage : Stage) (a : Feature)
+        ensures gives { (stage : Stage Feature Feature) (a : Feature)
             → StandsAt (order_of self.old) stage (state_of self.old) → stage.waiting ≡ Some a
             → IsInOrder (order_of self.old) stage
             → EndsB (order_of self.old) stage a (state_of self.old) out.old.output result (state_of self.new) out.new.output }

@@ -4,7 +4,7 @@ ghost use Rattle.std.specs.Prelude.{IsTrue};
 ghost use Rattle.bt_sweep.specs.calls.Sweeping.{GivesKnown};
 ghost use Rattle.bt_sweep.specs.inside.Joining.{Relates};
 
-use crate::sweep::phase::Phase;
+use crate::sweep::state::Phase;
 use bt_bed::{ChromOrder, Cursor};
 use std::cmp::Ordering;
 
@@ -33,7 +33,7 @@ pub(crate) fn relation_of<O: ChromOrder, B: Cursor>(
     requires known_b { GivesKnown B.Cursor (O.order order.now) seconds.now }
     ensures { Relates B.Cursor (O.order order.now) phase chrom.now seconds.now result }
 {
-    if let Phase::First = phase {
+    if let Phase::SecondEnded = phase {
         return Relation::After;
     }
     let mut ahead = *seconds;

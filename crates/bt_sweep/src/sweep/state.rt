@@ -16,13 +16,23 @@ use crate::hits::hit_rule::HitRule;
 use crate::output::shape::Shape;
 use crate::output::unmatched::{Unmatched, unmatched_in};
 use crate::output::writing::put_against;
+use crate::sweep::Want;
 use crate::sweep::pending::{Pending, put_copied};
-use crate::sweep::phase::Phase;
-use crate::sweep::want::Want;
 use bt_bed::{Cursor, Rec, Record, at_line, is_same_name};
 use bt_lines::{Fault, Input, Kind, MAX_NUMBER, Out, Place, Sink, no_memory, write_failed};
 use std::alloc::{AllocError, Global};
 use std::marker::Model;
+
+// How far a sweep has come with its inputs. Each follows those before it.
+#[derive(Clone, Copy, Debug, PartialEq, Eq)]
+pub(crate) enum Phase {
+    // Both inputs go on.
+    Both,
+    // The second has ended.
+    SecondEnded,
+    // Nothing more is wanted: the first has ended, or there was a fault.
+    Over,
+}
 
 // What a sweep keeps beside the order of the chromosomes. The held records lie on one chromosome.
 #[derive(Drop)]
@@ -133,9 +143,9 @@ impl<H: Held> State<H> {
 
     // Says that the second has.
     pub(crate) fn end_b(&mut self)
-        ensures { self.new ≡ record self.old { phase = Phase.First } }
+        ensures { self.new ≡ record self.old { phase = Phase.SecondEnded } }
     {
-        self.phase = Phase::First;
+        self.phase = Phase::SecondEnded;
     }
 
     // Takes out the record that waits.
@@ -208,6 +218,16 @@ impl<H: Held> State<H> {
             → Adds out.old.output (lines_for self.old.shape self.old.rule (R.feature a.now) self.old.held) result out.new.output }
     {
         let put = put_against(self.shape, self.rule, a, &self.held, out);
+        self.finish_put(put)
+    }
+
+    // Wants nothing more, if what was to be put couldn't be.
+    #[inline(always)]
+    fn finish_put(&mut self, put: Result<(), Fault>) -> Result<(), Fault>
+        ensures is { result ≡ put }
+        ensures same { OnOk put (self.new ≡ self.old) }
+        ensures stops { OnErr put (self.new ≡ stopped self.old) }
+    {
         if put.is_err() {
             self.phase = Phase::Over;
         }
@@ -339,10 +359,7 @@ impl<H: Held> State<H> {
         ensures puts { Adds out.old.output lines.now result out.new.output }
     {
         let put = put_copied(lines, out);
-        if put.is_err() {
-            self.phase = Phase::Over;
-        }
-        put
+        self.finish_put(put)
     }
 
     // Writes records of the first input, from this one on, as long as they end at the place or before it. It returns true if

@@ -19,13 +19,13 @@ use Rattle.bt_seq.specs.calls.MaskState.{Masking, left_after}
 use Rattle.bt_seq.specs.calls.MaskSteps.{MaskStandsAt}
 use Rattle.bt_seq.specs.model.Masked.{decided, masked_line, names_of, no_sequence, Reached, SequenceLine, sequence_format}
 use Rattle.bt_seq.specs.declared.mask.mask_how.MaskHow.{MaskHow}
-use Rattle.bt_seq.specs.declared.mask.mask_want.MaskWant.{MaskWant}
-use Rattle.bt_seq.specs.declared.mask.mask_want.MaskWant.TheVariants.{Line as WantLine, Bed as WantBed, Nothing}
-use Rattle.bt_sweep.specs.declared.sweep.want.Want.{Want}
-use Rattle.bt_sweep.specs.declared.sweep.want.Want.TheVariants.{A as WantA, B as WantB, Nothing as WantNothing}
+use Rattle.bt_seq.specs.declared.mask.MaskWant.{MaskWant}
+use Rattle.bt_seq.specs.declared.mask.MaskWant.TheVariants.{Line as WantLine, Bed as WantBed, Nothing}
+use Rattle.bt_sweep.specs.declared.sweep.Want.{Want}
+use Rattle.bt_sweep.specs.declared.sweep.Want.TheVariants.{A as WantA, B as WantB, Nothing as WantNothing}
 use Rattle.bt_tool.specs.declared.loops.masking.MaskRun.{MaskRun}
 use Rattle.bt_tool.specs.model.Written.{IsOneOf, is_fasta_kind, is_mask_kind, lines_need}
-use Rattle.bt_tool.specs.inside.Pair.{Comes, JoinDef, Pair, PairStage, item_ahead, HaveRead, IsOverWith}
+use Rattle.bt_tool.specs.inside.Pair.{Comes, JoinDef, Pair, item_ahead, HaveRead, IsOverWith}
 use Rattle.bt_tool.specs.inside.Rounds.{IsBuffered, TwoInputDef}
 use Rattle.bt_tool.specs.inside.Feed.{lines_read}
 
@@ -57,16 +57,6 @@ mask_join how = record {
   InOrder = AreInBlocks;
   first_kinds = IsOneOf is_fasta_kind;
   second_kinds = IsOneOf is_mask_kind;
-}
-
--- what a stage of masking is as one of two readers
-abbrev pub stage_of : MaskStage → PairStage SequenceLine Feature
-stage_of stage = record {
-  written = stage.written;
-  waiting = stage.waiting;
-  taken = stage.taken;
-  first_ended = stage.lines_ended;
-  second_ended = stage.bed_ended;
 }
 
 -- before the first header
@@ -127,11 +117,11 @@ module _ {A B : Type 0} (source_a : Source A) (source_b : Source B) (start : Mas
     pub blocks_is : (view_of start.records).format ≡ block_format
     pub how_is : mask.how ≡ start.mask.how
     pub full_is : mask.full ≡ start.mask.full
-    pub comes : Comes (mask_join start.mask.how) begun_pair out (stage_of stage) past_first past_second
+    pub comes : Comes (mask_join start.mask.how) begun_pair out stage.inputs past_first past_second
         (line_members start.mask.full reached lines) second grown
     -- the record ahead, if one is known to be, is the next one
     pub kept_ahead : (r : Feature) → stage.ahead ≡ Some r → item_ahead second ≡ Some r
-    pub lines_over : stage.lines_ended ≡ true → has_ended lines ≡ true
+    pub lines_over : stage.inputs.first_ended ≡ true → has_ended lines ≡ true
 
   abbrev pub GoesOn : LineReader A → MemberReader B Feature (Option Locus) → Masking → Output
       → Type 0

@@ -9,6 +9,7 @@ use Rattle.bt_lines.specs.calls.Output.{Output, Grows, WorksAsBefore}
 use Rattle.bt_lines.specs.calls.Reader.{bytes_taken, end_told, lines_left, source_of, HasRead, Hands, lines_given}
 use Rattle.bt_lines.specs.declared.fault.Kind.{Kind}
 use Rattle.bt_bed.specs.model.Good.{Good, Member, items_in}
+use Rattle.bt_bed.specs.calls.Stage.{Stage, given}
 use Rattle.bt_bed.specs.calls.Reading.{MemberReader, ahead_in, good_coming}
 use Rattle.bt_tool.specs.inside.Feed.{HasPut, member_items, AreAll, IsReadFor, Passes, CutsLines, PutsLines, TookButBlock, HasFaultBehind, IsReadTo, KeepsOwnFault}
 use Rattle.bt_lines.specs.declared.fault.Input.{Input}
@@ -83,27 +84,14 @@ abbrev pub HasNoMore : {A B X Y U V : Type 0} → Pair A B X Y U V → MemberRea
 HasNoMore pair first count = (pair.source_a.end_told (source_of first.below) ≡ true)
     × IfSome (lines_left pair.source_a.left pair.first.below) (λ lines. length lines ≤ count)
 
--- How far a run has come: the members of the first input that are written, the one that isn't, and
--- the members of the second that were taken. Then whether each input has ended.
-pub record PairStage (X Y : Type 0) : Type 0 where
-  pub written : List X
-  pub waiting : Option X
-  pub taken : List Y
-  pub first_ended : Bool
-  pub second_ended : Bool
-
--- all members of the first input that were given
-abbrev pub firsts_given : {X Y : Type 0} → PairStage X Y → List X
-firsts_given stage = stage.written ++ option_to_list stage.waiting
-
 module _ {A B X Y U V : Type 0} (join : JoinDef X Y) (pair : Pair A B X Y U V) (out : Output)
-    (stage : PairStage X Y) (past_first : List (Member X)) (past_second : List (Member Y)) where
+    (stage : Stage X Y) (past_first : List (Member X)) (past_second : List (Member Y)) where
   -- these members were given
   pub record Comes (first : MemberReader A X U) (second : MemberReader B Y V)
       (grown : Output) : Type 0 where
     pub first_passes : Passes pair.source_a pair.first past_first first
     pub second_passes : Passes pair.source_b pair.second past_second second
-    pub all_given : firsts_given stage ≡ member_items past_first
+    pub all_given : given stage ≡ member_items past_first
     pub all_taken : stage.taken ≡ member_items past_second
     pub bytes : List ℕ
     pub settles : IsKnown pair → SettlesPair join stage.written bytes

@@ -5,8 +5,8 @@ use Rattle.bt_lines.specs.calls.Names.{fault_value}
 use Rattle.bt_lines.specs.calls.Output.{Output}
 use Rattle.bt_lines.specs.declared.fault.Fault.{Fault}
 use Rattle.bt_bed.specs.calls.SortedReader.{fault_in}
-use Rattle.bt_sweep.specs.declared.sweep.want.Want.{Want}
-use Rattle.bt_sweep.specs.declared.sweep.want.Want.TheVariants.{A, B, Nothing}
+use Rattle.bt_sweep.specs.declared.sweep.Want.{Want}
+use Rattle.bt_sweep.specs.declared.sweep.Want.TheVariants.{A, B, Nothing}
 
 -- something of what is wanted is buffered, if so much of each input is
 abbrev pub IsBuffered : Want → ℕ → ℕ → Type 0

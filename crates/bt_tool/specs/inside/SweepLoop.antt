@@ -22,13 +22,14 @@ use Rattle.bt_bed.specs.declared.order.ChromOrder.{Ghosts}
 use Rattle.bt_bed.specs.declared.read.records.Records.{Records}
 use Rattle.bt_sweep.specs.model.Hits.{decided, are_too_many, cut_behind, limited}
 use Rattle.bt_sweep.specs.model.Lines.{lines_for}
-use Rattle.bt_sweep.specs.calls.Sweeping.{Stage, StandsAt, given, leaves_some, Sweeping, is_over, want_in}
+use Rattle.bt_sweep.specs.calls.Sweeping.{StandsAt, leaves_some, Sweeping, is_over, want_in}
+use Rattle.bt_bed.specs.calls.Stage.{Stage, given}
 use Rattle.bt_sweep.specs.calls.SweepView.{order_of as sweep_order, state_of}
-use Rattle.bt_sweep.specs.declared.sweep.want.Want.{Want}
+use Rattle.bt_sweep.specs.declared.sweep.Want.{Want}
 use Rattle.bt_tool.specs.declared.loops.sweeping.SweepConfig.{SweepConfig}
 use Rattle.bt_tool.specs.declared.loops.sweeping.SweepRun.{SweepRun}
 use Rattle.bt_tool.specs.model.Written.{IsSweptKind, records_need}
-use Rattle.bt_tool.specs.inside.Pair.{Comes, IsKnown, JoinDef, Pair, PairStage, HaveRead, IsOverWith}
+use Rattle.bt_tool.specs.inside.Pair.{Comes, IsKnown, JoinDef, Pair, HaveRead, IsOverWith}
 use Rattle.bt_tool.specs.inside.Rounds.{IsBuffered, TwoInputDef}
 use Rattle.bt_tool.specs.inside.Feed.{AreAll, Passes, StopsAfter}
 
@@ -61,16 +62,6 @@ sweep_join order config = record {
   second_kinds = IsSweptKind order config.limit;
 }
 
--- what a stage of a sweep is as one of two readers
-abbrev pub stage_of : Stage → PairStage Feature Feature
-stage_of stage = record {
-  written = stage.written;
-  waiting = stage.waiting;
-  taken = stage.taken;
-  first_ended = stage.a_ended;
-  second_ended = stage.b_ended;
-}
-
 -- two readers of BED records that have given none, in one order
 pub record AreBegun {A B O : Type 0} {g : Ghosts O} (first : Records A O g)
     (second : Records B O g) : Type 0 where
@@ -99,12 +90,12 @@ module _ {A B O : Type 0} {g : Ghosts O} (source_a : Source A) (source_b : Sourc
       (grown : Output) : Type 0 where
     pub past_first : List (Member Feature)
     pub past_second : List (Member Feature)
-    pub stage : Stage
+    pub stage : Stage Feature Feature
     pub stands : StandsAt order stage sweep
     pub config_is : config_of sweep ≡ config
     pub comes : Comes (sweep_join order config)
         (records_pair source_a source_b old_first old_second) out
-        (stage_of stage) past_first past_second (view_of first) (view_of second) grown
+        stage past_first past_second (view_of first) (view_of second) grown
     -- they go by the order from the beginning
     pub first_order : order_in first ≡ order_in old_first
     pub second_order : order_in second ≡ order_in old_second

@@ -15,7 +15,7 @@ use Rattle.bt_lines.specs.model.Fault.{FaultValue}
 use Rattle.bt_lines.specs.declared.fault.Input.TheVariants.{Second}
 use Rattle.bt_lines.specs.declared.fault.Kind.TheVariants.{NoSequence}
 use Rattle.bt_seq.specs.inside.Window.{has_position, masked_in}
-use Rattle.bt_seq.specs.declared.sam.extent.Extent.{Extent}
+use Rattle.bt_seq.specs.declared.mask.extent.Extent.{Extent}
 
 abbrev pub chrom_of : Feature → List ℕ
 chrom_of r = r.chrom

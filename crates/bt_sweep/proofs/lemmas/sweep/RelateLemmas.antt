@@ -15,7 +15,7 @@ use Rattle.bt_sweep.specs.calls.Sweeping.{IsThis, Settles, AreDecided, ComesNext
 use Rattle.bt_sweep.specs.model.Hits.{decides}
 use Rattle.bt_sweep.specs.calls.Held.{CanHit}
 use Rattle.bt_sweep.specs.inside.Joining.{AreDecidedOn, GivenLast, EndUpTo, Holds, Joins, Keeps, LeavesOn, LieOn, Proceeded, SkipsAll, WritesUpTo, Compares, Relates, going_on}
-use Rattle.bt_sweep.specs.declared.sweep.phase.Phase.TheVariants.{First}
+use Rattle.bt_sweep.specs.declared.sweep.state.Phase.TheVariants.{SecondEnded}
 use Rattle.bt_sweep.specs.declared.sweep.relation.Relation.TheVariants.{After}
 use Rattle.bt_sweep.proofs.lemmas.sweep.JoinLemmas.{joins_first, leaves_none}
 use Rattle.bt_sweep.proofs.lemmas.sweep.KeepLemmas.{keeps_held, same_as, with_none}
@@ -71,7 +71,7 @@ module _ {A B R S : Type 0} (cursor_a : Cursor A R) (cursor_b : Cursor B S) (fea
   Decides result new to_a to_b grown = Joins cursor_a (going_on old.phase cursor_b) (IsThis order) (Settles order old.phase) (LeavesLast order) feature old first from_a from_b [] out result new to_a to_b [] grown
 
   -- none of the second input was there
-  pub decides_none : ((x : A) → cursor_a.gives x [] x) → ((x : B) → cursor_b.gives x [] x) → cursor_b.has_ended from_b × (old.phase ≡ First → ⊥) → Decides (Ok (Some r)) old from_a from_b out
+  pub decides_none : ((x : A) → cursor_a.gives x [] x) → ((x : B) → cursor_b.gives x [] x) → cursor_b.has_ended from_b × (old.phase ≡ SecondEnded → ⊥) → Decides (Ok (Some r)) old from_a from_b out
   decides_none a_none b_none ended = let j = joins_first {cursor_b = going_on old.phase cursor_b} a_none b_none (LeavesLast order) (inr refl) (leaves_none order [] first refl) hits in (j.0, ended, j.2)
 
   module _ (name : List ℕ) (compared : order.compare name first.chrom ≡ Less) (seconds : List Feature) (on : LieOn name seconds) (at : GivenLast (IsThis order) first [] seconds old) where
@@ -124,7 +124,7 @@ module _ {A B R S : Type 0} (cursor_a : Cursor A R) (cursor_b : Cursor B S) (fea
   }
 
   -- they lie beside
-  pub decides_beside : (result : Result (Option R) Fault) (new : Sweeping) (to_a : A) (to_b : B) (grown : Output) → (old.phase ≡ First → ⊥)
+  pub decides_beside : (result : Result (Option R) Fault) (new : Sweeping) (to_a : A) (to_b : B) (grown : Output) → (old.phase ≡ SecondEnded → ⊥)
       → Joins cursor_a cursor_b IsTotal (AreDecidedOn first.chrom) LeavesOn feature old first from_a from_b [] out result new to_a to_b [] grown → Decides result new to_a to_b grown
   decides_beside (Ok waiting) new to_a to_b grown going (j, stops, leaves) = (
     record { proceeds = proceeds_beside j.proceeds; waits = j.waits; goes = λ at. j.goes (to_total total at); writes = λ at. j.writes (to_total total at) },

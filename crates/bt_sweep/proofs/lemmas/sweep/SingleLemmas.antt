@@ -12,14 +12,15 @@ use Rattle.bt_bed.specs.calls.Bed.{single_left, single_line}
 use Rattle.bt_bed.specs.calls.CursorOf.{single_cursor}
 use Rattle.bt_bed.specs.declared.read.cursor.Single.{Single}
 use Rattle.bt_bed.proofs.lemmas.parse.NameLemmas.{name_eq}
-use Rattle.bt_sweep.specs.calls.Sweeping.{AdvancesOn, AdvancesSo, FailsAt, HasWritten, IsThis, Settles, StopsFor, Proceeded, TakesB, WritesA, stage_after, SameConfig, IsInOrder, MovesTo, Stage, StandsAt, given, with_a, with_b, EndsB, FailsToHold, FailsToKeepA, FailsToWriteA, GivesA, Sweeping, want_in}
+use Rattle.bt_sweep.specs.calls.Sweeping.{AdvancesOn, AdvancesSo, FailsAt, HasWritten, IsThis, Settles, StopsFor, Proceeded, TakesB, WritesA, stage_after, SameConfig, IsInOrder, MovesTo, StandsAt, with_a, EndsB, FailsToHold, FailsToKeepA, FailsToWriteA, GivesA, Sweeping, want_in}
+use Rattle.bt_bed.specs.calls.Stage.{given, Stage, with_second}
 use Rattle.bt_sweep.specs.model.Hits.{decides}
 use Rattle.bt_sweep.specs.model.Lines.{intersect, lines_for}
 use Rattle.bt_sweep.specs.inside.Joining.{GivenLast, Breaks, Holds, JoinsSo, StopsAt, going_on}
 use Rattle.bt_sweep.specs.declared.hits.hit_rule.HitRule.{HitRule}
-use Rattle.bt_sweep.specs.declared.sweep.phase.Phase.TheVariants.{First}
+use Rattle.bt_sweep.specs.declared.sweep.state.Phase.TheVariants.{SecondEnded}
 use Rattle.bt_sweep.specs.declared.output.shape.Shape.{Shape}
-use Rattle.bt_sweep.specs.declared.sweep.want.Want.TheVariants.{A as WantA, Nothing}
+use Rattle.bt_sweep.specs.declared.sweep.Want.TheVariants.{A as WantA, Nothing}
 use Rattle.bt_sweep.proofs.lemmas.definitions.HitLemmas.{before_lines, front_placed}
 use Rattle.bt_sweep.proofs.lemmas.sweep.KeepLemmas.{undecided_beside, with_no_pending}
 use Rattle.bt_sweep.proofs.lemmas.sweep.StandLemmas.{none_waits, single_none}
@@ -59,18 +60,18 @@ same_output : (shape : Shape) (rule : HitRule) (newly now : List Feature) (out g
 same_output shape rule newly now out grown n puts = puts.nothing (no_lines shape rule newly now n)
 
 -- the stage that it comes to, said otherwise
-moves_as : {order : Order} {old new : Sweeping} {written taken : List Feature} {waiting : Option Feature} (stage : Stage) (newly seconds : List Feature) → stage.written ++ newly ≡ written → new.current ≡ waiting → stage.taken ++ seconds ≡ taken
+moves_as : {order : Order} {old new : Sweeping} {written taken : List Feature} {waiting : Option Feature} (stage : Stage Feature Feature) (newly seconds : List Feature) → stage.written ++ newly ≡ written → new.current ≡ waiting → stage.taken ++ seconds ≡ taken
     → MovesTo order old (stage_after stage newly new.current seconds) new → MovesTo order old (record stage { written = written; waiting = waiting; taken = taken }) new
 moves_as {order} {old} {new} {written} {taken} {waiting} stage newly seconds w o t moves = grind (arith)
 
-module _ {order : Order} {stage : Stage} {old : Sweeping} (st : StandsAt order stage old) (from_a from_b : Single) where
+module _ {order : Order} {stage : Stage Feature Feature} {old : Sweeping} (st : StandsAt order stage old) (from_a from_b : Single) where
   -- ---- a record of the first input
 
   module _ (a : Feature) (wants : want_in old ≡ WantA) (ordered : IsInOrder order (with_a stage a)) (one : single_left from_a ≡ a ∷ []) (empty : single_left from_b ≡ []) where
     none : old.current ≡ None
     none = none_waits old wants
 
-    abbrev at : Bool → Stage
+    abbrev at : Bool → Stage Feature Feature
     at b = cond b (record stage { written = stage.written ++ a ∷ [] }) (record stage { waiting = Some a })
 
     given_at : (b : Bool) → given (at b) ≡ stage.written ++ a ∷ []
@@ -80,11 +81,11 @@ module _ {order : Order} {stage : Stage} {old : Sweeping} (st : StandsAt order s
     taken_at b = grind arith
 
     placed : ArePlaced order (intervals_of (stage.written ++ a ∷ []))
-    placed = rw (given_at stage.b_ended) at ordered.first
+    placed = rw (given_at stage.second_ended) at ordered.first
 
     -- the lines that are written once it is given
     abbrev lines : List ℕ
-    lines = cond stage.b_ended (lines_for old.shape old.rule a stage.taken) []
+    lines = cond stage.second_ended (lines_for old.shape old.rule a stage.taken) []
 
     module _ {waiting : Option Feature} {to_a to_b : Single} (p : Proceeded single_cursor single_cursor order old from_a from_b waiting to_a to_b) where
       firsts_are : ((p.firsts ≡ []) × (single_left to_a ≡ a ∷ [])) ⊎ ((p.firsts ≡ a ∷ []) × (single_left to_a ≡ []))
@@ -100,13 +101,13 @@ module _ {order : Order} {stage : Stage} {old : Sweeping} (st : StandsAt order s
       given_placed = grind (arith, firsts_are, append-nil, front_placed, placed)
 
       taken_placed : ArePlaced order (intervals_of (stage.taken ++ p.seconds))
-      taken_placed = rw (same_taken, ← taken_at stage.b_ended) ordered.second
+      taken_placed = rw (same_taken, ← taken_at stage.second_ended) ordered.second
 
       all_are : p.firsts ≡ p.newly ++ option_to_list waiting
       all_are = rw none at p.are
 
       -- it is written only if the second input has ended
-      ended : p.newly ≡ a ∷ [] → stage.b_ended ≡ true
+      ended : p.newly ≡ a ∷ [] → stage.second_ended ≡ true
       ended n = grind (arith, none_taken)
 
       -- it is written or waits, if it was given
@@ -159,7 +160,7 @@ module _ {order : Order} {stage : Stage} {old : Sweeping} (st : StandsAt order s
 
   -- ---- a record of the second input
 
-  module _ (total : IsTotal order) {a b : Feature} (waits : stage.waiting ≡ Some a) (known : order.knows a.chrom ≡ true) (ordered : IsInOrder order (with_b stage b)) (empty : single_left from_a ≡ []) (one : single_left from_b ≡ b ∷ []) where
+  module _ (total : IsTotal order) {a b : Feature} (waits : stage.waiting ≡ Some a) (known : order.knows a.chrom ≡ true) (ordered : IsInOrder order (with_second stage b)) (empty : single_left from_a ≡ []) (one : single_left from_b ≡ b ∷ []) where
     some : old.current ≡ Some a
     some = st.current_is ∙ waits
 
@@ -255,8 +256,8 @@ module _ {order : Order} {stage : Stage} {old : Sweeping} (st : StandsAt order s
 
 -- ---- the end of the second input
 
-module _ {order : Order} {stage : Stage} {a : Feature} {old : Sweeping} (st : StandsAt order stage old) (waits : stage.waiting ≡ Some a) (ordered : IsInOrder order stage)
-    {mid : Sweeping} (mid_is : mid ≡ record old { current = None; phase = First }) (from_a from_b : Single) (empty_a : single_left from_a ≡ []) (empty_b : single_left from_b ≡ []) (out : Output) where
+module _ {order : Order} {stage : Stage Feature Feature} {a : Feature} {old : Sweeping} (st : StandsAt order stage old) (waits : stage.waiting ≡ Some a) (ordered : IsInOrder order stage)
+    {mid : Sweeping} (mid_is : mid ≡ record old { current = None; phase = SecondEnded }) (from_a from_b : Single) (empty_a : single_left from_a ≡ []) (empty_b : single_left from_b ≡ []) (out : Output) where
   given_last : given stage ≡ stage.written ++ a ∷ []
   given_last = ap (λ (o : Option Feature). stage.written ++ option_to_list o) waits
 

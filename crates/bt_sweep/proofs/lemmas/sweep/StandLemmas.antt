@@ -11,18 +11,19 @@ use Rattle.bt_bed.specs.model.Order.{Order}
 use Rattle.bt_bed.specs.calls.Bed.{GivesSingle, single_left}
 use Rattle.bt_bed.specs.declared.read.cursor.Cursor.{Ghosts as Cursor}
 use Rattle.bt_bed.specs.declared.read.cursor.Single.{Single}
-use Rattle.bt_sweep.specs.calls.Sweeping.{AdvancesOn, AdvancesSo, AtEach, FailsAt, IsThis, Proceeded, PutsEach, Settles, StopsFor, stage_after, LeavesLast, SameConfig, MovesTo, Stage, StandsAt, given, Sweeping, is_over, want_in, want_of, no_cursor}
+use Rattle.bt_sweep.specs.calls.Sweeping.{AdvancesOn, AdvancesSo, AtEach, FailsAt, IsThis, Proceeded, PutsEach, Settles, StopsFor, stage_after, LeavesLast, SameConfig, MovesTo, StandsAt, Sweeping, is_over, want_in, want_of, no_cursor}
+use Rattle.bt_bed.specs.calls.Stage.{given, Stage}
 use Rattle.bt_sweep.specs.model.Lines.{intersect}
 use Rattle.bt_sweep.specs.inside.Joining.{GivenLast, Breaks, Holds, JoinsSo, Keeps, Proceeded as Joined, WritesFor, KeepsOne, going_on, held_with}
-use Rattle.bt_sweep.specs.declared.sweep.phase.Phase.{Phase}
-use Rattle.bt_sweep.specs.declared.sweep.phase.Phase.TheVariants.{Both, First, Over}
-use Rattle.bt_sweep.specs.declared.sweep.want.Want.TheVariants.{A as WantA, B as WantB}
+use Rattle.bt_sweep.specs.declared.sweep.state.Phase.{Phase}
+use Rattle.bt_sweep.specs.declared.sweep.state.Phase.TheVariants.{Both, SecondEnded, Over}
+use Rattle.bt_sweep.specs.declared.sweep.Want.TheVariants.{A as WantA, B as WantB}
 use Rattle.bt_sweep.proofs.lemmas.sweep.JoinLemmas.{leaves_none}
 use Rattle.bt_sweep.proofs.lemmas.sweep.KeepLemmas.{keeps_first, same_as, with_no_pending}
 use Rattle.bt_sweep.proofs.lemmas.definitions.HitLemmas.{front_placed}
 
 -- both go on
-still_both : (phase : Phase) → (phase ≡ First → ⊥) → (phase ≡ Over → ⊥) → phase ≡ Both
+still_both : (phase : Phase) → (phase ≡ SecondEnded → ⊥) → (phase ≡ Over → ⊥) → phase ≡ Both
 still_both phase first over = grind arith
 
 -- ---- where the next record of the first input comes from
@@ -30,7 +31,7 @@ still_both phase first over = grind arith
 -- `first` is the record that waited, or else comes first: these are given with it. It holds what it has to then.
 pub record StartsAt (order : Order) (old mid : Sweeping) (first : Feature) (pre : List Feature) : Type 0 where
   pub pre_is : option_to_list old.current ++ pre ≡ first ∷ []
-  pub holds : (stage : Stage) → StandsAt order stage old → ArePlaced order (intervals_of (stage.written ++ first ∷ [])) → Holds order (stage.written ++ first ∷ []) stage.taken mid
+  pub holds : (stage : Stage Feature Feature) → StandsAt order stage old → ArePlaced order (intervals_of (stage.written ++ first ∷ [])) → Holds order (stage.written ++ first ∷ []) stage.taken mid
   pub same : SameConfig old mid
   pub phase : mid.phase ≡ old.phase
 
@@ -69,7 +70,7 @@ want_b s a some = ap (λ (o : Option Feature). want_of (is_some o) (is_over s.ph
 -- ---- from there on
 
 module _ {order : Order} {old mid : Sweeping} {first : Feature} {pre : List Feature} (start : StartsAt order old mid first pre) where
-  given_more : (stage : Stage) → StandsAt order stage old → (firsts : List Feature) → given stage ++ (pre ++ firsts) ≡ stage.written ++ first ∷ firsts
+  given_more : (stage : Stage Feature Feature) → StandsAt order stage old → (firsts : List Feature) → given stage ++ (pre ++ firsts) ≡ stage.written ++ first ∷ firsts
   given_more stage st firsts = grind (arith, append_assoc)
 
   each_given : (firsts : List Feature) → option_to_list old.current ++ (pre ++ firsts) ≡ first ∷ firsts
@@ -86,9 +87,9 @@ module _ {order : Order} {old mid : Sweeping} {first : Feature} {pre : List Feat
       rw (← start.same.shape_is, ← start.same.rule_is) (with_no_pending out grown (intersect mid.shape mid.rule newly (stage.taken ++ seconds)) (writes (place_at firsts seconds stage st pg pt)))
 
   abbrev IsOpen : Option Feature → Type 0
-  IsOpen waiting = is_some waiting ≡ true → (stage : Stage) → StandsAt order stage old → (stage.a_ended ≡ false) × (stage.b_ended ≡ false)
+  IsOpen waiting = is_some waiting ≡ true → (stage : Stage Feature Feature) → StandsAt order stage old → (stage.first_ended ≡ false) × (stage.second_ended ≡ false)
 
-  stands_from : {stage : Stage} {firsts : List Feature} (seconds newly : List Feature) {waiting : Option Feature} {new final : Sweeping} → StandsAt order stage old
+  stands_from : {stage : Stage Feature Feature} {firsts : List Feature} (seconds newly : List Feature) {waiting : Option Feature} {new final : Sweeping} → StandsAt order stage old
       → Keeps order (stage.written ++ first ∷ firsts) (stage.taken ++ seconds) mid new → first ∷ firsts ≡ newly ++ option_to_list waiting → new.phase ≡ old.phase → final ≡ record new { current = waiting } → IsOpen waiting
       → MovesTo order old (stage_after stage newly final.current seconds) final
   stands_from seconds newly st k are phase is goes_on = grind (arith, append_assoc)
@@ -138,7 +139,7 @@ module _ {order : Order} {old mid : Sweeping} {first : Feature} {pre : List Feat
   module _ {A B U R S Q : Type 0} {cursor_a : Cursor A R} {cursor_b : Cursor B S} (cursor_u : Cursor U Q) {from_u to_u : U} {from_a to_a : A} {from_b to_b : B} {out grown : Output} where
     -- the one that waits is kept, or can't be
     pub kept_or_not : {T : Type 0} {a : Feature} {new : Sweeping} (j : JoinsSo cursor_a (going_on mid.phase cursor_b) (IsThis order) (Settles order mid.phase) mid first from_a from_b [] out (Some a) new to_a to_b [] grown) → old.current ≡ None
-        → cursor_b.has_ended to_b → (mid.phase ≡ First → ⊥) → cursor_u.gives from_u (pre ++ j.proceeds.firsts) to_u → new.phase ≡ old.phase → (old.phase ≡ Over → ⊥) → LeavesLast order j.proceeds.seconds a → (result : Result T Fault) (final : Sweeping)
+        → cursor_b.has_ended to_b → (mid.phase ≡ SecondEnded → ⊥) → cursor_u.gives from_u (pre ++ j.proceeds.firsts) to_u → new.phase ≡ old.phase → (old.phase ≡ Over → ⊥) → LeavesLast order j.proceeds.seconds a → (result : Result T Fault) (final : Sweeping)
         → KeepsOne new a result final → AdvancesOn cursor_u cursor_b order old from_u from_b out result final to_u to_b grown
     kept_or_not {a} j none ended not_first gives same not_over leaves (Ok t) final is = (
       advances_from (Some a) final j gives same is (λ w stage st. grind arith) leaves,

@@ -7,9 +7,9 @@ use Rattle.bt_lines.specs.declared.fault.Fault.{Fault}
 use Rattle.bt_seq.proofs.lemmas.Sam.{none_masked}
 use Rattle.bt_seq.specs.calls.MaskState.{Keeps, Masking, TakesLine, Waiting, Writes, WritesGiven, decides, decides_by, decides_up_to, is_stray, line_bytes, moved_to, passed, stays_as_given, with_owner, writes_at_once, Matched, matched_with, owner_of}
 use Rattle.bt_seq.specs.model.Masked.{ends_name}
-use Rattle.bt_seq.specs.declared.mask.mask_want.MaskWant.TheVariants.{Line, Bed, Nothing}
+use Rattle.bt_seq.specs.declared.mask.MaskWant.TheVariants.{Line, Bed, Nothing}
 use Rattle.bt_seq.specs.declared.mask.matching.Owner.{Owner}
-use Rattle.bt_seq.specs.declared.sam.extent.Extent.{Extent}
+use Rattle.bt_seq.specs.declared.mask.extent.Extent.{Extent}
 use Rattle.bt_lines.specs.calls.Columns.{IsBefore, Lacks}
 
 pub none_held : (held : List Extent) → nat_eq (length held) 0 ≡ true → held ≡ []

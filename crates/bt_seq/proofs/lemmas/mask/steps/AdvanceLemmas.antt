@@ -21,8 +21,8 @@ use Rattle.bt_seq.specs.calls.MaskState.{Masking, TakesLine, passed, stays_as_gi
 use Rattle.bt_seq.specs.calls.MaskSteps.{BothCome, ComesAfter, ComesNext, FailsAtRecord, GivesBoth, HasCome, asks_more, left_to_give, MaskMovesTo, MaskStandsAt, ChecksRecord, GivesBed, TakesNextLine, bytes_with}
 use Rattle.bt_seq.specs.model.Masked.{masked_line, SequenceLine}
 use Rattle.bt_seq.specs.declared.mask.mask_how.MaskHow.{MaskHow}
-use Rattle.bt_seq.specs.declared.mask.mask_want.MaskWant.{MaskWant}
-use Rattle.bt_seq.specs.declared.mask.mask_want.MaskWant.TheVariants.{Line, Bed, Nothing}
+use Rattle.bt_seq.specs.declared.mask.MaskWant.{MaskWant}
+use Rattle.bt_seq.specs.declared.mask.MaskWant.TheVariants.{Line, Bed, Nothing}
 
 -- an output of which all bytes are known
 put_known : List ℕ → Output
@@ -36,8 +36,8 @@ bytes_known : {bytes more : List ℕ} → Grown (put_known []) more (put_known b
 unfolding put_known
 bytes_known g = g.appends
 
-none_waits : {how : MaskHow} {full : Bool} {stage : MaskStage} {m : Masking} → MaskMovesTo how full stage m → m.want ≡ Line → stage.waiting ≡ None
-none_waits {stage} stands wants = (wants_line stage.waiting stage.lines_ended stage.bed_ended (sym stands.stands.want_is ∙ wants)).0
+none_waits : {how : MaskHow} {full : Bool} {stage : MaskStage} {m : Masking} → MaskMovesTo how full stage m → m.want ≡ Line → stage.inputs.waiting ≡ None
+none_waits {stage} stands wants = (wants_line stage.inputs.waiting stage.inputs.first_ended stage.inputs.second_ended (sym stands.stands.want_is ∙ wants)).0
 
 module _ (how : MaskHow) (full : Bool) where
   line_copied : (stage : MaskStage) (m : Masking) → MaskMovesTo how full stage m → m.want ≡ Line → (line : TextLine) → stays_as_given m line.text ≡ true
@@ -88,19 +88,19 @@ wants_more old lines out wants done mid left between copies = ap (λ (s : Maskin
 
 -- what a call with a record says, if a line waits and if none does
 abbrev Waits : Masking → Feature → Output → Result Taken Fault → Masking → Output → Type 0
-Waits old r out answer new grown = (stage : MaskStage) (waiting : SequenceLine) → MaskStandsAt stage old → stage.waiting ≡ Some waiting
+Waits old r out answer new grown = (stage : MaskStage) (waiting : SequenceLine) → MaskStandsAt stage old → stage.inputs.waiting ≡ Some waiting
     → IsNext stage.ahead r → GivesBed old.how old.full stage waiting r out answer new grown
 
 abbrev NoneWaits : Masking → Feature → ℕ → Output → Result Taken Fault → Masking → Output → Type 0
-NoneWaits old r number out answer new grown = (stage : MaskStage) → MaskStandsAt stage old → stage.waiting ≡ None
+NoneWaits old r number out answer new grown = (stage : MaskStage) → MaskStandsAt stage old → stage.inputs.waiting ≡ None
     → IsNext stage.ahead r → ChecksRecord old.how old.full stage r number out answer new grown
 
 -- while a record is wanted, they go on
-pub going : {stage : MaskStage} {old : Masking} → MaskStandsAt stage old → old.want ≡ Bed → (o : Option SequenceLine) → stage.waiting ≡ o → stage.bed_ended ≡ false
+pub going : {stage : MaskStage} {old : Masking} → MaskStandsAt stage old → old.want ≡ Bed → (o : Option SequenceLine) → stage.inputs.waiting ≡ o → stage.inputs.second_ended ≡ false
 going stands wants o e = grind (arith, common_steps)
 
 fails_by : {old : Masking} {r : Feature} {number : ℕ} {out grown : Output} (fault : Fault) (new : Masking) → Waits old r out (Err fault) new grown → NoneWaits old r number out (Err fault) new grown
-    → (stage : MaskStage) → MaskStandsAt stage old → IsNext stage.ahead r → (o : Option SequenceLine) → stage.waiting ≡ o
+    → (stage : MaskStage) → MaskStandsAt stage old → IsNext stage.ahead r → (o : Option SequenceLine) → stage.inputs.waiting ≡ o
     → (new.want ≡ Nothing) × FailsAtRecord old.how old.full o stage r number out (fault_value fault) grown
 fails_by fault new waits none stage stands next None e = none stage stands e next
 fails_by fault new waits none stage stands next (Some a) e = waits stage a stands e next
@@ -204,7 +204,7 @@ module _ {C R : Type 0} (cursor : Cursor C R) (gives_none : (at : C) → cursor.
   module _ {old : Masking} {records later : C} (r : Feature) (given : cursor.gives records (r ∷ []) later)
       {number : ℕ} (number_is : number ≡ cursor.line later) (wants : old.want ≡ Bed) {out grown : Output} {new : Masking} where
     took_by : Waits old r out (Ok Yes) new grown → NoneWaits old r number out (Ok Yes) new grown
-        → (stage : MaskStage) → MaskStandsAt stage old → IsNext stage.ahead r → (o : Option SequenceLine) → stage.waiting ≡ o → (grown ≡ out) × MaskMovesTo old.how old.full (with_record stage r) new
+        → (stage : MaskStage) → MaskStandsAt stage old → IsNext stage.ahead r → (o : Option SequenceLine) → stage.inputs.waiting ≡ o → (grown ≡ out) × MaskMovesTo old.how old.full (with_record stage r) new
     took_by waits none stage stands next None e = let t = none stage stands e next in (t.1, t.0)
     took_by waits none stage stands next (Some a) e = let t = waits stage a stands e next in (t.same_output, t.stands)
 
@@ -217,11 +217,11 @@ module _ {C R : Type 0} (cursor : Cursor C R) (gives_none : (at : C) → cursor.
       given = given;
       comes = λ stage stands next.
           let is = next r later given in
-          let t = took_by waits none stage stands is stage.waiting refl in (
+          let t = took_by waits none stage stands is stage.inputs.waiting refl in (
             record {
               stage = with_record stage r;
               bytes = [];
-              goes_on = record_goes old.how old.full stage r (going stands wants stage.waiting refl) is;
+              goes_on = record_goes old.how old.full stage r (going stands wants stage.inputs.waiting refl) is;
               stands = t.1;
               puts = rw t.0 (grown_none out);
             },
@@ -232,14 +232,14 @@ module _ {C R : Type 0} (cursor : Cursor C R) (gives_none : (at : C) → cursor.
 
     -- the record that was left is the one ahead
     come_left : ((old mid new : C) (x y : Feature) (ys : List Feature) → cursor.gives old (x ∷ []) mid → cursor.gives old (y ∷ ys) new → x ≡ y) → Waits old r out (Ok No) new grown
-        → NoneWaits old r number out (Ok No) new grown → {A : Type 0} (done : A) (stage : MaskStage) → MaskStandsAt stage old → IsNext stage.ahead r → (o : Option SequenceLine) → stage.waiting ≡ o
+        → NoneWaits old r number out (Ok No) new grown → {A : Type 0} (done : A) (stage : MaskStage) → MaskStandsAt stage old → IsNext stage.ahead r → (o : Option SequenceLine) → stage.inputs.waiting ≡ o
         → BothCome cursor old.how old.full stage [] [] out records (Ok done) new records grown
     come_left gives_same waits none done stage stands next None e = absurd (none stage stands e next)
     come_left gives_same waits none done stage stands next (Some a) e =
         let t = waits stage a stands e next in (
           record {
             stage = with_decided stage r;
-            bytes = masked_line old.how stage.taken a;
+            bytes = masked_line old.how stage.inputs.taken a;
             goes_on = decided_goes old.how old.full stage r (going stands wants (Some a) e) next a e t.decides;
             stands = t.stands;
             puts = t.puts;
@@ -252,12 +252,12 @@ module _ {C R : Type 0} (cursor : Cursor C R) (gives_none : (at : C) → cursor.
         → {A : Type 0} {done : A} {lines : BufferedLines} → Waits old r out (Ok No) new grown → NoneWaits old r number out (Ok No) new grown
         → GivesBoth cursor old lines records out (Ok done) new lines records grown
     gave_left gives_same {done} {lines} waits none =
-        gave_texts [] (none_pass lines) (λ stage stands next. come_left gives_same waits none done stage stands (next r later given) stage.waiting refl)
+        gave_texts [] (none_pass lines) (λ stage stands next. come_left gives_same waits none done stage stands (next r later given) stage.inputs.waiting refl)
 
     pub failed_record : {A : Type 0} (fault : Fault) {lines : BufferedLines} → Waits old r out (Err fault) new grown → NoneWaits old r number out (Err fault) new grown
         → GivesBoth cursor {A = A} old lines records out (Err fault) new lines records grown
     failed_record fault {lines} waits none = gave_texts [] (none_pass lines) (λ stage stands next.
-        let f = fails_by fault new waits none stage stands (next r later given) stage.waiting refl in (
+        let f = fails_by fault new waits none stage stands (next r later given) stage.inputs.waiting refl in (
           f.0,
           record {
             before = [];

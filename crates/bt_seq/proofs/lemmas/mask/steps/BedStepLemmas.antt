@@ -13,18 +13,19 @@ use Rattle.bt_seq.proofs.lemmas.mask.steps.LineStepLemmas.{range_more, line_mask
 use Rattle.bt_seq.proofs.lemmas.mask.bases.KnownLemmas.{MayTake, never, next_can_be, none_ahead, own_ahead, owner_next, take_next}
 use Rattle.bt_seq.proofs.lemmas.definitions.MaskPrefixLemmas.{blocks_front, decided_stays, held_before, masked_before, masked_stay}
 use Rattle.bt_seq.proofs.lemmas.mask.steps.CopyLemmas.{decided_more, own_more, last_waits, stands_at, wants_bed, last_more}
-use Rattle.bt_seq.specs.calls.MaskStage.{extent_of, IsNext, MaskStage, given, reached, want_of, with_decided, with_record, SayEach, GoesOn, MayFollow, SettlesLines, is_written_ahead, is_written_at_once, reached_by, with_line, held_for}
+use Rattle.bt_bed.specs.calls.Stage.{Follows, Stage, given, with_first}
+use Rattle.bt_seq.specs.calls.MaskStage.{extent_of, IsNext, MaskStage, reached, want_of, with_decided, with_record, SayEach, GoesOn, MayFollow, SettlesLines, is_written_ahead, is_written_at_once, reached_by, with_line, held_for}
 use Rattle.bt_seq.specs.calls.MaskState.{owner_by, owner_of, Masking, TakesBed, Writes, decides, decides_up_to, holding, holds, holds_by, line_bytes, with_owner, with_extent, left_after}
 use Rattle.bt_seq.specs.inside.Masking.{Counts, IsDecided, KnowsLast, KnowsNone, decided_up_to}
 use Rattle.bt_seq.specs.calls.MaskSteps.{MaskMovesTo, IsAtStage, Waits, kept_line, ChecksRecord, EndsRecords, GivesBed, LacksSequence, WritesLine, bytes_with}
 use Rattle.bt_seq.specs.model.Masked.{decided, masked_line, block_decides, items_if_last, own_records, SequenceLine, bases_up_to, is_unnamed, Reached, line_says}
 use Rattle.bt_seq.specs.inside.Window.{Bounds, limit}
 use Rattle.bt_seq.specs.declared.mask.mask_how.MaskHow.{MaskHow}
-use Rattle.bt_seq.specs.declared.mask.mask_want.MaskWant.TheVariants.{Line, Bed}
+use Rattle.bt_seq.specs.declared.mask.MaskWant.TheVariants.{Line, Bed}
 use Rattle.bt_bed.specs.declared.record.taken.Taken.{Taken}
 use Rattle.bt_bed.specs.declared.record.taken.Taken.TheVariants.{Yes, No}
 use Rattle.bt_seq.specs.declared.mask.matching.Owner.TheVariants.{Nobody}
-use Rattle.bt_seq.specs.declared.sam.extent.Extent.{Extent}
+use Rattle.bt_seq.specs.declared.mask.extent.Extent.{Extent}
 
 extent_counts : (last : Option SequenceLine) (w : Bounds) (b : Bool) (start stop : ℕ) → Counts last w → Counts last (with_extent b w start stop)
 extent_counts last w b start stop c = grind arith
@@ -50,7 +51,7 @@ decides_left : (bases : ℕ) (left : Option (List (List ℕ))) (r : Feature) →
 decides_left bases left r e = grind arith
 
 -- a line waits
-module _ (how : MaskHow) (full : Bool) (stage : MaskStage) (line : SequenceLine) (waits : stage.waiting ≡ Some line) (old : Masking) (stands : MaskMovesTo how full stage old) where
+module _ (how : MaskHow) (full : Bool) (stage : MaskStage) (line : SequenceLine) (waits : stage.inputs.waiting ≡ Some line) (old : Masking) (stands : MaskMovesTo how full stage old) where
   at_last : IsAtStage stage (Some line) old
   at_last = subst (λ (l : Option SequenceLine). IsAtStage stage l old) (last_waits stage line waits) stands.stands
 
@@ -60,30 +61,30 @@ module _ (how : MaskHow) (full : Bool) (stage : MaskStage) (line : SequenceLine)
   pub kept_is : old.waiting ≡ Some (kept_line line)
   kept_is = stands.stands.waiting_is ∙ ap (λ (w : Option SequenceLine). option_map kept_line w) waits
 
-  undecided_yet : decided line stage.taken ≡ false
-  undecided_yet = open_undecided line stage.taken as_waits.named (at_last.is_open as_waits.lines)
+  undecided_yet : decided line stage.inputs.taken ≡ false
+  undecided_yet = open_undecided line stage.inputs.taken as_waits.named (at_last.is_open as_waits.lines)
 
-  bytes_are : line_bytes old (kept_line line) ≡ masked_line how stage.taken line
+  bytes_are : line_bytes old (kept_line line) ≡ masked_line how stage.inputs.taken line
   bytes_are = grind (arith, line_masked, at_last)
 
-  given_last : last_or None ((stage.written ++ option_to_list stage.waiting) ++ []) ≡ Some line
-  given_last = ap (last_or None) (append-nil (stage.written ++ option_to_list stage.waiting)) ∙ last_waits stage line waits
+  given_last : last_or None ((stage.inputs.written ++ option_to_list stage.inputs.waiting) ++ []) ≡ Some line
+  given_last = ap (last_or None) (append-nil (stage.inputs.written ++ option_to_list stage.inputs.waiting)) ∙ last_waits stage line waits
 
   module _ (r : Feature) (some : r.start < r.stop) (range : r.stop ≤ max_number) (next : IsNext stage.ahead r) where
     abbrev left : Option (List (List ℕ))
-    left = left_after line.names (stage.taken ++ r ∷ [])
+    left = left_after line.names (stage.inputs.taken ++ r ∷ [])
 
-    can : KnowsNone line.names stage.taken old.matched ⊎ (MayTake line.names stage.taken r old.matched ⊎ KnowsLast line.names (stage.taken ++ r ∷ []) old.matched)
-    can = next_can_be line.names stage.taken r old.matched (is_some stage.waiting) stage.ahead (at_last.inside.knows as_waits.bed) next
+    can : KnowsNone line.names stage.inputs.taken old.matched ⊎ (MayTake line.names stage.inputs.taken r old.matched ⊎ KnowsLast line.names (stage.inputs.taken ++ r ∷ []) old.matched)
+    can = next_can_be line.names stage.inputs.taken r old.matched (is_some stage.inputs.waiting) stage.ahead (at_last.inside.knows as_waits.bed) next
 
     owner_is : owner_of old.matched r.chrom ≡ owner_by left
-    owner_is = owner_next line.names stage.taken r old.matched can at_last.inside.name_is
+    owner_is = owner_next line.names stage.inputs.taken r old.matched can at_last.inside.name_is
 
     decides_is : decides old r ≡ block_decides (bases_up_to line) left (r ∷ [])
     decides_is = grind (arith, nat_tests, owner_is, at_last)
 
-    decided_is : decided line (stage.taken ++ r ∷ []) ≡ decides old r
-    decided_is = decided_more line stage.taken r ∙ ap (λ b. b || block_decides (bases_up_to line) left (r ∷ [])) undecided_yet ∙ sym decides_is
+    decided_is : decided line (stage.inputs.taken ++ r ∷ []) ≡ decides old r
+    decided_is = decided_more line stage.inputs.taken r ∙ ap (λ b. b || block_decides (bases_up_to line) left (r ∷ [])) undecided_yet ∙ sym decides_is
 
     holds_is : holds old r ≡ holds_by (owner_by left) old.window r
     holds_is = ap (λ o. holds_by o old.window r) owner_is
@@ -92,7 +93,7 @@ module _ (how : MaskHow) (full : Bool) (stage : MaskStage) (line : SequenceLine)
     taken_stands e =
         let undecided : block_decides (bases_up_to line) left (r ∷ []) ≡ false = sym decides_is ∙ e in
         let owned : is_some left ≡ true = grind arith in
-        let held : old.window.held ≡ map extent_of (held_for line stage.taken) =
+        let held : old.window.held ≡ map extent_of (held_for line stage.inputs.taken) =
         at_last.holds (inl as_waits.lines) in
         stands_at how full (with_record stage r) (holding old r) (Some line) (last_waits stage line waits) stands.how_is stands.full_is (record {
           waiting_is = at_last.waiting_is;
@@ -103,17 +104,17 @@ module _ (how : MaskHow) (full : Bool) (stage : MaskStage) (line : SequenceLine)
               ap (λ h. (with_extent h old.window r.start r.stop).held) holds_is
               ∙ extent_more line r range old.window at_last.inside.counts.before left undecided
               ∙ ap (λ (l : List Extent). l ++ map extent_of (filter (reaches line r range) (items_if_last left (r ∷ [])))) held
-              ∙ sym (map-append extent_of (held_for line stage.taken) (filter (reaches line r range) (items_if_last left (r ∷ []))))
-              ∙ sym (ap (map extent_of) (held_more line r range stage.taken));
+              ∙ sym (map-append extent_of (held_for line stage.inputs.taken) (filter (reaches line r range) (items_if_last left (r ∷ []))))
+              ∙ sym (ap (map extent_of) (held_more line r range stage.inputs.taken));
           is_open = λ d. inr (decided_is ∙ e);
           owned = owned;
           inside = record {
             counts = extent_counts (Some line) old.window (holds old r) r.start r.stop at_last.inside.counts;
             name_is = (grind arith) ∙ at_last.inside.name_is;
             is_decided = λ n. absurd (let apart : Some line ≡ None = sym waits ∙ n in cc);
-            in_range = range_more stage.taken r at_last.inside.in_range range;
-            knows = λ d. inr (take_next line.names stage.taken r old.matched can owned);
-            has_ahead = λ d. absurd (let apart : Bed ≡ Line = sym (ap (λ (w : Option SequenceLine). want_of (is_some w) stage.lines_ended stage.bed_ended) waits) ∙ d in cc);
+            in_range = range_more stage.inputs.taken r at_last.inside.in_range range;
+            knows = λ d. inr (take_next line.names stage.inputs.taken r old.matched can owned);
+            has_ahead = λ d. absurd (let apart : Bed ≡ Line = sym (ap (λ (w : Option SequenceLine). want_of (is_some w) stage.inputs.first_ended stage.inputs.second_ended) waits) ∙ d in cc);
             ahead_in_range = λ a d. absurd (let apart : None ≡ Some a = d in cc);
             decided_to_is = λ n going a d. absurd (let apart : None ≡ Some a = d in cc);
           };
@@ -130,7 +131,7 @@ module _ (how : MaskHow) (full : Bool) (stage : MaskStage) (line : SequenceLine)
     decided_stands e =
         stands_at how full (with_decided stage r) after_decided (Some line) given_last stands.how_is stands.full_is (record {
           waiting_is = refl;
-          want_is = sym (ap (λ b. want_of false b stage.bed_ended) as_waits.lines);
+          want_is = sym (ap (λ b. want_of false b stage.inputs.second_ended) as_waits.lines);
           bed_ended_is = at_last.bed_ended_is;
           waits = λ l d. absurd (let apart : None ≡ Some l = d in cc);
           holds = at_last.holds;
@@ -142,15 +143,15 @@ module _ (how : MaskHow) (full : Bool) (stage : MaskStage) (line : SequenceLine)
             is_decided = λ n going. decided_is ∙ e;
             in_range = at_last.inside.in_range;
             knows = λ d. elim (decides_left (bases_up_to line) left r (sym decides_is ∙ e)) [
-              | inl none ↦ none_ahead line.names stage.taken r old.matched can as_waits.named none
-              | inr own ↦ own_ahead line.names stage.taken r old.matched can own
+              | inl none ↦ none_ahead line.names stage.inputs.taken r old.matched can as_waits.named none
+              | inr own ↦ own_ahead line.names stage.inputs.taken r old.matched can own
             ];
             has_ahead = λ d going u. refl;
             ahead_in_range = λ a d. let same : r ≡ a = cc in subst (λ (a : Feature). a.start < limit) same (omega arith);
             decided_to_is = λ n going a d.
                 let same : r ≡ a = cc in
                 ap (λ o. decides_up_to o r.start) owner_is ∙ (grind arith)
-                ∙ ap (λ (a : Feature). decided_up_to (left_after line.names (stage.taken ++ a ∷ [])) a) same;
+                ∙ ap (λ (a : Feature). decided_up_to (left_after line.names (stage.inputs.taken ++ a ∷ [])) a) same;
           };
         })
 
@@ -167,27 +168,27 @@ module _ (how : MaskHow) (full : Bool) (stage : MaskStage) (line : SequenceLine)
   ends_bed answer out new grown w = grind (arith, bytes_are, given_last, at_last)
 
 -- after the last line
-module _ (how : MaskHow) (full : Bool) (stage : MaskStage) (none : stage.waiting ≡ None) (old : Masking) (stands : MaskMovesTo how full stage old) (wants : old.want ≡ Bed) where
-  ended : (stage.lines_ended ≡ true) × (stage.bed_ended ≡ false)
-  ended = wants_bed stage.lines_ended stage.bed_ended (sym (ap (λ (w : Option SequenceLine). want_of (is_some w) stage.lines_ended stage.bed_ended) none) ∙ sym stands.stands.want_is ∙ wants)
+module _ (how : MaskHow) (full : Bool) (stage : MaskStage) (none : stage.inputs.waiting ≡ None) (old : Masking) (stands : MaskMovesTo how full stage old) (wants : old.want ≡ Bed) where
+  ended : (stage.inputs.first_ended ≡ true) × (stage.inputs.second_ended ≡ false)
+  ended = wants_bed stage.inputs.first_ended stage.inputs.second_ended (sym (ap (λ (w : Option SequenceLine). want_of (is_some w) stage.inputs.first_ended stage.inputs.second_ended) none) ∙ sym stands.stands.want_is ∙ wants)
 
   module _ (r : Feature) (range : r.stop ≤ max_number) (next : IsNext stage.ahead r) where
     abbrev names : List (List ℕ)
     names = (reached stage).names
 
     abbrev left_now : Option (List (List ℕ))
-    left_now = left_after names (stage.taken ++ r ∷ [])
+    left_now = left_after names (stage.inputs.taken ++ r ∷ [])
 
-    can_now : KnowsNone names stage.taken old.matched ⊎ (MayTake names stage.taken r old.matched ⊎ KnowsLast names (stage.taken ++ r ∷ []) old.matched)
-    can_now = next_can_be names stage.taken r old.matched (is_some stage.waiting) stage.ahead (stands.stands.inside.knows ended.1) next
+    can_now : KnowsNone names stage.inputs.taken old.matched ⊎ (MayTake names stage.inputs.taken r old.matched ⊎ KnowsLast names (stage.inputs.taken ++ r ∷ []) old.matched)
+    can_now = next_can_be names stage.inputs.taken r old.matched (is_some stage.inputs.waiting) stage.ahead (stands.stands.inside.knows ended.1) next
 
     owner_now : owner_of old.matched r.chrom ≡ owner_by left_now
-    owner_now = owner_next names stage.taken r old.matched can_now stands.stands.inside.name_is
+    owner_now = owner_next names stage.inputs.taken r old.matched can_now stands.stands.inside.name_is
 
     abbrev last : Option SequenceLine
-    last = last_or None (given stage)
+    last = last_or None (given stage.inputs)
 
-    decided_now : IsDecided last (stage.taken ++ r ∷ [])
+    decided_now : IsDecided last (stage.inputs.taken ++ r ∷ [])
     decided_now = grind (arith, decided_stays, append-nil)
 
     checked_stands : is_some left_now ≡ true → MaskMovesTo how full (with_record stage r) (with_owner old r.chrom)
@@ -209,9 +210,9 @@ module _ (how : MaskHow) (full : Bool) (stage : MaskStage) (none : stage.waiting
           counts = stands.stands.inside.counts;
           name_is = (grind arith) ∙ stands.stands.inside.name_is;
           is_decided = λ n going. subst (λ (rs : List Feature). IsDecided last rs)
-              (sym (append-nil (stage.taken ++ r ∷ []))) decided_now;
-          in_range = range_more stage.taken r stands.stands.inside.in_range range;
-          knows = λ d. inr (take_next names stage.taken r old.matched can_now owned);
+              (sym (append-nil (stage.inputs.taken ++ r ∷ []))) decided_now;
+          in_range = range_more stage.inputs.taken r stands.stands.inside.in_range range;
+          knows = λ d. inr (take_next names stage.inputs.taken r old.matched can_now owned);
           has_ahead = λ d. absurd (let apart : Bed ≡ Line = sym wants ∙ stands.stands.want_is ∙ d in cc);
           ahead_in_range = λ a d. absurd (let apart : None ≡ Some a = d in cc);
           decided_to_is = λ n going a d. absurd (let apart : None ≡ Some a = d in cc);
@@ -246,7 +247,7 @@ say_more full reached (line ∷ lines) more (item ∷ items) later first rest = 
 none_settled : (how : MaskHow) (stage : MaskStage) → SettlesLines how stage [] []
 none_settled how stage = record { are_decided = λ records follows going. refl; bytes_are = λ records ordered follows. refl }
 
-settled_later : (how : MaskHow) (old new : MaskStage) (lines : List SequenceLine) (bytes : List ℕ) → new.bed_ended ≡ old.bed_ended
+settled_later : (how : MaskHow) (old new : MaskStage) (lines : List SequenceLine) (bytes : List ℕ) → new.inputs.second_ended ≡ old.inputs.second_ended
     → ((records : List Feature) → MayFollow new records → MayFollow old records) → SettlesLines how old lines bytes → SettlesLines how new lines bytes
 settled_later how old new lines bytes same sees s = grind arith
 
@@ -254,9 +255,22 @@ settled_both : (how : MaskHow) (stage : MaskStage) (lines more : List SequenceLi
     → SettlesLines how stage more further → SettlesLines how stage (lines ++ more) (bytes ++ further)
 settled_both how stage lines more bytes further first rest = grind (arith, list_all-append, flat_map-append)
 
+follows_more : {old mid new : Stage SequenceLine Feature} {items later newly further : List SequenceLine} {records more : List Feature} → Follows old items newly records mid → Follows mid later further more new
+    → Follows old (items ++ later) (newly ++ further) (records ++ more) new
+follows_more first rest = grind (arith, append_assoc)
+
 pub goes_more : {how : MaskHow} {full : Bool} {old mid new : MaskStage} {lines more : List TextLine} {records further : List Feature} {x y : List ℕ} → GoesOn how full old lines records mid x
     → GoesOn how full mid more further new y → GoesOn how full old (lines ++ more) (records ++ further) new (x ++ y)
-goes_more first rest = grind (arith, reached_more, say_more, append_assoc, settled_both, settled_later)
+goes_more {how} {full} {old} {mid} {new} {lines} {more} {records} {further} {x} {y} first rest =
+    let reached_mid : reached mid ≡ reached_behind (reached old) first.items = ap (λ (l : List SequenceLine). reached_by (last_or None l)) first.follows.given_is ∙ reached_more (given old.inputs) first.items in
+    record {
+      items = first.items ++ rest.items;
+      say = say_more full (reached old) lines more first.items rest.items first.say (subst (λ (r : Reached). SayEach full r more rest.items) reached_mid rest.say);
+      newly = first.newly ++ rest.newly;
+      follows = follows_more first.follows rest.follows;
+      settles = settled_both how new first.newly rest.newly x y (settled_later how mid new first.newly x rest.follows.second_is rest.sees first.settles) rest.settles;
+      sees = λ later follow. first.sees later (rest.sees later follow);
+    }
 
 module _ (how : MaskHow) (full : Bool) where
   pub goes_nowhere : (stage : MaskStage) → GoesOn how full stage [] [] stage []
@@ -264,30 +278,32 @@ module _ (how : MaskHow) (full : Bool) where
 
   -- a line that is written at once is settled
   module _ (stage : MaskStage) (line : SequenceLine) where
-    settled_at_once : (bed unnamed : Bool) → stage.bed_ended ≡ bed → is_unnamed line.names ≡ unnamed → (bed || (unnamed || is_written_ahead stage.ahead stage.taken line)) ≡ true
-        → SettlesLines how stage (line ∷ []) (masked_line how stage.taken line)
+    settled_at_once : (bed unnamed : Bool) → stage.inputs.second_ended ≡ bed → is_unnamed line.names ≡ unnamed → (bed || (unnamed || is_written_ahead stage.ahead stage.inputs.taken line)) ≡ true
+        → SettlesLines how stage (line ∷ []) (masked_line how stage.inputs.taken line)
     settled_at_once true unnamed e u now = grind (arith, common_steps)
     settled_at_once false true e u now = grind (arith, common_steps, blocks_front, masked_stay)
     settled_at_once false false e u now = grind (arith, decided_stays, append_assoc, masked_before)
 
   -- one more line
-  module _ (stage : MaskStage) (line : TextLine) (item : SequenceLine) (none : stage.waiting ≡ None) (says : line_says full (reached stage) line ≡ Ok (Some item)) where
-    given_alone : given stage ≡ stage.written
-    given_alone = ap (λ (o : Option SequenceLine). stage.written ++ option_to_list o) none ∙ append-nil stage.written
+  module _ (stage : MaskStage) (line : TextLine) (item : SequenceLine) (none : stage.inputs.waiting ≡ None) (says : line_says full (reached stage) line ≡ Ok (Some item)) where
+    given_alone : given stage.inputs ≡ stage.inputs.written
+    given_alone = ap (λ (o : Option SequenceLine). stage.inputs.written ++ option_to_list o) none ∙ append-nil stage.inputs.written
 
     line_by : (b : Bool) → is_written_at_once stage item ≡ b
-        → GoesOn how full stage (line ∷ []) [] (cond b (record stage { written = stage.written ++ item ∷ [] }) (record stage { waiting = Some item })) (cond b (masked_line how stage.taken item) [])
-    line_by true now = grind (arith, (append-nil (stage.written ++ item ∷ [])), given_alone, (append-nil stage.taken), (settled_at_once stage item stage.bed_ended (is_unnamed item.names) refl refl now))
+        → GoesOn how full stage (line ∷ []) [] (record stage { inputs = with_first b stage.inputs item }) (cond b (masked_line how stage.inputs.taken item) [])
+    line_by true now = grind (arith, (append-nil (stage.inputs.written ++ item ∷ [])), given_alone, (append-nil stage.inputs.taken), (settled_at_once stage item stage.inputs.second_ended (is_unnamed item.names) refl refl now))
     line_by false later = record {
       items = item ∷ [];
       say = (says, refl);
       newly = [];
-      given_is = ap (λ l. l ++ item ∷ []) (sym given_alone);
-      written_is = sym (append-nil stage.written);
-      taken_is = sym (append-nil stage.taken);
-      lines_ended_is = refl;
-      bed_ended_is = refl;
-      settles = none_settled how (record stage { waiting = Some item });
+      follows = record {
+        given_is = ap (λ l. l ++ item ∷ []) (sym given_alone);
+        written_is = sym (append-nil stage.inputs.written);
+        taken_is = sym (append-nil stage.inputs.taken);
+        first_is = refl;
+        second_is = refl;
+      };
+      settles = none_settled how (record stage { inputs = with_first false stage.inputs item });
       sees = λ records follows. record { more = follows.more; begins = follows.begins; all = follows.all };
     }
 
@@ -295,20 +311,20 @@ module _ (how : MaskHow) (full : Bool) where
     line_goes = line_by (is_written_at_once stage item) refl
 
   -- a record that was taken or is ahead comes after those seen
-  module _ (stage : MaskStage) (r : Feature) (going : stage.bed_ended ≡ false) where
-    seen_by : (o : Option Feature) → stage.ahead ≡ o → IsNext o r → (records more : List Feature) → records ≡ (stage.taken ++ r ∷ []) ++ more → MayFollow stage records
+  module _ (stage : MaskStage) (r : Feature) (going : stage.inputs.second_ended ≡ false) where
+    seen_by : (o : Option Feature) → stage.ahead ≡ o → IsNext o r → (records more : List Feature) → records ≡ (stage.inputs.taken ++ r ∷ []) ++ more → MayFollow stage records
     seen_by None is next records more e = record {
       more = r ∷ more;
-      begins = e ∙ append_assoc stage.taken (r ∷ []) more ∙ ap (λ l. l ++ r ∷ more) (sym (append-nil stage.taken))
-          ∙ ap (λ (o : Option Feature). (stage.taken ++ option_to_list o) ++ r ∷ more) (sym is)
-          ∙ ap (λ (b : Bool). (stage.taken ++ cond b [] (option_to_list stage.ahead)) ++ r ∷ more) (sym going);
+      begins = e ∙ append_assoc stage.inputs.taken (r ∷ []) more ∙ ap (λ l. l ++ r ∷ more) (sym (append-nil stage.inputs.taken))
+          ∙ ap (λ (o : Option Feature). (stage.inputs.taken ++ option_to_list o) ++ r ∷ more) (sym is)
+          ∙ ap (λ (b : Bool). (stage.inputs.taken ++ cond b [] (option_to_list stage.ahead)) ++ r ∷ more) (sym going);
       all = λ over. absurd (false≢true (sym going ∙ over));
     }
     seen_by (Some a) is next records more e = record {
       more = more;
-      begins = e ∙ ap (λ (x : Feature). (stage.taken ++ x ∷ []) ++ more) (sym next)
-          ∙ ap (λ (o : Option Feature). (stage.taken ++ option_to_list o) ++ more) (sym is)
-          ∙ ap (λ (b : Bool). (stage.taken ++ cond b [] (option_to_list stage.ahead)) ++ more) (sym going);
+      begins = e ∙ ap (λ (x : Feature). (stage.inputs.taken ++ x ∷ []) ++ more) (sym next)
+          ∙ ap (λ (o : Option Feature). (stage.inputs.taken ++ option_to_list o) ++ more) (sym is)
+          ∙ ap (λ (b : Bool). (stage.inputs.taken ++ cond b [] (option_to_list stage.ahead)) ++ more) (sym going);
       all = λ over. absurd (false≢true (sym going ∙ over));
     }
 
@@ -317,6 +333,6 @@ module _ (how : MaskHow) (full : Bool) where
     record_goes next = grind (arith, append-nil, seen_by)
 
     -- it decided the line that waits
-    pub decided_goes : IsNext stage.ahead r → (a : SequenceLine) → stage.waiting ≡ Some a → decided a (stage.taken ++ r ∷ []) ≡ true
-        → GoesOn how full stage [] [] (with_decided stage r) (masked_line how stage.taken a)
+    pub decided_goes : IsNext stage.ahead r → (a : SequenceLine) → stage.inputs.waiting ≡ Some a → decided a (stage.inputs.taken ++ r ∷ []) ≡ true
+        → GoesOn how full stage [] [] (with_decided stage r) (masked_line how stage.inputs.taken a)
     decided_goes next a waits decides = grind (arith, append-nil, decided_stays, append_assoc, masked_before, seen_by)

@@ -7,12 +7,13 @@ use Rattle.bt_lines.specs.calls.Output.{Output, Puts}
 use Rattle.bt_lines.specs.declared.reader.buffered_lines.BufferedLines.{BufferedLines}
 use Rattle.bt_lines.specs.declared.fault.Fault.{Fault}
 use Rattle.bt_seq.specs.inside.Masking.{CopiesLine, CopiesLines, CopiesThrough, StayEach, bounds_of, passed_all}
-use Rattle.bt_seq.specs.calls.MaskStage.{PassesLines, MaskStage, given, want_of}
+use Rattle.bt_bed.specs.calls.Stage.{given}
+use Rattle.bt_seq.specs.calls.MaskStage.{PassesLines, MaskStage, want_of}
 use Rattle.bt_seq.specs.calls.MaskState.{Masking, passed, stays_as_given, left_after}
 use Rattle.bt_seq.specs.model.Masked.{is_header, decided, is_unnamed, block_decides, items_if_last, names_behind, own_records, SequenceLine, bases_up_to}
 use Rattle.bt_seq.specs.inside.Window.{Bounds, gone_on, limit}
 use Rattle.bt_seq.specs.declared.mask.copy_through.CopyThrough.{CopyThrough}
-use Rattle.bt_seq.specs.declared.mask.mask_want.MaskWant.TheVariants.{Line, Nothing, Bed}
+use Rattle.bt_seq.specs.declared.mask.MaskWant.TheVariants.{Line, Nothing, Bed}
 use Rattle.bt_bed.specs.model.Feature.{Feature}
 use Rattle.bt_seq.proofs.lemmas.definitions.KnowsLemmas.{leave, leave_all, one_leaves}
 use Rattle.bt_seq.proofs.lemmas.definitions.MaskPrefixLemmas.{chrom_of, decided_by_tags, none_leaves}
@@ -199,7 +200,7 @@ module _ (low high : ℕ) (up : low ≤ high) where
 -- Lemmas on the stage of a masking engine, by the line given last.
 
 -- the engine is at the stage, if this is the last line
-pub stands_at : (how : MaskHow) (full : Bool) (stage : MaskStage) (m : Masking) (last : Option SequenceLine) → last_or None (given stage) ≡ last → m.how ≡ how → m.full ≡ full
+pub stands_at : (how : MaskHow) (full : Bool) (stage : MaskStage) (m : Masking) (last : Option SequenceLine) → last_or None (given stage.inputs) ≡ last → m.how ≡ how → m.full ≡ full
     → IsAtStage stage last m → MaskMovesTo how full stage m
 stands_at how full stage m last e same_how same_full s = record { stands = subst (λ (l : Option SequenceLine). IsAtStage stage l m) (sym e) s; how_is = same_how; full_is = same_full }
 
@@ -215,8 +216,8 @@ pub last_more : {A : Type 0} (xs : List A) (x : A) → last_or None (xs ++ x ∷
 last_more xs x = last_after None xs x
 
 -- the line that waits was given last
-pub last_waits : (stage : MaskStage) (line : SequenceLine) → stage.waiting ≡ Some line → last_or None (given stage) ≡ Some line
-last_waits stage line e = ap (λ (w : Option SequenceLine). last_or None (stage.written ++ option_to_list w)) e ∙ last_more stage.written line
+pub last_waits : (stage : MaskStage) (line : SequenceLine) → stage.inputs.waiting ≡ Some line → last_or None (given stage.inputs) ≡ Some line
+last_waits stage line e = ap (λ (w : Option SequenceLine). last_or None (stage.inputs.written ++ option_to_list w)) e ∙ last_more stage.inputs.written line
 
 -- what is wanted shows what waits
 pub wants_line : (w : Option SequenceLine) (lines_ended bed_ended : Bool) → want_of (is_some w) lines_ended bed_ended ≡ Line → (w ≡ None) × (lines_ended ≡ false)

@@ -4,14 +4,15 @@ use Rattle.bt_bed.specs.model.Feature.{Feature}
 use Rattle.bt_lines.specs.model.Lines.{max_number, end_bytes, TextLine}
 use Rattle.bt_seq.proofs.lemmas.definitions.MaskPrefixLemmas.{held_alone, chrom_of, decided_by_tags, masked_before}
 use Rattle.bt_seq.proofs.lemmas.Sam.{none_masked, next_left, own_in, own_tagged, tag_decides, tags, tags_of}
-use Rattle.bt_seq.specs.calls.MaskStage.{extent_of, MaskStage, given, held_by, is_written_ahead, is_written_at_once, reached, reached_by, want_of, with_line, held_for}
+use Rattle.bt_bed.specs.calls.Stage.{given, with_first}
+use Rattle.bt_seq.specs.calls.MaskStage.{extent_of, MaskStage, held_by, is_written_ahead, is_written_at_once, reached, reached_by, want_of, with_line, held_for}
 use Rattle.bt_seq.specs.calls.MaskState.{Masking, line_bytes, TakesLine, Waiting, bytes_at_once, is_stray, may_grow, moved_to, writes_at_once, Matched, named, left_after}
 use Rattle.bt_seq.specs.calls.MaskSteps.{kept_line, IsOpen, MaskMovesTo, FailsWithLine, GivesNextLine, RefusesLine, TakesNextLine, bytes_with, may_need_memory}
 use Rattle.bt_seq.specs.model.Masked.{masked_from, masked_line, masked_text, block_decides, items_if_last, own_records, SequenceLine, bases_up_to, is_header, decided, is_unnamed, bases_in, header_behind, line_behind, line_says, may_stand, name_in}
 use Rattle.bt_seq.specs.inside.Masking.{AreInRange, Counts, KnowsNext, decided_up_to}
 use Rattle.bt_seq.specs.inside.Window.{has_position, masked_in, limit, Bounds, gone_on, no_bases}
 use Rattle.bt_seq.specs.declared.mask.mask_how.MaskHow.{MaskHow}
-use Rattle.bt_seq.specs.declared.sam.extent.Extent.{Extent}
+use Rattle.bt_seq.specs.declared.mask.extent.Extent.{Extent}
 use Rattle.std.specs.List.{last_or}
 use Rattle.bt_lines.specs.calls.Names.{fault_value}
 use Rattle.bt_lines.specs.calls.Output.{Output, FailsToAdd, Grown}
@@ -19,7 +20,7 @@ use Rattle.bt_lines.specs.declared.fault.Fault.{Fault}
 use Rattle.bt_lines.specs.declared.fault.Kind.TheVariants.{TextBeforeHeader}
 use Rattle.bt_seq.proofs.lemmas.mask.bases.KnownLemmas.{never, with_header}
 use Rattle.bt_seq.proofs.lemmas.mask.steps.CopyLemmas.{decided_more, left_grows, none_own, undecided_header, undecided_next, last_more, last_name_none, stands_at, wants_line}
-use Rattle.bt_seq.specs.declared.mask.mask_want.MaskWant.TheVariants.{Line, Bed, Nothing}
+use Rattle.bt_seq.specs.declared.mask.MaskWant.TheVariants.{Line, Bed, Nothing}
 
 all_both : (P : Feature → Type 0) (rs ss : List Feature) → AllByRecursion P rs → AllByRecursion P ss → AllByRecursion P (rs ++ ss)
 all_both P [] ss h k = k
@@ -176,45 +177,45 @@ not_strayed : (names : List (List ℕ)) (text : List ℕ) → may_stand names te
 not_strayed names text = grind arith
 
 module _ (how : MaskHow) (full : Bool) (stage : MaskStage) (old : Masking) (s : MaskMovesTo how full stage old) (wants : old.want ≡ Line) where
-  asked : (stage.waiting ≡ None) × (stage.lines_ended ≡ false)
-  asked = wants_line stage.waiting stage.lines_ended stage.bed_ended (sym s.stands.want_is ∙ wants)
+  asked : (stage.inputs.waiting ≡ None) × (stage.inputs.first_ended ≡ false)
+  asked = wants_line stage.inputs.waiting stage.inputs.first_ended stage.inputs.second_ended (sym s.stands.want_is ∙ wants)
 
   abbrev names : List (List ℕ)
   names = (reached stage).names
 
-  open_at : IsOpen (last_or None (given stage)) stage.taken
+  open_at : IsOpen (last_or None (given stage.inputs)) stage.inputs.taken
   open_at = s.stands.is_open asked.1
 
-  held_is : old.window.held ≡ map extent_of (held_by (last_or None (given stage)) stage.taken)
+  held_is : old.window.held ≡ map extent_of (held_by (last_or None (given stage.inputs)) stage.inputs.taken)
   held_is = s.stands.holds (inl asked.1)
 
   -- with a line, before it waits or is written
   record Moved (item : SequenceLine) (moved : Masking) : Type 0 where
     how_is : moved.how ≡ how
     full_is : moved.full ≡ full
-    bed_ended_is : moved.bed_ended ≡ stage.bed_ended
+    bed_ended_is : moved.bed_ended ≡ stage.inputs.second_ended
     counts : Counts (Some item) moved.window
     name_is : moved.matched.name ≡ last_or None item.names
-    holds : moved.window.held ≡ map extent_of (held_for item stage.taken)
-    is_open : IsOpen (Some item) stage.taken
-    owned : is_some (left_after item.names stage.taken) ≡ true
+    holds : moved.window.held ≡ map extent_of (held_for item stage.inputs.taken)
+    is_open : IsOpen (Some item) stage.inputs.taken
+    owned : is_some (left_after item.names stage.inputs.taken) ≡ true
     header : is_header item.text ≡ true → item.before ≡ 0
-    waits_known : stage.bed_ended ≡ false → is_unnamed item.names ≡ false → KnowsNext true item.names stage.taken stage.ahead moved.matched
+    waits_known : stage.inputs.second_ended ≡ false → is_unnamed item.names ≡ false → KnowsNext true item.names stage.inputs.taken stage.ahead moved.matched
     at_once : writes_at_once moved item.text ≡ is_written_at_once stage item
-    written_known : stage.bed_ended ≡ false → is_written_at_once stage item ≡ true → KnowsNext false item.names stage.taken stage.ahead moved.matched
-    written_to : stage.bed_ended ≡ false → is_written_at_once stage item ≡ true → (r : Feature) → stage.ahead ≡ Some r
-        → moved.decided_to ≡ decided_up_to (left_after item.names (stage.taken ++ r ∷ [])) r
+    written_known : stage.inputs.second_ended ≡ false → is_written_at_once stage item ≡ true → KnowsNext false item.names stage.inputs.taken stage.ahead moved.matched
+    written_to : stage.inputs.second_ended ≡ false → is_written_at_once stage item ≡ true → (r : Feature) → stage.ahead ≡ Some r
+        → moved.decided_to ≡ decided_up_to (left_after item.names (stage.inputs.taken ++ r ∷ [])) r
 
-  going_known : stage.bed_ended ≡ false → KnowsNext false names stage.taken stage.ahead old.matched
-  going_known going = subst (λ (w : Option SequenceLine). KnowsNext (is_some w) names stage.taken stage.ahead old.matched) asked.0 (s.stands.inside.knows going)
+  going_known : stage.inputs.second_ended ≡ false → KnowsNext false names stage.inputs.taken stage.ahead old.matched
+  going_known going = subst (λ (w : Option SequenceLine). KnowsNext (is_some w) names stage.inputs.taken stage.ahead old.matched) asked.0 (s.stands.inside.knows going)
 
-  first_header : stage.bed_ended ≡ false → is_some stage.ahead ≡ false → (names ≡ []) × (stage.taken ≡ [])
+  first_header : stage.inputs.second_ended ≡ false → is_some stage.ahead ≡ false → (names ≡ []) × (stage.inputs.taken ≡ [])
   first_header going none = grind arith
 
   -- whether a line to which it has moved is written at once
-  once_by : (item : SequenceLine) (moved : Masking) → moved.bed_ended ≡ stage.bed_ended → moved.matched.name ≡ last_or None item.names
-      → (stage.bed_ended ≡ false → is_unnamed item.names ≡ false
-      → (not (is_header item.text) && nat_le moved.window.bases moved.decided_to) ≡ is_written_ahead stage.ahead stage.taken item)
+  once_by : (item : SequenceLine) (moved : Masking) → moved.bed_ended ≡ stage.inputs.second_ended → moved.matched.name ≡ last_or None item.names
+      → (stage.inputs.second_ended ≡ false → is_unnamed item.names ≡ false
+      → (not (is_header item.text) && nat_le moved.window.bases moved.decided_to) ≡ is_written_ahead stage.ahead stage.inputs.taken item)
       → writes_at_once moved item.text ≡ is_written_at_once stage item
   once_by item moved ended name alike = grind (arith, last_name_none)
 
@@ -228,7 +229,7 @@ module _ (how : MaskHow) (full : Bool) (stage : MaskStage) (old : Masking) (s : 
     header_by : is_header line.text ≡ true → Moved header_item header_moved
     header_by e =
         let n = name_in old.full line.text in
-        let left = some_list (left_after names stage.taken) s.stands.owned in
+        let left = some_list (left_after names stage.inputs.taken) s.stands.owned in
         let none : bases_in line.text ≡ 0 = ap (λ b. cond b 0 (length line.text)) e in
         record {
           how_is = s.how_is;
@@ -236,11 +237,11 @@ module _ (how : MaskHow) (full : Bool) (stage : MaskStage) (old : Masking) (s : 
           bed_ended_is = s.stands.bed_ended_is;
           counts = record { before = omega arith; bases = omega arith };
           name_is = sym (last_more names n);
-          holds = sym (ap (λ (own : List Feature). map extent_of (filter (λ r. nat_lt r.start (bases_up_to header_item) && nat_lt header_item.before r.stop) own)) (none_own n names left.0 stage.taken left.1));
-          is_open = inr (undecided_header n header_item names left.0 stage.taken refl left.1);
-          owned = ap is_some (left_grows n names left.0 stage.taken left.1);
+          holds = sym (ap (λ (own : List Feature). map extent_of (filter (λ r. nat_lt r.start (bases_up_to header_item) && nat_lt header_item.before r.stop) own)) (none_own n names left.0 stage.inputs.taken left.1));
+          is_open = inr (undecided_header n header_item names left.0 stage.inputs.taken refl left.1);
+          owned = ap is_some (left_grows n names left.0 stage.inputs.taken left.1);
           header = λ e. refl;
-          waits_known = λ going u. with_header names n stage.taken old.matched stage.ahead (first_header going) (going_known going);
+          waits_known = λ going u. with_header names n stage.inputs.taken old.matched stage.ahead (first_header going) (going_known going);
           at_once = grind (arith, last_name_none);
           written_known = λ going now. absurd (grind arith);
           written_to = λ going now. absurd (grind arith);
@@ -259,17 +260,17 @@ module _ (how : MaskHow) (full : Bool) (stage : MaskStage) (old : Masking) (s : 
         record { before = bases; bases = omega arith }
 
     -- whether the record ahead decides it is what is known
-    plain_alike : is_header line.text ≡ false → stage.bed_ended ≡ false → is_unnamed names ≡ false → (o : Option Feature) → stage.ahead ≡ o
-        → (not (is_header line.text) && nat_le plain_moved.window.bases old.decided_to) ≡ is_written_ahead o stage.taken plain_item
+    plain_alike : is_header line.text ≡ false → stage.inputs.second_ended ≡ false → is_unnamed names ≡ false → (o : Option Feature) → stage.ahead ≡ o
+        → (not (is_header line.text) && nat_le plain_moved.window.bases old.decided_to) ≡ is_written_ahead o stage.inputs.taken plain_item
     plain_alike e going is_named None ahead = grind arith
     plain_alike e going is_named (Some r) ahead =
-        let left = left_after names (stage.taken ++ r ∷ []) in
-        let undecided = open_undecided plain_item stage.taken is_named (open_further stage.taken s.stands.inside.in_range line e (last_or None (given stage)) open_at) in
-        let decides : nat_le plain_moved.window.bases old.decided_to ≡ decided plain_item (stage.taken ++ r ∷ []) =
+        let left = left_after names (stage.inputs.taken ++ r ∷ []) in
+        let undecided = open_undecided plain_item stage.inputs.taken is_named (open_further stage.inputs.taken s.stands.inside.in_range line e (last_or None (given stage.inputs)) open_at) in
+        let decides : nat_le plain_moved.window.bases old.decided_to ≡ decided plain_item (stage.inputs.taken ++ r ∷ []) =
         ap (λ (n : ℕ). nat_le n old.decided_to) (plain_counts e).bases
         ∙ ap (λ (n : ℕ). nat_le (min (bases_up_to plain_item) limit) n) (s.stands.inside.decided_to_is asked.0 going r ahead)
         ∙ (grind arith)
-        ∙ sym (decided_more plain_item stage.taken r ∙ ap (λ b. b || block_decides (bases_up_to plain_item) left (r ∷ [])) undecided) in
+        ∙ sym (decided_more plain_item stage.inputs.taken r ∙ ap (λ b. b || block_decides (bases_up_to plain_item) left (r ∷ [])) undecided) in
         ap (λ b. not (is_header line.text) && b) decides
 
     plain_by : is_header line.text ≡ false → Moved plain_item plain_moved
@@ -280,8 +281,8 @@ module _ (how : MaskHow) (full : Bool) (stage : MaskStage) (old : Masking) (s : 
           bed_ended_is = s.stands.bed_ended_is;
           counts = plain_counts e;
           name_is = s.stands.inside.name_is;
-          holds = held_further stage.taken s.stands.inside.in_range line e (last_or None (given stage)) old.window s.stands.inside.counts open_at held_is;
-          is_open = open_further stage.taken s.stands.inside.in_range line e (last_or None (given stage)) open_at;
+          holds = held_further stage.inputs.taken s.stands.inside.in_range line e (last_or None (given stage.inputs)) old.window s.stands.inside.counts open_at held_is;
+          is_open = open_further stage.inputs.taken s.stands.inside.in_range line e (last_or None (given stage.inputs)) open_at;
           owned = s.stands.owned;
           header = λ h. absurd (never (sym e ∙ h));
           waits_known = λ going u. grind arith;
@@ -346,13 +347,17 @@ module _ (how : MaskHow) (full : Bool) (stage : MaskStage) (old : Masking) (s : 
     memory_is = grind (arith, length-map)
 
     -- its bytes
-    bytes_are : line_bytes moved (kept_line item) ≡ masked_line how stage.taken item
+    bytes_are : line_bytes moved (kept_line item) ≡ masked_line how stage.inputs.taken item
     bytes_are = grind (arith, line_masked)
 
-    waiting_stands : stage.bed_ended ≡ false → is_unnamed item.names ≡ false
-        → MaskMovesTo how full (record stage { waiting = Some item }) (record moved { waiting = Some (kept_line item); want = Bed })
+    -- the stage with the line, by whether it is written at once
+    abbrev line_at : Bool → MaskStage
+    line_at at_once = record stage { inputs = with_first at_once stage.inputs item }
+
+    waiting_stands : stage.inputs.second_ended ≡ false → is_unnamed item.names ≡ false
+        → MaskMovesTo how full (line_at false) (record moved { waiting = Some (kept_line item); want = Bed })
     waiting_stands going is_named =
-        stands_at how full (record stage { waiting = Some item }) (record moved { waiting = Some (kept_line item); want = Bed }) (Some item) (last_more stage.written item) m.how_is m.full_is (record {
+        stands_at how full (line_at false) (record moved { waiting = Some (kept_line item); want = Bed }) (Some item) (last_more stage.inputs.written item) m.how_is m.full_is (record {
           waiting_is = refl;
           want_is = refl;
           bed_ended_is = m.bed_ended_is;
@@ -372,20 +377,17 @@ module _ (how : MaskHow) (full : Bool) (stage : MaskStage) (old : Masking) (s : 
           };
         })
 
-    abbrev written_stage : MaskStage
-    written_stage = record stage { written = stage.written ++ item ∷ [] }
-
-    written_last : last_or None (given written_stage) ≡ Some item
+    written_last : last_or None (given (line_at true).inputs) ≡ Some item
     written_last = grind (arith, append-nil, last_more)
 
     or_true : (a b c : Bool) → (a || (b || c)) ≡ true → a ≡ false → b ≡ false → c ≡ true
     or_true a b c e d f = grind arith
 
-    written_stands : is_written_at_once stage item ≡ true → MaskMovesTo how full written_stage (record moved { waiting = None; want = Line })
+    written_stands : is_written_at_once stage item ≡ true → MaskMovesTo how full (line_at true) (record moved { waiting = None; want = Line })
     written_stands now =
-        stands_at how full written_stage (record moved { waiting = None; want = Line }) (Some item) written_last m.how_is m.full_is (record {
+        stands_at how full (line_at true) (record moved { waiting = None; want = Line }) (Some item) written_last m.how_is m.full_is (record {
           waiting_is = sym (ap (λ (w : Option SequenceLine). option_map kept_line w) asked.0);
-          want_is = sym (ap (λ (w : Option SequenceLine). want_of (is_some w) stage.lines_ended stage.bed_ended) asked.0 ∙ ap (λ b. want_of false b stage.bed_ended) asked.1);
+          want_is = sym (ap (λ (w : Option SequenceLine). want_of (is_some w) stage.inputs.first_ended stage.inputs.second_ended) asked.0 ∙ ap (λ b. want_of false b stage.inputs.second_ended) asked.1);
           bed_ended_is = m.bed_ended_is;
           waits = λ l e. absurd (let apart : None ≡ Some l = sym asked.0 ∙ e in cc);
           holds = λ e. m.holds;
@@ -405,9 +407,9 @@ module _ (how : MaskHow) (full : Bool) (stage : MaskStage) (old : Masking) (s : 
         })
 
     stands_with : (b : Bool) → is_written_at_once stage item ≡ b
-        → MaskMovesTo how full (cond b written_stage (record stage { waiting = Some item })) (record moved { waiting = cond b None (Some (kept_line item)); want = cond b Line Bed })
+        → MaskMovesTo how full (line_at b) (record moved { waiting = cond b None (Some (kept_line item)); want = cond b Line Bed })
     stands_with true e = written_stands e
-    stands_with false e = let both = neither stage.bed_ended (is_unnamed item.names) (is_written_ahead stage.ahead stage.taken item) e in waiting_stands both.0 both.1
+    stands_with false e = let both = neither stage.inputs.second_ended (is_unnamed item.names) (is_written_ahead stage.ahead stage.inputs.taken item) e in waiting_stands both.0 both.1
 
     with_it : MaskMovesTo how full (with_line stage item) (record moved { waiting = cond (writes_at_once moved item.text) None (Some (kept_line item)); want = cond (writes_at_once moved item.text) Line Bed })
     with_it =
@@ -429,7 +431,7 @@ module _ (how : MaskHow) (full : Bool) (stage : MaskStage) (old : Masking) (s : 
           (with_it g.item (moved_to old line.text) g.moved);
       puts = subst (λ (l : List ℕ). Grown out l grown)
           (ap (λ (k : Waiting). bytes_at_once (moved_to old line.text) k) (sym g.kept) ∙ bytes_now g.item (moved_to old line.text) g.moved) t.2;
-      settled = masked_before how g.item stage.taken;
+      settled = masked_before how g.item stage.inputs.taken;
     }
 
     fails : (A : Type 0) (fault : Fault) → Goes line → TakesLine {A = A} old line.number kept out (Err fault) new grown → (new.want ≡ Nothing) × (RefusesLine how full stage line out (fault_value fault) grown ⊎ FailsWithLine how full stage line out (fault_value fault) grown)
@@ -450,7 +452,7 @@ module _ (how : MaskHow) (full : Bool) (stage : MaskStage) (old : Masking) (s : 
                   ∙ ap (λ (k : Waiting). may_grow (moved_to old line.text) k.text) g.kept ∙ memory.2,
             )
           ];
-          settled = masked_before how g.item stage.taken;
+          settled = masked_before how g.item stage.inputs.taken;
         })
       ],
     )

@@ -1,6 +1,6 @@
 use Rattle.bt_lines.proofs.Std.{◌≡◌, true, Bool, Ok}
 use Rattle.bt_seq.specs.calls.MaskSteps.{GivesBoth, Stays, left_to_give}
-use Rattle.bt_seq.specs.declared.mask.mask_want.MaskWant.TheVariants.{Nothing}
+use Rattle.bt_seq.specs.declared.mask.MaskWant.TheVariants.{Nothing}
 use Rattle.bt_seq.proofs.mask.Mask.advance.Given as goal
 
 -- lines and records were given, one after another

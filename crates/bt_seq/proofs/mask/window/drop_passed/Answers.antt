@@ -1,5 +1,5 @@
 use Rattle.bt_lines.proofs.Std.{arith, rules, nat_lt, filter_same}
-use Rattle.bt_seq.specs.declared.sam.extent.Extent.{Extent}
+use Rattle.bt_seq.specs.declared.mask.extent.Extent.{Extent}
 use Rattle.bt_seq.proofs.mask.window.drop_passed.Goals as goal
 
 pub returns : goal.returns

@@ -1,7 +1,7 @@
 -- Lemmas on lines and records that were given to a masking engine together, over two readers.
-use Rattle.bt_lines.proofs.Std.{◌≡◌, ℕ, suc, true, false, List, [], ◌∷◌, ◌++◌, length, Option, None, Some, Err, refl, sym, ap, ◌∙◌, subst, append-nil, option_to_list, arith, nil_from_length}
+use Rattle.bt_lines.proofs.Std.{◌≡◌, ℕ, suc, true, false, false≢true, List, [], ◌∷◌, ◌++◌, length, Option, None, Some, Err, refl, sym, ap, ◌∙◌, subst, append-nil, option_to_list, arith, nil_from_length}
 use Rattle.bt_lines.specs.declared.device.Source.{Ghosts as Source}
-use Rattle.bt_lines.specs.model.Fault.{FaultValue}
+use Rattle.bt_lines.specs.model.Fault.{FaultValue, read_failed}
 use Rattle.bt_lines.specs.calls.Faults.{no_memory}
 use Rattle.bt_lines.specs.model.Lines.{TextLine}
 use Rattle.bt_lines.specs.calls.Line.{AreNumbered}
@@ -11,6 +11,7 @@ use Rattle.bt_lines.specs.declared.reader.buffered_lines.ConsumedLines.{Consumed
 use Rattle.bt_lines.specs.declared.fault.Input.{Input}
 use Rattle.bt_lines.specs.declared.fault.Input.TheVariants.{First}
 use Rattle.bt_lines.specs.declared.fault.Kind.{Kind}
+use Rattle.bt_lines.specs.declared.fault.Kind.TheVariants.{ReadFailed}
 use Rattle.bt_lines.specs.declared.reader.line_reader.LineReader.{LineReader}
 use Rattle.bt_bed.specs.calls.Blocks.{view_of}
 use Rattle.bt_bed.specs.model.Feature.{Feature}
@@ -18,22 +19,30 @@ use Rattle.bt_bed.specs.model.BedLine.{fault_at_line}
 use Rattle.bt_bed.specs.model.Good.{Member}
 use Rattle.bt_bed.specs.model.Sorted.{Locus}
 use Rattle.bt_bed.specs.calls.Reading.{MemberReader, members_from, state_behind}
-use Rattle.bt_seq.specs.calls.MaskStage.{SayEach, GoesOn, MaskStage, given, reached}
+use Rattle.bt_bed.specs.calls.Stage.{Follows, Stage, given}
+use Rattle.bt_seq.specs.calls.MaskStage.{SayEach, GoesOn, MaskStage, reached}
 use Rattle.bt_seq.specs.calls.MaskState.{Masking}
 use Rattle.bt_seq.specs.calls.MaskSteps.{MaskMovesTo}
 use Rattle.bt_seq.specs.model.Masked.{Reached, SequenceLine, line_says, sequence_format}
 use Rattle.bt_tool.specs.inside.Feed.{member_items, HasTaken}
 use Rattle.bt_tool.specs.model.Written.{is_fasta_kind}
 use Rattle.bt_tool.specs.declared.loops.masking.MaskRun.{MaskRun}
-use Rattle.bt_tool.specs.inside.MaskLoop.{Masks, begun_pair, mask_join, line_members, nothing_reached, stage_of}
+use Rattle.bt_tool.specs.inside.MaskLoop.{Masks, begun_pair, mask_join, line_members, nothing_reached}
 use Rattle.bt_tool.proofs.lemmas.running.mask.MaskedLemmas.{MaskEnds, asked, asks_for, come_so_far, ends_at, reached_behind, wrong_first}
-use Rattle.bt_tool.specs.inside.Pair.{IsKnown, JoinDef, Pair, SettlesPair, item_ahead, PairStage}
-use Rattle.bt_tool.proofs.lemmas.running.pair.PairTurns.{Follows, TakesFurther}
+use Rattle.bt_tool.specs.inside.Pair.{IsKnown, JoinDef, Pair, SettlesPair, item_ahead}
+use Rattle.bt_tool.proofs.lemmas.running.pair.PairTurns.{TakesFurther}
 use Rattle.bt_tool.proofs.lemmas.running.members.BlockMembers.{has_taken, known_members, passes_known, refused, refuses, refuses_read, say_count}
 use Rattle.bt_tool.proofs.lemmas.running.mask.MaskFacts.{asked_of, ahead_first, first_of, settles_given}
 use Rattle.bt_tool.proofs.lemmas.running.members.MemberLemmas.{items_from, state_more}
 use Rattle.bt_tool.proofs.lemmas.running.pair.PairStops as stop
 use Rattle.bt_tool.proofs.lemmas.running.pair.PairTurns as turned
+
+-- the fault of such a line tells no failed read
+told_no_read : (kind : Kind) (number : ℕ) (fault : FaultValue) → is_fasta_kind kind ≡ true → fault ≡ fault_at_line First number kind → (input : Input) (line : ℕ) → Some fault ≡ Some (read_failed input line) → ⊥
+told_no_read kind number fault of_text is input line e =
+    let same : fault ≡ read_failed input line = cc in
+    let kinds : ReadFailed ≡ kind = sym (ap (λ (f : FaultValue). f.kind) same) ∙ ap (λ (f : FaultValue). f.kind) is in
+    false≢true (ap is_fasta_kind kinds ∙ of_text)
 
 alone : {A : Type 0} (items : List A) (o : Option A) → o ≡ None → items ++ option_to_list o ≡ items
 alone items o none = ap (λ o. items ++ option_to_list o) none ∙ append-nil items
@@ -64,13 +73,13 @@ module _ {A B : Type 0} {source_a : Source A} {source_b : Source B} {start : Mas
   more_second = members_from (suc (lines_given second.below)) taken
 
   -- after the end of the records none was taken
-  none_more : stage.bed_ended ≡ true → (taken ≡ []) × (second_now.buffered ≡ [])
+  none_more : stage.inputs.second_ended ≡ true → (taken ≡ []) × (second_now.buffered ≡ [])
   none_more e = turned.both_none taken second_now.buffered (sym has.takes.buffered ∙ (s.comes.second_all e).1)
 
-  ended_second : stage.bed_ended ≡ true → (more_second ≡ []) × (second_now.buffered ≡ [])
+  ended_second : stage.inputs.second_ended ≡ true → (more_second ≡ []) × (second_now.buffered ≡ [])
   ended_second e = let none = none_more e in (ap (members_from (suc (lines_given second.below))) none.0, none.1)
 
-  settled_now : IsKnown both → SettlesPair rule stage.written s.comes.bytes (stage.taken ++ option_to_list (first_of (taken ++ second_now.buffered))) stage.bed_ended
+  settled_now : IsKnown both → SettlesPair rule stage.inputs.written s.comes.bytes (stage.inputs.taken ++ option_to_list (first_of (taken ++ second_now.buffered))) stage.inputs.second_ended
   settled_now known = grind arith
 
   takes_second : TakesFurther source_b (view_of start.records) s.past_second more_second second second_now
@@ -89,18 +98,18 @@ module _ {A B : Type 0} {source_a : Source A} {source_b : Source B} {start : Mas
 
     reached_now : state_behind (sequence_format start.mask.full) at items ≡ reached final
     reached_now =
-        ap (λ (r : Reached). state_behind (sequence_format start.mask.full) r items) (come_so_far s ∙ sym (reached_behind start.mask.full (given stage)))
-        ∙ sym (state_more (sequence_format start.mask.full) nothing_reached (given stage) items) ∙ ap (state_behind (sequence_format start.mask.full) nothing_reached) (sym goes.given_is) ∙ reached_behind start.mask.full (given final)
+        ap (λ (r : Reached). state_behind (sequence_format start.mask.full) r items) (come_so_far s ∙ sym (reached_behind start.mask.full (given stage.inputs)))
+        ∙ sym (state_more (sequence_format start.mask.full) nothing_reached (given stage.inputs) items) ∙ ap (state_behind (sequence_format start.mask.full) nothing_reached) (sym goes.follows.given_is) ∙ reached_behind start.mask.full (given final.inputs)
 
-    given_now : given final ≡ given stage ++ member_items more_first
-    given_now = goes.given_is ∙ ap (λ l. given stage ++ l) (sym (items_from (suc (lines_given lines)) items))
+    given_now : given final.inputs ≡ given stage.inputs ++ member_items more_first
+    given_now = goes.follows.given_is ∙ ap (λ l. given stage.inputs ++ l) (sym (items_from (suc (lines_given lines)) items))
 
-    taken_now : final.taken ≡ stage.taken ++ member_items more_second
-    taken_now = goes.taken_is ∙ ap (λ l. stage.taken ++ l) (sym (items_from (suc (lines_given second.below)) taken))
+    taken_now : final.inputs.taken ≡ stage.inputs.taken ++ member_items more_second
+    taken_now = goes.follows.taken_is ∙ ap (λ l. stage.inputs.taken ++ l) (sym (items_from (suc (lines_given second.below)) taken))
 
-    pub settled : IsKnown both → SettlesPair rule final.written (s.comes.bytes ++ bytes) (final.taken ++ option_to_list (item_ahead second_now)) stage.bed_ended
+    pub settled : IsKnown both → SettlesPair rule final.inputs.written (s.comes.bytes ++ bytes) (final.inputs.taken ++ option_to_list (item_ahead second_now)) stage.inputs.second_ended
     settled known =
-        rw (goes.written_is, goes.taken_is, ahead_first second_now)
+        rw (goes.follows.written_is, goes.follows.taken_is, ahead_first second_now)
         (settles_given start.mask.how start.mask.full (settled_now known) goes none_more (λ r e. sym (ahead_first second_now) ∙ kept r e))
 
     -- they were taken, and no more
@@ -117,7 +126,7 @@ module _ {A B : Type 0} {source_a : Source A} {source_b : Source B} {start : Mas
           let t = turned.takes_further source_a old_first s.past_first (known_members source_a start.mask.full at items lines) known items first_now has_first in
           record { passes = t.passes; last = t.last; source = t.source; told = t.told }
 
-      ended_first : stage.lines_ended ≡ true → (more_first ≡ []) × (first_now.buffered ≡ [])
+      ended_first : stage.inputs.first_ended ≡ true → (more_first ≡ []) × (first_now.buffered ≡ [])
       ended_first e =
           let none : texts ≡ [] = (turned.both_none texts more (sym parts ∙ over (s.lines_over e))).0 in
           (ap (members_from (suc (lines_given lines))) (nil_from_length items (omega (arith, say_count start.mask.full at texts items say_here, ap length none))), refl)
@@ -136,10 +145,10 @@ module _ {A B : Type 0} {source_a : Source A} {source_b : Source B} {start : Mas
           how_is = stands.how_is;
           full_is = stands.full_is;
           comes = turned.goes_on s.comes takes_first takes_second ended_first ended_second
-              (record { given_is = given_now; written_is = goes.written_is; taken_is = taken_now; first_is = goes.lines_ended_is; second_is = goes.bed_ended_is })
-              bytes now (λ known. rw goes.bed_ended_is (settled known)) puts;
+              (record { given_is = given_now; written_is = goes.follows.written_is; taken_is = taken_now; first_is = goes.follows.first_is; second_is = goes.follows.second_is })
+              bytes now (λ known. rw goes.follows.second_is (settled known)) puts;
           kept_ahead = kept;
-          lines_over = λ e. takes.ended_is ∙ s.lines_over (sym goes.lines_ended_is ∙ e);
+          lines_over = λ e. takes.ended_is ∙ s.lines_over (sym goes.follows.first_is ∙ e);
         },
         refl,
       )
@@ -148,10 +157,10 @@ module _ {A B : Type 0} {source_a : Source A} {source_b : Source B} {start : Mas
       pub fails_write : {puts rest : List ℕ} → bytes ≡ puts ++ rest → {through now : Output} {fault : FaultValue} → Grown grown puts through → FailsToAdd through rest fault now → EndsAt (Some fault) new second_now now
       fails_write is adds fails =
           ends_at s (state_behind (sequence_format start.mask.full) at items) (stop.fails_to_write s.comes (asks_for s) (λ known. tt) more_first more_second takes_first takes_second
-          (option_to_list final.waiting) given_now (λ known. tt) ended_second (λ known. rw (← taken_now, ← is) (settled known)) adds fails)
+          (option_to_list final.inputs.waiting) given_now (λ known. tt) ended_second (λ known. rw (← taken_now, ← is) (settled known)) adds fails)
 
       -- memory ran out after others were written
-      pub lacks_room : (mid : PairStage SequenceLine Feature) {newly : List SequenceLine} → Follows (stage_of stage) (member_items more_first) newly (member_items more_second) mid → {put : List ℕ} {now : Output}
+      pub lacks_room : (mid : Stage SequenceLine Feature) {newly : List SequenceLine} → Follows stage.inputs (member_items more_first) newly (member_items more_second) mid → {put : List ℕ} {now : Output}
           → (IsKnown both → SettlesPair rule mid.written (s.comes.bytes ++ put) (mid.taken ++ option_to_list (item_ahead second_now)) mid.second_ended) → Grown grown put now → {fault : FaultValue} → fault ≡ no_memory
           → EndsAt (Some fault) new second_now now
       lacks_room mid follows {put} {now} settles adds {fault} is =
@@ -161,7 +170,7 @@ module _ {A B : Type 0} {source_a : Source A} {source_b : Source B} {start : Mas
 
     -- they were taken, and one more line, which is at fault
     module _ (line : TextLine) (more : List TextLine) (parts : buffered_in lines ≡ (texts ++ line ∷ []) ++ more) (numbered : AreNumbered (suc (lines_given lines)) (texts ++ line ∷ [])) (are : TakenLines lines consumed (length (texts ++ line ∷ [])))
-        (none : final.waiting ≡ None) {kind : Kind} (says : line_says start.mask.full (reached final) line ≡ Err kind) {fault : FaultValue} (is : fault ≡ fault_at_line First line.number kind) where
+        (none : final.inputs.waiting ≡ None) {kind : Kind} (says : line_says start.mask.full (reached final) line ≡ Err kind) {fault : FaultValue} (is : fault ≡ fault_at_line First line.number kind) where
       says_now : line_says start.mask.full (state_behind (sequence_format start.mask.full) at items) line ≡ Err kind
       says_now = ap (λ (r : Reached). line_says start.mask.full r line) reached_now ∙ says
 
@@ -172,7 +181,7 @@ module _ {A B : Type 0} {source_a : Source A} {source_b : Source B} {start : Mas
       no_end [] e = cc
       no_end (x ∷ xs) e = cc
 
-      going : stage.lines_ended ≡ false
+      going : stage.inputs.first_ended ≡ false
       going = grind (arith, no_end)
 
       pub refuses_line : {through : Output} → Grown grown bytes through → EndsAt (Some fault) new second_now through
@@ -181,10 +190,10 @@ module _ {A B : Type 0} {source_a : Source A} {source_b : Source B} {start : Mas
             gone,
             refl,
             stop.first_fails s.comes (asks_for s) (λ known. tt) going more_first takes_second ended_second
-                (λ known. rw (← (sym (alone final.written final.waiting none) ∙ given_now), ← taken_now) (settled known)) (λ known. tt)
+                (λ known. rw (← (sym (alone final.inputs.written final.inputs.waiting none) ∙ given_now), ← taken_now) (settled known)) (λ known. tt)
                 (stop.asks_then s.comes (asked s going) (λ extra asks. grind (arith, asked_of)) more_first more_second second_now takes_second)
                 (refuses source_a start.mask.full old_first s.past_first at lines new s.comes.first_passes texts line more items say_here kind says_now parts numbered consumed are takes fault is_now (λ k. is_fasta_kind k ≡ true)
                 (wrong_first start.mask.full (reached final) line kind says))
                 (refuses_read source_a start.mask.full old_first s.past_first at lines new s.comes.first_passes texts line more items say_here kind says_now parts numbered consumed are takes fault is_now) adds,
-            λ input number e. absurd (grind arith),
+            λ input number e. absurd (told_no_read kind line.number fault (wrong_first start.mask.full (reached final) line kind says) is input number e),
           )

@@ -23,16 +23,17 @@ use Rattle.bt_bed.specs.calls.Reading.{MemberReader}
 use Rattle.bt_bed.specs.declared.read.batch.Batch.{Batch}
 use Rattle.bt_seq.proofs.lemmas.mask.steps.BedStepLemmas.{goes_more, line_goes}
 use Rattle.bt_seq.proofs.lemmas.mask.steps.CopyLemmas.{wants_line}
-use Rattle.bt_seq.specs.calls.MaskStage.{GoesOn, IsNext, MaskStage, given, is_written_at_once, want_at, with_line}
+use Rattle.bt_bed.specs.calls.Stage.{Stage, given, with_first}
+use Rattle.bt_seq.specs.calls.MaskStage.{GoesOn, IsNext, MaskStage, is_written_at_once, want_at, with_line}
 use Rattle.bt_seq.specs.calls.MaskState.{Masking}
 use Rattle.bt_seq.specs.calls.MaskSteps.{BothCome, ComesAfter, ComesNext, FailsAfter, FailsAtLines, FailsAtRecord, HasCome, StopsAt, MaskStandsAt, FailsWithLine, RefusesLine, bytes_with}
 use Rattle.bt_seq.specs.model.Masked.{Reached, SequenceLine}
-use Rattle.bt_seq.specs.declared.mask.mask_want.MaskWant.{MaskWant}
-use Rattle.bt_seq.specs.declared.mask.mask_want.MaskWant.TheVariants.{Line as WantLine, Bed as WantBed, Nothing}
+use Rattle.bt_seq.specs.declared.mask.MaskWant.{MaskWant}
+use Rattle.bt_seq.specs.declared.mask.MaskWant.TheVariants.{Line as WantLine, Bed as WantBed, Nothing}
 use Rattle.bt_tool.specs.declared.loops.masking.MaskRun.{MaskRun}
 use Rattle.bt_tool.specs.inside.MaskLoop.{Masks, mask_join, mask_rounds}
 use Rattle.bt_tool.proofs.lemmas.running.mask.MaskedLemmas.{AdvancesMask, IsMaskReady, MaskEnds, mask_left, fails_record}
-use Rattle.bt_tool.specs.inside.Pair.{SettlesPair, item_ahead, PairStage}
+use Rattle.bt_tool.specs.inside.Pair.{SettlesPair, item_ahead}
 use Rattle.bt_tool.specs.inside.Feed.{HasTaken}
 use Rattle.bt_tool.proofs.lemmas.running.members.MemberLemmas.{items_from}
 use Rattle.bt_tool.proofs.lemmas.running.mask.MaskAdvanced.{come_on, fails_write, lacks_room, refuses_line, settled}
@@ -52,7 +53,7 @@ module _ {S State : Type 0} (second second_now : MemberReader S Feature State) (
 
 -- ---- how much is still wanted
 
-pub waits_is : {stage : MaskStage} {mask : Masking} → MaskStandsAt stage mask → is_some mask.waiting ≡ is_some stage.waiting
+pub waits_is : {stage : MaskStage} {mask : Masking} → MaskStandsAt stage mask → is_some mask.waiting ≡ is_some stage.inputs.waiting
 waits_is {stage} {mask} stands = ap is_some stands.waiting_is ∙ (grind arith)
 
 pub rounds_few : (waits : Bool) (want : MaskWant) → waits ≡ false → mask_rounds waits want ≤ 2
@@ -90,7 +91,7 @@ module _ {A B : Type 0} {source_a : Source A} {source_b : Source B} {start : Mas
     abbrev final : MaskStage
     final = comes.stage
 
-    same_by : texts ≡ [] → s.stage.waiting ≡ None → final.waiting ≡ None
+    same_by : texts ≡ [] → s.stage.inputs.waiting ≡ None → final.inputs.waiting ≡ None
     same_by none waits = grind (arith, append-nil, none_new, append_cancel_left, append_assoc)
 
     stuck_by : (want : MaskWant) → texts ≡ [] → taken ≡ [] → StopsAt batch_cursor want last_lines last_beds → IsMaskReady lines second want → ⊥
@@ -130,8 +131,8 @@ module _ {A B : Type 0} {source_a : Source A} {source_b : Source B} {start : Mas
 
     -- a line failed
     module _ (wants : want_at comes.stage ≡ WantLine) where
-      none_waits : comes.stage.waiting ≡ None
-      none_waits = (wants_line comes.stage.waiting comes.stage.lines_ended comes.stage.bed_ended wants).0
+      none_waits : comes.stage.inputs.waiting ≡ None
+      none_waits = (wants_line comes.stage.inputs.waiting comes.stage.inputs.first_ended comes.stage.inputs.second_ended wants).0
 
       module _ (line : TextLine) (one : behind.failing ≡ line ∷ []) where
         texts_are : texts ≡ behind.before ++ line ∷ []
@@ -148,48 +149,32 @@ module _ {A B : Type 0} {source_a : Source A} {source_b : Source B} {start : Mas
           with_it : GoesOn start.mask.how start.mask.full comes.stage behind.failing [] (with_line comes.stage fails.item) (bytes_with start.mask.how comes.stage fails.item)
           with_it = grind (arith, line_goes, none_waits)
 
-          ahead_same : (b : Bool) → is_written_at_once comes.stage fails.item ≡ b → (with_line comes.stage fails.item).ahead ≡ comes.stage.ahead
-          ahead_same true e = rw e refl
-          ahead_same false e = rw e refl
-
-          same_ahead : (with_line comes.stage fails.item).ahead ≡ comes.stage.ahead
-          same_ahead = ahead_same (is_written_at_once comes.stage fails.item) refl
-
           -- it waits if memory ran out
-          abbrev mid : PairStage SequenceLine Feature
-          mid = record {
-            written = comes.stage.written;
-            waiting = Some fails.item;
-            taken = comes.stage.taken;
-            first_ended = comes.stage.lines_ended;
-            second_ended = comes.stage.bed_ended;
-          }
+          abbrev mid : Stage SequenceLine Feature
+          mid = with_first false comes.stage.inputs fails.item
 
-          with_given : (b : Bool) → is_written_at_once comes.stage fails.item ≡ b → given (with_line comes.stage fails.item) ≡ comes.stage.written ++ fails.item ∷ []
-          with_given true e = rw e (ap (λ (o : Option SequenceLine). (comes.stage.written ++ fails.item ∷ []) ++ option_to_list o) none_waits ∙ append-nil (comes.stage.written ++ fails.item ∷ []))
+          with_given : (b : Bool) → is_written_at_once comes.stage fails.item ≡ b → given (with_line comes.stage fails.item).inputs ≡ comes.stage.inputs.written ++ fails.item ∷ []
+          with_given true e = rw e (ap (λ (o : Option SequenceLine). (comes.stage.inputs.written ++ fails.item ∷ []) ++ option_to_list o) none_waits ∙ append-nil (comes.stage.inputs.written ++ fails.item ∷ []))
           with_given false e = rw e refl
 
           whole : GoesOn start.mask.how start.mask.full s.stage texts taken (with_line comes.stage fails.item) (comes.bytes ++ bytes_with start.mask.how comes.stage fails.item)
-          whole = all_go (with_line comes.stage fails.item) (bytes_with start.mask.how comes.stage fails.item) with_it same_ahead
-
-          kept_whole : (r : Feature) → (with_line comes.stage fails.item).ahead ≡ Some r → item_ahead second_now ≡ Some r
-          kept_whole r e = kept r (sym same_ahead ∙ e)
+          whole = all_go (with_line comes.stage fails.item) (bytes_with start.mask.how comes.stage fails.item) with_it refl
 
           lacks_one : fault ≡ no_memory → EndsAt (Some fault) behind.through
           lacks_one is =
-              lacks_room s over takes has whole kept_whole (lines_in last_lines) parts numbered are mid (record {
-                given_is = sym (with_given (is_written_at_once comes.stage fails.item) refl) ∙ whole.given_is ∙ ap (λ l. given s.stage ++ l) (sym (items_from (suc (lines_given lines)) whole.items));
-                written_is = comes.goes_on.written_is;
-                taken_is = comes.goes_on.taken_is ∙ ap (λ l. s.stage.taken ++ l) (sym (items_from (suc (lines_given second.below)) taken));
-                first_is = comes.goes_on.lines_ended_is;
-                second_is = comes.goes_on.bed_ended_is;
+              lacks_room s over takes has whole kept (lines_in last_lines) parts numbered are mid (record {
+                given_is = sym (with_given (is_written_at_once comes.stage fails.item) refl) ∙ whole.follows.given_is ∙ ap (λ l. given s.stage.inputs ++ l) (sym (items_from (suc (lines_given lines)) whole.items));
+                written_is = comes.goes_on.follows.written_is;
+                taken_is = comes.goes_on.follows.taken_is ∙ ap (λ l. s.stage.inputs.taken ++ l) (sym (items_from (suc (lines_given second.below)) taken));
+                first_is = comes.goes_on.follows.first_is;
+                second_is = comes.goes_on.follows.second_is;
               })
-              (λ known. subst (λ (b : Bool). SettlesPair (mask_join start.mask.how) comes.stage.written (s.comes.bytes ++ comes.bytes) (comes.stage.taken ++ option_to_list (item_ahead second_now)) b) (sym comes.goes_on.bed_ended_is)
+              (λ known. subst (λ (b : Bool). SettlesPair (mask_join start.mask.how) comes.stage.inputs.written (s.comes.bytes ++ comes.bytes) (comes.stage.inputs.taken ++ option_to_list (item_ahead second_now)) b) (sym comes.goes_on.follows.second_is)
               (settled s over takes has comes.goes_on kept known)) comes.puts is
 
           fails_one : EndsAt (Some fault) now
           fails_one = elim fails.fails [
-            | inl adds ↦ fails_copying (with_line comes.stage fails.item) (bytes_with start.mask.how comes.stage fails.item) with_it same_ahead adds
+            | inl adds ↦ fails_copying (with_line comes.stage fails.item) (bytes_with start.mask.how comes.stage fails.item) with_it refl adds
             | inr ran ↦ rw ran.1 (lacks_one ran.0)
           ]
 
@@ -207,18 +192,18 @@ module _ {A B : Type 0} {source_a : Source A} {source_b : Source B} {start : Mas
       unfolding line_in cursor_in
       number_is = omega (arith, passes.lines.given, gave.lines.given, lent_at, has.takes.given)
 
-      fails_next : FailsAtRecord start.mask.how start.mask.full comes.stage.waiting comes.stage r (line_in later) behind.through fault now → EndsAt (Some fault) now
+      fails_next : FailsAtRecord start.mask.how start.mask.full comes.stage.inputs.waiting comes.stage r (line_in later) behind.through fault now → EndsAt (Some fault) now
       fails_next fails =
           let here =
           come_on s over takes has comes.goes_on kept (lines_in last_lines)
           (parts ∙ ap (λ l. l ++ lines_in last_lines) before_is) (subst (AreNumbered (suc (lines_given lines))) before_is numbered) (subst (λ (l : List TextLine). TakenLines lines consumed (length l)) before_is are) comes.stands comes.puts in
           fails_record here.0 (comes.stands.stands.want_is ∙ wants) r (left later)
           (sym left_then ∙ passes.left_is) fault now
-          (subst (λ (n : ℕ). FailsAtRecord start.mask.how start.mask.full here.0.stage.waiting here.0.stage r n behind.through fault now) number_is
-          (subst (λ (stage : MaskStage). FailsAtRecord start.mask.how start.mask.full stage.waiting stage r (line_in later) behind.through fault now) (sym here.1) fails))
+          (subst (λ (n : ℕ). FailsAtRecord start.mask.how start.mask.full here.0.stage.inputs.waiting here.0.stage r n behind.through fault now) number_is
+          (subst (λ (stage : MaskStage). FailsAtRecord start.mask.how start.mask.full stage.inputs.waiting stage r (line_in later) behind.through fault now) (sym here.1) fails))
 
     fails_both : ((want_at comes.stage ≡ WantLine) × FailsAtLines start.mask.how start.mask.full comes.stage behind.failing behind.through fault now)
-        ⊎ ((r : Feature) × (later : Batch) × (behind.failing ≡ []) × (want_at comes.stage ≡ WantBed) × Passes last_beds (r ∷ []) later × FailsAtRecord start.mask.how start.mask.full comes.stage.waiting comes.stage r (line_in later) behind.through fault now)
+        ⊎ ((r : Feature) × (later : Batch) × (behind.failing ≡ []) × (want_at comes.stage ≡ WantBed) × Passes last_beds (r ∷ []) later × FailsAtRecord start.mask.how start.mask.full comes.stage.inputs.waiting comes.stage r (line_in later) behind.through fault now)
         → EndsAt (Some fault) now
     fails_both (inl at_lines) = fails_lines at_lines.0 at_lines.1
     fails_both (inr at_record) = fails_next at_record.0 at_record.1 at_record.2 at_record.3 at_record.4 at_record.5

@@ -94,17 +94,17 @@ pub ahead_first : {S State : Type 0} (reader : MemberReader S Feature State) →
 ahead_first reader = grind arith
 
 -- what may come after those that a reader has taken and the one ahead, follows what the engine has seen
-module _ (stage : MaskStage) (next : Option Feature) (kept : (r : Feature) → stage.ahead ≡ Some r → next ≡ Some r) (over : stage.bed_ended ≡ true → next ≡ None)
-    (records : List Feature) (fault : Option FaultValue) (may : MayCome (stage.taken ++ option_to_list next) stage.bed_ended records fault) where
-  follows_by : (ended : Bool) (ahead : Option Feature) → stage.bed_ended ≡ ended → stage.ahead ≡ ahead → MayFollow stage records
+module _ (stage : MaskStage) (next : Option Feature) (kept : (r : Feature) → stage.ahead ≡ Some r → next ≡ Some r) (over : stage.inputs.second_ended ≡ true → next ≡ None)
+    (records : List Feature) (fault : Option FaultValue) (may : MayCome (stage.inputs.taken ++ option_to_list next) stage.inputs.second_ended records fault) where
+  follows_by : (ended : Bool) (ahead : Option Feature) → stage.inputs.second_ended ≡ ended → stage.ahead ≡ ahead → MayFollow stage records
   follows_by true ahead e a = grind (arith, append-nil)
   follows_by false None e a =
-      let seen : seen_at stage ≡ stage.taken = ap (λ (b : Bool). stage.taken ++ cond b [] (option_to_list stage.ahead)) e ∙ ap (λ (o : Option Feature). stage.taken ++ option_to_list o) a ∙ append-nil stage.taken in
+      let seen : seen_at stage ≡ stage.inputs.taken = ap (λ (b : Bool). stage.inputs.taken ++ cond b [] (option_to_list stage.ahead)) e ∙ ap (λ (o : Option Feature). stage.inputs.taken ++ option_to_list o) a ∙ append-nil stage.inputs.taken in
       grind (arith, append_assoc)
   follows_by false (Some r) e a = grind arith
 
   pub may_follow : MayFollow stage records
-  may_follow = follows_by stage.bed_ended stage.ahead refl refl
+  may_follow = follows_by stage.inputs.second_ended stage.ahead refl refl
 
 -- what may come after more records may come after fewer
 pub come_back : (old taken buffered : List Feature) (ended : Bool) (records : List Feature) (fault : Option FaultValue) → (ended ≡ true → taken ≡ []) → MayCome ((old ++ taken) ++ option_to_list (first_of buffered)) ended records fault
@@ -121,24 +121,24 @@ come_back old (x ∷ xs) buffered ended records fault none may = record {
 
 module _ (how : MaskHow) (full : Bool) where
   -- the lines that are written now are settled with those before
-  pub settles_given : {written : List SequenceLine} {bytes more : List ℕ} {stage new : MaskStage} {texts : List TextLine} {taken buffered : List Feature} → SettlesPair (mask_join how) written bytes (stage.taken ++ option_to_list (first_of (taken ++ buffered))) stage.bed_ended
-      → (goes : GoesOn how full stage texts taken new more) → (stage.bed_ended ≡ true → (taken ≡ []) × (buffered ≡ [])) → ((r : Feature) → new.ahead ≡ Some r → first_of buffered ≡ Some r)
-      → SettlesPair (mask_join how) (written ++ goes.newly) (bytes ++ more) ((stage.taken ++ taken) ++ option_to_list (first_of buffered)) stage.bed_ended
+  pub settles_given : {written : List SequenceLine} {bytes more : List ℕ} {stage new : MaskStage} {texts : List TextLine} {taken buffered : List Feature} → SettlesPair (mask_join how) written bytes (stage.inputs.taken ++ option_to_list (first_of (taken ++ buffered))) stage.inputs.second_ended
+      → (goes : GoesOn how full stage texts taken new more) → (stage.inputs.second_ended ≡ true → (taken ≡ []) × (buffered ≡ [])) → ((r : Feature) → new.ahead ≡ Some r → first_of buffered ≡ Some r)
+      → SettlesPair (mask_join how) (written ++ goes.newly) (bytes ++ more) ((stage.inputs.taken ++ taken) ++ option_to_list (first_of buffered)) stage.inputs.second_ended
   settles_given {written} {bytes} {stage} {new} {taken} {buffered} settles goes over kept = record {
     whatever = λ records fault ordered may.
-        let was = settles.whatever records fault ordered (come_back stage.taken taken buffered stage.bed_ended records fault (λ e. (over e).0) may) in
-        let here : MayCome (new.taken ++ option_to_list (first_of buffered)) new.bed_ended records fault =
-        subst (λ (b : Bool). MayCome (new.taken ++ option_to_list (first_of buffered)) b records fault) (sym goes.bed_ended_is)
-        (subst (λ (l : List Feature). MayCome (l ++ option_to_list (first_of buffered)) stage.bed_ended records fault) (sym goes.taken_is) may) in
-        let follow = may_follow new (first_of buffered) kept (λ e. ap first_of (over (sym goes.bed_ended_is ∙ e)).1) records fault here in (
+        let was = settles.whatever records fault ordered (come_back stage.inputs.taken taken buffered stage.inputs.second_ended records fault (λ e. (over e).0) may) in
+        let here : MayCome (new.inputs.taken ++ option_to_list (first_of buffered)) new.inputs.second_ended records fault =
+        subst (λ (b : Bool). MayCome (new.inputs.taken ++ option_to_list (first_of buffered)) b records fault) (sym goes.follows.second_is)
+        (subst (λ (l : List Feature). MayCome (l ++ option_to_list (first_of buffered)) stage.inputs.second_ended records fault) (sym goes.follows.taken_is) may) in
+        let follow = may_follow new (first_of buffered) kept (λ e. ap first_of (over (sym goes.follows.second_is ∙ e)).1) records fault here in (
           list_all-append (λ x. is_none fault || decided x records) written goes.newly
-              ∙ and_from (list_all (λ x. is_none fault || decided x records) written) (list_all (λ x. is_none fault || decided x records) goes.newly) was.0 (newly_by new.bed_ended refl records fault here follow),
+              ∙ and_from (list_all (λ x. is_none fault || decided x records) written) (list_all (λ x. is_none fault || decided x records) goes.newly) was.0 (newly_by new.inputs.second_ended refl records fault here follow),
           flat_map-append (λ x. masked_line how records x) written goes.newly ∙ ap (λ l. l ++ flat_map (λ x. masked_line how records x) goes.newly) was.1
               ∙ ap (λ l. bytes ++ l) (goes.settles.bytes_are records ordered follow),
         );
   }
     where
-      newly_by : (b : Bool) → new.bed_ended ≡ b → (records : List Feature) (fault : Option FaultValue) → MayCome (new.taken ++ option_to_list (first_of buffered)) new.bed_ended records fault → MayFollow new records
+      newly_by : (b : Bool) → new.inputs.second_ended ≡ b → (records : List Feature) (fault : Option FaultValue) → MayCome (new.inputs.taken ++ option_to_list (first_of buffered)) new.inputs.second_ended records fault → MayFollow new records
           → list_all (λ x. is_none fault || decided x records) goes.newly ≡ true
       newly_by true e records fault may follow = all_or (λ x. decided x records) (is_none fault) goes.newly (or_left (is_none fault) _ (ap is_none (may.all e).1))
       newly_by false e records fault may follow = all_or (λ x. decided x records) (is_none fault) goes.newly (or_right (is_none fault) _ (goes.settles.are_decided records follow e))

@@ -15,10 +15,10 @@ use Rattle.bt_seq.specs.calls.MaskStage.{MaskStage, with_lines_ended, want_of, f
 use Rattle.bt_seq.specs.calls.MaskState.{Masking}
 use Rattle.bt_seq.specs.calls.MaskSteps.{MaskMovesTo, MaskStandsAt, EndsCheck, EndsRecords}
 use Rattle.bt_seq.specs.model.Masked.{SequenceLine, Reached}
-use Rattle.bt_seq.specs.declared.mask.mask_want.MaskWant.{MaskWant}
-use Rattle.bt_seq.specs.declared.mask.mask_want.MaskWant.TheVariants.{Nothing, Line as WantLine, Bed as WantBed}
-use Rattle.bt_sweep.specs.declared.sweep.want.Want.{Want}
-use Rattle.bt_sweep.specs.declared.sweep.want.Want.TheVariants.{A as WantA, B as WantB, Nothing as WantNothing}
+use Rattle.bt_seq.specs.declared.mask.MaskWant.{MaskWant}
+use Rattle.bt_seq.specs.declared.mask.MaskWant.TheVariants.{Nothing, Line as WantLine, Bed as WantBed}
+use Rattle.bt_sweep.specs.declared.sweep.Want.{Want}
+use Rattle.bt_sweep.specs.declared.sweep.Want.TheVariants.{A as WantA, B as WantB, Nothing as WantNothing}
 use Rattle.bt_tool.specs.declared.loops.masking.MaskRun.{MaskRun}
 use Rattle.bt_tool.specs.calls.Run.{TellsNoRead}
 use Rattle.bt_tool.specs.inside.Feed.{IsOwnFault, KeepsOwnFault, IsFresh}
@@ -70,8 +70,8 @@ module _ {A B : Type 0} {source_a : Source A} {source_b : Source B} {start : Mas
     record_filled filled = grind (arith, (record_made s wants second_now filled))
 
     module _ (over : IsOver source_b second second_now) (masked : Masking) (now : Output) where
-      ends_by : (o : Option SequenceLine) → s.stage.waiting ≡ o → {T : Type 0} (done : T)
-          → ((waiting : SequenceLine) → s.stage.waiting ≡ Some waiting → EndsRecords mask.how mask.full s.stage waiting out (Ok done) masked now) → (s.stage.waiting ≡ None → EndsCheck mask.how mask.full s.stage out (Ok done) masked now)
+      ends_by : (o : Option SequenceLine) → s.stage.inputs.waiting ≡ o → {T : Type 0} (done : T)
+          → ((waiting : SequenceLine) → s.stage.inputs.waiting ≡ Some waiting → EndsRecords mask.how mask.full s.stage waiting out (Ok done) masked now) → (s.stage.inputs.waiting ≡ None → EndsCheck mask.how mask.full s.stage out (Ok done) masked now)
           → Fills lines second_now masked now
       ends_by (Some a) e done waits none =
           let ends = waits a e in (
@@ -95,19 +95,19 @@ module _ {A B : Type 0} {source_a : Source A} {source_b : Source B} {start : Mas
             )),
           )
 
-      pub records_ended : {T : Type 0} (done : T) → ((waiting : SequenceLine) → s.stage.waiting ≡ Some waiting → EndsRecords mask.how mask.full s.stage waiting out (Ok done) masked now) → (s.stage.waiting ≡ None → EndsCheck mask.how mask.full s.stage out (Ok done) masked now)
+      pub records_ended : {T : Type 0} (done : T) → ((waiting : SequenceLine) → s.stage.inputs.waiting ≡ Some waiting → EndsRecords mask.how mask.full s.stage waiting out (Ok done) masked now) → (s.stage.inputs.waiting ≡ None → EndsCheck mask.how mask.full s.stage out (Ok done) masked now)
           → Fills lines second_now masked now
-      records_ended done waits none = ends_by s.stage.waiting refl done waits none
+      records_ended done waits none = ends_by s.stage.inputs.waiting refl done waits none
 
-      unended_by : (o : Option SequenceLine) → s.stage.waiting ≡ o → (fault : Fault)
-          → ((waiting : SequenceLine) → s.stage.waiting ≡ Some waiting → EndsRecords {A = Unit {0}} mask.how mask.full s.stage waiting out (Err fault) masked now) → (s.stage.waiting ≡ None → EndsCheck {A = Unit {0}} mask.how mask.full s.stage out (Err fault) masked now)
+      unended_by : (o : Option SequenceLine) → s.stage.inputs.waiting ≡ o → (fault : Fault)
+          → ((waiting : SequenceLine) → s.stage.inputs.waiting ≡ Some waiting → EndsRecords {A = Unit {0}} mask.how mask.full s.stage waiting out (Err fault) masked now) → (s.stage.inputs.waiting ≡ None → EndsCheck {A = Unit {0}} mask.how mask.full s.stage out (Err fault) masked now)
           → MaskEnds source_a source_b start before (Some (fault_value fault)) lines second_now now
       unended_by (Some a) e fault waits none = fails_at_end s wants second_now over a e (fault_value fault) now (waits a e).1
       unended_by None e fault waits none = absurd (none e)
 
-      pub records_unended : (fault : Fault) → ((waiting : SequenceLine) → s.stage.waiting ≡ Some waiting → EndsRecords {A = Unit {0}} mask.how mask.full s.stage waiting out (Err fault) masked now)
-          → (s.stage.waiting ≡ None → EndsCheck {A = Unit {0}} mask.how mask.full s.stage out (Err fault) masked now) → MaskEnds source_a source_b start before (Some (fault_value fault)) lines second_now now
-      records_unended fault waits none = unended_by s.stage.waiting refl fault waits none
+      pub records_unended : (fault : Fault) → ((waiting : SequenceLine) → s.stage.inputs.waiting ≡ Some waiting → EndsRecords {A = Unit {0}} mask.how mask.full s.stage waiting out (Err fault) masked now)
+          → (s.stage.inputs.waiting ≡ None → EndsCheck {A = Unit {0}} mask.how mask.full s.stage out (Err fault) masked now) → MaskEnds source_a source_b start before (Some (fault_value fault)) lines second_now now
+      records_unended fault waits none = unended_by s.stage.inputs.waiting refl fault waits none
 
 -- what the engine wants, by what is wanted of two inputs
 abbrev wanted_of : Want → MaskWant
@@ -221,8 +221,8 @@ module _ {A B : Type 0} {source_a : Source A} {source_b : Source B} {start : Mas
       abbrev with_end : MaskRun A B
       with_end = record old { records = records_now; mask = masked }
 
-      pub records_over : {T : Type 0} (answer : Result T Fault) → ((stage : MaskStage) (waiting : SequenceLine) → MaskStandsAt stage old.mask → stage.waiting ≡ Some waiting → EndsRecords old.mask.how old.mask.full stage waiting grown answer masked later)
-          → ((stage : MaskStage) → MaskStandsAt stage old.mask → stage.waiting ≡ None → EndsCheck old.mask.how old.mask.full stage grown answer masked later) → Leads Filled answer with_end later
+      pub records_over : {T : Type 0} (answer : Result T Fault) → ((stage : MaskStage) (waiting : SequenceLine) → MaskStandsAt stage old.mask → stage.inputs.waiting ≡ Some waiting → EndsRecords old.mask.how old.mask.full stage waiting grown answer masked later)
+          → ((stage : MaskStage) → MaskStandsAt stage old.mask → stage.inputs.waiting ≡ None → EndsCheck old.mask.how old.mask.full stage grown answer masked later) → Leads Filled answer with_end later
       records_over (Ok done) waits none =
           let f = records_ended s.goes.1 (is_wanted old.mask.want WantB wants) (view_of records_now) (block_over source_b old.records records_now fills) masked later done
           (λ waiting e. waits s.goes.1.stage waiting s.goes.1.stands e) (λ e. none s.goes.1.stage s.goes.1.stands e) in

@@ -11,14 +11,15 @@ use Rattle.bt_bed.specs.model.Feature.{Feature}
 use Rattle.bt_bed.specs.model.BedLine.{fault_at_line}
 use Rattle.bt_bed.specs.model.Sorted.{Locus}
 use Rattle.bt_bed.specs.calls.Reading.{MemberReader, room, ahead_in, first_from, good_coming, state_behind}
-use Rattle.bt_seq.specs.calls.MaskStage.{MaskStage, given, reached, reached_by, want_of, with_bed_ended, with_lines_ended}
+use Rattle.bt_bed.specs.calls.Stage.{given}
+use Rattle.bt_seq.specs.calls.MaskStage.{MaskStage, reached, reached_by, want_of, with_bed_ended, with_lines_ended}
 use Rattle.bt_seq.specs.calls.MaskState.{Masking, left_after}
 use Rattle.bt_seq.specs.model.Masked.{Reached, SequenceLine, decided, masked_line, names_of, no_sequence, line_says, sequence_format}
-use Rattle.bt_seq.specs.declared.mask.mask_want.MaskWant.{MaskWant}
+use Rattle.bt_seq.specs.declared.mask.MaskWant.{MaskWant}
 use Rattle.bt_tool.specs.declared.loops.masking.MaskRun.{MaskRun}
 use Rattle.bt_tool.specs.inside.Feed.{IsKeptBelow, member_items}
 use Rattle.bt_tool.specs.inside.Pair.{PairEnds, IsKnown, JoinDef, Pair, SettlesPair, item_ahead, AsksFor, Comes}
-use Rattle.bt_tool.specs.inside.MaskLoop.{GoesOn, begun_pair, mask_join, mask_rounds, wanted_by, AreOwned, Masks, leaves_some, line_members, nothing_reached, stage_of}
+use Rattle.bt_tool.specs.inside.MaskLoop.{GoesOn, begun_pair, mask_join, mask_rounds, wanted_by, AreOwned, Masks, leaves_some, line_members, nothing_reached}
 use Rattle.bt_tool.specs.inside.Rounds.{IsBuffered}
 use Rattle.std.specs.List.{last_or}
 use Rattle.bt_lines.specs.model.Lines.{TextLine}
@@ -32,7 +33,7 @@ use Rattle.bt_seq.specs.calls.MaskSteps.{FailsAtRecord, MaskMovesTo}
 use Rattle.bt_seq.proofs.lemmas.mask.steps.CopyLemmas.{last_waits, wants_bed, wants_line}
 use Rattle.bt_seq.proofs.lemmas.mask.steps.AdvanceLemmas.{going}
 use Rattle.bt_seq.specs.declared.mask.mask_how.MaskHow.{MaskHow}
-use Rattle.bt_seq.specs.declared.mask.mask_want.MaskWant.TheVariants.{Line as WantLine, Bed as WantBed, Nothing}
+use Rattle.bt_seq.specs.declared.mask.MaskWant.TheVariants.{Line as WantLine, Bed as WantBed, Nothing}
 use Rattle.bt_tool.specs.model.Written.{is_fasta_kind, is_mask_kind}
 use Rattle.bt_tool.proofs.lemmas.running.members.MemberLemmas.{IsFilled, IsOver, IsStopped}
 use Rattle.bt_tool.proofs.lemmas.running.members.BlockMembers.{gives_over, gives_unread, passes_made, wrong_is_text}
@@ -132,10 +133,10 @@ module _ {A B : Type 0} {source_a : Source A} {source_b : Source B} {start : Mas
   pub come_so_far : at ≡ reached stage
   come_so_far = grind (arith, reached_behind)
 
-  pub asked : stage.lines_ended ≡ false → join.Asks (given stage) stage.taken
+  pub asked : stage.inputs.first_ended ≡ false → join.Asks (given stage.inputs) stage.inputs.taken
   asked going = grind (arith, last_leaves)
 
-  pub asks_for : stage.lines_ended ≡ false → AsksFor join pair before s.past_first second
+  pub asks_for : stage.inputs.first_ended ≡ false → AsksFor join pair before s.past_first second
   asks_for going = stop.asks_now s.comes (asked going)
 
   as_it_is : MaskMovesTo mask.how mask.full stage mask
@@ -143,26 +144,26 @@ module _ {A B : Type 0} {source_a : Source A} {source_b : Source B} {start : Mas
 
   -- no more was given, and the engine is at another stage
   goes_on : {new : LineReader A} {second_now : MemberReader B Feature (Option Locus)} {masked : Masking} {now : Output} {next : MaskStage} → MaskMovesTo mask.how mask.full next masked
-      → Comes join pair before (stage_of next) s.past_first s.past_second (line_members start.mask.full at new) second_now now
-      → ((r : Feature) → next.ahead ≡ Some r → item_ahead second_now ≡ Some r) → (next.lines_ended ≡ true → has_ended new ≡ true) → Going at new second_now masked now
+      → Comes join pair before next.inputs s.past_first s.past_second (line_members start.mask.full at new) second_now now
+      → ((r : Feature) → next.ahead ≡ Some r → item_ahead second_now ≡ Some r) → (next.inputs.first_ended ≡ true → has_ended new ≡ true) → Going at new second_now masked now
   goes_on moves comes kept_ahead lines_over = grind arith
 
   -- if no line waits, the block of each record taken belongs to a sequence of the lines
-  module _ (none : stage.waiting ≡ None) where
-    owned_alone : AreOwned stage.written (member_items s.past_second)
+  module _ (none : stage.inputs.waiting ≡ None) where
+    owned_alone : AreOwned stage.inputs.written (member_items s.past_second)
     owned_alone = search rules
 
-    none_lacks : join.last stage.written s.past_second ≡ None
-    none_lacks = lack_none (names_of stage.written) s.past_second (search rules)
+    none_lacks : join.last stage.inputs.written s.past_second ≡ None
+    none_lacks = lack_none (names_of stage.inputs.written) s.past_second (search rules)
 
   -- a line that waits isn't decided by what was taken
-  undecided : (line : SequenceLine) → stage.waiting ≡ Some line → decided line stage.taken ≡ false
+  undecided : (line : SequenceLine) → stage.inputs.waiting ≡ Some line → decided line stage.inputs.taken ≡ false
   undecided line waits = grind (arith, (last_waits stage line waits))
 
   -- a line is wanted
   module _ (wants : mask.want ≡ WantLine) where
-    pub no_line : (stage.waiting ≡ None) × (stage.lines_ended ≡ false)
-    no_line = wants_line stage.waiting stage.lines_ended stage.bed_ended (sym s.stands.want_is ∙ wants)
+    pub no_line : (stage.inputs.waiting ≡ None) × (stage.inputs.first_ended ≡ false)
+    no_line = wants_line stage.inputs.waiting stage.inputs.first_ended stage.inputs.second_ended (sym s.stands.want_is ∙ wants)
 
     -- one is buffered now
     pub line_made : (new : LineReader A) → MakesLine source_a lines new → (IsKept source_a lines → IsKept source_a new) → Going at new second mask grown
@@ -186,11 +187,11 @@ module _ {A B : Type 0} {source_a : Source A} {source_b : Source B} {start : Mas
 
   -- a record is wanted, only while they may come
   module _ (wants : mask.want ≡ WantBed) where
-    goes : stage.bed_ended ≡ false
-    goes = going s.stands wants stage.waiting refl
+    goes : stage.inputs.second_ended ≡ false
+    goes = going s.stands wants stage.inputs.waiting refl
 
-    pub lines_done : stage.waiting ≡ None → stage.lines_ended ≡ true
-    lines_done e = (wants_bed stage.lines_ended stage.bed_ended (rw e at (sym s.stands.want_is ∙ wants))).0
+    pub lines_done : stage.inputs.waiting ≡ None → stage.inputs.first_ended ≡ true
+    lines_done e = (wants_bed stage.inputs.first_ended stage.inputs.second_ended (rw e at (sym s.stands.want_is ∙ wants))).0
 
     -- one is buffered now
     pub record_made : (second_now : MemberReader B Feature (Option Locus)) → IsFilled source_b second second_now → Going at lines second_now mask grown
@@ -201,34 +202,34 @@ module _ {A B : Type 0} {source_a : Source A} {source_b : Source B} {start : Mas
     -- the end of the records was given
     module _ (second_now : MemberReader B Feature (Option Locus)) (over : IsOver source_b second second_now) where
       -- and the waiting line was written
-      pub ends_waiting : (a : SequenceLine) → stage.waiting ≡ Some a → (masked : Masking) (now : Output) → MaskMovesTo mask.how mask.full (with_bed_ended stage) masked → Grown grown (masked_line mask.how stage.taken a) now
+      pub ends_waiting : (a : SequenceLine) → stage.inputs.waiting ≡ Some a → (masked : Masking) (now : Output) → MaskMovesTo mask.how mask.full (with_bed_ended stage) masked → Grown grown (masked_line mask.how stage.inputs.taken a) now
           → Going at lines second_now masked now
       ends_waiting a waits masked now stands adds =
           goes_on stands
-          (turned.ends_waiting s.comes goes second_now over a waits now (subst (λ (h : MaskHow). Grown grown (masked_line h stage.taken a) now) s.how_is adds))
+          (turned.ends_waiting s.comes goes second_now over a waits now (subst (λ (h : MaskHow). Grown grown (masked_line h stage.inputs.taken a) now) s.how_is adds))
           (λ r e. absurd (none_ahead second r over.ends.was_none (s.kept_ahead r e))) s.lines_over
 
       -- or none waited
-      pub ends_alone : stage.waiting ≡ None → (masked : Masking) → MaskMovesTo mask.how mask.full (with_bed_ended stage) masked → Going at lines second_now masked grown
+      pub ends_alone : stage.inputs.waiting ≡ None → (masked : Masking) → MaskMovesTo mask.how mask.full (with_bed_ended stage) masked → Going at lines second_now masked grown
       ends_alone none masked stands =
           goes_on stands
           (turned.ends_alone s.comes goes second_now over none) (λ r e. absurd (none_ahead second r over.ends.was_none (s.kept_ahead r e))) s.lines_over
 
       -- the waiting line wasn't written
-      pub fails_at_end : (a : SequenceLine) → stage.waiting ≡ Some a → (fault : FaultValue) (now : Output) → FailsToAdd grown (masked_line mask.how stage.taken a) fault now → EndsAt (Some fault) lines second_now now
+      pub fails_at_end : (a : SequenceLine) → stage.inputs.waiting ≡ Some a → (fault : FaultValue) (now : Output) → FailsToAdd grown (masked_line mask.how stage.inputs.taken a) fault now → EndsAt (Some fault) lines second_now now
       fails_at_end a waits fault now fails =
           ends_at at (stop.fails_at_end s.comes asks_for (λ known. tt) waits (asked (s.stands.waits a waits).lines) goes fault second_now now over
-          (subst (λ (h : MaskHow). FailsToAdd grown (masked_line h stage.taken a) fault now) s.how_is fails))
+          (subst (λ (h : MaskHow). FailsToAdd grown (masked_line h stage.inputs.taken a) fault now) s.how_is fails))
 
     -- the second input couldn't give a record
-    stops_by : (o : Option SequenceLine) → stage.waiting ≡ o → (fault : FaultValue) (second_now : MemberReader B Feature (Option Locus)) → IsStopped source_b second fault second_now → EndsAt (Some fault) lines second_now grown
+    stops_by : (o : Option SequenceLine) → stage.inputs.waiting ≡ o → (fault : FaultValue) (second_now : MemberReader B Feature (Option Locus)) → IsStopped source_b second fault second_now → EndsAt (Some fault) lines second_now grown
     stops_by None e fault second_now stopped =
         ends_at at (stop.stops_behind s.comes asks_for (λ known. tt) (lines_done e) wrong_second goes (none_lacks e) fault second_now stopped)
     stops_by (Some a) e fault second_now stopped =
         ends_at at (stop.stops_second s.comes asks_for (λ known. tt) e wrong_second (asked (s.stands.waits a e).lines) goes (λ known none. undecided a e) fault second_now stopped)
 
     pub stops_records : (fault : FaultValue) (second_now : MemberReader B Feature (Option Locus)) → IsStopped source_b second fault second_now → EndsAt (Some fault) lines second_now grown
-    stops_records fault second_now stopped = stops_by stage.waiting refl fault second_now stopped
+    stops_records fault second_now stopped = stops_by stage.inputs.waiting refl fault second_now stopped
 
   -- a record is buffered, and failed
   module _ (wants : mask.want ≡ WantBed) (r : Feature) (behind : List Feature) (buffered : second.buffered ≡ r ∷ behind) where
@@ -242,11 +243,11 @@ module _ {A B : Type 0} {source_a : Source A} {source_b : Source B} {start : Mas
     m_ahead = ap (first_from (suc (lines_given second.below))) buffered
 
     -- if it decides the waiting line, that stays as it is
-    settles_decided : (a : SequenceLine) → decided a (stage.taken ++ r ∷ []) ≡ true → IsKnown pair
-        → SettlesPair join (stage.written ++ a ∷ []) (s.comes.bytes ++ masked_line start.mask.how stage.taken a) (stage.taken ++ option_to_list (item_ahead second)) stage.bed_ended
+    settles_decided : (a : SequenceLine) → decided a (stage.inputs.taken ++ r ∷ []) ≡ true → IsKnown pair
+        → SettlesPair join (stage.inputs.written ++ a ∷ []) (s.comes.bytes ++ masked_line start.mask.how stage.inputs.taken a) (stage.inputs.taken ++ option_to_list (item_ahead second)) stage.inputs.second_ended
     settles_decided a decides known = grind (arith, settles_with, append_assoc, decided_stays, masked_before)
 
-    fails_by : (o : Option SequenceLine) → stage.waiting ≡ o → (fault : FaultValue) (now : Output) → FailsAtRecord start.mask.how start.mask.full o stage r (suc (lines_given second.below)) grown fault now → EndsAt (Some fault) lines second now
+    fails_by : (o : Option SequenceLine) → stage.inputs.waiting ≡ o → (fault : FaultValue) (now : Output) → FailsAtRecord start.mask.how start.mask.full o stage r (suc (lines_given second.below)) grown fault now → EndsAt (Some fault) lines second now
     fails_by None none fault now lacks =
         ends_at at (rw lacks.same_output
         (stop.ends_rest s.comes asks_for (λ known. tt) (lines_done wants none) second
@@ -259,21 +260,21 @@ module _ {A B : Type 0} {source_a : Source A} {source_b : Source B} {start : Mas
             kind = NoSequence;
             is = lacks.is;
             of_kind = refl;
-            told = told_by (names_of stage.written) (good_coming source_b.left (view_of start.records)) s.past_second m fault lacks.is (owned_alone none) (grind (arith, map-append, append-nil))
+            told = told_by (names_of stage.inputs.written) (good_coming source_b.left (view_of start.records)) s.past_second m fault lacks.is (owned_alone none) (grind (arith, map-append, append-nil))
                 (stop.seen_begins source_b.left (good_coming source_b.left (view_of start.records)) second s.past_second (Some m) m_ahead s.comes.second_passes.come s.comes.second_passes.ahead);
             serves = stop.second_serves s.comes;
           },
         )))))
     fails_by (Some a) waits fault now (inl writes) =
-        ends_at at (stop.fails_waiting s.comes asks_for (λ known. tt) a waits (masked_line start.mask.how stage.taken a) (settles_decided a writes.decides) fault now writes.fails)
+        ends_at at (stop.fails_waiting s.comes asks_for (λ known. tt) a waits (masked_line start.mask.how stage.inputs.taken a) (settles_decided a writes.decides) fault now writes.fails)
     fails_by (Some a) waits fault now (inr holds) =
         ends_at at (rw holds.same_output (stop.lacks_memory s.comes asks_for (λ known. tt) fault holds.is))
 
-    pub fails_record : (fault : FaultValue) (now : Output) → FailsAtRecord start.mask.how start.mask.full stage.waiting stage r (suc (lines_given second.below)) grown fault now → EndsAt (Some fault) lines second now
-    fails_record fault now fails = fails_by stage.waiting refl fault now fails
+    pub fails_record : (fault : FaultValue) (now : Output) → FailsAtRecord start.mask.how start.mask.full stage.inputs.waiting stage r (suc (lines_given second.below)) grown fault now → EndsAt (Some fault) lines second now
+    fails_record fault now fails = fails_by stage.inputs.waiting refl fault now fails
 
   -- both inputs have ended
   pub finishes : mask.want ≡ Nothing → EndsAt None lines second grown
   finishes wants =
-      let ends = wants_none stage.waiting stage.lines_ended stage.bed_ended (sym s.stands.want_is ∙ wants) in
+      let ends = wants_none stage.inputs.waiting stage.inputs.first_ended stage.inputs.second_ended (sym s.stands.want_is ∙ wants) in
       ends_at at (stop.ends_all s.comes asks_for (λ known. tt) ends.1 ends.2 (none_lacks ends.0))

@@ -14,7 +14,8 @@ use Rattle.bt_bed.specs.model.Good.{Good, Member, items_in}
 use Rattle.bt_bed.specs.model.BedLine.{fault_at_line}
 use Rattle.bt_bed.specs.calls.Reading.{MemberReader, ahead_in, first_from, good_coming}
 use Rattle.bt_tool.specs.inside.Feed.{ComeFirst, CutsLines, HasPut, member_items, AreAll, IsReadFor, IsReadTo, Passes, StopsAfter}
-use Rattle.bt_tool.specs.inside.Pair.{IsKnown, JoinDef, Pair, Serves, SettlesPair, item_ahead, Comes, PairStage, firsts_given, AsksFor, PairEnds, LastTold, SecondFails, StaysNear, Why, Wrote}
+use Rattle.bt_tool.specs.inside.Pair.{IsKnown, JoinDef, Pair, Serves, SettlesPair, item_ahead, Comes, AsksFor, PairEnds, LastTold, SecondFails, StaysNear, Why, Wrote}
+use Rattle.bt_bed.specs.calls.Stage.{given, Stage}
 use Rattle.bt_tool.proofs.lemmas.running.pair.PairTurns.{TakesFurther, settles_end, all_written, none_pushed, read_same, seen_alone, settles_ended}
 use Rattle.bt_tool.proofs.lemmas.running.members.MemberLemmas.{IsOver, IsStopped, passes_all, passes_end, passes_stop, read_at_stop, read_here}
 use Rattle.bt_tool.proofs.lemmas.running.feed.WritingLemmas.{begins_with, up_to}
@@ -87,17 +88,17 @@ pub none_low : {P S A State : Type 0} (new : MemberReader S A State) → new.fau
 none_low new none some = absurd (false≢true (ap is_some (sym none) ∙ some))
 
 -- a run has come so far
-module _ {A B X Y U V : Type 0} {join : JoinDef X Y} {pair : Pair A B X Y U V} {out : Output} {stage : PairStage X Y} {past_first : List (Member X)} {past_second : List (Member Y)}
+module _ {A B X Y U V : Type 0} {join : JoinDef X Y} {pair : Pair A B X Y U V} {out : Output} {stage : Stage X Y} {past_first : List (Member X)} {past_second : List (Member Y)}
     {first : MemberReader A X U} {second : MemberReader B Y V} {grown : Output} (s : Comes join pair out stage past_first past_second first second grown) where
   abbrev Ends : Option FaultValue → MemberReader A X U → MemberReader B Y V → Output → Type 0
   Ends = PairEnds join pair out
 
-  reached_items : (given_first : List (Member X)) → firsts_given stage ≡ member_items given_first → join.Asks (firsts_given stage) stage.taken
+  reached_items : (given_first : List (Member X)) → given stage ≡ member_items given_first → join.Asks (given stage) stage.taken
       → join.Asks (member_items given_first) (member_items past_second)
-  reached_items given_first e asks = subst (λ (l : List X). join.Asks l (member_items past_second)) e (subst (λ (l : List Y). join.Asks (firsts_given stage) l) s.all_taken asks)
+  reached_items given_first e asks = subst (λ (l : List X). join.Asks l (member_items past_second)) e (subst (λ (l : List Y). join.Asks (given stage) l) s.all_taken asks)
 
   -- of the second input was taken what the first needs
-  pub asks_now : join.Asks (firsts_given stage) stage.taken → AsksFor join pair out past_first second
+  pub asks_now : join.Asks (given stage) stage.taken → AsksFor join pair out past_first second
   asks_now asks = record {
     past = past_second;
     reached = reached_items past_first s.all_given asks;
@@ -105,7 +106,7 @@ module _ {A B X Y U V : Type 0} {join : JoinDef X Y} {pair : Pair A B X Y U V} {
   }
 
   -- what was given and taken with more members
-  given_with : (more : List (Member X)) → firsts_given stage ++ member_items more ≡ member_items (past_first ++ more)
+  given_with : (more : List (Member X)) → given stage ++ member_items more ≡ member_items (past_first ++ more)
   given_with more = ap (λ l. l ++ member_items more) s.all_given ∙ sym (map-append (λ m. m.item) past_first more)
 
   taken_with : (more : List (Member Y)) → stage.taken ++ member_items more ≡ member_items (past_second ++ more)
@@ -120,7 +121,7 @@ module _ {A B X Y U V : Type 0} {join : JoinDef X Y} {pair : Pair A B X Y U V} {
   }
 
   -- the second input is still wanted after more members were taken of both
-  pub asks_then : join.Asks (firsts_given stage) stage.taken → ((more : List X) → join.Asks (firsts_given stage) stage.taken → join.Asks (firsts_given stage ++ more) stage.taken)
+  pub asks_then : join.Asks (given stage) stage.taken → ((more : List X) → join.Asks (given stage) stage.taken → join.Asks (given stage ++ more) stage.taken)
       → (more_first : List (Member X)) (more_second : List (Member Y)) (second_now : MemberReader B Y V) → TakesFurther pair.source_b pair.second past_second more_second second second_now
       → AsksFor join pair out (past_first ++ more_first) second_now
   asks_then asks wider more_first more_second second_now takes =
@@ -142,8 +143,8 @@ module _ {A B X Y U V : Type 0} {join : JoinDef X Y} {pair : Pair A B X Y U V} {
   begins_now = begins_items pair.source_a pair.first past_first stage.written (option_to_list stage.waiting) (sym s.all_given) came_first
 
   -- the good members of the first input begin with those that were given
-  given_now : BeginsWith pair.source_a pair.first (firsts_given stage)
-  given_now = begins_items pair.source_a pair.first past_first (firsts_given stage) [] (sym s.all_given ∙ sym (append-nil (firsts_given stage))) came_first
+  given_now : BeginsWith pair.source_a pair.first (given stage)
+  given_now = begins_items pair.source_a pair.first past_first (given stage) [] (sym s.all_given ∙ sym (append-nil (given stage))) came_first
 
   none_buffered : second.buffered ≡ [] → ahead_in second ≡ None
   none_buffered none = ap (λ (l : List Y). first_from (suc (lines_given second.below)) l) none
@@ -151,13 +152,13 @@ module _ {A B X Y U V : Type 0} {join : JoinDef X Y} {pair : Pair A B X Y U V} {
   ended_now : stage.second_ended ≡ true → AreAll pair.source_b pair.second past_second × (ahead_in second ≡ None)
   ended_now e = let all = s.second_all e in (all.0, none_buffered all.1)
 
-  module _ (asks : stage.first_ended ≡ false → AsksFor join pair out past_first second) (fits : IsKnown pair → join.Fits (firsts_given stage) past_second) where
+  module _ (asks : stage.first_ended ≡ false → AsksFor join pair out past_first second) (fits : IsKnown pair → join.Fits (given stage) past_second) where
     -- the bytes so far, and what was read of the inputs later
     wrote_later : (first_now : MemberReader A X U) → HandsOver pair.source_a pair.first first_now → (second_now : MemberReader B Y V)
         → (IsSome second_now.fault → All (λ m. m.line ≤ lines_given second_now.below) (past_second ++ option_to_list (ahead_in second))) → HandsOver pair.source_b pair.second second_now
         → Wrote join pair out stage.written s.bytes first_now second_now grown
     wrote_later first_now handed second_now low handed_second =
-        wrote_by s.second_passes low handed_second handed stage.second_ended settled_now begins_now ended_now s.put.grows (firsts_given stage) given_now fits
+        wrote_by s.second_passes low handed_second handed stage.second_ended settled_now begins_now ended_now s.put.grows (given stage) given_now fits
 
     -- the sink took all but a block of the bytes so far
     near_by : (first_now : MemberReader A X U) (second_now : MemberReader B Y V) (now : Output) → Wrote join pair out stage.written s.bytes first_now second_now grown → GoesOn grown now
@@ -188,7 +189,7 @@ module _ {A B X Y U V : Type 0} {join : JoinDef X Y} {pair : Pair A B X Y U V} {
     -- it ends with the bytes so far
     ends_so : (fault : Option FaultValue) (second_now : MemberReader B Y V) → (IsSome second_now.fault → All (λ m. m.line ≤ lines_given second_now.below) (past_second ++ option_to_list (ahead_in second)))
         → HandsOver pair.source_b pair.second second_now → (stage.first_ended ≡ true) ⊎ AsksFor join pair out past_first second_now
-        → Why join pair out stage.written s.bytes (firsts_given stage) stage.second_ended first second_now fault grown → Ends fault first second_now grown
+        → Why join pair out stage.written s.bytes (given stage) stage.second_ended first second_now fault grown → Ends fault first second_now grown
     unfolding wrote_later wrote_by near_by
     ends_so fault second_now low handed beside why =
         let wrote = wrote_later first s.first_passes.bytes second_now low handed in
@@ -201,18 +202,18 @@ module _ {A B X Y U V : Type 0} {join : JoinDef X Y} {pair : Pair A B X Y U V} {
           exact = λ stops. s.put.puts;
         }
 
-    ends_here : (fault : Option FaultValue) → Why join pair out stage.written s.bytes (firsts_given stage) stage.second_ended first second fault grown → Ends fault first second grown
+    ends_here : (fault : Option FaultValue) → Why join pair out stage.written s.bytes (given stage) stage.second_ended first second fault grown → Ends fault first second grown
     ends_here fault why = ends_so fault second (none_low second s.second_passes.going) s.second_passes.bytes beside_now why
 
     -- more members of both were taken, then the first input stopped: all members of it were written
     module _ (going : stage.first_ended ≡ false) (more_first : List (Member X)) {more_second : List (Member Y)} {second_now : MemberReader B Y V}
         (takes_second : TakesFurther pair.source_b pair.second past_second more_second second second_now) (ended : stage.second_ended ≡ true → (more_second ≡ []) × (second_now.buffered ≡ [])) {more : List ℕ}
-        (settles : IsKnown pair → SettlesPair join (firsts_given stage ++ member_items more_first) (s.bytes ++ more) ((stage.taken ++ member_items more_second) ++ option_to_list (item_ahead second_now)) stage.second_ended)
-        (fits_now : IsKnown pair → join.Fits (firsts_given stage ++ member_items more_first) (past_second ++ more_second)) (asks_first : AsksFor join pair out (past_first ++ more_first) second_now)
+        (settles : IsKnown pair → SettlesPair join (given stage ++ member_items more_first) (s.bytes ++ more) ((stage.taken ++ member_items more_second) ++ option_to_list (item_ahead second_now)) stage.second_ended)
+        (fits_now : IsKnown pair → join.Fits (given stage ++ member_items more_first) (past_second ++ more_second)) (asks_first : AsksFor join pair out (past_first ++ more_first) second_now)
         {fault : FaultValue} {first_now : MemberReader A X U} (stops : StopsAfter pair.source_a pair.first join.first_kinds (past_first ++ more_first) fault first_now)
         (read : IsReadFor pair.source_a pair.first (past_first ++ more_first) (past_first ++ more_first) first_now) {now : Output} (adds : Grown grown more now) where
       abbrev written : List X
-      written = firsts_given stage ++ member_items more_first
+      written = given stage ++ member_items more_first
 
       all_written_now : written ≡ member_items (past_first ++ more_first)
       all_written_now = given_with more_first
@@ -268,9 +269,9 @@ module _ {A B X Y U V : Type 0} {join : JoinDef X Y} {pair : Pair A B X Y U V} {
         let same : past_first ≡ past_first ++ [] = sym (append-nil past_first) in
         let stops = passes_stop pair.source_a pair.first past_first first s.first_passes join.first_kinds wrong first_now fault stopped in
         let read = read_at_stop pair.source_a pair.first past_first first s.first_passes first_now fault stopped in
-        let alone : firsts_given stage ++ [] ≡ stage.written = append-nil (firsts_given stage) ∙ ap (λ (o : Option X). stage.written ++ option_to_list o) none ∙ append-nil stage.written in
+        let alone : given stage ++ [] ≡ stage.written = append-nil (given stage) ∙ ap (λ (o : Option X). stage.written ++ option_to_list o) none ∙ append-nil stage.written in
         first_fails going [] (grind (arith, append-nil, none_pushed)) (λ e. (refl, (s.second_all e).1)) (λ known. rw (alone, append-nil s.bytes, append-nil stage.taken) (s.settles known))
-        (λ known. subst (λ (l : List X). join.Fits l (past_second ++ [])) (sym (append-nil (firsts_given stage))) (subst (λ (l : List (Member Y)). join.Fits (firsts_given stage) l) (sym (append-nil past_second)) (fits known)))
+        (λ known. subst (λ (l : List X). join.Fits l (past_second ++ [])) (sym (append-nil (given stage))) (subst (λ (l : List (Member Y)). join.Fits (given stage) l) (sym (append-nil past_second)) (fits known)))
         (subst (λ (l : List (Member X)). AsksFor join pair out l second) same (asks going))
         (subst (λ (l : List (Member X)). StopsAfter pair.source_a pair.first join.first_kinds l fault first_now) same stops)
         (subst (λ (l : List (Member X)). IsReadFor pair.source_a pair.first l l first_now) same read) (grown_none grown)
@@ -283,8 +284,8 @@ module _ {A B X Y U V : Type 0} {join : JoinDef X Y} {pair : Pair A B X Y U V} {
     pub fails_to_write : (more_first : List (Member X)) (more_second : List (Member Y)) {first_now : MemberReader A X U} {second_now : MemberReader B Y V}
         → TakesFurther pair.source_a pair.first past_first more_first first first_now
         → TakesFurther pair.source_b pair.second past_second more_second second second_now
-        → {written : List X} (rest : List X) → written ++ rest ≡ firsts_given stage ++ member_items more_first
-        → (IsKnown pair → join.Fits (firsts_given stage ++ member_items more_first) (past_second ++ more_second))
+        → {written : List X} (rest : List X) → written ++ rest ≡ given stage ++ member_items more_first
+        → (IsKnown pair → join.Fits (given stage ++ member_items more_first) (past_second ++ more_second))
         → (stage.second_ended ≡ true → (more_second ≡ []) × (second_now.buffered ≡ []))
         → {puts more : List ℕ} → (IsKnown pair → SettlesPair join written (s.bytes ++ (puts ++ more)) ((stage.taken ++ member_items more_second) ++ option_to_list (item_ahead second_now)) stage.second_ended)
         → {through now : Output} {fault : FaultValue} → Grown grown puts through → FailsToAdd through more fault now → Ends (Some fault) first_now second_now now
@@ -299,8 +300,8 @@ module _ {A B X Y U V : Type 0} {join : JoinDef X Y} {pair : Pair A B X Y U V} {
               (λ known. subst (λ (l : List Y). SettlesPair join written (s.bytes ++ (puts ++ more)) (l ++ option_to_list (item_ahead second_now)) stage.second_ended) (taken_with more_second) (settles known))
               (begins_items pair.source_a pair.first (past_first ++ more_first) written rest (sym all ∙ sym parts) begun)
               (grind (arith, append-nil))
-              grows (firsts_given stage ++ member_items more_first)
-              (begins_items pair.source_a pair.first (past_first ++ more_first) (firsts_given stage ++ member_items more_first) [] (sym all ∙ sym (append-nil (firsts_given stage ++ member_items more_first))) begun)
+              grows (given stage ++ member_items more_first)
+              (begins_items pair.source_a pair.first (past_first ++ more_first) (given stage ++ member_items more_first) [] (sym all ∙ sym (append-nil (given stage ++ member_items more_first))) begun)
               fits_now;
           why = inr (inr (
             ap Some fails.puts.is,
@@ -317,7 +318,7 @@ module _ {A B X Y U V : Type 0} {join : JoinDef X Y} {pair : Pair A B X Y U V} {
     fails_waiting a waits more settles fault now fails =
         fails_to_write [] [] (grind (arith, append-nil, none_pushed)) (grind (arith, append-nil, none_pushed))
         [] (ap (λ l. l ++ []) (ap (λ (o : Option X). stage.written ++ option_to_list o) (sym waits)))
-        (λ known. subst (λ (l : List X). join.Fits l (past_second ++ [])) (sym (append-nil (firsts_given stage))) (subst (λ (l : List (Member Y)). join.Fits (firsts_given stage) l) (sym (append-nil past_second)) (fits known)))
+        (λ known. subst (λ (l : List X). join.Fits l (past_second ++ [])) (sym (append-nil (given stage))) (subst (λ (l : List (Member Y)). join.Fits (given stage) l) (sym (append-nil past_second)) (fits known)))
         (λ e. (refl, (s.second_all e).1))
         (λ known. subst (λ (l : List Y). SettlesPair join (stage.written ++ a ∷ []) (s.bytes ++ more) (l ++ option_to_list (item_ahead second)) stage.second_ended) (sym (append-nil stage.taken)) (settles known))
         (grown_none grown) fails
@@ -328,7 +329,7 @@ module _ {A B X Y U V : Type 0} {join : JoinDef X Y} {pair : Pair A B X Y U V} {
       begins_before =
           items_begin (good_coming pair.source_a.left pair.first) past_first stage.written (a ∷ []) (sym s.all_given ∙ ap (λ (o : Option X). stage.written ++ option_to_list o) waits) came_first
 
-      with_waiting : firsts_given stage ≡ stage.written ++ a ∷ []
+      with_waiting : given stage ≡ stage.written ++ a ∷ []
       with_waiting = ap (λ (o : Option X). stage.written ++ option_to_list o) waits
 
       -- with the member ahead of the second too many would be held for the one that waits
@@ -364,12 +365,12 @@ module _ {A B X Y U V : Type 0} {join : JoinDef X Y} {pair : Pair A B X Y U V} {
 
       -- the second input couldn't give a member
       module _ (wrong : (state : V) (line : TextLine) (kind : Kind) → pair.second.format.says state line ≡ Err kind → join.second_kinds kind)
-          (reached : join.Asks (firsts_given stage) stage.taken) (goes : stage.second_ended ≡ false) (opens : IsKnown pair → second.buffered ≡ [] → join.decided a stage.taken ≡ false)
+          (reached : join.Asks (given stage) stage.taken) (goes : stage.second_ended ≡ false) (opens : IsKnown pair → second.buffered ≡ [] → join.decided a stage.taken ≡ false)
           (fault : FaultValue) (second_now : MemberReader B Y V) (stopped : IsStopped pair.source_b second fault second_now) where
         low_stopped : IsSome second_now.fault → All (λ m. m.line ≤ lines_given second_now.below) (past_second ++ option_to_list (ahead_in second))
         low_stopped some = seen_low past_second second (lines_given second_now.below) (none_buffered stopped.answers.was_none) (up_to (lines_given second.below) (lines_given second_now.below) past_second stopped.answers.rises s.second_passes.behind)
 
-        second_why : SecondFails join pair out stage.second_ended past_second second_now fault → Why join pair out stage.written s.bytes (firsts_given stage) stage.second_ended first second_now (Some fault) grown
+        second_why : SecondFails join pair out stage.second_ended past_second second_now fault → Why join pair out stage.written s.bytes (given stage) stage.second_ended first second_now (Some fault) grown
         second_why fails =
             inl (
               inr (inl (
@@ -389,7 +390,7 @@ module _ {A B X Y U V : Type 0} {join : JoinDef X Y} {pair : Pair A B X Y U V} {
               s.put.works,
             )
 
-        second_stops : StopsAfter pair.source_b pair.second join.second_kinds past_second fault second_now → Why join pair out stage.written s.bytes (firsts_given stage) stage.second_ended first second_now (Some fault) grown
+        second_stops : StopsAfter pair.source_b pair.second join.second_kinds past_second fault second_now → Why join pair out stage.written s.bytes (given stage) stage.second_ended first second_now (Some fault) grown
         second_stops stops =
             elim stops.cause [
               | inl fails ↦ second_why (record { cause = fails; before_end = λ e. absurd (false≢true (sym goes ∙ e)) })
@@ -406,7 +407,7 @@ module _ {A B X Y U V : Type 0} {join : JoinDef X Y} {pair : Pair A B X Y U V} {
             })) (second_stops stops)
 
       -- at its end the waiting member wasn't written
-      pub fails_at_end : join.Asks (firsts_given stage) stage.taken → stage.second_ended ≡ false
+      pub fails_at_end : join.Asks (given stage) stage.taken → stage.second_ended ≡ false
           → (fault : FaultValue) (second_now : MemberReader B Y V) (now : Output) → IsOver pair.source_b second second_now
           → FailsToAdd grown (join.bytes a stage.taken) fault now → Ends (Some fault) first second_now now
       fails_at_end reached goes fault second_now now over fails =
@@ -420,7 +421,7 @@ module _ {A B X Y U V : Type 0} {join : JoinDef X Y} {pair : Pair A B X Y U V} {
                 (λ known. rw seen (settles_end join stage.written s.bytes stage.taken false a (settles_ended s goes second_now over known)))
                 (begins_items pair.source_a pair.first past_first (stage.written ++ a ∷ []) [] (sym s.all_given ∙ with_waiting ∙ sym (append-nil (stage.written ++ a ∷ []))) came_first)
                 (λ e. (passes_all pair.source_b pair.second past_second second s.second_passes second_now over, ap (λ (l : List Y). first_from (suc (lines_given second_now.below)) l) over.ends.none_buffered))
-                (grows_both out.took grown.took now.took s.put.grows fails.puts.grows) (firsts_given stage) given_now fits;
+                (grows_both out.took grown.took now.took s.put.grows fails.puts.grows) (given stage) given_now fits;
             why = inr (inr (ap Some fails.puts.is, cuts_more out grown now s.bytes more fault s.put.puts fails));
             near = near_by first second_now now (wrote_later first s.first_passes.bytes second_now (none_low second_now p.going) p.bytes) (goes_failed grown now fails.puts.grows fails.puts.failed) refl (inr (record {
               past = past_second;

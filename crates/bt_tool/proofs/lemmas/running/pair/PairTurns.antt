@@ -5,7 +5,8 @@ use Rattle.bt_lines.specs.calls.Reader.{end_told, source_of, lines_given, lines_
 use Rattle.bt_bed.specs.model.Good.{Member}
 use Rattle.bt_bed.specs.calls.Reading.{MemberReader, GivesMember, ahead_in, first_from, good_coming, members_from}
 use Rattle.bt_tool.specs.inside.Feed.{IsReadFor, Passes, HasPut, member_items, AreAll, HasTaken}
-use Rattle.bt_tool.specs.inside.Pair.{PairStage, firsts_given, JoinDef, MayCome, SettlesPair, HasNoMore, IsKnown, Pair, item_ahead, Comes}
+use Rattle.bt_tool.specs.inside.Pair.{JoinDef, MayCome, SettlesPair, HasNoMore, IsKnown, Pair, item_ahead, Comes}
+use Rattle.bt_bed.specs.calls.Stage.{Follows, Stage, at_start, given, with_first_ended, with_second_ended}
 use Rattle.bt_lines.specs.model.Fault.{FaultValue}
 use Rattle.bt_lines.specs.model.Lines.{bytes_in, TextLine}
 use Rattle.bt_lines.specs.calls.Output.{Output, HoldsBlock, block_size, Grown}
@@ -16,16 +17,6 @@ use Rattle.bt_lines.specs.declared.fault.Kind.{Kind}
 use Rattle.bt_lines.proofs.lemmas.reader.lines.TakingLemmas.{hands_both}
 use Rattle.bt_tool.specs.inside.SweepLoop.{ChecksUpTo}
 use Rattle.bt_tool.proofs.lemmas.running.feed.WritingLemmas.{up_to}
-
--- from one stage on more members of the first input were given, some of those given were written,
--- and more members of the second were taken
-pub record Follows {X Y : Type 0} (old : PairStage X Y) (firsts newly : List X) (seconds : List Y)
-    (new : PairStage X Y) : Type 0 where
-  pub given_is : firsts_given new ≡ firsts_given old ++ firsts
-  pub written_is : new.written ≡ old.written ++ newly
-  pub taken_is : new.taken ≡ old.taken ++ seconds
-  pub first_is : new.first_ended ≡ old.first_ended
-  pub second_is : new.second_ended ≡ old.second_ended
 
 -- a reader that had consumed some members consumed more of them, and read nothing
 pub record TakesFurther {S A State : Type 0} (device : Source S)
@@ -183,12 +174,9 @@ pub seen_alone : {S A State : Type 0} (taken : List A) (now : MemberReader S A S
 seen_alone {S} {A} {State} taken now none = grind (arith, append-nil)
 
 module _ {A B X Y U V : Type 0} (join : JoinDef X Y) (pair : Pair A B X Y U V) (out : Output) where
-  abbrev pub first_stage : PairStage X Y
-  first_stage = record { written = []; waiting = None; taken = []; first_ended = false; second_ended = false }
-
   -- nothing was given yet
   pub comes_start : Passes pair.source_a pair.first [] pair.first → Passes pair.source_b pair.second [] pair.second
-      → HoldsBlock out.took out.put → Comes join pair out first_stage [] [] pair.first pair.second out
+      → HoldsBlock out.took out.put → Comes join pair out at_start [] [] pair.first pair.second out
   comes_start passes passes_second block = record {
     first_passes = passes;
     second_passes = passes_second;
@@ -203,7 +191,7 @@ module _ {A B X Y U V : Type 0} (join : JoinDef X Y) (pair : Pair A B X Y U V) (
   }
 
 -- a run has come so far
-module _ {A B X Y U V : Type 0} {join : JoinDef X Y} {pair : Pair A B X Y U V} {out : Output} {stage : PairStage X Y} {past_first : List (Member X)} {past_second : List (Member Y)}
+module _ {A B X Y U V : Type 0} {join : JoinDef X Y} {pair : Pair A B X Y U V} {out : Output} {stage : Stage X Y} {past_first : List (Member X)} {past_second : List (Member Y)}
     {first : MemberReader A X U} {second : MemberReader B Y V} {grown : Output} (s : Comes join pair out stage past_first past_second first second grown) where
   -- if none waits, all are written
   pub all_written : stage.waiting ≡ None → stage.written ≡ member_items past_first
@@ -246,8 +234,8 @@ module _ {A B X Y U V : Type 0} {join : JoinDef X Y} {pair : Pair A B X Y U V} {
       (takes : TakesFurther pair.source_a pair.first past_first more_first first first_now)
       (takes_second : TakesFurther pair.source_b pair.second past_second more_second second second_now)
       (ended : stage.first_ended ≡ true → (more_first ≡ []) × (first_now.buffered ≡ [])) (ended_second : stage.second_ended ≡ true → (more_second ≡ []) × (second_now.buffered ≡ []))
-      {newly : List X} {new : PairStage X Y} (follows : Follows stage (member_items more_first) newly (member_items more_second) new) where
-    all_now : firsts_given new ≡ member_items (past_first ++ more_first)
+      {newly : List X} {new : Stage X Y} (follows : Follows stage (member_items more_first) newly (member_items more_second) new) where
+    all_now : given new ≡ member_items (past_first ++ more_first)
     all_now = follows.given_is ∙ ap (λ l. l ++ member_items more_first) s.all_given ∙ sym (map-append (λ m. m.item) past_first more_first)
 
     none_more : {T : Type 0} (past more : List T) → more ≡ [] → past ≡ past ++ more
@@ -330,7 +318,7 @@ module _ {A B X Y U V : Type 0} {join : JoinDef X Y} {pair : Pair A B X Y U V} {
     unfolding read_here
     no_more_first = grind (arith, (ended_after_all pair.source_a pair.first past_first first s.first_passes first_now over))
 
-    pub ends_first : Comes join pair out (record stage { first_ended = true }) past_first past_second first_now second grown
+    pub ends_first : Comes join pair out (with_first_ended stage) past_first past_second first_now second grown
     ends_first = with_first true none first_now ended_passes (λ e. (passes_all pair.source_a pair.first past_first first s.first_passes first_now over, over.ends.none_buffered, over.ends.told)) (λ e. no_more_first)
 
   pub first_waits : (a : X) → stage.waiting ≡ Some a → stage.first_ended ≡ false
@@ -343,26 +331,26 @@ module _ {A B X Y U V : Type 0} {join : JoinDef X Y} {pair : Pair A B X Y U V} {
     settles_ended known = search rules
 
     -- its end was given
-    ends_by : (now : Output) (bytes : List ℕ) → (IsKnown pair → SettlesPair join (firsts_given stage) bytes stage.taken true) → HasPut out bytes now
-        → ((past : List (Member X)) × (member_items past ≡ firsts_given stage)
+    ends_by : (now : Output) (bytes : List ℕ) → (IsKnown pair → SettlesPair join (given stage) bytes stage.taken true) → HasPut out bytes now
+        → ((past : List (Member X)) × (member_items past ≡ given stage)
         × (read : IsReadFor pair.source_a pair.first past past_first first) × (stage.first_ended ≡ true → HasNoMore pair first read.to.count))
-        → Comes join pair out (record stage { written = firsts_given stage; waiting = None; second_ended = true }) past_first past_second first second_now now
+        → Comes join pair out (with_second_ended stage) past_first past_second first second_now now
     ends_by now bytes settles put near = grind (arith, passes_end, append-nil, passes_all)
 
     -- the waiting member was written
     pub ends_waiting : (a : X) → stage.waiting ≡ Some a → (now : Output) → Grown grown (join.bytes a stage.taken) now
-        → Comes join pair out (record stage { written = firsts_given stage; waiting = None; second_ended = true }) past_first past_second first second_now now
+        → Comes join pair out (with_second_ended stage) past_first past_second first second_now now
     ends_waiting a waits now adds =
         let more = join.bytes a stage.taken in
-        let with_waiting : firsts_given stage ≡ stage.written ++ a ∷ [] = ap (λ (o : Option X). stage.written ++ option_to_list o) waits in
+        let with_waiting : given stage ≡ stage.written ++ a ∷ [] = ap (λ (o : Option X). stage.written ++ option_to_list o) waits in
         ends_by now (s.bytes ++ more)
         (λ known. subst (λ (w : List X). SettlesPair join w (s.bytes ++ more) stage.taken true) (sym with_waiting) (settles_end join stage.written s.bytes stage.taken false a (search rules)))
         (put_more out grown now s.bytes more s.put adds) (past_first, sym s.all_given, read_here pair.source_a pair.first past_first first s.first_passes, λ e. absurd (false≢true (sym (first_waits a waits) ∙ e)))
 
     -- or none waited
-    pub ends_alone : stage.waiting ≡ None → Comes join pair out (record stage { written = firsts_given stage; waiting = None; second_ended = true }) past_first past_second first second_now grown
+    pub ends_alone : stage.waiting ≡ None → Comes join pair out (with_second_ended stage) past_first past_second first second_now grown
     ends_alone none =
-        let all : stage.written ≡ firsts_given stage = sym (append-nil stage.written) ∙ ap (λ (o : Option X). stage.written ++ option_to_list o) (sym none) in
+        let all : stage.written ≡ given stage = sym (append-nil stage.written) ∙ ap (λ (o : Option X). stage.written ++ option_to_list o) (sym none) in
         let near = s.near_first in
         ends_by grown s.bytes
         (λ known. subst (λ (w : List X). SettlesPair join w s.bytes stage.taken true) all (settles_close join stage.written s.bytes stage.taken (search rules)))

@@ -22,8 +22,8 @@ use Rattle.bt_sweep.proofs.lemmas.definitions.HitLemmas.{cut_front, cut_here, cu
 use Rattle.bt_tool.proofs.lemmas.running.pair.PairMet.{AreLimits}
 use Rattle.bt_bed.specs.calls.Reading.{IsFaultBeyond, members_from}
 use Rattle.bt_sweep.specs.model.Lines.{intersect}
-use Rattle.bt_sweep.specs.declared.sweep.phase.Phase.{Phase}
-use Rattle.bt_sweep.specs.declared.sweep.phase.Phase.TheVariants.{First}
+use Rattle.bt_sweep.specs.declared.sweep.state.Phase.{Phase}
+use Rattle.bt_sweep.specs.declared.sweep.state.Phase.TheVariants.{SecondEnded}
 use Rattle.bt_sweep.proofs.lemmas.sweep.KeepLemmas.{decided_before, decided_behind, decided_both, lines_stay_so}
 use Rattle.bt_tool.specs.inside.Pair.{JoinDef, SettlesPair}
 use Rattle.bt_tool.proofs.lemmas.running.pair.PairTurns.{all_or, settles_list}
@@ -213,7 +213,7 @@ module _ {order : Order} (total : IsTotal order) where
 
     -- more records of the first are settled
     pub settles_newly : {written : List Feature} (newly : List Feature) {bytes : List ℕ} {taken : List Feature} {o : Option Feature} {ended : Bool} {phase : Phase} → SettlesPair join_of written bytes (taken ++ option_to_list o) ended → ArePlaced order (intervals_of newly)
-        → (phase ≡ First → (ended ≡ true) × (o ≡ None)) → (ss : List Feature) (before : List Feature) → taken ≡ before ++ ss → Settles order phase newly (ss ++ option_to_list o)
+        → (phase ≡ SecondEnded → (ended ≡ true) × (o ≡ None)) → (ss : List Feature) (before : List Feature) → taken ≡ before ++ ss → Settles order phase newly (ss ++ option_to_list o)
         → SettlesPair join_of (written ++ newly) (bytes ++ intersect config.shape config.rule newly taken) (taken ++ option_to_list o) ended
     settles_newly {written} newly {bytes} {taken} {o} {ended} s known ends ss before parts (inl first) =
         let done = ends first in

@@ -1,7 +1,8 @@
 -- Lemmas on the rounds of a sweep over two readers: how far each comes, what it reads, and how much is still wanted.
 use Rattle.bt_lines.proofs.Std.{◌≡◌, ℕ, ◌+◌, ◌*◌, ◌≤◌, ◌<◌, Bool, true, false, List, length, length-append, Option, None, Some, Ok, Err, refl, sym, ap, ◌∙◌, subst, arith, inl, inr, option_to_list, [], ◌⊎◌, IsErrAnd, Result, is_some}
 use Rattle.bt_lines.specs.calls.Output.{HoldsBlock, Output}
-use Rattle.bt_sweep.specs.calls.Sweeping.{first_stage, IsInOrder, MovesTo, Stage, StandsAt, with_a_ended, AdvancesOn, AdvancesSo, HasWritten, StopsFor, EndsB, Sweeping, is_over as is_done, want_in}
+use Rattle.bt_sweep.specs.calls.Sweeping.{IsInOrder, MovesTo, StandsAt, AdvancesOn, AdvancesSo, HasWritten, StopsFor, EndsB, Sweeping, is_over as is_done, want_in}
+use Rattle.bt_bed.specs.calls.Stage.{at_start, Stage, with_first_ended}
 use Rattle.bt_sweep.specs.calls.SweepView.{order_of as sweep_order, state_of}
 use Rattle.bt_tool.specs.inside.Feed.{IsFresh, KeepsOwnFault, ConsumesGiven}
 use Rattle.bt_tool.specs.declared.loops.sweeping.SweepConfig.{SweepConfig}
@@ -25,8 +26,8 @@ use Rattle.bt_bed.specs.calls.Records.{FillsRecords, below, fault_kept, order_in
 use Rattle.bt_bed.proofs.lemmas.order.TableLemmas.{passed_on}
 use Rattle.bt_bed.specs.declared.order.ChromOrder.{Ghosts}
 use Rattle.bt_bed.specs.declared.read.records.Records.{Records}
-use Rattle.bt_sweep.specs.declared.sweep.want.Want.{Want}
-use Rattle.bt_sweep.specs.declared.sweep.want.Want.TheVariants.{A as WantA, B as WantB, Nothing}
+use Rattle.bt_sweep.specs.declared.sweep.Want.{Want}
+use Rattle.bt_sweep.specs.declared.sweep.Want.TheVariants.{A as WantA, B as WantB, Nothing}
 use Rattle.bt_tool.specs.declared.loops.sweeping.SweepRun.{SweepRun}
 use Rattle.bt_tool.specs.calls.Run.{AnswersNoRead, TellsNoRead}
 use Rattle.bt_tool.specs.inside.Pair.{HaveRead, PairEnds}
@@ -38,12 +39,12 @@ module _ {A B O : Type 0} {g : Ghosts O} (source_a : Source A) (source_b : Sourc
     (config : SweepConfig) (first : Records A O g) (second : Records B O g) (out : Output) where
   -- nothing was given yet
   pub sweeps_start : IsFresh source_a (view_of first) → IsFresh source_b (view_of second)
-      → HoldsBlock out.took out.put → (sweep : Sweeping) → StandsAt (order_in first) first_stage sweep → config_of sweep ≡ config
+      → HoldsBlock out.took out.put → (sweep : Sweeping) → StandsAt (order_in first) at_start sweep → config_of sweep ≡ config
       → Sweeps source_a source_b (order_in first) config first second out first second sweep out
   sweeps_start fresh fresh_second block sweep stands config_is = record {
     past_first = [];
     past_second = [];
-    stage = first_stage;
+    stage = at_start;
     stands = stands;
     config_is = config_is;
     comes = comes_start (sweep_join (order_in first) config) (records_pair source_a source_b first second) out
@@ -165,10 +166,10 @@ module _ {A B O : Type 0} {g : Ghosts O} {source_a : Source A} {source_b : Sourc
 
     module _ (now : SweepRun A B O g) (same : now.first ≡ first_now) (same_second_now : now.second ≡ old.second) (same_order : sweep_order now.sweep ≡ order) where
       pub first_ended : FillsRecords source_a old.first (Ok false) first_now
-          → ((stage : Stage) → StandsAt order stage sweep → MovesTo order sweep (with_a_ended stage) (state_of now.sweep)) → Goes now grown × Filled now
+          → ((stage : Stage Feature Feature) → StandsAt order stage sweep → MovesTo order sweep (with_first_ended stage) (state_of now.sweep)) → Goes now grown × Filled now
       first_ended fills ends =
-          let moves : MovesTo (order_in start.first) sweep (with_a_ended s.sweeps.stage) (state_of now.sweep) =
-          subst (λ (o : Order). (stage : Stage) → StandsAt o stage sweep → MovesTo o sweep (with_a_ended stage) (state_of now.sweep)) s.order_is ends s.sweeps.stage s.sweeps.stands in
+          let moves : MovesTo (order_in start.first) sweep (with_first_ended s.sweeps.stage) (state_of now.sweep) =
+          subst (λ (o : Order). (stage : Stage Feature Feature) → StandsAt o stage sweep → MovesTo o sweep (with_first_ended stage) (state_of now.sweep)) s.order_is ends s.sweeps.stage s.sweeps.stands in
           let none : (state_of now.sweep).current ≡ None = moves.stands.current_is ∙ none_waits s wants in
           let done : is_done (state_of now.sweep).phase ≡ true = ap is_done moves.stands.phase_is ∙ (grind arith) in (
             comes_to now grown (rw (same, same_second_now) (ends_first s wants first_now (state_of now.sweep) fills moves)) same_order (rw same fills.own_failure, rw same_second_now same_second),
@@ -212,7 +213,7 @@ module _ {A B O : Type 0} {g : Ghosts O} {source_a : Source A} {source_b : Sourc
 
     module _ (fills : FillsRecords source_b old.second (Ok false) second_now) (now : SweepRun A B O g) (same_first_now : now.first ≡ old.first) (same : now.second ≡ second_now) (later : Output) where
       abbrev Ending : {T : Type 0} → Result T Fault → Type 0
-      Ending answer = (stage : Stage) (a : Feature) → StandsAt order stage sweep → stage.waiting ≡ Some a → IsInOrder order stage → EndsB order stage a sweep grown answer (state_of now.sweep) later
+      Ending answer = (stage : Stage Feature Feature) (a : Feature) → StandsAt order stage sweep → stage.waiting ≡ Some a → IsInOrder order stage → EndsB order stage a sweep grown answer (state_of now.sweep) later
 
       ending : {T : Type 0} (answer : Result T Fault) → Ending answer → EndsB (order_in start.first) s.sweeps.stage (waiting s wants).0 sweep grown answer (state_of now.sweep) later
       ending answer ends = grind (arith, (waiting s wants), (in_order s))

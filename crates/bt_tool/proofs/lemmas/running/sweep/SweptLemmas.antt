@@ -19,10 +19,11 @@ use Rattle.bt_bed.specs.declared.read.batch.Batch.{Batch}
 use Rattle.bt_bed.specs.declared.order.ChromOrder.{Ghosts}
 use Rattle.bt_bed.specs.declared.read.records.Records.{Records}
 use Rattle.bt_bed.proofs.lemmas.order.OrderLemmas.{sorted_up_to, grows_placed, last_of-push}
-use Rattle.bt_sweep.specs.calls.Sweeping.{AdvancesOn, Settles, ComesNext, Sweeping, AdvancesSo, FailsAt, PutsEach, stage_after, AreDecided, CannotBeHeld, TakenEach, has_room, IsInOrder, MovesTo, Stage, StandsAt, given, phase_of, with_a_ended, with_b_ended, is_over as is_done, want_in, want_of}
+use Rattle.bt_sweep.specs.calls.Sweeping.{AdvancesOn, Settles, ComesNext, Sweeping, AdvancesSo, FailsAt, PutsEach, stage_after, AreDecided, CannotBeHeld, TakenEach, has_room, IsInOrder, MovesTo, StandsAt, phase_of, is_over as is_done, want_in, want_of}
+use Rattle.bt_bed.specs.calls.Stage.{given, Stage, with_first_ended, with_second_ended}
 use Rattle.bt_sweep.specs.calls.SweepView.{state_of}
 use Rattle.bt_sweep.specs.model.Hits.{decided, held_for, is_held}
-use Rattle.bt_sweep.specs.declared.sweep.phase.Phase.{Phase}
+use Rattle.bt_sweep.specs.declared.sweep.state.Phase.{Phase}
 use Rattle.bt_sweep.proofs.lemmas.sweep.KeepLemmas.{decided_before, undecided_beside}
 use Rattle.bt_tool.specs.inside.Pair.{item_ahead, IsKnown, JoinDef, Pair, SettlesPair, Comes, AsksFor, PairEnds}
 use Rattle.bt_tool.specs.inside.Feed.{HasTaken, ConsumesGiven, member_items, Passes, StopsAfter}
@@ -39,13 +40,13 @@ use Rattle.bt_lines.specs.declared.fault.Kind.TheVariants.{TooManyHeld}
 use Rattle.bt_bed.proofs.lemmas.parse.NameLemmas.{name_eq}
 use Rattle.bt_bed.proofs.lemmas.read.batch.RecordsLemmas.{wrong_of_bed}
 use Rattle.bt_sweep.specs.model.Lines.{intersect, lines_for}
-use Rattle.bt_sweep.specs.declared.sweep.phase.Phase.TheVariants.{First}
-use Rattle.bt_sweep.specs.declared.sweep.want.Want.TheVariants.{A as WantA, B as WantB, Nothing}
+use Rattle.bt_sweep.specs.declared.sweep.state.Phase.TheVariants.{SecondEnded}
+use Rattle.bt_sweep.specs.declared.sweep.Want.TheVariants.{A as WantA, B as WantB, Nothing}
 use Rattle.bt_sweep.proofs.lemmas.definitions.HitLemmas.{none_before, placed_back, front_placed}
 use Rattle.bt_tool.specs.declared.loops.sweeping.SweepConfig.{SweepConfig}
 use Rattle.bt_tool.specs.declared.loops.sweeping.SweepRun.{SweepRun}
 use Rattle.bt_tool.proofs.lemmas.running.pair.PairTurns.{TakesFurther, settles_seen}
-use Rattle.bt_tool.specs.inside.SweepLoop.{AreWithin, SweepComes, ReadsRest, Sweeps, config_of, records_pair, stage_of, sweep_join, sweep_rounds}
+use Rattle.bt_tool.specs.inside.SweepLoop.{AreWithin, SweepComes, ReadsRest, Sweeps, config_of, records_pair, sweep_join, sweep_rounds}
 use Rattle.bt_tool.proofs.lemmas.running.sweep.SweepFacts.{leaves_more, cuts_at, within_given, fits_each, open_last, settles_newly}
 use Rattle.bt_tool.proofs.lemmas.running.members.MemberLemmas.{items_from}
 use Rattle.bt_tool.proofs.lemmas.running.pair.PairStops as stop
@@ -112,7 +113,7 @@ wants_second w done e = grind arith
 pub wants_nothing : (w : Option Feature) (done : Bool) → want_of (is_some w) done ≡ Nothing → (done ≡ true) × (sweep_rounds (is_some w) done ≡ 0)
 wants_nothing w done e = grind arith
 
-first_is : (a b : Bool) → phase_of a b ≡ First → b ≡ true
+first_is : (a b : Bool) → phase_of a b ≡ SecondEnded → b ≡ true
 first_is a b e = grind arith
 
 says_bed : (order : Order) (format : Format Feature (Option Locus)) → format ≡ bed_format (sorting_of order) → (state : Option Locus) (line : TextLine) (kind : Kind) → format.says state line ≡ Err kind → IsBedKind order kind
@@ -169,9 +170,9 @@ module _ {A B O : Type 0} {g : Ghosts O} {source_a : Source A} {source_b : Sourc
   second_placed past now p = grind (arith, said_in_order)
 
   -- with the member ahead too many would be held
-  limit_case : {fault : FaultValue} (first_now : Records A O g) (second_now : Records B O g) → order_in second_now ≡ order → {later : Stage} {last : Feature} → later.waiting ≡ Some last → later.b_ended ≡ false
+  limit_case : {fault : FaultValue} (first_now : Records A O g) (second_now : Records B O g) → order_in second_now ≡ order → {later : Stage Feature Feature} {last : Feature} → later.waiting ≡ Some last → later.second_ended ≡ false
       → {past_first past_second : List (Member Feature)} {grown : Output}
-      → Comes join pair out (stage_of later) past_first past_second (view_of first_now) (view_of second_now) grown → (later.a_ended ≡ false → AsksFor join pair out past_first (view_of second_now))
+      → Comes join pair out later past_first past_second (view_of first_now) (view_of second_now) grown → (later.first_ended ≡ false → AsksFor join pair out past_first (view_of second_now))
       → (IsKnown pair → AreWithin order config.limit (given later) past_second) → {m : Member Feature} → ahead_in (view_of second_now) ≡ Some m → m.item.chrom ≡ last.chrom → m.item.start < last.stop → last.start < m.item.stop → order.knows last.chrom ≡ true
       → has_room config.limit (length (held_for (Some last) later.taken)) ≡ false → fault ≡ fault_at_line Second m.line TooManyHeld → Ends (Some fault) first_now second_now grown
   limit_case {fault} first_now second_now is_order {later} {last} waits going {past_second} comes asks fits {m} ahead on starts ends known full is =
@@ -211,7 +212,7 @@ module _ {A B O : Type 0} {g : Ghosts O} {source_a : Source A} {source_b : Sourc
   abbrev sweep : Sweeping
   sweep = state_of run.sweep
 
-  abbrev stage : Stage
+  abbrev stage : Stage Feature Feature
   stage = s.stage
 
   placed_given : ArePlaced order (intervals_of (given stage))
@@ -227,18 +228,18 @@ module _ {A B O : Type 0} {g : Ghosts O} {source_a : Source A} {source_b : Sourc
   by_config : (P : SweepConfig → Type 0) → P (config_of sweep) → P config
   by_config P p = subst P s.config_is p
 
-  moved : (swept : Sweeping) (next : Stage) → MovesTo order sweep next swept → config_of swept ≡ config
+  moved : (swept : Sweeping) (next : Stage Feature Feature) → MovesTo order sweep next swept → config_of swept ≡ config
   moved swept next moves = (grind arith) ∙ s.config_is
 
   abbrev asked : join.Asks (given stage) stage.taken
   asked = s.stands.holds.reached
 
-  asks_here : stage.a_ended ≡ false → AsksFor join pair out s.past_first (view_of second)
+  asks_here : stage.first_ended ≡ false → AsksFor join pair out s.past_first (view_of second)
   asks_here going = stop.asks_now s.comes asked
 
   -- no more was taken, and the sweep is at another stage
-  goes_on : (first_now : Records A O g) (second_now : Records B O g) (swept : Sweeping) (now : Output) (next : Stage) → StandsAt order next swept → config_of swept ≡ config
-      → Comes join pair out (stage_of next) s.past_first s.past_second (view_of first_now) (view_of second_now) now → order_in first_now ≡ order_in first → order_in second_now ≡ order_in second
+  goes_on : (first_now : Records A O g) (second_now : Records B O g) (swept : Sweeping) (now : Output) (next : Stage Feature Feature) → StandsAt order next swept → config_of swept ≡ config
+      → Comes join pair out next s.past_first s.past_second (view_of first_now) (view_of second_now) now → order_in first_now ≡ order_in first → order_in second_now ≡ order_in second
       → (IsKnown pair → AreWithin order config.limit (given next) s.past_second) → Going first_now second_now swept now
   goes_on first_now second_now swept now next stands config_is comes same same_second fits = grind arith
 
@@ -248,7 +249,7 @@ module _ {A B O : Type 0} {g : Ghosts O} {source_a : Source A} {source_b : Sourc
     pub none_waits : stage.waiting ≡ None
     none_waits = sym s.stands.current_is ∙ (wants_first sweep.current (is_done sweep.phase) wants).0
 
-    not_ended : stage.a_ended ≡ false
+    not_ended : stage.first_ended ≡ false
     not_ended = sym (grind arith) ∙ ap is_done (sym s.stands.phase_is) ∙ (wants_first sweep.current (is_done sweep.phase) wants).1
 
     pub fills_first : (first_now : Records A O g) → FillsRecords source_a first (Ok true) first_now → Going first_now second sweep grown
@@ -258,9 +259,9 @@ module _ {A B O : Type 0} {g : Ghosts O} {source_a : Source A} {source_b : Sourc
         fills.order refl s.fits
 
     pub ends_first : (first_now : Records A O g) (swept : Sweeping) → FillsRecords source_a first (Ok false) first_now
-        → MovesTo order sweep (with_a_ended stage) swept → Going first_now second swept grown
+        → MovesTo order sweep (with_first_ended stage) swept → Going first_now second swept grown
     ends_first first_now swept fills moves =
-        goes_on first_now second swept grown (with_a_ended stage) moves.stands (moved swept (with_a_ended stage) moves)
+        goes_on first_now second swept grown (with_first_ended stage) moves.stands (moved swept (with_first_ended stage) moves)
         (turned.ends_first s.comes none_waits not_ended (view_of first_now) (is_over source_a first first_now fills))
         fills.order refl s.fits
 
@@ -278,7 +279,7 @@ module _ {A B O : Type 0} {g : Ghosts O} {source_a : Source A} {source_b : Sourc
     abbrev a : Feature
     a = waiting.0
 
-    goes : stage.b_ended ≡ false
+    goes : stage.second_ended ≡ false
     goes = (s.stands.unended (ap is_some waiting.1)).1
 
     pub fills_second : (second_now : Records B O g) → FillsRecords source_b second (Ok true) second_now → Going first second_now sweep grown
@@ -288,9 +289,9 @@ module _ {A B O : Type 0} {g : Ghosts O} {source_a : Source A} {source_b : Sourc
         refl fills.order s.fits
 
     pub ends_second : (second_now : Records B O g) (swept : Sweeping) (now : Output) → FillsRecords source_b second (Ok false) second_now
-        → MovesTo order sweep (with_b_ended stage) swept → Grown grown (lines_for sweep.shape sweep.rule a stage.taken) now → Going first second_now swept now
+        → MovesTo order sweep (with_second_ended stage) swept → Grown grown (lines_for sweep.shape sweep.rule a stage.taken) now → Going first second_now swept now
     ends_second second_now swept now fills moves adds =
-        goes_on first second_now swept now (with_b_ended stage) moves.stands (moved swept (with_b_ended stage) moves)
+        goes_on first second_now swept now (with_second_ended stage) moves.stands (moved swept (with_second_ended stage) moves)
         (turned.ends_waiting s.comes goes (view_of second_now) (is_over source_b second second_now fills) a waiting.1 now
         (by_config (λ c. Grown grown (lines_for c.shape c.rule a stage.taken) now) adds))
         refl fills.order (λ known. subst (λ (gs : List Feature). AreWithin order config.limit gs s.past_second) (sym (append-nil (given stage))) (s.fits known))
@@ -345,22 +346,22 @@ module _ {A B O : Type 0} {g : Ghosts O} {source_a : Source A} {source_b : Sourc
     pub placed_second : ArePlaced order (intervals_of (stage.taken ++ ss))
     placed_second = subst (λ (l : List Feature). ArePlaced order (intervals_of l)) (sym taken_then) (second_placed (s.past_second ++ more_second) (view_of second_now) further_second.passes)
 
-    ended_first : stage.a_ended ≡ true → (more_first ≡ []) × ((view_of first_now).buffered ≡ [])
+    ended_first : stage.first_ended ≡ true → (more_first ≡ []) × ((view_of first_now).buffered ≡ [])
     ended_first e =
         let none = turned.both_none fs (view_of first_now).buffered (sym takes.first_taken.takes.buffered ∙ (s.comes.first_all e).2) in
         (ap (members_from (suc (lines_given (below first)))) none.0, none.1)
 
-    none_second : stage.b_ended ≡ true → (ss ≡ []) × ((view_of second_now).buffered ≡ [])
+    none_second : stage.second_ended ≡ true → (ss ≡ []) × ((view_of second_now).buffered ≡ [])
     none_second e = turned.both_none ss (view_of second_now).buffered (sym takes.second_taken.takes.buffered ∙ (s.comes.second_all e).1)
 
-    ended_second : stage.b_ended ≡ true → (more_second ≡ []) × ((view_of second_now).buffered ≡ [])
+    ended_second : stage.second_ended ≡ true → (more_second ≡ []) × ((view_of second_now).buffered ≡ [])
     ended_second e = let none = none_second e in (ap (members_from (suc (lines_given (below second)))) none.0, none.1)
 
-    not_ended_with : (m : Member Feature) → ahead_in (view_of second_now) ≡ Some m → (b : Bool) → stage.b_ended ≡ b → b ≡ false
+    not_ended_with : (m : Member Feature) → ahead_in (view_of second_now) ≡ Some m → (b : Bool) → stage.second_ended ≡ b → b ≡ false
     not_ended_with m ahead b e = grind (arith, none_second)
 
     -- what is seen of the second input grows
-    seen_by : (b : Bool) → stage.b_ended ≡ b → (xs : List Feature) → ss ≡ xs → SettlesPair join stage.written s.comes.bytes (stage.taken ++ option_to_list (item_ahead (view_of second))) b
+    seen_by : (b : Bool) → stage.second_ended ≡ b → (xs : List Feature) → ss ≡ xs → SettlesPair join stage.written s.comes.bytes (stage.taken ++ option_to_list (item_ahead (view_of second))) b
         → SettlesPair join stage.written s.comes.bytes ((stage.taken ++ xs) ++ option_to_list (item_ahead (view_of second_now))) b
     seen_by true e xs is settles = grind (arith, none_second, append-nil)
     seen_by false e [] is settles = grind (arith, item_same, append-nil)
@@ -368,16 +369,16 @@ module _ {A B O : Type 0} {g : Ghosts O} {source_a : Source A} {source_b : Sourc
         let rest = xs ++ option_to_list (item_ahead (view_of second_now)) in
         grind (arith, (append_assoc stage.taken (x ∷ []) rest), (append_assoc stage.taken (x ∷ xs) (option_to_list (item_ahead (view_of second_now)))), settles_seen)
 
-    settled_seen : IsKnown pair → SettlesPair join stage.written s.comes.bytes ((stage.taken ++ ss) ++ option_to_list (item_ahead (view_of second_now))) stage.b_ended
-    settled_seen known = seen_by stage.b_ended refl ss refl (s.comes.settles known)
+    settled_seen : IsKnown pair → SettlesPair join stage.written s.comes.bytes ((stage.taken ++ ss) ++ option_to_list (item_ahead (view_of second_now))) stage.second_ended
+    settled_seen known = seen_by stage.second_ended refl ss refl (s.comes.settles known)
 
-    ends_then : sweep.phase ≡ First → (stage.b_ended ≡ true) × (item_ahead (view_of second_now) ≡ None)
+    ends_then : sweep.phase ≡ SecondEnded → (stage.second_ended ≡ true) × (item_ahead (view_of second_now) ≡ None)
     ends_then first_is_left = grind (arith, option_map, none_second)
 
     -- so far are the lines of some more settled
     settled_more : (written newly : List Feature) (bytes : List ℕ) → ArePlaced order (intervals_of newly) → Settles order sweep.phase newly (ss ++ option_to_list (item_ahead (view_of second_now)))
-        → SettlesPair join written bytes ((stage.taken ++ ss) ++ option_to_list (item_ahead (view_of second_now))) stage.b_ended
-        → SettlesPair join (written ++ newly) (bytes ++ intersect config.shape config.rule newly (stage.taken ++ ss)) ((stage.taken ++ ss) ++ option_to_list (item_ahead (view_of second_now))) stage.b_ended
+        → SettlesPair join written bytes ((stage.taken ++ ss) ++ option_to_list (item_ahead (view_of second_now))) stage.second_ended
+        → SettlesPair join (written ++ newly) (bytes ++ intersect config.shape config.rule newly (stage.taken ++ ss)) ((stage.taken ++ ss) ++ option_to_list (item_ahead (view_of second_now))) stage.second_ended
     settled_more written newly bytes placed each settles =
         settles_newly c.begun.total config newly settles placed ends_then ss stage.taken refl each
 
@@ -391,7 +392,7 @@ module _ {A B O : Type 0} {g : Ghosts O} {source_a : Source A} {source_b : Sourc
         (record { begins = ([], sym (append-nil (stage.taken ++ b ∷ [])) ∙ ap (λ (o : Option Feature). (stage.taken ++ option_to_list o) ++ []) (sym ahead)); all = λ e. absurd (let none : b ∷ more ≡ [] = sym is ∙ (none_second e).0 in cc) })).0
 
     module _ (newly : List Feature) (w : Option Feature) (are : option_to_list sweep.current ++ fs ≡ newly ++ option_to_list w) where
-      abbrev later : Stage
+      abbrev later : Stage Feature Feature
       later = stage_after stage newly w ss
 
       parts : option_to_list stage.waiting ++ fs ≡ newly ++ option_to_list w
@@ -420,11 +421,11 @@ module _ {A B O : Type 0} {g : Ghosts O} {source_a : Source A} {source_b : Sourc
           let items : given later ≡ given stage ++ member_items more_first = given_later ∙ ap (λ (l : List Feature). given stage ++ l) (sym items_first) in
           stop.fails_to_write s.comes asks_here s.fits more_first more_second further further_second (option_to_list w) items
           (λ known. subst (λ (l : List Feature). AreWithin order config.limit l (s.past_second ++ more_second)) items (fits_later each known)) ended_second
-          (λ known. subst (λ (l : List Feature). SettlesPair join (stage.written ++ newly) (s.comes.bytes ++ intersect config.shape config.rule newly (stage.taken ++ ss)) ((stage.taken ++ l) ++ option_to_list (item_ahead (view_of second_now))) stage.b_ended) (sym items_second)
+          (λ known. subst (λ (l : List Feature). SettlesPair join (stage.written ++ newly) (s.comes.bytes ++ intersect config.shape config.rule newly (stage.taken ++ ss)) ((stage.taken ++ l) ++ option_to_list (item_ahead (view_of second_now))) stage.second_ended) (sym items_second)
           (settled_more stage.written newly s.comes.bytes newly_placed settles (settled_seen known))) (grown_none grown) fails
 
       module _ (each : Settles order sweep.phase newly (ss ++ option_to_list (item_ahead (view_of second_now)))) (now : Output) (puts : PutsEach order sweep fs ss newly grown now) where
-        comes_later : Comes join pair out (stage_of later) (s.past_first ++ more_first) (s.past_second ++ more_second) (view_of first_now) (view_of second_now) now
+        comes_later : Comes join pair out later (s.past_first ++ more_first) (s.past_second ++ more_second) (view_of first_now) (view_of second_now) now
         comes_later =
             turned.goes_on s.comes further further_second ended_first ended_second
             (record { given_is = given_later ∙ ap (λ (l : List Feature). given stage ++ l) (sym items_first); written_is = refl; taken_is = ap (λ (l : List Feature). stage.taken ++ l) (sym items_second); first_is = refl; second_is = refl })
@@ -473,7 +474,7 @@ module _ {A B O : Type 0} {g : Ghosts O} {source_a : Source A} {source_b : Sourc
         let each = by_config (λ c. TakenEach order c.limit (option_to_list sweep.current ++ fs) stage.taken ss) (fails.proceeds.each stage s.stands placed placed_taken) in
         let past_first = s.past_first ++ members_from (suc (lines_given (below first))) fs in
         let past_second = s.past_second ++ members_from (suc (lines_given (below second))) ss in
-        let asks : stage.a_ended ≡ false → AsksFor join pair out past_first (view_of second_now) =
+        let asks : stage.first_ended ≡ false → AsksFor join pair out past_first (view_of second_now) =
         λ going. stop.asks_then s.comes asked (λ more asks. leaves_more order (given stage) more stage.taken asks)
         (members_from (suc (lines_given (below first))) fs) (members_from (suc (lines_given (below second))) ss) (view_of second_now) (further_second takes) in
         elim fails.cause [
@@ -492,7 +493,7 @@ module _ {A B O : Type 0} {g : Ghosts O} {source_a : Source A} {source_b : Sourc
                 elim (by_config (λ c. CannotBeHeld c.limit last (stage.taken ++ ss) m.line fault) lacks) [
                   | inl full ↦
                       limit_case first_now second_now (takes.second_order ∙ s.second_order ∙ c.begun.same_order) refl
-                      (not_ended_with takes m ahead stage.b_ended refl) comes asks fits ahead lack.shares.chrom lack.shares.starts lack.shares.ends placed_last.0 full.0 full.1
+                      (not_ended_with takes m ahead stage.second_ended refl) comes asks fits ahead lack.shares.chrom lack.shares.starts lack.shares.ends placed_last.0 full.0 full.1
                   | inr ran ↦ stop.lacks_memory comes asks fits fault ran.1
                 ]
             | inr keep ↦
@@ -505,7 +506,7 @@ module _ {A B O : Type 0} {g : Ghosts O} {source_a : Source A} {source_b : Sourc
   -- ---- the first input has ended, and the second was read to its end
 
   module _ (wants : want_in sweep ≡ Nothing) where
-    done : stage.a_ended ≡ true
+    done : stage.first_ended ≡ true
     done = sym (grind arith) ∙ ap is_done (sym s.stands.phase_is) ∙ (wants_nothing sweep.current (is_done sweep.phase) wants).0
 
     pub finishes_both : {T : Type 0} (result : Result T Fault) (second_now : Records B O g) → ReadsRest source_b (IsBedKind (order_in second)) (view_of second) result (view_of second_now)
