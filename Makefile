@@ -62,22 +62,22 @@ definitions:
 	docs/definitions.py --write
 
 # The shell examples of the pages and of docs/cases write what is below them, the example on each crate's first page is its
-# test, each link leads somewhere, tables of rows and of clauses are those of their files and sources, the completions have the
-# options of the pages, no page is harder to read than before, and tables and charts of the bench are those of its results.
+# test, each link leads somewhere, tables of rows are those of their files, each call that allocates has its test, the completions
+# have the options of the pages, no page is harder to read than before, and tables and charts of the bench are those of its results.
 check-docs: $(PROGRAM)
 	docs/examples.py
 	docs/edits.py
 	docs/links.py
 	docs/migrating.py
-	docs/clauses.py
+	docs/clauses.py --check
 	docs/completions.py
 	docs/manuals.py
 	docs/prose.py
 	bench/results.py
 
-# Closed standard streams, full disks, directories: what no proof says of real files. Then want of memory, in small address
-# spaces and with each growth refused, none of it in large sizes, what is allocated over many records, random bytes, and the laws of docs/PIPES.md
-# on random inputs.
+# Closed standard streams, full disks, directories: what no proof says of real files. Then memory that runs out, in small address
+# spaces and with each growth refused; large sizes; what is allocated over many records; random bytes; and the laws of
+# docs/PIPES.md on random inputs.
 check-program: $(PROGRAM)
 	docs/edges.py
 	docs/scarce.py

@@ -3,7 +3,8 @@
 to be in a file of definitions is and each such file exists, that the paths in code spans of ARCHITECTURE.md, PROVED.md
 and the crates' pages exist, that the pages that name a version name the same one, that PROVED.md says how many files
 define the report, that ARCHITECTURE.md lists them, and the modules of each crate, that the report names each
-definition of the model, and that no page says what another contradicts: the phrases of UNTRUE, and the limit of a sentence.
+definition of the model, and that no page says what another contradicts: the phrases of UNTRUE, the numbers of SAME, and the
+limit of a sentence.
 
     docs/links.py [--write]
 
@@ -51,8 +52,25 @@ UNTRUE = {
     r"Default: both": "without -S and -strand features without a strand count too",
     r"tail -f`?, is used line by line": "its output comes 8,192 bytes at a time",
     r"merge -g`?[^.\n]*since bedtools refuses": "bedtools 2.30.0 takes merge -g",
+    r"commented-out chromosome[^.|\n]*refused": "bedtools takes such a line for a chromosome",
+    r"[Ee]ach (?:claim )?is proved": "the last of the ten claims is tested",
+    r"(?<=\| )`no memory`[^\n]*none \|": "memory may run out in the middle",
 }
 WHERE = [*PAGES, *sorted(TOP.glob("man/*.1")), *sorted(TOP.glob("front/*")), TOP / "packaging" / "control"]
+# Numbers that several files say, each with what it is. Each of them may be said only once in a file.
+SAME = {
+    "how much of a stream is copied": {
+        "front/*.sh": r"DUNEKETTLE_ROOM:-(\d+)", "docs/MIGRATING.md": r"DUNEKETTLE_ROOM=BYTES`[^\n]*?: ([\d,]+)",
+        "man/dunekettle.1": r"copies to look at it: (\d+)"},
+    "which inputs are small": {
+        "front/*.sh": r"DUNEKETTLE_SMALL:-(\d+)", "docs/MIGRATING.md": r"DUNEKETTLE_SMALL=BYTES`[^\n]*?: ([\d,]+)",
+        "man/dunekettle.1": r"without a look: (\d+)"},
+    "how long many reads that overlap took": {
+        "CHANGELOG.md": r"on 30,000 bases took (\S+ s), and take (\S+ s)", "bench/HISTORY.md": r"on 30,000 bases \| (\S+ s) \| (\S+ s)"},
+    "how many bytes wait to be written": {
+        "docs/COMMANDS.md": r"Ready lines are written ([\d,]+) bytes", "docs/PROVED.md": r"At most ([\d,]+) bytes of settled",
+        "man/bedtools.1": r"([\d,]+) bytes at a time", "crates/bt_lines/src/reader/read_buffer.rt": r"BLOCK: usize = (\d+)"},
+}
 # The limit of a sentence: where CONTRIBUTING.md says it, and where prose.py has it.
 LIMIT, LIMITED = r"At most (\d+) words a sentence", r"^PARAGRAPH, SENTENCE, CELL = \d+, (\d+),"
 
@@ -288,6 +306,20 @@ def definitions_differ(is_written):
     return said or listed
 
 
+def said_in(pattern, name):
+    """What the files of a name say of a number, each number without commas."""
+    text = "".join(file.read_text(encoding="utf-8") for file in sorted(TOP.glob(name)))
+    return [tuple(part.replace(",", "").rstrip(".") for part in found.groups()) for found in re.finditer(pattern, text)]
+
+
+def unequal():
+    """The numbers that one file says otherwise than another, or not at all."""
+    for what, places in SAME.items():
+        said = {name: said_in(pattern, name) for name, pattern in places.items()}
+        if len({tuple(numbers) for numbers in said.values()}) > 1 or not all(said.values()):
+            yield f"{what}: " + ", ".join(f"{name} says {numbers}" for name, numbers in said.items())
+
+
 def untrue():
     """The phrases that contradict what another page says, and a limit that isn't the one of prose.py."""
     for file in WHERE:
@@ -311,7 +343,7 @@ def main():
     absent = [*missing(), *lost_paths()]
     for page, number, name in absent:
         print(f"{page.relative_to(TOP)}:{number}: {name} isn't there")
-    outside = [*strays(), *unnamed(), *other_modules(), *untrue()]
+    outside = [*strays(), *unnamed(), *other_modules(), *untrue(), *unequal()]
     for line in outside:
         print(line)
     found = versions()

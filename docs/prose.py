@@ -19,8 +19,6 @@ from pathlib import Path
 TOP = Path(__file__).resolve().parent.parent
 STORED = TOP / "docs" / "prose.txt"
 PAGES = ("*.md", "docs/*.md", "bench/*.md", "packaging/*.md", "crates/*/README.md", "man/bedtools.1", "man/dunekettle.1")
-# Made by a script of the sources.
-MADE = ("docs/CLAUSES.md",)
 COUNTS = ("paragraphs", "sentences", "cells", "dialect", "history", "proofs", "terms")
 PARAGRAPH, SENTENCE, CELL = 80, 22, 25
 MOST = 26_000
@@ -88,8 +86,7 @@ CELL_END = re.compile(r"(?<!\\)\|")
 
 def pages():
     """The pages by their names."""
-    found = {str(path.relative_to(TOP)): path for pattern in PAGES for path in sorted(TOP.glob(pattern))}
-    return {name: path for name, path in found.items() if name not in MADE}
+    return {str(path.relative_to(TOP)): path for pattern in PAGES for path in sorted(TOP.glob(pattern))}
 
 
 def plain(text):
