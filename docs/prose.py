@@ -85,6 +85,8 @@ LINK = re.compile(r"\[([^\]]*)\]\([^)]*\)")
 # A line that begins a paragraph of its own, and the end of a sentence.
 BEGINS = re.compile(r"(?:[-*] |\d+\. |\||> )")
 SENTENCE_END = re.compile(r"(?<=[.!?])\s+")
+# The end of a sentence in a cell, or of one of several items.
+ITEM_END = re.compile(r"(?<=[.!?;])\s+")
 CELL_END = re.compile(r"(?<!\\)\|")
 
 
@@ -130,6 +132,8 @@ def found_in(path):
             for cell in CELL_END.split(LINK.sub(r"\1", text)):
                 if len(cell.split()) > CELL:
                     yield "cells", number, f"a cell of {len(cell.split())} words"
+                if any(len(item.split()) > SENTENCE for item in ITEM_END.split(plain(cell))):
+                    yield "sentences", number, f"a long item: {cell.strip()[:50]}.."
         else:
             if len(words.split()) > PARAGRAPH:
                 yield "paragraphs", number, f"a paragraph of {len(words.split())} words"
