@@ -66,7 +66,7 @@ SAME = {
         "front/*.sh": r"DUNEKETTLE_SMALL:-(\d+)", "docs/MIGRATING.md": r"DUNEKETTLE_SMALL=BYTES`[^\n]*?: ([\d,]+)",
         "man/dunekettle.1": r"without a look: (\d+)"},
     "how long many reads that overlap took": {
-        "CHANGELOG.md": r"on 30,000 bases took (\S+ s), and take (\S+ s)", "bench/HISTORY.md": r"on 30,000 bases \| (\S+ s) \| (\S+ s)"},
+        "CHANGELOG.md": r"on 30,000 bases took (\S+ s), and take (\S+ s)", "bench/HISTORY.md": r"on 30,000 bases\* (\S+ s) to (\S+ s)"},
     "how many bytes wait to be written": {
         "docs/COMMANDS.md": r"Ready lines are written ([\d,]+) bytes", "docs/PROVED.md": r"At most ([\d,]+) bytes of settled",
         "man/bedtools.1": r"([\d,]+) bytes at a time", "crates/bt_lines/src/reader/read_buffer.rt": r"BLOCK: usize = (\d+)"},

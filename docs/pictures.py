@@ -117,7 +117,7 @@ def draw_run():
     parts += box(300, 135, 120, ["readers", "lines, then records"], "proved", 154)
     parts += box(450, 135, 90, ["engine", "or sweep"], "proved", 154)
     parts += box(570, 190, 80, ["Out", "one block"], "proved")
-    parts += box(510, 45, 140, ["outcome", "fault line, status"], "proved")
+    parts += box(510, 45, 140, ["outcome", "message, status"], "proved")
     parts += box(680, 45, 70, ["print"], "tested")
     parts += box(680, 190, 70, ["write"], "tested")
     parts += box(780, 45, 130, ["standard error", "and exit status"])
