@@ -1,6 +1,6 @@
 #!/usr/bin/env python3
 """Checks that each link of the pages leads to a file, and to a heading of it where it names one, that what is said
-to be in a file of definitions is and each such file exists, that the paths in code spans of ARCHITECTURE.md, PROVED.md
+to be in a file of definitions or of code is and each such file exists, that the paths in code spans of ARCHITECTURE.md, PROVED.md
 and the crates' pages exist, that the pages that name a version name the same one, that PROVED.md says how many files
 define the report, that ARCHITECTURE.md lists them, and the modules of each crate, that the report names each
 definition of the model, and that no page says what another contradicts: the phrases of UNTRUE, the numbers of SAME, and the
@@ -24,6 +24,8 @@ LINK = re.compile(r"\[[^\]]*\]\(([^)\s]+)\)")
 CODE = re.compile(r"`[^`]*`")
 # Definitions that stand in a file: their names, and the link to it.
 CITED = re.compile(r"((?:`\w+`(?:, | and ))*`\w+`) (?:in|of) \[[\w/]+\.antt\]\(([^)\s#]+)\)")
+# Functions that are in a file of code: the name, before the link to the file or as its text.
+CALLED = re.compile(r"`(\w+)` in \[[\w/.]+\]\(([^)\s#]+\.rt)\)|\[`(\w+)`\]\(([^)\s#]+\.rt)\)")
 
 # Files of definitions that are named by their crate, as those of a question are in ARCHITECTURE.md.
 FILES = re.compile(r"(?:`(bt_\w+)/specs/|\[(bt_\w+)/specs/[\w/]+\.antt\]\([^)]*\), `)([A-Z]\w*`(?:,(?: [a-z ]+)? `[A-Z]\w*`)*)")
@@ -131,7 +133,7 @@ def stands_in(name, file):
 
 
 def misplaced():
-    """The definitions that a page says to stand in a file that lacks them, each with the page, its line and the file."""
+    """The definitions and functions that a page says to be in a file that lacks them, each with the page, its line and the file."""
     for page in PAGES:
         for number, line in enumerate(page.read_text(encoding="utf-8").splitlines(), 1):
             for names, target in CITED.findall(line):
@@ -139,6 +141,11 @@ def misplaced():
                 for name in re.findall(r"`(\w+)`", names):
                     if file.exists() and not stands_in(name, file):
                         yield page, number, name, file
+            for found in CALLED.findall(line):
+                name, target = found[:2] if found[0] else found[2:]
+                file = (page.parent / target).resolve()
+                if file.exists() and not re.search(rf"\bfn {name}\b", file.read_text(encoding="utf-8")):
+                    yield page, number, name, file
 
 
 def missing():
