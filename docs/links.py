@@ -1,10 +1,13 @@
 #!/usr/bin/env python3
-"""Checks that each link of the pages leads to a file, and to a heading of it where it names one, that what is said
-to be in a file of definitions or of code is and each such file exists, that the paths in code spans of ARCHITECTURE.md, PROVED.md
-and the crates' pages exist, that the pages that name a version name the same one, that PROVED.md says how many files
-define the report, that ARCHITECTURE.md lists them, and the modules of each crate, that the report names each
-definition of the model, and that no page says what another contradicts: the phrases of UNTRUE, the numbers of SAME, and the
-limit of a sentence.
+"""Checks what the pages say of the repository:
+
+- each link leads to a file, and to a heading of it where it names one
+- what is said to be in a file of definitions or of code is there; names of several words in code spans exist, and so do
+  the paths in those of ARCHITECTURE.md, PROVED.md and the crates' pages
+- the pages that name a version name the same one
+- PROVED.md says how many files define the report; ARCHITECTURE.md lists them, and the modules of each crate; the report
+  names each definition of the model
+- no page says what another contradicts: the phrases of UNTRUE, the numbers of SAME, the limit of a sentence
 
     docs/links.py [--write]
 
@@ -26,6 +29,8 @@ CODE = re.compile(r"`[^`]*`")
 CITED = re.compile(r"((?:`\w+`(?:, | and ))*`\w+`) (?:in|of) \[[\w/]+\.antt\]\(([^)\s#]+)\)")
 # Functions that are in a file of code: the name, before the link to the file or as its text.
 CALLED = re.compile(r"`(\w+)` in \[[\w/.]+\]\(([^)\s#]+\.rt)\)|\[`(\w+)`\]\(([^)\s#]+\.rt)\)")
+# Names of several words in code spans, and those that are of a library.
+NAMES, THEIRS = re.compile(r"`([a-z][a-z0-9]*(?:_[a-z0-9]+)+)`"), {"find_byte", "get_mut"}
 
 # Files of definitions that are named by their crate, as those of a question are in ARCHITECTURE.md.
 FILES = re.compile(r"(?:`(bt_\w+)/specs/|\[(bt_\w+)/specs/[\w/]+\.antt\]\([^)]*\), `)([A-Z]\w*`(?:,(?: [a-z ]+)? `[A-Z]\w*`)*)")
@@ -146,6 +151,15 @@ def misplaced():
                 file = (page.parent / target).resolve()
                 if file.exists() and not re.search(rf"\bfn {name}\b", file.read_text(encoding="utf-8")):
                     yield page, number, name, file
+
+
+def unknown_names():
+    """The names that a page says and nothing in code, definitions or the drop-in has, each with the page and its line."""
+    files = [file for pattern in ("crates/*/src/**/*.rt", "crates/*/specs/**/*.antt", "front/*") for file in TOP.glob(pattern)]
+    known = set(WORD.findall("".join(file.read_text(encoding="utf-8") for file in files))) | {file.stem for file in files} | THEIRS
+    for page in PAGES:
+        for number, line in enumerate(page.read_text(encoding="utf-8").splitlines(), 1):
+            yield from ((page, number, name) for name in NAMES.findall(line) if name not in known)
 
 
 def missing():
@@ -347,7 +361,7 @@ def main():
     elsewhere = list(misplaced())
     for page, number, name, file in elsewhere:
         print(f"{page.relative_to(TOP)}:{number}: {name} doesn't stand in {file.relative_to(TOP)}")
-    absent = [*missing(), *lost_paths()]
+    absent = [*missing(), *lost_paths(), *unknown_names()]
     for page, number, name in absent:
         print(f"{page.relative_to(TOP)}:{number}: {name} isn't there")
     outside = [*strays(), *unnamed(), *other_modules(), *untrue(), *unequal()]
