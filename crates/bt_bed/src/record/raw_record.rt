@@ -41,6 +41,14 @@ impl<'a> RawRecord<'a> {
         without_return(self.line)
     }
 
+    /// The chromosome of the record.
+    #[inline(always)]
+    pub fn chrom(&self) -> &'a [u8]
+        ensures { result.now ≡ (record_in self.now).chrom }
+    {
+        &self.text()[..self.name]
+    }
+
     /// The record, for as long as the line.
     #[inline(always)]
     pub fn to_bed(&self) -> BedRef<'a>
