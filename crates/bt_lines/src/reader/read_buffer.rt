@@ -5,13 +5,10 @@ ghost use Rattle.std.specs.Io.KnownBytes.{Consumes, IsAtEnd, Keeps};
 ghost use Rattle.bt_lines.specs.calls.Output.{block_size};
 ghost use Rattle.bt_lines.specs.inside.Shape.{AreComplete, IsSearched};
 
-use crate::device::{DeviceFailed, Source};
+use crate::device::{BLOCK, DeviceFailed, Source};
 use crate::reader::newline::line_length;
 use memchr::memrchr;
 use std::alloc::{AllocError, Global};
-
-/// How many bytes a reader buffers at most, and an output holds back.
-pub const BLOCK: usize = 8192;
 
 // Complete lines, and what was read after them. The lines are `start..whole` of the block, or if a line is longer than
 // the block what comes from `start` on of `spilled`; `whole..end` of the block comes after them.
