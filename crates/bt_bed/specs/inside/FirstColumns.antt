@@ -6,7 +6,7 @@ use Rattle.std.specs.Str.Parse.{digits_value}
 use Rattle.bt_lines.specs.model.Lines.{value_of}
 use Rattle.bt_bed.specs.model.BedLine.{is_header}
 use Rattle.bt_bed.specs.calls.Features.{IsName}
-use Rattle.bt_bed.specs.declared.parse.parsed_number.ParsedNumber.{ParsedNumber}
+use Rattle.bt_bed.specs.declared.record.raw_record.ParsedNumber.{ParsedNumber}
 use Rattle.std.specs.Int.{from_le_bytes, w64}
 use Rattle.bt_bed.specs.declared.parse.packed_name.PackedName.{PackedName}
 use Rattle.bt_bed.specs.declared.record.inline_text.InlineText.{InlineText}

@@ -6,7 +6,7 @@ ghost use Rattle.bt_lines.specs.model.Lines.{value_of};
 
 use crate::parse::names::is_same_name;
 use crate::parse::packed_name::{LONGEST_KEYED, PackedName};
-use crate::parse::parsed_number::ParsedNumber;
+use crate::record::raw_record::ParsedNumber;
 use bt_lines::{eight_digits, few_digits};
 use std::simd::prelude::*;
 

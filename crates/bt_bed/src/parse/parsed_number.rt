@@ -4,15 +4,9 @@ ghost use Rattle.std.specs.Prelude.{◌≡◌, ◌≤◌, ◌+◌, IfSome, Some,
 ghost use Rattle.bt_bed.specs.inside.FirstColumns.{EndsFirst, Leads};
 ghost use Rattle.bt_lines.specs.model.Lines.{value_of};
 
-use crate::parse::parsing::behind;
+use crate::record::kept_strand::behind;
+use crate::record::raw_record::ParsedNumber;
 use bt_lines::{first_tab, number};
-
-// Its value, and where its column ends.
-#[derive(Clone, Copy, Debug)]
-pub(crate) struct ParsedNumber {
-    pub(crate) value: u64,
-    pub(crate) end: usize,
-}
 
 // The number of the column that begins here, which denotes one. Value and end are found separately, so that neither
 // goes through memory.

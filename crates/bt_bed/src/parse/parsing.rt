@@ -7,7 +7,7 @@ ghost use Rattle.bt_lines.specs.model.Lines.{pieces, value_of};
 
 use crate::parse::header::is_header;
 use crate::record::bed::BedRef;
-use crate::record::kept_strand::kept_strand;
+use crate::record::kept_strand::{behind, kept_strand};
 use crate::record::strand::Strand;
 use bt_lines::{Kind, columns, number};
 
@@ -45,14 +45,6 @@ pub fn parse_bed(text: &[u8]) -> Result<Option<BedRef<'_>>, Kind>
         strand,
         rest,
     }))
-}
-
-// What a text has from an index on.
-pub(crate) fn behind(text: &[u8], from: usize) -> &[u8]
-    requires { from ≤ length text.now }
-    ensures { result.now ≡ drop from text.now }
-{
-    &text[from..]
 }
 
 // The start and the end that two columns denote.

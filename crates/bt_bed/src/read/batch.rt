@@ -47,13 +47,19 @@ impl<'a> Batch<'a> {
     ghost use Rattle.std.specs.Io.BufRead.{strip_last};
     ghost use Rattle.bt_lines.specs.calls.Reader.{lines_in, rest_in};
     ghost use Rattle.bt_bed.specs.calls.Batch.{IsWhere, Passes, StandsFirst, chrom_in, consumed_in, cursor_in, left, line_in, start_in};
-    ghost use Rattle.bt_bed.specs.inside.FirstColumns.{IsRecordName};
+    ghost use Rattle.bt_bed.specs.inside.FirstColumns.{HasKey, IsRecordName};
     ghost use Rattle.bt_bed.specs.calls.Bed.{IsOnLine, raw_in, record_in, is_on, run_of};
     ghost use Rattle.bt_bed.specs.model.BedLine.{record_of};
 
-    // The records of these lines on the chromosome of this name, from this start on.
-    pub(crate) fn new(lines: BufferedLines<'a>, name: &'a [u8], start: u64) -> Batch<'a>
-        requires { 0 < length (rest_in lines) → IsRecordName name.now }
+    // The records of these lines on the chromosome of this name and key, from this start on.
+    pub(crate) fn new(
+        lines: BufferedLines<'a>,
+        name: &'a [u8],
+        key: PackedName,
+        start: u64,
+    ) -> Batch<'a>
+        requires name { 0 < length (rest_in lines) → IsRecordName name.now }
+        requires key { HasKey name.now key }
         ensures left { left result ≡ run_of name.now start (lines_in lines.entry) }
         ensures cursor { cursor_in result ≡ lines.entry }
         ensures chrom { chrom_in result ≡ name.now }
@@ -62,7 +68,7 @@ impl<'a> Batch<'a> {
         Batch {
             lines,
             name,
-            key: PackedName::of(name),
+            key,
             start,
         }
     }

@@ -1,10 +1,11 @@
 //! The last record and the chromosome of the one ahead, sorted by some rule.
 
 ghost use Rattle.std.specs.Prelude.{◌≡◌, ℕ, Some};
-ghost use Rattle.bt_bed.specs.inside.FirstColumns.{IsRecordName};
+ghost use Rattle.bt_bed.specs.inside.FirstColumns.{HasKey, IsRecordName};
 
 use crate::parse::faults::at_line;
 use crate::parse::names::is_same_name;
+use crate::parse::packed_name::PackedName;
 use crate::parse::parsing::parse_bed;
 use crate::read::batch::Batch;
 use crate::read::sorted::Sorted;
@@ -21,10 +22,15 @@ pub(crate) struct OrderedLookahead<Q> {
     last_name: Vec<u8>,
     // The chromosome of the record ahead, if that is another one.
     ahead_name: Vec<u8>,
+    // By which lines on these are recognized.
+    last_key: PackedName,
+    ahead_key: PackedName,
     // The start of the last record; `None` before the first.
     last: Option<u64>,
     // Whether the record ahead lies on another chromosome than the last.
     is_elsewhere: bool,
+    ghost last_keyed: { HasKey last_name.items last_key },
+    ghost ahead_keyed: { HasKey ahead_name.items ahead_key },
     ghost named: { (start : ℕ) → last ≡ Some start → IsRecordName last_name.items },
 }
 
@@ -46,6 +52,8 @@ impl<Q: Sorted> OrderedLookahead<Q> {
             rule,
             last_name: Vec::new(alloc),
             ahead_name: Vec::new(alloc),
+            last_key: PackedName::of(b""),
+            ahead_key: PackedName::of(b""),
             last: None,
             is_elsewhere: false,
         }
@@ -59,6 +67,17 @@ impl<Q: Sorted> OrderedLookahead<Q> {
             self.ahead_name.as_slice()
         } else {
             self.last_name.as_slice()
+        }
+    }
+
+    // By which lines on it are recognized.
+    pub(crate) fn key(&self) -> PackedName
+        ensures { HasKey (name_in self.now) result }
+    {
+        if self.is_elsewhere {
+            self.ahead_key
+        } else {
+            self.last_key
         }
     }
 
@@ -79,6 +98,7 @@ impl<Q: Sorted> OrderedLookahead<Q> {
     {
         if self.is_elsewhere {
             std::mem::swap(&mut self.last_name, &mut self.ahead_name);
+            std::mem::swap(&mut self.last_key, &mut self.ahead_key);
             self.is_elsewhere = false;
         }
         self.last = Some(start);
@@ -90,7 +110,7 @@ impl<Q: Sorted> OrderedLookahead<Q> {
     {
         match self.last {
             Some(start) if !self.is_elsewhere => {
-                let batch = Batch::new(lines, self.last_name.as_slice(), start);
+                let batch = Batch::new(lines, self.last_name.as_slice(), self.last_key, start);
                 batch.first().is_some()
             }
             _ => false,
@@ -118,7 +138,9 @@ impl<Q: Sorted> OrderedLookahead<Q> {
         }
         // Only the name of another chromosome is copied.
         self.ahead_name.clear();
-        match self.ahead_name.extend_from_slice(bed.chrom) {
+        let copied = self.ahead_name.extend_from_slice(bed.chrom);
+        self.ahead_key = PackedName::of(self.ahead_name.as_slice());
+        match copied {
             Ok(()) => Ok(true),
             Err(_) => Err(no_memory()),
         }

@@ -75,10 +75,15 @@ impl<S: Source, Q: Sorted + Drop> SortedReader<S, Q> {
         ensures { Lends self.now result }
     {
         let lines = self.reader.buffered();
+        let (name, key, start) = (
+            self.lookahead.name(),
+            self.lookahead.key(),
+            self.lookahead.start(),
+        );
         if !self.is_ahead {
-            return Batch::new(lines.none(), self.lookahead.name(), self.lookahead.start());
+            return Batch::new(lines.none(), name, key, start);
         }
-        Batch::new(lines, self.lookahead.name(), self.lookahead.start())
+        Batch::new(lines, name, key, start)
     }
 
     // The first of them.

@@ -30,7 +30,7 @@ impl InlineText {
         ensures long { OnErr result (inline_size < length name.now + length rest.now) }
     {
         let mut bytes = [0; SHORT];
-        if let Some(left) = put_both(&mut bytes, name, rest) {
+        if let Some(left) = copy_both(&mut bytes, name, rest) {
             return Ok((InlineText::Short(bytes), left));
         }
         let mut text = Vec::with_capacity(alloc, name.len() + rest.len())?;
@@ -51,10 +51,10 @@ impl InlineText {
     }
 }
 
-// Writes two pieces over bytes from the first on, and returns how many are left after them. If the pieces don't fit, it
-// writes none.
+// Copies two pieces over bytes from the first on, and returns how many are left after them. If the pieces don't fit, it
+// copies none.
 #[inline(always)]
-fn put_both(bytes: &mut [u8], piece: &[u8], next: &[u8]) -> Option<u32>
+fn copy_both(bytes: &mut [u8], piece: &[u8], next: &[u8]) -> Option<u32>
     requires { length bytes.old ≤ SHORT }
     ensures within { IfSome result (λ left. left ≤ length bytes.new) }
     ensures put { IfSome result (λ left. take (length bytes.new - left) bytes.new ≡ piece.now ++ next.now) }

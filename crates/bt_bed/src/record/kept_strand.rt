@@ -5,7 +5,6 @@ ghost use Rattle.bt_lines.specs.model.Lines.{pieces};
 ghost use Rattle.bt_bed.specs.model.BedLine.{strand_named, strand_of};
 ghost use Rattle.bt_bed.specs.calls.Features.{columns_in};
 
-use crate::parse::parsing::behind;
 use crate::record::strand::Strand;
 use bt_lines::{copy_piece, length_before};
 
@@ -26,6 +25,14 @@ pub(crate) fn kept_strand(text: &[u8], from: usize) -> Strand
         return short_third_column(columns);
     }
     third_column(columns)
+}
+
+// What a text has from an index on.
+pub(crate) fn behind(text: &[u8], from: usize) -> &[u8]
+    requires { from ≤ length text.now }
+    ensures { result.now ≡ drop from text.now }
+{
+    &text[from..]
 }
 
 // The same as `third_column` of a short text: with tabs after it, so that each search ends among its first bytes.

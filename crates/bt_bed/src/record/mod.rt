@@ -32,6 +32,10 @@ pub trait Record: Copy {
     fn bed(&self) -> BedRef<'_>
         ensures { feature_lent result ≡ feature self.now };
 
+    /// Its chromosome. Unlike [`Record::bed`] it doesn't look for the strand.
+    fn chrom(&self) -> &[u8]
+        ensures { result.now ≡ (feature self.now).chrom };
+
     /// Where it starts on its chromosome, zero-based.
     fn start(&self) -> u64
         ensures { result ≡ (feature self.now).start };
@@ -62,6 +66,11 @@ impl<'a> Record for BedRef<'a> {
     #[inline(always)]
     fn bed(&self) -> BedRef<'_> {
         *self
+    }
+
+    #[inline(always)]
+    fn chrom(&self) -> &[u8] {
+        self.chrom
     }
 
     #[inline(always)]
@@ -99,6 +108,11 @@ impl<'a> Record for RawRecord<'a> {
     #[inline(always)]
     fn bed(&self) -> BedRef<'_> {
         self.to_bed()
+    }
+
+    #[inline(always)]
+    fn chrom(&self) -> &[u8] {
+        self.chrom()
     }
 
     #[inline(always)]

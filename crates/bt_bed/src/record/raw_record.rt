@@ -5,11 +5,16 @@ ghost use Rattle.std.specs.Io.BufRead.{strip_last};
 ghost use Rattle.bt_bed.specs.inside.FirstColumns.{AreBounds, EndsName};
 ghost use Rattle.bt_bed.specs.model.BedLine.{is_header};
 
-use crate::parse::parsed_number::ParsedNumber;
-use crate::parse::parsing::behind;
 use crate::record::bed::BedRef;
-use crate::record::kept_strand::kept_strand;
+use crate::record::kept_strand::{behind, kept_strand};
 use bt_lines::without_return;
+
+// The number of a column, and where the column ends, counted from where it begins.
+#[derive(Clone, Copy, Debug)]
+pub(crate) struct ParsedNumber {
+    pub(crate) value: u64,
+    pub(crate) end: usize,
+}
 
 /// A line that says a record, of which the start and the end were read. Its other columns aren't looked at until
 /// they are needed.
@@ -19,7 +24,7 @@ pub struct RawRecord<'a> {
     pub(crate) line: &'a [u8],
     // Where the chromosome's name ends.
     pub(crate) name: usize,
-    // The numbers of the second and the third column, and where these end, each counted from where it begins.
+    // Those of the second and the third column.
     pub(crate) start: ParsedNumber,
     pub(crate) stop: ParsedNumber,
     ghost named: { EndsName (strip_last 13 line.now) name },
@@ -39,6 +44,14 @@ impl<'a> RawRecord<'a> {
         ensures { result.now ≡ text_in self.now }
     {
         without_return(self.line)
+    }
+
+    /// The chromosome of the record.
+    #[inline(always)]
+    pub fn chrom(&self) -> &'a [u8]
+        ensures { result.now ≡ (record_in self.now).chrom }
+    {
+        &self.text()[..self.name]
     }
 
     /// The record, for as long as the line.

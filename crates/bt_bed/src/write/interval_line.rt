@@ -65,7 +65,7 @@ fn put_slowly<K: Sink>(chrom: &[u8], start: u64, stop: u64, end: u8, out: &mut O
         → FailsToPut out.old.output (chrom.now ++ span_text start stop end) write_failed out.new.output }
 {
     let mut text = [0; ROOM];
-    let first = write_span(start, stop, end, &mut text);
+    let first = write_bounds(start, stop, end, &mut text);
     put_column(chrom, &text[first..], out).is_ok()
 }
 
@@ -81,14 +81,14 @@ pub(crate) fn put_columns<K: Sink>(
     ensures { Puts out.old.output (chrom.now ++ bounds_text start stop) result out.new.output }
 {
     let mut text = [0; ROOM];
-    let first = write_span(start, stop, b'\n', &mut text);
+    let first = write_bounds(start, stop, b'\n', &mut text);
     put_both(chrom, &text[first..ROOM - 1], out)
 }
 
 // Writes what follows the name, and a byte that ends it, so that it ends where the text does, and gives where it begins.
 // Out of line, as `hold_ended` is.
 #[inline(never)]
-fn write_span(start: u64, stop: u64, end: u8, text: &mut [u8; ROOM]) -> usize
+fn write_bounds(start: u64, stop: u64, end: u8, text: &mut [u8; ROOM]) -> usize
     ensures within { result ≤ ROOM }
     ensures written { drop result text.new ≡ span_text start stop end }
 {

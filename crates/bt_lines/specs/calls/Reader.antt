@@ -1,5 +1,5 @@
 -- What a reader of lines holds, what its calls do, and the lines that are left of those buffered.
-use Rattle.std.specs.Prelude.{◌≡◌, ℕ, suc, ◌+◌, ◌-◌, ◌≤◌, Bool, true, false, List, ◌∷◌, drop, length, nat_lt, take, ◌≢◌, ◌^◌, ◌<◌, ◌⊎◌, [], ◌++◌, Option, Some, None, option_map, Result, Ok, Err, IfSome, ⊤, ◌&&◌, if◌then◌else◌, vec_capacity}
+use Rattle.std.specs.Prelude.{◌≡◌, ℕ, suc, ◌+◌, ◌-◌, ◌≤◌, Bool, true, false, List, ◌∷◌, drop, length, nat_lt, take, ◌≢◌, ◌^◌, ◌<◌, ◌⊎◌, [], ◌++◌, Option, Some, None, option_map, Result, Ok, Err, IfSome, ⊤, vec_capacity}
 use Rattle.bt_lines.specs.calls.Line.{Shown, ending_at, line_seen, GivesFirst, line_feeds}
 use Rattle.bt_lines.specs.model.Lines.{TextLine, lines_from, whole_lines_from, bytes_in, spelled}
 use Rattle.bt_lines.specs.inside.Shape.{is_fed, held_at}
@@ -7,7 +7,7 @@ use Rattle.bt_lines.specs.declared.reader.buffered_lines.BufferedLines.{Buffered
 use Rattle.bt_lines.specs.declared.reader.buffered_lines.ConsumedLines.{ConsumedLines}
 use Rattle.std.specs.Io.KnownBytes.{Consumes, IsAtEnd, prepend_known}
 use Rattle.bt_lines.specs.declared.device.Source.{Ghosts as Source}
-use Rattle.bt_lines.specs.inside.ReadBuffer.{complete, text_in, unread, ended_at, fault_at, lends_at, open_at, taken_at, told_at}
+use Rattle.bt_lines.specs.inside.ReadBuffer.{complete, unread, ended_at, fault_at, open_at, taken_at, told_at}
 use Rattle.bt_lines.specs.calls.Device.{ReadsCounted, ReadsFail}
 use Rattle.bt_lines.specs.calls.Output.{block_size}
 use Rattle.bt_lines.specs.model.Fault.{FaultValue, read_failed}
@@ -142,13 +142,6 @@ module _ {S : Type 0} where
     -- without a fault, at most a block is held after the lines given
     pub near : fault_kept reader ≡ None → length (held reader) ≤ block_size
 
-  -- the line that a reader is at
-  unfoldable pub line_at : LineReader S → Option TextLine
-  line_at reader =
-      if lends_at reader.state && nat_lt 0 reader.lines
-      then Some (record { number = reader.lines; text = text_in reader.buffer; ending = reader.ending })
-      else None
-
   -- the source handed over these bytes in the call
   pub record Hands (left : S → Option (List ℕ)) (old : LineReader S) (bytes : List ℕ)
       (new : LineReader S) : Type 0 where
@@ -173,8 +166,6 @@ module _ {S : Type 0} where
     -- nothing is read while a complete line is held
     pub ready : 0 < line_feeds (held old) → source_of new ≡ source_of old
     pub number : line.number ≡ suc (lines_given old)
-    -- the reader is at it
-    pub at : line_at new ≡ Some line
     pub counted : lines_given new ≡ suc (lines_given old)
     pub below : lines_given new < 2 ^ 63
     pub shrinks : room new < room old

@@ -1,5 +1,5 @@
 -- What a reader keeps.
-use Rattle.std.specs.Prelude.{◌≡◌, ◌<◌, length, drop, ℕ, Bool, true, false, List, [], ◌∷◌, ◌++◌, cond, Result, Ok, Err, slice_range, suc, Option, Some, None}
+use Rattle.std.specs.Prelude.{◌≡◌, ◌<◌, length, drop, take, ℕ, Bool, true, false, List, [], ◌∷◌, ◌++◌, cond, Result, Ok, Err, slice_range, suc, Option, Some, None}
 use Rattle.bt_lines.specs.calls.Line.{NoLineFeed}
 use Rattle.bt_lines.specs.declared.reader.read_buffer.ReadBuffer.{ReadBuffer}
 use Rattle.bt_lines.specs.model.Fault.{FaultValue, read_failed}
@@ -20,11 +20,9 @@ complete buffer =
 unfoldable pub unread : ReadBuffer → List ℕ
 unread buffer = slice_range buffer.bytes buffer.whole buffer.end
 
--- the text of the line that was taken last
-unfoldable pub text_in : ReadBuffer → List ℕ
-text_in buffer =
-    cond buffer.is_spilled (slice_range buffer.spilled.items buffer.from buffer.stop)
-    (slice_range buffer.bytes buffer.from buffer.stop)
+-- what comes before the lines where they are: those that were consumed last end there
+unfoldable pub gone : ReadBuffer → List ℕ
+gone buffer = take buffer.start (cond buffer.is_spilled buffer.spilled.items buffer.bytes)
 
 -- what was read after the lines was searched for others
 abbrev pub FindsLines : ReadBuffer → Bool → ReadBuffer → Type 0

@@ -9,6 +9,9 @@ ghost use Rattle.std.specs.Prelude.{◌≡◌, ℕ, ◌<◌, ◌≤◌, Bool, tr
 ghost use Rattle.std.specs.Io.KnownBytes.{Keeps, ReadConsumes, WriteAppends};
 ghost use Rattle.bt_lines.specs.calls.Device.{TellsEnd, is_spent, let_through};
 
+/// How many bytes a reader buffers at most, and an output holds back.
+pub const BLOCK: usize = 8192;
+
 /// A call of a device failed. Which error it was stays with the device.
 #[derive(Clone, Copy, Debug, PartialEq, Eq)]
 pub struct DeviceFailed;

@@ -8,7 +8,7 @@ use crate::device::Source;
 use crate::fault::faults::no_memory;
 use crate::fault::{Fault, Input, Kind, Place};
 use crate::reader::buffered_lines::{BufferedLines, ConsumedLines, LineText, ending_of};
-use crate::reader::line::{Line, LineEnd};
+use crate::reader::line::Line;
 use crate::reader::read_buffer::ReadBuffer;
 use crate::reader::spill::{Stop, read_lines};
 use std::alloc::Global;
@@ -40,8 +40,6 @@ pub struct LineReader<S> {
     input: Input,
     // What was read ahead, and the text of the last line.
     buffer: ReadBuffer,
-    // How the last line ended; unspecified before the first.
-    ending: LineEnd,
     // How many lines were given.
     lines: u64,
     // How many bytes were taken from the source, at most the bound.
@@ -54,14 +52,13 @@ pub struct LineReader<S> {
     ghost last: { IsLast (told_at state) (open_at state) (complete buffer) (unread buffer) },
 }
 
-#[tactic(auto, unfolding(crate::specs::calls::Reader::source_of, crate::specs::calls::Reader::input_of, crate::specs::calls::Reader::lines_given, crate::specs::calls::Reader::bytes_taken, crate::specs::calls::Reader::held, crate::specs::calls::Reader::fault_kept, crate::specs::calls::Reader::has_ended, crate::specs::calls::Reader::line_at, crate::specs::calls::Reader::end_told, crate::specs::calls::Reader::bytes_left, crate::specs::calls::Reader::feeds_taken, crate::specs::calls::Reader::line_room))]
+#[tactic(auto, unfolding(crate::specs::calls::Reader::source_of, crate::specs::calls::Reader::input_of, crate::specs::calls::Reader::lines_given, crate::specs::calls::Reader::bytes_taken, crate::specs::calls::Reader::held, crate::specs::calls::Reader::fault_kept, crate::specs::calls::Reader::has_ended, crate::specs::calls::Reader::end_told, crate::specs::calls::Reader::bytes_left, crate::specs::calls::Reader::feeds_taken, crate::specs::calls::Reader::line_room))]
 impl<S: Source> LineReader<S> {
     ghost use Rattle.std.specs.Prelude.{◌≡◌, ℕ, List, suc, ◌<◌, ◌-◌, ◌≤◌, ◌^◌, None, Some, IsSome, Option, Ok, Err, [], false, true, option_map};
     ghost use Rattle.std.specs.Borrow.{sem};
     ghost use Rattle.std.specs.Io.BufRead.{Rests};
     ghost use Rattle.bt_lines.specs.contracts.reader.line_reader.LineReader.{the_row};
-    ghost use Rattle.bt_lines.specs.calls.Reader.{FillsItsRoom, FillsLines, GivesLine, IsKept, IsPrefix, IsTaken, TakesLines, buffered_bytes, buffered_in, is_open, HasRead, IsSound, NextLine, TellsOwnFailure, line_at, feeds_taken, source_of, input_of, lines_given, bytes_taken, held, fault_kept, has_ended, lines_left, BeginsLines, lines_in};
-    ghost use Rattle.bt_lines.specs.calls.Line.{line_seen};
+    ghost use Rattle.bt_lines.specs.calls.Reader.{FillsItsRoom, FillsLines, IsKept, IsPrefix, IsTaken, TakesLines, buffered_bytes, buffered_in, is_open, HasRead, IsSound, NextLine, TellsOwnFailure, feeds_taken, source_of, input_of, lines_given, bytes_taken, held, fault_kept, has_ended, lines_left, BeginsLines, lines_in};
     ghost use Rattle.bt_lines.specs.model.Lines.{text_lines};
     ghost use Rattle.bt_lines.specs.model.Fault.{read_failed};
     ghost use Rattle.bt_lines.specs.calls.Names.{fault_value};
@@ -81,7 +78,6 @@ impl<S: Source> LineReader<S> {
             source,
             input,
             buffer: ReadBuffer::new(alloc),
-            ending: LineEnd::Absent,
             lines: 0,
             taken: 0,
             state: State::Reading,
@@ -121,33 +117,30 @@ impl<S: Source> LineReader<S> {
         self.lines = consumed.lines;
     }
 
-    /// The next line, or none at the end of the text. If the source failed in this call or gave more than
-    /// 2^63 - 1 bytes, it fails with `ReadFailed`, at the line after the last one given. If the line's
-    /// buffer has to grow and can't, it fails with `NoMemory`. A fault is returned again, and after it and
-    /// after the end nothing is read.
+    /// The next line, or none at the end of the text: `fill`, the first of those buffered, and `consume` of one. If the
+    /// source failed in this call or gave more than 2^63 - 1 bytes, it fails with `ReadFailed`, at the line after the last
+    /// one given. If the line's buffer has to grow and can't, it fails with `NoMemory`. A fault is returned again, and
+    /// after it and after the end nothing is read.
     #[inline(always)]
     pub fn next(&mut self) -> Result<Option<Line<'_>>, Fault>
         ensures* after { sem 𝓛 (Rests (the_row S.row) self.entry (λ new.
             NextLine S.Source self.old result new)) }
     {
-        if self.cut_line() {
-            return Ok(Some(self.last_line()));
+        if !self.fill()? {
+            return Ok(None);
         }
-        if !self.move_on() {
-            return Err(self.fault());
-        }
-        Ok(self.line())
-    }
-
-    // The line that the last `next` gave, once more. There is none before the first line, at the end
-    // and after a fault. It reads nothing.
-    fn line(&self) -> Option<Line<'_>>
-        ensures { option_map line_seen result ≡ line_at self.now }
-    {
-        if self.lines == 0 || !matches!(self.state, State::Reading | State::LastLine) {
-            return None;
-        }
-        Some(self.last_line())
+        let Some(LineText { text, size }) = self.buffered().first() else {
+            return Ok(None);
+        };
+        let count = text.len();
+        let ending = ending_of(count + 1 < size, self.is_open());
+        self.buffer.consume(size);
+        self.lines += 1;
+        Ok(Some(Line {
+            number: self.lines,
+            text: self.buffer.consumed(size, count),
+            ending,
+        }))
     }
 
     /// How many lines were given.
@@ -173,7 +166,6 @@ impl<S: Source> LineReader<S> {
             source,
             input: _,
             buffer: _,
-            ending: _,
             lines: _,
             taken: _,
             state: _,
@@ -181,79 +173,11 @@ impl<S: Source> LineReader<S> {
         source
     }
 
-    // The line that was given last.
-    #[inline(always)]
-    fn last_line(&self) -> Line<'_>
-        requires { IsSome (line_at self.now) }
-        ensures { Some (line_seen result) ≡ line_at self.now }
-    {
-        Line {
-            number: self.lines,
-            text: self.buffer.text(),
-            ending: self.ending,
-        }
-    }
-
     // Whether the last line buffered has no line feed of its own.
     fn is_open(&self) -> bool
         ensures { result ≡ open_at self.now.state }
     {
         matches!(self.state, State::LastLine)
-    }
-
-    // Moves on to the next line if one is buffered, and else does nothing.
-    #[inline(always)]
-    fn cut_line(&mut self) -> bool
-        ensures cut { result ≡ true → (line : Line) → Some (line_seen line) ≡ line_at self.new
-            → GivesLine S.Source self.old (line_seen line) self.new }
-        ensures sound { result ≡ true → IsKept S.Source self.old → IsSound S.Source self.new }
-        ensures at { result ≡ true → IsSome (line_at self.new) }
-        ensures reads_nothing { result ≡ true → HasRead S.is_read self.old self.new }
-        ensures unchanged { result ≡ false → self.new ≡ self.old }
-        ensures none { result ≡ false → complete self.old.buffer ≡ [] }
-    {
-        let Some(LineText { text, size }) = self.buffered().first() else {
-            return false;
-        };
-        let length = text.len();
-        self.ending = ending_of(length + 1 < size, self.is_open());
-        self.buffer.take_line(length, size);
-        self.lines += 1;
-        true
-    }
-
-    // Moves on if no complete line is buffered; returns true if it could. The fault isn't returned: room for it would be
-    // cleared for each line, also for buffered ones.
-    #[cold]
-    #[inline(never)]
-    fn move_on(&mut self) -> bool
-        requires { complete self.old.buffer ≡ [] }
-        ensures moved { result ≡ true → (line : Option Line) → option_map line_seen line ≡ line_at self.new
-            → NextLine S.Source self.old (Ok line) self.new }
-        ensures stopped { result ≡ false → (fault : Fault) → fault_kept self.new ≡ Some (fault_value fault)
-            → NextLine S.Source self.old (Err fault) self.new }
-        ensures kept { result ≡ false → IsSome (fault_kept self.new) }
-    {
-        self.step()
-    }
-
-    // The same. It isn't marked as cold, so that the search for a line feed is inlined.
-    fn step(&mut self) -> bool
-        requires { complete self.old.buffer ≡ [] }
-        ensures moved { result ≡ true → (line : Option Line) → option_map line_seen line ≡ line_at self.new
-            → NextLine S.Source self.old (Ok line) self.new }
-        ensures stopped { result ≡ false → (fault : Fault) → fault_kept self.new ≡ Some (fault_value fault)
-            → NextLine S.Source self.old (Err fault) self.new }
-        ensures kept { result ≡ false → IsSome (fault_kept self.new) }
-    {
-        match self.fill() {
-            Ok(true) => {
-                self.cut_line();
-                true
-            }
-            Ok(false) => true,
-            Err(_fault) => false,
-        }
     }
 
     // The fault that ended the reading: a failed read lies at the line after those given.

@@ -5,22 +5,16 @@ ghost use Rattle.std.specs.Io.KnownBytes.{Consumes, IsAtEnd, Keeps};
 ghost use Rattle.bt_lines.specs.calls.Output.{block_size};
 ghost use Rattle.bt_lines.specs.inside.Shape.{AreComplete, IsSearched};
 
-use crate::device::{DeviceFailed, Source};
+use crate::device::{BLOCK, DeviceFailed, Source};
 use crate::reader::newline::line_length;
 use memchr::memrchr;
 use std::alloc::{AllocError, Global};
-
-/// How many bytes a reader buffers at most, and an output holds back.
-pub const BLOCK: usize = 8192;
 
 // Complete lines, and what was read after them. The lines are `start..whole` of the block, or if a line is longer than
 // the block what comes from `start` on of `spilled`; `whole..end` of the block comes after them.
 #[derive(Drop)]
 pub(crate) struct ReadBuffer {
     bytes: [u8; BLOCK],
-    // The text of the line that was taken last, where the lines are, until more is read.
-    from: usize,
-    stop: usize,
     start: usize,
     whole: usize,
     end: usize,
@@ -29,8 +23,6 @@ pub(crate) struct ReadBuffer {
     // A line that is longer than the block, with a line feed.
     spilled: Vec<u8>,
     is_spilled: bool,
-    ghost text_ordered: { from ≤ stop },
-    ghost text_within: { stop ≤ cond is_spilled (length spilled.items) block_size },
     ghost ordered: { start ≤ cond is_spilled (length spilled.items) whole },
     ghost whole_searched: { whole ≤ searched },
     ghost searched_within: { searched ≤ end },
@@ -39,10 +31,10 @@ pub(crate) struct ReadBuffer {
     ghost are_complete: { AreComplete is_spilled (cond is_spilled (drop start spilled.items) (slice_range bytes start whole)) },
 }
 
-#[tactic(auto, unfolding(crate::specs::inside::ReadBuffer::complete, crate::specs::inside::ReadBuffer::unread, crate::specs::inside::ReadBuffer::text_in))]
+#[tactic(auto, unfolding(crate::specs::inside::ReadBuffer::complete, crate::specs::inside::ReadBuffer::unread, crate::specs::inside::ReadBuffer::gone))]
 impl ReadBuffer {
     ghost use Rattle.std.specs.Prelude.{◌≡◌, ℕ, List, ◌+◌, ◌<◌, ◌≤◌, ◌++◌, ◌∷◌, [], drop, false, length, nat_eq, take, vec_capacity, IfOk, OnOk, OnErr, Some, None};
-    ghost use Rattle.bt_lines.specs.inside.ReadBuffer.{FindsLines, MovesPiece, complete, text_in, unread};
+    ghost use Rattle.bt_lines.specs.inside.ReadBuffer.{FindsLines, MovesPiece, complete, gone, unread};
     ghost use Rattle.bt_lines.specs.inside.Shape.{is_fed};
     ghost use Rattle.bt_lines.specs.calls.Line.{line_feeds};
     ghost use Rattle.bt_lines.specs.inside.Spill.{closed};
@@ -55,8 +47,6 @@ impl ReadBuffer {
     {
         ReadBuffer {
             bytes: [0; BLOCK],
-            from: 0,
-            stop: 0,
             start: 0,
             whole: 0,
             end: 0,
@@ -77,39 +67,28 @@ impl ReadBuffer {
         &self.bytes[self.start..self.whole]
     }
 
-    // The text of the line that was taken last.
-    pub(crate) fn text(&self) -> &[u8]
-        ensures { result.now ≡ text_in self.now }
+    // The first `count` of the last `size` bytes that were consumed. They stay until more is read.
+    pub(crate) fn consumed(&self, size: usize, count: usize) -> &[u8]
+        requires size { size ≤ length (gone self.now) }
+        requires count { count ≤ size }
+        ensures { result.now ≡ take count (drop (length (gone self.now) - size) (gone self.now)) }
     {
+        let from = self.start - size;
         if self.is_spilled {
-            return &self.spilled[self.from..self.stop];
+            return &self.spilled[from..from + count];
         }
-        &self.bytes[self.from..self.stop]
+        &self.bytes[from..from + count]
     }
 
     // Takes bytes from the start of the lines.
     pub(crate) fn consume(&mut self, count: usize)
         requires { count ≤ length (complete self.old) }
         ensures lines { complete self.new ≡ drop count (complete self.old) }
+        ensures gone { gone self.new ≡ gone self.old ++ take count (complete self.old) }
         ensures unread { unread self.new ≡ unread self.old }
         ensures spilled { self.new.is_spilled ≡ self.old.is_spilled }
     {
         self.start += count;
-    }
-
-    // Takes the first line, and keeps where its text is.
-    #[inline(always)]
-    pub(crate) fn take_line(&mut self, text: usize, line: usize)
-        requires text { text ≤ line }
-        requires line { line ≤ length (complete self.old) }
-        ensures text { text_in self.new ≡ take text (complete self.old) }
-        ensures lines { complete self.new ≡ drop line (complete self.old) }
-        ensures unread { unread self.new ≡ unread self.old }
-        ensures spilled { self.new.is_spilled ≡ self.old.is_spilled }
-    {
-        self.from = self.start;
-        self.stop = self.start + text;
-        self.start += line;
     }
 
     // If no complete line is left, finds those in what was read after them.
@@ -125,8 +104,6 @@ impl ReadBuffer {
             return false;
         };
         self.is_spilled = false;
-        self.from = 0;
-        self.stop = 0;
         self.start = self.whole;
         self.whole = from + last + 1;
         self.searched = self.end;
@@ -185,8 +162,6 @@ impl ReadBuffer {
         }
         self.bytes[self.end] = b'\n';
         self.is_spilled = false;
-        self.from = 0;
-        self.stop = 0;
         self.start = self.whole;
         self.end += 1;
         self.whole = self.end;
@@ -264,8 +239,6 @@ impl ReadBuffer {
         ensures unread { unread self.new ≡ unread self.old }
     {
         self.is_spilled = true;
-        self.from = 0;
-        self.stop = 0;
         self.start = 0;
     }
 
@@ -279,8 +252,6 @@ impl ReadBuffer {
         ensures searched { (self.new.searched ≡ self.old.searched) × (self.new.end ≡ self.old.end) × (self.new.bytes ≡ self.old.bytes) }
     {
         self.is_spilled = false;
-        self.from = 0;
-        self.stop = 0;
         self.start = self.whole;
     }
 
@@ -299,8 +270,6 @@ impl ReadBuffer {
         }
         self.bytes.copy_within(self.whole..self.end, 0);
         self.is_spilled = false;
-        self.from = 0;
-        self.stop = 0;
         self.start = 0;
         self.end -= self.whole;
         self.searched -= self.whole;

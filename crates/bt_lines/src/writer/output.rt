@@ -6,10 +6,9 @@ ghost use Rattle.bt_lines.specs.calls.Output.{HoldsBlock, IsPrefixOf, Grows, blo
 ghost use Rattle.bt_lines.specs.calls.Faults.{write_failed};
 ghost use Rattle.bt_lines.specs.calls.Names.{fault_value};
 
-use crate::device::{DeviceFailed, Sink};
+use crate::device::{BLOCK, DeviceFailed, Sink};
 use crate::fault::Fault;
 use crate::fault::faults::write_failed;
-use crate::reader::read_buffer::BLOCK;
 use crate::writer::copying::is_short;
 use crate::writer::write_buffer::{SPAN_ROOM, WriteBuffer};
 use std::marker::Model;
@@ -93,7 +92,7 @@ impl<K: Sink> Out<K> {
             self.held.append(piece);
             return Ok(());
         }
-        if put_across(&mut self.sink, &mut self.held, piece).is_err() {
+        if put_blocks(&mut self.sink, &mut self.held, piece).is_err() {
             self.has_failed = true;
             return Err(write_failed());
         }
@@ -200,7 +199,7 @@ impl<K: Sink> Out<K> {
 #[cold]
 #[inline(never)]
 #[tactic(auto, using(crate::proofs::lemmas::Writer::always_err, crate::proofs::lemmas::Writer::front_filled, crate::proofs::lemmas::Writer::front_over, crate::proofs::Std::take_rest, crate::proofs::lemmas::Writer::put_over))]
-fn put_across<K: Sink>(
+fn put_blocks<K: Sink>(
     sink: &mut K,
     held: &mut WriteBuffer,
     piece: &[u8],

@@ -4,8 +4,8 @@ ghost use Rattle.std.specs.Prelude.{◌≡◌, ◌+◌, ◌-◌, ◌≤◌, ◌<
 ghost use Rattle.bt_lines.specs.inside.Copying.{IsShort};
 ghost use Rattle.bt_lines.specs.calls.Output.{block_size, span_text};
 
+use crate::device::BLOCK;
 use crate::numbers::number_column::{COLUMN, write_column};
-use crate::reader::read_buffer::BLOCK;
 use crate::writer::copying::{copy_end, copy_short, copy_wide, is_end, is_wide};
 use std::marker::Model;
 use std::simd::prelude::*;

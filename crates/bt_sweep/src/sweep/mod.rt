@@ -280,7 +280,7 @@ impl<'o, H: Held, O: ChromOrder> Sweep<'o, H, O> {
         ensures stops { OnErr result (want_in (state_of self.new) ≡ Want.Nothing) }
         ensures order { order_of self.new ≡ order_of self.old }
     {
-        match relation_of(self.order, self.state.phase(), first.bed().chrom, b) {
+        match relation_of(self.order, self.state.phase(), first.chrom(), b) {
             Relation::Unknown => Ok(Some(first)),
             Relation::Before => {
                 skip(b);

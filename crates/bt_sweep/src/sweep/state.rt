@@ -190,7 +190,7 @@ impl<H: Held> State<H> {
         ensures entered { self.new ≡ record self.old { held = held_with self.old.held (R.feature a.now) } }
         ensures hits { All (CanHit (R.feature a.now)) self.new.held }
     {
-        if are_on(&self.held, a.bed().chrom) {
+        if are_on(&self.held, a.chrom()) {
             self.held.drop_ended(a.start());
         } else {
             self.held.clear();

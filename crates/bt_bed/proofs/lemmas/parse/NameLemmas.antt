@@ -4,7 +4,7 @@ use Rattle.bt_bed.specs.inside.FirstColumns.{BeginsWithName, IsKey, AreBounds, B
 use Rattle.bt_bed.specs.declared.parse.packed_name.PackedName.{PackedName}
 use Rattle.bt_lines.proofs.lemmas.numbers.NumberLemmas.{digits_denoting, digits_more, value_more, value_short}
 use Rattle.bt_lines.specs.model.Lines.{value_of}
-use Rattle.bt_bed.specs.declared.parse.parsed_number.ParsedNumber.{ParsedNumber}
+use Rattle.bt_bed.specs.declared.record.raw_record.ParsedNumber.{ParsedNumber}
 use Rattle.bt_bed.proofs.lemmas.read.ColumnLemmas.{begins_below, front_is_name, leads_by, name_in_front}
 
 pub same_name : (a b : List ℕ) → bytes_eq a b ≡ true → a ≡ b

@@ -8,7 +8,7 @@ use Rattle.bt_bed.specs.model.Feature.{Feature}
 use Rattle.bt_bed.specs.model.BedLine.{is_header, columns_say, kept_columns, record_of, strand_of, bed_text}
 use Rattle.bt_bed.specs.calls.Features.{IsName, columns_in, is_kept, IsFeature}
 use Rattle.bt_bed.specs.inside.FirstColumns.{AreBounds, BeginsWith, BeginsWithName, EndsName, IsRecordName, Leads, EndsFirst, HasColumns}
-use Rattle.bt_bed.specs.declared.parse.parsed_number.ParsedNumber.{ParsedNumber}
+use Rattle.bt_bed.specs.declared.record.raw_record.ParsedNumber.{ParsedNumber}
 use Rattle.bt_bed.specs.declared.record.strand.Strand.{Strand}
 use Rattle.bt_bed.specs.calls.Bed.{is_on, IsOnLine, kept_in, record_in, text_in}
 use Rattle.bt_bed.specs.declared.record.raw_record.RawRecord.{RawRecord}

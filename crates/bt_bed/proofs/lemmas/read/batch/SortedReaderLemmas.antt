@@ -1,5 +1,5 @@
 -- Lemmas on a reader of sorted records.
-use Rattle.bt_lines.proofs.Std.{◌≡◌, ℕ, suc, ◌-◌, ◌<◌, ◌≤◌, Bool, true, false, List, [], ◌∷◌, ◌++◌, length, take, drop, Option, Some, None, Ok, refl, sym, ap, ◌∙◌, subst, arith, length-take, take-append-drop, if◌then◌else◌, is_some, IfSome, IsTrue, option_map, ForSome, Result, Err, inl, inr}
+use Rattle.bt_lines.proofs.Std.{IfNone, rules, ◌≡◌, ℕ, suc, ◌-◌, ◌<◌, ◌≤◌, Bool, true, false, List, [], ◌∷◌, ◌++◌, length, take, drop, Option, Some, None, Ok, refl, sym, ap, ◌∙◌, subst, arith, length-take, take-append-drop, if◌then◌else◌, is_some, IfSome, IsTrue, option_map, ForSome, Result, Err, inl, inr}
 use Rattle.bt_lines.specs.declared.device.Source.{Ghosts as Source}
 use Rattle.bt_lines.proofs.lemmas.reader.lines.TakingLemmas.{is_prefix, next_bytes, next_number}
 use Rattle.bt_lines.specs.calls.Reader.{DropsLines, TakesLines, bytes_left, buffered_in as lines_buffered, fault_kept as line_fault, input_of, lines_given, lines_left, source_of, GivesEnd, GivesFault, HasRead, IsKept, MakesLine, bytes_taken}
@@ -19,11 +19,12 @@ use Rattle.bt_bed.specs.model.Sorted.{Locus, Sorting}
 use Rattle.bt_bed.specs.inside.OrderedLookahead.{HasNext, HoldsChrom, IsKnownLast, LineTaken, MakesLast, ahead_of, last_in, name_in, start_in, KeepsLast}
 use Rattle.bt_bed.specs.calls.Reading.{AreSaid, BeginsComing, MemberReader, Takes, good_behind, good_coming, members_from, state_behind, with_members, AnswersFault, Fills, IsLost, TellsOwnFailure}
 use Rattle.bt_bed.specs.calls.Batch.{StandsFirst, left, left_after}
-use Rattle.bt_bed.specs.calls.Bed.{is_some_left, record_in, run_of}
+use Rattle.bt_bed.specs.calls.Bed.{feature_lent, is_some_left, record_in, run_of}
+use Rattle.bt_bed.specs.declared.record.bed.BedRef.{BedRef}
 use Rattle.bt_bed.specs.declared.read.batch.Batch.{Batch}
 use Rattle.bt_bed.specs.declared.record.raw_record.RawRecord.{RawRecord}
 use Rattle.bt_bed.proofs.lemmas.parse.NameLemmas.{name_eq}
-use Rattle.bt_bed.specs.calls.SortedReader.{IsPlaced, IsTaken, are_in_order, buffered_in, count_in, view_in, view_with, FindsRecord, LosesLine, SkipsLine, TakesFirst, TakesOne}
+use Rattle.bt_bed.specs.calls.SortedReader.{FillsSorted, PeeksSorted, IsPlaced, IsTaken, are_in_order, buffered_in, count_in, view_in, view_with, FindsRecord, LosesLine, SkipsLine, TakesFirst, TakesOne}
 use Rattle.bt_bed.specs.declared.read.batch.Consumed.{Consumed}
 use Rattle.bt_bed.specs.declared.read.lookahead.OrderedLookahead.{OrderedLookahead}
 use Rattle.bt_bed.specs.declared.read.sorted_reader.SortedReader.{SortedReader}
@@ -445,3 +446,36 @@ module _ {S Q : Type 0} (sorted : SortedReader S Q) (some : sorted.is_ahead ≡ 
           );
           kept = λ was. was;
         }
+
+-- a fault is returned again
+fails_again : {S A State : Type 0} (device : Source S) (reader : MemberReader S A State) (fault : FaultValue) → reader.fault ≡ Some fault → reader.buffered ≡ [] → AnswersFault device reader fault reader
+fails_again device reader fault is none = record {
+  kept = is;
+  was_none = none;
+  none_buffered = none;
+  state = refl;
+  again = λ before e. let same : Some fault ≡ Some before = sym is ∙ e in (cc, refl);
+  first = λ going. let other : ◌≡◌ {A = Option FaultValue} (Some fault) None = sym is ∙ going in cc;
+  stays = search rules;
+  rises = omega arith;
+  lines = search rules;
+  near = λ going. let other : ◌≡◌ {A = Option FaultValue} (Some fault) None = sym is ∙ going in cc;
+}
+
+pub sorted_fails : {S Q : Type 0} (device : Source S) (sorting : Sorting) (sorted : SortedReader S Q) (fault : Fault) → sorted.is_ahead ≡ false → sorted.fault ≡ Some fault
+    → Fills device (view_in sorting sorted) (Err fault) (view_in sorting sorted)
+unfolding view_with buffered_in
+sorted_fails device sorting sorted fault none is = record { answers = fails_again device (view_in sorting sorted) (fault_value fault) (rw is refl) (rw none refl); kept = λ was. was }
+
+-- `peek` is `fill` and the first of what is buffered
+module _ {S : Type 0} (device : Source S) (Next : Feature → Type 0) (Keeps : Type 0) (old new : MemberReader S Feature (Option Locus)) where
+  peeks_at : (is_some : Bool) (first : Option BedRef) → FillsSorted device Next Keeps old new (Ok is_some) → IfSome first (λ bed. (more : List Feature) × (new.buffered ≡ feature_lent bed ∷ more))
+      → IfNone first (new.buffered ≡ []) → PeeksSorted device Next Keeps old new (Ok first)
+  peeks_at true (Some bed) fills some none = grind arith
+  peeks_at true None fills some none = grind arith
+  peeks_at false (Some bed) fills some none = grind arith
+  peeks_at false None fills some none = grind arith
+
+  pub peeks_by : (answer : Result Bool Fault) (is_some : Bool) (first : Option BedRef) → answer ≡ Ok is_some → FillsSorted device Next Keeps old new answer
+      → IfSome first (λ bed. (more : List Feature) × (new.buffered ≡ feature_lent bed ∷ more)) → IfNone first (new.buffered ≡ []) → PeeksSorted device Next Keeps old new (Ok first)
+  peeks_by answer is_some first e fills = peeks_at is_some first (subst (λ (r : Result Bool Fault). FillsSorted device Next Keeps old new r) e fills)

@@ -1,5 +1,5 @@
 -- Lemmas on the bytes of a block.
-use Rattle.bt_lines.proofs.Std.{common_steps, rules, ◌≡◌, ℕ, ◌+◌, ◌-◌, ◌≤◌, List, length, take, drop, slice_range, sym, ap, ◌∙◌, arith, length-take, drop-take, drop-drop, zero, suc, ◌<◌, ◌⊎◌, inl, inr, Bool, true, false, cond, [], ◌∷◌, ◌++◌, get_or, set, Some, None, refl, subst, append_assoc, length-append, eqb, paste, take-add, eqb-true, false_from_ne_true, false≢true, take-append-drop, take-append-le, take-take, drop-append-le, take_at, take_more, take_more_set, length-take-le, length-drop, get_or-drop, get_or_default, All-append, All-nil, nat_eq, ◌^◌, Option, append-nil, add-zero, Consumes-trans, Consumes, Result, Ok, Err}
+use Rattle.bt_lines.proofs.Std.{drop_at, common_steps, rules, ◌≡◌, ℕ, ◌+◌, ◌-◌, ◌≤◌, List, length, take, drop, slice_range, sym, ap, ◌∙◌, arith, length-take, drop-take, drop-drop, zero, suc, ◌<◌, ◌⊎◌, inl, inr, Bool, true, false, cond, [], ◌∷◌, ◌++◌, get_or, set, Some, None, refl, subst, append_assoc, length-append, eqb, paste, take-add, eqb-true, false_from_ne_true, false≢true, take-append-drop, take-append-le, take-take, drop-append-le, take_at, take_more, take_more_set, length-take-le, length-drop, get_or-drop, get_or_default, All-append, All-nil, nat_eq, ◌^◌, Option, append-nil, add-zero, Consumes-trans, Consumes, Result, Ok, Err}
 use Rattle.bt_lines.specs.inside.ReadBuffer.{unread, MovesPiece}
 use Rattle.bt_lines.specs.declared.reader.read_buffer.ReadBuffer.{ReadBuffer}
 use Rattle.bt_lines.specs.calls.Output.{block_size}
@@ -123,10 +123,26 @@ last_feed bytes from end last h k is =
     ∙ take_more hay last 0 below ∙ ap (λ (b : ℕ). take last hay ++ b ∷ []) (eqb-true (get_or hay last 0) 10 is.1) in
     grind (arith, (fed_push (take last hay)), (consumed bytes from end (last + 1) (omega (arith, inside))), (length-drop (last + 1) hay), get_or-drop, get_or_default)
 
--- the text of a line that was taken
-pub line_text : (is_spilled : Bool) (spilled bytes : List ℕ) (start whole text line : ℕ) → text ≤ line → line ≤ length (cond is_spilled (drop start spilled) (slice_range bytes start whole))
-    → cond is_spilled (slice_range spilled start (start + text)) (slice_range bytes start (start + text)) ≡ take text (cond is_spilled (drop start spilled) (slice_range bytes start whole))
-line_text is_spilled spilled bytes start whole text line h k = grind (arith, shorter_front, length-take)
+-- what is gone once lines of `count` bytes were consumed
+pub gone_more : (is_spilled : Bool) (spilled bytes : List ℕ) (start whole count : ℕ) → count ≤ length (cond is_spilled (drop start spilled) (slice_range bytes start whole))
+    → take (start + count) (cond is_spilled spilled bytes) ≡ take start (cond is_spilled spilled bytes) ++ take count (cond is_spilled (drop start spilled) (slice_range bytes start whole))
+gone_more true spilled bytes start whole count h = take-add start count spilled
+gone_more false spilled bytes start whole count h =
+    let inside : count ≤ length (take (whole - start) (drop start bytes)) = h in
+    take-add start count bytes ∙ ap (λ l. take start bytes ++ l) (shorter_front (drop start bytes) count (whole - start) (omega (arith, inside, length-take (whole - start) (drop start bytes))))
+
+-- the first of the bytes that were consumed last
+module _ (new old lines : List ℕ) (size : ℕ) (is : new ≡ old ++ take size lines) (within : size ≤ length lines) where
+  gone_length : length new ≡ length old + size
+  gone_length = omega (arith, ap length is, length-append old (take size lines), length-take size lines)
+
+  pub gone_size : size ≤ length new
+  gone_size = omega (arith, gone_length)
+
+  pub gone_front : (count : ℕ) → count ≤ size → take count (drop (length new - size) new) ≡ take count lines
+  gone_front count h =
+      let before : length new - size ≡ length old = omega (arith, gone_length) in
+      ap (λ n. take count (drop n new)) before ∙ ap (λ l. take count (drop (length old) l)) is ∙ ap (take count) (drop_at old (take size lines) (length old) refl) ∙ sym (shorter_front lines count size h)
 
 -- ---- after a search
 

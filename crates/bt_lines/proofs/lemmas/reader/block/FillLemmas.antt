@@ -1,7 +1,8 @@
 -- Lemmas on making a line buffered, and on the step to the next line by it.
-use Rattle.bt_lines.proofs.Std.{common_steps, rules, ◌≡◌, ℕ, ◌-◌, ◌<◌, Bool, true, false, List, [], ◌++◌, length, take, Option, Result, None, Some, Ok, Err, sym, ap, ◌∙◌, subst, append_assoc, length-append, arith, option_map, is_some, IfSome, IsSome, false≢true, ◌+◌, ◌≤◌, ◌∷◌, drop, eqb, take-add, take-append-drop, take_at, drop_at, length-take-le, length-drop, All-append, replicate, get_or, get_or-append_right, get_or-append_seam, get_or-replicate, get_or_append_left, length-replicate, drop_more, take-append-le}
+use Rattle.bt_lines.proofs.Std.{IsErrAnd, err_from_is_err_and, common_steps, rules, ◌≡◌, ℕ, ◌-◌, ◌<◌, Bool, true, false, List, [], ◌++◌, length, take, Option, Result, None, Some, Ok, Err, sym, ap, ◌∙◌, subst, append_assoc, length-append, arith, option_map, is_some, IfSome, IsSome, false≢true, ◌+◌, ◌≤◌, ◌∷◌, drop, eqb, take-add, take-append-drop, take_at, drop_at, length-take-le, length-drop, All-append, replicate, get_or, get_or-append_right, get_or-append_seam, get_or-replicate, get_or_append_left, length-replicate, drop_more, take-append-le}
 use Rattle.bt_lines.specs.declared.device.Source.{Ghosts as Source}
 use Rattle.bt_lines.proofs.lemmas.reader.block.ReadsLemmas.{has_read_then}
+use Rattle.bt_lines.proofs.lemmas.reader.lines.BufferedLemmas.{CutsFirst}
 use Rattle.bt_lines.proofs.lemmas.reader.lines.StepLemmas.{none_told}
 use Rattle.bt_lines.proofs.lemmas.reader.lines.TextLemmas.{line_feeds-append}
 use Rattle.bt_lines.specs.calls.Columns.{IsBefore, IsFirstOf, Lacks}
@@ -9,7 +10,7 @@ use Rattle.bt_lines.specs.calls.Line.{line_seen}
 use Rattle.bt_lines.specs.model.Lines.{TextLine}
 use Rattle.bt_lines.specs.calls.Names.{fault_value}
 use Rattle.bt_lines.specs.inside.ReadBuffer.{complete}
-use Rattle.bt_lines.specs.calls.Reader.{DropsLines, FillsItsRoom, FillsLines, GivesLine, HasRead, IsKept, IsSound, MakesLine, NextLine, TellsOwnFailure, buffered_bytes, bytes_left, bytes_taken, end_told, fault_kept, feeds_taken, has_ended, held, input_of, line_at, lines_given, lines_left, source_of}
+use Rattle.bt_lines.specs.calls.Reader.{DropsLines, FillsItsRoom, FillsLines, GivesLine, HasRead, IsKept, IsSound, MakesLine, NextLine, TellsOwnFailure, buffered_bytes, bytes_left, bytes_taken, end_told, fault_kept, feeds_taken, has_ended, held, input_of, lines_given, lines_left, source_of}
 use Rattle.bt_lines.specs.declared.fault.Fault.{Fault}
 use Rattle.bt_lines.specs.declared.reader.line.Line.{Line}
 use Rattle.bt_lines.specs.declared.reader.line_reader.LineReader.{LineReader}
@@ -43,37 +44,42 @@ module _ {S : Type 0} (device : Source S) where
   gives_after : (old mid new : LineReader S) (line : TextLine) → MakesLine device old mid → GivesLine device mid line new → GivesLine device old line new
   gives_after old mid new line made gives = grind (arith, append_assoc, line_feeds-append, length-append)
 
-  -- a step that met a fault, which the reader keeps
+  -- a call of `next` that met no line
+  pub ends_by : (old new : LineReader S) (answer : Result Bool Fault) → answer ≡ Ok false → FillsLines device old answer new → TellsOwnFailure device.is_read old answer new → NextLine device old (Ok None) new
+  ends_by old new answer e fills tells =
+      let filled = subst (λ (r : Result Bool Fault). FillsLines device old r new) e fills in
+      let read = subst (λ (r : Result Bool Fault). TellsOwnFailure device.is_read old r new) e tells in
+      grind arith
+
+  -- or a fault
   pub stops_by : (old new : LineReader S) (fault : Fault) → FillsLines device old (Err fault) new → TellsOwnFailure {A = Bool} device.is_read old (Err fault) new
-      → FillsItsRoom {A = Bool} old (Err fault) new → (other : Fault) → fault_kept new ≡ Some (fault_value other) → NextLine device old (Err other) new
-  stops_by old new fault fills tells room other e = grind arith
+      → FillsItsRoom {A = Bool} old (Err fault) new → NextLine device old (Err fault) new
+  stops_by old new fault fills tells room = grind arith
 
-  cuts_by : (b : Bool) (mid : LineReader S) → 0 < length (buffered_bytes mid) → (b ≡ false → complete mid.buffer ≡ []) → b ≡ true
-  unfolding buffered_bytes
-  cuts_by b mid some none = grind arith
-
-  filled : (old mid : LineReader S) (answer : Result Bool Fault) → answer ≡ Ok true → FillsLines device old answer mid → FillsLines device old (Ok true) mid
-  filled old mid answer e fills = subst (λ (r : Result Bool Fault). FillsLines device old r mid) e fills
-
-  -- when one is buffered, it is taken
-  pub is_cut : (old mid : LineReader S) (answer : Result Bool Fault) (b : Bool) → answer ≡ Ok true → FillsLines device old answer mid → (b ≡ false → complete mid.buffer ≡ []) → b ≡ true
-  is_cut old mid answer b e fills none = let made = (filled old mid answer e fills).answers in cuts_by b mid made.some none
-
-  -- a step to a line
-  pub moves_by : {old mid new : LineReader S} {answer : Result Bool Fault} {b : Bool} → answer ≡ Ok true → FillsLines device old answer mid → (b ≡ false → complete mid.buffer ≡ [])
-      → (b ≡ true → (line : Line) → Some (line_seen line) ≡ line_at new → GivesLine device mid (line_seen line) new) → (b ≡ true → IsSome (line_at new)) → (b ≡ true → IsKept device mid → IsSound device new)
-      → TellsOwnFailure device.is_read old answer mid → (b ≡ true → HasRead device.is_read mid new)
-      → (line : Option Line) → option_map line_seen line ≡ line_at new → NextLine device old (Ok line) new
-  moves_by {old} {mid} {answer} {b} e fills none gives some sound read then None at = grind (arith, (false≢true (sym (ap is_some (sym at)) ∙ some (is_cut old mid answer b e fills none))))
-  moves_by {old} {mid} {new} {answer} {b} e fills none gives some sound read then (Some line) at =
-      let filled = filled old mid answer e fills in
-      let cut = is_cut old mid answer b e fills none in
+  -- the line that was made buffered, or was so, is given
+  pub next_by : (old mid new : LineReader S) (answer : Result Bool Fault) (line : Line) → answer ≡ Ok true → FillsLines device old answer mid → TellsOwnFailure device.is_read old answer mid
+      → CutsFirst device mid (line_seen line) new → HasRead device.is_read mid new → NextLine device old (Ok (Some line)) new
+  next_by old mid new answer line e fills tells cuts read =
+      let filled = subst (λ (r : Result Bool Fault). FillsLines device old r mid) e fills in
       record {
-        answers = gives_after old mid new (line_seen line) filled.answers (gives cut line at);
-        own_failure = has_read_then device.is_read old mid new (subst (λ (r : Result Bool Fault). TellsOwnFailure device.is_read old r mid) e read) (then cut);
+        answers = gives_after old mid new (line_seen line) filled.answers cuts.gives;
+        own_failure = has_read_then device.is_read old mid new (subst (λ (r : Result Bool Fault). TellsOwnFailure device.is_read old r mid) e tells) read;
         memory = tt;
-        sound = λ h. sound cut (filled.kept (record { end = h.end; within = h.within }));
+        sound = λ h. cuts.sound (filled.kept (record { end = h.end; within = h.within }));
       }
+
+  -- it is there
+  pub is_made : (old mid : LineReader S) (answer : Result Bool Fault) → answer ≡ Ok true → FillsLines device old answer mid → complete mid.buffer ≡ [] → ⊥
+  unfolding buffered_bytes
+  is_made old mid answer e fills none =
+      let made = (subst (λ (r : Result Bool Fault). FillsLines device old r mid) e fills).answers in
+      absurd (omega (arith, made.some, ap length none))
+
+  -- a fault that is passed on
+  pub passes_on : (old new : LineReader S) (result : Result (Option Line) Fault) (fault : Fault) → IsErrAnd result (λ e. e ≡ fault) → NextLine device old (Err fault) new → NextLine device old result new
+  passes_on old new result fault is stops =
+      let p = err_from_is_err_and result is in
+      subst (λ (r : Result (Option Line) Fault). NextLine device old r new) (sym (p.1 ∙ ap Err p.2)) stops
 
 -- Lemmas on the first byte of a value among some bytes.
 

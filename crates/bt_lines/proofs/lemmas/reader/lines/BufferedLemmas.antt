@@ -1,19 +1,19 @@
 -- Lemmas on a line that is taken of those that are buffered.
-use Rattle.bt_lines.proofs.Std.{common_steps, ◌≡◌, ◌⊎◌, ℕ, suc, ◌+◌, ◌-◌, ◌<◌, ◌≤◌, Bool, true, false, cond, List, [], ◌∷◌, ◌++◌, length, take, drop, Option, Some, refl, sym, ap, ◌∙◌, subst, append_assoc, append-nil, length-append, add-zero, arith, IsSome, nat_lt, ends_with_byte, strip_last, take-append_seam, length-take, Consumes-nil, Consumes, ◌^◌, drop-drop, length-drop, take-append-drop, take_all, take-add, drop_all, drop_more}
+use Rattle.bt_lines.proofs.Std.{common_steps, ◌≡◌, ◌⊎◌, ℕ, suc, ◌+◌, ◌-◌, ◌<◌, ◌≤◌, Bool, true, false, cond, List, [], ◌∷◌, ◌++◌, length, take, drop, Option, Some, refl, sym, ap, ◌∙◌, subst, append_assoc, append-nil, length-append, add-zero, arith, nat_lt, ends_with_byte, strip_last, take-append_seam, length-take, Consumes-nil, Consumes, ◌^◌, drop-drop, length-drop, take-append-drop, take_all, take-add, drop_all, drop_more}
 use Rattle.bt_lines.specs.declared.device.Source.{Ghosts as Source}
 use Rattle.bt_lines.proofs.lemmas.reader.block.BufferLemmas.{unread_fits, fed_none, fed_clear, fed_drop, fed_after, fed_push}
 use Rattle.bt_lines.proofs.lemmas.reader.lines.StepLemmas.{some_state, goes, told_last, gives_fed, sound_fed, gives_last, sound_last}
 use Rattle.bt_lines.proofs.lemmas.reader.lines.TextLemmas.{line_feeds-fed, lines_from-last, lines_from-nil, strip_last-other, whole_lines_from-fed, whole_lines_from-last}
 use Rattle.bt_lines.specs.calls.Columns.{IsBefore}
-use Rattle.bt_lines.specs.calls.Line.{Cut, Shown, ending_at, NoLineFeed, line_seen, IsFirst, shown_of, line_feeds}
+use Rattle.bt_lines.specs.calls.Line.{Cut, Shown, ending_at, NoLineFeed, IsFirst, shown_of, line_feeds}
 use Rattle.bt_lines.specs.model.Lines.{TextLine, fed_line}
 use Rattle.bt_lines.specs.calls.Output.{block_size}
-use Rattle.bt_lines.specs.inside.ReadBuffer.{complete, text_in, unread, lends_at, open_at, told_at}
-use Rattle.bt_lines.specs.calls.Reader.{GivesLine, IsKept, IsSound, has_ended, held, input_of, line_at, lines_given, source_of, BeginsLines, buffered_lines, line_of, lines_after, lines_in, rest_in, IsWhere, PassesLines, TakenLines, buffered_bytes, is_open}
+use Rattle.bt_lines.specs.inside.ReadBuffer.{complete, unread, lends_at, open_at, told_at}
+use Rattle.bt_lines.specs.calls.Reader.{GivesLine, IsKept, IsSound, has_ended, held, input_of, lines_given, source_of, BeginsLines, buffered_lines, line_of, lines_after, lines_in, rest_in, IsWhere, PassesLines, TakenLines, buffered_bytes, is_open}
 use Rattle.bt_lines.specs.inside.Shape.{AreComplete, IsLast, held_at, is_fed}
+use Rattle.bt_lines.specs.declared.reader.line.LineEnd.{LineEnd}
 use Rattle.bt_lines.specs.declared.reader.line.LineEnd.TheVariants.{Absent, Lf, CrLf, Cr}
 use Rattle.bt_lines.specs.declared.reader.line_reader.LineReader.{LineReader}
-use Rattle.bt_lines.specs.declared.reader.line.Line.{Line}
 use Rattle.bt_lines.specs.declared.reader.line_reader.State.{State}
 use Rattle.bt_lines.specs.declared.reader.line_reader.State.TheVariants.{Reading, LastLine}
 use Rattle.bt_lines.specs.declared.reader.read_buffer.ReadBuffer.{ReadBuffer}
@@ -21,15 +21,12 @@ use Rattle.bt_lines.specs.declared.reader.buffered_lines.BufferedLines.{Buffered
 use Rattle.bt_lines.specs.declared.reader.buffered_lines.ConsumedLines.{ConsumedLines}
 
 -- the first line that is buffered was given
-pub record CutsFirst {S : Type 0} (device : Source S) (old new : LineReader S) : Type 0 where
-  pub line : TextLine
-  pub at : line_at new ≡ Some line
+pub record CutsFirst {S : Type 0} (device : Source S) (old : LineReader S) (line : TextLine) (new : LineReader S) : Type 0 where
   pub gives : GivesLine device old line new
   pub sound : IsKept device old → IsSound device new
 
--- the line that the reader is at then is this one
-pub cut_gives : {S : Type 0} (device : Source S) (old new : LineReader S) → CutsFirst device old new → (line : Line) → Some (line_seen line) ≡ line_at new → GivesLine device old (line_seen line) new
-cut_gives device old new cuts line at = subst (λ l. GivesLine device old l new) (cc) cuts.gives
+cuts_as : {S : Type 0} (device : Source S) (old new : LineReader S) (line other : TextLine) → line ≡ other → GivesLine device old other new → (IsKept device old → IsSound device new) → CutsFirst device old line new
+cuts_as device old new line other e gives sound = record { gives = subst (λ l. GivesLine device old l new) (sym e) gives; sound = sound }
 
 pub are_fed : (buffer : ReadBuffer) → AreComplete buffer.is_spilled (complete buffer)
 unfolding complete
@@ -59,28 +56,31 @@ fed_ending b piece e = rw e refl
 last_ending : (b : Bool) (piece : List ℕ) → b ≡ ends_with_byte 13 piece → ending_at true b ≡ cond (ends_with_byte 13 piece) Cr Absent
 last_ending b piece e = rw e refl
 
-module _ {S : Type 0} (device : Source S) (old new : LineReader S) {line : Shown}
+module _ {S : Type 0} (device : Source S) (old new : LineReader S) {line : Shown} (given : ℕ) (shown : List ℕ) (end : LineEnd)
     (same_state : new.state ≡ old.state) (same : new.input ≡ old.input) (same_source : new.source ≡ old.source) (same_taken : new.taken ≡ old.taken) (more : new.lines ≡ old.lines + 1)
     (cut : Cut (complete old.buffer) line) (lines : complete new.buffer ≡ drop line.size (complete old.buffer)) (behind : unread new.buffer ≡ unread old.buffer)
-    (text : text_in new.buffer ≡ take (length line.text) (complete old.buffer)) (spilled : new.buffer.is_spilled ≡ old.buffer.is_spilled)
-    (ending : new.ending ≡ ending_at (open_at old.state) (nat_lt (length line.text + 1) line.size)) where
+    (spilled : new.buffer.is_spilled ≡ old.buffer.is_spilled) (number : given ≡ new.lines) (text : shown ≡ take (length line.text) (complete old.buffer))
+    (ending : end ≡ ending_at (open_at old.state) (nat_lt (length line.text + 1) line.size)) where
   parts : complete old.buffer ≡ cut.piece ++ 10 ∷ complete new.buffer
   parts = cut.cut ∙ ap (λ l. cut.piece ++ 10 ∷ l) (sym lines)
 
   near : length (complete new.buffer ++ unread new.buffer) ≤ block_size
   near = near_by old.buffer.is_spilled new.buffer (complete old.buffer) cut.piece spilled (are_fed old.buffer) parts cut.clear
 
-  text_is : text_in new.buffer ≡ strip_last 13 cut.piece
+  abbrev given_line : TextLine
+  given_line = record { number = given; text = shown; ending = end }
+
+  text_is : shown ≡ strip_last 13 cut.piece
   text_is = text ∙ cut.front ∙ cut.stripped
 
-  number : new.lines ≡ suc old.lines
-  number = omega (arith, more)
+  next : new.lines ≡ suc old.lines
+  next = omega (arith, more)
 
-  counts_some : nat_lt 0 (suc old.lines) ≡ true
-  counts_some = grind arith
+  numbered : given ≡ suc old.lines
+  numbered = number ∙ next
 
-  cut_fed : old.state ≡ Reading → CutsFirst device old new
-  unfolding source_of input_of lines_given line_at
+  cut_fed : old.state ≡ Reading → CutsFirst device old given_line new
+  unfolding source_of input_of lines_given
   cut_fed is =
       let state : new.state ≡ Reading = same_state ∙ is in
       let was = goes old (rw is refl) in
@@ -88,19 +88,16 @@ module _ {S : Type 0} (device : Source S) (old new : LineReader S) {line : Shown
       let holds : held old ++ [] ≡ cut.piece ++ 10 ∷ held new =
       append-nil (held old) ∙ was.holds ∙ ap (λ l. l ++ unread old.buffer) parts ∙ append_assoc cut.piece (10 ∷ complete new.buffer) (unread old.buffer)
       ∙ ap (λ l. cut.piece ++ 10 ∷ (complete new.buffer ++ l)) (sym behind) ∙ ap (λ l. cut.piece ++ 10 ∷ l) (sym now.holds) in
-      let end_is : new.ending ≡ cond (ends_with_byte 13 cut.piece) CrLf Lf = ending ∙ rw is (fed_ending _ cut.piece cut.returned) in
-      let at : line_at new ≡ Some (fed_line (suc old.lines) cut.piece) = rw (state, number, end_is, text_is, counts_some) refl in
+      let end_is : end ≡ cond (ends_with_byte 13 cut.piece) CrLf Lf = ending ∙ rw is (fed_ending _ cut.piece cut.returned) in
+      let is_line : given_line ≡ fed_line (suc old.lines) cut.piece = rw (numbered, end_is, text_is) refl in
       let short : length (held new) ≤ block_size = rw now.holds near in
       let none : Consumes (device.left old.source) (device.left new.source) [] = rw same_source (Consumes-nil (device.left old.source)) in
-      record {
-        line = fed_line (suc old.lines) cut.piece;
-        at = at;
-        gives = gives_fed device new [] cut.piece was now same number none (same_taken ∙ sym (add-zero old.taken)) holds cut.clear at short (λ h. same_source) (ap device.has_failed same_source);
-        sound = sound_fed device new [] cut.piece was now same number none (same_taken ∙ sym (add-zero old.taken)) holds cut.clear at short (λ h. same_source) (ap device.has_failed same_source);
-      }
+      cuts_as device old new given_line _ is_line
+      (gives_fed device new [] cut.piece was now same next none (same_taken ∙ sym (add-zero old.taken)) holds cut.clear short (λ h. same_source) (ap device.has_failed same_source))
+      (sound_fed device new [] cut.piece was now same next none (same_taken ∙ sym (add-zero old.taken)) holds cut.clear short (λ h. same_source) (ap device.has_failed same_source))
 
-  cut_last : old.state ≡ LastLine → CutsFirst device old new
-  unfolding source_of input_of lines_given line_at held has_ended
+  cut_last : old.state ≡ LastLine → CutsFirst device old given_line new
+  unfolding source_of input_of lines_given held has_ended
   cut_last is =
       let state : new.state ≡ LastLine = same_state ∙ is in
       let opened : open_at old.state ≡ true = rw is refl in
@@ -111,21 +108,18 @@ module _ {S : Type 0} (device : Source S) (old new : LineReader S) {line : Shown
       let holds : held old ≡ cut.piece = rw is (ap (λ n. take n (complete old.buffer)) less ∙ ap (take (length cut.piece)) whole ∙ take-append_seam cut.piece (10 ∷ [])) in
       let left_none : held new ≡ [] = rw state (ap (λ l. take (length l - 1) l) gone) in
       let some : 0 < length cut.piece = grind arith in
-      let end_is : new.ending ≡ cond (ends_with_byte 13 cut.piece) Cr Absent = ending ∙ rw is (last_ending _ cut.piece cut.returned) in
+      let end_is : end ≡ cond (ends_with_byte 13 cut.piece) Cr Absent = ending ∙ rw is (last_ending _ cut.piece cut.returned) in
       let last : TextLine = record { number = suc old.lines; text = strip_last 13 cut.piece; ending = cond (ends_with_byte 13 cut.piece) Cr Absent } in
-      let at : line_at new ≡ Some last = rw (state, number, end_is, text_is, counts_some) refl in
-      record {
-        line = last;
-        at = at;
-        gives = gives_last device new (told_last old is) (told_last new state) (rw is refl) same same_source same_taken holds left_none cut.clear number some at;
-        sound = sound_last device new (told_last old is) (told_last new state) (rw is refl) same same_source same_taken holds left_none cut.clear number some at;
-      }
+      let is_line : given_line ≡ last = rw (numbered, end_is, text_is) refl in
+      cuts_as device old new given_line last is_line
+      (gives_last device new (told_last old is) (told_last new state) (rw is refl) same same_source same_taken holds left_none cut.clear next some)
+      (sound_last device new (told_last old is) (told_last new state) (rw is refl) same same_source same_taken holds left_none cut.clear next some)
 
-  by_state : (old.state ≡ Reading) ⊎ (old.state ≡ LastLine) → CutsFirst device old new
+  by_state : (old.state ≡ Reading) ⊎ (old.state ≡ LastLine) → CutsFirst device old given_line new
   by_state p1 = grind (arith, cut_fed, cut_last)
 
   -- the first line that is buffered was taken
-  pub cuts_first : CutsFirst device old new
+  pub cuts_first : CutsFirst device old given_line new
   cuts_first = by_state (some_state old.state (λ e. absurd (omega (arith, ap length (old.quiet e), ap length parts, length-append cut.piece (10 ∷ complete new.buffer)))))
 
 -- what a reader keeps while a line is taken
@@ -145,9 +139,6 @@ module _ (state : State) {old_lines old_unread : List ℕ} (lines : List ℕ) {u
 
   pub last_cut : IsLast (told_at state) (open_at state) lines unread_now
   last_cut = grind (arith, gone_by)
-
-pub some_at : {A : Type 0} (o : Option A) (x : A) → o ≡ Some x → IsSome o
-some_at o x e = rw e refl
 
 -- Lemmas on the lines that are left of those buffered.
 
@@ -173,6 +164,12 @@ strip_begins line = begins_by (ends_with_byte 13 line) refl
     begins_by : (b : Bool) → ends_with_byte 13 line ≡ b → (tail : List ℕ) × (line ≡ strip_last 13 line ++ tail)
     begins_by true e = (13 ∷ [], sym (grind (arith, drop_more, drop_all, take-append-drop)))
     begins_by false e = ([], sym (append-nil (strip_last 13 line) ∙ strip_last-other 13 line e))
+
+-- the text is within the line
+pub text_within : (bytes : List ℕ) (line : Shown) → Cut bytes line → length line.text ≤ line.size
+text_within bytes line cut =
+    let begins = strip_begins cut.piece in
+    omega (arith, cut.size_is, ap length cut.stripped, ap length begins.1, length-append (strip_last 13 cut.piece) begins.0)
 
 -- what bytes begin with begins by its own first bytes
 pub take_front : (xs tail line bytes : List ℕ) → line ≡ xs ++ tail → take (length line) bytes ≡ line → take (length xs) bytes ≡ xs

@@ -12,7 +12,7 @@ use Rattle.bt_lines.specs.inside.Spill.{Buffers, closed}
 use Rattle.bt_lines.specs.calls.Output.{block_size}
 use Rattle.bt_lines.specs.calls.Line.{NoLineFeed, line_feeds}
 use Rattle.bt_lines.specs.calls.Names.{fault_value}
-use Rattle.bt_lines.specs.calls.Reader.{FillsLines, IsKept, IsSound, buffered_bytes, Hands, IsNear, FailsToRead, end_told, GivesLine, line_at, source_of, input_of, lines_given, bytes_taken, held, fault_kept, has_ended, bytes_left, feeds_taken}
+use Rattle.bt_lines.specs.calls.Reader.{FillsLines, IsKept, IsSound, buffered_bytes, Hands, IsNear, FailsToRead, end_told, GivesLine, source_of, input_of, lines_given, bytes_taken, held, fault_kept, has_ended, bytes_left, feeds_taken}
 use Rattle.bt_lines.specs.declared.fault.Fault.{Fault}
 use Rattle.bt_lines.specs.declared.fault.Input.{Input}
 use Rattle.bt_lines.specs.declared.reader.spill.Stop.{Stop}
@@ -61,7 +61,7 @@ none_told n a held e = grind (arith, lines_from-nil)
 module _ {S : Type 0} (device : Source S) {old : LineReader S} (new : LineReader S) (bytes piece : List ℕ) (was : Goes old) (is : Goes new)
     (same : input_of new ≡ input_of old) (more : lines_given new ≡ suc (lines_given old)) (consumed : Consumes (device.left (source_of old)) (device.left (source_of new)) bytes)
     (counted : new.taken ≡ old.taken + length bytes) (joined : held old ++ bytes ≡ piece ++ 10 ∷ held new) (clear : NoLineFeed piece)
-    (at : line_at new ≡ Some (fed_line (suc (lines_given old)) piece)) (near : length (held new) ≤ block_size) (ready : 0 < line_feeds (held old) → source_of new ≡ source_of old) (served : device.has_failed (source_of new) ≡ device.has_failed (source_of old)) where
+    (near : length (held new) ≤ block_size) (ready : 0 < line_feeds (held old) → source_of new ≡ source_of old) (served : device.has_failed (source_of new) ≡ device.has_failed (source_of old)) where
   fed_size : length (held old) + length bytes ≡ length piece + suc (length (held new))
   fed_size = omega (arith, length-append (held old) bytes, ap length joined, length-append piece (10 ∷ held new))
 
@@ -104,13 +104,12 @@ module _ {S : Type 0} (device : Source S) {old : LineReader S} (new : LineReader
   unfolding lines_given
   last_below = omega (arith, new.a_byte_each, new.counted)
 
-  module _ (at : line_at new ≡ Some line) where
-    pub gives_last : GivesLine device old line new
-    unfolding bytes_left
-    gives_last = grind (arith, lines_from-last, last_held, last_below)
+  pub gives_last : GivesLine device old line new
+  unfolding bytes_left
+  gives_last = grind (arith, lines_from-last, last_held, last_below)
 
-    pub sound_last : IsKept device old → IsSound device new
-    sound_last h = grind arith
+  pub sound_last : IsKept device old → IsSound device new
+  sound_last h = grind arith
 
 -- ---- a line that was made buffered
 

@@ -54,9 +54,9 @@ returns-in-Ok g c =
       keeps = record { rule = refl; last = refl };
     }
 
-pub returns-in-Err-extend_from_slice : goal.returns-in-Err-extend_from_slice
+pub returns-in-Err-copied : goal.returns-in-Err-copied
 unfolding last_in
-returns-in-Err-extend_from_slice g c =
+returns-in-Err-copied g c =
     let bed = feature_lent c.in-Ok-Some.bed in
     let said = rw c.in-Ok-Some.field-0-is at c.in-Ok-Some.ensures.said in
     (lost_item c.args.place _ _ bed (says_record _ _ c.args.text.now bed said c.in_default.ensures) c.no_memory.ensures, record { rule = refl; last = refl })

@@ -8,5 +8,5 @@ pub returns-then-not-self : goal.returns-then-not-self
 unfolding buffered_in run_of
 returns-then-not-self g c = grind (arith, false≢true)
 
-pub new-requires-2 : goal.new-requires-2
-new-requires-2 g c = λ some. rw c.name-2.ensures (name_is_record c.args.self.now c.if-not-self.false)
+pub new-requires-2-clause-name : goal.new-requires-2-clause-name
+new-requires-2-clause-name g c = λ some. rw c.name-name.ensures (name_is_record c.args.self.now c.if-not-self.false)

@@ -7,8 +7,6 @@ pub invariant_of-self : goal.invariant_of-self
 invariant_of-self c =
     let old = c.args.self.now in
     record {
-      text_ordered = old.text_ordered;
-      text_within = old.text_within;
       ordered = old.ordered;
       whole_searched = omega (arith, old.whole_searched, old.searched_within);
       searched_within = omega arith;
@@ -23,8 +21,6 @@ invariant_of-self-2 c =
     let size : length old.bytes ≡ 8192 = search rules in
     let is = found old.bytes old.whole old.searched old.end c.in-Some.last old.whole_searched old.searched_within (omega (arith, size, old.within)) c.in-Some.ensures in
     record {
-      text_ordered = omega arith;
-      text_within = omega arith;
       ordered = omega (arith, old.whole_searched);
       whole_searched = omega (arith, is.inside);
       searched_within = omega arith;

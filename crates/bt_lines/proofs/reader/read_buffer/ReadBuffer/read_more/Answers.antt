@@ -7,8 +7,6 @@ pub invariant_of-self : goal.invariant_of-self
 invariant_of-self g c =
     let mid = c.move_front.new.self in
     record {
-      text_ordered = mid.text_ordered;
-      text_within = mid.text_within;
       ordered = mid.ordered;
       whole_searched = mid.whole_searched;
       searched_within = mid.searched_within;

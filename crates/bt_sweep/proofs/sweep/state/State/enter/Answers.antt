@@ -11,4 +11,4 @@ returns-then-are_on-clause-hits g c =
     let held = g.H.Held.records c.self.inside.held in
     subst (All (CanHit a)) (sym (c.drop_ended.ensures ∙ ap (λ (n : ℕ). filter (λ (r : Feature). nat_lt n r.stop) held) c.start.ensures))
     (hits_kept a.chrom a.start held c.self.invariant.on_one
-    (ap (λ (name : List ℕ). are_on held name) (ap (λ (f : Feature). f.chrom) (sym c.bed.ensures)) ∙ sym c.are_on.ensures ∙ c.if-are_on.true))
+    (ap (λ (name : List ℕ). are_on held name) (sym c.chrom.ensures) ∙ sym c.are_on.ensures ∙ c.if-are_on.true))
