@@ -1,8 +1,8 @@
 use Rattle.bt_lines.proofs.Std.{common_steps, arith, sym, ◌∙◌, ◌≡◌, inl, inr, Ok, true, err_from_is_err_and}
 use Rattle.bt_lines.proofs.lemmas.Writer.{grown_none}
 use Rattle.bt_runs.proofs.lemmas.merge.StrandSettling.{all_left, all_written, is_over, line_cut, line_more, next_written, none_written, over_not, over_so, stopped_at}
-use Rattle.bt_runs.proofs.merge.per_strand_merge.put_passed.Goals as goal
-use Rattle.bt_runs.proofs.merge.per_strand_merge.put_passed.Goals.{else-here-via-then-here+else-reach-run, else-here-via-else-here}
+use Rattle.bt_runs.proofs.merge.pending_runs.put_passed.Goals as goal
+use Rattle.bt_runs.proofs.merge.pending_runs.put_passed.Goals.{else-here-via-then-here+else-reach-run, else-here-via-else-here}
 
 pub loop-run-init : goal.loop-run-init
 loop-run-init g c = record { written = none_written c.args.here c.args.reach c.args.runs.now; puts = grown_none c.args.out.now.output }

@@ -3,7 +3,7 @@ use Rattle.bt_lines.specs.calls.Output.{Grown}
 use Rattle.bt_runs.specs.calls.Stranding.{strand_lines}
 use Rattle.bt_runs.specs.inside.merge.StrandStep.{placed_runs}
 use Rattle.bt_runs.proofs.lemmas.merge.StrandSettling.{Written}
-use Rattle.bt_runs.proofs.merge.per_strand_merge.put_passed.Given as goal
+use Rattle.bt_runs.proofs.merge.pending_runs.put_passed.Given as goal
 
 -- the runs that were taken off were written
 abbrev pub invariant-loop-run : goal.invariant-loop-run
