@@ -1,6 +1,6 @@
 //! The runs of several strands that aren't written yet, in the order of their first records.
 
-ghost use Rattle.std.specs.Prelude.{◌≡◌, ◌∷◌, [], length, OnOk};
+ghost use Rattle.std.specs.Prelude.{◌≡◌, ◌∷◌, [], length, true, OnOk};
 ghost use Rattle.bt_lines.specs.calls.Output.{Adds};
 ghost use Rattle.bt_runs.specs.calls.Stranding.{strand_lines};
 ghost use Rattle.bt_runs.specs.inside.merge.StrandStep.{TakesAmong, TakesListed, left_runs, passed_runs, placed_runs};
@@ -66,14 +66,13 @@ impl PendingRuns {
     }
 
     // Writes all runs, and takes them off.
-    #[tactic(auto, using(crate::proofs::lemmas::merge::StrandSettling::left_none, crate::proofs::lemmas::merge::StrandSettling::passed_every))]
     pub(crate) fn put_all<K: Sink>(&mut self, chrom: &[u8], out: &mut Out<K>) -> Result<(), Fault>
         ensures adds { Adds out.old.output (strand_lines (placed_runs chrom.now self.old)) result out.new.output }
         ensures none { OnOk result (self.new ≡ []) }
     {
         match self.only.take() {
             Some(only) => put_interval(chrom, only.start, only.stop, out),
-            None => put_passed(chrom, false, 0, &mut self.list, out),
+            None => put_list(chrom, &mut self.list, out),
         }
     }
 
@@ -122,22 +121,33 @@ impl PendingRuns {
     }
 }
 
-// Writes the first runs that a record closes, and takes them off. These are all, if the record lies on
-// another chromosome, and else those up to the first that doesn't end below `reach`.
+// Writes all runs, and takes them off.
+fn put_list<K: Sink>(chrom: &[u8], runs: &mut RunList, out: &mut Out<K>) -> Result<(), Fault>
+    ensures adds { Adds out.old.output (strand_lines (placed_runs chrom.now runs.old)) result out.new.output }
+    ensures none { OnOk result (runs.new ≡ []) }
+{
+    while let Some(run) = runs.first() {
+        put_interval(chrom, run.start, run.stop, out)?;
+        runs.drop_first();
+    }
+    Ok(())
+}
+
+// Writes the first runs, up to one that doesn't end below `reach`, and takes them off: a record on their chromosome
+// closes them.
 #[inline]
 fn put_passed<K: Sink>(
     chrom: &[u8],
-    here: bool,
     reach: u64,
     runs: &mut RunList,
     out: &mut Out<K>,
 ) -> Result<(), Fault>
-    ensures adds { Adds out.old.output (strand_lines (placed_runs chrom.now (passed_runs here reach runs.old)))
+    ensures adds { Adds out.old.output (strand_lines (placed_runs chrom.now (passed_runs true reach runs.old)))
         result out.new.output }
-    ensures left { OnOk result (runs.new ≡ left_runs here reach runs.old) }
+    ensures left { OnOk result (runs.new ≡ left_runs true reach runs.old) }
 {
     while let Some(run) = runs.first() {
-        if here && reach <= run.stop {
+        if reach <= run.stop {
             return Ok(());
         }
         put_interval(chrom, run.start, run.stop, out)?;
@@ -159,7 +169,7 @@ fn take_listed<K: Sink>(
 ) -> Result<bool, Failure>
     ensures { TakesListed reach runs.old run chrom.now out.old.output result runs.new out.new.output }
 {
-    if put_passed(chrom, true, reach, runs, out).is_err() {
+    if put_passed(chrom, reach, runs, out).is_err() {
         return Err(Failure::Write);
     }
     if runs.first().is_none() {
