@@ -1,5 +1,5 @@
 -- Lemmas on engines and their rules.
-use Rattle.bt_lines.proofs.Std.{arith, ◌≡◌, ℕ, List, Option, None, Some, Result, Ok, Err, IfErr, sym, ap, ◌∙◌, inl, inr, MatchResult, [], ◌++◌, append-nil, append_cancel_left, ◌∷◌, refl}
+use Rattle.bt_lines.proofs.Std.{arith, ◌≡◌, ℕ, List, Option, None, Some, Result, Ok, Err, sym, ap, ◌∙◌, inl, inr, MatchResult, [], ◌++◌, append-nil, append_cancel_left, ◌∷◌, refl}
 use Rattle.bt_lines.specs.model.Fault.{FaultValue}
 use Rattle.bt_lines.specs.calls.Faults.{no_memory, write_failed}
 use Rattle.bt_lines.specs.calls.Names.{fault_value}

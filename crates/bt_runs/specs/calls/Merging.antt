@@ -15,7 +15,7 @@ use Rattle.bt_runs.specs.declared.merge.Kind.TheVariants.{PerStrand, Unstranded}
 -- one that has taken no record
 abbrev pub merge_begun : ℕ → MergeStrand → Kind
 merge_begun gap Each =
-    PerStrand (record { rule = record { gap = gap; chrom = []; kept = []; listed = [] }; failure = None })
+    PerStrand (record { rule = record { gap = gap; chrom = []; kept = [] }; failure = None })
 merge_begun gap strand =
     Unstranded (record { rule = record { gap = gap; strand = strand; chrom = []; kept = [] }; failure = None })
 

@@ -11,8 +11,6 @@ pub record Stranding : Type 0 where
   pub gap : ℕ
   pub chrom : List ℕ
   pub kept : List StrandRun
-  -- what its list holds: those runs, unless a single one is in a local
-  pub listed : List StrandRun
 
 -- it has taken the records of the past since it began
 pub record IsAfter (first : Stranding) (past : List Feature) (now : Stranding) : Type 0 where

@@ -6,13 +6,14 @@ ghost use Rattle.bt_lines.specs.calls.Output.{Adds};
 ghost use Rattle.bt_bed.specs.calls.GenomeTable.{entries};
 ghost use Rattle.bt_runs.specs.inside.Coverage.{known_seen, seen, CountAnswers, bare_of, depths_left, known_by, levels_by, levels_left, levels_on};
 ghost use Rattle.bt_runs.specs.calls.Covering.{IsAfter, depth_rule, kept_in, settled_known, with_chrom};
-ghost use Rattle.bt_runs.specs.model.Depth.{depth_lines, is_counted_by};
+ghost use Rattle.bt_runs.specs.model.Depth.{depth_lines};
 ghost use Rattle.bt_runs.specs.inside.Walk.{AreReached, begun, is_on, left_before, left_of};
 
 use crate::coverage::depth_line::put_depth;
 use crate::coverage::depths::{CoveredChrom, DepthCursor, OpenInterval, go_on, put_ended};
 use crate::coverage::open_records::OpenRecords;
 use crate::engine::failure::Failure;
+use crate::engine::is_counted;
 use crate::engine::rule::Rule;
 use bt_bed::{Bounds, Genome, Record, Strand, is_same_name};
 use bt_lines::{Fault, Out, Sink};
@@ -226,17 +227,6 @@ impl<'g> Rule for DepthRule<'g> {
         let count = self.chroms.genome.count();
         let chroms = self.chroms;
         put_before(&chroms, self.current, &mut self.held, count, out)
-    }
-}
-
-// Whether a record is counted.
-#[inline(always)]
-fn is_counted<R: Record>(wanted: Option<Strand>, record: &R) -> bool
-    ensures { result ≡ is_counted_by wanted (R.feature «record».now).strand }
-{
-    match wanted {
-        None => true,
-        Some(wanted) => wanted == record.strand(),
     }
 }
 

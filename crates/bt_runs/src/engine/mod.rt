@@ -7,9 +7,10 @@ ghost use Rattle.std.specs.Prelude.{◌≡◌, true, Some};
 ghost use Rattle.bt_lines.specs.model.Fault.{FaultValue};
 ghost use Rattle.bt_lines.specs.calls.Output.{Grows};
 ghost use Rattle.bt_bed.specs.calls.Bed.{feature_lent};
+ghost use Rattle.bt_runs.specs.model.Depth.{is_counted_by};
 ghost use Rattle.bt_runs.specs.calls.Engine.{AnswersAgain, EngineDef, Feeds, FeedsBatch, Finishes, IsFaultless, IsWanted, KeepsFault, KeepsHeld, TakesQuiet, WritesFirst, WritesLeft, WritesLeftPrefix, WritesPrefix, WritesSettled};
 
-use bt_bed::{BedRef, Cursor, Single};
+use bt_bed::{BedRef, Cursor, Record, Single, Strand};
 use bt_lines::{Fault, Out, Sink};
 
 /// An engine takes the records of sorted input one after another, and writes each line of its output
@@ -66,4 +67,15 @@ pub trait Engine {
     /// How many items it keeps.
     fn kept_len(&self) -> usize
         ensures { KeepsHeld definition self.now result };
+}
+
+// Whether a record is counted: all are, or those of one strand.
+#[inline(always)]
+pub(crate) fn is_counted<R: Record>(wanted: Option<Strand>, record: &R) -> bool
+    ensures { result ≡ is_counted_by wanted (R.feature «record».now).strand }
+{
+    match wanted {
+        None => true,
+        Some(wanted) => wanted == record.strand(),
+    }
 }

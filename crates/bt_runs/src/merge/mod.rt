@@ -4,6 +4,7 @@
 pub(crate) mod merge_strand;
 pub(crate) mod pending_runs;
 pub(crate) mod per_strand_merge;
+pub(crate) mod run_list;
 pub(crate) mod unstranded_merge;
 
 ghost use Rattle.std.specs.Prelude.{◌≡◌, ◌≤◌, [], length};
@@ -61,11 +62,11 @@ impl Merge {
     {
         let kind = match strand {
             MergeStrand::Each => Kind::PerStrand(Ruled::new(PerStrandMerge::new(alloc, d))),
-            MergeStrand::All => Kind::Unstranded(Ruled::new(UnstrandedMerge::new(
-                alloc, d, strand,
-            ))),
-            MergeStrand::One(_) => Kind::Unstranded(Ruled::new(UnstrandedMerge::new(
-                alloc, d, strand,
+            MergeStrand::All => Kind::Unstranded(Ruled::new(UnstrandedMerge::new(alloc, d, None))),
+            MergeStrand::One(strand) => Kind::Unstranded(Ruled::new(UnstrandedMerge::new(
+                alloc,
+                d,
+                Some(strand),
             ))),
         };
         Merge { kind }

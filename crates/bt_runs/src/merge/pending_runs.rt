@@ -1,17 +1,16 @@
 //! The runs of several strands that aren't written yet, in the order of their first records.
 
-ghost use Rattle.std.specs.Prelude.{◌≡◌, ◌<◌, ◌++◌, ◌∷◌, [], length, drop, OnOk, Some};
-ghost use Rattle.std.specs.List.{slice_get};
-ghost use Rattle.bt_runs.specs.inside.merge.StrandStep.{place_of, slot_of, with_joined};
+ghost use Rattle.std.specs.Prelude.{◌≡◌, ◌∷◌, [], length, true, OnOk};
+ghost use Rattle.bt_lines.specs.calls.Output.{Adds};
+ghost use Rattle.bt_runs.specs.calls.Stranding.{strand_lines};
+ghost use Rattle.bt_runs.specs.inside.merge.StrandStep.{TakesAmong, TakesListed, left_runs, passed_runs, placed_runs};
 
-use bt_bed::Strand;
+use crate::engine::failure::Failure;
+use crate::merge::run_list::RunList;
+use bt_bed::{Strand, put_interval};
+use bt_lines::{Fault, Out, Sink};
 use std::alloc::{AllocError, Global};
-use std::collections::VecDeque;
 use std::marker::Model;
-
-// For how many runs room is made with the first one. They are in a ring, and each time round it costs a mispredicted
-// branch, so a small ring would cost one every few runs.
-const ROOM: usize = 64;
 
 // A run without its chromosome.
 #[derive(Clone, Copy, Debug)]
@@ -24,27 +23,25 @@ pub(crate) struct PendingRun {
     pub(crate) stop: u64,
 }
 
-// The runs, and the place of each strand's last one, which alone may still grow. A run is added, joined
-// and taken off without a look at the others, and without a branch on its strand, which nothing predicts.
+// The runs. An only one is kept apart from the list, since most records meet no more than one run.
 #[derive(Drop, Debug)]
 pub(crate) struct PendingRuns {
-    // In the order of their first records.
-    runs: VecDeque<PendingRun>,
-    // How many runs there are up to the last one of each strand, that one too, in the strand's slot; 0 if
-    // none of it waits.
-    up_to_last: [usize; 3],
+    // The only run, unless it is in the list.
+    only: Option<PendingRun>,
+    // All runs, or none beside the only one.
+    list: RunList,
 }
 
 impl Model for PendingRuns {
-    ghost use Rattle.std.specs.Prelude.{◌≡◌, List};
+    ghost use Rattle.std.specs.Prelude.{List};
     ghost use Rattle.bt_runs.specs.declared.merge.pending_runs.PendingRun.{PendingRun};
-    ghost use Rattle.bt_runs.specs.inside.merge.StrandStep.{counts_up_to_last};
+    ghost use Rattle.bt_runs.specs.inside.merge.StrandStep.{IsAlone, pending_in};
 
     ghost Value = { List PendingRun };
 
-    ghost view = { λ a. a.runs.items };
+    ghost view = { λ m. pending_in m.only m.list };
 
-    ghost invariant = { λ a. a.up_to_last ≡ counts_up_to_last a.runs.items };
+    ghost invariant = { λ m. IsAlone m.only m.list };
 }
 
 impl PendingRuns {
@@ -52,105 +49,146 @@ impl PendingRuns {
         ensures { result ≡ [] }
     {
         PendingRuns {
-            runs: VecDeque::new(alloc),
-            up_to_last: [0, 0, 0],
+            only: None,
+            list: RunList::new(alloc),
         }
     }
 
+    // How many there are. Each field is named: with one more, in which a list could be kept, this wouldn't compile.
     pub(crate) fn len(&self) -> usize
         ensures { result ≡ length self.now }
     {
-        let PendingRuns {
-            runs,
-            up_to_last: _,
-        } = self;
-        runs.len()
-    }
-
-    #[inline]
-    pub(crate) fn first(&self) -> Option<PendingRun>
-        ensures { result ≡ slice_get self.now 0 }
-    {
-        match self.runs.front() {
-            Some(run) => Some(*run),
-            None => None,
+        let PendingRuns { only, list } = self;
+        match only {
+            Some(_) => 1,
+            None => list.len(),
         }
     }
 
-    // Takes off all runs.
-    pub(crate) fn clear(&mut self)
-        ensures { self.new ≡ [] }
+    // Writes all runs, and takes them off.
+    pub(crate) fn put_all<K: Sink>(&mut self, chrom: &[u8], out: &mut Out<K>) -> Result<(), Fault>
+        ensures adds { Adds out.old.output (strand_lines (placed_runs chrom.now self.old)) result out.new.output }
+        ensures none { OnOk result (self.new ≡ []) }
     {
-        if self.runs.is_empty() {
-            return;
+        match self.only.take() {
+            Some(only) => put_interval(chrom, only.start, only.stop, out),
+            None => put_list(chrom, &mut self.list, out),
         }
-        self.runs.clear();
-        self.up_to_last = [0, 0, 0];
     }
 
-    // Takes off the first run, if there is one.
-    pub(crate) fn drop_first(&mut self)
-        ensures { self.new ≡ drop 1 self.old }
+    // Takes a record on the chromosome of the runs, as a run of its own. Those that end below `reach` are closed. The
+    // first ones that are closed are written. The record is joined to the last run of its strand that is left and isn't
+    // closed, or is one more.
+    #[inline(always)]
+    pub(crate) fn take<K: Sink>(
+        &mut self,
+        chrom: &[u8],
+        reach: u64,
+        run: PendingRun,
+        out: &mut Out<K>,
+    ) -> Result<(), Failure>
+        ensures { TakesAmong reach self.old run chrom.now out.old.output result self.new out.new.output }
     {
-        let _ = self.runs.pop_front();
-        self.up_to_last[0] = self.up_to_last[0].saturating_sub(1);
-        self.up_to_last[1] = self.up_to_last[1].saturating_sub(1);
-        self.up_to_last[2] = self.up_to_last[2].saturating_sub(1);
-    }
-
-    // Joins a record that ends at `stop` to the last run of its strand, unless that ends below `reach`,
-    // and returns true if it joined it.
-    #[inline]
-    pub(crate) fn join(&mut self, strand: Strand, stop: u64, reach: u64) -> bool
-        ensures { (result, self.new) ≡ with_joined reach stop self.old (place_of strand self.old) }
-    {
-        let Some(place) = self.up_to_last[slot_of(strand)].checked_sub(1) else {
-            return false;
+        let Some(only) = &mut self.only else {
+            return match take_listed(chrom, reach, run, &mut self.list, out) {
+                Ok(true) => {
+                    self.only = Some(run);
+                    Ok(())
+                }
+                Ok(false) => Ok(()),
+                Err(failure) => Err(failure),
+            };
         };
-        lengthen(&mut self.runs, place, stop, reach)
-    }
-
-    // Adds a run after the others.
-    #[tactic(auto, using(crate::proofs::lemmas::merge::StrandSettling::added_counts))]
-    pub(crate) fn push(&mut self, strand: Strand, start: u64, stop: u64) -> Result<(), AllocError>
-        ensures { OnOk result (self.new ≡ self.old
-            ++ record { strand = strand; start = start; stop = stop } ∷ []) }
-    {
-        if self.runs.is_empty() {
-            self.runs.reserve(ROOM)?;
+        if only.stop < reach {
+            return match put_interval(chrom, only.start, only.stop, out) {
+                Ok(()) => {
+                    *only = run;
+                    Ok(())
+                }
+                Err(_) => Err(Failure::Write),
+            };
         }
-        self.runs.push_back(PendingRun {
-            strand,
-            start,
-            stop,
-        })?;
-        self.up_to_last[slot_of(strand)] = self.runs.len();
-        Ok(())
+        if only.strand == run.strand {
+            only.stop = only.stop.max(run.stop);
+            return Ok(());
+        }
+        let first = *only;
+        self.only = None;
+        match list_both(first, run, &mut self.list) {
+            Ok(()) => Ok(()),
+            Err(AllocError) => Err(Failure::Memory),
+        }
     }
 }
 
-// Which of the three counts is that of a strand.
-#[inline]
-fn slot_of(strand: Strand) -> usize
-    ensures { result ≡ slot_of strand }
+// Writes all runs, and takes them off.
+fn put_list<K: Sink>(chrom: &[u8], runs: &mut RunList, out: &mut Out<K>) -> Result<(), Fault>
+    ensures adds { Adds out.old.output (strand_lines (placed_runs chrom.now runs.old)) result out.new.output }
+    ensures none { OnOk result (runs.new ≡ []) }
 {
-    match strand {
-        Strand::Plus => 0,
-        Strand::Minus => 1,
-        Strand::Dot => 2,
+    while let Some(run) = runs.first() {
+        put_interval(chrom, run.start, run.stop, out)?;
+        runs.drop_first();
+    }
+    Ok(())
+}
+
+// Writes the first runs, up to one that doesn't end below `reach`, and takes them off: a record on their chromosome
+// closes them.
+#[inline]
+fn put_passed<K: Sink>(
+    chrom: &[u8],
+    reach: u64,
+    runs: &mut RunList,
+    out: &mut Out<K>,
+) -> Result<(), Fault>
+    ensures adds { Adds out.old.output (strand_lines (placed_runs chrom.now (passed_runs true reach runs.old)))
+        result out.new.output }
+    ensures left { OnOk result (runs.new ≡ left_runs true reach runs.old) }
+{
+    while let Some(run) = runs.first() {
+        if reach <= run.stop {
+            return Ok(());
+        }
+        put_interval(chrom, run.start, run.stop, out)?;
+        runs.drop_first();
+    }
+    Ok(())
+}
+
+// Takes a record among the runs of the list. Those that it closes are written. It is joined to the last one of
+// its strand that is left, or is one more. If none is left, it returns true and the record isn't taken.
+#[inline(never)]
+#[tactic(auto, using(crate::proofs::lemmas::merge::PerStrandLemmas::none_first, crate::proofs::lemmas::merge::PerStrandLemmas::put_well, crate::proofs::lemmas::merge::PerStrandLemmas::went_well))]
+fn take_listed<K: Sink>(
+    chrom: &[u8],
+    reach: u64,
+    run: PendingRun,
+    runs: &mut RunList,
+    out: &mut Out<K>,
+) -> Result<bool, Failure>
+    ensures { TakesListed reach runs.old run chrom.now out.old.output result runs.new out.new.output }
+{
+    if put_passed(chrom, reach, runs, out).is_err() {
+        return Err(Failure::Write);
+    }
+    if runs.first().is_none() {
+        return Ok(true);
+    }
+    if runs.join(run.strand, run.stop, reach) {
+        return Ok(false);
+    }
+    match runs.push(run) {
+        Ok(()) => Ok(false),
+        Err(AllocError) => Err(Failure::Memory),
     }
 }
 
-#[inline]
-#[tactic(auto, using(crate::proofs::lemmas::merge::StrandSettling::joined_not, crate::proofs::lemmas::merge::StrandSettling::joined_so))]
-fn lengthen(runs: &mut VecDeque<PendingRun>, place: usize, stop: u64, reach: u64) -> bool
-    requires { place < length runs.old.items }
-    ensures { (result, runs.new.items) ≡ with_joined reach stop runs.old.items (Some place) }
+// Puts two runs into an empty list.
+fn list_both(first: PendingRun, second: PendingRun, runs: &mut RunList) -> Result<(), AllocError>
+    requires { runs.now ≡ [] }
+    ensures { OnOk result (runs.new ≡ first ∷ second ∷ []) }
 {
-    let run = &mut runs[place];
-    if run.stop < reach {
-        return false;
-    }
-    run.stop = run.stop.max(stop);
-    true
+    runs.push(first)?;
+    runs.push(second)
 }

@@ -3,12 +3,11 @@
 ghost use Rattle.std.specs.Prelude.{◌≡◌, ◌<◌, ℕ, List, [], cond, length, true, IfOk};
 ghost use Rattle.bt_lines.specs.calls.Output.{Adds};
 ghost use Rattle.bt_bed.specs.model.BedLine.{interval_lines};
-ghost use Rattle.bt_runs.specs.model.Merged.{is_counted};
-ghost use Rattle.bt_runs.specs.inside.merge.UnstrandedStep.{left_by, settled_by, unstranded_rule, with_record, kept_at};
+ghost use Rattle.bt_runs.specs.inside.merge.UnstrandedStep.{left_by, merged_of, settled_by, unstranded_rule, with_record, kept_at};
 
+use crate::engine::is_counted;
 use crate::engine::rule::Rule;
-use crate::merge::merge_strand::MergeStrand;
-use bt_bed::{Record, is_same_name, put_interval};
+use bt_bed::{Record, Strand, is_same_name, put_interval};
 use bt_lines::{Fault, Out, Sink, no_memory};
 use std::alloc::Global;
 use std::marker::Model;
@@ -30,8 +29,8 @@ const NONE: OpenRun = OpenRun { start: 0, stop: 0 };
 pub(crate) struct UnstrandedMerge {
     // How many bases apart records are still joined.
     gap: u64,
-    // Which records are merged at all.
-    strand: MergeStrand,
+    // The strand that is merged; `None` if all records are.
+    strand: Option<Strand>,
     // The chromosome that it is on. Its buffer is used again.
     chrom: Vec<u8>,
     run: OpenRun,
@@ -39,13 +38,13 @@ pub(crate) struct UnstrandedMerge {
 
 impl Model for UnstrandedMerge {
     ghost use Rattle.bt_runs.specs.calls.Unstranded.{Unstranded};
-    ghost use Rattle.bt_runs.specs.inside.merge.UnstrandedStep.{kept_at};
+    ghost use Rattle.bt_runs.specs.inside.merge.UnstrandedStep.{kept_at, merged_of};
 
     ghost Value = { Unstranded };
 
     ghost view = { λ m. record {
       gap = m.gap;
-      strand = m.strand;
+      strand = merged_of m.strand;
       chrom = m.chrom.items;
       kept = kept_at m.chrom.items m.run;
     } };
@@ -53,9 +52,9 @@ impl Model for UnstrandedMerge {
 
 impl UnstrandedMerge {
     // A merge that has taken no record. It bridges up to `d` positions between features: with 0
-    // those that overlap or touch become one.
-    pub(crate) fn new(alloc: Global, d: u64, strand: MergeStrand) -> UnstrandedMerge
-        ensures { result ≡ record { gap = d; strand = strand; chrom = []; kept = [] } }
+    // those that overlap or touch become one. With a strand it merges the records of that strand alone.
+    pub(crate) fn new(alloc: Global, d: u64, strand: Option<Strand>) -> UnstrandedMerge
+        ensures { result ≡ record { gap = d; strand = merged_of strand; chrom = []; kept = [] } }
     {
         UnstrandedMerge {
             gap: d,
@@ -107,6 +106,7 @@ impl Rule for UnstrandedMerge {
     }
 
     #[inline(always)]
+    #[tactic(auto, using(crate::proofs::lemmas::merge::UnstrandedLemmas::counted_alike))]
     fn step<R: Record, K: Sink>(
         &mut self,
         on: &mut OpenRun,
@@ -116,7 +116,7 @@ impl Rule for UnstrandedMerge {
         let start = record.start();
         match close_passed(self.chrom.as_slice(), *on, start, self.gap, out) {
             Ok(left) => {
-                *on = joined(left, start, record.stop(), counts(self.strand, record));
+                *on = joined(left, start, record.stop(), is_counted(self.strand, record));
                 Ok(())
             }
             Err(fault) => Err(fault),
@@ -170,17 +170,6 @@ fn joined(run: OpenRun, start: u64, stop: u64, counts: bool) -> OpenRun
     OpenRun {
         start: first,
         stop: run.stop.max(last),
-    }
-}
-
-// Whether a record is merged.
-#[inline(always)]
-fn counts<R: Record>(wanted: MergeStrand, record: &R) -> bool
-    ensures { result ≡ is_counted wanted (R.feature «record».now).strand }
-{
-    match wanted {
-        MergeStrand::All | MergeStrand::Each => true,
-        MergeStrand::One(wanted) => wanted == record.strand(),
     }
 }
 

@@ -1,8 +1,8 @@
 -- What a merge that keeps the strands apart does with one more record is what the definitions say, whatever the past.
-use Rattle.bt_lines.proofs.Std.{common_steps, codes, decimal, ◌≡◌, ◌⊎◌, ℕ, ◌+◌, ◌-◌, ◌<◌, ◌≤◌, List, [], ◌∷◌, ◌++◌, append-nil, length-append, inl, inr, not, cond, ◌||◌, get_or, map, Bool, true, false, bytes_eq, nat_lt, Option, None, Some, Result, Ok, Err, refl, sym, ap, ◌∙◌, subst, arith, prefix_len, slice_get, is_err, OnOk, cond-false, flat_map-append, drop-map, get_or-map, length-map, map-append, map-set, take-map, get_or_from_slice_get, slice_get-get_or, slice_get_within}
+use Rattle.bt_lines.proofs.Std.{codes, decimal, ◌≡◌, ◌⊎◌, ℕ, ◌+◌, ◌-◌, ◌≤◌, List, [], ◌∷◌, ◌++◌, append-nil, length-append, inl, inr, not, cond, ◌||◌, get_or, map, Bool, true, false, bytes_eq, nat_lt, Option, None, Some, Result, Ok, Err, refl, sym, ap, ◌∙◌, subst, arith, prefix_len, slice_get, is_err, OnOk, flat_map-append, drop-map, get_or-map, length-map, map-append, map-set, take-map, get_or_from_slice_get, slice_get-get_or, slice_get_within}
 use Rattle.bt_lines.specs.calls.Faults.{no_memory}
 use Rattle.bt_lines.specs.calls.Names.{fault_value}
-use Rattle.bt_lines.specs.calls.Output.{Output, Adds, FailsToAdd, FailsToPut, Grown}
+use Rattle.bt_lines.specs.calls.Output.{Output, Adds, FailsToAdd, Grown}
 use Rattle.bt_lines.specs.declared.fault.Fault.{Fault}
 use Rattle.bt_bed.specs.model.Feature.{Feature, Interval, is_strand}
 use Rattle.bt_bed.specs.model.BedLine.{interval_line, interval_lines}
@@ -10,12 +10,11 @@ use Rattle.bt_bed.proofs.lemmas.parse.NameLemmas.{name_eq, other_name}
 use Rattle.bt_runs.specs.calls.Engine.{AfterEach, fault_of}
 use Rattle.bt_runs.specs.model.Merged.{StrandRun, places_of, settled_strand_runs}
 use Rattle.bt_runs.specs.calls.MergedRuns.{kept_strand_runs}
-use Rattle.bt_runs.specs.inside.merge.StrandStep.{left_runs, passed_runs, place_of, placed_run, placed_runs, with_joined, kept_in, added_at, left_unsettled, settled_prefix, last_place, place_among, run_from, with_added, JoinsAmong, joined_among, lines_by, strand_rule, stranding}
+use Rattle.bt_runs.specs.inside.merge.StrandStep.{left_runs, passed_runs, place_of, placed_run, placed_runs, with_joined, added_at, left_unsettled, settled_prefix, last_place, place_among, run_from, with_added, TakesAmong, joined_among, lines_by, strand_rule, stranding}
 use Rattle.bt_runs.specs.inside.Walk.{Does, EnterAnswers, FitsPast, PutsRestAtEnd}
 use Rattle.bt_runs.specs.calls.Stranding.{Stranding, held_count, settled_lines, strand_lines}
 use Rattle.bt_runs.specs.declared.engine.failure.Failure.{Failure}
 use Rattle.bt_runs.specs.declared.merge.pending_runs.PendingRun.{PendingRun}
-use Rattle.bt_runs.specs.declared.merge.per_strand_merge.OnlyRun.{OnlyRun}
 use Rattle.bt_runs.proofs.lemmas.merge.StrandSettling.{last_place_within, left_none, passed_every, strand_next, strand_runs_are_all}
 use Rattle.bt_runs.proofs.lemmas.Engine.{enters, enters_cut, enters_short, none_more}
 use Rattle.bt_runs.proofs.lemmas.merge.UnstrandedLemmas.{last_is}
@@ -104,53 +103,16 @@ module _ (old : Stranding) (r : Feature) (out : Output) (runs : List PendingRun)
 
   -- among the runs that are left
   abbrev joined : Bool × List PendingRun
-  joined = joined_among old.chrom near runs (pending_from r) out
+  joined = joined_among near runs (pending_from r)
 
   added : Added old.gap old.chrom r left joined.0 joined.1
   added = added_by old.gap old.chrom r left joined.0 joined.1 refl (inl here_is)
 
-  pub takes_left : {now : List PendingRun} {new : Stranding} {grown : Output} → JoinsAmong old.chrom near runs (pending_from r) out (Ok false) now grown → new.gap ≡ old.gap → new.chrom ≡ old.chrom → new.kept ≡ placed_runs old.chrom now → TakesNext old r out (Ok tt) new grown
-  takes_left {new} {grown} p gap chrom kept = takes_with new grown gap chrom ((grind (arith, added, map-append)) ∙ sym kept) p.1
+  pub takes_among : {now : List PendingRun} {new : Stranding} {grown : Output} → TakesAmong near runs (pending_from r) old.chrom out {A = Unit {0}} (Ok tt) now grown → new.gap ≡ old.gap → new.chrom ≡ old.chrom → new.kept ≡ placed_runs old.chrom now → TakesNext old r out (Ok tt) new grown
+  takes_among {new} {grown} p gap chrom kept = takes_with new grown gap chrom ((grind (arith, added, map-append)) ∙ sym kept) p.1
 
-  pub takes_alone : {now : List PendingRun} {new : Stranding} {grown : Output} → JoinsAmong old.chrom near runs (pending_from r) out (Ok true) now grown → new.gap ≡ old.gap → new.chrom ≡ old.chrom → new.kept ≡ placed_run old.chrom (pending_from r) ∷ [] → TakesNext old r out (Ok tt) new grown
-  takes_alone {new} {grown} p gap chrom kept =
-      takes_with new grown gap chrom
-      (ap (λ rest. with_added old.gap (placed_runs old.chrom rest) r) p.0 ∙ ap (λ n. placed_run n (pending_from r) ∷ []) (sym on) ∙ sym kept)
-      p.1.1
-
-  pub fails_among : (failure : Failure) (fault : Fault) (now : List PendingRun) (new : Stranding) {grown : Output} → fault_value fault ≡ fault_of failure → JoinsAmong old.chrom near runs (pending_from r) out (Err failure) now grown → TakesNext old r out (Err fault) new grown
+  pub fails_among : (failure : Failure) (fault : Fault) (now : List PendingRun) (new : Stranding) {grown : Output} → fault_value fault ≡ fault_of failure → TakesAmong near runs (pending_from r) old.chrom out {A = Unit {0}} (Err failure) now grown → TakesNext old r out (Err fault) new grown
   fails_among failure fault now new is p = grind (arith, behind_is, added, lines_is)
-
--- the only run couldn't be written
-pub fails_alone : (old : Stranding) (r : Feature) (out : Output) (w : PendingRun) → old.kept ≡ placed_run old.chrom w ∷ [] → old.chrom ≡ r.chrom → w.stop < r.start - old.gap
-    → (fault : Fault) (new : Stranding) (grown : Output) → FailsToPut out (interval_line (placed_run old.chrom w).run) (fault_value fault) grown → TakesNext old r out (Err fault) new grown
-fails_alone old r out w kept_is on far fault new grown p = grind (arith, common_steps)
-
--- the kept runs, if one is in a local or none
-abbrev pub pending_in : OnlyRun → List PendingRun → List PendingRun
-pending_in only runs = cond only.is_any (only.run ∷ []) runs
-
-pub kept_placed : (chrom : List ℕ) (only : OnlyRun) (runs : List PendingRun) → kept_in chrom only (placed_runs chrom runs) ≡ placed_runs chrom (pending_in only runs)
-kept_placed chrom only runs = grind arith
-
-none_placed : (chrom other : List ℕ) (runs : List PendingRun) → placed_runs chrom runs ≡ [] → placed_runs other runs ≡ []
-none_placed chrom other [] e = refl
-none_placed chrom other (w ∷ ws) e = absurd (cc)
-
--- if none is kept, none is on another chromosome
-pub kept_nowhere : (chrom other : List ℕ) (only : OnlyRun) (runs : List PendingRun) → kept_in chrom only (placed_runs chrom runs) ≡ [] → kept_in other only (placed_runs other runs) ≡ []
-kept_nowhere chrom other only runs e = kept_placed other only runs ∙ none_placed chrom other (pending_in only runs) (sym (kept_placed chrom only runs) ∙ e)
-
--- all runs of the list are written
-pub list_closes : (chrom : List ℕ) (only : OnlyRun) (runs : List PendingRun) → only.is_any ≡ false → placed_runs chrom (passed_runs false 0 runs) ≡ kept_in chrom only (placed_runs chrom runs)
-list_closes chrom only runs f = ap (placed_runs chrom) (passed_every 0 runs) ∙ sym (cond-false only.is_any (placed_run chrom only.run ∷ []) (placed_runs chrom runs) f)
-
-abbrev pub holding : ℕ → List ℕ → List StrandRun → List StrandRun → Stranding
-holding gap chrom kept listed = record { gap = gap; chrom = chrom; kept = kept; listed = listed }
-
-pub list_closed : (gap : ℕ) (chrom : List ℕ) (only : OnlyRun) (runs now : List PendingRun) → only.is_any ≡ false → now ≡ left_runs false 0 runs
-    → holding gap chrom (kept_in chrom only (placed_runs chrom now)) (placed_runs chrom now) ≡ holding gap chrom [] []
-list_closed gap chrom only runs now f is = grind (arith, left_none)
 
 -- what was put, if that didn't fail
 pub put_well : (out grown : Output) (bytes : List ℕ) (result : Result (Unit {0}) Fault) → is_err result ≡ false → Adds out bytes result grown → Grown out bytes grown

@@ -1,19 +1,27 @@
 -- From the exact step of a merge of all its records together to what it writes after the records of the past.
-use Rattle.bt_lines.proofs.Std.{arith, ◌≡◌, ℕ, false, List, [], ◌∷◌, ◌++◌, Result, Ok, Err, refl, sym, ap, ◌∙◌, append-nil, bytes_eq, flat_map-append}
+use Rattle.bt_lines.proofs.Std.{Option, None, Some, arith, ◌≡◌, ℕ, false, List, [], ◌∷◌, ◌++◌, Result, Ok, Err, refl, sym, ap, ◌∙◌, append-nil, bytes_eq, flat_map-append}
 use Rattle.bt_lines.specs.calls.Faults.{no_memory}
 use Rattle.bt_lines.specs.calls.Names.{fault_value}
 use Rattle.bt_lines.specs.calls.Output.{Output, Adds, FailsToAdd, Grown}
 use Rattle.bt_lines.specs.declared.fault.Fault.{Fault}
 use Rattle.bt_bed.specs.model.Feature.{Feature, interval_of}
 use Rattle.bt_bed.specs.model.BedLine.{interval_line, interval_lines}
+use Rattle.bt_bed.specs.declared.record.strand.Strand.{Strand}
 use Rattle.bt_runs.specs.calls.Engine.{AfterEach}
+use Rattle.bt_runs.specs.model.Depth.{is_counted_by}
+use Rattle.bt_runs.specs.model.Merged.{is_counted}
 use Rattle.bt_runs.specs.calls.MergedRuns.{kept_runs, settled_runs}
-use Rattle.bt_runs.specs.inside.merge.UnstrandedStep.{left_by, settled_by, kept_at, lines_by, unstranded_rule}
+use Rattle.bt_runs.specs.inside.merge.UnstrandedStep.{left_by, merged_of, settled_by, kept_at, lines_by, unstranded_rule}
 use Rattle.bt_runs.specs.inside.Walk.{EnterAnswers, FitsPast, PutsRestAtEnd}
 use Rattle.bt_runs.specs.calls.Unstranded.{Unstranded, settled_lines, unstranded}
 use Rattle.bt_runs.specs.declared.merge.unstranded_merge.OpenRun.{OpenRun}
 use Rattle.bt_runs.proofs.lemmas.Engine.{enters, enters_cut, enters_short, none_more}
 use Rattle.bt_runs.proofs.lemmas.merge.SettledRuns.{next_taken, whole_taken}
+
+-- the records that are merged are those that count
+pub counted_alike : (wanted : Option Strand) (strand : Strand) → is_counted_by wanted strand ≡ is_counted (merged_of wanted) strand
+counted_alike None strand = refl
+counted_alike (Some wanted) strand = refl
 
 -- the last element of a list is that element
 pub last_is : {A : Type 0} (xs ys : List A) (x y : A) → xs ++ x ∷ [] ≡ ys ++ y ∷ [] → x ≡ y

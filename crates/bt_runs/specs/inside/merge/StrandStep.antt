@@ -1,5 +1,5 @@
 -- The steps of a merge that keeps the strands apart.
-use Rattle.std.specs.Prelude.{ℕ, suc, Bool, cond, List, [], ◌∷◌, ◌++◌, drop, get_or, length, set, Option, Some, None, true, false, not, ◌||◌, map, max, nat_lt, ◌≡◌, ◌⊎◌, Result, Ok, Err}
+use Rattle.std.specs.Prelude.{⊤, ℕ, suc, Bool, cond, List, [], ◌∷◌, ◌++◌, drop, get_or, length, set, Option, Some, None, true, false, not, ◌||◌, map, max, nat_lt, ◌≡◌, ◌⊎◌, Result, Ok, Err}
 use Rattle.std.specs.List.{slice_get, take_while}
 use Rattle.bt_bed.specs.model.Feature.{Feature, interval_of, is_strand}
 use Rattle.bt_bed.specs.declared.record.strand.Strand.{Strand}
@@ -14,7 +14,6 @@ use Rattle.bt_runs.specs.calls.Stranding.{Stranding, strand_lines, stranding_wit
 use Rattle.bt_runs.specs.inside.Walk.{RuleDef}
 use Rattle.bt_runs.specs.declared.engine.failure.Failure.{Failure}
 use Rattle.bt_runs.specs.declared.engine.failure.Failure.TheVariants.{Write, Memory}
-use Rattle.bt_runs.specs.declared.merge.per_strand_merge.OnlyRun.{OnlyRun}
 
 -- What one more record does to the runs of several strands that a merge keeps, and to those that wait without their
 -- chromosome: the place of the last one of each strand, how the record is joined to it, and which of them are closed.
@@ -115,15 +114,18 @@ passed_runs here reach runs = take_while (λ (w : PendingRun). not here || nat_l
 abbrev pub left_runs : Bool → ℕ → List PendingRun → List PendingRun
 left_runs here reach runs = drop (length (passed_runs here reach runs)) runs
 
--- What a merge that keeps the strands apart does with one more record, exactly, and the run that it has in a local.
+-- The runs that wait are those of a list, unless there is an only one, which is kept beside it.
 
--- the runs that are kept: the one in a local, or else those of the list
-abbrev pub kept_in : List ℕ → OnlyRun → List StrandRun → List StrandRun
-kept_in chrom only listed = cond only.is_any (placed_run chrom only.run ∷ []) listed
+abbrev pub pending_in : Option PendingRun → List PendingRun → List PendingRun
+pending_in None list = list
+pending_in (Some only) list = only ∷ []
 
--- the merge with this run in a local
-abbrev pub with_on : Stranding → OnlyRun → Stranding
-with_on merge only = record merge { kept = kept_in merge.chrom only merge.listed }
+-- nothing is in the list then
+abbrev pub IsAlone : Option PendingRun → List PendingRun → Type 0
+IsAlone None list = ⊤
+IsAlone (Some only) list = list ≡ []
+
+-- What a merge that keeps the strands apart does with one more record, exactly.
 
 -- the line of each run that the record settles
 abbrev pub lines_by : Stranding → Feature → List ℕ
@@ -151,23 +153,28 @@ abbrev pub strand_rule : RuleDef Stranding
 strand_rule = record { engine = stranding; lines = lines_by; has = Takes; is_on = λ merge name. merge.chrom ≡ name }
 
 -- a record whose start less the gap is `reach`, as a run, among runs on its chromosome
-module _ (chrom : List ℕ) (reach : ℕ) (runs : List PendingRun) (run : PendingRun) (out : Output) where
+module _ (reach : ℕ) (runs : List PendingRun) (run : PendingRun) where
   -- whether it is joined to one of the runs that it doesn't close, and those with it if it is
   abbrev pub joined_among : Bool × List PendingRun
   joined_among =
       with_joined reach run.stop (left_runs true reach runs)
       (place_of run.strand (left_runs true reach runs))
 
-  -- those that it closes were written, and nothing more
-  abbrev pub PutsPassed : Output → Type 0
-  PutsPassed grown = Grown out (strand_lines (placed_runs chrom (passed_runs true reach runs))) grown
+  module _ (chrom : List ℕ) (out : Output) where
+    -- those that it closes were written, and nothing more
+    abbrev pub PutsPassed : Output → Type 0
+    PutsPassed grown = Grown out (strand_lines (placed_runs chrom (passed_runs true reach runs))) grown
 
-  -- it returns true if none is left, and else it was joined to one of those that are left, or is one more; or it had to
-  -- be one more, and couldn't be kept
-  abbrev pub JoinsAmong : Result Bool Failure → List PendingRun → Output → Type 0
-  JoinsAmong (Ok true) new grown = (left_runs true reach runs ≡ []) × ((new ≡ []) × PutsPassed grown)
-  JoinsAmong (Ok false) new grown =
-      (new ≡ cond joined_among.0 joined_among.1 (left_runs true reach runs ++ run ∷ [])) × PutsPassed grown
-  JoinsAmong (Err Write) new grown =
-      FailsToAdd out (strand_lines (placed_runs chrom (passed_runs true reach runs))) write_failed grown
-  JoinsAmong (Err Memory) new grown = (joined_among.0 ≡ false) × PutsPassed grown
+    -- it was joined to one of those that are left, or is one more; or it had to be one more, and couldn't be kept
+    abbrev pub TakesAmong : {A : Type 0} → Result A Failure → List PendingRun → Output → Type 0
+    TakesAmong (Ok done) new grown =
+        (new ≡ cond joined_among.0 joined_among.1 (left_runs true reach runs ++ run ∷ [])) × PutsPassed grown
+    TakesAmong (Err Write) new grown =
+        FailsToAdd out (strand_lines (placed_runs chrom (passed_runs true reach runs))) write_failed grown
+    TakesAmong (Err Memory) new grown = (joined_among.0 ≡ false) × PutsPassed grown
+
+    -- the same, but it isn't taken if none is left
+    abbrev pub TakesListed : Result Bool Failure → List PendingRun → Output → Type 0
+    TakesListed (Ok true) new grown = (left_runs true reach runs ≡ []) × ((new ≡ []) × PutsPassed grown)
+    TakesListed (Ok false) new grown = TakesAmong {A = Bool} (Ok false) new grown
+    TakesListed (Err failure) new grown = TakesAmong {A = Bool} (Err failure) new grown

@@ -1,12 +1,19 @@
 -- What one more record does to the runs that a merge of all its records together keeps, exactly.
-use Rattle.std.specs.Prelude.{ℕ, not, cond, List, [], ◌∷◌, max, filter, Some, ◌≡◌, ◌==◌}
+use Rattle.std.specs.Prelude.{ℕ, not, cond, List, [], ◌∷◌, max, filter, Option, Some, None, ◌≡◌, ◌==◌}
 use Rattle.bt_bed.specs.model.Feature.{Feature, interval_of, Interval}
 use Rattle.bt_bed.specs.model.BedLine.{interval_lines}
 use Rattle.bt_runs.specs.model.Merged.{is_counted, is_closed, passed_by}
+use Rattle.bt_bed.specs.declared.record.strand.Strand.{Strand}
 use Rattle.bt_runs.specs.declared.merge.merge_strand.MergeStrand.{MergeStrand}
+use Rattle.bt_runs.specs.declared.merge.merge_strand.MergeStrand.TheVariants.{All, One}
 use Rattle.bt_runs.specs.calls.Unstranded.{Unstranded, unstranded}
 use Rattle.bt_runs.specs.inside.Walk.{RuleDef}
 use Rattle.bt_runs.specs.declared.merge.unstranded_merge.OpenRun.{OpenRun}
+
+-- the records that are merged together: those of one strand, or all
+abbrev pub merged_of : Option Strand → MergeStrand
+merged_of None = All
+merged_of (Some strand) = One strand
 
 -- the run with the record joined to it
 abbrev pub joined_run : Interval → Interval → Interval

@@ -1,6 +1,6 @@
 use Rattle.bt_lines.proofs.Std.{arith, sym, ◌∙◌}
 use Rattle.bt_runs.proofs.lemmas.merge.StrandSettling.{joined_counts, last_place_within, place_counted}
-use Rattle.bt_runs.proofs.merge.pending_runs.PendingRuns.join.Goals as goal
+use Rattle.bt_runs.proofs.merge.run_list.RunList.join.Goals as goal
 
 pub lengthen-requires : goal.lengthen-requires
 lengthen-requires c = grind (arith, last_place_within, place_counted)
