@@ -84,11 +84,16 @@ def fake(folder, name, script):
 
 def try_losses(place, folder, count):
     """A copy that fails, and one that isn't fed any longer: a fault and a status."""
-    broken = fake(folder.parent / "broken head", "head", f'[ "$1" != -c ] || {{ {shutil.which("head")} -c 100; exit 1; }}; exec {shutil.which("head")} "$@"')
+    broken = fake(folder.parent / "broken head", "head", f'[ "$1" != -c ] || [ "$2" -le 1 ] || {{ {shutil.which("head")} -c 100; exit 1; }}; exec {shutil.which("head")} "$@"')
     env = looking(drop_in(place), broken)
     for script in ("cat a.bed | bedtools merge", "bedtools intersect -u -a <(cat a.bed) -b <(cat a.bed)"):
         found = call(["bash", "-c", script], folder, env)
         count.expect(f"a copy that fails: {script}", (b"", 1, True), (found[0], found[2], "which is lost" in found[1]))
+    # A head that takes more than it is told, as that of busybox, gets no stream.
+    greedy = fake(folder.parent / "greedy head", "head", f'{shutil.which("dd")} bs=4096 count=1 2> /dev/null | {shutil.which("head")} "$@"')
+    for script in ("cat a.bed | bedtools merge", "bedtools intersect -u -a <(cat a.bed) -b <(cat a.bed)"):
+        wanted, found = (call(["bash", "-c", script], folder, env) for env in (looking(), looking(drop_in(place), greedy, DUNEKETTLE_ROOM="1000")))
+        count.expect(f"a head that takes too much: {script}", wanted, found)
     little = fake(folder.parent / "little room", "df", "printf 'a\\na 1 1 1 1 a\\n'")
     found = call(["bash", "-c", "cat a.bed | bedtools merge"], folder, looking(drop_in(place), little, DUNEKETTLE_TELL="1"))
     count.expect("little room", ("/usr/bin/bedtools", 0), (TOLD.findall(found[1])[0][0].replace(str(original()), "/usr/bin/bedtools"), found[2]))
