@@ -30,7 +30,7 @@ SCRIPTS = (
     "bedtools subtract -a a.bed.gz -b b.bed.gz", "bedtools merge -i many.bed.gz", "bedtools genomecov -i natural.bed -g natural.txt", "bedtools genomecov -bg -i natural.bed -g g.txt",
     "bedtools genomecov -bga -strand + -i natural.bed -g g.txt", "bedtools genomecov -d -i a.bed -g g.txt", "bedtools genomecov -dz -i a.bed -g g.txt", "bedtools genomecov -bg -scale 0.3 -i a.bed -g g.txt",
     "bedtools genomecov -bg -split -i blocks.bed -g g.txt", "bedtools genomecov -bga -split -i blocks.bed -g g.txt", "bedtools genomecov -bg -i deep.bed -g g.txt",
-    "bedtools genomecov -bga -split -ibam r.bam", "bedtools genomecov -ibam r.bam", "bedtools bamtobed -i r.sam", "bedtools bamtobed -split -i odd.sam",
+    "bedtools genomecov -bga -split -ibam r.bam", "bedtools genomecov -ibam r.bam", "bedtools bamtobed -i r.sam", "bedtools bamtobed -split -i odd.sam", "bedtools bamtobed -split -i r.bam",
     "CAT a.bed | bedtools merge", "bedtools intersect -u -a <(CAT a.bed) -b <(CAT b.bed)", "bedtools genomecov -bga -i <(CAT natural.bed) -g <(CAT g.txt)",
     "CAT a.bed | DUNEKETTLE_ROOM=500 bedtools merge", "DUNEKETTLE_ROOM=500 bedtools intersect -sorted -u -a <(CAT a.bed) -b <(CAT b.bed)",
     "DUNEKETTLE_ROOM=500 bedtools intersect -sorted -c -a <(CAT a.bed) -b <(SLEEP 0.3; CAT few.bed)", "CAT a.bed.gz | bedtools merge -i -",

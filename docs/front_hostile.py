@@ -23,7 +23,7 @@ from pathlib import Path
 from examples import examples_of
 from front_faults import try_faults
 from front_hints import FILES, MERGED, fill, try_help, try_hints, try_names
-from front_tools import TOP, Count, PROGRAM, call, drop_in, install, looking, original, shell, tools_alone
+from front_tools import TOP, Count, PROGRAM, call, drop_in, install, is_busy, looking, original, shell, tools_alone
 
 
 def try_originals(place, folder, count):
@@ -199,6 +199,8 @@ def try_streams(place, folder, count):
 
 def try_signals(place, folder, count):
     """A signal ends a call as it ends the program, and nothing of it goes on."""
+    if is_busy("signals"):
+        return
     ways = (("program", [place / "bin" / "dunekettle-bedtools"], looking()), ("dunekettle", [place / "bin" / "dunekettle"], looking()),
             ("no hints", [place / "bin" / "dunekettle"], looking(DUNEKETTLE_HINTS="0")),
             ("bedtools", [drop_in(place) / "bedtools"], looking(drop_in(place), DUNEKETTLE_ALWAYS="1")))
@@ -223,6 +225,8 @@ def try_signals(place, folder, count):
 
 def try_checks(place, folder, count):
     """A signal ends the drop-in in its check, whenever it comes, and each process of it."""
+    if is_busy("signals in the check"):
+        return
     with (folder / "checked.bed").open("w", encoding="utf-8") as file:
         file.writelines(f"chr1\t{9 * n}\t{9 * n + 5}\ta name\t0\t{'+-'[n % 2]}\n" for n in range(800_000))
     mark = f"SLOW_CHECK={folder}"

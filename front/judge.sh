@@ -170,11 +170,16 @@ find_order() {
     dk_why='' dk_g=$dk_genome dk_ordered=1
 }
 
-# judge_alignments: sets `dk_why` unless the input of bamtobed begins as SAM text. Of BAM bedtools is as quick.
+# judge_alignments: sets `dk_why` unless the input of bamtobed begins as SAM text, or as BAM where -split cuts it. Of BAM
+# without -split bedtools is as quick.
 judge_alignments() {
     dk_line=''
     IFS= read -r dk_line < "$dk_i"
-    case $dk_line in @*) ;; *) dk_why="$dk_i isn't SAM text with header lines" ;; esac
+    case $dk_line in
+    @*) ;;
+    "$dk_zipped"*) has_word -split || dk_why='bedtools is as quick with BAM, except with -split' ;;
+    *) dk_why="$dk_i isn't SAM text with header lines, and no BAM" ;;
+    esac
 } 2> /dev/null
 
 # is_bam FILE

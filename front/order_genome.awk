@@ -1,6 +1,6 @@
-# From names of chromosomes in the first column, and a genome file, each with a line of a tab alone behind it: the genome
-# file in the order of the names, then its other chromosomes. Ends with 1 where the second such line is missing: then
-# what came was cut off.
+# From names of chromosomes in the first column, and a genome file, after each a line with a tab alone: the genome file
+# in the order of the names, then its other chromosomes. Ends with 1 where such a line is missing: then what came was
+# cut off.
 
 BEGIN { FS = OFS = "\t" }
 
