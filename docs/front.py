@@ -26,6 +26,8 @@ from front_tools import TOLD, Count, call, drop_in, environment, install, origin
 HERE = Path(__file__).resolve().parent
 # The commands that Dunekettle has.
 SEVEN = ("merge", "complement", "intersect", "subtract", "genomecov", "bamtobed", "maskfasta")
+# Who took a command line, which, and why.
+WHY = re.compile(r"^dunekettle: (.*?) takes (\w*): (.*)", re.MULTILINE)
 # The goals: the part of the calls that is taken, that of the time that is left, and how much longer a script may take,
 # beside the hundredths of a second by which two runs of one differ.
 TAKEN, LEFT, LONGER, SECONDS = 0.85, 0.25, 1.1, 0.02
@@ -33,7 +35,11 @@ TAKEN, LEFT, LONGER, SECONDS = 0.85, 0.25, 1.1, 0.02
 TABLE = re.compile(r"(<!-- a script writes: pipelines -->\n).*?(<!-- it ends here -->)", re.DOTALL)
 GAIN = re.compile(r"(<!-- a script writes: gain -->\n).*?(<!-- it ends here -->)", re.DOTALL)
 # The file of all rows, its columns, and how many of those that gain and lose most are on the page.
-ROWS, COLUMNS, MOST = "front_pipelines.tsv", ("pipeline", "calls", "taken", "seconds without", "with"), 5
+ROWS, COLUMNS, MOST = "front_pipelines.tsv", ("pipeline", "calls", "taken", "small", "as quick", "seconds without", "with"), 5
+# Why a call isn't taken although it could be: its files are below the size from which a look pays, or bedtools is as
+# quick with any.
+SMALL = re.compile("its inputs are small")
+QUICK = re.compile("as quick|isn't SAM text with header lines")
 # A Python that has pybedtools.
 PYTHONS = ("/usr/bin/python3", sys.executable)
 SNAKEFILE = """
@@ -83,8 +89,9 @@ def timed(script, folder, env):
 
 
 def run_script(script, folder, env, count):
-    """Runs a script in both ways: its calls of the seven commands, how many of them Dunekettle took, and the seconds of
-    the processor without and with the drop-in."""
+    """Runs a script in both ways: its row, which has its calls of the seven commands, how many of them Dunekettle took,
+    how many it left as small and as quick, and the seconds of the processor without and with the drop-in. And why it
+    didn't take the others."""
     without, _, plain = timed(script, folder, environment())
     told = folder.parent / "told.txt"
     told.unlink(missing_ok=True)
@@ -92,46 +99,52 @@ def run_script(script, folder, env, count):
     count.expect(script.name, (without[0], without[2]), (given[0], given[2]))
     if without[2]:
         print(without[1][:300])
-    lines = told.read_text(encoding="utf-8") if told.exists() else ""
-    takers = [who for who, command in TOLD.findall(lines) if command in SEVEN]
-    return script.stem, len(takers), takers.count("Dunekettle"), plain, fronted, lines
+    lines = WHY.findall(told.read_text(encoding="utf-8") if told.exists() else "")
+    calls = [(who, command, why) for who, command, why in lines if command in SEVEN]
+    left = [(command, why) for who, command, why in calls if who != "Dunekettle"]
+    small, quick = (sum(bool(reason.search(why)) for _, why in left) for reason in (SMALL, QUICK))
+    return (script.stem, len(calls), len(calls) - len(left), small, quick, plain, fronted), left
 
 
 def try_pipelines(folder, env, count, words):
     """Runs the scripts in both ways, and gives a row for each."""
     rows, reasons = [], {}
-    print(f"{'pipeline':<26}{'calls':>7}{'taken':>7}{'without':>10}{'with':>8}   seconds of processor")
+    print(f"{'pipeline':<26}{'calls':>7}{'taken':>7}{'small':>7}{'quick':>7}{'without':>10}{'with':>8}   seconds of processor")
     for script in sorted((HERE / "front").glob("*.sh")):
         if words and not any(word in script.stem for word in words):
             continue
-        *row, lines = run_script(script, folder, env, count)
+        row, left = run_script(script, folder, env, count)
         rows.append(row)
-        print("{:<26}{:>7}{:>7}{:10.2f}{:8.2f}".format(*row), flush=True)
-        for who, command, why in re.findall(r"^dunekettle: (.*?) takes (\w*): (.*)", lines, re.MULTILINE):
-            if who != "Dunekettle" and command in SEVEN:
-                reasons.setdefault(f"{command}: {why}", []).append(script.stem)
+        print("{:<26}{:>7}{:>7}{:>7}{:>7}{:10.2f}{:8.2f}".format(*row), flush=True)
+        for command, why in left:
+            reasons.setdefault(f"{command}: {why}", []).append(script.stem)
     for reason, where in sorted(reasons.items(), key=lambda item: -len(item[1])):
         print(f"  {len(where):>3} {reason}  ({', '.join(sorted(set(where)))})")
     return rows
 
 
+def sums(rows):
+    """Of all rows the calls, those taken, small and as quick, and the seconds without and with."""
+    return [sum(row[at] for row in rows) for at in range(1, 7)]
+
+
 def summary(rows):
-    """What all rows come to, in a line."""
-    calls, taken = (sum(row[at] for row in rows) for at in (1, 2))
-    plain, fronted = (sum(row[at] for row in rows) for at in (3, 4))
+    """What all rows come to."""
+    calls, taken, small, quick, plain, fronted = sums(rows)
     return (f"{len(rows)} pipelines: of {calls} calls of the seven commands Dunekettle took {taken} ({100 * taken / max(calls, 1):.0f} percent); "
-            f"{plain:.0f} seconds of processor became {fronted:.0f} ({100 * fronted / max(plain, 0.01):.0f} percent)")
+            f"{plain:.0f} seconds of processor became {fronted:.0f} ({100 * fronted / max(plain, 0.01):.0f} percent). "
+            f"Of the other {calls - taken}, {small} are below the size from which a look pays, and {quick} are as quick in bedtools at any size. "
+            f"The last {calls - taken - small - quick} have options or files that Dunekettle doesn't take")
 
 
 def goals_missed(rows):
     """The goals that are missed, a line each."""
-    calls, taken = (sum(row[at] for row in rows) for at in (1, 2))
-    plain, fronted = (sum(row[at] for row in rows) for at in (3, 4))
+    calls, taken, _, _, plain, fronted = sums(rows)
     if taken < TAKEN * calls:
         yield f"Dunekettle took {taken} of {calls} calls, fewer than {100 * TAKEN:.0f} percent"
     if fronted > LEFT * plain:
         yield f"{fronted:.1f} seconds of {plain:.1f} are more than {100 * LEFT:.0f} percent"
-    for name, _, _, before, after in rows:
+    for name, _, _, _, _, before, after in rows:
         if after > LONGER * before + SECONDS:
             yield f"{name} takes {after:.2f} seconds of processor with the drop-in, {before:.2f} without"
 
@@ -139,15 +152,15 @@ def goals_missed(rows):
 def write_table(rows):
     """Puts all rows into front_pipelines.tsv, into MIGRATING.md their sum and those that gain and lose most, into README the sum."""
     page = HERE / "MIGRATING.md"
-    shown = [(name[3:].replace("-", " "), str(calls), str(taken), f"{before:.2f}", f"{after:.2f}") for name, calls, taken, before, after in rows]
+    shown = [(name[3:].replace("-", " "), *map(str, counts), f"{before:.2f}", f"{after:.2f}") for name, *counts, before, after in rows]
     (HERE / ROWS).write_text("".join("\t".join(row) + "\n" for row in [COLUMNS, *shown]), encoding="utf-8")
-    by_gain = sorted(shown, key=lambda row: float(row[4]) - float(row[3]))
+    by_gain = sorted(shown, key=lambda row: float(row[-1]) - float(row[-2]))
     lines = [f"{summary(rows)}. [All rows]({ROWS}); those that gain and lose most:", ""]
-    lines += [f"| {' | '.join(row)} |" for row in (COLUMNS, ["---"] * 5, *by_gain[:MOST], *by_gain[-MOST:])]
+    lines += [f"| {' | '.join(row)} |" for row in (COLUMNS, ["---"] * len(COLUMNS), *by_gain[:MOST], *by_gain[-MOST:])]
     text = page.read_text(encoding="utf-8")
     page.write_text(TABLE.sub(lambda found: found[1] + "\n".join(["", *lines, "", ""]) + found[2], text), encoding="utf-8")
     first = HERE.parent / "README.md"
-    calls, taken, before, after = (sum(row[at] for row in rows) for at in (1, 2, 3, 4))
+    calls, taken, _, _, before, after = sums(rows)
     gain = (f"- **With the drop-in**, [{len(rows)} pipelines](docs/MIGRATING.md#what-was-tried) as they are took {after:.0f} seconds of processor instead of "
             f"{before:.0f}. It gave {taken} of {calls} calls to Dunekettle.\n")
     first.write_text(GAIN.sub(lambda found: found[1] + gain + found[2], first.read_text(encoding="utf-8")), encoding="utf-8")

@@ -19,7 +19,7 @@ import tempfile
 import time
 from pathlib import Path
 
-from front_tools import TOLD, Count, call, drop_in, install, looking, original
+from front_tools import TOLD, Count, call, drop_in, install, is_busy, looking, original
 
 # Each stream is longer than a pipe holds.
 ROWS = "".join(f"chr1\t{50 * n}\t{50 * n + 20}\tr{n}\t0\t{'+-'[n % 2]}\n" for n in range(8000))
@@ -84,14 +84,21 @@ def fake(folder, name, script):
 
 def try_losses(place, folder, count):
     """A copy that fails, and one that isn't fed any longer: a fault and a status."""
-    broken = fake(folder.parent / "broken head", "head", f'[ "$1" != -c ] || {{ {shutil.which("head")} -c 100; exit 1; }}; exec {shutil.which("head")} "$@"')
+    broken = fake(folder.parent / "broken head", "head", f'[ "$1" != -c ] || [ "$2" -le 1 ] || {{ {shutil.which("head")} -c 100; exit 1; }}; exec {shutil.which("head")} "$@"')
     env = looking(drop_in(place), broken)
     for script in ("cat a.bed | bedtools merge", "bedtools intersect -u -a <(cat a.bed) -b <(cat a.bed)"):
         found = call(["bash", "-c", script], folder, env)
         count.expect(f"a copy that fails: {script}", (b"", 1, True), (found[0], found[2], "which is lost" in found[1]))
+    # A head that takes more than it is told, as that of busybox, gets no stream.
+    greedy = fake(folder.parent / "greedy head", "head", f'{shutil.which("dd")} bs=4096 count=1 2> /dev/null | {shutil.which("head")} "$@"')
+    for script in ("cat a.bed | bedtools merge", "bedtools intersect -u -a <(cat a.bed) -b <(cat a.bed)"):
+        wanted, found = (call(["bash", "-c", script], folder, env) for env in (looking(), looking(drop_in(place), greedy, DUNEKETTLE_ROOM="1000")))
+        count.expect(f"a head that takes too much: {script}", wanted, found)
     little = fake(folder.parent / "little room", "df", "printf 'a\\na 1 1 1 1 a\\n'")
     found = call(["bash", "-c", "cat a.bed | bedtools merge"], folder, looking(drop_in(place), little, DUNEKETTLE_TELL="1"))
     count.expect("little room", ("/usr/bin/bedtools", 0), (TOLD.findall(found[1])[0][0].replace(str(original()), "/usr/bin/bedtools"), found[2]))
+    if is_busy("a feeder that is killed"):
+        return
     child = start("(head -n 4000 a.bed; sleep 2; tail -n 4000 a.bed) | bedtools merge > /dev/null; exit ${PIPESTATUS[1]}", place, folder, DUNEKETTLE_ROOM="1000")
     time.sleep(1)
     feeders = [pid for pid, comm in of_session(child.pid) if comm == "cat"]
@@ -122,6 +129,8 @@ def of_session(session):
 
 def try_signals(place, folder, count):
     """A signal ends a call at once, and neither a process nor a file is left."""
+    if is_busy("signals"):
+        return
     slow = fake(folder.parent / "slow tr", "tr", "exec sleep 60")
     awk = fake(folder.parent / "slow awk", "awk", f'case "$*" in *histogram*) exec sleep 60 ;; esac; exec {shutil.which("awk")} "$@"')
     scripts = {

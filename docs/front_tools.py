@@ -1,10 +1,12 @@
 """What the trials of the front share: an installation in a folder of its own, calls with and without the drop-in first
 on PATH, and a count of what differs."""
 
+import functools
 import os
 import re
 import shutil
 import subprocess
+import time
 from pathlib import Path
 
 TOP = Path(__file__).resolve().parent.parent
@@ -60,14 +62,45 @@ def looking(*first, **more):
     return environment(*first, **{"DUNEKETTLE_SMALL": "0", **more})
 
 
+# A small piece of work, and the seconds that it takes where nothing else is done.
+WORK, IDLE = "i=0; while [ $i -lt 30000 ]; do i=$((i + 1)); done", 0.05
+# How much slower a machine may be on which bounds of time still say something.
+TOO_BUSY = 8
+
+
+def slowness():
+    """How many times longer that work takes now."""
+    begun = time.monotonic()
+    subprocess.run(["dash" if shutil.which("dash") else "sh", "-c", WORK], check=True)
+    return max(1, (time.monotonic() - begun) / IDLE)
+
+
+@functools.cache
+def is_busy(what):
+    """Whether the machine is too busy for a trial that goes by the clock; then it is passed over with a word."""
+    slower = slowness()
+    if slower > TOO_BUSY:
+        print(f"this machine is busy, {slower:.0f} times slower than alone: {what} passed over")
+    return slower > TOO_BUSY
+
+
 def call(words, folder, env, **how):
-    """Runs a command, and gives its output, what it said, and its status."""
+    """Runs a command, and gives its output, what it said, and its status. One that has no answer after two minutes, or after
+    as many times more as the machine is slower, is ended with a word."""
     how = {"stdin": subprocess.DEVNULL, "timeout": 120, **how}
-    if "input" in how:
-        del how["stdin"]
-    done = subprocess.run([*map(os.fspath, words)], cwd=folder, env=env, stdout=subprocess.PIPE, stderr=subprocess.PIPE,
-                          check=False, **how)
-    return done.stdout, done.stderr.decode(errors="replace"), done.returncode
+    patience, given, begun = how.pop("timeout"), how.pop("input", None), time.monotonic()
+    how["stdin"] = how["stdin"] if given is None else subprocess.PIPE
+    with subprocess.Popen([*map(os.fspath, words)], cwd=folder, env=env, stdout=subprocess.PIPE, stderr=subprocess.PIPE, **how) as child:
+        while True:
+            try:
+                output, said = child.communicate(given, timeout=patience)
+                return output, said.decode(errors="replace"), child.returncode
+            except subprocess.TimeoutExpired as late:
+                given, took, slower = None, time.monotonic() - begun, slowness()
+                if took > patience * slower:
+                    child.kill()
+                    print(f"no answer after {took:.0f} seconds, on a machine that is {slower:.0f} times slower than alone: {' '.join(map(str, words))[:300]}")
+                    return late.output or b"", "no answer", child.wait()
 
 
 def shell(script, folder, env, **how):

@@ -1,25 +1,54 @@
 # shellcheck shell=sh disable=SC2034,SC2154
-# bamtobed of SAM text that samtools writes as it is: read by the drop-in of `dunekettle`. Of BAM bedtools is as quick.
+# bamtobed of SAM text that samtools writes as it is, and with -split of the text that it makes of BAM: read by the
+# drop-in of `dunekettle`.
+
+# The first five columns of an alignment, and CIGARs that have no base, or a block without one: bedtools writes lines for
+# these, Dunekettle none.
+dk_text="[^$dk_tab]*$dk_tab" dk_number="[0-9]+$dk_tab" dk_none='([0-9]+[ISHP])*'
+dk_columns="$dk_text$dk_number$dk_text$dk_number$dk_number"
+dk_no_base="$dk_none$dk_tab|([0-9]+[A-Z=])*0|${dk_none}[0-9]+N|[^$dk_tab]*N$dk_none([0-9]+N|$dk_tab)"
 
 # take_bamtobed WORD..: becomes the program, or sets `dk_why`
 take_bamtobed() {
     judge_alignments
     command -v samtools > /dev/null && command -v cmp > /dev/null || dk_why='there is no samtools, or no cmp'
-    [ -n "$dk_why" ] || look_at_text
-    [ -n "$dk_why" ] || by_program 'samtools writes its file as it is' bamtobed "$@"
+    [ -z "$dk_why" ] || return 0
+    if ! is_zipped "$dk_i"; then
+        look_at_text
+        [ -n "$dk_why" ] || take 'samtools writes its file as it is' "$@"
+    else
+        write_text
+        [ -n "$dk_why" ] || take 'samtools makes text of it' -i "$dk_sam" -split
+    fi
+}
+
+# has_no PATTERN FILE: whether no line of it has the pattern
+has_no() {
+    LC_ALL=C grep -qaE "$1" < "$2" &
+    await $!
+    [ $? = 1 ]
 }
 
 # look_at_text: sets `dk_why` unless samtools writes the SAM text as it is, so that htslib reads it so, and each
 # alignment and each block has a base
 look_at_text() {
-    dk_text="[^$TAB]*$TAB" dk_number="[0-9]+$TAB" dk_none='([0-9]+[ISHP])*'
-    dk_odd="$dk_none$TAB|([0-9]+[A-Z=])*0|${dk_none}[0-9]+N|[^$TAB]*N$dk_none([0-9]+N|$TAB)"
-    LC_ALL=C grep -qaE "^[^@]$dk_text$dk_number$dk_text$dk_number$dk_number($dk_odd)" < "$dk_i" &
-    await $!
-    [ $? = 1 ] || { dk_why="$dk_i has alignments or blocks without a base"; return; }
-    : > "$dk_spare"
-    { samtools view --no-PG -h "$dk_i" < /dev/null 2> /dev/null || echo > "$dk_spare"; } | cmp -s - "$dk_i" &
-    await $! && [ ! -s "$dk_spare" ] || dk_why="$dk_i is SAM text that htslib reads otherwise"
+    has_no "^[^@]$dk_columns($dk_no_base)" "$dk_i" || { dk_why="$dk_i has alignments or blocks without a base"; return; }
+    # A line end more is seen as a difference.
+    { samtools view --no-PG -h "$dk_i" < /dev/null 2> /dev/null || echo; } | cmp -s - "$dk_i" &
+    await $! || dk_why="$dk_i is SAM text that htslib reads otherwise"
 }
 
+# write_text: fills the file `dk_sam` with the mapped alignments of a BAM file, or sets `dk_why`. None may look as a
+# header line, or lack a name, a chromosome, a place or a base.
+write_text() {
+    count_bytes "$dk_i"
+    if [ "$dk_bytes" -gt "$dk_room" ] || ! has_room "$((dk_bytes * 16))" || ! open_files sam; then
+        dk_why="TMPDIR has no room for the text of $dk_i"
+        return
+    fi
+    samtools view -F 4 "$dk_i" < /dev/null > "$dk_sam" 2> /dev/null &
+    await $! &&
+        has_no "^(@|$dk_tab|$dk_text$dk_number(\\*|${dk_text}0)$dk_tab|$dk_columns(\\*|$dk_no_base))" "$dk_sam" ||
+        dk_why="$dk_i has odd alignments, or samtools can't read it"
+}
 dk_part=bamtobed.sh

@@ -1,22 +1,25 @@
 # shellcheck shell=sh disable=SC2034,SC2154
-# The forms of genomecov, made of -bg and -bga of the program: read by the drop-in of `dunekettle`.
+# The forms of genomecov, made of -bg and -bga of the program: read by the drop-in of `dunekettle`. The file `dk_names`
+# has the chromosomes in the order in which they come.
 
 # take_genomecov WORD..: becomes the program, or writes what awk makes of its output, or sets `dk_why`
 take_genomecov() {
-    [ "$dk_copied" != known ] || by_program 'DUNEKETTLE_STREAMS says what its stream has' genomecov "$@"
+    [ "$dk_copied" != known ] || take 'DUNEKETTLE_STREAMS says what its stream has' "$@"
     tells_failed_writes || { dk_why='awk ends well where a write failed'; return; }
+    open_files names || { dk_why='TMPDIR takes no file, or too many are open'; return; }
     if [ -n "$dk_ibam" ]; then cover_alignments
     elif has_word -split; then cover_blocks
     else cover_features
     fi
-    [ -z "$dk_why" ] || { : > "$dk_genome"; return; }
-    set -- genomecov -i "$dk_i" -g "$dk_genome" ${dk_strand:+-strand "$dk_strand"}
+    [ -z "$dk_names" ] || close_files "$dk_names"
+    [ -z "$dk_why" ] || return 0
+    set -- -i "$dk_i" -g "$dk_genome" ${dk_strand:+-strand "$dk_strand"}
     case $dk_form in
     -d | -dz | '') write_form "$@" -bga ;;
     esac
     set -- "$@" "$dk_form"
     if [ -n "$dk_scale" ] || is_deep "$@"; then write_form "$@"; fi
-    by_program 'its words and its files are as it takes them' "$@"
+    take 'its words and its files are as it takes them' "$@"
 }
 
 # tells_failed_writes: whether awk ends with a fault where a write failed. That of busybox doesn't, and what it loses is
@@ -34,13 +37,14 @@ look_at_chromosomes() {
         dk_why="the chromosomes of $1 may be others for bedtools"
 }
 
-# order_genome FILE: puts its chromosomes into the file `dk_genome`, first those that are named in the file `dk_spans`,
-# in their order there, then the others
+# order_genome FILE: fills `dk_genome` with its chromosomes, first those of `dk_names`, then the others. The file may be
+# `dk_genome` itself.
 order_genome() {
-    if ! dk_lines=$({ cat "$dk_spans" && echo && cat -- "$1" && printf '\n.\n'; } |
-        LC_ALL=C awk -f "$dk_files/order_genome.awk") || ! printf '%s\n' "$dk_lines" > "$dk_genome"; then
-        dk_why='the order of its chromosomes finds no room'
+    if dk_lines=$(write_both "$dk_names" "$1" | LC_ALL=C awk -f "$dk_files/order_genome.awk") &&
+        printf '%s\n' "$dk_lines" > "$dk_genome"; then
+        return
     fi
+    dk_why='the order of its chromosomes finds no room'
 }
 
 # cover_features: looks at a BED file, whose chromosomes may have any order
@@ -48,20 +52,25 @@ cover_features() {
     look_at_chromosomes "$dk_g"
     [ -n "$dk_why" ] || look_at_ordered "$dk_i" "$dk_g"
     [ -n "$dk_why" ] || [ -z "$dk_strand" ] || pick_strand
-    [ -n "$dk_why" ] || [ "$dk_form" = -bg ] || order_genome "$dk_g"
+    [ -n "$dk_why" ] || [ "$dk_form" = -bg ] || order_by_spans "$dk_g"
 }
 
 # look_at_ordered FILE GENOME: the same as `look_at`, with a genome file in the order of the file
 look_at_ordered() {
-    : > "$dk_spans"
     order_genome "$2"
-    look_at "$1" "$dk_genome"
+    [ -n "$dk_why" ] || look_at "$1" "$dk_genome"
     case $dk_why in *'record is out of order') ;; *) return ;; esac
     dk_why=''
-    LC_ALL=C awk -F '\t' '($1 "") != last && !/^(#|track|browser)/ { print last = $1 "" }' < "$1" > "$dk_spans" &
+    LC_ALL=C awk -F '\t' '($1 "") != last && !/^(#|track|browser)/ { print last = $1 "" }' < "$1" > "$dk_names" &
     await $! || dk_why="$1 can't be read"
     [ -n "$dk_why" ] || order_genome "$2"
     [ -n "$dk_why" ] || look_at "$1" "$dk_genome"
+}
+
+# order_by_spans GENOME: fills `dk_genome` with its chromosomes, first those that have features
+order_by_spans() {
+    LC_ALL=C cut -f 1 < "$dk_spans" > "$dk_names" || { dk_why='TMPDIR has no room for names'; return; }
+    order_genome "$1"
 }
 
 # pick_strand: looks at the strands. Chromosomes without the strand come last in bedtools, unless with -bg.
@@ -80,23 +89,24 @@ pick_strand() {
 cover_blocks() {
     look_at_chromosomes "$dk_g"
     [ -n "$dk_why" ] || look_at_lines "$dk_i"
+    [ -n "$dk_why" ] || open_blocks "$(($(wc -c < "$dk_i") * 4))"
     [ -z "$dk_why" ] || return 0
-    open_blocks "$(($(wc -c < "$dk_i") * 4))" || return 0
-    { LC_ALL=C awk -v strand="$dk_strand" -v names="$dk_spans" -f "$dk_files/bed12_blocks.awk" < "$dk_i" ||
-        echo >> "$dk_spans"; } | LC_ALL=C sort -k4,4 -k2,2n > "$dk_blocks" 2> /dev/null &
-    if ! await $! || grep -q '^$' "$dk_spans"; then dk_why="$dk_i isn't plain BED12"; return; fi
-    look_at_blocks "$dk_g"
+    # The empty line comes first once all is sorted.
+    { LC_ALL=C awk -v strand="$dk_strand" -v names="$dk_names" -f "$dk_files/bed12_blocks.awk" < "$dk_i" && echo; } |
+        LC_ALL=C sort -k4,4 -k2,2n > "$dk_blocks" 2> /dev/null &
+    if await $! && IFS= read -r dk_line < "$dk_blocks" && [ -z "$dk_line" ]; then
+        order_genome "$dk_g"
+        look_at_blocks
+    else
+        dk_why="$dk_i isn't plain BED12"
+    fi
 }
 
 # open_blocks BYTES: opens the file `dk_blocks`, or sets `dk_why`
-open_blocks() {
-    if has_room "$1" && open_files blocks; then : > "$dk_spans"; else dk_why='TMPDIR has no room for blocks'; fi
-    [ -z "$dk_why" ]
-}
+open_blocks() { has_room "$1" && open_files blocks || dk_why='TMPDIR has no room for blocks'; }
 
-# look_at_blocks GENOME: puts the blocks into the place of -i, if they are in order
+# look_at_blocks: puts the blocks into the place of -i, if they are in the order of `dk_genome`
 look_at_blocks() {
-    order_genome "$1"
     dk_i=$dk_blocks dk_strand=''
     [ -n "$dk_why" ] || find_spans "$dk_i" "$dk_genome"
     [ -n "$dk_why" ] || look_at_names "$dk_i"
@@ -105,46 +115,47 @@ look_at_blocks() {
 # cover_alignments: the same of a BAM file, by samtools, where that pays
 cover_alignments() {
     is_bam "$dk_ibam" || { dk_why="$dk_ibam is no BAM"; return; }
-    : > "$dk_spans"
-    { samtools view -H "$dk_ibam" < /dev/null 2> /dev/null || echo >> "$dk_spans"; } | LC_ALL=C awk -F '\t' '
-        /^@SQ/ {
-            for (at = 2; at <= NF; at++) parts[substr($at, 1, 3)] = substr($at, 4)
-            print parts["SN:"] "\t" parts["LN:"]
-        }' > "$dk_genome" &
-    if await $! && [ ! -s "$dk_spans" ]; then
-        look_at_chromosomes "$dk_genome"
-    else
-        dk_why="samtools can't read the header of $dk_ibam"
-    fi
+    { samtools view -H "$dk_ibam" < /dev/null 2> /dev/null && echo; } |
+        LC_ALL=C awk -f "$dk_files/whole.awk" -f "$dk_files/sam_genome.awk" > "$dk_genome" &
+    if await $!; then look_at_chromosomes "$dk_genome"; else dk_why="samtools can't read the header of $dk_ibam"; fi
     [ -n "$dk_why" ] || find_blocks
-    [ -n "$dk_why" ] || look_at_blocks "$dk_genome"
+    [ -n "$dk_why" ] || order_genome "$dk_genome"
+    [ -n "$dk_why" ] || merge_blocks
+    [ -n "$dk_why" ] || look_at_blocks
 }
 
 # find_blocks: writes the blocks of the alignments, of at most 16 times as much text as a stream may have. Those behind
-# the first of a read are sorted, and then merged with the first ones.
+# the first of a read are sorted, into the file `dk_later`.
 find_blocks() {
     dk_most=$((dk_room * 16)) dk_gaps=''
     ! has_word -split || dk_gaps=1
     has_room "$((dk_most * 4))" || dk_most=$((dk_room * 2))
-    open_blocks "$((dk_most * 4))" || return 0
-    : > "$dk_spare"
-    { samtools view -F 4 "$dk_ibam" < /dev/null 2> /dev/null || echo >> "$dk_spans"; } |
-        LC_ALL=C awk -v gaps="$dk_gaps" -v strand="$dk_strand" -v most="$dk_most" -v names="$dk_spans" \
-            -v sorter="LC_ALL=C sort -k4,4 -k2,2n > $dk_spare" -f "$dk_files/sam_blocks.awk" > "$dk_blocks" &
-    if ! await $! || grep -q '^$' "$dk_spans"; then dk_why="$dk_ibam is odd, or too long for TMPDIR"; return; fi
-    [ -s "$dk_spare" ] || return 0
-    dk_first=$dk_blocks
-    open_files blocks || { dk_why='TMPDIR takes no file'; return; }
-    LC_ALL=C sort -m -k4,4 -k2,2n "$dk_first" "$dk_spare" > "$dk_blocks" 2> /dev/null &
-    await $! || dk_why='TMPDIR has no room for blocks'
-    close_file "$dk_first"
+    open_blocks "$((dk_most * 4))"
+    [ -n "$dk_why" ] || open_files later || dk_why='TMPDIR takes no file, or too many are open'
+    [ -z "$dk_why" ] || return 0
+    { samtools view -F 4 "$dk_ibam" < /dev/null 2> /dev/null && echo; } |
+        LC_ALL=C awk -v gaps="$dk_gaps" -v strand="$dk_strand" -v most="$dk_most" -v names="$dk_names" \
+            -v sorter="LC_ALL=C sort -k4,4 -k2,2n > $dk_later" -f "$dk_files/whole.awk" \
+            -f "$dk_files/sam_blocks.awk" > "$dk_blocks" &
+    await $! || dk_why="$dk_ibam is odd, or too long for TMPDIR"
 }
 
-# is_deep WORD..: whether the program, which they run, writes a depth of a million: bedtools rounds it
+# merge_blocks: puts the later blocks of reads among the first ones
+merge_blocks() {
+    [ -s "$dk_later" ] || return 0
+    dk_first=$dk_blocks
+    close_files "$dk_names"
+    dk_names=''
+    open_files blocks || { dk_why='TMPDIR takes no file, or too many are open'; return; }
+    LC_ALL=C sort -m -k4,4 -k2,2n "$dk_first" "$dk_later" > "$dk_blocks" 2> /dev/null &
+    await $! || dk_why='TMPDIR has no room for blocks'
+    close_files "$dk_first" "$dk_later"
+}
+
+# is_deep WORD..: whether the program, which they run, may write a depth of a million: bedtools rounds it
 is_deep() {
-    [ "$(wc -l < "$dk_i")" -ge 1000000 ] || return
-    "$dk_program" "$@" < /dev/null 2> /dev/null | LC_ALL=C grep -q '[0-9]\{7\}$' &
-    await $!
+    ! [ "$(wc -l < "$dk_i")" -lt 1000000 ] 2> /dev/null &&
+        ! writes_none '[0-9]{7}$' "$dk_program" genomecov "$@"
 }
 
 # write_form WORD..: writes what awk makes of the output of the program, which the words run
@@ -162,14 +173,13 @@ write_form() {
 write_through() {
     dk_filter=$1 dk_value=$2
     shift 2
-    : > "$dk_spans"
-    { "$dk_program" "$@" < /dev/null 2> "$dk_spans" || echo >> "$dk_spans"; } |
-        LC_ALL=C awk -v value="$dk_value" -f "$dk_files/float.awk" -f "$dk_files/$dk_filter" &
+    { "$dk_program" genomecov "$@" < /dev/null 2> "$dk_spare" && echo; } | LC_ALL=C awk -v value="$dk_value" \
+        -f "$dk_files/whole.awk" -f "$dk_files/float.awk" -f "$dk_files/$dk_filter" &
     await $!
     dk_status=$?
-    # Without a reader awk ends by SIGPIPE. What the program then says isn't a fault of its own.
-    if [ "$dk_status" = 0 ] && [ -s "$dk_spans" ]; then
-        grep . < "$dk_spans" >&2
+    # What the program says where awk has failed, or has ended without a reader, isn't a fault of its own.
+    if [ "$dk_status" = 3 ]; then
+        grep . < "$dk_spare" >&2 || say 'genomecov was cut off'
         dk_status=1
     fi
     finish "$dk_status"

@@ -1,5 +1,5 @@
 # shellcheck shell=sh disable=SC2034,SC2154
-# Hints, and the check of files: read by `dunekettle`, which has set `program`, `files` and NL.
+# Hints, and the check of files: read by `dunekettle`, which has set `program` and `files`.
 
 # clean: standard input without bytes that change a terminal
 clean() { LC_ALL=C tr '\001-\011\013-\037\177' '?'; }
@@ -14,7 +14,7 @@ advise() { say "$(printf '%s' "$1" | clean | tr '\n' '?')"; }
 quoted() {
     case $1 in
     '' | *[!A-Za-z0-9._/+-]*)
-        if [ "$(printf '%s.' "$1" | clean)" != "$1." ] || [ "${1#*"$NL"}" != "$1" ]; then echo FILE; return; fi
+        if [ "$(printf '%s.' "$1" | clean)" != "$1." ] || [ "${1#*"$dk_nl"}" != "$1" ]; then echo FILE; return; fi
         printf "'%s'\n" "$(printf '%s' "$1" | sed "s/'/'\\\\''/g")"
         ;;
     *) printf '%s\n' "$1" ;;
@@ -69,8 +69,8 @@ pipe_for() {
 hint() {
     fault=$1 dk_command=$2 dk_why=''
     shift 2
-    # shellcheck source=judge.sh source-path=SCRIPTDIR
-    . "$files/judge.sh"
+    # shellcheck source=words.sh source-path=SCRIPTDIR
+    . "$files/words.sh"
     read_options "$@"
     text=${fault##*: }
     file=${fault#"bedtools $dk_command: "}
@@ -215,8 +215,8 @@ hint_order() {
         NR == at { print $1, $2, $3, "comes after", before; print $1 == name; exit }
         NF && !/^(#|(track|browser)([ \t\r]|$))/ { before = $1 " " $2 " " $3; name = $1 }' < "$file" | printable)
     more=', or give the chromosomes in their order by -g'
-    if [ "$order" != "the names' bytes" ] || [ "${places##*"$NL"}" = 1 ]; then more=''; fi
-    advise "${places%"$NL"?}; the order in use is that of $order: $(sort_line "$file")$more"
+    if [ "$order" != "the names' bytes" ] || [ "${places##*"$dk_nl"}" = 1 ]; then more=''; fi
+    advise "${places%"$dk_nl"?}; the order in use is that of $order: $(sort_line "$file")$more"
 }
 
 # The names of the genome file, or of the sequences, that differ from the record's by chr, zeros, letters' case, or MT
@@ -250,7 +250,7 @@ hint_name() {
 all_names() {
     case $dk_command$dk_words in
     maskfasta*' -fullHeader '*) sed -n 's/^>//p' < "$dk_fi" ;;
-    maskfasta*) sed -n "s/^>\\([^ $TAB]*\\).*/\\1/p" < "$dk_fi" ;;
+    maskfasta*) sed -n "s/^>\\([^ $dk_tab]*\\).*/\\1/p" < "$dk_fi" ;;
     *) cat -- "$dk_g" ;;
     esac
 }

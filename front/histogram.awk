@@ -21,7 +21,7 @@ function put_chromosome(  depth) {
 }
 
 ($1 "") != chromosome {
-    if (NR > 1) put_chromosome()
+    if (chromosome != "") put_chromosome()
     chromosome = $1 ""
 }
 
@@ -33,7 +33,7 @@ function put_chromosome(  depth) {
 }
 
 END {
-    if (!NR) exit
+    if (chromosome == "") exit
     put_chromosome()
     for (depth = 0; depth <= deepest_of_all; depth++)
         if (depth in all_counts) put_row("genome", depth, all_counts[depth], bases)

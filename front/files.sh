@@ -1,0 +1,79 @@
+# shellcheck shell=sh disable=SC2034,SC2154
+# Files without a name, work in the background, and notes of it: read by the drop-in of `dunekettle`. Whatever ends
+# before its end, or finds no room, has to be seen: a tool by its status, or by a last line that only it writes.
+
+# open_files NAME..: opens an empty file for each, and sets `dk_NAME` to where it is. Its name in TMPDIR is gone by
+# then, so that nothing is left of it, however this ends.
+open_files() {
+    dk_folder=$(mktemp -d "${TMPDIR:-/tmp}/dunekettle-XXXXXX" 2> /dev/null) || return
+    dk_opened=0
+    for dk_name; do
+        free_descriptor || break
+        eval "command exec $dk_free<> \"\$dk_folder/\$dk_name\"" || break
+        eval "dk_$dk_name=/dev/fd/$dk_free"
+        dk_opened=$((dk_opened + 1))
+    done 2> /dev/null
+    rm -rf "$dk_folder"
+    dk_folder=''
+    [ "$dk_opened" = $# ] && { true < "/dev/fd/$dk_free"; } 2> /dev/null
+}
+
+# close_files FILE..: closes those that were opened here, or descriptors
+close_files() { for dk_file; do eval "exec ${dk_file##*/}<&-"; done; }
+
+# has_room BYTES: whether TMPDIR has room for them
+has_room() {
+    dk_kilobytes=$(df -Pk "${TMPDIR:-/tmp}" 2> /dev/null | awk 'NR == 2 { print $4 }')
+    [ "${dk_kilobytes:-0}" -ge "$(($1 / 1024))" ] 2> /dev/null
+}
+
+# await PROCESS: waits for it, so that a signal isn't late, and gives its status
+await() {
+    dk_children=$1
+    wait "$1"
+    set -- $?
+    dk_children=''
+    return "$1"
+}
+
+# is_running PROCESS: whether it is there, and not its status alone
+is_running() {
+    IFS= read -r dk_line < "/proc/$1/stat" || return
+    case ${dk_line##*) } in [ZX]*) return 1 ;; esac
+} 2> /dev/null
+
+# finish STATUS: ends as a process did that had this status
+finish() {
+    [ "$1" -le 128 ] || as_signalled "$(kill -l "$1")"
+    exit "$1"
+}
+
+# writes_none PATTERN WORD..: whether no line with the pattern is in what the words write, and they wrote all of it.
+# Else the file `dk_spare` has what was found, or nothing if the output was cut off.
+writes_none() {
+    dk_pattern=$1
+    shift
+    { "$@" < /dev/null 2> /dev/null && echo end; } |
+        LC_ALL=C grep -aoE -m 1 -e "$dk_pattern" -e '^end$' > "$dk_spare" &
+    await $! && IFS= read -r dk_line < "$dk_spare" && [ "$dk_line" = end ]
+}
+
+# Notes are in a pipe, since a full disk has no room for them.
+
+# open_notes: sets `dk_notes` to its descriptor
+open_notes() { open_pipe && dk_notes=$dk_pipe; }
+
+# note WORD WORD: writes a line to the notes
+note() { printf '%s\n' "$*" >> "/dev/fd/$dk_notes"; } 2> /dev/null
+
+# read_notes: sets `dk_noted` to the notes since the last time, each between line ends
+read_notes() {
+    dk_noted=$dk_nl
+    note end notes || return
+    while IFS= read -r dk_line && [ "$dk_line" != 'end notes' ]; do dk_noted=$dk_noted$dk_line$dk_nl; done <&"$dk_notes"
+    [ "$dk_line" = 'end notes' ]
+}
+
+# is_noted NOTE: whether it was read
+is_noted() { case $dk_noted in *"$dk_nl$1$dk_nl"*) ;; *) return 1 ;; esac; }
+dk_part=files.sh

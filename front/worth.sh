@@ -1,0 +1,88 @@
+# shellcheck shell=sh disable=SC2034,SC2154
+# Whether a look at the files pays, and whether the original is a version that all was compared with: read by the
+# drop-in of `dunekettle`.
+
+# judge_first: sets `dk_why` if something lacks, or if bedtools is as quick whatever the words and the files are
+judge_first() {
+    if [ ! -f "$dk_program" ] || [ ! -s "$dk_program" ] || [ ! -x "$dk_program" ]; then
+        dk_why="there is no $dk_program"
+        return
+    fi
+    for dk_tool in awk cat cut df grep head mktemp rm sort tail tr uniq wc; do
+        command -v "$dk_tool" > /dev/null || { dk_why="there is no $dk_tool"; return; }
+    done
+    case $dk_command$dk_words in
+    *' -held '*) ;;
+    merge*' -S '* | maskfasta*) dk_why='bedtools is as quick as a look at the files' ;;
+    bamtobed*) is_stream "$dk_i" || judge_alignments ;;
+    esac
+}
+
+# is_worth_it: sets `dk_why` where the original is quicker than a look at the files. genomecov goes over each base.
+is_worth_it() {
+    case $dk_command in
+    intersect | subtract) set -- "$dk_a" "$dk_b" ;;
+    *) set -- "${dk_ibam:-$dk_i}" ;;
+    esac
+    for dk_input; do
+        if [ ! -f "$dk_input" ] || [ ! -r "$dk_input" ]; then dk_why="$dk_input is no file that can be read"; return; fi
+    done
+    count_bytes "$@"
+    if [ -n "$dk_ibam" ]; then
+        alignments_pay || dk_why='bedtools goes over its genome as quickly, or there is no samtools'
+        return
+    fi
+    least_bytes
+    [ "$dk_bytes" -lt "$dk_least" ] || return 0
+    if [ "$dk_command" = genomecov ] && is_large_genome; then return; fi
+    find_original
+    [ -z "$dk_original" ] || dk_why='its inputs are small'
+}
+
+# least_bytes: sets `dk_least` to the bytes from which a look at the files costs no more than the original, as measured
+# for each kind of call. Copies are paid by then.
+least_bytes() {
+    case $dk_command$dk_words in
+    intersect*' -f '* | intersect*' -s '* | subtract*' -f '* | subtract*' -s '*) dk_least=12 ;;
+    intersect*' -u '* | intersect*' -v '* | intersect*' -c '*) dk_least=4 ;;
+    intersect*) dk_least=16 ;;
+    merge* | subtract*) dk_least=2 ;;
+    *) dk_least=1 ;;
+    esac
+    dk_least=$((dk_small * dk_least))
+    [ -z "$dk_copied" ] || dk_least=$((dk_least / 2))
+}
+
+# count_bytes FILE..: sets `dk_bytes` to those of all, or to 0 if a name with a line feed hides them
+count_bytes() {
+    dk_bytes=$(wc -c -- "$@")
+    dk_bytes=${dk_bytes##*"$dk_nl"}
+    dk_bytes=${dk_bytes#"${dk_bytes%%[! ]*}"}
+    dk_bytes=${dk_bytes%% *}
+    case $dk_bytes in '' | *[!0-9]*) dk_bytes=0 ;; esac
+}
+
+# alignments_pay: whether samtools is there, and the genome of -ibam is large beside its bytes
+alignments_pay() {
+    command -v samtools > /dev/null || return
+    samtools view -H "$dk_ibam" < /dev/null 2> /dev/null | LC_ALL=C awk -v bytes="$dk_bytes" '
+        /^@SQ/ && match($0, /\tLN:[0-9]+/) { bases += substr($0, RSTART + 4, RLENGTH - 4) }
+        END { exit bases < 20000000 || bases < bytes * 2 }'
+}
+
+is_large_genome() {
+    LC_ALL=C awk -F '\t' '{ bases += $2 } END { exit bases < 20000000 }' < "$dk_g" 2> /dev/null
+}
+
+# is_known_version: sets `dk_why` if the original isn't one that all was compared with, and the command line isn't one
+# of those for which all versions write the same
+is_known_version() {
+    ! is_for_any_version || return 0
+    [ -n "${dk_original-}" ] || find_original
+    [ -n "$dk_original" ] || return 0
+    case $(DUNEKETTLE_TRIED=${DUNEKETTLE_TRIED-}:$dk_original "$dk_original" --version < /dev/null 2> /dev/null) in
+    'bedtools v2.30.0'* | 'bedtools v2.31.'*) ;;
+    *) dk_why="what $dk_original does with these words wasn't tried" ;;
+    esac
+}
+dk_part=worth.sh
