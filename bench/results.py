@@ -240,17 +240,26 @@ def by_command(kept):
 
 
 def by_workload(kept):
-    """The table of bench/README.md: each workload."""
-    lines = ["| workload | Dunekettle, s | bedtools, s | bedops, s | times less than bedtools | MB | of bedtools | instructions a record |\n|" + "---|" * 8 + "\n"]
+    """The table of bench/README.md: each workload, and below it what other programs than bedtools take."""
+    lines = ["| workload | Dunekettle, s | bedtools, s | times less than bedtools | MB | of bedtools |\n|" + "---|" * 6 + "\n"]
     for row in kept["workloads"]:
         ours, theirs = row["runs"]["dunekettle"], row["runs"]["bedtools"]
-        bedops = row["runs"].get("bedops") or row["runs"].get("convert2bed")
-        cells = [row["name"], digits(ours["seconds"]), digits(theirs["seconds"]), digits(bedops["seconds"]) if bedops else "", digits(times_less(row)),
-                 *(digits(run["kilobytes"] * 1024 / 1e6) for run in (ours, theirs)), f"{row['instructions']:,.0f}" if "instructions" in row else ""]
-        lines.append(f"| {' | '.join(cells)} |\n".replace("|  |", "| |").replace("|  |", "| |"))
+        cells = [row["name"], digits(ours["seconds"]), digits(theirs["seconds"]), digits(times_less(row)),
+                 *(digits(run["kilobytes"] * 1024 / 1e6) for run in (ours, theirs))]
+        lines.append(f"| {' | '.join(cells)} |\n")
     plain = [f"A [plain C program](plain_merge.c) that does nothing but {row['name']} takes {digits(row['runs']['plain C']['seconds'])} s.\n"
              for row in kept["workloads"] if "plain C" in row["runs"]]
-    return "".join(lines) + "".join(f"\n{line}" for line in plain) + f"\n{caption(kept)}"
+    return "".join(lines) + "".join(f"\n{line}" for line in [*plain, bedops(kept), caption(kept)])
+
+
+def bedops(kept):
+    """What the programs of bedops take for the same workloads."""
+    sentences = []
+    for program, words in (("bedops", "`bedops --merge` takes"), ("convert2bed", "`convert2bed`, which writes more columns, takes")):
+        took = [f"{digits(row['runs'][program]['seconds'])} s ({row['name']})" for row in kept["workloads"] if program in row["runs"]]
+        sentences += [f"{words} {', '.join(took)}."] if took else []
+    return " ".join(sentences) + "\n"
+
 
 
 def growth(kept):

@@ -182,13 +182,21 @@ def line_of(crate, file, call, clauses, refusal):
     if crate == "bt_laws" and not IN_WORDS & {file.stem, file.parent.name}:
         text = f"{sentence_of(file, call)} {text}".strip()
     arrow = f" -> {refusal}" if refusal else ""
-    return f"{file.relative_to(TOP)}: {call}{arrow}: {text or 'one clause'}\n" if text or refusal else ""
+    return f"  {call}{arrow}: {text or 'one clause'}\n" if text or refusal else ""
 
 
 def index_of(crate, rows_here):
     """The index of a crate."""
-    lines = [line_of(*row) for row in rows_here]
-    plain = [row[2] for row, line in zip(rows_here, lines) if not line]
+    lines, plain, shown = [], [], None
+    for row in rows_here:
+        line = line_of(*row)
+        if not line:
+            plain.append(row[2])
+            continue
+        if row[1] != shown:
+            shown = row[1]
+            lines.append(f"{shown.relative_to(TOP)}\n")
+        lines.append(line)
     rest = f"One clause each, or none: {', '.join(plain)}\n" if plain and crate != "bt_laws" else ""
     others = [f"For other crates: {items}: {why}\n" for name, items, why in table(PUBLIC) if name == crate]
     return f"\n{crate}\n\n{''.join(lines)}{rest}{''.join(others)}"

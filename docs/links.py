@@ -7,6 +7,7 @@
 - the pages that name a version name the same one
 - PROVED.md says how many files define the report; ARCHITECTURE.md lists them, and the modules of each crate; the report
   names each definition of the model
+- README.md has an answer, or a link to it, for each question of questions.tsv
 - no page says what another contradicts: the phrases of UNTRUE, the numbers of SAME, the limit of a sentence
 
     docs/links.py [--write]
@@ -327,6 +328,15 @@ def definitions_differ(is_written):
     return said or listed
 
 
+def unanswered():
+    """The questions of a stranger, in questions.tsv, for whose answer README.md doesn't have these words or this link."""
+    page = (TOP / "README.md").read_text(encoding="utf-8")
+    for line in (TOP / "docs" / "questions.tsv").read_text(encoding="utf-8").splitlines()[1:]:
+        question, answer = line.split("\t")
+        if answer not in page:
+            yield f"README.md: no answer to: {question}: {answer}"
+
+
 def said_in(pattern, name):
     """What the files of a name say of a number, each number without commas."""
     text = "".join(file.read_text(encoding="utf-8") for file in sorted(TOP.glob(name)))
@@ -364,7 +374,7 @@ def main():
     absent = [*missing(), *lost_paths(), *unknown_names()]
     for page, number, name in absent:
         print(f"{page.relative_to(TOP)}:{number}: {name} isn't there")
-    outside = [*strays(), *unnamed(), *other_modules(), *untrue(), *unequal()]
+    outside = [*strays(), *unnamed(), *other_modules(), *untrue(), *unequal(), *unanswered()]
     for line in outside:
         print(line)
     found = versions()

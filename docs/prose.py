@@ -122,37 +122,46 @@ def has_marks(sentence):
     return sentence.count(";") > 1 or len(asides) > 1 or any(len(aside.split()) > ASIDE for aside in asides)
 
 
+def too_long(text, is_written):
+    """What of a paragraph or a row is too long, or has too many marks and isn't written by a script: the kind, and what it is."""
+    if text.startswith("|"):
+        for cell in CELL_END.split(LINK.sub(r"\1", text)):
+            if len(cell.split()) > CELL:
+                yield "cells", f"a cell of {len(cell.split())} words"
+            if any(len(item.split()) > SENTENCE for item in ITEM_END.split(plain(cell))):
+                yield "sentences", f"a long item: {cell.strip()[:50]}.."
+        return
+    words = plain(text)
+    if len(words.split()) > PARAGRAPH:
+        yield "paragraphs", f"a paragraph of {len(words.split())} words"
+    for sentence in SENTENCE_END.split(words):
+        if len(sentence.split()) > SENTENCE:
+            yield "sentences", f"a sentence of {len(sentence.split())} words: {sentence[:50]}.."
+        if has_marks(sentence) and not is_written:
+            yield "marks", f"semicolons or parentheses: {sentence[:50]}.."
+
+
+def other_words(name, words):
+    """The words for which there is a better one on the page of this name: the kind, and what they are."""
+    kinds = [("dialect", DIALECT)]
+    if not name.startswith(ON_PROOFS):
+        kinds += [("proofs", PROOFS), ("terms", TERMS)]
+    for kind, better_ones in kinds:
+        for word, better in better_ones.items():
+            yield from ((kind, f"{match[0]!r}: {better}") for match in re.finditer(word, words))
+    if not name.endswith(HISTORIES):
+        yield from (("history", f"history: {match[0]!r}") for match in HISTORY.finditer(words))
+
+
 def found_in(path):
     """What is counted in a page: the kind, the line and what it is."""
     whole = path.read_text(encoding="utf-8")
-    by_script = {number for part in WRITTEN.finditer(whole) for number in range(whole.count("\n", 0, part.start()), whole.count("\n", 0, part.end()) + 2)}
+    parts = [(whole.count("\n", 0, part.start()), whole.count("\n", 0, part.end()) + 1) for part in WRITTEN.finditer(whole)]
     for number, text in paragraphs(whole):
-        words = plain(text)
-        if text.startswith("|"):
-            for cell in CELL_END.split(LINK.sub(r"\1", text)):
-                if len(cell.split()) > CELL:
-                    yield "cells", number, f"a cell of {len(cell.split())} words"
-                if any(len(item.split()) > SENTENCE for item in ITEM_END.split(plain(cell))):
-                    yield "sentences", number, f"a long item: {cell.strip()[:50]}.."
-        else:
-            if len(words.split()) > PARAGRAPH:
-                yield "paragraphs", number, f"a paragraph of {len(words.split())} words"
-            for sentence in SENTENCE_END.split(words):
-                if len(sentence.split()) > SENTENCE:
-                    yield "sentences", number, f"a sentence of {len(sentence.split())} words: {sentence[:50]}.."
-                if has_marks(sentence) and number not in by_script:
-                    yield "marks", number, f"semicolons or parentheses: {sentence[:50]}.."
-        for word, better in DIALECT.items():
-            for match in re.finditer(word, words):
-                yield "dialect", number, f"{match[0]!r}: {better}"
-        if path.name not in HISTORIES:
-            for match in HISTORY.finditer(words):
-                yield "history", number, f"history: {match[0]!r}"
-        if not str(path.relative_to(TOP)).startswith(ON_PROOFS):
-            for kind, said in (("proofs", PROOFS), ("terms", TERMS)):
-                for word, better in said.items():
-                    for match in re.finditer(word, words):
-                        yield kind, number, f"{match[0]!r}: {better}"
+        is_written = any(first <= number <= last for first, last in parts)
+        for kind, what in [*too_long(text, is_written), *other_words(str(path.relative_to(TOP)), plain(text))]:
+            yield kind, number, what
+
 
 
 def words_of(path):
@@ -185,6 +194,11 @@ def risen(name, counts, before):
     return [f"{name}: {kind}: {count}, and {was} in prose.txt" for kind, count, was in zip(COUNTS, counts, before) if count > was]
 
 
+def least(counts, before):
+    """The lesser of each count and the stored one, and the counts that aren't stored."""
+    return (*map(min, counts, before), *counts[len(before):])
+
+
 def main():
     is_written = "--write" in sys.argv[1:]
     chosen = [str(Path(name).resolve().relative_to(TOP)) for name in sys.argv[1:] if not name.startswith("-")]
@@ -195,10 +209,9 @@ def main():
             print("".join(f"{name}:{number}: {what}\n" for _, number, what in found_in(every[name])), end="")
     wrong = [line for name, counts in now.items() if name in before for line in risen(name, counts, before[name])]
     if is_written:
-        least = {name: tuple(map(min, counts, before.get(name, counts))) for name, counts in now.items()}
-        STORED.write_text(as_text(least), encoding="utf-8")
+        STORED.write_text(as_text({name: least(counts, before.get(name, ())) for name, counts in now.items()}), encoding="utf-8")
     else:
-        wrong += [f"{name}: no row in prose.txt: docs/prose.py --write" for name in now if name not in before]
+        wrong += [f"{name}: no row in prose.txt, or a shorter one: docs/prose.py --write" for name in now if len(before.get(name, ())) != len(COUNTS)]
         wrong += [f"{name}: a row in prose.txt without a page: docs/prose.py --write" for name in before if name not in every]
     words = sum(words_of(path) for path in every.values())
     lines = len(every[FRONT].read_text(encoding="utf-8").splitlines())
