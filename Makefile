@@ -27,10 +27,17 @@ SOURCES := crates.txt $(shell find crates -name out -prune -o -type f \( -name '
 DOCS := README.md CHANGELOG.md LICENSE $(wildcard docs/*.md docs/*.svg) $(wildcard bench/*.md bench/*.svg) \
 	CITATION.cff $(shell find examples/shards examples/recipes -type f)
 
-.PHONY: all example test mutants definitions check-docs check-program check-speed check-differences check-front check-shards \
+.PHONY: all built example test mutants definitions check-docs check-program check-speed check-differences check-front check-shards \
 	check-packages pictures completions install uninstall dist deb clean
 
 all: $(PROGRAM)
+
+# A program has the version in a section of its own.
+define finish
+@printf 'Dunekettle %s\n' '$(VERSION)' > bin/version.txt
+@! command -v objcopy > /dev/null || objcopy --add-section .dunekettle=bin/version.txt $(PROGRAM)
+@echo "Built $(PROGRAM)."
+endef
 
 # The run builds what it runs, and merges nothing.
 $(PROGRAM): $(SOURCES)
@@ -39,15 +46,18 @@ $(PROGRAM): $(SOURCES)
 	@cd crates/bedtools && rt run $(if $(CPU),--cpu $(CPU)) -- merge -i /dev/null -g /dev/null > ../../$(LOG) 2>&1 || \
 	{ tail -n 20 ../../$(LOG); echo "Not built: see $(LOG)."; exit 1; }
 	@cp crates/bedtools/out/bedtools $@
-	@printf 'Dunekettle %s\n' '$(VERSION)' > bin/version.txt
-	@! command -v objcopy > /dev/null || objcopy --add-section .dunekettle=bin/version.txt $@
-	@echo "Built $@."
+	$(finish)
+
+# Takes the program that `rt ci` built.
+built:
+	@cp crates/bedtools/out/bedtools $(PROGRAM)
+	$(finish)
 
 example: $(PROGRAM)
 	@examples/run.sh $(PROGRAM)
 
 test:
-	rt ci
+	docs/gate.sh
 
 # The further wrong bodies, which the gate doesn't try: each must be refused too. They are tried in a
 # copy, in the place of those of must-fail.
@@ -62,22 +72,22 @@ definitions:
 	docs/definitions.py --write
 
 # The shell examples of the pages and of docs/cases write what is below them, the example on each crate's first page is its
-# test, each link leads somewhere, tables of rows and of clauses are those of their files and sources, the completions have the
-# options of the pages, no page is harder to read than before, and tables and charts of the bench are those of its results.
+# test, each link leads somewhere, tables of rows are those of their files, each call that allocates has its test, the completions
+# have the options of the pages, no page is harder to read than before, and tables and charts of the bench are those of its results.
 check-docs: $(PROGRAM)
 	docs/examples.py
 	docs/edits.py
 	docs/links.py
 	docs/migrating.py
-	docs/clauses.py
+	docs/clauses.py --check
 	docs/completions.py
 	docs/manuals.py
 	docs/prose.py
 	bench/results.py
 
-# Closed standard streams, full disks, directories: what no proof says of real files. Then want of memory, in small address
-# spaces and with each growth refused, none of it in large sizes, what is allocated over many records, random bytes, and the laws of docs/PIPES.md
-# on random inputs.
+# Closed standard streams, full disks, directories: what no proof says of real files. Then memory that runs out, in small address
+# spaces and with each growth refused; large sizes; what is allocated over many records; random bytes; and the laws of
+# docs/PIPES.md on random inputs.
 check-program: $(PROGRAM)
 	docs/edges.py
 	docs/scarce.py

@@ -34,8 +34,9 @@ TOP = HERE.parent
 RESULTS = HERE / "results.json"
 # What bench/pipelines.py measured.
 PIPELINES = HERE / "pipelines.json"
-# What bench/odd.py measured.
-ODD = HERE / "odd.json"
+# What bench/odd.py measured, and the same as a table of all rows. The page shows the worst of them.
+ODD, ODD_ROWS = HERE / "odd.json", HERE / "odd.tsv"
+WORST = 20
 # What is measured of growth: a workload for each command, also the one that the chart shows, by the name of its data.
 SHOWN = {
     "merge": "3 columns",
@@ -218,11 +219,13 @@ def caption(kept, about=""):
 
 
 def summary(kept):
-    """The line of README.md on all workloads."""
+    """The items of README.md on all workloads."""
     factors = [times_less(row) for row in kept["workloads"] if row["command"] in SHOWN]
     half = digits(statistics.median_low(factors))
-    return (f"[By command](bench/README.md#results): {spread(factors, digits)} times less processor time than bedtools {kept['bedtools']}, "
-            f"over {len(factors)} workloads. For half of them it is at least {half}.\n")
+    on_text = digits(next(times_less(row) for row in kept["workloads"] if row["command"] == "bamtobed"))
+    return (f"- [By command](bench/README.md#results): {spread(factors, digits)} times less processor time than bedtools {kept['bedtools']}, "
+            f"over {len(factors)} workloads. For half of them it is at least {half}. [What is slow](bench/README.md#what-is-slow-and-why).\n"
+            f"- `bamtobed` reads SAM text, {on_text} times faster than bedtools reads BAM. With `samtools view` before it, it is 1.5 to 1.8 times.\n")
 
 
 def by_command(kept):
@@ -273,7 +276,7 @@ def pipelines(_):
     for row in measured["pipelines"]:
         theirs, front, ours = (digits(row["seconds"][form]) for form in ("bedtools", "drop-in", "rewritten"))
         lines.append(f"| {row['what']} | {theirs} | {front} | {row['taken']} of {row['calls']} | {ours} |\n")
-    return "".join(lines) + "\n![whole pipelines: bedtools, the drop-in, rewritten](bench/pipelines.svg)\n" + pipeline_caption(measured)
+    return "".join(lines) + "\n![whole pipelines: bedtools, the drop-in, rewritten](bench/pipelines.svg)\n\n" + pipeline_caption(measured)
 
 
 def ratio(row):
@@ -281,17 +284,31 @@ def ratio(row):
     return row["runs"]["dunekettle"]["seconds"] / row["runs"]["bedtools"]["seconds"]
 
 
-def odd_inputs(kept):
-    """The table of odd inputs, the largest ratio first."""
-    if not kept:
-        return "Odd inputs weren't measured yet.\n"
-    lines = ["| workload | Dunekettle, s | bedtools, s | of bedtools' time | MB | of bedtools |\n|" + "---|" * 6 + "\n"]
+def by_ratio(kept):
+    """The cells of each odd input, the largest part of bedtools' time first."""
     for row in sorted(kept["odd"], key=ratio, reverse=True):
         runs = [row["runs"][program] for program in ("dunekettle", "bedtools")]
-        cells = [row["name"], *(digits(run["seconds"]) for run in runs), digits(ratio(row)), *(digits(run["kilobytes"] * 1024 / 1e6) for run in runs)]
-        lines.append(f"| {' | '.join(cells)} |\n")
-    lines.append(f"| **the largest ratio** | | | **{digits(max(map(ratio, kept['odd'])))}** | | |\n")
+        yield [row["name"], *(digits(run["seconds"]) for run in runs), digits(ratio(row)), *(digits(run["kilobytes"] * 1024 / 1e6) for run in runs)]
+
+
+def odd_inputs(kept):
+    """The table of odd inputs: the worst ones, and last the largest part."""
+    if not kept:
+        return "Odd inputs weren't measured yet.\n"
+    rows = list(by_ratio(kept))
+    lines = ["| workload | Dunekettle, s | bedtools, s | of bedtools' time | MB | of bedtools |\n|" + "---|" * 6 + "\n"]
+    lines += [f"| {' | '.join(cells)} |\n" for cells in rows[:WORST]]
+    if len(rows) > WORST:
+        lines.append(f"| [{len(rows) - WORST} others]({ODD_ROWS.name}) | | | at most {rows[WORST][3]} | | |\n")
+    lines.append(f"| **the largest ratio** | | | **{rows[0][3]}** | | |\n")
     return "".join(lines) + f"\n{odd_caption(kept)}"
+
+
+def odd_rows(kept):
+    """The file of all odd inputs."""
+    head = ["workload", "Dunekettle, s", "bedtools, s", "of bedtools' time", "MB", "MB of bedtools"]
+    return "".join("\t".join(cells) + "\n" for cells in (head, *by_ratio(kept)))
+
 
 
 def odd_caption(kept):
@@ -301,19 +318,19 @@ def odd_caption(kept):
 
 
 def odd_claim(kept):
-    """The sentence of README.md on odd inputs, if they were measured."""
+    """The item of README.md on odd inputs, if they were measured."""
     if not kept:
         return ""
     ratios = [ratio(row) for row in kept["odd"]]
     slower = sum(part > 1 for part in ratios)
     on = f"{len(ratios)} workloads of [odd inputs](bench/README.md#odd-inputs)"
     if slower:
-        return f"Slower than bedtools on {slower} of {on}, by at most {digits(max(ratios))} times its processor time.\n"
-    return f"Never slower than bedtools on {on}: at most {digits(max(ratios))} of its processor time.\n"
+        return f"- Slower than bedtools on {slower} of {on}, by at most {digits(max(ratios))} times its processor time.\n"
+    return f"- Never slower than bedtools on {on}: at most {digits(max(ratios))} of its processor time.\n"
 
 
 TABLES = {"summary": summary, "by_command": by_command, "by_workload": by_workload, "growth": growth, "pipelines": pipelines}
-# Those of odd.json, for which it may be missing.
+# Those of odd.json, for which it may be missing. The claim comes after the summary.
 ODD_TABLES = {"odd_inputs": odd_inputs, "odd_claim": odd_claim}
 
 
@@ -336,6 +353,7 @@ def read(path):
 def page(path, kept, odd):
     """The text of a page with its tables."""
     made = {name: table(kept) for name, table in TABLES.items()} | {name: table(odd) for name, table in ODD_TABLES.items()}
+    made["summary"] += made["odd_claim"]
     return MARKS.sub(lambda match: match[1] + made[match[2]] + match[3], path.read_text(encoding="utf-8"))
 
 
@@ -344,6 +362,7 @@ def agree(is_written):
     kept, odd = read(RESULTS), read(ODD)
     made = {TOP / name: page(TOP / name, kept, odd) for name in PAGES}
     made |= {HERE / name: text for name, text in charts(kept).items()}
+    made |= {ODD_ROWS: odd_rows(odd)} if odd else {}
     differ = [path for path, text in made.items() if not path.exists() or path.read_text(encoding="utf-8") != text]
     for path in differ:
         if is_written:
@@ -371,7 +390,7 @@ def memory_differs(kept):
 def render(kept, folder):
     """Writes the tables and charts of some results into a folder."""
     folder.mkdir(parents=True, exist_ok=True)
-    tables, drawn = (ODD_TABLES, {}) if "odd" in kept else (TABLES, charts(kept))
+    tables, drawn = (ODD_TABLES, {ODD_ROWS.name: odd_rows(kept)}) if "odd" in kept else (TABLES, charts(kept))
     for name, text in [*drawn.items(), *((f"{name}.md", table(kept)) for name, table in tables.items())]:
         (folder / name).write_text(text, encoding="utf-8")
     return 0

@@ -1,13 +1,14 @@
 #!/usr/bin/env python3
-"""Writes the index of the contracts, CLAUSES.md, from the sources: each public call, its clauses, the words of specs/ that
-they name, and what it can return instead of success.
+"""Prints the index of the contracts, from the sources: each public call, its clauses, the words of specs/ that they name,
+and what it can return instead of success.
 
-    docs/clauses.py            fails if the page isn't that of the sources
-    docs/clauses.py --write    writes it anew
+    docs/clauses.py [CRATE..]    prints the index of these crates, or of all
+    docs/clauses.py --check      fails if tests.tsv or public.tsv isn't that of the sources
 
 A call is public if src/lib.rt of its crate exports it or its type; of bt_laws all laws are, of the program what has a
-contract. tests.tsv names for each call that can run out of memory a test with ample memory: there has to be such a test, and
-such a row. Ends with 1 if something differs.
+contract. public.tsv says why something is public that other crates alone use. tests.tsv names for each call that can run out
+of memory a test with ample memory: there has to be such a test, and such a row. Ends with 1 if one lacks, if a row names
+something else, or if there is no such crate.
 """
 
 import re
@@ -15,8 +16,8 @@ import sys
 from pathlib import Path
 
 TOP = Path(__file__).resolve().parent.parent
-PAGE = TOP / "docs" / "CLAUSES.md"
 TESTS = TOP / "docs" / "tests.tsv"
+PUBLIC = TOP / "docs" / "public.tsv"
 USED = re.compile(r"^pub use ([\w:]+?)(?:::\{([^}]*)\})?;", re.MULTILINE | re.DOTALL)
 OWNER = re.compile(r"^(?:pub(?:\([^)]*\))? )?(?:unsafe )?(impl|trait)\b(?:<[^{]*?>)? *(.*?)(?: where .*)?\{?$")
 CALL = re.compile(r"^( *)(pub(?:\([^)]*\))? )?(?:const )?fn (\w+)")
@@ -43,7 +44,7 @@ def crates():
 def exported(crate):
     """The names that a library exports."""
     text = (TOP / "crates" / crate / "src" / "lib.rt").read_text(encoding="utf-8")
-    names = set()
+    names = set(re.findall(r"^pub mod (\w+);", text, re.MULTILINE))
     for path, several in USED.findall(text):
         names.update(re.findall(r"\w+", several) if several else [path.split("::")[-1]])
     return names
@@ -148,12 +149,12 @@ def shown_clauses(clauses, many=MANY):
     parts, seen = [], set()
     if len(clauses) > many:
         words = dict.fromkeys(word for _, named in clauses for word in named)
-        return f"{len(clauses)} clauses, on " + ", ".join(f"[`{word}`](../{path.relative_to(TOP)})" for word, path in words)
+        return f"{len(clauses)} clauses, on " + ", ".join(f"{word} ({path.relative_to(TOP / 'crates')})" for word, path in words)
     for name, words in clauses:
         new = [word for word in words if word not in seen]
         seen.update(new)
-        links = [f"[`{word}`](../{path.relative_to(TOP)})" for word, path in new]
-        parts.append(" ".join([f"`{name}`"] * bool(name) + links))
+        named = [f"{word} ({path.relative_to(TOP / 'crates')})" for word, path in new]
+        parts.append(" ".join([f"`{name}`"] * bool(name) + named))
     return ", ".join(part for part in parts if part)
 
 
@@ -168,33 +169,44 @@ def sentence_of(file, name):
     return sentence
 
 
-def page(found):
-    """The text of the page."""
-    lines = ["# Clauses: the index of the contracts\n\n",
-             "`docs/clauses.py` writes this page from the sources: each public call, what it may return instead of success, its clauses, and the words of "
-             "`specs/` that they name. The comment above a call says it in words; two dots: there it goes on. [PIPES](PIPES.md) has the laws of pipes in words, "
-             "[SHARDS](SHARDS.md#which-parts-give-the-same-bytes) those of parts, [PROVED](PROVED.md) what all of it comes to.\n\n"
-             "Every call returns, whatever it is given. One without an arrow has no answer for a failure: `None` is an answer, and the fault of `run` is in its outcome. Only after a `Fault`, an "
-             "`AllocError` or a `Refusal` can memory have run out. That it had cause is shown by clauses `quiet` and `memory`, and by "
-             "[tests with ample memory](tests.tsv).\n"]
-    for crate in dict.fromkeys(row[0] for row in found):
-        rows_here = [row for row in found if row[0] == crate]
-        lines.append(f"\n## {crate}\n\n")
-        for _, file, call, clauses, refusal in rows_here:
-            text = shown_clauses(clauses, MANY_OF_LAW if crate == "bt_laws" else MANY)
-            if crate == "bt_laws" and not IN_WORDS & {file.stem, file.parent.name}:
-                text = f"{sentence_of(file, call)} {text}".strip()
-            if text or refusal:
-                lines.append(f"- [`{call}`](../{file.relative_to(TOP)})" + (f" → `{refusal}`" if refusal else "") + f": {text or 'one clause'}\n")
-        plain = [f"`{call}`" for _, _, call, clauses, refusal in rows_here if not refusal and not shown_clauses(clauses) and crate != "bt_laws"]
-        if plain:
-            lines.append(f"- One clause each, or none: {', '.join(plain)}\n")
-    return "".join(lines)
+HEAD = """Each public call, what it may return instead of success, its clauses, and the words of specs/ that they name. The comment above
+a call says it in words; two dots: there it goes on. Every call returns, whatever it is given. Without an arrow it has no answer for
+a failure: `None` is an answer, and the fault of `run` is in its outcome. Only after a `Fault`, an `AllocError` or a `Refusal` can
+memory have run out. That it had cause is shown by clauses `quiet` and `memory`, and by the tests of docs/tests.tsv.
+"""
+
+
+def line_of(crate, file, call, clauses, refusal):
+    """The line of a call, or nothing if it has one clause without a name, or none."""
+    text = shown_clauses(clauses, MANY_OF_LAW if crate == "bt_laws" else MANY)
+    if crate == "bt_laws" and not IN_WORDS & {file.stem, file.parent.name}:
+        text = f"{sentence_of(file, call)} {text}".strip()
+    arrow = f" -> {refusal}" if refusal else ""
+    return f"{file.relative_to(TOP)}: {call}{arrow}: {text or 'one clause'}\n" if text or refusal else ""
+
+
+def index_of(crate, rows_here):
+    """The index of a crate."""
+    lines = [line_of(*row) for row in rows_here]
+    plain = [row[2] for row, line in zip(rows_here, lines) if not line]
+    rest = f"One clause each, or none: {', '.join(plain)}\n" if plain and crate != "bt_laws" else ""
+    others = [f"For other crates: {items}: {why}\n" for name, items, why in table(PUBLIC) if name == crate]
+    return f"\n{crate}\n\n{''.join(lines)}{rest}{''.join(others)}"
+
+
+def not_public(found):
+    """How many rows of public.tsv name something that their crate doesn't export."""
+    calls = {(crate, call) for crate, _, call, _, _ in found}
+    wrong = [f"public.tsv: {crate} has no public {item}" for crate, items, _ in table(PUBLIC) for item in items.split(", ")
+             if (crate, item) not in calls and ("::" in item or item not in exported(crate))]
+    for line in wrong:
+        print(line)
+    return len(wrong)
 
 
 def tests_differ(found):
     """How many calls that may run out of memory have no row in tests.tsv, and how many of its rows aren't so."""
-    named = table()
+    named = table(TESTS)
     calls = {(crate, call) for crate, _, call, _, refusal in found if refusal in MEMORY and crate != "bedtools"}
     wrong = [f"tests.tsv: no row for {crate}'s {call}" for crate, call in sorted(calls - {(row[0], row[1]) for row in named})]
     for crate, call, tests in named:
@@ -210,23 +222,23 @@ def tests_differ(found):
     return len(wrong)
 
 
-def table():
-    """The rows of tests.tsv: the crate, the call, and its tests, those of another crate after its name."""
-    return [line.split("\t") for line in TESTS.read_text(encoding="utf-8").splitlines()[1:]]
+def table(file):
+    """The rows of a file. Of tests.tsv: the crate, the call, and its tests, those of another crate after its name."""
+    return [line.split("\t") for line in file.read_text(encoding="utf-8").splitlines()[1:]]
 
 
 def main():
-    found = list(rows())
-    text = page(found)
-    wrong = tests_differ(found)
-    is_same = PAGE.exists() and PAGE.read_text(encoding="utf-8") == text
-    if not is_same and "--write" in sys.argv[1:]:
-        PAGE.write_text(text, encoding="utf-8")
-    elif not is_same:
-        wrong += 1
-        print("docs/CLAUSES.md isn't that of the sources: docs/clauses.py --write")
-    print(f"{len(found)} calls with {sum(len(row[3]) for row in found)} clauses, {wrong} problems")
-    return 1 if wrong else 0
+    found, chosen = list(rows()), [word for word in sys.argv[1:] if word != "--check"]
+    unknown = [f"no crate {name}" for name in chosen if name not in crates()]
+    if "--check" in sys.argv[1:]:
+        wrong = tests_differ(found) + not_public(found)
+        print(f"{len(found)} calls with {sum(len(row[3]) for row in found)} clauses, {wrong} problems")
+        return 1 if wrong else 0
+    if unknown:
+        print(*unknown, sep="\n")
+        return 1
+    print(HEAD, *(index_of(crate, [row for row in found if row[0] == crate]) for crate in crates() if not chosen or crate in chosen), sep="", end="")
+    return 0
 
 
 if __name__ == "__main__":

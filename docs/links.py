@@ -1,9 +1,13 @@
 #!/usr/bin/env python3
-"""Checks that each link of the pages leads to a file, and to a heading of it where it names one, that what is said
-to be in a file of definitions is and each such file exists, that the paths in code spans of ARCHITECTURE.md, PROVED.md
-and the crates' pages exist, that the pages that name a version name the same one, that PROVED.md says how many files
-define the report, that ARCHITECTURE.md lists them, and the modules of each crate, that the report names each
-definition of the model, and that no page says what another contradicts: the phrases of UNTRUE, and the limit of a sentence.
+"""Checks what the pages say of the repository:
+
+- each link leads to a file, and to a heading of it where it names one
+- what is said to be in a file of definitions or of code is there; names of several words in code spans exist, and so do
+  the paths in those of ARCHITECTURE.md, PROVED.md and the crates' pages
+- the pages that name a version name the same one
+- PROVED.md says how many files define the report; ARCHITECTURE.md lists them, and the modules of each crate; the report
+  names each definition of the model
+- no page says what another contradicts: the phrases of UNTRUE, the numbers of SAME, the limit of a sentence
 
     docs/links.py [--write]
 
@@ -23,6 +27,10 @@ LINK = re.compile(r"\[[^\]]*\]\(([^)\s]+)\)")
 CODE = re.compile(r"`[^`]*`")
 # Definitions that stand in a file: their names, and the link to it.
 CITED = re.compile(r"((?:`\w+`(?:, | and ))*`\w+`) (?:in|of) \[[\w/]+\.antt\]\(([^)\s#]+)\)")
+# Functions that are in a file of code: the name, before the link to the file or as its text.
+CALLED = re.compile(r"`(\w+)` in \[[\w/.]+\]\(([^)\s#]+\.rt)\)|\[`(\w+)`\]\(([^)\s#]+\.rt)\)")
+# Names of several words in code spans, and those that are of a library.
+NAMES, THEIRS = re.compile(r"`([a-z][a-z0-9]*(?:_[a-z0-9]+)+)`"), {"find_byte", "get_mut"}
 
 # Files of definitions that are named by their crate, as those of a question are in ARCHITECTURE.md.
 FILES = re.compile(r"(?:`(bt_\w+)/specs/|\[(bt_\w+)/specs/[\w/]+\.antt\]\([^)]*\), `)([A-Z]\w*`(?:,(?: [a-z ]+)? `[A-Z]\w*`)*)")
@@ -51,8 +59,25 @@ UNTRUE = {
     r"Default: both": "without -S and -strand features without a strand count too",
     r"tail -f`?, is used line by line": "its output comes 8,192 bytes at a time",
     r"merge -g`?[^.\n]*since bedtools refuses": "bedtools 2.30.0 takes merge -g",
+    r"commented-out chromosome[^.|\n]*refused": "bedtools takes such a line for a chromosome",
+    r"[Ee]ach (?:claim )?is proved": "the last of the ten claims is tested",
+    r"(?<=\| )`no memory`[^\n]*none \|": "memory may run out in the middle",
 }
 WHERE = [*PAGES, *sorted(TOP.glob("man/*.1")), *sorted(TOP.glob("front/*")), TOP / "packaging" / "control"]
+# Numbers that several files say, each with what it is. Each of them may be said only once in a file.
+SAME = {
+    "how much of a stream is copied": {
+        "front/*.sh": r"DUNEKETTLE_ROOM:-(\d+)", "docs/MIGRATING.md": r"DUNEKETTLE_ROOM=BYTES`[^\n]*?: ([\d,]+)",
+        "man/dunekettle.1": r"copies to look at it: (\d+)"},
+    "which inputs are small": {
+        "front/*.sh": r"DUNEKETTLE_SMALL:-(\d+)", "docs/MIGRATING.md": r"DUNEKETTLE_SMALL=BYTES`[^\n]*?: ([\d,]+)",
+        "man/dunekettle.1": r"without a look: (\d+)"},
+    "how long many reads that overlap took": {
+        "CHANGELOG.md": r"on 30,000 bases took (\S+ s), and take (\S+ s)", "bench/HISTORY.md": r"on 30,000 bases\* (\S+ s) to (\S+ s)"},
+    "how many bytes wait to be written": {
+        "docs/COMMANDS.md": r"Ready lines are written ([\d,]+) bytes", "docs/PROVED.md": r"At most ([\d,]+) bytes of settled",
+        "man/bedtools.1": r"([\d,]+) bytes at a time", "crates/bt_lines/src/reader/read_buffer.rt": r"BLOCK: usize = (\d+)"},
+}
 # The limit of a sentence: where CONTRIBUTING.md says it, and where prose.py has it.
 LIMIT, LIMITED = r"At most (\d+) words a sentence", r"^PARAGRAPH, SENTENCE, CELL = \d+, (\d+),"
 
@@ -113,7 +138,7 @@ def stands_in(name, file):
 
 
 def misplaced():
-    """The definitions that a page says to stand in a file that lacks them, each with the page, its line and the file."""
+    """The definitions and functions that a page says to be in a file that lacks them, each with the page, its line and the file."""
     for page in PAGES:
         for number, line in enumerate(page.read_text(encoding="utf-8").splitlines(), 1):
             for names, target in CITED.findall(line):
@@ -121,6 +146,20 @@ def misplaced():
                 for name in re.findall(r"`(\w+)`", names):
                     if file.exists() and not stands_in(name, file):
                         yield page, number, name, file
+            for found in CALLED.findall(line):
+                name, target = found[:2] if found[0] else found[2:]
+                file = (page.parent / target).resolve()
+                if file.exists() and not re.search(rf"\bfn {name}\b", file.read_text(encoding="utf-8")):
+                    yield page, number, name, file
+
+
+def unknown_names():
+    """The names that a page says and nothing in code, definitions or the drop-in has, each with the page and its line."""
+    files = [file for pattern in ("crates/*/src/**/*.rt", "crates/*/specs/**/*.antt", "front/*") for file in TOP.glob(pattern)]
+    known = set(WORD.findall("".join(file.read_text(encoding="utf-8") for file in files))) | {file.stem for file in files} | THEIRS
+    for page in PAGES:
+        for number, line in enumerate(page.read_text(encoding="utf-8").splitlines(), 1):
+            yield from ((page, number, name) for name in NAMES.findall(line) if name not in known)
 
 
 def missing():
@@ -288,6 +327,20 @@ def definitions_differ(is_written):
     return said or listed
 
 
+def said_in(pattern, name):
+    """What the files of a name say of a number, each number without commas."""
+    text = "".join(file.read_text(encoding="utf-8") for file in sorted(TOP.glob(name)))
+    return [tuple(part.replace(",", "").rstrip(".") for part in found.groups()) for found in re.finditer(pattern, text)]
+
+
+def unequal():
+    """The numbers that one file says otherwise than another, or not at all."""
+    for what, places in SAME.items():
+        said = {name: said_in(pattern, name) for name, pattern in places.items()}
+        if len({tuple(numbers) for numbers in said.values()}) > 1 or not all(said.values()):
+            yield f"{what}: " + ", ".join(f"{name} says {numbers}" for name, numbers in said.items())
+
+
 def untrue():
     """The phrases that contradict what another page says, and a limit that isn't the one of prose.py."""
     for file in WHERE:
@@ -308,10 +361,10 @@ def main():
     elsewhere = list(misplaced())
     for page, number, name, file in elsewhere:
         print(f"{page.relative_to(TOP)}:{number}: {name} doesn't stand in {file.relative_to(TOP)}")
-    absent = [*missing(), *lost_paths()]
+    absent = [*missing(), *lost_paths(), *unknown_names()]
     for page, number, name in absent:
         print(f"{page.relative_to(TOP)}:{number}: {name} isn't there")
-    outside = [*strays(), *unnamed(), *other_modules(), *untrue()]
+    outside = [*strays(), *unnamed(), *other_modules(), *untrue(), *unequal()]
     for line in outside:
         print(line)
     found = versions()

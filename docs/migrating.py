@@ -54,11 +54,11 @@ def options_of(command):
 
 def differences_of(command):
     """The table of a command's differences, the silent ones first. What Dunekettle takes with the drop-in has a star."""
-    lines = ["| difference | bedtools 2.30.0 | Dunekettle | kind | what to do |\n|---|---|---|---|---|\n"]
+    lines = ["| difference | bedtools 2.30.0 | Dunekettle | kind: what to do |\n|---|---|---|---|\n"]
     rows = [row for row in differences() if row[0] == command]
     for _, name, theirs, ours, kind, taker, text in sorted(rows, key=lambda row: KINDS.index(row[4])):
         star = {"bedtools": "", "Dunekettle": " \\*", "either": " (\\*)"}[taker]
-        lines.append(f"| {name} | {theirs} | {ours} | {kind}{star} | {text} |\n".replace("|  |", "| |"))
+        lines.append(f"| {name} | {theirs} | {ours} | {kind}{star}{': ' if text else ''}{text} |\n")
     return "".join(lines)
 
 

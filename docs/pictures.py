@@ -100,7 +100,7 @@ def draw_crates():
     for name, (centre, top) in place.items():
         parts += box(centre - width / 2, top, width, [name, NOTES[name]])
     top = 20 + step * len(layers)
-    parts.append(f'<text class="note" x="{middle}" y="{top}" text-anchor="middle">An arrow leads to the nearest crates below: those that no other arrow reaches.</text>')
+    parts.append(f'<text class="note" x="{middle}" y="{top}" text-anchor="middle">Arrows lead to the nearest crates below. A crate may use those below them too.</text>')
     return picture(2 * middle, top + 14, parts)
 
 
@@ -117,7 +117,7 @@ def draw_run():
     parts += box(300, 135, 120, ["readers", "lines, then records"], "proved", 154)
     parts += box(450, 135, 90, ["engine", "or sweep"], "proved", 154)
     parts += box(570, 190, 80, ["Out", "one block"], "proved")
-    parts += box(510, 45, 140, ["outcome", "fault line, status"], "proved")
+    parts += box(510, 45, 140, ["outcome", "message, status"], "proved")
     parts += box(680, 45, 70, ["print"], "tested")
     parts += box(680, 190, 70, ["write"], "tested")
     parts += box(780, 45, 130, ["standard error", "and exit status"])
@@ -126,8 +126,8 @@ def draw_run():
               edge((360, 89), (360, 134)), edge((420, 212), (449, 212)), edge((540, 212), (569, 212)), edge((650, 212), (679, 212)), edge((750, 212), (779, 212)),
               edge((495, 134), (495, 110), (560, 110), (560, 90)), edge((650, 67), (679, 67)), edge((750, 67), (779, 67)),
               '<text class="note" x="368" y="116">run</text>', '<text class="note" x="570" y="122">how it ended</text>',
-              '<text class="note" x="460" y="314" text-anchor="middle">If nothing fails, what run writes and reports is the report: what the complete texts give, as a definition.</text>',
-              '<text class="note" x="460" y="330" text-anchor="middle">If a device fails, what was written begins it.</text>']
+              '<text class="note" x="460" y="314" text-anchor="middle">If nothing fails, output, message and status are those of a written definition.</text>',
+              '<text class="note" x="460" y="330" text-anchor="middle">If a read, a write or memory fails, what was written begins the right output.</text>']
     return picture(930, 342, parts)
 
 

@@ -5,8 +5,9 @@
     docs/prose.py --write          stores the counts that have fallen, and those of new pages
 
 Counted are paragraphs over 80 words, sentences over 22, cells of tables over 25, words of this project's dialect (with
-a plainer one for each), words of proofs outside the pages on proofs, several terms for one thing, and, in pages that
-describe today, words that tell history. The pages are the Markdown files of the repository and the manual pages that
+a plainer one for each), words of proofs outside of PROVED and ARCHITECTURE, several terms for one thing, in pages that
+describe today words that tell history, and marks: sentences with two semicolons, with several parentheses, or with one
+of over six words, unless a script wrote them. The pages are the Markdown files of the repository and the manual pages that
 are written by hand. Headings and blocks of code aren't counted, and a piece of code in a sentence is one word. So
 counted, all pages together have at most MOST words, without the tables of what was measured, which scripts write.
 Ends with 1 if a count has risen, a page has no row, a row has no page, or the words are too many.
@@ -19,13 +20,14 @@ from pathlib import Path
 TOP = Path(__file__).resolve().parent.parent
 STORED = TOP / "docs" / "prose.txt"
 PAGES = ("*.md", "docs/*.md", "bench/*.md", "packaging/*.md", "crates/*/README.md", "man/bedtools.1", "man/dunekettle.1")
-# Made by a script of the sources.
-MADE = ("docs/CLAUSES.md",)
-COUNTS = ("paragraphs", "sentences", "cells", "dialect", "history", "proofs", "terms")
+COUNTS = ("paragraphs", "sentences", "cells", "dialect", "history", "proofs", "terms", "marks")
 PARAGRAPH, SENTENCE, CELL = 80, 22, 25
-MOST = 26_000
+ASIDE = 6
+MOST = 25_200
 # The tables of the bench and of the drop-in, with the lines around them.
 MEASURED = re.compile(r"<!-- (?:bench/results.py --write|a script writes): \w+ -->\n.*?<!-- it ends here -->", re.DOTALL)
+# All that scripts write.
+WRITTEN = re.compile(r"<!-- (?:[\w/]+.py --write|a script writes): \w+ -->\n.*?<!-- it ends here -->", re.DOTALL)
 # So many lines has the front page at most.
 FRONT, LINES = "README.md", 100
 # Pages whose subject is what changed.
@@ -65,7 +67,7 @@ DIALECT = {
     r"\bFor you who\b": "(the answer)",
     r"\bas they have to be\b": "as required",
 }
-# Words of proofs, each with a plainer one: for the pages on proofs, and on the code that is proved.
+# Words of proofs, each with a plainer one: for the pages on proofs and on the code that is proved.
 PROOFS = {
     r"\bfaults?\b|\bfaultless\b": "error",
     r"\b(?:un)?settled?s?\b": "final, that can't change",
@@ -74,7 +76,7 @@ PROOFS = {
     r"\bmembers?\b": "record, alignment, line",
     r"\bshapes?\b": "option, kind of output",
 }
-ON_PROOFS = ("docs/PROVED.md", "docs/ARCHITECTURE.md", "docs/DECISIONS.md", "docs/LIBRARY.md", "docs/CONTRIBUTING.md", "bench/HISTORY.md", "crates/")
+ON_PROOFS = ("docs/PROVED.md", "docs/ARCHITECTURE.md")
 # Of several terms for one thing those that aren't the one: a feature of -b that is in memory is kept.
 TERMS = {r"\bheld\b": "kept", r"\b(?:is|are|still|were) open\b|\bopen (?:feature|record)s?\b": "kept, not finished"}
 HISTORY = re.compile(r"earlier version|version of today|of today\b|another hour|one hour|[Aa]nd last|[Uu]ntil now|no longer"
@@ -83,13 +85,14 @@ LINK = re.compile(r"\[([^\]]*)\]\([^)]*\)")
 # A line that begins a paragraph of its own, and the end of a sentence.
 BEGINS = re.compile(r"(?:[-*] |\d+\. |\||> )")
 SENTENCE_END = re.compile(r"(?<=[.!?])\s+")
+# The end of a sentence in a cell, or of one of several items.
+ITEM_END = re.compile(r"(?<=[.!?;])\s+")
 CELL_END = re.compile(r"(?<!\\)\|")
 
 
 def pages():
     """The pages by their names."""
-    found = {str(path.relative_to(TOP)): path for pattern in PAGES for path in sorted(TOP.glob(pattern))}
-    return {name: path for name, path in found.items() if name not in MADE}
+    return {str(path.relative_to(TOP)): path for pattern in PAGES for path in sorted(TOP.glob(pattern))}
 
 
 def plain(text):
@@ -113,20 +116,32 @@ def paragraphs(text):
         yield begun
 
 
+def has_marks(sentence):
+    """Whether a sentence has two semicolons, several parentheses, or a long one."""
+    asides = re.findall(r"\(([^)]*)\)", sentence)
+    return sentence.count(";") > 1 or len(asides) > 1 or any(len(aside.split()) > ASIDE for aside in asides)
+
+
 def found_in(path):
     """What is counted in a page: the kind, the line and what it is."""
-    for number, text in paragraphs(path.read_text(encoding="utf-8")):
+    whole = path.read_text(encoding="utf-8")
+    by_script = {number for part in WRITTEN.finditer(whole) for number in range(whole.count("\n", 0, part.start()), whole.count("\n", 0, part.end()) + 2)}
+    for number, text in paragraphs(whole):
         words = plain(text)
         if text.startswith("|"):
             for cell in CELL_END.split(LINK.sub(r"\1", text)):
                 if len(cell.split()) > CELL:
                     yield "cells", number, f"a cell of {len(cell.split())} words"
+                if any(len(item.split()) > SENTENCE for item in ITEM_END.split(plain(cell))):
+                    yield "sentences", number, f"a long item: {cell.strip()[:50]}.."
         else:
             if len(words.split()) > PARAGRAPH:
                 yield "paragraphs", number, f"a paragraph of {len(words.split())} words"
             for sentence in SENTENCE_END.split(words):
                 if len(sentence.split()) > SENTENCE:
                     yield "sentences", number, f"a sentence of {len(sentence.split())} words: {sentence[:50]}.."
+                if has_marks(sentence) and number not in by_script:
+                    yield "marks", number, f"semicolons or parentheses: {sentence[:50]}.."
         for word, better in DIALECT.items():
             for match in re.finditer(word, words):
                 yield "dialect", number, f"{match[0]!r}: {better}"

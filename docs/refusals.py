@@ -2,6 +2,7 @@
 """Refuses each growth of memory of the program in bin/ in turn, and lets each read and each write fail.
 
     docs/refusals.py
+    docs/refusals.py --tests CRATE ..
 
 Each command line below is run again and again: first its first growth is refused, then its second, until a run meets
 no refusal; and so once more, where all growths behind the refused one are refused too. Each refused run has to end
@@ -14,9 +15,15 @@ to be the same.
 Then reading fails at each line of each input and at its end, and writing behind each number of bytes: a run has to
 report that with its line, to write a prefix of the whole output (of just so many bytes where writing fails), and not to
 try the call again. Needs gcc. Ends with 1 where something else comes of it.
+
+With --tests it refuses each growth in the tests of these crates whose names begin with `refused_growth`, by `rt try`, which
+builds them anew for each growth: also those of a sink that keeps what it takes (bt_lines). A test has to end with the
+error of the refused growth, and with no other.
 """
 
+import argparse
 import os
+import re
 import resource
 import shutil
 import subprocess
@@ -237,7 +244,38 @@ def refuse_all(library):
     return [sum(column) for column in zip(*counts)]
 
 
+def refuse_in_tests(crate):
+    """Refuses each growth in the tests of a crate in turn. Answers how many were refused, and how many went wrong."""
+    wrong = 0
+    for at in range(1, MOST):
+        words = ["rt", "try", "--test", "--fail-alloc", str(at), "--", "refused_growth"]
+        ran = subprocess.run(words, cwd=HERE.parent / "crates" / crate, capture_output=True, text=True, check=False)
+        said = ran.stdout + ran.stderr
+        failed, refused = len(re.findall(r"^test .* FAILED$", said, re.M)), said.count("error: AllocError")
+        if ran.returncode == 0 and re.search(r"^test result: ok\. [1-9]", said, re.M):
+            return at - 1, wrong
+        if (failed, refused) != (1, 1):
+            print(f"{crate}: growth {at} is refused:\n{said[-1000:]}")
+            wrong += 1
+            if not failed:
+                break
+    return at, wrong
+
+
+def in_tests(crates):
+    """Refuses the growths in the tests of these crates. Answers the exit status."""
+    counts = [refuse_in_tests(crate) for crate in crates]
+    refused, wrong = (sum(column) for column in zip(*counts))
+    print(f"{refused} growths of memory refused in the tests of {len(crates)} crates, {wrong} went wrong")
+    return 1 if wrong else 0
+
+
 def main():
+    parser = argparse.ArgumentParser(description="Refuses growths of memory, reads and writes.")
+    parser.add_argument("--tests", nargs="+", metavar="CRATE")
+    asked = parser.parse_args()
+    if asked.tests:
+        return in_tests(asked.tests)
     if not shutil.which("gcc"):
         print("gcc isn't on PATH: no growths of memory are refused")
         return 0

@@ -75,13 +75,13 @@ pub fn alignments()
 {}
 
 /// How far the second input is read, also if its next line is at fault: up to the first record at the end of all records of
-/// the first or after it, and if there is none, all of it.
+/// the first or after it. If there is none, it is read up to the line at fault, or all of it.
 pub fn reaches()
     ensures decided { Reaches (codes "c\t0\t10\n") (codes "c\t2\t4\nc\t50\t60\nc\t70\t80\n") 14 }
     ensures at_its_end { Reaches (codes "c\t0\t10\n") (codes "c\t2\t4\nc\t9\t60\nc\t10\t80\nc\t90\t91\n") 21 }
     ensures before_a_fault { Reaches (codes "c\t0\t10\n") (codes "c\t2\t4\nc\t50\t60\nc\tx\t9\n") 14 }
     ensures up_to_a_fault { Reaches (codes "c\t0\t10\nc\t70\t80\n") (codes "c\t2\t4\nc\t50\t60\nc\tx\t9\n") 20 }
-    ensures fault_is_next { Reaches (codes "c\t0\t10\n") (codes "c\tx\t9\nc\t50\t60\n") 14 }
+    ensures fault_is_next { Reaches (codes "c\t0\t10\n") (codes "c\tx\t9\nc\t50\t60\n") 6 }
     ensures next_of_the_first_at_fault { Reaches (codes "c\t0\t10\nc\tx\t90\n") (codes "c\t50\t60\nc\t70\t80\n") 8 }
     ensures later_chromosome { Reaches (codes "c\t0\t10\n") (codes "d\t2\t4\nd\t50\t60\n") 6 }
     ensures comment_before { Reaches (codes "c\t0\t10\n") (codes "#x\nc\t50\t60\nc\t70\t80\n") 11 }

@@ -1,6 +1,6 @@
 //! The example of the crate's first page.
 
-use crate::{Merge, MergeStrand};
+use crate::{Engine, Merge, MergeStrand};
 use bt_bed::parse_bed;
 use bt_lines::{Out, ScriptSink};
 use std::test::Fail;

@@ -278,13 +278,15 @@ module _ {S : Type 0} where
   unfoldable pub line_room : LineReader S → ℕ
   line_room reader = vec_capacity reader.buffer.spilled
 
-  -- memory runs out for the first time only if the bytes of the line so far, those that were held and those
-  -- of this call, fill that room. A reader that has held no line longer than a block has no room yet: of it
-  -- this says nothing.
+  -- the bytes of the line so far, those that were held and those of this call, are at least `count`
+  abbrev pub HasLongLine : ℕ → LineReader S → LineReader S → Type 0
+  HasLongLine count old new = count + bytes_taken old ≤ length (held old) + bytes_taken new
+
+  -- memory runs out for the first time only if the line so far fills the block, and the room of earlier long lines
   abbrev pub FillsItsRoom : {A : Type 0} → LineReader S → Result A Fault → LineReader S → Type 0
   FillsItsRoom old (Ok done) new = ⊤
   FillsItsRoom old (Err fault) new = fault_kept old ≡ None → fault_value fault ≡ no_memory
-      → line_room old + bytes_taken old ≤ length (held old) + bytes_taken new
+      → HasLongLine block_size old new × HasLongLine (line_room old) old new
 
   -- one call of `next`
   pub record NextLine (device : Source S) (old : LineReader S) (answer : Result (Option Line) Fault)

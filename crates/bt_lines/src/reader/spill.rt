@@ -41,7 +41,7 @@ pub(crate) enum More {
 }
 
 // Makes at least one line buffered, or the end, if none is. It counts all bytes that it takes. Memory runs out only if the
-// bytes of the line so far fill the room that the vector had.
+// bytes of the line so far fill the block and the room that the vector had.
 #[tactic(auto, using(crate::proofs::lemmas::reader::block::ReadsLemmas::counts_then, crate::proofs::lemmas::reader::block::BufferLemmas::more_read, crate::proofs::lemmas::reader::block::BufferLemmas::not_full, crate::proofs::lemmas::reader::block::BufferLemmas::unread_fits))]
 pub(crate) fn read_lines<S: Source>(
     source: &mut S,
@@ -53,6 +53,7 @@ pub(crate) fn read_lines<S: Source>(
     ensures buffers { Buffers S.Source source.old (unread buffer.old) taken.old result
         source.new (complete buffer.new) (unread buffer.new) taken.new }
     ensures counted { AreCounted S.is_read result source.old taken.old source.new taken.new }
+    ensures full { result ≡ Stop.NoMemory → block_size + taken.old ≤ length (unread buffer.old) + taken.new }
     ensures memory { result ≡ Stop.NoMemory → vec_capacity buffer.old.spilled + taken.old ≤ length (unread buffer.old) + taken.new }
 {
     while !buffer.find_lines() {
@@ -78,10 +79,11 @@ fn read_long<S: Source>(source: &mut S, buffer: &mut ReadBuffer, taken: &mut u64
     requires counted { taken.old < 2 ^ 63 }
     requires none { complete buffer.old ≡ [] }
     requires clear { NoLineFeed (unread buffer.old) }
-    requires some { 0 < length (unread buffer.old) }
+    requires full { block_size ≤ length (unread buffer.old) }
     ensures buffers { Buffers S.Source source.old (unread buffer.old) taken.old result
         source.new (complete buffer.new) (unread buffer.new) taken.new }
     ensures counted { AreCounted S.is_read result source.old taken.old source.new taken.new }
+    ensures full { result ≡ Stop.NoMemory → block_size + taken.old ≤ length (unread buffer.old) + taken.new }
     ensures memory { result ≡ Stop.NoMemory → vec_capacity buffer.old.spilled + taken.old ≤ length (unread buffer.old) + taken.new }
 {
     buffer.begin_spill();

@@ -39,11 +39,6 @@ module _ {E A : Type 0} {engine : EngineDef E} {old : E} {r : Feature} {out : Ou
       → MatchResult result (λ done. ⊥) (λ answer. fault_value answer ≡ before) × ((new ≡ old) × (grown ≡ out))
   feeds_again result fed before p1 = grind arith
 
-  -- an engine that wants no memory fails only if a write fails
-  pub only_writes : (result : Result A Fault) → (engine.wants old r → ⊥) → engine.fault old ≡ None → Feeds engine old r out result new grown → IsWanted engine old r result
-      → IfErr result (λ answer. fault_value answer ≡ write_failed)
-  only_writes result none going fed wanted = grind arith
-
 module _ {E A : Type 0} {engine : EngineDef E} {last : E} {out grown : Output} where
   pub finishes_left : (result : Result A Fault) → Finishes engine last out result grown → WritesLeft engine last out result grown
   finishes_left result ends = grind arith

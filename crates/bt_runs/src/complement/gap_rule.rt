@@ -5,7 +5,7 @@ ghost use Rattle.std.specs.Prelude.{◌≡◌, ◌≤◌, [], flat_map, length, 
 ghost use Rattle.bt_lines.specs.calls.Output.{Adds};
 ghost use Rattle.bt_bed.specs.calls.GenomeTable.{entries};
 ghost use Rattle.bt_bed.specs.model.BedLine.{interval_lines};
-ghost use Rattle.bt_runs.specs.calls.Complementing.{IsAfter};
+ghost use Rattle.bt_runs.specs.calls.Complementing.{IsAfter, kept_in};
 ghost use Rattle.bt_runs.specs.inside.GapRule.{complement_at, gap_rule, seen};
 ghost use Rattle.bt_runs.specs.inside.Walk.{left_before};
 ghost use Rattle.bt_runs.specs.inside.GapStep.{bare_gap, last_gap};
@@ -21,7 +21,7 @@ use std::marker::Model;
 pub(crate) struct GapRule<'g> {
     // Whether chromosomes without a record are left out.
     limit: bool,
-    pub(crate) cursor: GapCursor<'g>,
+    cursor: GapCursor<'g>,
 }
 
 impl<'g> Model for GapRule<'g> {
@@ -48,6 +48,21 @@ impl<'g> GapRule<'g> {
             end: 0,
         };
         GapRule { limit, cursor }
+    }
+
+    // How many places are kept: 0 or 1. Each field is named: with one more, in which a list could be kept, this wouldn't compile.
+    pub(crate) fn kept_len(&self) -> usize
+        ensures { result ≡ length (kept_in self.now) }
+    {
+        let GapRule { limit: _, cursor } = self;
+        let GapCursor {
+            genome: _,
+            rank,
+            name: _,
+            length: _,
+            end: _,
+        } = cursor;
+        usize::from(rank.is_some())
     }
 }
 

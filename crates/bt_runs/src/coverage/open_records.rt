@@ -61,8 +61,9 @@ impl OpenRecords {
         let OpenRecords {
             at: _,
             ends,
-            counted: _,
+            counted,
         } = self;
+        let CountedSpans {} = counted;
         ends.len()
     }
 

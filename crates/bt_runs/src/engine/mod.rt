@@ -3,8 +3,11 @@
 pub(crate) mod failure;
 pub(crate) mod rule;
 
+ghost use Rattle.std.specs.Prelude.{◌≡◌, true, Some};
+ghost use Rattle.bt_lines.specs.model.Fault.{FaultValue};
+ghost use Rattle.bt_lines.specs.calls.Output.{Grows};
 ghost use Rattle.bt_bed.specs.calls.Bed.{feature_lent};
-ghost use Rattle.bt_runs.specs.calls.Engine.{EngineDef, Feeds, FeedsBatch, Finishes, IsWanted, KeepsHeld};
+ghost use Rattle.bt_runs.specs.calls.Engine.{AnswersAgain, EngineDef, Feeds, FeedsBatch, Finishes, IsFaultless, IsWanted, KeepsFault, KeepsHeld, TakesQuiet, WritesFirst, WritesLeft, WritesLeftPrefix, WritesPrefix, WritesSettled};
 
 use bt_bed::{BedRef, Cursor, Single};
 use bt_lines::{Fault, Out, Sink};
@@ -26,10 +29,22 @@ pub trait Engine {
     ) -> Result<(), Fault>
         ensures { FeedsBatch definition C.Cursor self.old records.old out.old.output result self.new records.new out.new.output };
 
-    /// Takes the next record, and writes the lines that it settles. It fails as [`Engine::feed_batch`] does.
+    /// Takes the next record, and writes the lines that it settles. It fails as [`Engine::feed_batch`] does, with
+    /// `NoMemory` only if the engine's type says that this record may need memory.
     fn feed<K: Sink>(&mut self, bed: &BedRef<'_>, out: &mut Out<K>) -> Result<(), Fault>
         ensures feeds { Feeds definition self.old (feature_lent bed.now) out.old.output result self.new out.new.output }
+        ensures going { IsFaultless definition self.old }
+        ensures written { WritesSettled definition self.old (feature_lent bed.now) out.old.output result self.new out.new.output }
+        ensures fault { KeepsFault definition result self.new }
+        ensures prefix { WritesPrefix definition self.old (feature_lent bed.now) out.old.output result self.new out.new.output }
+        ensures ran_out { WritesFirst definition self.old (feature_lent bed.now) out.old.output result self.new out.new.output }
         ensures memory { IsWanted definition self.old (feature_lent bed.now) result }
+        ensures again { AnswersAgain definition self.old result }
+        ensures stays { (before : FaultValue) → definition.fault self.old ≡ Some before
+            → (self.new ≡ self.old) × (out.new.output ≡ out.old.output) }
+        ensures quiet { TakesQuiet definition self.old (feature_lent bed.now) out.old.output result out.new.output }
+        ensures grows { Grows out.old.output.took out.new.output.took }
+        ensures after_failure { out.old.output.has_failed ≡ true → out.new.output ≡ out.old.output }
     {
         // No engine reads the line number.
         let mut one = Single::new(*bed, 0);
@@ -39,7 +54,14 @@ pub trait Engine {
     /// Writes the lines that are still unsettled, after the last record. It fails with `WriteFailed`
     /// if they can't be written, and with the fault that was returned before, if one was.
     fn finish<K: Sink>(self, out: &mut Out<K>) -> Result<(), Fault>
-        ensures { Finishes definition self out.old.output result out.new.output };
+        ensures finishes { Finishes definition self out.old.output result out.new.output }
+        ensures going { IsFaultless definition self }
+        ensures written { WritesLeft definition self out.old.output result out.new.output }
+        ensures prefix { WritesLeftPrefix definition self out.old.output result out.new.output }
+        ensures again { AnswersAgain definition self result }
+        ensures stays { (before : FaultValue) → definition.fault self ≡ Some before → out.new.output ≡ out.old.output }
+        ensures grows { Grows out.old.output.took out.new.output.took }
+        ensures after_failure { out.old.output.has_failed ≡ true → out.new.output ≡ out.old.output };
 
     /// How many items it keeps.
     fn kept_len(&self) -> usize

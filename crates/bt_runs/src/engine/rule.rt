@@ -52,7 +52,7 @@ pub(crate) trait Rule {
 // A rule, and the failure that ended it, if there was one.
 #[derive(Drop, Debug)]
 pub(crate) struct Ruled<E> {
-    pub(crate) rule: E,
+    rule: E,
     // It is returned from then on.
     failure: Option<Failure>,
 }
@@ -68,6 +68,14 @@ impl<E: Rule + Drop> Ruled<E> {
             rule,
             failure: None,
         }
+    }
+
+    // The rule. Each field is named: with one more, in which a list could be kept, this wouldn't compile.
+    pub(crate) fn rule(&self) -> &E
+        ensures { result.now ≡ self.now.rule }
+    {
+        let Ruled { rule, failure: _ } = self;
+        rule
     }
 
     // Takes the records that a cursor gives, unless it has failed. It is out of line, so that the hot loop stays small.

@@ -1,7 +1,7 @@
-//! The calls of each engine as a caller has them that names the engine's type alone.
+//! The calls of each engine as a caller has them that names the engine's type.
 
 use crate::tests::testing::{expect_put, genome, holds, output};
-use crate::{Complement, Coverage, Merge, MergeStrand};
+use crate::{Complement, Coverage, Engine, Merge, MergeStrand};
 use bt_bed::parse_bed;
 use std::test::Fail;
 

@@ -24,7 +24,7 @@ use Rattle.bt_seq.specs.declared.mask.mask_want.MaskWant.TheVariants.{Line as Wa
 use Rattle.bt_sweep.specs.declared.sweep.want.Want.{Want}
 use Rattle.bt_sweep.specs.declared.sweep.want.Want.TheVariants.{A as WantA, B as WantB, Nothing as WantNothing}
 use Rattle.bt_tool.specs.declared.loops.masking.MaskRun.{MaskRun}
-use Rattle.bt_tool.specs.model.Written.{IsOneOf, bytes_up_to, is_fasta_kind, is_mask_kind, last_needed}
+use Rattle.bt_tool.specs.model.Written.{IsOneOf, is_fasta_kind, is_mask_kind, lines_need}
 use Rattle.bt_tool.specs.inside.Pair.{Comes, JoinDef, Pair, PairStage, item_ahead, HaveRead, IsOverWith}
 use Rattle.bt_tool.specs.inside.Rounds.{IsBuffered, TwoInputDef}
 use Rattle.bt_tool.specs.inside.Feed.{lines_read}
@@ -51,7 +51,7 @@ mask_join how = record {
   Fits = λ lines members. ⊤;
   -- the first record without a sequence
   last = λ lines members. no_sequence (names_of lines) members;
-  reaches = λ lines members text. bytes_up_to text (last_needed lines [] members);
+  reaches = lines_need;
   -- if records were taken, they leave one of the lines given undecided
   Asks = λ lines records. (records ≡ []) ⊎ IsTrue (leaves_some lines records);
   InOrder = AreInBlocks;

@@ -27,7 +27,7 @@ use Rattle.bt_sweep.specs.calls.SweepView.{order_of as sweep_order, state_of}
 use Rattle.bt_sweep.specs.declared.sweep.want.Want.{Want}
 use Rattle.bt_tool.specs.declared.loops.sweeping.SweepConfig.{SweepConfig}
 use Rattle.bt_tool.specs.declared.loops.sweeping.SweepRun.{SweepRun}
-use Rattle.bt_tool.specs.model.Written.{IsSweptKind, bytes_up_to, decider}
+use Rattle.bt_tool.specs.model.Written.{IsSweptKind, records_need}
 use Rattle.bt_tool.specs.inside.Pair.{Comes, IsKnown, JoinDef, Pair, PairStage, HaveRead, IsOverWith}
 use Rattle.bt_tool.specs.inside.Rounds.{IsBuffered, TwoInputDef}
 use Rattle.bt_tool.specs.inside.Feed.{AreAll, Passes, StopsAfter}
@@ -53,7 +53,7 @@ sweep_join order config = record {
   limited = limited order config.limit;
   Fits = AreWithin order config.limit;
   last = λ all second. None;
-  reaches = λ as_given members lines. bytes_up_to lines (decider order as_given members);
+  reaches = records_need order;
   -- each record that was taken leaves one of those given undecided
   Asks = λ as_given taken. IsTrue (list_all (leaves_some order as_given) taken);
   InOrder = λ second. ArePlaced order (intervals_of second);

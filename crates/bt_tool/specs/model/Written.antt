@@ -1,5 +1,5 @@
 -- The reports of the commands: of one input, of two, of maskfasta.
-use Rattle.std.specs.Prelude.{ℕ, Bool, List, Option, flat_map, ◌≡◌, true, Some, None, ◌⊎◌, [], ◌∷◌, take, if◌then◌else◌, is_some, false, ◌++◌}
+use Rattle.std.specs.Prelude.{ℕ, Bool, List, Option, flat_map, option_map, ◌≡◌, true, Some, None, ◌⊎◌, [], ◌∷◌, take, if◌then◌else◌, is_some, false, ◌++◌}
 use Rattle.bt_bed.specs.model.Feature.{Feature, intervals_of, last_of}
 use Rattle.bt_bed.specs.model.BedLine.{interval_lines, IsBedKind}
 use Rattle.bt_bed.specs.model.Genome.{Entry}
@@ -153,17 +153,28 @@ decider order as_given (member ∷ members) =
     if list_all (λ a. decides order a member.item) as_given then Some member
     else decider order as_given members
 
--- the bytes of the lines up to that of a member, or of all
-abbrev pub bytes_up_to : List TextLine → Option (Member Feature) → ℕ
+-- the last line that is needed: that of this member, or if there is none that of the fault
+abbrev pub last_line : Option (Member Feature) → Option FaultValue → Option ℕ
+last_line (Some member) fault = Some member.line
+last_line None None = None
+last_line None (Some fault) = option_map (λ place. place.line) fault.place
+
+-- the bytes of the lines up to one of this number, or of all
+abbrev pub bytes_up_to : List TextLine → Option ℕ → ℕ
 bytes_up_to lines None = bytes_in lines
-bytes_up_to lines (Some member) = bytes_in (take member.line lines)
+bytes_up_to lines (Some line) = bytes_in (take line lines)
+
+-- how much of these lines the records of the first input need
+abbrev pub records_need : Order → List Feature → Good Feature → List TextLine → ℕ
+records_need order as_given second lines =
+    bytes_up_to lines (last_line (decider order as_given second.members) second.fault)
 
 -- How much of the second input the records on these lines of the first need: its lines up to the
--- first record that decides all of them. A limit on what is held makes it no more.
+-- first record that decides all of them. If none does, it is its lines up to the one at fault, if one
+-- is. A limit on what is held makes it no more.
 abbrev pub intersect_reaches : Order → Handed → List TextLine → ℕ
 intersect_reaches order second lines =
-    bytes_up_to (text_lines second.text)
-    (decider order (records_on order lines) (bed_good Second order second).members)
+    records_need order (records_on order lines) (bed_good Second order second) (text_lines second.text)
 
 -- The report of maskfasta: the lines of a FASTA input, masked by the records of a BED input.
 
@@ -189,12 +200,17 @@ last_needed lines before (member ∷ members) =
     if list_all (λ line. decided line (before ++ member.item ∷ [])) lines then Some member
     else last_needed lines (before ++ member.item ∷ []) members
 
--- how much of the second input the first lines of the first need: its lines up to the first
--- record that with those before it decides all of them
+-- how much of these lines the lines of sequences need
+abbrev pub lines_need : List SequenceLine → Good Feature → List TextLine → ℕ
+lines_need items second lines =
+    bytes_up_to lines (last_line (last_needed items [] second.members) second.fault)
+
+-- How much of the second input the first lines of the first need: its lines up to the first
+-- record that with those before it decides all of them. If none does, it is its lines up to the one at
+-- fault, if one is.
 abbrev pub mask_reaches : Bool → Handed → List TextLine → ℕ
 mask_reaches full second lines =
-    bytes_up_to (text_lines second.text)
-    (last_needed (lines_on full lines) [] (block_good Second second).members)
+    lines_need (lines_on full lines) (block_good Second second) (text_lines second.text)
 
 -- the kinds of fault that a line of a FASTA input can have
 abbrev pub is_fasta_kind : Kind → Bool

@@ -8,7 +8,7 @@ use self::runs::{
 };
 use crate::run;
 use crate::tests::tables::{Failing, Run, Table, check_tables, rows_of, run_of};
-use crate::tests::{GENOME, answer_of, expect, plan_of, source_if, source_of, whole};
+use crate::tests::{GENOME, answer_of, expect, expect_size, plan_of, source_if, source_of, whole};
 use bt_lines::{DeviceFailed, Sink};
 use std::alloc::Global;
 use std::process::Abort;
@@ -187,7 +187,8 @@ fn devices_that_fail_somewhere(rt: HostRuntime) -> Result<(), Fail> {
 // A sink that takes everything, and whose flush fails.
 #[derive(Drop)]
 struct FlushFails {
-    taken: Vec<u8>,
+    bytes: Vec<u8>,
+    taken: usize,
     has_failed: bool,
 }
 
@@ -199,10 +200,11 @@ impl Sink for FlushFails {
     ghost is_flushed = { λ _. true };
 
     fn write(&mut self, bytes: &[u8]) -> Result<usize, DeviceFailed> {
-        if self.taken.extend_from_slice(bytes).is_err() {
+        if self.bytes.extend_from_slice(bytes).is_err() {
             self.has_failed = true;
             return Err(DeviceFailed);
         }
+        self.taken = self.taken.saturating_add(bytes.len());
         Ok(bytes.len())
     }
 
@@ -228,13 +230,15 @@ fn a_flush_that_fails(rt: HostRuntime) -> Result<(), Fail> {
         source_of(TOUCHING, whole(7)),
         source_if(&plan.second, b"", whole(7)),
         FlushFails {
-            taken: Vec::new(rt.alloc()),
+            bytes: Vec::new(rt.alloc()),
+            taken: 0,
             has_failed: false,
         },
     );
-    let taken = ended.out.taken.as_slice();
-    let answer = answer_of(rt.alloc(), &plan, &ended.outcome, taken)?;
+    let bytes = ended.out.bytes.as_slice();
+    let answer = answer_of(rt.alloc(), &plan, &ended.outcome, bytes)?;
     let merged = b"chr1\t100\t500\nchr1\t501\t1000\n";
+    expect_size(&rt, ended.out.taken, merged.len());
     let line = b"bedtools merge: writing failed\n";
     expect(&rt, &answer, merged, line, "a flush that fails");
     Ok(())

@@ -202,8 +202,11 @@ closed_some xs h = grind arith
 pub not_full : (n : ℕ) → false ≡ nat_eq n 8192 → n ≤ 8192 → n < 8192
 not_full n e h = grind arith
 
-pub some_full : (n : ℕ) → true ≡ nat_eq n 8192 → 0 < n
-some_full n e = grind arith
+pub is_full : (n : ℕ) → true ≡ nat_eq n 8192 → 8192 ≤ n
+is_full n e = grind arith
+
+pub some_full : (n : ℕ) → 8192 ≤ n → 0 < n
+some_full n h = omega arith
 
 pub then_counted : {S : Type 0} (IsRead : S → Option ℕ → S → Type 0) (a b c : S) (m n k : ℕ) (stop : Stop) → ReadsCounted IsRead a m b n → AreCounted IsRead stop b n c k → AreCounted IsRead stop a m c k
 then_counted IsRead a b c m n k LineFeed one two = counts_then IsRead a b c m n k one two

@@ -1,13 +1,13 @@
 use Rattle.bt_lines.proofs.Std.{refl}
-use Rattle.bt_lines.proofs.lemmas.reader.block.BufferLemmas.{unread_fits, none_yet, not_full, some_full, source_failed, text_ended, text_too_long, then_counted, then_long}
+use Rattle.bt_lines.proofs.lemmas.reader.block.BufferLemmas.{is_full, unread_fits, none_yet, not_full, source_failed, text_ended, text_too_long, then_counted, then_long}
 use Rattle.bt_lines.proofs.lemmas.reader.block.ReadsLemmas.{counts_none, fails_then}
 use Rattle.bt_lines.proofs.reader.spill.read_lines.Goals as goal
 
 pub loop-buffer-init : goal.loop-buffer-init
 loop-buffer-init g c = (none_yet _ _ _ _ c.requires.counted, counts_none g.S.Source.is_read _ _ _ _ refl refl, c.requires.none, refl)
 
-pub read_long-requires-clause-some : goal.read_long-requires-clause-some
-read_long-requires-clause-some g c = some_full _ c.if-is_full.ensures
+pub read_long-requires-clause-full : goal.read_long-requires-clause-full
+read_long-requires-clause-full g c = is_full _ c.if-is_full.ensures
 
 pub returns-then-is_full-clause-buffers : goal.returns-then-is_full-clause-buffers
 returns-then-is_full-clause-buffers g c =

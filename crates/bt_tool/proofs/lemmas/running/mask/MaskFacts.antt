@@ -1,5 +1,5 @@
 -- The facts of masking that its report and its reading rest on.
-use Rattle.bt_lines.proofs.Std.{◌≡◌, ℕ, suc, ◌<◌, ◌≤◌, Bool, true, false, List, [], ◌∷◌, ◌++◌, take, refl, sym, ap, ◌∙◌, subst, append-nil, append_assoc, inl, inr, Option, Some, None, Result, Err, cond, ◌⊎◌, ◌||◌, All, IsTrue, list_all, or_left, or_right, All-head, All-tail, list_any-append, flat_map, option_to_list, is_none, and_from, flat_map-append, list_all-append, arith}
+use Rattle.bt_lines.proofs.Std.{◌≡◌, ℕ, suc, ◌<◌, ◌≤◌, Bool, true, false, List, [], ◌∷◌, ◌++◌, take, refl, sym, ap, ◌∙◌, subst, append-nil, append_assoc, inl, inr, Option, Some, None, Result, Err, cond, ◌⊎◌, ◌||◌, All, IfSome, IsTrue, list_all, or_left, or_right, All-head, All-tail, list_any-append, flat_map, option_to_list, is_none, and_from, flat_map-append, list_all-append, arith}
 use Rattle.bt_lines.specs.model.Lines.{TextLine, bytes_in}
 use Rattle.bt_bed.specs.model.Feature.{Feature}
 use Rattle.bt_bed.specs.model.BedLine.{is_record_kind, record_of}
@@ -7,16 +7,16 @@ use Rattle.bt_bed.specs.model.Good.{Member, line_says, said_after}
 use Rattle.bt_seq.specs.model.Masked.{decided, SequenceLine, masked_line}
 use Rattle.bt_seq.specs.declared.mask.mask_how.MaskHow.{MaskHow}
 use Rattle.bt_seq.proofs.lemmas.definitions.MaskPrefixLemmas.{decided_stays}
-use Rattle.bt_tool.specs.model.Written.{bytes_up_to, last_needed, is_mask_kind}
+use Rattle.bt_tool.specs.model.Written.{bytes_up_to, last_line, last_needed, is_mask_kind}
 use Rattle.bt_tool.specs.inside.Feed.{member_items}
 use Rattle.bt_tool.specs.inside.MaskLoop.{leaves_some, mask_join}
 use Rattle.bt_tool.proofs.lemmas.running.pair.PairMet.{AreLimits}
-use Rattle.bt_tool.proofs.lemmas.running.pair.PairNear.{AreNeeded, least_by, not_all, take_whole}
+use Rattle.bt_tool.proofs.lemmas.running.pair.PairNear.{AreNeeded, fault_least, least_by, not_all}
 use Rattle.bt_lines.specs.declared.fault.Kind.{Kind}
 use Rattle.bt_bed.specs.model.Sorted.{Locus, block_sorting}
 use Rattle.bt_bed.proofs.lemmas.read.good.SaidLemmas.{wrong_is_of_record}
 use Rattle.bt_lines.specs.model.Fault.{FaultValue}
-use Rattle.bt_bed.specs.calls.Reading.{MemberReader}
+use Rattle.bt_bed.specs.calls.Reading.{IsFaultBeyond, MemberReader}
 use Rattle.bt_seq.specs.calls.MaskStage.{GoesOn, MayFollow, seen_at, MaskStage}
 use Rattle.bt_tool.proofs.lemmas.running.pair.PairTurns.{all_or}
 use Rattle.bt_tool.specs.inside.Pair.{MayCome, SettlesPair, item_ahead}
@@ -49,15 +49,18 @@ asked_by given extra past (inl none) = inl (none_taken past none)
 asked_by given extra past (inr some) = inr (grind (arith, list_any-append))
 
 -- the last one needed is after the first lines
-reaches_least : (on : List SequenceLine) (before : List Feature) (rest : List (Member Feature)) (lines : List TextLine) (count : ℕ) → All (λ m. count < m.line) rest
-    → bytes_in (take (suc count) lines) ≤ bytes_up_to lines (last_needed on before rest)
-reaches_least on before [] lines count high = take_whole (suc count) lines
-reaches_least on before (m ∷ ms) lines count high = grind (arith, (reaches_least on (before ++ m.item ∷ []) ms lines count (All-tail (λ (m : Member Feature). count < m.line) m ms high)), least_by, All-head)
+reaches_least : (on : List SequenceLine) (before : List Feature) (rest : List (Member Feature)) (fault : Option FaultValue) (lines : List TextLine) (count : ℕ) → All (λ m. count < m.line) rest
+    → IfSome fault (IsFaultBeyond count) → bytes_in (take (suc count) lines) ≤ bytes_up_to lines (last_line (last_needed on before rest) fault)
+reaches_least on before [] fault lines count high beyond = fault_least fault lines count beyond
+reaches_least on before (m ∷ ms) fault lines count high beyond =
+    least_by (list_all (λ line. decided line (before ++ m.item ∷ [])) on) m (last_needed on (before ++ m.item ∷ []) ms) fault lines count (All-head (λ (m : Member Feature). count < m.line) m ms high)
+    (reaches_least on (before ++ m.item ∷ []) ms fault lines count (All-tail (λ (m : Member Feature). count < m.line) m ms high) beyond)
 
 -- what lines need lies after the records that were taken for them
 pub mask_needs : (how : MaskHow) → AreNeeded (mask_join how)
-mask_needs how given extra past rest lines count asked high =
-    grind (arith, (needed_from (given ++ extra) [] past rest (asked_by given extra past asked)), (reaches_least (given ++ extra) (member_items past) rest lines count high))
+mask_needs how given extra past rest fault lines count asked beyond =
+    let same = needed_from (given ++ extra) [] past rest (asked_by given extra past asked) in
+    subst (λ (o : Option (Member Feature)). bytes_in (take (suc count) lines) ≤ bytes_up_to lines (last_line o fault)) (sym same) (reaches_least (given ++ extra) (member_items past) rest fault lines count beyond.members beyond.fault)
 
 -- masking has no limit on what is held
 pub mask_limits : (how : MaskHow) → AreLimits (mask_join how)

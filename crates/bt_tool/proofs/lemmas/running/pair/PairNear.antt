@@ -1,5 +1,5 @@
 -- Lemmas on how far two inputs were read beside what was written.
-use Rattle.bt_lines.proofs.Std.{common_steps, ◌≡◌, ℕ, zero, suc, ◌+◌, ◌-◌, ◌<◌, ◌≤◌, Bool, true, false, not, List, [], ◌∷◌, ◌++◌, take, drop, Option, None, Some, Result, Ok, Err, refl, sym, ap, ◌∙◌, subst, arith, flat_map, inl, inr, ◌⊎◌, ◌&&◌, ◌||◌, All, IfSome, IsSome, if◌then◌else◌, Consumes, list_all, list_any, false≢true, map-append, take-append-drop, All-head, All-tail, append-nil, append_cancel_left}
+use Rattle.bt_lines.proofs.Std.{common_steps, ◌≡◌, ℕ, zero, suc, ◌+◌, ◌-◌, ◌<◌, ◌≤◌, Bool, true, false, not, List, [], ◌∷◌, ◌++◌, take, drop, Option, None, Some, Result, Ok, Err, refl, sym, ap, ◌∙◌, subst, arith, flat_map, inl, inr, ◌⊎◌, ◌&&◌, ◌||◌, All, IfSome, IsSome, if◌then◌else◌, Consumes, list_all, list_any, false≢true, map-append, take-append-drop, option_map, All-head, All-tail, append-nil, append_cancel_left}
 use Rattle.bt_lines.specs.model.Lines.{Handed, whole_text, TextLine, bytes_in, text_lines}
 use Rattle.bt_lines.specs.calls.Line.{AreNumbered}
 use Rattle.bt_lines.specs.model.Fault.{FaultValue}
@@ -8,12 +8,13 @@ use Rattle.bt_lines.specs.calls.Reader.{source_of, lines_given}
 use Rattle.bt_lines.specs.declared.fault.Input.{Input}
 use Rattle.bt_lines.specs.declared.fault.Input.TheVariants.{First, Second}
 use Rattle.bt_lines.specs.declared.fault.Kind.{Kind}
+use Rattle.bt_lines.specs.declared.fault.Place.{Place}
 use Rattle.bt_lines.proofs.lemmas.reader.lines.TextLemmas.{bytes_in-append, lines_are_numbered}
 use Rattle.bt_bed.specs.model.Feature.{Feature}
 use Rattle.bt_bed.specs.model.Good.{Format, Good, Member, good, good_from, good_handed, good_with, items_in}
-use Rattle.bt_bed.specs.calls.Reading.{BeginsComing, IsBeyond, MemberReader, ahead_in, first_from as first_of_members, good_coming}
+use Rattle.bt_bed.specs.calls.Reading.{BeginsComing, IsBeyond, IsFaultBeyond, MemberReader, ahead_in, first_from as first_of_members, good_coming}
 use Rattle.bt_bed.proofs.lemmas.read.good.SaidLemmas.{ascend_from, first_from}
-use Rattle.bt_tool.specs.model.Written.{bytes_up_to}
+use Rattle.bt_tool.specs.model.Written.{bytes_up_to, last_line}
 use Rattle.bt_tool.specs.calls.Run.{IsFaultButWrite, IsWithin, ReadsNoFurther}
 use Rattle.bt_tool.specs.inside.Feed.{TookButBlock, member_items, ConsumesGiven, HasTaken}
 use Rattle.bt_tool.specs.calls.Inputs.{HandsUpTo}
@@ -69,16 +70,26 @@ pub not_all : {X : Type 0} (test : X → Bool) (xs : List X) → list_any (λ x.
 not_all test [] e = absurd (false≢true e)
 not_all test (x ∷ xs) e = open_by (test x) (list_any (λ x. not (test x)) xs) (list_all test xs) e (not_all test xs)
 
-pub least_by : (b : Bool) (m : Member Feature) (o : Option (Member Feature)) (lines : List TextLine) (count : ℕ) → count < m.line → bytes_in (take (suc count) lines) ≤ bytes_up_to lines o
-    → bytes_in (take (suc count) lines) ≤ bytes_up_to lines (if b then Some m else o)
-least_by true m o lines count low h = take_less (suc count) m.line lines (omega arith)
-least_by false m o lines count low h = h
+pub least_by : (b : Bool) (m : Member Feature) (o : Option (Member Feature)) (fault : Option FaultValue) (lines : List TextLine) (count : ℕ) → count < m.line
+    → bytes_in (take (suc count) lines) ≤ bytes_up_to lines (last_line o fault) → bytes_in (take (suc count) lines) ≤ bytes_up_to lines (last_line (if b then Some m else o) fault)
+least_by true m o fault lines count low h = take_less (suc count) m.line lines (omega arith)
+least_by false m o fault lines count low h = h
+
+place_least : (place : Option Place) (lines : List TextLine) (count : ℕ) → IfSome place (λ place. count < place.line) → bytes_in (take (suc count) lines) ≤ bytes_up_to lines (option_map (λ place. place.line) place)
+place_least None lines count h = take_whole (suc count) lines
+place_least (Some place) lines count h = take_less (suc count) place.line lines (omega arith)
+
+-- where no member is needed, the lines up to the fault are
+pub fault_least : (fault : Option FaultValue) (lines : List TextLine) (count : ℕ) → IfSome fault (IsFaultBeyond count) → bytes_in (take (suc count) lines) ≤ bytes_up_to lines (last_line None fault)
+fault_least None lines count h = take_whole (suc count) lines
+fault_least (Some fault) lines count h = place_least fault.place lines count h
 
 -- members of the first need the lines after those that were taken for the first of them
 abbrev pub AreNeeded : {X Y : Type 0} → JoinDef X Y → Type 0
 AreNeeded {X} {Y} join =
-    (given extra : List X) (past rest : List (Member Y)) (lines : List TextLine) (count : ℕ) → join.Asks given (member_items past) → All (λ m. count < m.line) rest
-    → bytes_in (take (suc count) lines) ≤ join.reaches (given ++ extra) (past ++ rest) lines
+    (given extra : List X) (past rest : List (Member Y)) (fault : Option FaultValue) (lines : List TextLine) (count : ℕ) → join.Asks given (member_items past)
+    → IsBeyond count (record { members = rest; fault = fault })
+    → bytes_in (take (suc count) lines) ≤ join.reaches (given ++ extra) (record { members = past ++ rest; fault = fault }) lines
 
 module _ {A B X Y U V : Type 0} {join : JoinDef X Y} {pair : Pair A B X Y U V} {out : Output}
     {first_format : Format X U} {second_format : Format Y V} (in_order : (two : Handed) → join.InOrder (items_in (good_handed second_format Second two))) (needed : AreNeeded join)
@@ -98,7 +109,7 @@ module _ {A B X Y U V : Type 0} {join : JoinDef X Y} {pair : Pair A B X Y U V} {
   settles two lines = flat_map (λ x. join.bytes x (items_in (good_handed second_format Second two))) (items_on lines)
 
   abbrev pub reaches : Handed → List TextLine → ℕ
-  reaches two lines = join.reaches (items_on lines) (good_handed second_format Second two).members (text_lines two.text)
+  reaches two lines = join.reaches (items_on lines) (good_handed second_format Second two) (text_lines two.text)
 
   module _ (one two : List ℕ) (e : pair.source_a.left one_before ≡ Some one) (f : pair.source_b.left two_before ≡ Some two) where
     abbrev good_one : Good X
@@ -142,7 +153,9 @@ module _ {A B X Y U V : Type 0} {join : JoinDef X Y} {pair : Pair A B X Y U V} {
     beside_by asks =
         let read = asks.near known in
         let handed = handed_to pair.source_b pair.second begins_second second ended_second read.count two f read.near near.wrote.second_bytes in
-        grind (arith, given_on)
+        let rest = of_two (λ good. (rest : List (Member Y)) × (good.members ≡ asks.past ++ rest) × IsBeyond read.count (record { members = rest; fault = good.fault })) read.behind in
+        let needs = needed (member_items near.given_first) (member_items given_on.0) asks.past rest.0 good_two.fault (text_lines two) read.count asks.reached rest.2 in
+        grind (arith, given_on, needs, rest)
 
     beside : HasNoMore pair first count ⊎ AsksFor join pair out near.given_first second → IsWithin (pair.source_a.end_told one_after) one (suc count)
         → HandsUpTo pair.source_b.left (reaches (whole_text two) (take (suc count) (text_lines one)) + block_size) two_before two_after

@@ -11,16 +11,16 @@ use Rattle.bt_sweep.specs.calls.Sweeping.{leaves_some, Settles, AreDecided, Take
 use Rattle.bt_sweep.specs.declared.hits.hit_rule.HitRule.{HitRule}
 use Rattle.bt_sweep.specs.declared.output.shape.Shape.{Shape}
 use Rattle.bt_tool.specs.declared.loops.sweeping.SweepConfig.{SweepConfig}
-use Rattle.bt_tool.specs.model.Written.{bytes_up_to, decider}
+use Rattle.bt_tool.specs.model.Written.{bytes_up_to, decider, last_line}
 use Rattle.bt_tool.specs.inside.Feed.{member_items}
 use Rattle.bt_tool.specs.inside.SweepLoop.{sweep_join, AreWithin}
-use Rattle.bt_tool.proofs.lemmas.running.pair.PairNear.{AreNeeded, least_by, not_all, take_whole}
+use Rattle.bt_tool.proofs.lemmas.running.pair.PairNear.{AreNeeded, fault_least, least_by, not_all}
 use Rattle.bt_lines.specs.model.Fault.{FaultValue}
 use Rattle.bt_lines.specs.declared.fault.Input.TheVariants.{Second}
 use Rattle.bt_lines.specs.declared.fault.Kind.TheVariants.{TooManyHeld}
 use Rattle.bt_sweep.proofs.lemmas.definitions.HitLemmas.{cut_front, cut_here, cut_keeps, cut_next, cut_none, cut_on, few_decided, many_by, none_before, placed_back, front_placed}
 use Rattle.bt_tool.proofs.lemmas.running.pair.PairMet.{AreLimits}
-use Rattle.bt_bed.specs.calls.Reading.{members_from}
+use Rattle.bt_bed.specs.calls.Reading.{IsFaultBeyond, members_from}
 use Rattle.bt_sweep.specs.model.Lines.{intersect}
 use Rattle.bt_sweep.specs.declared.sweep.phase.Phase.{Phase}
 use Rattle.bt_sweep.specs.declared.sweep.phase.Phase.TheVariants.{First}
@@ -46,14 +46,18 @@ module _ (order : Order) where
       grind (arith, (decider_behind as_given ms rest more), not_all)
 
   -- the record that decides all is after the first lines
-  reaches_least : (as_given : List Feature) (rest : List (Member Feature)) (lines : List TextLine) (count : ℕ) → All (λ m. count < m.line) rest
-      → bytes_in (take (suc count) lines) ≤ bytes_up_to lines (decider order as_given rest)
-  reaches_least as_given [] lines count high = take_whole (suc count) lines
-  reaches_least as_given (m ∷ ms) lines count high = grind (arith, (reaches_least as_given ms lines count (All-tail (λ (m : Member Feature). count < m.line) m ms high)), least_by, All-head, All-tail)
+  reaches_least : (as_given : List Feature) (rest : List (Member Feature)) (fault : Option FaultValue) (lines : List TextLine) (count : ℕ) → All (λ m. count < m.line) rest → IfSome fault (IsFaultBeyond count)
+      → bytes_in (take (suc count) lines) ≤ bytes_up_to lines (last_line (decider order as_given rest) fault)
+  reaches_least as_given [] fault lines count high beyond = fault_least fault lines count beyond
+  reaches_least as_given (m ∷ ms) fault lines count high beyond =
+      least_by (list_all (λ a. decides order a m.item) as_given) m (decider order as_given ms) fault lines count (All-head (λ (m : Member Feature). count < m.line) m ms high)
+      (reaches_least as_given ms fault lines count (All-tail (λ (m : Member Feature). count < m.line) m ms high) beyond)
 
   -- what records of the first need lies after those that were taken for them
   pub sweep_needs : (config : SweepConfig) → AreNeeded (sweep_join order config)
-  sweep_needs config given extra past rest lines count reached high = grind (arith, decider_behind, leaves_more, reaches_least)
+  sweep_needs config given extra past rest fault lines count reached beyond =
+      let same = decider_behind (given ++ extra) past rest (leaves_more given extra (member_items past) reached) in
+      subst (λ (o : Option (Member Feature)). bytes_in (take (suc count) lines) ≤ bytes_up_to lines (last_line o fault)) (sym same) (reaches_least (given ++ extra) rest fault lines count beyond.members beyond.fault)
 
 module _ (order : Order) where
   -- at the start

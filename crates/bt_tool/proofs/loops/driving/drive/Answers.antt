@@ -60,10 +60,10 @@ returns-in-Err-finish g c =
     record { stays = c.requires.stays; begins = c.requires.begins; taken = sorted; starts = starts; ended = ended } in
     let fed = c.in_default.ensures.feeds in
     let takes = c.requires.takes (member_items fed.past) (subst (λ o. ArePlaced o (intervals_of (member_items fed.past))) records.order fed.took.sorted.0) fed.took.sorted.1 in
-    let said = finishes_prefix _ c.in-Err-finish.ensures (c.in-Err-finish.ensures.going _ _ fed.stands) in
+    let said = finishes_prefix _ c.in-Err-finish.ensures.finishes (c.in-Err-finish.ensures.finishes.going _ _ fed.stands) in
     let cuts = said.cuts _ _ fed.stands takes in
     record {
-      written = rw records.order at (drives_cut driven _ _ _ fed (goes_failed c.feed_all-fed.new.out.output c.finish.new.out.output c.in-Err-finish.ensures.grows said.failed)
+      written = rw records.order at (drives_cut driven _ _ _ fed (goes_failed c.feed_all-fed.new.out.output c.finish.new.out.output c.in-Err-finish.ensures.finishes.grows said.failed)
           said.is cuts.bytes cuts.goes_on cuts.front said.sink_failed);
       reads = λ never. (
         served_of g.A.Source.is_read c.args.first c.into_source-first.result (below c.new-records.result) (below c.feed_all-fed.new.records)
@@ -86,11 +86,11 @@ returns g c =
     record { stays = c.requires.stays; begins = c.requires.begins; taken = sorted; starts = starts; ended = ended } in
     let fed = c.in_default.ensures.feeds in
     let takes = c.requires.takes (member_items fed.past) (subst (λ o. ArePlaced o (intervals_of (member_items fed.past))) records.order fed.took.sorted.0) fed.took.sorted.1 in
-    let puts = c.in_default-finish.ensures.answers.puts _ _ fed.stands takes in
+    let puts = c.in_default-finish.ensures.finishes.answers.puts _ _ fed.stands takes in
     record {
-      written = rw records.order at (drives_all driven _ _ _ fed (goes_works _ _ c.in_default-finish.ensures.grows c.in_default-finish.ensures.answers.works)
+      written = rw records.order at (drives_all driven _ _ _ fed (goes_works _ _ c.in_default-finish.ensures.finishes.grows c.in_default-finish.ensures.finishes.answers.works)
           puts.bytes puts.goes_on puts.appends
-          (c.in_default-finish.ensures.answers.works.sink_served));
+          (c.in_default-finish.ensures.finishes.answers.works.sink_served));
       reads = λ never. (
         served_of g.A.Source.is_read c.args.first c.into_source-first.result (below c.new-records.result) (below c.feed_all-fed.new.records)
             (ap source_of records.below ∙ reader.source) ended (c.in_default.ensures.reads tt),
