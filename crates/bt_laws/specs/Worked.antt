@@ -3,7 +3,7 @@ use Rattle.std.specs.Prelude.{◌≡◌, ℕ, Bool, true, false, List, [], ◌�
 use Rattle.bt_lines.specs.model.Fault.{FaultValue, read_failed}
 use Rattle.bt_lines.specs.model.Lines.{Handed, whole_text, text_lines}
 use Rattle.bt_lines.specs.declared.fault.Input.{Input}
-use Rattle.bt_lines.specs.declared.fault.Input.TheVariants.{First}
+use Rattle.bt_lines.specs.declared.fault.Input.TheVariants.{First, Genome}
 use Rattle.bt_lines.specs.declared.fault.Kind.{Kind}
 use Rattle.bt_bed.specs.model.BedLine.{fault_at_line}
 use Rattle.bt_bed.specs.model.Order.{byte_order}
@@ -41,6 +41,12 @@ CutTo command first output line =
     report_of command (record { genome = None; first = record { text = first; is_cut = true }; second = None })
     ≡ record { output = output; fault = Some (read_failed First line) }
 
+-- what a genome file gives of which no more than this was handed over, as reading failed
+abbrev pub CutGenomeTo : Command → List ℕ → ℕ → Type 0
+CutGenomeTo command genome line =
+    report_of command (record { genome = Some (record { text = genome; is_cut = true }); first = whole_text []; second = None })
+    ≡ record { output = []; fault = Some (read_failed Genome line) }
+
 -- words and texts give this on standard output, this line on standard error, and this status
 abbrev pub Shows : List Word → List ℕ → List ℕ → List ℕ → List ℕ → Option (List ℕ) → ℕ → Type 0
 Shows words genome first second output line status =
@@ -50,6 +56,12 @@ Shows words genome first second output line status =
 abbrev pub AreRefused : List Word → List ℕ → Type 0
 AreRefused words line =
     (genome first second : List ℕ) → Shows words genome first second [] (Some line) 2
+
+-- two options of intersect can't be used together
+abbrev pub Exclude : Word → Word → Type 0
+Exclude option other =
+    AreRefused (codes "intersect" ∷ codes "-a" ∷ codes "x" ∷ codes "-b" ∷ codes "y" ∷ option ∷ other ∷ [])
+    (codes "bedtools: options exclude one another\n")
 
 -- the rule of -s
 abbrev pub on_one_strand : HitRule

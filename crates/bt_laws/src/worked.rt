@@ -5,7 +5,7 @@ ghost use Rattle.std.specs.Prelude.{◌≡◌, ◌∷◌, true, false, None, Som
 ghost use Rattle.bt_lines.specs.model.Fault.{text_of};
 ghost use Rattle.bt_lines.specs.model.Lines.{value_of};
 ghost use Rattle.bt_laws.specs.WholeRuns.{two_texts};
-ghost use Rattle.bt_laws.specs.Worked.{AreRefused, CutTo, IsNamed, MaskReaches, Reaches, Shows, StopsAtLine, Writes, by_fraction, on_one_strand, one_text, sam_text, with_genome};
+ghost use Rattle.bt_laws.specs.Worked.{AreRefused, CutGenomeTo, CutTo, Exclude, IsNamed, MaskReaches, Reaches, Shows, StopsAtLine, Writes, by_fraction, on_one_strand, one_text, sam_text, with_genome};
 
 use bt_bed::Strand;
 use bt_lines::{Input, Kind};
@@ -269,7 +269,26 @@ pub fn usage()
     ensures high_fraction { AreRefused (codes "intersect" ∷ codes "-a" ∷ codes "x" ∷ codes "-b" ∷ codes "y" ∷ codes "-f" ∷ codes "1.5" ∷ []) (codes "bedtools: bad value: -f\n") }
     ensures long_fraction { AreRefused (codes "subtract" ∷ codes "-a" ∷ codes "x" ∷ codes "-b" ∷ codes "y" ∷ codes "-f" ∷ codes "0.5000000000" ∷ []) (codes "bedtools: bad value: -f\n") }
     ensures two_characters { AreRefused (codes "maskfasta" ∷ codes "-fi" ∷ codes "a" ∷ codes "-bed" ∷ codes "b" ∷ codes "-mc" ∷ codes "xy" ∷ []) (codes "bedtools: bad value: -mc\n") }
+    ensures no_character { AreRefused (codes "maskfasta" ∷ codes "-fi" ∷ codes "a" ∷ codes "-bed" ∷ codes "b" ∷ codes "-mc" ∷ codes " " ∷ []) (codes "bedtools: bad value: -mc\n") }
+    ensures soft_character { AreRefused (codes "maskfasta" ∷ codes "-fi" ∷ codes "a" ∷ codes "-bed" ∷ codes "b" ∷ codes "-soft" ∷ codes "-mc" ∷ codes "x" ∷ []) (codes "bedtools: options exclude one another\n") }
+    ensures missing_before_exclusive { AreRefused (codes "intersect" ∷ codes "-a" ∷ codes "x" ∷ codes "-u" ∷ codes "-c" ∷ []) (codes "bedtools: required option missing\n") }
+    ensures exclusive_before_twice { AreRefused (codes "intersect" ∷ codes "-a" ∷ codes "-" ∷ codes "-b" ∷ codes "-" ∷ codes "-u" ∷ codes "-c" ∷ []) (codes "bedtools: options exclude one another\n") }
     ensures no_strand { AreRefused (codes "genomecov" ∷ codes "-bg" ∷ codes "-g" ∷ codes "g" ∷ codes "-strand" ∷ codes "." ∷ []) (codes "bedtools: bad value: -strand\n") }
+{}
+
+/// Options of intersect that exclude one another.
+pub fn exclusive_options()
+    ensures wa_wo { Exclude (codes "-wa") (codes "-wo") }
+    ensures wb_wo { Exclude (codes "-wb") (codes "-wo") }
+    ensures wb_u { Exclude (codes "-wb") (codes "-u") }
+    ensures wb_v { Exclude (codes "-wb") (codes "-v") }
+    ensures wb_c { Exclude (codes "-wb") (codes "-c") }
+    ensures wo_u { Exclude (codes "-wo") (codes "-u") }
+    ensures wo_v { Exclude (codes "-wo") (codes "-v") }
+    ensures wo_c { Exclude (codes "-wo") (codes "-c") }
+    ensures u_v { Exclude (codes "-u") (codes "-v") }
+    ensures u_c { Exclude (codes "-u") (codes "-c") }
+    ensures v_c { Exclude (codes "-v") (codes "-c") }
 {}
 
 /// Command lines with their inputs: standard output, standard error and the status.
@@ -285,11 +304,42 @@ pub fn runs()
         (codes "c\t0\t10\n") (Some (codes "bedtools intersect: b.bed:3: start is not a number\n")) 1 }
 {}
 
+/// What options mean, by what they make a command write (bedtools manual, intersect and maskfasta).
+pub fn meanings()
+    ensures once { Shows (codes "intersect" ∷ codes "-a" ∷ codes "a" ∷ codes "-b" ∷ codes "b" ∷ codes "-u" ∷ []) [] (codes "c\t0\t9\nc\t20\t30\n") (codes "c\t2\t4\nc\t5\t6\n")
+        (codes "c\t0\t9\n") None 0 }
+    ensures missing { Shows (codes "intersect" ∷ codes "-a" ∷ codes "a" ∷ codes "-b" ∷ codes "b" ∷ codes "-v" ∷ []) [] (codes "c\t0\t9\nc\t20\t30\n") (codes "c\t2\t4\nc\t5\t6\n")
+        (codes "c\t20\t30\n") None 0 }
+    ensures count { Shows (codes "intersect" ∷ codes "-a" ∷ codes "a" ∷ codes "-b" ∷ codes "b" ∷ codes "-c" ∷ []) [] (codes "c\t0\t9\nc\t20\t30\n") (codes "c\t2\t4\nc\t5\t6\n")
+        (codes "c\t0\t9\t2\nc\t20\t30\t0\n") None 0 }
+    ensures overlap { Shows (codes "intersect" ∷ codes "-a" ∷ codes "a" ∷ codes "-b" ∷ codes "b" ∷ codes "-wo" ∷ []) [] (codes "c\t0\t9\nc\t20\t30\n") (codes "c\t2\t4\nc\t5\t6\n")
+        (codes "c\t0\t9\tc\t2\t4\t2\nc\t0\t9\tc\t5\t6\t1\n") None 0 }
+    ensures with_the_second { Shows (codes "intersect" ∷ codes "-a" ∷ codes "a" ∷ codes "-b" ∷ codes "b" ∷ codes "-wb" ∷ []) [] (codes "c\t0\t9\nc\t20\t30\n") (codes "c\t2\t4\nc\t5\t6\n")
+        (codes "c\t2\t4\tc\t2\t4\nc\t5\t6\tc\t5\t6\n") None 0 }
+    ensures both_original { Shows (codes "intersect" ∷ codes "-a" ∷ codes "a" ∷ codes "-b" ∷ codes "b" ∷ codes "-wa" ∷ codes "-wb" ∷ []) [] (codes "c\t0\t9\nc\t20\t30\n") (codes "c\t2\t4\nc\t5\t6\n")
+        (codes "c\t0\t9\tc\t2\t4\nc\t0\t9\tc\t5\t6\n") None 0 }
+    ensures soft { Shows (codes "maskfasta" ∷ codes "-fi" ∷ codes "a" ∷ codes "-bed" ∷ codes "b" ∷ codes "-soft" ∷ []) [] (codes ">s\nACGT\n") (codes "s\t1\t3\n")
+        (codes ">s\nAcgT\n") None 0 }
+    ensures a_character { Shows (codes "maskfasta" ∷ codes "-fi" ∷ codes "a" ∷ codes "-bed" ∷ codes "b" ∷ codes "-mc" ∷ codes "x" ∷ []) [] (codes ">s\nACGT\n") (codes "s\t1\t3\n")
+        (codes ">s\nAxxT\n") None 0 }
+    ensures neither { Shows (codes "maskfasta" ∷ codes "-fi" ∷ codes "a" ∷ codes "-bed" ∷ codes "b" ∷ []) [] (codes ">s\nACGT\n") (codes "s\t1\t3\n")
+        (codes ">s\nANNT\n") None 0 }
+    ensures whole_header { Shows (codes "maskfasta" ∷ codes "-fi" ∷ codes "a" ∷ codes "-bed" ∷ codes "b" ∷ codes "-fullHeader" ∷ []) [] (codes ">s d\nACGT\n") (codes "s d\t1\t3\n")
+        (codes ">s d\nANNT\n") None 0 }
+    ensures standard_output { Shows (codes "maskfasta" ∷ codes "-fi" ∷ codes "a" ∷ codes "-bed" ∷ codes "b" ∷ codes "-fo" ∷ codes "stdout" ∷ codes "-fi" ∷ codes "stdout" ∷ []) [] (codes ">s\nACGT\n") (codes "s\t1\t3\n")
+        (codes ">s\nANNT\n") None 0 }
+    ensures once_original { Shows (codes "intersect" ∷ codes "-a" ∷ codes "a" ∷ codes "-b" ∷ codes "b" ∷ codes "-wa" ∷ codes "-u" ∷ []) [] (codes "c\t0\t9\nc\t20\t30\n") (codes "c\t2\t4\nc\t5\t6\n")
+        (codes "c\t0\t9\n") None 0 }
+    ensures one_held { Shows (codes "intersect" ∷ codes "-a" ∷ codes "a" ∷ codes "-b" ∷ codes "b" ∷ codes "-held" ∷ codes "1" ∷ []) [] (codes "c\t0\t9\nc\t20\t30\n") (codes "c\t2\t4\nc\t5\t6\n")
+        [] (Some (codes "bedtools intersect: b:2: too many open records\n")) 1 }
+{}
+
 /// Texts of which reading failed: a piece that was cut off is no line.
 pub fn cut_texts()
     ensures after_three_lines { CutTo (Command.Merge 0 MergeStrand.All) (codes "c\t1\t3\nc\t2\t4\nc\t4\t6\n") [] 4 }
     ensures within_a_line { CutTo (Command.Merge 0 MergeStrand.All) (codes "c\t0\t3\nc\t6\t8\nc\t9\t12") (codes "c\t0\t3\n") 3 }
     ensures at_once { CutTo (Command.Merge 0 MergeStrand.All) [] [] 1 }
+    ensures genome_file { CutGenomeTo (Command.Merge 0 MergeStrand.All) (codes "c\t9\nd\t9") 2 }
 {}
 
 /// Numbers of at most twelve digits.

@@ -20,3 +20,7 @@ returns-clause-within_a_line c = refl
 pub returns-clause-at_once : goal.returns-clause-at_once
 unfolding whole_lines_from report_of lines_from value_of good_from line_says record_of digits stretches_from with_position is_bridged runs_of merged ordered_runs strand_runs settled_strand_runs genome_from entry_of
 returns-clause-at_once c = refl
+
+pub returns-clause-genome_file : goal.returns-clause-genome_file
+unfolding whole_lines_from report_of lines_from value_of good_from line_says record_of digits stretches_from with_position is_bridged runs_of merged ordered_runs strand_runs settled_strand_runs genome_from entry_of
+returns-clause-genome_file c = refl

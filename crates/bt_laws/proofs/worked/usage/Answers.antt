@@ -74,6 +74,22 @@ pub returns-clause-two_characters : goal.returns-clause-two_characters
 unfolding report_of lines_from value_of good_from line_says record_of digits stretches_from with_position is_bridged runs_of merged ordered_runs strand_runs settled_strand_runs genome_from entry_of lines_for hits strands_agree is_enough has_fraction report options word_fault items_of fraction_in
 returns-clause-two_characters c = λ genome first second. refl
 
+pub returns-clause-no_character : goal.returns-clause-no_character
+unfolding report_of lines_from value_of good_from line_says record_of digits stretches_from with_position is_bridged runs_of merged ordered_runs strand_runs settled_strand_runs genome_from entry_of lines_for hits strands_agree is_enough has_fraction report options word_fault items_of fraction_in
+returns-clause-no_character c = λ genome first second. refl
+
+pub returns-clause-soft_character : goal.returns-clause-soft_character
+unfolding report_of lines_from value_of good_from line_says record_of digits stretches_from with_position is_bridged runs_of merged ordered_runs strand_runs settled_strand_runs genome_from entry_of lines_for hits strands_agree is_enough has_fraction report options word_fault items_of fraction_in
+returns-clause-soft_character c = λ genome first second. refl
+
+pub returns-clause-missing_before_exclusive : goal.returns-clause-missing_before_exclusive
+unfolding report_of lines_from value_of good_from line_says record_of digits stretches_from with_position is_bridged runs_of merged ordered_runs strand_runs settled_strand_runs genome_from entry_of lines_for hits strands_agree is_enough has_fraction report options word_fault items_of fraction_in
+returns-clause-missing_before_exclusive c = λ genome first second. refl
+
+pub returns-clause-exclusive_before_twice : goal.returns-clause-exclusive_before_twice
+unfolding report_of lines_from value_of good_from line_says record_of digits stretches_from with_position is_bridged runs_of merged ordered_runs strand_runs settled_strand_runs genome_from entry_of lines_for hits strands_agree is_enough has_fraction report options word_fault items_of fraction_in
+returns-clause-exclusive_before_twice c = λ genome first second. refl
+
 pub returns-clause-no_strand : goal.returns-clause-no_strand
 unfolding report_of lines_from value_of good_from line_says record_of digits stretches_from with_position is_bridged runs_of merged ordered_runs strand_runs settled_strand_runs genome_from entry_of lines_for hits strands_agree is_enough has_fraction report options word_fault items_of fraction_in
 returns-clause-no_strand c = λ genome first second. refl
