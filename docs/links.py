@@ -77,7 +77,7 @@ SAME = {
         "CHANGELOG.md": r"on 30,000 bases took (\S+ s), and take (\S+ s)", "bench/HISTORY.md": r"on 30,000 bases\* (\S+ s) to (\S+ s)"},
     "how many bytes wait to be written": {
         "docs/COMMANDS.md": r"Ready lines are written ([\d,]+) bytes", "docs/PROVED.md": r"At most ([\d,]+) bytes of settled",
-        "man/bedtools.1": r"([\d,]+) bytes at a time", "crates/bt_lines/src/reader/read_buffer.rt": r"BLOCK: usize = (\d+)"},
+        "man/bedtools.1": r"([\d,]+) bytes at a time", "crates/bt_lines/src/device/mod.rt": r"BLOCK: usize = (\d+)"},
 }
 # The limit of a sentence: where CONTRIBUTING.md says it, and where prose.py has it.
 LIMIT, LIMITED = r"At most (\d+) words a sentence", r"^PARAGRAPH, SENTENCE, CELL = \d+, (\d+),"
