@@ -15,7 +15,8 @@ use Rattle.bt_runs.proofs.lemmas.order.ByChromosome.{Divides, Owes, Written, fou
 use Rattle.bt_runs.proofs.lemmas.coverage.OpenLemmas.{counted_elsewhere, counted_append, counted_none, bare_levels, known_at, known_first, known_next, left_end, settled_and_left, settled_at, settled_end, settled_first, settled_next, with_counted, across_known, none_open, all_open, walk_depth}
 use Rattle.bt_runs.specs.model.Gaps.{is_over_at}
 use Rattle.bt_runs.specs.calls.Complementing.{AreTaken}
-use Rattle.bt_runs.proofs.lemmas.definitions.Standing.{filter_map_all, filter_map_none, compare_same, apart, found}
+use Rattle.bt_runs.proofs.lemmas.definitions.Standing.{compare_same, apart, found}
+use Rattle.bt_runs.proofs.lemmas.Lists.{filter_map_all, filter_map_none}
 use Rattle.bt_runs.proofs.lemmas.coverage.LevelLemmas.{StopIn, scan_run, scan_split}
 use Rattle.bt_runs.proofs.lemmas.complement.Walks.{Walked, form_of, Held, Steps, ends, reaches, settles_items, steps, rank_entry, taken_front}
 use Rattle.bt_runs.specs.calls.Engine.{Settles, fault_of}
