@@ -289,7 +289,7 @@ module _ {old : Covering} {place : Place Known} {chrom : List ℕ} {size : ℕ} 
   counts_err Write fault new held is cut want = inl (rw (step_is, is) cut)
   counts_err Memory fault new held is puts want = inr (is, (to_keep (want refl), rw step_is puts))
 
--- the same for the place that the code has
+-- a record is counted at the place that the code has
 module _ (base : Covering) (on : CurrentChrom) (here : on.is_known ≡ true) {r : Feature} {bounds : Bounds} {counted : Bool} (next : IsNext base.strand r bounds counted) (out grown : Output) where
   -- a coverage with these open records
   abbrev pub covering : Option DepthCursor → OpenAt → Covering
