@@ -102,8 +102,12 @@ module _ {A B : Type 0} {source_a : Source A} {source_b : Source B} {start : Mas
     stuck : texts ≡ [] → taken ≡ [] → masked.want ≡ mask.want → IsMaskReady lines second mask.want → ⊥
     stuck none unread same there = stuck_by mask.want none unread (subst (λ (w : MaskWant). StopsAt batch_cursor w last_lines last_beds) same stops) there
 
+    few_none : texts ≡ [] → taken ≡ [] → (o : Option SequenceLine) → s.stage.inputs.waiting ≡ o → (mask_left new second_now masked ≤ mask_left lines second mask) × (IsMaskReady lines second mask.want → mask_left new second_now masked < mask_left lines second mask)
+    few_none none unread None waits = grind (arith, same_by, stuck)
+    few_none none unread (Some a) waits = grind (arith, stuck)
+
     few_by : (n : ℕ) → length texts + length taken ≡ n → (mask_left new second_now masked ≤ mask_left lines second mask) × (IsMaskReady lines second mask.want → mask_left new second_now masked < mask_left lines second mask)
-    few_by zero e = grind (arith, (nil_from_length texts (omega (arith, e))), (nil_from_length taken (omega (arith, e))), same_by, stuck)
+    few_by zero e = few_none (nil_from_length texts (omega (arith, e))) (nil_from_length taken (omega (arith, e))) s.stage.inputs.waiting refl
     few_by (suc n) e = grind arith
 
     gave_both : ComesAfter batch_cursor s.stage.ahead first_beds taken final.ahead → {T : Type 0} (done : T) → AdvancesMask source_a source_b start before lines second mask (Ok done) new second_now masked now

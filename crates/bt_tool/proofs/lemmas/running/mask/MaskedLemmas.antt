@@ -103,6 +103,11 @@ none_ahead now r none was = let apart : None ≡ Some r = sym (ahead_first now �
 pub wrong_first : (full : Bool) (state : Reached) (line : TextLine) (kind : Kind) → line_says full state line ≡ Err kind → is_fasta_kind kind ≡ true
 wrong_first full state line kind e = rw (wrong_is_text full state line kind e) refl
 
+-- a line that the next record decides stays as it is, whatever follows
+stays_before : (how : MaskHow) (line : SequenceLine) (taken : List Feature) (r : Feature) (next : Option Feature) → next ≡ Some r → decided line (taken ++ r ∷ []) ≡ true → (rest : List Feature) → AreInBlocks ((taken ++ option_to_list next) ++ rest)
+    → (decided line ((taken ++ option_to_list next) ++ rest) ≡ true) × (masked_line how ((taken ++ option_to_list next) ++ rest) line ≡ masked_line how taken line)
+stays_before how line taken r next e decides rest ordered = grind (arith, append_assoc, decided_stays, masked_before)
+
 -- masking has come so far
 module _ {A B : Type 0} {source_a : Source A} {source_b : Source B} {start : MaskRun A B} {before : Output} {at : Reached} {lines : LineReader A} {second : MemberReader B Feature (Option Locus)}
     {mask : Masking} {grown : Output} (s : Masks source_a source_b start before at lines second mask grown) where
@@ -245,7 +250,9 @@ module _ {A B : Type 0} {source_a : Source A} {source_b : Source B} {start : Mas
     -- if it decides the waiting line, that stays as it is
     settles_decided : (a : SequenceLine) → decided a (stage.inputs.taken ++ r ∷ []) ≡ true → IsKnown pair
         → SettlesPair join (stage.inputs.written ++ a ∷ []) (s.comes.bytes ++ masked_line start.mask.how stage.inputs.taken a) (stage.inputs.taken ++ option_to_list (item_ahead second)) stage.inputs.second_ended
-    settles_decided a decides known = grind (arith, settles_with, append_assoc, decided_stays, masked_before)
+    settles_decided a decides known =
+        settles_with join stage.inputs.written s.comes.bytes (stage.inputs.taken ++ option_to_list (item_ahead second)) stage.inputs.second_ended a (masked_line start.mask.how stage.inputs.taken a) (s.comes.settles known)
+        (stays_before start.mask.how a stage.inputs.taken r (item_ahead second) next decides)
 
     fails_by : (o : Option SequenceLine) → stage.inputs.waiting ≡ o → (fault : FaultValue) (now : Output) → FailsAtRecord start.mask.how start.mask.full o stage r (suc (lines_given second.below)) grown fault now → EndsAt (Some fault) lines second now
     fails_by None none fault now lacks =

@@ -113,6 +113,10 @@ wants_second w done e = grind arith
 pub wants_nothing : (w : Option Feature) (done : Bool) → want_of (is_some w) done ≡ Nothing → (done ≡ true) × (sweep_rounds (is_some w) done ≡ 0)
 wants_nothing w done e = grind arith
 
+-- if nothing is buffered, none is ahead
+none_is_ahead : {S State : Type 0} (reader : MemberReader S Feature State) → reader.buffered ≡ [] → item_ahead reader ≡ None
+none_is_ahead reader none = grind arith
+
 first_is : (a b : Bool) → phase_of a b ≡ SecondEnded → b ≡ true
 first_is a b e = grind arith
 
@@ -373,7 +377,9 @@ module _ {A B O : Type 0} {g : Ghosts O} {source_a : Source A} {source_b : Sourc
     settled_seen known = seen_by stage.second_ended refl ss refl (s.comes.settles known)
 
     ends_then : sweep.phase ≡ SecondEnded → (stage.second_ended ≡ true) × (item_ahead (view_of second_now) ≡ None)
-    ends_then first_is_left = grind (arith, option_map, none_second)
+    ends_then first_is_left =
+        let ended : stage.second_ended ≡ true = first_is stage.first_ended stage.second_ended (sym s.stands.phase_is ∙ first_is_left) in
+        (ended, none_is_ahead (view_of second_now) (none_second ended).1)
 
     -- so far are the lines of some more settled
     settled_more : (written newly : List Feature) (bytes : List ℕ) → ArePlaced order (intervals_of newly) → Settles order sweep.phase newly (ss ++ option_to_list (item_ahead (view_of second_now)))
@@ -435,7 +441,8 @@ module _ {A B O : Type 0} {g : Ghosts O} {source_a : Source A} {source_b : Sourc
   module _ {first_now : Records A O g} {second_now : Records B O g} {firsts seconds last_firsts last_seconds : Batch}
       (consumes : ConsumesGiven source_a first firsts last_firsts first_now) (consumes_second : ConsumesGiven source_b second seconds last_seconds second_now) where
     pub takes_both : (fs ss : List Feature) → PassesBatch firsts fs last_firsts → PassesBatch seconds ss last_seconds → TakesBoth source_a source_b first second fs ss first_now second_now
-    takes_both fs ss passes passes_second = grind arith
+    takes_both fs ss passes passes_second =
+        record { first_taken = consumes.takes fs passes; second_taken = consumes_second.takes ss passes_second; first_order = consumes.order; second_order = consumes_second.order }
 
     seen : (newly ss : List Feature) (next : Option Feature) → ComesNext batch_cursor last_seconds next → Settles order sweep.phase newly (ss ++ option_to_list next) → Settles order sweep.phase newly (ss ++ option_to_list (item_ahead (view_of second_now)))
     seen = seen_then source_b second second_now seconds last_seconds consumes_second order sweep.phase
