@@ -5,6 +5,7 @@ import functools
 import os
 import re
 import shutil
+import signal
 import subprocess
 import time
 from pathlib import Path
@@ -62,6 +63,10 @@ def looking(*first, **more):
     return environment(*first, **{"DUNEKETTLE_SMALL": "0", **more})
 
 
+# What a shell starts in the background, or by nohup, ignores some signals, and so would what is tried.
+for ignored in (signal.SIGHUP, signal.SIGINT, signal.SIGQUIT, signal.SIGTERM):
+    if signal.getsignal(ignored) == signal.SIG_IGN:
+        signal.signal(ignored, signal.SIG_DFL)
 # A small piece of work, and the seconds that it takes where nothing else is done.
 WORK, IDLE = "i=0; while [ $i -lt 30000 ]; do i=$((i + 1)); done", 0.05
 # How much slower a machine may be on which bounds of time still say something.

@@ -5,7 +5,7 @@
 - what is said to be in a file of definitions or of code is there; names of several words in code spans exist, and so do
   the paths in those of ARCHITECTURE.md, PROVED.md and the crates' pages
 - the pages that name a version name the same one
-- PROVED.md says how many files define the report; ARCHITECTURE.md lists them, and the modules of each crate; the report
+- PROVED.md says how many files define the report; ARCHITECTURE.md lists them, the modules of each crate and the files of front/; the report
   names each definition of the model
 - README.md has an answer, or a link to it, for each question of questions.tsv
 - no page says what another contradicts: the phrases of UNTRUE, the numbers of SAME, the limit of a sentence
@@ -208,6 +208,17 @@ def other_modules():
             yield f"docs/ARCHITECTURE.md: {crate}/src/{row[1]} has other modules: {', '.join(sorted((said ^ there) - {row[1]}))}"
 
 
+def front_differs():
+    """The files of front/ that ARCHITECTURE.md doesn't list, and those of its list that front/ doesn't have."""
+    part = (TOP / "docs" / "ARCHITECTURE.md").read_text(encoding="utf-8").partition("in `front/`")[2].partition("\n## ")[0]
+    said = set(re.findall(r"`([\w.]+)`", part))
+    files = {file.name for file in (TOP / "front").iterdir()}
+    lost = sorted(name for name in said if name.endswith((".sh", ".awk", ".txt")) and name not in files)
+    unsaid = sorted(name for name in files if not {name, name.removesuffix(".awk")} & said)
+    yield from (f"docs/ARCHITECTURE.md: there is no front/{name}" for name in lost)
+    yield from (f"docs/ARCHITECTURE.md: says nothing of front/{name}" for name in unsaid)
+
+
 def versions():
     """The version that each file names, or None."""
     found = {}
@@ -374,7 +385,7 @@ def main():
     absent = [*missing(), *lost_paths(), *unknown_names()]
     for page, number, name in absent:
         print(f"{page.relative_to(TOP)}:{number}: {name} isn't there")
-    outside = [*strays(), *unnamed(), *other_modules(), *untrue(), *unequal(), *unanswered()]
+    outside = [*strays(), *unnamed(), *other_modules(), *front_differs(), *untrue(), *unequal(), *unanswered()]
     for line in outside:
         print(line)
     found = versions()

@@ -2,8 +2,8 @@
 # bamtobed of SAM text that samtools writes as it is, and with -split of the text that it makes of BAM: read by the
 # drop-in of `dunekettle`.
 
-# The first five columns of an alignment, and CIGARs that have no base, or a block without one: bedtools writes lines for
-# these, Dunekettle none.
+# The first five columns of an alignment, and CIGARs without a base, or with a block without one: bedtools writes lines
+# for these, Dunekettle none.
 dk_text="[^$dk_tab]*$dk_tab" dk_number="[0-9]+$dk_tab" dk_none='([0-9]+[ISHP])*'
 dk_columns="$dk_text$dk_number$dk_text$dk_number$dk_number"
 dk_no_base="$dk_none$dk_tab|([0-9]+[A-Z=])*0|${dk_none}[0-9]+N|[^$dk_tab]*N$dk_none([0-9]+N|$dk_tab)"
@@ -32,7 +32,10 @@ has_no() {
 # look_at_text: sets `dk_why` unless samtools writes the SAM text as it is, so that htslib reads it so, and each
 # alignment and each block has a base
 look_at_text() {
-    has_no "^[^@]$dk_columns($dk_no_base)" "$dk_i" || { dk_why="$dk_i has alignments or blocks without a base"; return; }
+    if ! has_no "^[^@]$dk_columns($dk_no_base)" "$dk_i"; then
+        dk_why="$dk_i has alignments or blocks without a base"
+        return
+    fi
     # A line end more is seen as a difference.
     { samtools view --no-PG -h "$dk_i" < /dev/null 2> /dev/null || echo; } | cmp -s - "$dk_i" &
     await $! || dk_why="$dk_i is SAM text that htslib reads otherwise"

@@ -170,8 +170,8 @@ find_order() {
     dk_why='' dk_g=$dk_genome dk_ordered=1
 }
 
-# judge_alignments: sets `dk_why` unless the input of bamtobed begins as SAM text, or as BAM where -split cuts it. Of BAM
-# without -split bedtools is as quick.
+# judge_alignments: sets `dk_why` unless the input of bamtobed begins as SAM text, or as BAM with -split. Of BAM without
+# -split bedtools is as quick.
 judge_alignments() {
     dk_line=''
     IFS= read -r dk_line < "$dk_i"

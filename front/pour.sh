@@ -9,6 +9,8 @@ pour_out() {
     wait "$dk_taker"
     dk_status=$?
     copies_are_over || :
+    dk_children=''
+    for dk_copier in $dk_copiers; do dk_children="$dk_children ${dk_copier%%:*}"; done
     end_children
     [ -z "$dk_lost" ] || { say 'a stream was lost'; exit 1; }
     finish "$dk_status"

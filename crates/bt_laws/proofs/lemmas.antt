@@ -1,6 +1,5 @@
 -- Lemmas by theme.
 pub mod Counts
-pub mod Lists
 pub mod parts
 pub mod pipes
 pub mod same

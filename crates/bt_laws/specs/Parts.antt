@@ -177,7 +177,7 @@ intersect_divides =
     → chromosomes_of genome ≡ Ok chromosomes → ArePairs parts
     → PairsAscend (order_of chromosomes) parts → PairsAddUp (Intersect shape rule None) genome parts
 
--- subtract: the same
+-- subtract: both inputs divided as those of intersect
 abbrev pub subtract_divides : Type 0
 subtract_divides =
     (whole : Bool) (rule : HitRule) (genome : Option Handed) (chromosomes : Option (List Entry))
@@ -299,7 +299,7 @@ ShardsSuffice command = (genome : Handed) (shards : List Shard) → DivideGenome
     → Suffice (map (λ shard. on_text command (Some shard.genome) shard.text) shards)
     (on_text command (Some genome) (joined (shard_texts shards)))
 
--- the same of two inputs
+-- runs on the parts of two inputs without a fault suffice
 abbrev pub PairShardsSuffice : Command → Type 0
 PairShardsSuffice command = (genome : Handed) (shards : List PairShard) → DividePairs genome shards
     → Suffice (pair_reports command shards) (on_pairs command genome shards)

@@ -89,6 +89,6 @@ abbrev pub Reaches : List ℕ → List ℕ → ℕ → Type 0
 Reaches first second size =
     intersect_reaches byte_order (whole_text second) (text_lines first) ≡ size
 
--- the same of maskfasta
+-- lines of FASTA text need this many bytes of the records that mask them
 abbrev pub MaskReaches : List ℕ → List ℕ → ℕ → Type 0
 MaskReaches first second size = mask_reaches false (whole_text second) (text_lines first) ≡ size

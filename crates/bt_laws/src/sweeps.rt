@@ -81,7 +81,7 @@ pub fn small_inputs_meet()
     ensures whole { whole_is_left }
 {}
 
-/// The same, if the number of held records is limited.
+/// What a sweep of small inputs writes if the number of held records is limited.
 pub fn small_inputs_meet_within_a_limit()
     ensures third { third_is_too_many }
     ensures three { three_are_enough }

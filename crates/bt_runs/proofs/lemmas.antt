@@ -1,5 +1,6 @@
 -- Lemmas by theme.
 pub mod Engine
+pub mod Lists
 pub mod complement
 pub mod coverage
 pub mod definitions

@@ -19,6 +19,7 @@ use Rattle.bt_bed.specs.inside.OrderedLookahead.{IsElsewhere, KeepsLast, ahead_o
 use Rattle.bt_bed.specs.model.Sorted.{Locus, Sorting, falls_in}
 use Rattle.bt_bed.specs.calls.Reading.{AnswersFault, EndsMembers, FillAnswers, GivesMember, IsLost, MemberReader, Takes, TellsOwnFailure, ahead_in}
 use Rattle.bt_bed.specs.declared.record.bed.BedRef.{BedRef}
+use Rattle.bt_bed.specs.declared.read.sorted.Sorted.{Ghosts as SortedGhosts}
 use Rattle.bt_bed.specs.declared.read.sorted_reader.SortedReader.{SortedReader}
 use Rattle.bt_bed.specs.declared.read.lookahead.OrderedLookahead.{OrderedLookahead}
 use Rattle.bt_bed.specs.calls.Batch.{cursor_in, chrom_in, start_in, left}
@@ -48,6 +49,10 @@ pub record TakesOne {S : Type 0} (device : Source S) (old new : LineReader S) : 
   pub are : TakenLines old consumed 1
   pub takes : TakesLines device old consumed new
 
+-- how the records are sorted, by what the rule means
+abbrev pub sorting_in : {Q : Type 0} → SortedGhosts Q → OrderedLookahead Q → Sorting
+sorting_in g lookahead = g.sorting lookahead.rule
+
 module _ {S Q : Type 0} where
   -- a reader of lines and two neighbours, with a fault of their own and records that are buffered, as a reader of records
   unfoldable pub view_with : Sorting → Option FaultValue → LineReader S → OrderedLookahead Q → List Feature
@@ -67,6 +72,13 @@ module _ {S Q : Type 0} where
   abbrev pub view_in : Sorting → SortedReader S Q → MemberReader S Feature (Option Locus)
   view_in sorting sorted = view_with sorting
       (option_map fault_value sorted.fault) sorted.reader sorted.lookahead (buffered_in sorted)
+
+  -- a reader as a reader of records that are sorted as those of the first
+  abbrev pub view_by : SortedGhosts Q → SortedReader S Q → SortedReader S Q → MemberReader S Feature (Option Locus)
+  view_by g first sorted = view_in (sorting_in g first.lookahead) sorted
+
+  abbrev pub IsPlacedBy : SortedGhosts Q → SortedReader S Q → SortedReader S Q → Type 0
+  IsPlacedBy g first sorted = IsPlaced (sorting_in g first.lookahead) (view_by g first sorted)
 
   -- the batch has them
   pub record Lends (sorted : SortedReader S Q) (batch : Batch) : Type 0 where

@@ -33,7 +33,7 @@ impl<S: Source, Q: Sorted + Drop> SortedReader<S, Q> {
     ghost use Rattle.bt_bed.specs.model.Feature.{Feature};
     ghost use Rattle.bt_bed.specs.inside.OrderedLookahead.{IsKnownLast, last_in};
     ghost use Rattle.bt_bed.specs.calls.Reading.{Fills, Takes, TellsOwnFailure};
-    ghost use Rattle.bt_bed.specs.calls.SortedReader.{IsPlaced, IsTaken, Lends, TakesFirst, buffered_in, count_in, fault_in, view_in, view_with};
+    ghost use Rattle.bt_bed.specs.calls.SortedReader.{IsPlaced, IsPlacedBy, IsTaken, Lends, TakesFirst, buffered_in, count_in, fault_in, sorting_in, view_by, view_with};
 
     // No record yet.
     pub(crate) fn new(alloc: Global, reader: LineReader<S>, rule: Q) -> SortedReader<S, Q>
@@ -54,15 +54,12 @@ impl<S: Source, Q: Sorted + Drop> SortedReader<S, Q> {
     // Makes at least one record buffered, and returns true if there is one: there is none at the end.
     #[inline(always)]
     pub(crate) fn fill(&mut self) -> Result<bool, Fault>
-        requires { IsPlaced (Q.sorting self.old.lookahead.rule)
-            (view_in (Q.sorting self.old.lookahead.rule) self.old) }
+        requires { IsPlacedBy Q.Sorted self.old self.old }
         ensures rule { self.new.lookahead.rule ≡ self.old.lookahead.rule }
-        ensures fills { Fills S.Source (view_in (Q.sorting self.old.lookahead.rule) self.old) result
-            (view_in (Q.sorting self.old.lookahead.rule) self.new) }
+        ensures fills { Fills S.Source (view_by Q.Sorted self.old self.old) result (view_by Q.Sorted self.old self.new) }
         ensures own_failure { TellsOwnFailure S.is_read
-            (view_in (Q.sorting self.old.lookahead.rule) self.old).fault self.old.reader result self.new.reader }
-        ensures placed { IsPlaced (Q.sorting self.old.lookahead.rule)
-            (view_in (Q.sorting self.old.lookahead.rule) self.new) }
+            (view_by Q.Sorted self.old self.old).fault self.old.reader result self.new.reader }
+        ensures placed { IsPlacedBy Q.Sorted self.old self.new }
     {
         if self.is_ahead {
             return Ok(true);
@@ -99,14 +96,11 @@ impl<S: Source, Q: Sorted + Drop> SortedReader<S, Q> {
     // Takes the records that were consumed of what was given.
     pub(crate) fn consume(&mut self, consumed: Consumed)
         requires taken { IsTaken self.old consumed }
-        requires placed { IsPlaced (Q.sorting self.old.lookahead.rule)
-            (view_in (Q.sorting self.old.lookahead.rule) self.old) }
+        requires placed { IsPlacedBy Q.Sorted self.old self.old }
         ensures rule { self.new.lookahead.rule ≡ self.old.lookahead.rule }
-        ensures takes { Takes S.Source (view_in (Q.sorting self.old.lookahead.rule) self.old)
-            (take (count_in self.old consumed) (buffered_in self.old))
-            (view_in (Q.sorting self.old.lookahead.rule) self.new) }
-        ensures placed { IsPlaced (Q.sorting self.old.lookahead.rule)
-            (view_in (Q.sorting self.old.lookahead.rule) self.new) }
+        ensures takes { Takes S.Source (view_by Q.Sorted self.old self.old)
+            (take (count_in self.old consumed) (buffered_in self.old)) (view_by Q.Sorted self.old self.new) }
+        ensures placed { IsPlacedBy Q.Sorted self.old self.new }
     {
         if consumed.lines.bytes == 0 {
             return;
@@ -119,13 +113,11 @@ impl<S: Source, Q: Sorted + Drop> SortedReader<S, Q> {
     // Takes the first of them.
     pub(crate) fn advance(&mut self)
         requires some { (r : Feature) × (more : List Feature) × (buffered_in self.old ≡ r ∷ more) }
-        requires placed { IsPlaced (Q.sorting self.old.lookahead.rule)
-            (view_in (Q.sorting self.old.lookahead.rule) self.old) }
+        requires placed { IsPlacedBy Q.Sorted self.old self.old }
         ensures rule { self.new.lookahead.rule ≡ self.old.lookahead.rule }
-        ensures takes { Takes S.Source (view_in (Q.sorting self.old.lookahead.rule) self.old)
-            (take 1 (buffered_in self.old)) (view_in (Q.sorting self.old.lookahead.rule) self.new) }
-        ensures placed { IsPlaced (Q.sorting self.old.lookahead.rule)
-            (view_in (Q.sorting self.old.lookahead.rule) self.new) }
+        ensures takes { Takes S.Source (view_by Q.Sorted self.old self.old)
+            (take 1 (buffered_in self.old)) (view_by Q.Sorted self.old self.new) }
+        ensures placed { IsPlacedBy Q.Sorted self.old self.new }
     {
         let mut batch = self.buffered();
         let _ = batch.next();
@@ -138,15 +130,12 @@ impl<S: Source, Q: Sorted + Drop> SortedReader<S, Q> {
     #[inline(never)]
     fn read_ahead(&mut self) -> Result<bool, Fault>
         requires none { self.old.is_ahead ≡ false }
-        requires placed { IsPlaced (Q.sorting self.old.lookahead.rule)
-            (view_in (Q.sorting self.old.lookahead.rule) self.old) }
+        requires placed { IsPlacedBy Q.Sorted self.old self.old }
         ensures rule { self.new.lookahead.rule ≡ self.old.lookahead.rule }
-        ensures fills { Fills S.Source (view_in (Q.sorting self.old.lookahead.rule) self.old) result
-            (view_in (Q.sorting self.old.lookahead.rule) self.new) }
+        ensures fills { Fills S.Source (view_by Q.Sorted self.old self.old) result (view_by Q.Sorted self.old self.new) }
         ensures own_failure { TellsOwnFailure S.is_read
-            (view_in (Q.sorting self.old.lookahead.rule) self.old).fault self.old.reader result self.new.reader }
-        ensures placed { IsPlaced (Q.sorting self.old.lookahead.rule)
-            (view_in (Q.sorting self.old.lookahead.rule) self.new) }
+            (view_by Q.Sorted self.old self.old).fault self.old.reader result self.new.reader }
+        ensures placed { IsPlacedBy Q.Sorted self.old self.new }
     {
         if let Some(fault) = self.fault {
             return Err(fault);
@@ -164,17 +153,16 @@ impl<S: Source, Q: Sorted + Drop> SortedReader<S, Q> {
     fn read_record(&mut self) -> Result<bool, Fault>
         requires none { self.old.is_ahead ≡ false }
         requires going { self.old.fault ≡ None }
-        requires placed { IsPlaced (Q.sorting self.old.lookahead.rule)
-            (view_in (Q.sorting self.old.lookahead.rule) self.old) }
+        requires placed { IsPlacedBy Q.Sorted self.old self.old }
         ensures rule { self.new.lookahead.rule ≡ self.old.lookahead.rule }
         ensures fault { self.new.fault ≡ None }
         ensures none { self.new.is_ahead ≡ true → result ≡ Ok true }
-        ensures fills { Fills S.Source (view_in (Q.sorting self.old.lookahead.rule) self.old) result
-            (view_with (Q.sorting self.old.lookahead.rule) (fault_in result) self.new.reader self.new.lookahead (buffered_in self.new)) }
+        ensures fills { Fills S.Source (view_by Q.Sorted self.old self.old) result
+            (view_with (sorting_in Q.Sorted self.old.lookahead) (fault_in result) self.new.reader self.new.lookahead (buffered_in self.new)) }
         ensures own_failure { TellsOwnFailure S.is_read (line_fault self.old.reader) self.old.reader result
             self.new.reader }
-        ensures placed { IsPlaced (Q.sorting self.old.lookahead.rule)
-            (view_with (Q.sorting self.old.lookahead.rule) (fault_in result) self.new.reader self.new.lookahead (buffered_in self.new)) }
+        ensures placed { IsPlaced (sorting_in Q.Sorted self.old.lookahead)
+            (view_with (sorting_in Q.Sorted self.old.lookahead) (fault_in result) self.new.reader self.new.lookahead (buffered_in self.new)) }
     {
         let mut has_skipped = false;
         loop {
@@ -196,11 +184,11 @@ impl<S: Source, Q: Sorted + Drop> SortedReader<S, Q> {
         requires none { self.old.is_ahead ≡ false }
         requires going { self.old.fault ≡ None }
         requires some { 0 < length (buffered_bytes self.old.reader) }
-        requires known { IsKnownLast (Q.sorting self.old.lookahead.rule) (last_in self.old.lookahead) }
+        requires known { IsKnownLast (sorting_in Q.Sorted self.old.lookahead) (last_in self.old.lookahead) }
         ensures rule { self.new.lookahead.rule ≡ self.old.lookahead.rule }
         ensures fault { self.new.fault ≡ None }
         ensures ahead { self.new.is_ahead ≡ true → result ≡ Ok true }
-        ensures takes { TakesFirst S.Source (Q.sorting self.old.lookahead.rule) self.old result self.new }
+        ensures takes { TakesFirst S.Source (sorting_in Q.Sorted self.old.lookahead) self.old result self.new }
     {
         let mut lines = self.reader.buffered();
         if has_skipped && self.lookahead.has_next_in(lines) {

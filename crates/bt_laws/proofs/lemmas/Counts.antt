@@ -38,7 +38,7 @@ use Rattle.bt_tool.specs.model.Written.{Report}
 use Rattle.bt_laws.specs.Pipes.{read_alone, records_for, records_written}
 use Rattle.bt_laws.proofs.lemmas.same.GapsHit.{covered_cut, cut_covered, cut_span}
 use Rattle.bt_laws.proofs.lemmas.same.SameRuns.{here_all, none_there, report_there}
-use Rattle.bt_laws.proofs.lemmas.Lists.{map_flat, map_map, all_any}
+use Rattle.bt_runs.proofs.lemmas.Lists.{map_flat, map_map, all_any}
 
 -- Depth times length, added up.
 

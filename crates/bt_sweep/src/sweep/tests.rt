@@ -6,7 +6,7 @@ use crate::active::held_index::HeldIndex;
 use crate::active::held_list::HeldList;
 use crate::output::shape::Shape::{Count, Cut};
 use crate::plain::plain_intersect;
-use crate::sweep::want::Want::{A, B};
+use crate::sweep::Want::{A, B};
 use crate::tests::worked::{RuledCase, SHAPES, records_of, worked_cases};
 use crate::tests::{genome, output, start_of};
 use bt_bed::Taken::{No, Yes};

@@ -14,7 +14,7 @@ use Rattle.bt_bed.specs.calls.Orders.{IsTotal}
 use Rattle.bt_bed.proofs.lemmas.Definitions.{line_said}
 use Rattle.bt_laws.specs.Parts.{ComeBefore, StandsBefore, said_record, said_records}
 use Rattle.bt_laws.proofs.lemmas.parts.PartLines.{IsJoint, LeadsOn, good_joint, AreAlike, alike_lines}
-use Rattle.bt_laws.proofs.lemmas.Lists.{all_back, all_front, all_so}
+use Rattle.bt_runs.proofs.lemmas.Lists.{all_back, all_front, all_so}
 
 -- the records that lines say
 abbrev pub records_on : List TextLine → List Feature

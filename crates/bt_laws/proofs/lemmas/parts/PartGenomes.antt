@@ -18,7 +18,7 @@ use Rattle.bt_bed.specs.model.Sorted.{Locus, sorting_of, has_records}
 use Rattle.bt_laws.specs.Parts.{LiesWithin, ComeBefore, StandsBefore, said_record, said_records}
 use Rattle.bt_laws.proofs.lemmas.parts.PartBed.{alike_records, records_on, Earlier}
 use Rattle.bt_laws.proofs.lemmas.parts.PartLines.{alike_lines, lines_join}
-use Rattle.bt_laws.proofs.lemmas.Lists.{all_back, all_front, all_so, all_map, all_swapped}
+use Rattle.bt_runs.proofs.lemmas.Lists.{all_back, all_front, all_so, all_map, all_swapped}
 use Rattle.bt_laws.proofs.lemmas.single.Sequences.{owners_stay_so}
 use Rattle.bt_seq.proofs.lemmas.definitions.KnowsLemmas.{is_last, leave, one_leaves}
 use Rattle.bt_seq.proofs.lemmas.definitions.MaskPrefixLemmas.{chrom_of, none_leaves}

@@ -21,7 +21,7 @@ use Rattle.bt_laws.proofs.lemmas.parts.PartGenomes.{AreOff, IsLost, apart_next, 
 use Rattle.bt_laws.proofs.lemmas.parts.PartReports.{Adds, Stops}
 use Rattle.bt_lines.specs.declared.fault.Kind.TheVariants.{NoSequence}
 use Rattle.bt_bed.proofs.lemmas.Definitions.{all_written, met_lines, written_at, written_past}
-use Rattle.bt_laws.proofs.lemmas.Lists.{all_so, flat_map_same, all_map}
+use Rattle.bt_runs.proofs.lemmas.Lists.{all_so, flat_map_same, all_map}
 use Rattle.bt_laws.proofs.lemmas.parts.PartSweep.{all_true, take_front, written_before}
 
 module _ (how : MaskHow) (full : Bool) where

@@ -19,7 +19,7 @@ use Rattle.bt_tool.specs.model.Report.{report_of}
 use Rattle.bt_laws.specs.Parts.{Texts, on_texts}
 use Rattle.bt_tool.specs.declared.planning.plan_type.Command.TheVariants.{MaskFasta}
 use Rattle.bt_tool.proofs.lemmas.running.members.CursorLemmas.{good_whole}
-use Rattle.bt_laws.proofs.lemmas.Lists.{all_so, flat_map_same}
+use Rattle.bt_runs.proofs.lemmas.Lists.{all_so, flat_map_same}
 use Rattle.bt_laws.proofs.lemmas.parts.PartGenomes.{IsLost, lost_fewer, own_first, own_second}
 use Rattle.bt_laws.proofs.lemmas.parts.PartSequences.{line_after}
 

@@ -13,7 +13,7 @@ use Rattle.bt_runs.proofs.lemmas.order.FileOrder.{among_chromosomes, without_abs
 use Rattle.bt_runs.proofs.lemmas.definitions.Standing.{placed_elsewhere, counted-append, passed_elsewhere}
 use Rattle.bt_runs.proofs.lemmas.merge.SettledRuns.{runs_begin}
 use Rattle.bt_laws.proofs.lemmas.parts.PartBed.{Earlier}
-use Rattle.bt_laws.proofs.lemmas.Lists.{all_filter, all_map, all_so, flat_map_same, all_unmap, all_any, all_both, all_flat_map, filter_none, filter_same}
+use Rattle.bt_runs.proofs.lemmas.Lists.{all_filter, all_map, all_so, flat_map_same, all_unmap, all_any, all_both, all_flat_map, filter_none, filter_same}
 use Rattle.bt_laws.proofs.lemmas.parts.PartGenomes.{Away, has_none, last_behind, last_is, none_has, placed_both, records_away, spans_first, spans_second}
 use Rattle.bt_laws.proofs.lemmas.parts.PartReports.{Splits}
 use Rattle.bt_tool.specs.model.Written.{pooled_written, strands_written}

@@ -23,7 +23,7 @@ use Rattle.bt_tool.specs.model.Report.{chromosomes_of, report_of, report_on, ord
 use Rattle.bt_tool.specs.declared.planning.plan_type.Command.TheVariants.{Intersect, Subtract, Complement, Coverage, Merge}
 use Rattle.bt_laws.proofs.lemmas.parts.PartBed.{items_all, records_on}
 use Rattle.bt_laws.proofs.lemmas.parts.PartGenomes.{agree_good, names_both, records_both, Agree, Within, among_append, first_agree, first_less, second_agree}
-use Rattle.bt_laws.proofs.lemmas.Lists.{all_back, all_both, all_front, all_so, all_map, all_unmap, all_zip}
+use Rattle.bt_runs.proofs.lemmas.Lists.{all_back, all_both, all_front, all_so, all_map, all_unmap, all_zip}
 use Rattle.bt_laws.proofs.lemmas.parts.PartTexts.{lines_less, intersect_is, intersect_parts, pair_report, subtract_is, subtract_parts, order_total}
 use Rattle.bt_laws.proofs.lemmas.parts.PartShards.{distinct_in, complement_parts, genomecov_parts, merge_genome_parts}
 use Rattle.bt_laws.proofs.lemmas.parts.PartSweep.{sweep_report, take_same, report_none}

@@ -16,7 +16,7 @@ use Rattle.bt_bed.specs.model.Sorted.{Locus, block_sorting}
 use Rattle.bt_seq.proofs.lemmas.definitions.KnowsLemmas.{is_last}
 use Rattle.bt_seq.proofs.lemmas.Sam.{last_from}
 use Rattle.bt_laws.proofs.lemmas.parts.PartBed.{alike_records, records_on}
-use Rattle.bt_laws.proofs.lemmas.Lists.{all_back, all_front}
+use Rattle.bt_runs.proofs.lemmas.Lists.{all_back, all_front}
 
 module _ {A State : Type 0} (format : Format A State) where
   -- what is known after members

@@ -15,7 +15,7 @@ use Rattle.bt_runs.specs.model.Gaps.{is_over_at, complement, gaps_on, is_asked, 
 use Rattle.bt_runs.specs.calls.Complementing.{AreTaken}
 use Rattle.bt_tool.specs.model.Written.{Written, complement_written, coverage_written, merge_written, pooled_written, Report, good_report}
 use Rattle.bt_laws.proofs.lemmas.parts.PartGenomes.{agree_first, agree_second, apart_both, entry_less, names_both, among_append, no_first, agree_good, records_both, within_before, last_behind, last_is, none_has, has_append, records_away, spans_first, spans_second}
-use Rattle.bt_laws.proofs.lemmas.Lists.{all_flat_map, all_so, filter_all, filter_none, filter_same, flat_map_same, all_any, all_both, all_map, map_same}
+use Rattle.bt_runs.proofs.lemmas.Lists.{all_flat_map, all_so, filter_all, filter_none, filter_same, flat_map_same, all_any, all_both, all_map, map_same}
 use Rattle.bt_laws.proofs.lemmas.parts.PartReports.{Splits, nothing, parts_both, splits_as, Joins, good_joins}
 use Rattle.bt_laws.proofs.lemmas.parts.PartBed.{reversed_less, Earlier, bed_joint, good_earlier, items_all}
 use Rattle.bt_lines.specs.model.Lines.{Handed, whole_text, lines_from, text_lines}

@@ -15,7 +15,7 @@ use Rattle.bt_sweep.specs.declared.output.shape.Shape.{Shape}
 use Rattle.bt_laws.specs.Parts.{unless_fault}
 use Rattle.bt_tool.specs.model.Written.{Report, met_report}
 use Rattle.bt_laws.proofs.lemmas.parts.PartBed.{Earlier}
-use Rattle.bt_laws.proofs.lemmas.Lists.{all_any, all_so, all_swapped, filter_none, flat_map_same}
+use Rattle.bt_runs.proofs.lemmas.Lists.{all_any, all_so, all_swapped, filter_none, flat_map_same}
 use Rattle.bt_laws.proofs.lemmas.parts.PartReports.{Adds, Stops, Contiguous, Joins}
 
 -- ---- lists up to the first that fails a test

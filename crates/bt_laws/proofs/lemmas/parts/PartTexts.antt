@@ -10,7 +10,7 @@ use Rattle.bt_tool.specs.model.Report.{report_of, chromosomes_of, order_of}
 use Rattle.bt_tool.specs.declared.planning.plan_type.Command.TheVariants.{BamToBed, Intersect, Merge, Subtract, MaskFasta}
 use Rattle.bt_laws.proofs.lemmas.parts.PartLines.{IsJoint, good_joint}
 use Rattle.bt_laws.proofs.lemmas.parts.PartReports.{Splits, parts_both, Joins, good_joins, nothing, together, parts_add, stop_more, stop_none, stop_one}
-use Rattle.bt_laws.proofs.lemmas.Lists.{all_any, all_back, all_front, all_so, all_unmap}
+use Rattle.bt_runs.proofs.lemmas.Lists.{all_any, all_back, all_front, all_so, all_unmap}
 use Rattle.bt_lines.specs.declared.fault.Input.{Input}
 use Rattle.bt_bed.specs.model.Order.{Order}
 use Rattle.bt_bed.specs.calls.Orders.{bytes_total, IsTotal, ArePlaced}

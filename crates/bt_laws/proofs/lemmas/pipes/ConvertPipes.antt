@@ -18,7 +18,7 @@ use Rattle.bt_tool.specs.model.Report.{Inputs, chromosomes_of, report_of, report
 use Rattle.bt_tool.specs.declared.planning.plan_type.Command.TheVariants.{BamToBed}
 use Rattle.bt_laws.specs.Pipes.{aligned_at, aligned_record, alignments_of, bamtobed_is_input, IsInput, is_no_header}
 use Rattle.bt_laws.proofs.lemmas.pipes.LinesBack.{AreClear, clear_back, clear_both, clear_front, clear_tab, clear_number, number_column, Columns, IsColumns, record_back, text_of_columns, written_back, ends_both, strip_both, clear_handed, clear_strip}
-use Rattle.bt_laws.proofs.lemmas.Lists.{all_so}
+use Rattle.bt_runs.proofs.lemmas.Lists.{all_so}
 use Rattle.bt_lines.specs.declared.reader.line.LineEnd.{LineEnd}
 use Rattle.bt_lines.specs.declared.reader.line.LineEnd.TheVariants.{Absent, Cr, CrLf, Lf}
 use Rattle.bt_seq.specs.model.Masked.{Reached, SequenceLine, is_header, sequence_format}

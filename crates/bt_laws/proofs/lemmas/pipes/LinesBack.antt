@@ -4,7 +4,7 @@ use Rattle.bt_lines.specs.calls.Line.{NoLineFeed}
 use Rattle.bt_lines.specs.model.Lines.{TextLine, last_line, lines_from, whole_lines_from, fed_line, text_lines, Handed, lines_handed, pieces, value_of}
 use Rattle.bt_lines.proofs.lemmas.reader.lines.TextLemmas.{lines_from-fed, lines_from-last, by_lines, whole_lines_from-fed, whole_lines_from-last, IsColumn, IsInside, lines_from-nil}
 use Rattle.std.specs.Fmt.{digits}
-use Rattle.bt_laws.proofs.lemmas.Lists.{all_so, all_any, all_map, map_map, flat_map_same}
+use Rattle.bt_runs.proofs.lemmas.Lists.{all_so, all_any, all_map, map_map, flat_map_same}
 use Rattle.bt_bed.specs.model.Feature.{Feature, interval_of, intervals_of, Interval}
 use Rattle.bt_bed.specs.model.BedLine.{ends_word, first_word, is_header, is_header_word, record_of, strand_of}
 use Rattle.bt_bed.specs.calls.Features.{IsName, columns_in, is_kept, IsFeature}

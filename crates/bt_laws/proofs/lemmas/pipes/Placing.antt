@@ -9,7 +9,7 @@ use Rattle.bt_bed.proofs.lemmas.parse.NameLemmas.{name_ne-sym}
 use Rattle.bt_laws.specs.Runs.{AreAscending, AreKnown}
 use Rattle.bt_runs.proofs.lemmas.order.FileOrder.{rank_of-here}
 use Rattle.bt_laws.specs.Pipes.{AreSeparate}
-use Rattle.bt_laws.proofs.lemmas.Lists.{EachPair, all_any, all_both, all_filter, all_flat_map, all_map, all_so, all_unmap, all_zip}
+use Rattle.bt_runs.proofs.lemmas.Lists.{EachPair, all_any, all_both, all_filter, all_flat_map, all_map, all_so, all_unmap, all_zip}
 
 -- ---- pairs
 

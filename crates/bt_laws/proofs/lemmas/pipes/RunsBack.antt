@@ -16,7 +16,7 @@ use Rattle.bt_bed.specs.declared.record.strand.Strand.{Strand}
 use Rattle.bt_runs.proofs.lemmas.order.FileOrder.{some_placed, distinct_chromosomes}
 use Rattle.bt_laws.proofs.lemmas.single.StrandOrder.{names_in_order}
 use Rattle.bt_laws.specs.Pipes.{AreSeparate, IsInput, is_no_header, three_columns, AreDisjoint, four_columns}
-use Rattle.bt_laws.proofs.lemmas.Lists.{EachPair, all_any, all_filter, all_flat_map, all_map, all_so, filter_all, all_zip, all_unmap, map_map}
+use Rattle.bt_runs.proofs.lemmas.Lists.{EachPair, all_any, all_filter, all_flat_map, all_map, all_so, filter_all, all_zip, all_unmap, map_map}
 use Rattle.bt_laws.proofs.lemmas.pipes.LinesBack.{Columns, IsColumns, text_of_columns, placed_known, written_back, record_back, IsSaid, IsChrom, clear_tab, clear_number, strip_number, number_column}
 use Rattle.bt_laws.proofs.lemmas.pipes.Placing.{Earlier, apart_pairs, ascending_pairs, on_name, parts_pairs, parts_placed, spans_apart, spans_placed, known_names, names_pairs, pairs_filter, pairs_from_map, pairs_map, pairs_so}
 use Rattle.bt_laws.proofs.lemmas.parts.PartMerge.{named_all, listed_all}

@@ -18,7 +18,7 @@ use Rattle.bt_sweep.specs.declared.output.shape.Shape.TheVariants.{Count, Cut, C
 use Rattle.bt_sweep.proofs.lemmas.definitions.PieceLemmas.{are_pieces}
 use Rattle.bt_sweep.proofs.lemmas.definitions.HitLemmas.{hit_overlaps, overlap_parts}
 use Rattle.bt_laws.specs.Pipes.{begins_with_a, line_count, AreDisjoint, IsInput, is_no_header}
-use Rattle.bt_laws.proofs.lemmas.Lists.{EachPair, all_any, all_both, all_flat_map, all_map, all_so, filter_all, all_zip, map_flat, map_map, all_unmap}
+use Rattle.bt_runs.proofs.lemmas.Lists.{EachPair, all_any, all_both, all_flat_map, all_map, all_so, filter_all, all_zip, map_flat, map_map, all_unmap}
 use Rattle.bt_laws.proofs.lemmas.pipes.LinesBack.{clear_both, clear_number, Columns, IsColumns, lines_back, record_back, text_of_columns, placed_known, IsSaid, tail_clear}
 use Rattle.bt_laws.proofs.lemmas.pipes.Placing.{apart_pairs, pairs_both, pairs_filter, pairs_from_map, pairs_map, pairs_so}
 

@@ -16,7 +16,7 @@ use Rattle.bt_sweep.specs.declared.output.shape.Shape.TheVariants.{Count, Cut, C
 use Rattle.bt_laws.specs.Pipes.{EndsPlain, KeepsStrand, TakesNoStrand, begins_with_a, copies_written, is_a_alone, line_count, read_alone, read_before, records_for, records_written}
 use Rattle.bt_laws.proofs.lemmas.pipes.LinesBack.{IsDigit, decimal_digits, strip_number, number_column, record_back, IsSaid, columns_text, kept_by, name_first, record_with, strip_both, strip_columns}
 use Rattle.bt_laws.proofs.lemmas.pipes.SweepBack.{Hit, all_columns, all_hits, columns_at, columns_for, hit_columns, part, piece_columns, same_name}
-use Rattle.bt_laws.proofs.lemmas.Lists.{all_any, all_map, all_so, flat_map_same, all_zip, map_map, map_flat}
+use Rattle.bt_runs.proofs.lemmas.Lists.{all_any, all_map, all_so, flat_map_same, all_zip, map_map, map_flat}
 
 -- ---- the columns of a line, read again
 

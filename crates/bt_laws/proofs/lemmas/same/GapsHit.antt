@@ -26,7 +26,7 @@ use Rattle.bt_tool.specs.declared.planning.plan_type.Command.TheVariants.{Comple
 use Rattle.bt_laws.specs.WholeRuns.{first_records, second_records, RunWrites, of_second, with_second}
 use Rattle.bt_laws.specs.Same.{LieWithinLengths, subtract_by_complement}
 use Rattle.bt_laws.specs.Pipes.{AreSeparate, IsInput, is_no_header, three_columns}
-use Rattle.bt_laws.proofs.lemmas.Lists.{EachPair, all_any, all_map, all_so, filter_all, flat_map_same, all_zip}
+use Rattle.bt_runs.proofs.lemmas.Lists.{EachPair, all_any, all_map, all_so, filter_all, flat_map_same, all_zip}
 use Rattle.bt_laws.proofs.lemmas.pipes.RunsBack.{gaps_back, gaps_pairs}
 use Rattle.bt_laws.proofs.lemmas.pipes.PipeLaws.{chroms_of, intersect_whole, subtract_whole, well_there}
 use Rattle.bt_laws.proofs.lemmas.pipes.Placing.{pairs_filter, pairs_map, pairs_so}

@@ -18,7 +18,7 @@ use Rattle.bt_laws.specs.WholeRuns.{RunsWithoutFault}
 use Rattle.bt_laws.specs.Same.{NamesOne, bed_records, is_masked, masked_by_sorted, sequence_lines, with_bed}
 use Rattle.bt_laws.proofs.lemmas.parts.PartGenomes.{off_behind}
 use Rattle.bt_laws.proofs.lemmas.parts.PartMasked.{none_owned}
-use Rattle.bt_laws.proofs.lemmas.Lists.{all_so}
+use Rattle.bt_runs.proofs.lemmas.Lists.{all_so}
 use Rattle.bt_laws.proofs.lemmas.parts.PartSequences.{names_begin}
 use Rattle.bt_laws.proofs.lemmas.same.MaskTwice.{bed_of, by_both, or_last, nones}
 

@@ -22,7 +22,7 @@ use Rattle.bt_laws.proofs.lemmas.pipes.PipeLaws.{report_is, well_there, SameCove
 use Rattle.bt_laws.proofs.lemmas.same.SameRuns.{report_there, writes_is, back, run_names, run_spans, all_counted}
 use Rattle.bt_laws.proofs.lemmas.pipes.LinesBack.{ends_both, IsSaid, good_are_said}
 use Rattle.bt_laws.proofs.lemmas.parts.PartSweep.{all_true}
-use Rattle.bt_laws.proofs.lemmas.Lists.{all_any, flat_map_same, all_so}
+use Rattle.bt_runs.proofs.lemmas.Lists.{all_any, flat_map_same, all_so}
 use Rattle.bt_laws.proofs.lemmas.same.SameSweeps.{cut_none, leave_alike, own_alike}
 use Rattle.bt_lines.specs.declared.fault.Input.{Input}
 use Rattle.bt_lines.specs.declared.fault.Kind.{Kind}

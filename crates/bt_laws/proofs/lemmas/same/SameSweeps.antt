@@ -22,7 +22,7 @@ use Rattle.bt_tool.specs.model.Written.{met_report, met_within, Report, report_b
 use Rattle.bt_tool.specs.declared.planning.plan_type.Command.TheVariants.{Intersect, Subtract, Merge}
 use Rattle.bt_laws.specs.WholeRuns.{RunsWithoutFault, first_records, second_records, RunWrites, of_second, with_second}
 use Rattle.bt_laws.specs.Same.{Counted, counts_say_all, missing_is_whole, own_line, with_hits, merged_second_missing, merged_second_once, merged_second_subtract, one_base}
-use Rattle.bt_laws.proofs.lemmas.Lists.{all_any, flat_map_same, map_map, all_so}
+use Rattle.bt_runs.proofs.lemmas.Lists.{all_any, flat_map_same, map_map, all_so}
 use Rattle.bt_laws.proofs.lemmas.parts.PartSweep.{all_true}
 use Rattle.bt_laws.proofs.lemmas.pipes.PipeLaws.{intersect_whole, limit_whole, subtract_whole, well_there, SameCover, runs_cover, same_sym}
 use Rattle.bt_lines.specs.declared.fault.Input.{Input}

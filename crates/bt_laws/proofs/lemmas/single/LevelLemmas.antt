@@ -13,7 +13,7 @@ use Rattle.bt_runs.specs.model.Merged.{is_covered, runs_of}
 use Rattle.bt_runs.specs.calls.MergedRuns.{Bridged}
 use Rattle.bt_runs.proofs.lemmas.complement.Walks.{are_gaps, is_bare-Decides}
 use Rattle.bt_runs.proofs.lemmas.merge.Bridging.{are_runs, covered_below_end, is_covered-Decides, bridged_here}
-use Rattle.bt_runs.proofs.lemmas.definitions.Standing.{each_all, filter_keeps}
+use Rattle.bt_runs.proofs.lemmas.Lists.{all_any, filter_all}
 use Rattle.bt_runs.proofs.lemmas.merge.SettledRuns.{whole_taken}
 use Rattle.bt_runs.proofs.lemmas.merge.StrandListing.{are_listed}
 use Rattle.bt_runs.proofs.lemmas.merge.StrandSettling.{strand_runs_are_all}
@@ -147,11 +147,11 @@ gaps_on_all : (records : List Feature) (entries : List Entry)
     → flat_map (gaps_on (intervals_of records)) entries
     ≡ map interval_at (filter no_depth (flat_map (depths_on true None records) entries))
 gaps_on_all records [] = refl
-gaps_on_all records (e ∷ es) = grind (arith, (gaps_on_all records es), map-append, filter-append, filter_keeps, each_all, places_kept, gaps_by_depth, places_of_spans)
+gaps_on_all records (e ∷ es) = grind (arith, (gaps_on_all records es), map-append, filter-append, filter_all, all_any, places_kept, gaps_by_depth, places_of_spans)
 
 pub gaps_depth_0 : gaps_have_depth_0
 unfolding complement coverage no_depth
-gaps_depth_0 entries records = grind (arith, (filter_keeps (λ e. true) entries (each_all (λ e. true ≡ true) (λ e. refl) entries)), (gaps_on_all records entries))
+gaps_depth_0 entries records = grind (arith, (filter_all (λ e. true) entries (all_any (λ e. true ≡ true) entries (λ e. refl))), (gaps_on_all records entries))
 
 -- Lemmas on what is kept beside what is settled.
 

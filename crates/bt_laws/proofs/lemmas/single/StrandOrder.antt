@@ -1,5 +1,5 @@
 -- The runs of several strands come in the order of their first records.
-use Rattle.bt_lines.proofs.Std.{rules, ◌≡◌, ℕ, zero, suc, ◌+◌, ◌<◌, ◌≤◌, inl, inr, refl, sym, ap, ap₂, ◌∙◌, arith, subst, List, [], ◌∷◌, ◌++◌, append_assoc, append-nil, length, map, Bool, true, false, Some, IsTrue, find, list_any, position_or_len, IsStrictlyIncreasing, cases_Bool, map-append, ◌||◌, or_parts, is_lt, bytes_eq, if◌then◌else◌}
+use Rattle.bt_lines.proofs.Std.{AllByRecursion, rules, ◌≡◌, ℕ, zero, suc, ◌+◌, ◌<◌, ◌≤◌, inl, inr, refl, sym, ap, ap₂, ◌∙◌, arith, subst, List, [], ◌∷◌, ◌++◌, append_assoc, append-nil, length, map, Bool, true, false, Some, IsTrue, find, list_any, position_or_len, IsStrictlyIncreasing, cases_Bool, map-append, ◌||◌, or_parts, is_lt, bytes_eq, if◌then◌else◌}
 use Rattle.bt_bed.specs.model.Feature.{Feature, interval_of, intervals_of, Interval}
 use Rattle.bt_bed.specs.model.Sorted.{Locus, locus_of}
 use Rattle.bt_bed.specs.calls.Orders.{ArePlaced, IsPlacedBefore, IsUpTo, IsTotal, AreDistinct}
@@ -9,7 +9,7 @@ use Rattle.bt_runs.specs.model.Merged.{StrandRun, is_in, places_of, strand_runs,
 use Rattle.bt_runs.specs.calls.MergedRuns.{AreTaken}
 use Rattle.bt_laws.specs.Merges.{first_place, first_start, strand_runs_come_in_order, strand_runs_come_in_turn, strand_runs_start_with_records}
 use Rattle.bt_runs.specs.inside.merge.StrandStep.{run_from}
-use Rattle.bt_runs.proofs.lemmas.definitions.Standing.{Each, Some_of, each_append, each_map, each_weaker, each_both, none_each, some_weaker}
+use Rattle.bt_runs.proofs.lemmas.Lists.{Some_of, all_and, all_both, all_map, all_so, none_each, some_weaker}
 use Rattle.bt_runs.proofs.lemmas.order.FileOrder.{skips, in_file_order, ordered_come}
 use Rattle.bt_runs.proofs.lemmas.merge.StrandListing.{joined_to, new_run, reaches, IsWithinOrFar, Lies, Listed, are_listed, lies_true, listing_next, not_in_new, same_in, some_base, up}
 use Rattle.bt_runs.proofs.lemmas.merge.SettledRuns.{taken_front}
@@ -28,7 +28,7 @@ module _ {A : Type 0} where
   found_later test x xs f = grind arith
 
   -- it stays the first if more come after it, also by a test that agrees
-  found_same : (test other : A → Bool) (xs ys : List A) → Each (λ x. test x ≡ other x) xs
+  found_same : (test other : A → Bool) (xs ys : List A) → AllByRecursion (λ x. test x ≡ other x) xs
       → Some_of (λ x. other x ≡ true) xs
       → (find test (xs ++ ys) ≡ find other xs)
       × (position_or_len test (xs ++ ys) ≡ position_or_len other xs)
@@ -45,7 +45,7 @@ module _ {A : Type 0} where
   ]
 
   -- or the last is the first that passes
-  found_last : (test : A → Bool) (xs : List A) (y : A) → Each (λ x. test x ≡ false) xs
+  found_last : (test : A → Bool) (xs : List A) (y : A) → AllByRecursion (λ x. test x ≡ false) xs
       → test y ≡ true
       → (find test (xs ++ y ∷ []) ≡ Some y) × (position_or_len test (xs ++ y ∷ []) ≡ length xs)
   found_last test [] y e t = found_here test y [] t
@@ -67,11 +67,11 @@ module _ {A : Type 0} where
 -- numbers that rise, in a list that grows at its end
 abbrev Rise : List ℕ → Type 0
 Rise [] = Unit {0}
-Rise (n ∷ ns) = Each (λ m. n < m) ns × Rise ns
+Rise (n ∷ ns) = AllByRecursion (λ m. n < m) ns × Rise ns
 
-rise_more : (ns : List ℕ) (n : ℕ) → Rise ns → Each (λ m. m < n) ns → Rise (ns ++ n ∷ [])
+rise_more : (ns : List ℕ) (n : ℕ) → Rise ns → AllByRecursion (λ m. m < n) ns → Rise (ns ++ n ∷ [])
 rise_more [] n r e = (tt, tt)
-rise_more (m ∷ ms) n r e = grind (arith, (rise_more ms n r.1 e.1), each_append)
+rise_more (m ∷ ms) n r e = grind (arith, (rise_more ms n r.1 e.1), all_both)
 
 rise_increases : (ns : List ℕ) → Rise ns → IsStrictlyIncreasing ns
 rise_increases [] r k h = absurd (omega arith)
@@ -79,12 +79,12 @@ rise_increases (n ∷ []) r k h = absurd (omega arith)
 rise_increases (n ∷ m ∷ ms) r zero h = r.0.0
 rise_increases (n ∷ m ∷ ms) r (suc k) h = grind (arith, (rise_increases (m ∷ ms) r.1 k (omega arith)))
 
-map_same : {A B : Type 0} (f g : A → B) (xs : List A) → Each (λ x. f x ≡ g x) xs
+map_same : {A B : Type 0} (f g : A → B) (xs : List A) → AllByRecursion (λ x. f x ≡ g x) xs
     → map f xs ≡ map g xs
 map_same f g [] e = refl
 map_same f g (x ∷ xs) e = ap₂ (λ y ys. y ∷ ys) e.0 (map_same f g xs e.1)
 
-map_changed : {A B : Type 0} (h : A → A) (f g : A → B) (xs : List A) → Each (λ x. f (h x) ≡ g x) xs
+map_changed : {A B : Type 0} (h : A → A) (f g : A → B) (xs : List A) → AllByRecursion (λ x. f (h x) ≡ g x) xs
     → map f (map h xs) ≡ map g xs
 map_changed h f g [] e = refl
 map_changed h f g (x ∷ xs) e = ap₂ (λ y ys. y ∷ ys) e.0 (map_changed h f g xs e.1)
@@ -97,7 +97,7 @@ same_start gap r item = grind arith
 -- what is known of the first records of the runs
 record Firsts (gap : ℕ) (past : List Feature) : Type 0 where
   rise : Rise (map (first_place past) (strand_runs gap past))
-  start : Each (λ item. first_start past item ≡ Some (locus_of item.run)) (strand_runs gap past)
+  start : AllByRecursion (λ item. first_start past item ≡ Some (locus_of item.run)) (strand_runs gap past)
 
 module _ (gap : ℕ) (past : List Feature) (r : Feature)
     (taken : AreTaken (past ++ r ∷ [])) (listed : Listed gap past) where
@@ -110,23 +110,22 @@ module _ (gap : ℕ) (past : List Feature) (r : Feature)
     start : first_start (past ++ r ∷ []) (joined_to gap r item) ≡ first_start past item
     below : first_place past item < length past
 
-  same_first : (item : StrandRun) → Each (λ p. IsWithinOrFar gap item p) past
+  same_first : (item : StrandRun) → AllByRecursion (λ p. IsWithinOrFar gap item p) past
       → Some_of (λ p. Lies item p) past → Same item
   same_first item apart has =
       let new = is_in (joined_to gap r item) in
       let Up : Feature → Type 0 = λ p. p.chrom ≡ r.chrom → p.start ≤ r.start in
-      let alike = each_weaker (λ p. IsWithinOrFar gap item p × Up p) (λ p. new p ≡ is_in item p)
-      (λ p both. same_in gap r item p both.0 both.1) past
-      (each_both (λ p. IsWithinOrFar gap item p) Up past apart (up gap past r taken listed)) in
+      let alike = all_so (λ p. IsWithinOrFar gap item p × Up p) (λ p. new p ≡ is_in item p) past (λ p both. same_in gap r item p both.0 both.1)
+      (all_and (λ p. IsWithinOrFar gap item p) Up past apart (up gap past r taken listed)) in
       let some = some_weaker (λ p. Lies item p) (λ p. is_in item p ≡ true)
       (λ p l. lies_true item p l) past has in
       grind (arith, (found_same new (is_in item) past (r ∷ []) alike some), found_below)
 
-  all_same : Each Same old
+  all_same : AllByRecursion Same old
   all_same =
-      let Apart : StrandRun → Type 0 = λ item. Each (λ p. IsWithinOrFar gap item p) past in
+      let Apart : StrandRun → Type 0 = λ item. AllByRecursion (λ p. IsWithinOrFar gap item p) past in
       let Has : StrandRun → Type 0 = λ item. Some_of (λ p. Lies item p) past in
-      grind (arith, (each_weaker (λ item. Apart item × Has item) Same (λ item both. same_first item both.0 both.1) old (each_both Apart Has old listed.apart listed.has)))
+      grind (arith, (all_so (λ item. Apart item × Has item) Same old (λ item both. same_first item both.0 both.1) (all_and Apart Has old listed.apart listed.has)))
 
   -- a new one has the record
   record New : Type 0 where
@@ -137,21 +136,20 @@ module _ (gap : ℕ) (past : List Feature) (r : Feature)
   is_new f =
       let Full : Feature → Type 0 = λ p. p.start < p.stop in
       let In : Feature → Type 0 = λ p. Some_of (λ item. Lies item p) old in
-      let out = each_weaker (λ p. In p × Full p) (λ p. is_in (run_from r) p ≡ false)
-      (λ p both. not_in_new gap r old (none_each (reaches gap r) old f) p both.0 both.1) past
-      (each_both In Full past listed.lies (some_base gap past r taken listed)) in
+      let out = all_so (λ p. In p × Full p) (λ p. is_in (run_from r) p ≡ false) past (λ p both. not_in_new gap r old (none_each (reaches gap r) old f) p both.0 both.1)
+      (all_and In Full past listed.lies (some_base gap past r taken listed)) in
       let here = lies_true (run_from r) r
       (record { same = refl; on = refl; from = omega arith; to = omega arith }) in
       grind (arith, (found_last (is_in (run_from r)) past r out here))
 
   places_old : map (first_place (past ++ r ∷ [])) (map (joined_to gap r) old)
       ≡ map (first_place past) old
-  places_old = grind (arith, map_changed, each_weaker, all_same)
+  places_old = grind (arith, map_changed, all_so, all_same)
 
-  starts_old : Each (λ item. first_start past item ≡ Some (locus_of item.run)) old
-      → Each (λ item. first_start (past ++ r ∷ []) item ≡ Some (locus_of item.run))
+  starts_old : AllByRecursion (λ item. first_start past item ≡ Some (locus_of item.run)) old
+      → AllByRecursion (λ item. first_start (past ++ r ∷ []) item ≡ Some (locus_of item.run))
       (map (joined_to gap r) old)
-  starts_old start = grind (arith, each_map, each_weaker, same_start, (each_both Same (λ item. first_start past item ≡ Some (locus_of item.run)) old all_same start))
+  starts_old start = grind (arith, all_map, all_so, same_start, (all_and Same (λ item. first_start past item ≡ Some (locus_of item.run)) old all_same start))
 
   firsts_next : Firsts gap past → Firsts gap (past ++ r ∷ [])
   firsts_next firsts =
@@ -163,7 +161,7 @@ module _ (gap : ℕ) (past : List Feature) (r : Feature)
             let is : strand_runs gap next ≡ joined =
             more ∙ ap (λ b. joined ++ new_run b r) t ∙ append-nil joined in
             record {
-              rise = subst (λ l. Rise l) (sym (ap (map (first_place next)) is ∙ (grind (arith, map_changed, each_weaker, all_same))))
+              rise = subst (λ l. Rise l) (sym (ap (map (first_place next)) is ∙ (grind (arith, map_changed, all_so, all_same))))
                   firsts.rise;
               start = rw is (starts_old firsts.start);
             }
@@ -177,8 +175,8 @@ module _ (gap : ℕ) (past : List Feature) (r : Feature)
             ap (map (first_place next)) is ∙ map-append (first_place next) joined (run_from r ∷ [])
             ∙ ap₂ (λ (a : List ℕ) (n : ℕ). a ++ n ∷ []) places_old new.place in
             record {
-              rise = rw places (rise_more before (length past) firsts.rise (grind (arith, each_map, each_weaker, all_same)));
-              start = rw is (each_append (λ item. first_start next item ≡ Some (locus_of item.run))
+              rise = rw places (rise_more before (length past) firsts.rise (grind (arith, all_map, all_so, all_same)));
+              start = rw is (all_both (λ item. first_start next item ≡ Some (locus_of item.run))
                   joined (run_from r ∷ []) (starts_old firsts.start) (new.start, tt));
             }
       ]

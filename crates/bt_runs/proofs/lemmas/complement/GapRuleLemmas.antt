@@ -11,7 +11,8 @@ use Rattle.bt_bed.specs.model.Sorted.{has_records, Locus}
 use Rattle.bt_runs.specs.model.Gaps.{gaps_of, gaps_on, is_asked, is_over, complement, settled_gaps}
 use Rattle.bt_runs.specs.inside.Walk.{AreReached, Place, left_before, places, Does, EnterAnswers, FitsPast, PutsRestAtEnd, IsNamed, IsPlaced, entry_at, going, is_on, walk_step}
 use Rattle.bt_runs.specs.inside.GapStep.{bare_gap, gap_between, gap_walk, last_gap}
-use Rattle.bt_runs.proofs.lemmas.definitions.Standing.{filter_map_all, filter_map_none, has_records-push, compare_same, apart, found}
+use Rattle.bt_runs.proofs.lemmas.definitions.Standing.{has_records-push, compare_same, apart, found}
+use Rattle.bt_runs.proofs.lemmas.Lists.{filter_map_all, filter_map_none}
 use Rattle.bt_runs.proofs.lemmas.order.FileOrder.{spans_on-push_elsewhere, spans_on-none, spans_on-push_here}
 use Rattle.bt_runs.proofs.lemmas.complement.Walks.{OneGap, one_gaps, span_between, EndBy, cover_gap, end_both, end_later, Walked, form_of, Held, Steps, ends, rank_entry, reaches, settles_items, steps, taken_front, entered_steps, going_to, step_starts}
 use Rattle.bt_runs.proofs.lemmas.order.ByChromosome.{Divides, Owes, Written, intervals_next, name_at, size_there, found_at, found_entry, size_ranked}

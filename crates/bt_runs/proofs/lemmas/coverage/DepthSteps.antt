@@ -15,7 +15,8 @@ use Rattle.bt_runs.proofs.lemmas.order.ByChromosome.{Divides, Owes, Written, fou
 use Rattle.bt_runs.proofs.lemmas.coverage.OpenLemmas.{counted_elsewhere, counted_append, counted_none, bare_levels, known_at, known_first, known_next, left_end, settled_and_left, settled_at, settled_end, settled_first, settled_next, with_counted, across_known, none_open, all_open, walk_depth}
 use Rattle.bt_runs.specs.model.Gaps.{is_over_at}
 use Rattle.bt_runs.specs.calls.Complementing.{AreTaken}
-use Rattle.bt_runs.proofs.lemmas.definitions.Standing.{filter_map_all, filter_map_none, compare_same, apart, found}
+use Rattle.bt_runs.proofs.lemmas.definitions.Standing.{compare_same, apart, found}
+use Rattle.bt_runs.proofs.lemmas.Lists.{filter_map_all, filter_map_none}
 use Rattle.bt_runs.proofs.lemmas.coverage.LevelLemmas.{StopIn, scan_run, scan_split}
 use Rattle.bt_runs.proofs.lemmas.complement.Walks.{Walked, form_of, Held, Steps, ends, reaches, settles_items, steps, rank_entry, taken_front}
 use Rattle.bt_runs.specs.calls.Engine.{Settles, fault_of}
@@ -288,7 +289,7 @@ module _ {old : Covering} {place : Place Known} {chrom : List ℕ} {size : ℕ} 
   counts_err Write fault new held is cut want = inl (rw (step_is, is) cut)
   counts_err Memory fault new held is puts want = inr (is, (to_keep (want refl), rw step_is puts))
 
--- the same for the place that the code has
+-- a record is counted at the place that the code has
 module _ (base : Covering) (on : CurrentChrom) (here : on.is_known ≡ true) {r : Feature} {bounds : Bounds} {counted : Bool} (next : IsNext base.strand r bounds counted) (out grown : Output) where
   -- a coverage with these open records
   abbrev pub covering : Option DepthCursor → OpenAt → Covering

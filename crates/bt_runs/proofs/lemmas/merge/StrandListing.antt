@@ -1,5 +1,5 @@
 -- The runs of several strands, listed by their first records: what one more record does to the list.
-use Rattle.bt_lines.proofs.Std.{rules, ◌≡◌, ℕ, ◌≤◌, inl, inr, List, [], ◌∷◌, ◌++◌, append-nil, refl, sym, ap, ap₂, ◌∙◌, subst, arith, cond, filter, length, map, Bool, true, false, not, ◌&&◌, ◌||◌, list_any, cases_Bool, cond-true, cond-false, false≢true, not_from_true, not_from_false, length-map, map-append, ◌+◌, ◌<◌, ◌⊎◌, append_assoc, and_parts, false_from_ne_true, filter-append, recursion_from_All, any-filter_same}
+use Rattle.bt_lines.proofs.Std.{AllByRecursion, rules, ◌≡◌, ℕ, ◌≤◌, inl, inr, List, [], ◌∷◌, ◌++◌, append-nil, refl, sym, ap, ap₂, ◌∙◌, subst, arith, cond, filter, length, map, Bool, true, false, not, ◌&&◌, ◌||◌, list_any, cases_Bool, cond-true, cond-false, false≢true, not_from_true, not_from_false, length-map, map-append, ◌+◌, ◌<◌, ◌⊎◌, append_assoc, and_parts, false_from_ne_true, filter-append, recursion_from_All, any-filter_same}
 use Rattle.bt_bed.specs.model.Feature.{Feature, interval_of, intervals_of, Interval, last_from, last_of, is_strand}
 use Rattle.bt_bed.specs.model.Sorted.{has_records}
 use Rattle.bt_bed.specs.calls.Orders.{AreContiguous}
@@ -11,7 +11,8 @@ use Rattle.bt_runs.specs.inside.merge.UnstrandedStep.{joined_run, left_by, settl
 use Rattle.bt_runs.specs.inside.merge.StrandStep.{run_from, run_with}
 use Rattle.bt_runs.specs.declared.merge.merge_strand.MergeStrand.TheVariants.{One}
 use Rattle.bt_runs.proofs.lemmas.order.ByChromosome.{intervals_next, full_front, full_last}
-use Rattle.bt_runs.proofs.lemmas.definitions.Standing.{Each, any_from, each_append, each_front, each_map, each_weaker, filter_passes, map_leaves, none_from, some_right, has_records-here, Some_of, any_same, any_some, each_all, each_both, each_filter, each_swap, each_unmap, filter_changed, filter_drops, none_each, some_each, some_left, some_map, some_out, some_weaker, counted-append}
+use Rattle.bt_runs.proofs.lemmas.definitions.Standing.{has_records-here, counted-append}
+use Rattle.bt_runs.proofs.lemmas.Lists.{Some_of, all_and, all_any, all_both, all_filter, all_front, all_map, all_so, all_swapped, all_unmap, any_from, any_same, any_some, filter_changed, filter_none, filter_passes, map_leaves, none_each, none_from, some_each, some_left, some_map, some_out, some_right, some_weaker}
 use Rattle.bt_runs.proofs.lemmas.merge.SettledRuns.{next_taken, taken_front, whole_taken}
 
 -- strands that are one
@@ -22,13 +23,13 @@ strand_self s = grind arith
 not_gone : (x r : Interval) (xs : List Interval) → x.chrom ≡ r.chrom → has_records x.chrom (xs ++ r ∷ []) ≡ false → ⊥
 not_gone x r xs e gone = false≢true (sym gone ∙ has_records-here x.chrom xs r (sym e))
 
-pub up_to : (xs : List Interval) (r : Interval) → AreContiguous (xs ++ r ∷ []) → Each (λ p. p.chrom ≡ r.chrom → p.start ≤ r.start) xs
+pub up_to : (xs : List Interval) (r : Interval) → AreContiguous (xs ++ r ∷ []) → AllByRecursion (λ p. p.chrom ≡ r.chrom → p.start ≤ r.start) xs
 up_to [] r t = tt
 up_to (x ∷ []) r t = (λ e. elim t.0 [ inl s ↦ s.1 | inr gone ↦ absurd (not_gone x r [] e gone) ], tt)
 up_to (x ∷ y ∷ ys) r t = grind (arith, (up_to (y ∷ ys) r t.1), not_gone)
 
 -- and so does the last one, on the same chromosome
-pub last_there : (x : Interval) (xs : List Interval) (r : Interval) → AreContiguous (x ∷ xs ++ r ∷ []) → Each (λ p. p.chrom ≡ r.chrom → ((last_from x xs).chrom ≡ r.chrom) × ((last_from x xs).start ≤ r.start)) (x ∷ xs)
+pub last_there : (x : Interval) (xs : List Interval) (r : Interval) → AreContiguous (x ∷ xs ++ r ∷ []) → AllByRecursion (λ p. p.chrom ≡ r.chrom → ((last_from x xs).chrom ≡ r.chrom) × ((last_from x xs).start ≤ r.start)) (x ∷ xs)
 last_there x [] r t = (λ e. (e, (up_to (x ∷ []) r t).0 e), tt)
 last_there x (y ∷ ys) r t = grind (arith, (last_there y ys r t.1), not_gone)
 
@@ -43,20 +44,20 @@ module _ (gap : ℕ) (x : Interval) where
   abbrev pub IsPassed : Interval → Type 0
   IsPassed run = is_closed gap x run ≡ true
 
-  passed_leaves : (runs : List Interval) → Each IsPassed runs → Each (λ run. joined run ≡ run) runs
-  passed_leaves runs = each_weaker IsPassed (λ run. joined run ≡ run) (λ run p. cond-false (is_open run) (joined_run run x) run (not_from_true (is_closed gap x run) p)) runs
+  passed_leaves : (runs : List Interval) → AllByRecursion IsPassed runs → AllByRecursion (λ run. joined run ≡ run) runs
+  passed_leaves runs = all_so IsPassed (λ run. joined run ≡ run) runs (λ run p. cond-false (is_open run) (joined_run run x) run (not_from_true (is_closed gap x run) p))
 
-  passed_closed : (runs : List Interval) → Each IsPassed runs → Each (λ run. is_open run ≡ false) runs
-  passed_closed runs = each_weaker IsPassed (λ run. is_open run ≡ false) (λ run p. not_from_true (is_closed gap x run) p) runs
+  passed_closed : (runs : List Interval) → AllByRecursion IsPassed runs → AllByRecursion (λ run. is_open run ≡ false) runs
+  passed_closed runs = all_so IsPassed (λ run. is_open run ≡ false) runs (λ run p. not_from_true (is_closed gap x run) p)
 
-  none_open : (runs : List Interval) → Each IsPassed runs → runs ++ x ∷ [] ≡ map joined runs ++ cond (list_any is_open runs) [] (x ∷ [])
+  none_open : (runs : List Interval) → AllByRecursion IsPassed runs → runs ++ x ∷ [] ≡ map joined runs ++ cond (list_any is_open runs) [] (x ∷ [])
   none_open runs passed = grind (arith, map_leaves, passed_leaves, none_from, passed_closed)
 
-  pub grown_runs : (done kept : List Interval) → Each IsPassed done → length kept ≤ 1
+  pub grown_runs : (done kept : List Interval) → AllByRecursion IsPassed done → length kept ≤ 1
       → (done ++ settled_by gap kept x) ++ with_record (left_by gap kept x) x ≡ map joined (done ++ kept) ++ cond (list_any is_open (done ++ kept)) [] (x ∷ [])
   grown_runs done [] passed few = none_open (done ++ []) (rw (append-nil done) passed)
   grown_runs done (k ∷ []) passed few = elim (cases_Bool (is_closed gap x k)) [
-    | inl t ↦ grind (arith, none_open, each_append)
+    | inl t ↦ grind (arith, none_open, all_both)
     | inr f ↦
         let opened = not_from_false (is_closed gap x k) f in
         ap₂ (λ (a b : List Interval). (done ++ a) ++ with_record b x) (cond-false (is_closed gap x k) (k ∷ []) [] f) (cond-true (is_open k) (k ∷ []) [] opened)
@@ -99,25 +100,25 @@ pub record Parted (gap : ℕ) (r : Feature) (runs : List StrandRun) : Type 0 whe
   pub done : List StrandRun
   pub kept : List StrandRun
   pub all : runs ≡ done ++ kept
-  pub passed : Each (λ item. reaches gap r item ≡ false) done
+  pub passed : AllByRecursion (λ item. reaches gap r item ≡ false) done
   pub few : length kept ≤ 1
 
 module _ (gap : ℕ) (past : List Feature) (r : Feature) (taken : AreTaken (past ++ r ∷ [])) where
   -- what is settled of a strand's runs is closed by the record
-  settled_passed : Each (IsPassed gap (interval_of r)) (settled_runs gap (One r.strand) past)
+  settled_passed : AllByRecursion (IsPassed gap (interval_of r)) (settled_runs gap (One r.strand) past)
   unfolding settled_runs
   settled_passed =
       let x = interval_of r in
       let strand = One r.strand in
       let last = ap last_of (intervals_next past r) ∙ last_of-push (intervals_of past) x in
-      grind (arith, each_front, (next_taken gap strand past r taken), (filter_passes (is_closed gap x) (merged_runs gap strand (past ++ r ∷ []))))
+      grind (arith, all_front, (next_taken gap strand past r taken), (filter_passes (is_closed gap x) (merged_runs gap strand (past ++ r ∷ []))))
 
   -- so one more record is joined to a run of its strand, or is a new one after them
   pub same_next : runs_of_strand gap (past ++ r ∷ []) r.strand ≡ map (joined_to gap r) (runs_of_strand gap past r.strand) ++ new_run (list_any (reaches gap r) (runs_of_strand gap past r.strand)) r
   same_next = grind (arith, map-append, joined_all, reaches_any, next_taken, whole_taken, grown_runs, settled_passed, taken_front)
 
   pub parted : Parted gap r (runs_of_strand gap past r.strand)
-  parted = grind (arith, map-append, settled_passed, whole_taken, taken_front, length-map, each_map, each_weaker)
+  parted = grind (arith, map-append, settled_passed, whole_taken, taken_front, length-map, all_map, all_so)
 
 -- The runs of several strands, listed by their first records: what one more record does to the list.
 
@@ -140,9 +141,9 @@ IsWithinOrFar gap item p = item.strand ≡ p.strand → item.run.chrom ≡ p.chr
 
 -- what is known of the listed runs of some records
 pub record Listed (gap : ℕ) (past : List Feature) : Type 0 where
-  pub lies : Each (λ p. Some_of (λ item. Lies item p) (strand_runs gap past)) past
-  pub has : Each (λ item. Some_of (λ p. Lies item p) past) (strand_runs gap past)
-  pub apart : Each (λ item. Each (λ p. IsWithinOrFar gap item p) past) (strand_runs gap past)
+  pub lies : AllByRecursion (λ p. Some_of (λ item. Lies item p) (strand_runs gap past)) past
+  pub has : AllByRecursion (λ item. Some_of (λ p. Lies item p) past) (strand_runs gap past)
+  pub apart : AllByRecursion (λ item. AllByRecursion (λ p. IsWithinOrFar gap item p) past) (strand_runs gap past)
   pub split : (strand : Strand) → filter (λ item. is_strand item.strand strand) (strand_runs gap past) ≡ runs_of_strand gap past strand
 
 pub listed_append : (runs : Strand → List StrandRun) (before xs ys : List Feature) → listed_behind runs before (xs ++ ys) ≡ listed_behind runs before xs ++ listed_behind runs (before ++ xs) ys
@@ -176,7 +177,7 @@ module _ (gap : ℕ) (r : Feature) where
   same_in item p apart up = search rules
 
   -- and none lies in a new run
-  pub not_in_new : (items : List StrandRun) → Each (λ item. reaches gap r item ≡ false) items → (p : Feature) → Some_of (λ item. Lies item p) items → p.start < p.stop → is_in (run_from r) p ≡ false
+  pub not_in_new : (items : List StrandRun) → AllByRecursion (λ item. reaches gap r item ≡ false) items → (p : Feature) → Some_of (λ item. Lies item p) items → p.start < p.stop → is_in (run_from r) p ≡ false
   not_in_new items none p some full = false_from_ne_true (is_in (run_from r) p) (λ i.
       let l = true_lies (run_from r) p i in
       some_out (λ item. Lies item p × (reaches gap r item ≡ false)) ⊥ (λ item both.
@@ -189,11 +190,11 @@ module _ (gap : ℕ) (past : List Feature) (r : Feature) (taken : AreTaken (past
   abbrev pub some_reached : Bool
   some_reached = list_any (reaches gap r) (strand_runs gap past)
 
-  pub up : Each (λ p. p.chrom ≡ r.chrom → p.start ≤ r.start) past
-  up = grind (arith, each_unmap, up_to, intervals_next)
+  pub up : AllByRecursion (λ p. p.chrom ≡ r.chrom → p.start ≤ r.start) past
+  up = grind (arith, all_unmap, up_to, intervals_next)
 
-  pub some_base : Each (λ p. p.start < p.stop) past
-  some_base = each_unmap (λ p. p.start < p.stop) interval_of past (recursion_from_All (λ p. p.start < p.stop) (intervals_of past) (full_front past (r ∷ []) taken.full))
+  pub some_base : AllByRecursion (λ p. p.start < p.stop) past
+  some_base = all_unmap (λ p. p.start < p.stop) interval_of past (recursion_from_All (λ p. p.start < p.stop) (intervals_of past) (full_front past (r ∷ []) taken.full))
 
   full : r.start < r.stop
   full = full_last past r taken.full
@@ -212,48 +213,47 @@ module _ (gap : ℕ) (past : List Feature) (r : Feature) (taken : AreTaken (past
   runs_next strand = grind (arith, same_next, reached_split, leaves_other, append-nil, counted-append)
 
   -- what is so of each listed run is so of each run of a strand
-  of_strand : (P : StrandRun → Type 0) → Each P (strand_runs gap past) → (strand : Strand) → Each P (runs_of_strand gap past strand)
-  of_strand P each strand = rw (← (listed.split strand)) (each_filter P (λ item. is_strand item.strand strand) (strand_runs gap past) each)
+  of_strand : (P : StrandRun → Type 0) → AllByRecursion P (strand_runs gap past) → (strand : Strand) → AllByRecursion P (runs_of_strand gap past strand)
+  of_strand P each strand = rw (← (listed.split strand)) (all_filter P (λ item. is_strand item.strand strand) (strand_runs gap past) each)
 
   -- the record changes nothing about where another lies
   record Stays (p : Feature) : Type 0 where
-    same : (strand : Strand) → Each (λ item. is_in (joined_to gap r item) p ≡ is_in item p) (runs_of_strand gap past strand)
+    same : (strand : Strand) → AllByRecursion (λ item. is_in (joined_to gap r item) p ≡ is_in item p) (runs_of_strand gap past strand)
     not_new : some_reached ≡ false → is_in (run_from r) p ≡ false
 
   abbrev Known : Feature → Type 0
-  Known p = ((p.chrom ≡ r.chrom → p.start ≤ r.start) × (p.start < p.stop)) × (Each (λ item. IsWithinOrFar gap item p) (strand_runs gap past) × Some_of (λ item. Lies item p) (strand_runs gap past))
+  Known p = ((p.chrom ≡ r.chrom → p.start ≤ r.start) × (p.start < p.stop)) × (AllByRecursion (λ item. IsWithinOrFar gap item p) (strand_runs gap past) × Some_of (λ item. Lies item p) (strand_runs gap past))
 
-  known : Each Known past
+  known : AllByRecursion Known past
   known =
       let Up : Feature → Type 0 = λ p. p.chrom ≡ r.chrom → p.start ≤ r.start in
       let Full : Feature → Type 0 = λ p. p.start < p.stop in
-      let Apart : Feature → Type 0 = λ p. Each (λ item. IsWithinOrFar gap item p) (strand_runs gap past) in
+      let Apart : Feature → Type 0 = λ p. AllByRecursion (λ item. IsWithinOrFar gap item p) (strand_runs gap past) in
       let In : Feature → Type 0 = λ p. Some_of (λ item. Lies item p) (strand_runs gap past) in
-      grind (arith, each_both, (each_both Up Full past up some_base), (each_both Apart In past (each_swap (λ item p. IsWithinOrFar gap item p) (strand_runs gap past) past listed.apart) listed.lies))
+      grind (arith, all_and, (all_and Up Full past up some_base), (all_and Apart In past (all_swapped (λ item p. IsWithinOrFar gap item p) (strand_runs gap past) past listed.apart) listed.lies))
 
-  stays : Each Stays past
-  stays = each_weaker Known Stays (λ p k. record {
+  stays : AllByRecursion Stays past
+  stays = all_so Known Stays past (λ p k. record {
     same = of_strand (λ item. is_in (joined_to gap r item) p ≡ is_in item p)
-        (each_weaker (λ item. IsWithinOrFar gap item p) (λ item. is_in (joined_to gap r item) p ≡ is_in item p) (λ item apart. same_in gap r item p apart k.0.0) (strand_runs gap past) k.1.0);
+        (all_so (λ item. IsWithinOrFar gap item p) (λ item. is_in (joined_to gap r item) p ≡ is_in item p) (strand_runs gap past) (λ item apart. same_in gap r item p apart k.0.0) k.1.0);
     not_new = λ f. not_in_new gap r (strand_runs gap past) (none_each (reaches gap r) (strand_runs gap past) f) p k.1.1 k.0.1;
-  }) past known
+  }) known
 
   -- a record of before begins the run that it began
-  begun_same : (before : List Feature) (q : Feature) → Each Stays before → Stays q
+  begun_same : (before : List Feature) (q : Feature) → AllByRecursion Stays before → Stays q
       → begun_by (runs_of_strand gap (past ++ r ∷ []) q.strand) before q ≡ map (joined_to gap r) (begun_by (runs_of_strand gap past q.strand) before q)
   begun_same before q front s =
       let runs = runs_of_strand gap past q.strand in
       let Test : StrandRun → Bool = λ item. is_in item q && not (list_any (is_in item) before) in
-      let old = each_swap (λ p item. is_in (joined_to gap r item) p ≡ is_in item p) before runs (each_weaker Stays (λ p. Each (λ item. is_in (joined_to gap r item) p ≡ is_in item p) runs) (λ p st. st.same q.strand) before front) in
-      let alike = each_weaker (λ item. (is_in (joined_to gap r item) q ≡ is_in item q) × Each (λ p. is_in (joined_to gap r item) p ≡ is_in item p) before) (λ item. Test (joined_to gap r item) ≡ Test item)
-      (λ item e. ap₂ (λ (a b : Bool). a && not b) e.0 (any_same (is_in (joined_to gap r item)) (is_in item) before e.1)) runs
-      (each_both (λ item. is_in (joined_to gap r item) q ≡ is_in item q) (λ item. Each (λ p. is_in (joined_to gap r item) p ≡ is_in item p) before) runs (s.same q.strand) old) in
+      let old = all_swapped (λ p item. is_in (joined_to gap r item) p ≡ is_in item p) before runs (all_so Stays (λ p. AllByRecursion (λ item. is_in (joined_to gap r item) p ≡ is_in item p) runs) before (λ p st. st.same q.strand) front) in
+      let alike = all_so (λ item. (is_in (joined_to gap r item) q ≡ is_in item q) × AllByRecursion (λ p. is_in (joined_to gap r item) p ≡ is_in item p) before) (λ item. Test (joined_to gap r item) ≡ Test item) runs (λ item e. ap₂ (λ (a b : Bool). a && not b) e.0 (any_same (is_in (joined_to gap r item)) (is_in item) before e.1))
+      (all_and (λ item. is_in (joined_to gap r item) q ≡ is_in item q) (λ item. AllByRecursion (λ p. is_in (joined_to gap r item) p ≡ is_in item p) before) runs (s.same q.strand) old) in
       grind (arith, runs_next, filter-append, filter_changed, append-nil)
 
-  front_same : (before rest : List Feature) → Each Stays before → Each Stays rest
+  front_same : (before rest : List Feature) → AllByRecursion Stays before → AllByRecursion Stays rest
       → listed_behind (runs_of_strand gap (past ++ r ∷ [])) before rest ≡ map (joined_to gap r) (listed_behind (runs_of_strand gap past) before rest)
   front_same before [] front e = refl
-  front_same before (q ∷ qs) front e = grind (arith, (front_same (before ++ q ∷ []) qs (each_append Stays before (q ∷ []) front (e.0, tt)) e.1), begun_same, map-append)
+  front_same before (q ∷ qs) front e = grind (arith, (front_same (before ++ q ∷ []) qs (all_both Stays before (q ∷ []) front (e.0, tt)) e.1), begun_same, map-append)
 
   -- the record itself begins a run if it reaches none
   abbrev begins : StrandRun → Bool
@@ -265,15 +265,15 @@ module _ (gap : ℕ) (past : List Feature) (r : Feature) (taken : AreTaken (past
   last_begun : begun_by (runs_of_strand gap (past ++ r ∷ []) r.strand) past r ≡ new_run some_reached r
   last_begun =
       let runs = runs_of_strand gap past r.strand in
-      let each = each_both (λ item. is_strand item.strand r.strand ≡ true) (λ item. Some_of (λ p. Lies item p) past) runs
+      let each = all_and (λ item. is_strand item.strand r.strand ≡ true) (λ item. Some_of (λ p. Lies item p) past) runs
       (rw (← (listed.split r.strand)) (filter_passes (λ item. is_strand item.strand r.strand) (strand_runs gap past)))
       (of_strand (λ item. Some_of (λ p. Lies item p) past) listed.has r.strand) in
-      let none = filter_drops begins (map (joined_to gap r) runs) (each_map (λ item. begins item ≡ false) (joined_to gap r) runs
-      (each_weaker (λ item. (is_strand item.strand r.strand ≡ true) × Some_of (λ p. Lies item p) past) (λ item. begins (joined_to gap r item) ≡ false) (λ item e. begins_no_old item (grind arith) e.1) runs each)) in
+      let none = filter_none begins (map (joined_to gap r) runs) (all_map (λ item. begins item ≡ false) (joined_to gap r) runs
+      (all_so (λ item. (is_strand item.strand r.strand ≡ true) × Some_of (λ p. Lies item p) past) (λ item. begins (joined_to gap r item) ≡ false) runs (λ item e. begins_no_old item (grind arith) e.1) each)) in
       let here = lies_true (run_from r) r (record { same = refl; on = refl; from = omega arith; to = omega arith }) in
       let new : filter begins (new_run some_reached r) ≡ new_run some_reached r = elim (cases_Bool some_reached) [
         | inl t ↦ ap (λ b. filter begins (new_run b r)) t ∙ ap (λ b. new_run b r) (sym t)
-        | inr f ↦ grind (arith, none_from, each_weaker, stays)
+        | inr f ↦ grind (arith, none_from, all_so, stays)
       ] in
       grind (arith, runs_next, filter-append)
 
@@ -283,16 +283,15 @@ module _ (gap : ℕ) (past : List Feature) (r : Feature) (taken : AreTaken (past
   listing_next = grind (arith, listed_append, front_same, stays, last_begun)
 
   -- the new run, if there is one
-  of_new : (P : StrandRun → Type 0) → (some_reached ≡ false → P (run_from r)) → Each P (new_run some_reached r)
+  of_new : (P : StrandRun → Type 0) → (some_reached ≡ false → P (run_from r)) → AllByRecursion P (new_run some_reached r)
   of_new P new = grind arith
 
-  next_lies : Each (λ p. Some_of (λ item. Lies item p) (strand_runs gap (past ++ r ∷ []))) (past ++ r ∷ [])
+  next_lies : AllByRecursion (λ p. Some_of (λ item. Lies item p) (strand_runs gap (past ++ r ∷ []))) (past ++ r ∷ [])
   next_lies =
       let old = strand_runs gap past in
       let In : Feature → List StrandRun → Type 0 = λ p items. Some_of (λ item. Lies item p) items in
-      let before = each_weaker (λ p. In p old) (λ p. In p (map (joined_to gap r) old ++ new_run some_reached r))
-      (λ p some. some_left (λ item. Lies item p) (map (joined_to gap r) old) (new_run some_reached r)
-      (some_map (λ item. Lies item p) (joined_to gap r) old (some_weaker (λ item. Lies item p) (λ item. Lies (joined_to gap r item) p) (λ item l. lies_joined gap r item p l) old some))) past listed.lies in
+      let before = all_so (λ p. In p old) (λ p. In p (map (joined_to gap r) old ++ new_run some_reached r)) past (λ p some. some_left (λ item. Lies item p) (map (joined_to gap r) old) (new_run some_reached r)
+      (some_map (λ item. Lies item p) (joined_to gap r) old (some_weaker (λ item. Lies item p) (λ item. Lies (joined_to gap r item) p) (λ item l. lies_joined gap r item p l) old some))) listed.lies in
       let last : In r (map (joined_to gap r) old ++ new_run some_reached r) = elim (cases_Bool some_reached) [
         | inl t ↦ some_left (λ item. Lies item r) (map (joined_to gap r) old) (new_run some_reached r) (some_map (λ item. Lies item r) (joined_to gap r) old
             (some_each (λ item. reaches gap r item ≡ true) (λ item. Some_of (λ p. Lies item p) past) (λ item. Lies (joined_to gap r item) r) (λ item reach has.
@@ -305,46 +304,43 @@ module _ (gap : ℕ) (past : List Feature) (r : Feature) (taken : AreTaken (past
             old (any_some (reaches gap r) old t) listed.has))
         | inr f ↦ grind (arith, some_right)
       ] in
-      rw listing_next (each_append (λ p. In p (map (joined_to gap r) old ++ new_run some_reached r)) past (r ∷ []) before (last, tt))
+      rw listing_next (all_both (λ p. In p (map (joined_to gap r) old ++ new_run some_reached r)) past (r ∷ []) before (last, tt))
 
-  next_has : Each (λ item. Some_of (λ p. Lies item p) (past ++ r ∷ [])) (strand_runs gap (past ++ r ∷ []))
+  next_has : AllByRecursion (λ item. Some_of (λ p. Lies item p) (past ++ r ∷ [])) (strand_runs gap (past ++ r ∷ []))
   next_has =
       let old = strand_runs gap past in
       let Has : StrandRun → Type 0 = λ item. Some_of (λ p. Lies item p) (past ++ r ∷ []) in
-      rw listing_next (each_append Has (map (joined_to gap r) old) (new_run some_reached r)
-      (each_map Has (joined_to gap r) old (each_weaker (λ item. Some_of (λ p. Lies item p) past) (λ item. Has (joined_to gap r item))
-      (λ item has. some_left (λ p. Lies (joined_to gap r item) p) past (r ∷ []) (some_weaker (λ p. Lies item p) (λ p. Lies (joined_to gap r item) p) (λ p l. lies_joined gap r item p l) past has)) old listed.has))
+      rw listing_next (all_both Has (map (joined_to gap r) old) (new_run some_reached r)
+      (all_map Has (joined_to gap r) old (all_so (λ item. Some_of (λ p. Lies item p) past) (λ item. Has (joined_to gap r item)) old (λ item has. some_left (λ p. Lies (joined_to gap r item) p) past (r ∷ []) (some_weaker (λ p. Lies item p) (λ p. Lies (joined_to gap r item) p) (λ p l. lies_joined gap r item p l) past has)) listed.has))
       (of_new Has (λ f. some_right (λ p. Lies (run_from r) p) past (r ∷ []) (inl (record { same = refl; on = refl; from = omega arith; to = omega arith })))))
 
   -- a run that was listed before
-  apart_old : (item : StrandRun) → Each (λ p. IsWithinOrFar gap item p) past → Each (λ p. IsWithinOrFar gap (joined_to gap r item) p) (past ++ r ∷ [])
+  apart_old : (item : StrandRun) → AllByRecursion (λ p. IsWithinOrFar gap item p) past → AllByRecursion (λ p. IsWithinOrFar gap (joined_to gap r item) p) (past ++ r ∷ [])
   apart_old item each = elim (cases_Bool (reaches gap r item)) [
-    | inr f ↦ rw (join_not gap r item f) (each_append (λ p. IsWithinOrFar gap item p) past (r ∷ []) each (λ same on. inr (unreached gap r item f same on), tt))
-    | inl t ↦ grind (arith, (reached gap r item t), each_append, each_weaker, (each_both (λ p. IsWithinOrFar gap item p) (λ p. p.chrom ≡ r.chrom → p.start ≤ r.start) past each up))
+    | inr f ↦ rw (join_not gap r item f) (all_both (λ p. IsWithinOrFar gap item p) past (r ∷ []) each (λ same on. inr (unreached gap r item f same on), tt))
+    | inl t ↦ grind (arith, (reached gap r item t), all_both, all_so, (all_and (λ p. IsWithinOrFar gap item p) (λ p. p.chrom ≡ r.chrom → p.start ≤ r.start) past each up))
   ]
 
-  apart_new : some_reached ≡ false → Each (λ p. IsWithinOrFar gap (run_from r) p) (past ++ r ∷ [])
+  apart_new : some_reached ≡ false → AllByRecursion (λ p. IsWithinOrFar gap (run_from r) p) (past ++ r ∷ [])
   apart_new f =
       let none = none_each (reaches gap r) (strand_runs gap past) f in
-      each_append (λ p. IsWithinOrFar gap (run_from r) p) past (r ∷ [])
-      (each_weaker (λ p. Some_of (λ item. Lies item p) (strand_runs gap past)) (λ p. IsWithinOrFar gap (run_from r) p)
-      (λ p some same on. inl (some_out (λ item. Lies item p × (reaches gap r item ≡ false)) (p.stop ≤ r.stop) (λ item both.
+      all_both (λ p. IsWithinOrFar gap (run_from r) p) past (r ∷ [])
+      (all_so (λ p. Some_of (λ item. Lies item p) (strand_runs gap past)) (λ p. IsWithinOrFar gap (run_from r) p) past (λ p some same on. inl (some_out (λ item. Lies item p × (reaches gap r item ≡ false)) (p.stop ≤ r.stop) (λ item both.
       let far = unreached gap r item both.1 (both.0.same ∙ sym same) (both.0.on ∙ sym on) in
       let h = both.0.to in let g = full in omega arith)
-      (strand_runs gap past) (some_each (λ item. Lies item p) (λ item. reaches gap r item ≡ false) (λ item. Lies item p × (reaches gap r item ≡ false)) (λ item a b. (a, b)) (strand_runs gap past) some none)))
-      past listed.lies)
+      (strand_runs gap past) (some_each (λ item. Lies item p) (λ item. reaches gap r item ≡ false) (λ item. Lies item p × (reaches gap r item ≡ false)) (λ item a b. (a, b)) (strand_runs gap past) some none))) listed.lies)
       (λ same on. inl (omega arith), tt)
 
-  next_apart : Each (λ item. Each (λ p. IsWithinOrFar gap item p) (past ++ r ∷ [])) (strand_runs gap (past ++ r ∷ []))
+  next_apart : AllByRecursion (λ item. AllByRecursion (λ p. IsWithinOrFar gap item p) (past ++ r ∷ [])) (strand_runs gap (past ++ r ∷ []))
   next_apart =
       let old = strand_runs gap past in
-      let Apart : StrandRun → Type 0 = λ item. Each (λ p. IsWithinOrFar gap item p) (past ++ r ∷ []) in
-      rw listing_next (each_append Apart (map (joined_to gap r) old) (new_run some_reached r)
-      (each_map Apart (joined_to gap r) old (each_weaker (λ item. Each (λ p. IsWithinOrFar gap item p) past) (λ item. Apart (joined_to gap r item)) apart_old old listed.apart))
+      let Apart : StrandRun → Type 0 = λ item. AllByRecursion (λ p. IsWithinOrFar gap item p) (past ++ r ∷ []) in
+      rw listing_next (all_both Apart (map (joined_to gap r) old) (new_run some_reached r)
+      (all_map Apart (joined_to gap r) old (all_so (λ item. AllByRecursion (λ p. IsWithinOrFar gap item p) past) (λ item. Apart (joined_to gap r item)) old apart_old listed.apart))
       (of_new Apart apart_new))
 
   pub listed_next : Listed gap (past ++ r ∷ [])
-  listed_next = record { lies = next_lies; has = next_has; apart = next_apart; split = grind (arith, listing_next, filter-append, filter_changed, each_all, runs_next) }
+  listed_next = record { lies = next_lies; has = next_has; apart = next_apart; split = grind (arith, listing_next, filter-append, filter_changed, all_any, runs_next) }
 
 -- so it is of all records
 listed_none : (gap : ℕ) → Listed gap []

@@ -1,5 +1,5 @@
 -- The settled runs of several strands and the kept ones, and what one more record does to them.
-use Rattle.bt_lines.proofs.Std.{common_steps, ◌≡◌, ℕ, ◌+◌, ◌≤◌, inl, inr, List, [], ◌∷◌, ◌++◌, append_assoc, append-nil, refl, sym, ap, ◌∙◌, subst, arith, drop, filter, get_or, length, map, set, take, Bool, true, false, not, ◌||◌, bytes_eq, nat_lt, Option, Some, None, list_any, prefix_len, take_while, ⊤, is_some, and_left, cases_Bool, cond-true, cond-false, false≢true, ltb-true, not-true, not_from_true, or_cases, drop_at, map-append, take-append-drop, take_at, length-prefix_len, list_any-append, take_while-cons, ◌<◌, ◌-◌, le-ltb, zero, suc, ◌⊎◌, Result, Err, slice_get, or_from, set-get_or, get_or_from_slice_get, slice_get_read, slice_get_within}
+use Rattle.bt_lines.proofs.Std.{AllByRecursion, common_steps, ◌≡◌, ℕ, ◌+◌, ◌≤◌, inl, inr, List, [], ◌∷◌, ◌++◌, append_assoc, append-nil, refl, sym, ap, ◌∙◌, subst, arith, drop, filter, get_or, length, map, set, take, Bool, true, false, not, ◌||◌, bytes_eq, nat_lt, Option, Some, None, list_any, prefix_len, take_while, ⊤, is_some, and_left, cases_Bool, cond-true, cond-false, false≢true, ltb-true, not-true, not_from_true, or_cases, drop_at, map-append, take-append-drop, take_at, length-prefix_len, list_any-append, take_while-cons, ◌<◌, ◌-◌, le-ltb, zero, suc, ◌⊎◌, Result, Err, slice_get, or_from, set-get_or, get_or_from_slice_get, slice_get_read, slice_get_within}
 use Rattle.bt_bed.specs.model.Feature.{Feature, interval_of, intervals_of, Interval, last_from, last_of, is_strand}
 use Rattle.bt_bed.specs.model.BedLine.{interval_line}
 use Rattle.bt_bed.specs.calls.Orders.{AreContiguous}
@@ -10,7 +10,8 @@ use Rattle.bt_runs.specs.calls.MergedRuns.{AreTaken, kept_strand_runs}
 use Rattle.bt_runs.specs.calls.Engine.{SettledBegins, SettledStays, Settles}
 use Rattle.bt_runs.specs.inside.merge.StrandStep.{added_at, left_unsettled, settled_prefix, last_place, place_among, run_from, run_with, with_added, count_up_to, counts_up_to_last, place_of, slot_of, lengthened, with_joined, left_runs, passed_runs, placed_run, placed_runs}
 use Rattle.bt_runs.proofs.lemmas.order.ByChromosome.{intervals_next}
-use Rattle.bt_runs.proofs.lemmas.definitions.Standing.{Each, Some_of, each_append, each_both, each_front, each_unmap, each_weaker, map_leaves, none_each, none_from, some_each, some_out, not_passed, passed_elsewhere, passed_far, begins, stays}
+use Rattle.bt_runs.proofs.lemmas.definitions.Standing.{not_passed, passed_elsewhere, passed_far, begins, stays}
+use Rattle.bt_runs.proofs.lemmas.Lists.{Some_of, all_and, all_both, all_front, all_so, all_unmap, map_leaves, none_each, none_from, some_each, some_out}
 use Rattle.bt_runs.proofs.lemmas.merge.StrandListing.{joined_to, last_there, new_run, parted, reaches, Lies, Listed, are_listed, listing_next}
 use Rattle.bt_runs.proofs.lemmas.merge.SettledRuns.{taken_front}
 use Rattle.bt_lines.proofs.lemmas.Writer.{adds_lines, cut_lines}
@@ -27,18 +28,18 @@ module _ {A : Type 0} (test : A → Bool) where
   Stops [] = ⊤
   Stops (x ∷ xs) = test x ≡ false
 
-  prefix_all : (xs ys : List A) → Each (λ x. test x ≡ true) xs → Stops ys → prefix_len test (xs ++ ys) ≡ length xs
+  prefix_all : (xs ys : List A) → AllByRecursion (λ x. test x ≡ true) xs → Stops ys → prefix_len test (xs ++ ys) ≡ length xs
   prefix_all [] [] e s = refl
   prefix_all [] (y ∷ ys) e s = cond-false (test y) (1 + prefix_len test ys) 0 s
   prefix_all (x ∷ xs) ys e s = let rest = prefix_all xs ys e.1 s in let first = cond-true (test x) (1 + prefix_len test (xs ++ ys)) 0 e.0 in omega arith
 
-  pub front_is : (xs ys : List A) → Each (λ x. test x ≡ true) xs → Stops ys → take_while test (xs ++ ys) ≡ xs
+  pub front_is : (xs ys : List A) → AllByRecursion (λ x. test x ≡ true) xs → Stops ys → take_while test (xs ++ ys) ≡ xs
   front_is xs ys e s = ap (λ n. take n (xs ++ ys)) (prefix_all xs ys e s) ∙ take_at xs ys (length xs) refl
 
   pub take_goes : (x : A) (xs : List A) → test x ≡ true → take_while test (x ∷ xs) ≡ x ∷ take_while test xs
   take_goes x xs t = take_while-cons test x xs ∙ cond-true (test x) (x ∷ take_while test xs) [] t
 
-  pub front_passes : (xs : List A) → Each (λ x. test x ≡ true) (take_while test xs)
+  pub front_passes : (xs : List A) → AllByRecursion (λ x. test x ≡ true) (take_while test xs)
   front_passes [] = tt
   front_passes (x ∷ xs) = grind (arith, (front_passes xs), take_goes)
 
@@ -80,8 +81,8 @@ module _ (gap : ℕ) (r : Feature) where
     | inr f ↦ let rest = none_on xs (sym (cond-false (on_its x) (x ∷ filter on_its xs) (filter on_its xs) f) ∙ e) in rw (f, rest) refl
   ]
 
-  only_on : (x : StrandRun) (xs : List StrandRun) → ((done kept : List StrandRun) → filter on_its xs ≡ done ++ kept → Each (λ item. reaches gap r item ≡ false) done → length kept ≤ 1 → OnlyLast xs)
-      → (done kept : List StrandRun) → x ∷ filter on_its xs ≡ done ++ kept → Each (λ item. reaches gap r item ≡ false) done → length kept ≤ 1 → (list_any on_its xs ≡ true → reaches gap r x ≡ false) × OnlyLast xs
+  only_on : (x : StrandRun) (xs : List StrandRun) → ((done kept : List StrandRun) → filter on_its xs ≡ done ++ kept → AllByRecursion (λ item. reaches gap r item ≡ false) done → length kept ≤ 1 → OnlyLast xs)
+      → (done kept : List StrandRun) → x ∷ filter on_its xs ≡ done ++ kept → AllByRecursion (λ item. reaches gap r item ≡ false) done → length kept ≤ 1 → (list_any on_its xs ≡ true → reaches gap r x ≡ false) × OnlyLast xs
   only_on x xs others [] [] e passed few = absurd (cc)
   only_on x xs others [] (k ∷ []) e passed few =
       let none : filter on_its xs ≡ [] = cc in
@@ -89,7 +90,7 @@ module _ (gap : ℕ) (r : Feature) where
   only_on x xs others [] (k ∷ l ∷ ls) e passed few = absurd (omega arith)
   only_on x xs others (d ∷ ds) kept e passed few = grind arith
 
-  only_from : (xs done kept : List StrandRun) → filter on_its xs ≡ done ++ kept → Each (λ item. reaches gap r item ≡ false) done → length kept ≤ 1 → OnlyLast xs
+  only_from : (xs done kept : List StrandRun) → filter on_its xs ≡ done ++ kept → AllByRecursion (λ item. reaches gap r item ≡ false) done → length kept ≤ 1 → OnlyLast xs
   only_from [] done kept e passed few = tt
   only_from (x ∷ xs) done kept e passed few = elim (cases_Bool (on_its x)) [
     | inr f ↦ (λ some. not_reached x f, only_from xs done kept (sym (cond-false (on_its x) (x ∷ filter on_its xs) (filter on_its xs) f) ∙ e) passed few)
@@ -101,13 +102,13 @@ module _ (gap : ℕ) (r : Feature) where
 
   added_here : (x : StrandRun) (xs : List StrandRun) → list_any on_its xs ≡ false → added_at gap (x ∷ xs) r (place_among (on_its x) None) ≡ map (joined_to gap r) (x ∷ xs) ++ new_run (list_any (reaches gap r) (x ∷ xs)) r
   added_here x xs none =
-      let others = each_weaker (λ item. on_its item ≡ false) (λ item. reaches gap r item ≡ false) (λ item f. not_reached item f) xs (none_each on_its xs none) in
+      let others = all_so (λ item. on_its item ≡ false) (λ item. reaches gap r item ≡ false) xs (λ item f. not_reached item f) (none_each on_its xs none) in
       let passed = is_closed gap (interval_of r) x.run in
       elim (cases_Bool (on_its x)) [
-        | inr f ↦ ap (added_at gap (x ∷ xs) r) (cond-false (on_its x) (Some 0) None f) ∙ sym (grind (arith, map_leaves, each_weaker, none_from))
+        | inr f ↦ ap (added_at gap (x ∷ xs) r) (cond-false (on_its x) (Some 0) None f) ∙ sym (grind (arith, map_leaves, all_so, none_from))
         | inl t ↦ ap (added_at gap (x ∷ xs) r) (cond-true (on_its x) (Some 0) None t) ∙ elim (cases_Bool passed) [
-          | inl p ↦ cond-true passed (x ∷ xs ++ run_from r ∷ []) (run_with r x ∷ xs) p ∙ sym (grind (arith, map_leaves, each_weaker, none_from))
-          | inr n ↦ grind (arith, map_leaves, each_weaker, append-nil)
+          | inl p ↦ cond-true passed (x ∷ xs ++ run_from r ∷ []) (run_with r x ∷ xs) p ∙ sym (grind (arith, map_leaves, all_so, none_from))
+          | inr n ↦ grind (arith, map_leaves, all_so, append-nil)
         ]
       ]
 
@@ -116,12 +117,12 @@ module _ (gap : ℕ) (r : Feature) where
   added_is (x ∷ xs) o = grind (arith, (added_is xs o.1), added_later, place_some, added_here)
 
 -- the last record, seen from those before it
-last_near : (past : List Feature) (r : Feature) (last : Interval) → AreTaken (past ++ r ∷ []) → last_of (intervals_of past) ≡ Some last → Each (λ p. p.chrom ≡ r.chrom → (last.chrom ≡ r.chrom) × (last.start ≤ r.start)) past
+last_near : (past : List Feature) (r : Feature) (last : Interval) → AreTaken (past ++ r ∷ []) → last_of (intervals_of past) ≡ Some last → AllByRecursion (λ p. p.chrom ≡ r.chrom → (last.chrom ≡ r.chrom) × (last.start ≤ r.start)) past
 last_near [] r last taken is = tt
 last_near (q ∷ qs) r last taken is =
     let e : last_from (interval_of q) (intervals_of qs) ≡ last = cc in
-    subst (λ (l : Interval). Each (λ p. p.chrom ≡ r.chrom → (l.chrom ≡ r.chrom) × (l.start ≤ r.start)) (q ∷ qs)) e
-    (each_unmap (λ p. p.chrom ≡ r.chrom → ((last_from (interval_of q) (intervals_of qs)).chrom ≡ r.chrom) × ((last_from (interval_of q) (intervals_of qs)).start ≤ r.start)) interval_of (q ∷ qs)
+    subst (λ (l : Interval). AllByRecursion (λ p. p.chrom ≡ r.chrom → (l.chrom ≡ r.chrom) × (l.start ≤ r.start)) (q ∷ qs)) e
+    (all_unmap (λ p. p.chrom ≡ r.chrom → ((last_from (interval_of q) (intervals_of qs)).chrom ≡ r.chrom) × ((last_from (interval_of q) (intervals_of qs)).start ≤ r.start)) interval_of (q ∷ qs)
     (last_there (interval_of q) (intervals_of qs) (interval_of r) (subst AreContiguous (intervals_next (q ∷ qs) r) taken.contiguous)))
 
 module _ (gap : ℕ) where
@@ -144,7 +145,7 @@ module _ (gap : ℕ) where
   no_strand_settled = refl
 
   -- a run that was closed by the last record is closed by the next one
-  still_passed : (past : List Feature) (last : Interval) (r : Feature) (item : StrandRun) → Each (λ p. p.chrom ≡ r.chrom → (last.chrom ≡ r.chrom) × (last.start ≤ r.start)) past → Some_of (λ p. Lies item p) past
+  still_passed : (past : List Feature) (last : Interval) (r : Feature) (item : StrandRun) → AllByRecursion (λ p. p.chrom ≡ r.chrom → (last.chrom ≡ r.chrom) × (last.start ≤ r.start)) past → Some_of (λ p. Lies item p) past
       → passes last item ≡ true → passes (interval_of r) item ≡ true
   still_passed past last r item near has passed = elim (cases_name item.run.chrom r.chrom) [
     | inr other ↦ passed_elsewhere gap (interval_of r) item.run other
@@ -162,13 +163,13 @@ module _ (gap : ℕ) where
     listed : Listed gap past
     listed = are_listed gap past (taken_front past (r ∷ []) taken)
 
-    settled_still : (last : Option Interval) → last_of (intervals_of past) ≡ last → Each (λ item. passes (interval_of r) item ≡ true) (closed_prefix gap (strand_runs gap past) last)
+    settled_still : (last : Option Interval) → last_of (intervals_of past) ≡ last → AllByRecursion (λ item. passes (interval_of r) item ≡ true) (closed_prefix gap (strand_runs gap past) last)
     settled_still None is = tt
     settled_still (Some last) is =
         let front = closed_prefix gap (strand_runs gap past) (Some last) in
         let Has : StrandRun → Type 0 = λ item. Some_of (λ p. Lies item p) past in
-        let has = each_front Has front (drop (length front) (strand_runs gap past)) (rw (← (front_and_behind (passes last) (strand_runs gap past))) listed.has) in
-        grind (arith, each_weaker, still_passed, (last_near past r last taken is), (each_both (λ item. passes last item ≡ true) Has front (front_passes (passes last) (strand_runs gap past)) has))
+        let has = all_front Has front (drop (length front) (strand_runs gap past)) (rw (← (front_and_behind (passes last) (strand_runs gap past))) listed.has) in
+        grind (arith, all_so, still_passed, (last_near past r last taken is), (all_and (λ item. passes last item ≡ true) Has front (front_passes (passes last) (strand_runs gap past)) has))
 
     only : OnlyLast gap r (strand_runs gap past)
     only =
@@ -179,8 +180,8 @@ module _ (gap : ℕ) where
     stops_added items s = grind (arith, common_steps, not_passed)
 
     -- a list whose first runs the record closes: with the record, these stay
-    grown_behind : (front items : List StrandRun) → Each (λ item. passes (interval_of r) item ≡ true) front → map (joined_to gap r) (front ++ items) ++ new_run (list_any (reaches gap r) (front ++ items)) r ≡ front ++ (map (joined_to gap r) items ++ new_run (list_any (reaches gap r) items) r)
-    grown_behind front items e = grind (arith, map-append, list_any-append, append_assoc, each_weaker, map_leaves, none_from)
+    grown_behind : (front items : List StrandRun) → AllByRecursion (λ item. passes (interval_of r) item ≡ true) front → map (joined_to gap r) (front ++ items) ++ new_run (list_any (reaches gap r) (front ++ items)) r ≡ front ++ (map (joined_to gap r) items ++ new_run (list_any (reaches gap r) items) r)
+    grown_behind front items e = grind (arith, map-append, list_any-append, append_assoc, all_so, map_leaves, none_from)
 
     pub record Divided : Type 0 where
       pub settled : settled_strand_runs gap (past ++ r ∷ []) ≡ settled_strand_runs gap past ++ settled_prefix gap (kept_strand_runs gap past) r
@@ -197,7 +198,7 @@ module _ (gap : ℕ) where
         let rest = left_unsettled gap kept r in
         let front = done ++ more in
         let whole : strand_runs gap past ≡ front ++ rest = strand_runs_are_all past ∙ ap (λ l. done ++ l) (front_and_behind (passes x) kept) ∙ sym (append_assoc done more rest) in
-        let passed = each_append (λ item. passes x item ≡ true) done more (settled_still (last_of (intervals_of past)) refl) (front_passes (passes x) kept) in
+        let passed = all_both (λ item. passes x item ≡ true) done more (settled_still (last_of (intervals_of past)) refl) (front_passes (passes x) kept) in
         let stop = behind_stops (passes x) kept in
         let added = added_is gap r rest (only_behind gap r front rest (rw (← whole) only)) in
         grind (arith, stops_added, listing_next, listed, grown_behind, intervals_next, last_of-push, front_is, drop_at)

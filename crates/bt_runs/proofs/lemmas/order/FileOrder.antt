@@ -10,7 +10,8 @@ use Rattle.bt_runs.specs.model.Merged.{runs_of, runs_on, without, chromosomes, i
 use Rattle.std.specs.declared.cmp.Ordering.TheVariants.{Less}
 use Rattle.bt_bed.specs.inside.RankTotal.{ranks_total}
 use Rattle.bt_runs.specs.declared.merge.merge_strand.MergeStrand.{MergeStrand}
-use Rattle.bt_runs.proofs.lemmas.definitions.Standing.{each_all, filter_drops, known_rank, later_rank}
+use Rattle.bt_runs.proofs.lemmas.definitions.Standing.{known_rank, later_rank}
+use Rattle.bt_runs.proofs.lemmas.Lists.{all_any, filter_none}
 use Rattle.bt_bed.proofs.lemmas.order.OrderLemmas.{placed_contiguous}
 
 -- the records of one chromosome
@@ -139,10 +140,10 @@ same_chromosome r s ss e = grind (arith, without-here, without_twice)
 
 -- the names that have records, in the order of the names, are those in the order of first records
 names_in_order : (names : List (List ℕ)) (records : List Interval) → AreDistinct names → ArePlaced (rank_order names) records → filter (λ n. has_records n records) names ≡ chromosomes records
-names_in_order names [] distinct placed = filter_drops (λ n. false) names (each_all (λ n. false ≡ false) (λ n. refl) names)
+names_in_order names [] distinct placed = filter_none (λ n. false) names (all_any (λ n. false ≡ false) names (λ n. refl))
 names_in_order names (r ∷ []) distinct placed =
     let rank = known_rank (rank_of names r.chrom) placed.0 in
-    pick_first names r.chrom rank.0 (λ n. false) distinct rank.1 (λ n j h l. refl) ∙ ap (λ ns. r.chrom ∷ ns) (filter_drops (λ n. false) names (each_all (λ n. false ≡ false) (λ n. refl) names))
+    pick_first names r.chrom rank.0 (λ n. false) distinct rank.1 (λ n j h l. refl) ∙ ap (λ ns. r.chrom ∷ ns) (filter_none (λ n. false) names (all_any (λ n. false ≡ false) names (λ n. refl)))
 names_in_order names (r ∷ s ∷ ss) distinct placed =
     let next = ranks_up_to names r s ss placed in
     let rest = names_in_order names (s ∷ ss) distinct placed.2 in

@@ -173,7 +173,7 @@ module _ (reach : ℕ) (runs : List PendingRun) (run : PendingRun) where
         FailsToAdd out (strand_lines (placed_runs chrom (passed_runs true reach runs))) write_failed grown
     TakesAmong (Err Memory) new grown = (joined_among.0 ≡ false) × PutsPassed grown
 
-    -- the same, but it isn't taken if none is left
+    -- a record among the runs of a list: if none is left, it isn't taken
     abbrev pub TakesListed : Result Bool Failure → List PendingRun → Output → Type 0
     TakesListed (Ok true) new grown = (left_runs true reach runs ≡ []) × ((new ≡ []) × PutsPassed grown)
     TakesListed (Ok false) new grown = TakesAmong {A = Bool} (Ok false) new grown

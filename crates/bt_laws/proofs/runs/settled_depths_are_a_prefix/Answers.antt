@@ -2,7 +2,7 @@ use Rattle.bt_runs.specs.model.Depth.{coverage, settled_depths}
 use Rattle.bt_runs.specs.calls.Complementing.{AreTaken}
 use Rattle.bt_runs.proofs.lemmas.coverage.DepthSteps.{settles_depths}
 use Rattle.bt_runs.proofs.lemmas.definitions.Standing.{begins, stays}
-use Rattle.bt_laws.proofs.runs.depths.settled_depths_are_a_prefix.Goals as goal
+use Rattle.bt_laws.proofs.runs.settled_depths_are_a_prefix.Goals as goal
 
 pub returns : goal.returns
 returns c = record {

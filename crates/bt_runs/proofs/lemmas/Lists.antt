@@ -1,5 +1,5 @@
--- What holds of all elements of a list, or of all pairs, by recursion.
-use Rattle.bt_lines.proofs.Std.{◌≡◌, Bool, true, false, cond, List, [], ◌∷◌, ◌++◌, map, filter, refl, ap, ap₂, ◌∙◌, suc, arith, flat_map, AllByRecursion, AllPairs, map-append, All-from_recursion, recursion_from_All, AllPairs-cons}
+-- What holds of all elements of a list, of all pairs, or of some, by recursion.
+use Rattle.bt_lines.proofs.Std.{inl, inr, ◌⊎◌, ◌||◌, list_any, or_from, or_left, or_right, or_cases, cases_Bool, ◌≡◌, Bool, true, false, cond, List, [], ◌∷◌, ◌++◌, map, filter, refl, ap, ap₂, ◌∙◌, suc, arith, flat_map, AllByRecursion, AllPairs, map-append, All-from_recursion, recursion_from_All, AllPairs-cons}
 
 module _ {A : Type 0} where
   pub all_front : (P : A → Type 0) (xs ys : List A) → AllByRecursion P (xs ++ ys) → AllByRecursion P xs
@@ -97,3 +97,92 @@ pairs_each R (x ∷ xs) h = (
   recursion_from_All (R x) xs (λ k d within. h 0 (suc k) d (omega arith) (omega (arith, within))),
   pairs_each R xs (λ i j d below within. h (suc i) (suc j) d (omega (arith, below)) (omega (arith, within))),
 )
+
+-- What holds of some element.
+
+abbrev pub Some_of : {A : Type 0} → (A → Type 0) → List A → Type 0
+Some_of P [] = ⊥
+Some_of P (x ∷ xs) = P x ⊎ Some_of P xs
+
+pub all_and : {A : Type 0} (P Q : A → Type 0) (xs : List A) → AllByRecursion P xs → AllByRecursion Q xs → AllByRecursion (λ x. P x × Q x) xs
+all_and P Q [] e d = tt
+all_and P Q (x ∷ xs) e d = ((e.0, d.0), all_and P Q xs e.1 d.1)
+
+-- some one of them is such that it is so of it
+pub some_each : {A : Type 0} (P Q R : A → Type 0) → ((x : A) → P x → Q x → R x) → (xs : List A) → Some_of P xs → AllByRecursion Q xs → Some_of R xs
+some_each P Q R h (x ∷ xs) (inl p) e = inl (h x p e.0)
+some_each P Q R h (x ∷ xs) (inr p) e = inr (some_each P Q R h xs p e.1)
+some_each P Q R h [] p e = absurd p
+
+pub some_weaker : {A : Type 0} (P R : A → Type 0) → ((x : A) → P x → R x) → (xs : List A) → Some_of P xs → Some_of R xs
+some_weaker P R h xs p = some_each P (λ x. Unit {0}) R (λ x q u. h x q) xs p (all_any (λ x. Unit {0}) xs (λ x. tt))
+
+-- what is so of each one is so, if there is one
+pub some_out : {A : Type 0} (P : A → Type 0) (R : Type 0) → ((x : A) → P x → R) → (xs : List A) → Some_of P xs → R
+some_out P R h [] p = absurd p
+some_out P R h (x ∷ xs) (inl p) = h x p
+some_out P R h (x ∷ xs) (inr p) = some_out P R h xs p
+
+pub some_left : {A : Type 0} (P : A → Type 0) (xs ys : List A) → Some_of P xs → Some_of P (xs ++ ys)
+some_left P (x ∷ xs) ys (inl p) = inl p
+some_left P (x ∷ xs) ys (inr p) = inr (some_left P xs ys p)
+some_left P [] ys p = absurd p
+
+pub some_right : {A : Type 0} (P : A → Type 0) (xs ys : List A) → Some_of P ys → Some_of P (xs ++ ys)
+some_right P [] ys p = p
+some_right P (x ∷ xs) ys p = inr (some_right P xs ys p)
+
+pub some_map : {A B : Type 0} (P : B → Type 0) (f : A → B) (xs : List A) → Some_of (λ x. P (f x)) xs → Some_of P (map f xs)
+some_map P f (x ∷ xs) (inl p) = inl p
+some_map P f (x ∷ xs) (inr p) = inr (some_map P f xs p)
+some_map P f [] p = absurd p
+
+-- a test that some element passes, or none
+pub any_from : {A : Type 0} (test : A → Bool) (xs : List A) → Some_of (λ x. test x ≡ true) xs → list_any test xs ≡ true
+any_from test [] p = absurd p
+any_from test (x ∷ xs) (inl p) = or_left (test x) (list_any test xs) p
+any_from test (x ∷ xs) (inr p) = or_right (test x) (list_any test xs) (any_from test xs p)
+
+pub any_some : {A : Type 0} (test : A → Bool) (xs : List A) → list_any test xs ≡ true → Some_of (λ x. test x ≡ true) xs
+any_some test [] t = cc
+any_some test (x ∷ xs) t = elim (or_cases (test x) (list_any test xs) t) [ inl p ↦ inl p | inr p ↦ inr (any_some test xs p) ]
+
+pub none_from : {A : Type 0} (test : A → Bool) (xs : List A) → AllByRecursion (λ x. test x ≡ false) xs → list_any test xs ≡ false
+none_from test [] e = refl
+none_from test (x ∷ xs) e = or_from (test x) (list_any test xs) e.0 (none_from test xs e.1)
+
+pub none_each : {A : Type 0} (test : A → Bool) (xs : List A) → list_any test xs ≡ false → AllByRecursion (λ x. test x ≡ false) xs
+none_each test [] f = tt
+none_each test (x ∷ xs) f = elim (cases_Bool (test x)) [
+  | inl t ↦ let both = or_left (test x) (list_any test xs) t in absurd (cc)
+  | inr n ↦ elim (cases_Bool (list_any test xs)) [
+    | inl t ↦ let both = or_right (test x) (list_any test xs) t in absurd (cc)
+    | inr g ↦ (n, none_each test xs g)
+  ]
+]
+
+-- tests that agree on each element
+pub any_same : {A : Type 0} (test other : A → Bool) (xs : List A) → AllByRecursion (λ x. test x ≡ other x) xs → list_any test xs ≡ list_any other xs
+any_same test other [] e = refl
+any_same test other (x ∷ xs) e = ap₂ (λ (a b : Bool). a || b) e.0 (any_same test other xs e.1)
+
+pub filter_passes : {A : Type 0} (test : A → Bool) (xs : List A) → AllByRecursion (λ x. test x ≡ true) (filter test xs)
+filter_passes test [] = tt
+filter_passes {A} test (x ∷ xs) = grind (arith, (filter_passes test xs))
+
+-- a filter of mapped elements, which all pass, or none
+pub filter_map_all : {A B : Type 0} (f : A → B) (test : B → Bool) (xs : List A) → ((x : A) → test (f x) ≡ true) → filter test (map f xs) ≡ map f xs
+filter_map_all f test xs all = filter_all test (map f xs) (all_map (λ y. test y ≡ true) f xs (all_any (λ x. test (f x) ≡ true) xs all))
+
+pub filter_map_none : {A B : Type 0} (f : A → B) (test : B → Bool) (xs : List A) → ((x : A) → test (f x) ≡ false) → filter test (map f xs) ≡ []
+filter_map_none f test xs all = filter_none test (map f xs) (all_map (λ y. test y ≡ false) f xs (all_any (λ x. test (f x) ≡ false) xs all))
+
+-- a filter of changed elements, if the change doesn't change the test
+pub filter_changed : {A : Type 0} (f : A → A) (test : A → Bool) (xs : List A) → AllByRecursion (λ x. test (f x) ≡ test x) xs → filter test (map f xs) ≡ map f (filter test xs)
+filter_changed f test [] e = refl
+filter_changed f test (x ∷ xs) e = grind (arith, (filter_changed f test xs e.1))
+
+-- a change that leaves each element
+pub map_leaves : {A : Type 0} (f : A → A) (xs : List A) → AllByRecursion (λ x. f x ≡ x) xs → map f xs ≡ xs
+map_leaves f [] e = refl
+map_leaves f (x ∷ xs) e = ap₂ (λ y ys. y ∷ ys) e.0 (map_leaves f xs e.1)

@@ -1,4 +1,4 @@
-//! Laws of merged runs.
+//! Laws of merged runs, gaps and depths.
 
 ghost use Rattle.std.specs.Prelude.{◌≡◌, ℕ, List};
 ghost use Rattle.bt_bed.specs.model.Feature.{Feature, intervals_of, Span};
@@ -9,8 +9,10 @@ ghost use Rattle.bt_runs.specs.calls.Engine.{SettledBegins, SettledStays};
 ghost use Rattle.bt_runs.specs.declared.merge.merge_strand.MergeStrand.{MergeStrand};
 ghost use Rattle.bt_runs.specs.model.Merged.{counted, merged, runs_of, merged_runs, ordered_runs, settled_strand_runs, strand_runs};
 ghost use Rattle.bt_runs.specs.calls.MergedRuns.{Bridged, AreTaken, settled_runs};
-ghost use Rattle.bt_laws.specs.Merges.{one_run_is_kept, strand_runs_divide, strands_stay_in_order};
-ghost use Rattle.bt_laws.specs.Runs.{chromosomes_are_named_once, file_runs_are_ordered, names_come_in_order};
+ghost use Rattle.bt_laws.specs.Merges.{one_run_is_kept, strand_runs_divide, strands_stay_in_order, strand_runs_come_in_order, strand_runs_come_in_turn, strand_runs_start_with_records};
+ghost use Rattle.bt_laws.specs.Runs.{chromosomes_are_named_once, file_runs_are_ordered, names_come_in_order, one_place_is_kept, settled_gaps_begin, settled_gaps_stay, settled_depths_begin, settled_depths_stay, levels_are, levels_only, scan_finds_levels, stretches_are_levels, covered_have_depth, gaps_are_levels, gaps_have_depth_0, touching_runs_are_levels, runs_are_levels};
+ghost use Rattle.bt_runs.specs.model.Gaps.{gaps_of};
+ghost use Rattle.bt_runs.specs.calls.Complementing.{IsBare};
 
 /// The merged runs of a chromosome are the stretches of its bridged positions, and no other list is.
 pub fn runs_are_determined()
@@ -54,4 +56,55 @@ pub fn settled_strand_runs_are_a_prefix()
     ensures begin { (gap : ℕ) → SettledBegins (settled_strand_runs gap) (strand_runs gap) AreTaken }
     ensures kept { strand_runs_divide }
     ensures order { strands_stay_in_order }
+{}
+
+/// The runs of several strands come in the order of their first records, and each starts where its
+/// first record does. So they are in a total order of the chromosomes if the records are.
+pub fn strand_runs_follow_the_order()
+    ensures turn { strand_runs_come_in_turn }
+    ensures start { strand_runs_start_with_records }
+    ensures order { strand_runs_come_in_order }
+{}
+
+/// The gaps of a chromosome are the stretches of its bare positions, and no other list is.
+pub fn gaps_are_determined()
+    ensures are { (size : ℕ) (spans : List Span) → AreStretchesOf (IsBare size spans) (gaps_of size spans) }
+    ensures only { (size : ℕ) (spans gaps : List Span) → AreStretchesOf (IsBare size spans) gaps → gaps ≡ gaps_of size spans }
+{}
+
+/// No later record changes a settled gap, and one place at most is kept.
+pub fn settled_gaps_are_a_prefix()
+    ensures stay { settled_gaps_stay }
+    ensures begin { settled_gaps_begin }
+    ensures kept { one_place_is_kept }
+{}
+
+/// The values of the positions of a chromosome make up one list of intervals, and no other; a scan finds it. If one
+/// value stands for membership, it is the list of a set of positions.
+pub fn levels_are_determined()
+    ensures are { levels_are }
+    ensures only { levels_only }
+    ensures scan { scan_finds_levels }
+    ensures stretches { stretches_are_levels }
+{}
+
+/// No later record changes a settled interval.
+pub fn settled_depths_are_a_prefix()
+    ensures stay { settled_depths_stay }
+    ensures begin { settled_depths_begin }
+{}
+
+/// The merged runs of a chromosome that no record reaches past are the intervals of its bridged
+/// positions; with a gap of 0, of its covered ones.
+pub fn runs_are_intervals_of_one_value()
+    ensures bridged { runs_are_levels }
+    ensures covered { touching_runs_are_levels }
+{}
+
+/// The gaps of a chromosome are the intervals of its positions that aren't covered: those of depth 0,
+/// which a coverage gives if depth 0 is wanted.
+pub fn gaps_are_intervals_of_one_value()
+    ensures bare { gaps_are_levels }
+    ensures depth { covered_have_depth }
+    ensures coverage { gaps_have_depth_0 }
 {}

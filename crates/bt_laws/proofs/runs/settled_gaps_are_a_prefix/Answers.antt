@@ -3,7 +3,7 @@ use Rattle.bt_runs.specs.calls.Complementing.{AreTaken}
 use Rattle.bt_laws.proofs.lemmas.single.LevelLemmas.{one_kept}
 use Rattle.bt_runs.proofs.lemmas.complement.GapRuleLemmas.{settles_gaps}
 use Rattle.bt_runs.proofs.lemmas.definitions.Standing.{begins, stays}
-use Rattle.bt_laws.proofs.runs.gaps.settled_gaps_are_a_prefix.Goals as goal
+use Rattle.bt_laws.proofs.runs.settled_gaps_are_a_prefix.Goals as goal
 
 pub returns : goal.returns
 returns c = record {
