@@ -1,5 +1,5 @@
 -- A scan of the positions finds the intervals of equal value, and no other list has them.
-use Rattle.bt_lines.proofs.Std.{◌≡◌, ℕ, zero, suc, ◌+◌, ◌<◌, ◌≤◌, inl, inr, List, [], ◌∷◌, ◌++◌, refl, sym, ap, ◌∙◌, subst, arith, true, ◌==◌, Option, Some, None, cases_Bool, cases_lt, eq-eqb, eqb-true}
+use Rattle.bt_lines.proofs.Std.{◌≡◌, ℕ, zero, suc, ◌+◌, ◌<◌, ◌≤◌, inl, inr, List, [], ◌∷◌, ◌++◌, refl, sym, ap, ◌∙◌, subst, arith, ◌==◌, Option, Some, None, cases_Bool, cases_lt, eq-eqb, eqb-true}
 use Rattle.bt_bed.specs.model.Levels.{AreDisjointFrom, AreLevelsOf, DiffersFromNext, HasValue, Level, OneList}
 use Rattle.bt_bed.specs.calls.LevelScan.{Begun, begun_after, ended_after, levels_from, next_begun, next_ended, scanned}
 

@@ -15,7 +15,7 @@ use Rattle.bt_lines.specs.declared.reader.buffered_lines.ConsumedLines.{Consumed
 use Rattle.bt_lines.specs.declared.fault.Fault.{Fault}
 use Rattle.bt_lines.specs.declared.reader.line_reader.LineReader.{LineReader}
 use Rattle.bt_bed.specs.model.Good.{or_else, bed_format, line_says, locus_at}
-use Rattle.bt_bed.specs.inside.OrderedLookahead.{KeepsLast, ahead_of, last_in, name_in, start_in as kept_start}
+use Rattle.bt_bed.specs.inside.OrderedLookahead.{IsElsewhere, KeepsLast, ahead_of, last_in, name_in, start_in as kept_start}
 use Rattle.bt_bed.specs.model.Sorted.{Locus, Sorting, falls_in}
 use Rattle.bt_bed.specs.calls.Reading.{AnswersFault, EndsMembers, FillAnswers, GivesMember, IsLost, MemberReader, Takes, TellsOwnFailure, ahead_in}
 use Rattle.bt_bed.specs.declared.record.bed.BedRef.{BedRef}
@@ -119,10 +119,11 @@ module _ {S Q : Type 0} where
       pub takes : TakesOne device old.reader new.reader
       pub none : new.is_ahead ≡ false
 
-    -- it is at fault, or memory ran out
+    -- it is at fault, or memory ran out for the name of another chromosome
     pub record LosesLine (old : SortedReader S Q) (line : TextLine) (fault : FaultValue) (new : SortedReader S Q) : Type 0 where
       pub cause : IsLost (record { input = input_of old.reader; line = line.number })
           (line_says sorting (last_in old.lookahead) line.text) fault
+      pub elsewhere : IsElsewhere (last_in old.lookahead) (line_says sorting (last_in old.lookahead) line.text)
       pub takes : TakesOne device old.reader new.reader
       pub none : new.is_ahead ≡ false
 

@@ -1,9 +1,10 @@
 -- The last record and the chromosome of the one ahead, sorted by some rule.
-use Rattle.std.specs.Prelude.{◌≡◌, ℕ, Bool, ◌&&◌, IsTrue, IfSome, List, [], ◌∷◌, bytes_eq, is_some, if◌then◌else◌, Option, Some, None, Result, Ok, Err, option_map, unwrap_or}
+use Rattle.std.specs.Prelude.{◌≡◌, ℕ, Bool, ◌&&◌, IsTrue, IfSome, List, [], ◌∷◌, bytes_eq, is_some, if◌then◌else◌, Option, Some, None, Result, Ok, Err, option_map, unwrap_or, ⊤, false}
 use Rattle.bt_lines.specs.calls.Names.{fault_value}
 use Rattle.bt_lines.specs.calls.Reader.{buffered_in}
 use Rattle.bt_lines.specs.model.Lines.{TextLine}
 use Rattle.bt_lines.specs.declared.fault.Fault.{Fault}
+use Rattle.bt_lines.specs.declared.fault.Kind.{Kind}
 use Rattle.bt_lines.specs.declared.fault.Place.{Place}
 use Rattle.bt_lines.specs.declared.reader.line_reader.LineReader.{LineReader}
 use Rattle.bt_bed.specs.calls.Reading.{IsLost}
@@ -16,6 +17,11 @@ use Rattle.bt_bed.specs.declared.read.lookahead.OrderedLookahead.{OrderedLookahe
 -- the chromosome of the last record is known
 abbrev pub IsKnownLast : Sorting → Option Locus → Type 0
 IsKnownLast sorting last = IfSome last (λ place. IsTrue (sorting.knows place.chrom))
+
+-- what a line says is no record on the chromosome of the last one, whose name isn't copied
+abbrev pub IsElsewhere : Option Locus → Result (Option Feature) Kind → Type 0
+IsElsewhere last (Ok (Some r)) = IfSome last (λ place. bytes_eq place.chrom r.chrom ≡ false)
+IsElsewhere last other = ⊤
 
 -- from where on records on the chromosome of this name may start after the last one
 abbrev pub start_after : Option Locus → List ℕ → ℕ
@@ -84,4 +90,5 @@ module _ {Q : Type 0} where
       → Type 0
   TakesLine sorting place text old (Ok is_record) new = LineTaken sorting text old is_record new
   TakesLine sorting place text old (Err fault) new =
-      IsLost place (line_says sorting (last_in old) text) (fault_value fault) × KeepsLast old new
+      IsLost place (line_says sorting (last_in old) text) (fault_value fault)
+      × IsElsewhere (last_in old) (line_says sorting (last_in old) text) × KeepsLast old new

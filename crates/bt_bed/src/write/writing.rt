@@ -1,6 +1,6 @@
 //! Records as they are written.
 
-ghost use Rattle.std.specs.Prelude.{◌≡◌, ◌++◌, OnOk, OnErr, length, take};
+ghost use Rattle.std.specs.Prelude.{◌≡◌, ◌+◌, ◌<◌, ◌++◌, OnOk, OnErr, length, take, vec_capacity};
 ghost use Rattle.bt_bed.specs.calls.Bed.{feature_lent};
 ghost use Rattle.bt_bed.specs.model.BedLine.{bed_text, cut_to};
 
@@ -10,17 +10,19 @@ use std::alloc::AllocError;
 
 /// Adds the line of a record, without its line feed: chromosome, start, end and the kept columns, with
 /// tabs between them. Start and end are printed without leading zeros. If memory runs out, nothing
-/// is added.
+/// is added; that is only if the line has no room for the record.
 pub fn write_bed(bed: &BedRef<'_>, line: &mut Vec<u8>) -> Result<(), AllocError>
     ensures appended { OnOk result (line.new.items ≡ line.old.items ++ bed_text (feature_lent bed.now)) }
     ensures unchanged { OnErr result (line.new.items ≡ line.old.items) }
+    ensures full { OnErr result (vec_capacity line.old
+        < length line.old.items + length (bed_text (feature_lent bed.now))) }
 {
     write_cut(bed, bed.start, bed.stop, line)
 }
 
 /// Adds the line of a record as [`write_bed`] does, with this start and this end instead of its own: a part
 /// of it, with its other columns. The start is zero-based, and the end isn't included. If memory
-/// runs out, nothing is added.
+/// runs out, nothing is added; that is only if the line has no room for the part.
 pub fn write_cut(
     bed: &BedRef<'_>,
     start: u64,
@@ -30,6 +32,8 @@ pub fn write_cut(
     ensures appended { OnOk result (line.new.items
         ≡ line.old.items ++ bed_text (cut_to start stop (feature_lent bed.now))) }
     ensures unchanged { OnErr result (line.new.items ≡ line.old.items) }
+    ensures full { OnErr result (vec_capacity line.old
+        < length line.old.items + length (bed_text (cut_to start stop (feature_lent bed.now)))) }
 {
     let before = line.len();
     let written = push_columns(bed, start, stop, line);
@@ -40,7 +44,7 @@ pub fn write_cut(
 }
 
 // Adds the columns of a record with this start and this end, or if memory runs out some of their
-// bytes.
+// bytes. It runs out only if the line has no room for them.
 fn push_columns(
     bed: &BedRef<'_>,
     start: u64,
@@ -50,6 +54,8 @@ fn push_columns(
     ensures appended { OnOk result (line.new.items
         ≡ line.old.items ++ bed_text (cut_to start stop (feature_lent bed.now))) }
     ensures kept { take (length line.old.items) line.new.items ≡ line.old.items }
+    ensures full { OnErr result (vec_capacity line.old
+        < length line.old.items + length (bed_text (cut_to start stop (feature_lent bed.now)))) }
 {
     let mut digits = Buffer::new();
     line.extend_from_slice(bed.chrom)?;

@@ -329,11 +329,12 @@ fn a_writer_of_std(rt: HostRuntime) -> Result<(), Fail> {
     Ok(())
 }
 
-// Whether three whole blocks are written by one call.
+// Whether no bytes are written, and three whole blocks, by one call each.
 fn is_written(alloc: Global) -> bool {
     let mut sink = ToWrite::new(Vec::new(alloc));
+    let is_nothing_served = matches!(sink.write(b""), Ok(0));
     let is_written = matches!(sink.write(&[b'x'; 3 * BLOCK]), Ok(count) if count == 3 * BLOCK);
-    is_written && sink.flush().is_ok() && sink.into_inner().len() == 3 * BLOCK
+    is_nothing_served && is_written && sink.flush().is_ok() && sink.into_inner().len() == 3 * BLOCK
 }
 
 // Whether reads of three blocks give these numbers of bytes.
@@ -352,7 +353,11 @@ fn are_read(counts: &[usize]) -> bool {
 // The end is returned again, and isn't taken for a failure.
 #[test]
 fn whole_blocks_are_served(rt: HostRuntime) {
-    holds(&rt, is_written(rt.alloc()), "three blocks are written");
+    holds(
+        &rt,
+        is_written(rt.alloc()),
+        "no bytes and three blocks are written",
+    );
     holds(
         &rt,
         are_read(&[BLOCK, BLOCK, BLOCK, 0, 0]),

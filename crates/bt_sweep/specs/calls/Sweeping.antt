@@ -1,7 +1,8 @@
 -- What a sweep holds, and what its calls do.
-use Rattle.std.specs.Prelude.{◌≡◌, ℕ, Bool, true, false, List, Option, is_some, ◌≤◌, not, IfSome, IsTrue, cond, [], ◌∷◌, ◌++◌, length, Some, None, option_to_list, ◌⊎◌, ⊤, filter, nat_lt, Result, Ok, Err, ◌<◌}
+use Rattle.std.specs.Prelude.{◌≡◌, ℕ, Bool, true, false, List, Option, is_some, ◌≤◌, ◌+◌, not, IfSome, IsTrue, cond, [], ◌∷◌, ◌++◌, length, Some, None, option_to_list, ◌⊎◌, ⊤, filter, nat_lt, Result, Ok, Err, ◌<◌}
 use Rattle.bt_bed.specs.model.Feature.{Feature, intervals_of}
 use Rattle.bt_bed.specs.model.BedLine.{fault_at_line}
+use Rattle.bt_bed.specs.calls.Bed.{inline_size}
 use Rattle.bt_sweep.specs.declared.hits.hit_rule.HitRule.{HitRule}
 use Rattle.bt_sweep.specs.declared.sweep.state.Phase.{Phase}
 use Rattle.bt_sweep.specs.declared.sweep.state.Phase.TheVariants.{Both, SecondEnded, Over}
@@ -175,10 +176,15 @@ GivesKnown {B} cursor order from =
 
 -- What the calls of a sweep do.
 
+-- its name and other columns are longer than what is kept inline, so that a copy of it allocates
+abbrev pub IsLong : Feature → Type 0
+IsLong a = inline_size < length a.chrom + length a.rest
+
 -- the second input goes on, so that the record given is to be kept, and there is no memory for it
-pub record FailsToKeepA (stage : Stage Feature Feature) (fault : FaultValue) (out grown : Output) : Type 0 where
+pub record FailsToKeepA (stage : Stage Feature Feature) (a : Feature) (fault : FaultValue) (out grown : Output) : Type 0 where
   pub goes_on : stage.second_ended ≡ false
   pub is : fault ≡ no_memory
+  pub long : IsLong a
   pub same_output : grown ≡ out
 
 -- the lines that are written when a is given: its own if the second input has ended,
@@ -194,7 +200,7 @@ GivesA order stage a old out (Ok done) new grown =
 GivesA order stage a old out (Err fault) new grown =
     (want_in new ≡ Nothing)
     × (FailsToAdd out (lines_with old stage a) (fault_value fault) grown
-    ⊎ FailsToKeepA stage (fault_value fault) out grown)
+    ⊎ FailsToKeepA stage a (fault_value fault) out grown)
 
 -- what the end of the second input does, while a waits
 abbrev pub EndsB : {A : Type 0} → Order → Stage Feature Feature → Feature → Sweeping → Output → Result A Fault → Sweeping
@@ -320,6 +326,7 @@ module _ {B S : Type 0} (cursor_b : Cursor B S) (order : Order) (old : Sweeping)
     pub last : Feature
     pub waits : waiting ≡ Some last
     pub is : fault ≡ no_memory
+    pub long : IsLong last
     pub none : old.current ≡ None
     pub both : old.phase ≡ Both
     pub ended : cursor_b.has_ended to_b

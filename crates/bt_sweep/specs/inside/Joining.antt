@@ -12,7 +12,7 @@ use Rattle.bt_bed.specs.declared.read.cursor.Cursor.{Ghosts as Cursor}
 use Rattle.bt_bed.specs.model.BedLine.{bed_text}
 use Rattle.bt_bed.specs.calls.Orders.{ArePlaced, IsTotal}
 use Rattle.bt_bed.specs.model.Order.{Order}
-use Rattle.bt_sweep.specs.calls.Sweeping.{Proceeds, SharesBase, AreDecided, CannotBeHeld, LeavesLast, TakenEach, HoldsFor, SameConfig, Sweeping, is_held, CannotHold, has_room}
+use Rattle.bt_sweep.specs.calls.Sweeping.{Proceeds, SharesBase, AreDecided, CannotBeHeld, LeavesLast, TakenEach, HoldsFor, SameConfig, Sweeping, is_held, CannotHold, IsLong, has_room}
 use Rattle.bt_sweep.specs.calls.Held.{CanHit}
 use Rattle.bt_sweep.specs.model.Lines.{intersect, line_with, lines_of}
 use Rattle.bt_sweep.specs.declared.output.shape.Shape.{Shape}
@@ -249,10 +249,10 @@ Takes old a b line (Ok done) new =
 Takes old a b line (Err fault) new =
     (new ≡ stopped old) × (is_held a b ≡ true) × CannotHold (has_room_in old) line (fault_value fault)
 
--- keeping a copy of a, which waits
+-- keeping a copy of a, which waits; a short one is kept inline
 abbrev pub KeepsOne : {A : Type 0} → Sweeping → Feature → Result A Fault → Sweeping → Type 0
 KeepsOne old a (Ok done) new = new ≡ record old { current = Some a }
-KeepsOne old a (Err fault) new = (new ≡ stopped old) × (fault_value fault ≡ no_memory)
+KeepsOne old a (Err fault) new = (new ≡ stopped old) × (fault_value fault ≡ no_memory) × IsLong a
 
 -- Lines of the first input that are to be copied through together.
 

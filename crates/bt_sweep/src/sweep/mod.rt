@@ -122,8 +122,8 @@ impl<'o, H: Held, O: ChromOrder> Sweep<'o, H, O> {
     }
 
     /// Takes the next record of the first input. If the second has ended its lines are written at
-    /// once, and else nothing is. It fails with `NoMemory` if the record can't be kept, and with `WriteFailed` if the
-    /// lines can't be written.
+    /// once, and else nothing is. It fails with `NoMemory` if the record is longer than what is kept inline and can't be
+    /// kept, and with `WriteFailed` if the lines can't be written.
     #[tactic(auto, using(crate::proofs::lemmas::sweep::KeepLemmas::known_none, crate::proofs::lemmas::sweep::SingleLemmas::gives_a))]
     pub fn give_a<K: Sink>(&mut self, a: &BedRef<'_>, out: &mut Out<K>) -> Result<(), Fault>
         requires want { want_in (state_of self.old) ≡ Want.A }

@@ -166,7 +166,8 @@ impl<H: Held> State<H> {
         self.current = Some(current);
     }
 
-    // Makes a copy of this the record that waits.
+    // Makes a copy of this the record that waits. Memory runs out only for one that isn't kept inline; the contracts of std
+    // don't say when it does, so `docs/ample.py` tries that it does only if a growth was refused.
     pub(crate) fn keep<R: Record>(&mut self, a: &R) -> Result<(), Fault>
         requires { All (CanHit (R.feature a.now)) self.old.held }
         ensures { KeepsOne self.old (R.feature a.now) result self.new }

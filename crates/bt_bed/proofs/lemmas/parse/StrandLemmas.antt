@@ -1,5 +1,5 @@
 -- Lemmas on columns with tabs after them, in which the strand is the same.
-use Rattle.bt_lines.proofs.Std.{◌≡◌, ℕ, zero, suc, ◌<◌, List, [], ◌∷◌, ◌++◌, length, replicate, refl, sym, ap, ◌∙◌, eqb, append-nil, arith, length-slice_split}
+use Rattle.bt_lines.proofs.Std.{◌≡◌, ℕ, zero, suc, ◌<◌, List, [], ◌∷◌, ◌++◌, length, replicate, refl, sym, ap, ◌∙◌, append-nil, arith, length-slice_split}
 use Rattle.std.specs.List.{onto_first}
 use Rattle.std.proofs.lemmas.List.Splits.{slice_split-cons_no, slice_split-cons_yes}
 use Rattle.bt_lines.specs.model.Lines.{pieces}

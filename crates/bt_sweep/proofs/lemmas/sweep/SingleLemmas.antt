@@ -142,7 +142,7 @@ module _ {order : Order} {stage : Stage Feature Feature} {old : Sweeping} (st : 
         | inr gone ↦ gives_written d gone.0 gone.1
       ]
 
-      fails_a : {fault : FaultValue} → FailsAt single_cursor single_cursor order old from_a from_b out fault to_a to_b grown → FailsToAdd out lines fault grown ⊎ FailsToKeepA stage fault out grown
+      fails_a : {fault : FaultValue} → FailsAt single_cursor single_cursor order old from_a from_b out fault to_a to_b grown → FailsToAdd out lines fault grown ⊎ FailsToKeepA stage a fault out grown
       fails_a b = elim b.cause [
         | inl cut ↦
             let fails = cut stage st (given_placed b.proceeds) (taken_placed b.proceeds) in

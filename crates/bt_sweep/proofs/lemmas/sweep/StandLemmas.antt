@@ -148,7 +148,7 @@ module _ {order : Order} {old mid : Sweeping} {first : Feature} {pre : List Feat
     kept_or_not {a} j none ended not_first gives same not_over leaves (Err fault) final is = record {
       proceeds = proceeds_from (Some a) (Some a) j.proceeds gives refl;
       waiting = Some a;
-      cause = inr (inr (record { last = a; waits = refl; is = is.1; none = none; both = still_both old.phase (λ e. not_first (start.phase ∙ e)) not_over; ended = ended; puts = puts_each j.proceeds.newly j.writes }));
+      cause = inr (inr (record { last = a; waits = refl; is = is.1; long = is.2; none = none; both = still_both old.phase (λ e. not_first (start.phase ∙ e)) not_over; ended = ended; puts = puts_each j.proceeds.newly j.writes }));
     }
 
 -- ---- where nothing is given or taken

@@ -14,7 +14,7 @@ use Rattle.bt_bed.specs.model.Feature.{Feature}
 use Rattle.bt_bed.specs.model.BedLine.{is_bed_kind, is_record_kind, record_of}
 use Rattle.bt_bed.specs.calls.Features.{IsFeature, wrong_lines_are_of_bed}
 use Rattle.bt_bed.specs.model.Good.{Member, good, bed_format, line_says, locus_at, said_after, in_order}
-use Rattle.bt_bed.specs.inside.OrderedLookahead.{last_in, start_after}
+use Rattle.bt_bed.specs.inside.OrderedLookahead.{IsElsewhere, last_in, start_after}
 use Rattle.bt_bed.specs.model.Order.{Order}
 use Rattle.bt_bed.specs.calls.Orders.{IsTotal, IsUpTo}
 use Rattle.bt_bed.specs.model.Sorted.{Locus, Sorting, sorting_of}
@@ -162,6 +162,15 @@ start_at name start = option_map (λ s. record { chrom = name; start = s }) star
 -- if it is that of the last record
 pub held_same : (name chrom : List ℕ) (last : Option ℕ) → is_some last && bytes_eq name chrom ≡ true → (name ≡ chrom) × (unwrap_or last 0 ≡ start_after (start_at name last) chrom)
 held_same name chrom last e = grind (arith, bytes_eq-Decides)
+
+-- a line that is at fault says no record
+pub elsewhere_wrong : (last : Option Locus) (said : Result (Option Feature) Kind) (kind : Kind) → said ≡ Err kind → IsElsewhere last said
+elsewhere_wrong last said kind e = rw e tt
+
+-- a record that doesn't go on with the last one's chromosome lies on another
+pub elsewhere_item : (name : List ℕ) (last : Option ℕ) (said : Result (Option Feature) Kind) (r : Feature) → said ≡ Ok (Some r) → is_some last && bytes_eq name r.chrom ≡ false → IsElsewhere (start_at name last) said
+elsewhere_item name None said r says on = rw says tt
+elsewhere_item name (Some start) said r says on = rw says on
 
 -- Lemmas on the records on one chromosome that lines begin with.
 

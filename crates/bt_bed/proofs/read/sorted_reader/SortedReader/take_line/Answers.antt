@@ -108,6 +108,7 @@ returns-in-Err-clause-takes g c =
       first = sym c.buffered-lines.ensures.lines ∙ c.in-Some.ensures.some.left_is;
       takes = record {
         cause = lost.0;
+        elsewhere = lost.1;
         takes = record {
           consumed = c.consumed-consumed.result;
           are = lines_taken c.args.self.now.reader c.buffered-lines.result c.next.new.self c.consumed-consumed.result 1 c.buffered-lines.ensures.begins c.in-Some.ensures.passes c.consumed-consumed.ensures;
@@ -115,5 +116,5 @@ returns-in-Err-clause-takes g c =
         };
         none = c.requires.none;
       };
-      keeps = lost.1;
+      keeps = lost.2;
     }
