@@ -19,6 +19,8 @@ pub(crate) trait Rule {
     ghost with_on: { Self → Self.OnChrom → Self };
 
     // Goes on to the chromosome of this name, which may be the one that it is on, and writes the lines that this settles.
+    // No clause says when the buffer of a name can't grow: `docs/ample.py` tries that memory runs out only if a growth
+    // was refused.
     fn enter<K: Sink>(&mut self, chrom: &[u8], out: &mut Out<K>) -> Result<(), Fault>
         ensures on { OnOk result (definition.is_on self.new chrom.now) }
         ensures enters { EnterAnswers definition self.old chrom.now out.old.output result self.new out.new.output };
