@@ -112,7 +112,7 @@ put_copy() {
     dk_left=${dk_left# }
     case $dk_kind$dk_word in
     gzip*)
-        unzip "$dk_word" "$dk_copy" || return 0
+        unpack "$dk_word" "$dk_copy" || return 0
         eval "dk_word_${dk_copy##*/}=\$dk_word"
         ;;
     stream- | streamstdin)
@@ -124,8 +124,8 @@ put_copy() {
     dk_word=$dk_copy
 }
 
-# unzip FILE COPY: sets `dk_why` if it is no whole gzip file, or a long one
-unzip() {
+# unpack FILE COPY: sets `dk_why` if it is no whole gzip file, or a long one
+unpack() {
     # shellcheck disable=SC2094 # Its name alone is noted.
     { gzip -dc < "$1" 2> /dev/null && note whole "$2"; } | head -c "$((dk_room + 1))" > "$2" 2> /dev/null &
     await $! && read_notes && is_noted "whole $2" && is_one_part "$1" "$2" && [ "$(wc -c < "$2")" -le "$dk_room" ] &&

@@ -7,10 +7,10 @@
 open_files() {
     dk_folder=$(mktemp -d "${TMPDIR:-/tmp}/dunekettle-XXXXXX" 2> /dev/null) || return
     dk_opened=0
-    for dk_name; do
+    for dk_label; do
         free_descriptor || break
-        eval "command exec $dk_free<> \"\$dk_folder/\$dk_name\"" || break
-        eval "dk_$dk_name=/dev/fd/$dk_free"
+        eval "command exec $dk_free<> \"\$dk_folder/\$dk_label\"" || break
+        eval "dk_$dk_label=/dev/fd/$dk_free"
         dk_opened=$((dk_opened + 1))
     done 2> /dev/null
     rm -rf "$dk_folder"

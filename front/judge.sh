@@ -12,7 +12,7 @@ dk_mark=$(printf '\357\273\277 \037\213 \r')
 dk_zipped=${dk_mark#* } dk_cr=${dk_mark##* }
 dk_mark=${dk_mark%% *} dk_zipped=${dk_zipped% *}
 dk_kilobyte=xxxx
-for dk_part in 1 2 3 4; do dk_kilobyte=$dk_kilobyte$dk_kilobyte$dk_kilobyte$dk_kilobyte; done
+for dk_round in 1 2 3 4; do dk_kilobyte=$dk_kilobyte$dk_kilobyte$dk_kilobyte$dk_kilobyte; done
 
 # look_at_features FILE..: sets `dk_why` for merge, complement, intersect and subtract
 look_at_features() {

@@ -18,8 +18,8 @@ judge_first() {
     esac
 }
 
-# is_worth_it: sets `dk_why` where the original is quicker than a look at the files. genomecov goes over each base.
-is_worth_it() {
+# judge_worth: sets `dk_why` where the original is quicker than a look at the files. genomecov goes over each base.
+judge_worth() {
     case $dk_command in
     intersect | subtract) set -- "$dk_a" "$dk_b" ;;
     *) set -- "${dk_ibam:-$dk_i}" ;;
@@ -74,9 +74,9 @@ is_large_genome() {
     LC_ALL=C awk -F '\t' '{ bases += $2 } END { exit bases < 20000000 }' < "$dk_g" 2> /dev/null
 }
 
-# is_known_version: sets `dk_why` if the original isn't one that all was compared with, and the command line isn't one
+# judge_version: sets `dk_why` if the original isn't one that all was compared with, and the command line isn't one
 # of those for which all versions write the same
-is_known_version() {
+judge_version() {
     ! is_for_any_version || return 0
     [ -n "${dk_original-}" ] || find_original
     [ -n "$dk_original" ] || return 0
