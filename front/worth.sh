@@ -12,6 +12,7 @@ judge_first() {
         command -v "$dk_tool" > /dev/null || { dk_why="there is no $dk_tool"; return; }
     done
     case $dk_command$dk_words in
+    *' -h '* | *' --help '*) dk_why='it asks for help' ;;
     *' -held '*) ;;
     merge*' -S '* | maskfasta*) dk_why='bedtools is as quick as a look at the files' ;;
     bamtobed*) is_stream "$dk_i" || judge_alignments ;;
@@ -67,11 +68,11 @@ alignments_pay() {
     command -v samtools > /dev/null || return
     samtools view -H "$dk_ibam" < /dev/null 2> /dev/null | LC_ALL=C awk -v bytes="$dk_bytes" '
         /^@SQ/ && match($0, /\tLN:[0-9]+/) { bases += substr($0, RSTART + 4, RLENGTH - 4) }
-        END { exit bases < 20000000 || bases < bytes * 2 }'
+        END { exit bases < 20000000 || bases < bytes * 2 }' > /dev/null
 }
 
 is_large_genome() {
-    LC_ALL=C awk -F '\t' '{ bases += $2 } END { exit bases < 20000000 }' < "$dk_g" 2> /dev/null
+    LC_ALL=C awk -F '\t' '{ bases += $2 } END { exit bases < 20000000 }' < "$dk_g" > /dev/null 2>&1
 }
 
 # judge_version: sets `dk_why` if the original isn't one that all was compared with, and the command line isn't one
