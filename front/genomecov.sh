@@ -154,8 +154,8 @@ merge_blocks() {
 
 # is_deep WORD..: whether the program, which they run, may write a depth of a million: bedtools rounds it
 is_deep() {
-    ! [ "$(wc -l < "$dk_i")" -lt 1000000 ] 2> /dev/null &&
-        ! writes_none '[0-9]{7}$' "$dk_program" genomecov "$@"
+    if dk_lines=$(wc -l < "$dk_i") && [ "$dk_lines" -lt 1000000 ]; then return 1; fi 2> /dev/null
+    ! writes_none '[0-9]{7}$' "$dk_program" genomecov "$@"
 }
 
 # write_form WORD..: writes what awk makes of the output of the program, which the words run

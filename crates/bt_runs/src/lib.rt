@@ -1,7 +1,7 @@
 //! The engines that take the records of one sorted input: merge, complement and coverage.
 //!
 //! Each is fed one record after another, and writes each line of its output as soon as no later record
-//! can change it. What takes any of them goes by the trait [`Engine`], whose calls are the same.
+//! can change it. Their calls are those of the trait [`Engine`], which a caller imports.
 //!
 //! Words:
 //!

@@ -27,7 +27,7 @@ pub fn is_same_name(left: &[u8], right: &[u8]) -> bool
     ends.0 == others.0 && ends.1 == others.1
 }
 
-// The same for names of nine to sixteen bytes.
+// Whether two names of the same length, nine to sixteen bytes, are equal.
 #[inline(always)]
 fn have_same_ends(left: &[u8], right: &[u8]) -> bool
     requires same { length left.now ≡ length right.now }
@@ -42,7 +42,7 @@ fn have_same_ends(left: &[u8], right: &[u8]) -> bool
     words.0 == other.0 && words.1 == other.1
 }
 
-// The same for names of any length. Those of an assembly's parts mostly differ in their last byte.
+// Whether two names of any length are equal. Those of an assembly's parts mostly differ in their last byte.
 #[cold]
 #[inline(never)]
 fn is_same_text(left: &[u8], right: &[u8]) -> bool

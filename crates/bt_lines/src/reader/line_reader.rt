@@ -219,7 +219,7 @@ impl<S: Source> LineReader<S> {
         }
     }
 
-    // The same before the end.
+    // Reads on until a line is buffered, or the text ends. The state is `Reading`.
     fn read_more(&mut self) -> Result<bool, Fault>
         requires none { complete self.old.buffer ≡ [] }
         requires going { self.old.state ≡ State.Reading }

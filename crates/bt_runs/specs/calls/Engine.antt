@@ -139,7 +139,7 @@ module _ {E : Type 0} (engine : EngineDef E) where
       pub grows : Grows out.took grown.took
       pub after_failure : out.has_failed ≡ true → grown ≡ out
 
-    -- What a caller of an engine's own `feed` knows, each fact separately. Together they say what `Feeds` says.
+    -- What a caller of `feed` knows, each fact separately. Together they say what `Feeds` says.
 
     -- if it is taken, the lines that it settles were put, and the engine is after it too
     abbrev pub WritesSettled : {A : Type 0} → Result A Fault → E → Output → Type 0
@@ -242,7 +242,7 @@ module _ {E : Type 0} (engine : EngineDef E) where
       pub grows : Grows out.took grown.took
       pub after_failure : out.has_failed ≡ true → grown ≡ out
 
-    -- What a caller of an engine's own `finish` knows, as above.
+    -- What a caller of `finish` knows, as above.
 
     -- if it ends well, the lines that were left were put
     abbrev pub WritesLeft : {A : Type 0} → Result A Fault → Output → Type 0

@@ -16,8 +16,8 @@ use bt_lines::{Fault, Out, Sink};
 use std::marker::Model;
 
 /// The parts of the chromosomes that no record covers, in the order of a genome file. Starts are zero-based, and ends
-/// aren't included. It keeps one position, and takes no memory. A gap is written once a record starts at or past its end, or on a later
-/// chromosome. A record on a chromosome that the genome file doesn't have is skipped.
+/// aren't included. It keeps one position, and takes no memory. A gap is written once a record starts at or past its
+/// end, or on a later chromosome. A record on a chromosome that the genome file doesn't have is skipped.
 #[derive(Drop, Debug)]
 pub struct Complement<'g> {
     rule: Ruled<GapRule<'g>>,

@@ -20,9 +20,10 @@ use std::alloc::Global;
 use std::marker::Model;
 
 /// The intervals of equal depth of each chromosome, in the order of a genome file, with their depths.
-/// It keeps the ends of the counted records that end at the last start or past it, and one unfinished interval. A record
-/// needs memory only if it is counted and starts below its chromosome's length. Where the kept records start, and their order, is known in proofs alone. An interval is written once a record starts past its end, or on
-/// a later chromosome. A record on a chromosome that the genome file doesn't have is skipped. Starts are zero-based, and ends
+/// It keeps the ends of the counted records that end at the last start or past it, and one unfinished interval. A
+/// record needs memory only if it is counted and starts below its chromosome's length. Where the kept records start,
+/// and their order, is known in proofs alone. An interval is written once a record starts past its end, or on a later
+/// chromosome. A record on a chromosome that the genome file doesn't have is skipped. Starts are zero-based, and ends
 /// aren't included.
 #[derive(Drop, Debug)]
 pub struct Coverage<'g> {

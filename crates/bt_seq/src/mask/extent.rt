@@ -22,7 +22,7 @@ pub(crate) fn mask_extents(bases: &mut [u8], position: u64, extents: &[Extent], 
     }
 }
 
-// The same for one.
+// Masks those bases that one extent covers. The first base has this position.
 #[tactic(auto, using(crate::proofs::lemmas::Sam::masked_between, crate::proofs::lemmas::Sam::masked_nowhere))]
 fn mask_extent(bases: &mut [u8], position: u64, extent: Extent, how: MaskHow)
     ensures { bases.new ≡ masked_in how (extent ∷ []) position bases.old }

@@ -17,7 +17,7 @@ pub(crate) fn put_text<K: Sink>(text: &[u8], ending: LineEnd, out: &mut Out<K>) 
     put_ended(text, ending, out)
 }
 
-// The same for any line end.
+// Puts a text and any line end, or nothing if both are empty.
 #[tactic(auto, using(crate::proofs::lemmas::BamToBed::some_put))]
 #[cold]
 #[inline(never)]

@@ -8,7 +8,8 @@ ghost use Rattle.bt_seq.specs.inside.Sam.{IsFirst, IsWithin};
 use crate::sam::sam_text::number_in;
 use bt_lines::MAX_NUMBER;
 
-/// An operation of a CIGAR: a number and a letter (SAM specification, section 1.4, field 6, CIGAR). No call gives one; laws name it.
+/// An operation of a CIGAR: a number and a letter (SAM specification, section 1.4, field 6, CIGAR). No call gives one;
+/// laws name it.
 #[derive(Clone, Copy, Debug)]
 pub struct Operation {
     pub(crate) length: u64,
@@ -36,7 +37,7 @@ pub fn cigar_span(cigar: &[u8]) -> Option<u64>
     }
 }
 
-// The same for a text of operations.
+// The reference length of a text of operations, up to the limit, or none if it isn't such a text.
 #[inline(always)]
 fn span_in(text: &[u8]) -> Option<u64>
     ensures { result ≡ span_with 0 (operations_in text.now) }
@@ -64,7 +65,7 @@ fn single_span(text: &[u8]) -> Option<u64>
     number_in(&text[..size - 1])
 }
 
-// The same, one operation after another.
+// The reference length of any text of operations, by a loop over them.
 #[tactic(auto, using(crate::proofs::lemmas::Sam::covered_within, crate::proofs::lemmas::Sam::span_end))]
 #[inline(always)]
 fn operations_span(text: &[u8]) -> Option<u64>

@@ -460,7 +460,7 @@ impl<H: Held> State<H> {
         joined
     }
 
-    // The same, but lines may be left pending.
+    // Joins records of both inputs as `join` does, but lines may be pending before and after it.
     #[inline(always)]
     fn join_pending<A: Cursor, B: Cursor, K: Sink>(
         &mut self,

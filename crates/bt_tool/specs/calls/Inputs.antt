@@ -37,7 +37,7 @@ module _ {S : Type 0} (device : Source S) where
     pub consumed : Consumes (device.left before) (device.left after) bytes
     pub is : handed ≡ handed_by (device.has_failed after) (nat_le (2 ^ 63) (length bytes)) text bytes
 
-  -- the same of an input that may not be there
+  -- of an input that may not be there: if it is, `Reads` holds, and else nothing was handed over
   abbrev pub ReadsIf : Option S → Option S → Option Handed → Type 0
   ReadsIf None None None = ⊤
   ReadsIf (Some before) (Some after) (Some handed) = Reads before after handed

@@ -59,7 +59,7 @@ abbrev pub TellsInput : {S : Type 0} → Source S → (Kind → Type 0) → Inpu
 TellsInput device Kinds input before after fault =
     TellsLine Kinds input fault ⊎ TellsRead device input before after fault
 
--- the same of an input that may not be there
+-- a fault of an input that may not be there: of a line, or of reading it
 abbrev pub TellsInputIf : {S : Type 0} → Source S → (Kind → Type 0)
     → Input → Option S → Option S → FaultValue → Type 0
 TellsInputIf device Kinds input (Some before) (Some after) fault =
@@ -146,7 +146,7 @@ abbrev pub IsOwnFailure : {S : Type 0} → (S → Option ℕ → S → Type 0) �
 IsOwnFailure IsRead before after = ReadsFail IsRead before after
     ⊎ ((given : ℕ) × ReadsOn IsRead before given after × (2 ^ 63 ≤ given))
 
--- the same of an input that may not be there
+-- The input is there, and its last read failed, or its reads served and gave more bytes than a text may have.
 abbrev pub IsOwnFailureIf : {S : Type 0} → (S → Option ℕ → S → Type 0) → Option S → Option S
     → Type 0
 IsOwnFailureIf IsRead (Some before) (Some after) = IsOwnFailure IsRead before after
@@ -232,7 +232,7 @@ module _ {A B : Type 0} (source_a : Source A) (source_b : Source B) (behaviour :
     pub own_failure : TellsOwnReads ⊥ (IsOwnFailure source_a.is_read first first_after)
         (IsOwnFailureIf source_b.is_read second second_after) fault
 
--- the same of one input
+-- a run of one input writes so, and its reads went so
 abbrev pub RunsAlone : {A : Type 0} → Source A → Behaviour → A → Output → Option FaultValue → A → Output
     → Type 0
 RunsAlone device behaviour first out fault new grown =

@@ -32,7 +32,7 @@ pub record JoinDef (X Y : Type 0) : Type 1 where
   pub Fits : List X → List (Member Y) → Type 0
   -- what is reported when all members of the first input are written, before the fault of the second
   pub last : List X → List (Member Y) → Option FaultValue
-  -- how many bytes of the lines of the second input, of which so much is good, these members of the first need
+  -- how many bytes of the lines of the second input, by its good members and its fault, these members of the first need
   pub reaches : List X → Good Y → List TextLine → ℕ
   -- these members of the first input need these of the second
   pub Asks : List X → List Y → Type 0

@@ -48,7 +48,7 @@ pub record Behaviour : Type 1 where
   -- the fault of the first of these lines that is at fault, if one is
   pub faults : List TextLine → Option FaultValue
   -- how much of the second input these lines need: its bytes up to the first record that decides
-  -- all members among them, else up to the line at fault
+  -- all members among them, else up to the line at fault, or all of them
   pub reaches : Option Handed → List TextLine → ℕ
   -- the kinds of fault that a line of the first input can have, and one of the second
   pub FirstKinds : Kind → Type 0

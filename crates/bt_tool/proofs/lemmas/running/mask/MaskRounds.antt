@@ -115,7 +115,7 @@ wanted_of WantA = WantLine
 wanted_of WantB = WantBed
 wanted_of WantNothing = Nothing
 
-is_wanted : (want : MaskWant) (of_two : Want) → wanted_by want ≡ of_two → want ≡ wanted_of of_two
+pub is_wanted : (want : MaskWant) (of_two : Want) → wanted_by want ≡ of_two → want ≡ wanted_of of_two
 is_wanted want of_two e = grind arith
 
 module _ {A B : Type 0} {source_a : Source A} {source_b : Source B} {start : MaskRun A B} {out : Output} {old : MaskRun A B} {grown : Output} (s : MaskComes source_a source_b start out old grown) where

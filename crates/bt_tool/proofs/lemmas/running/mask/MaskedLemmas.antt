@@ -30,6 +30,7 @@ use Rattle.bt_bed.specs.calls.Blocks.{view_of}
 use Rattle.bt_bed.specs.model.Good.{Format, Good, Member}
 use Rattle.bt_seq.proofs.lemmas.definitions.MaskPrefixLemmas.{decided_stays, masked_before, first_is_told, lack_none}
 use Rattle.bt_seq.specs.calls.MaskSteps.{FailsAtRecord, MaskMovesTo}
+use Rattle.bt_bed.specs.calls.Orders.{AreInBlocks}
 use Rattle.bt_seq.proofs.lemmas.mask.steps.CopyLemmas.{last_waits, wants_bed, wants_line}
 use Rattle.bt_seq.proofs.lemmas.mask.steps.AdvanceLemmas.{going}
 use Rattle.bt_seq.specs.declared.mask.mask_how.MaskHow.{MaskHow}

@@ -1,7 +1,7 @@
 -- Lemmas on the rounds of a sweep over two readers: how far each comes, what it reads, and how much is still wanted.
-use Rattle.bt_lines.proofs.Std.{◌≡◌, ℕ, ◌+◌, ◌*◌, ◌≤◌, ◌<◌, Bool, true, false, List, length, length-append, Option, None, Some, Ok, Err, refl, sym, ap, ◌∙◌, subst, arith, inl, inr, option_to_list, [], ◌⊎◌, IsErrAnd, Result, is_some}
+use Rattle.bt_lines.proofs.Std.{◌≡◌, ℕ, zero, suc, ◌+◌, ◌*◌, ◌≤◌, ◌<◌, Bool, true, false, List, length, length-append, Option, None, Some, Ok, Err, refl, sym, ap, ◌∙◌, subst, arith, inl, inr, option_to_list, [], ◌⊎◌, IsErrAnd, Result, is_some}
 use Rattle.bt_lines.specs.calls.Output.{HoldsBlock, Output}
-use Rattle.bt_sweep.specs.calls.Sweeping.{IsInOrder, MovesTo, StandsAt, AdvancesOn, AdvancesSo, HasWritten, StopsFor, EndsB, Sweeping, is_over as is_done, want_in}
+use Rattle.bt_sweep.specs.calls.Sweeping.{IsInOrder, MovesTo, StandsAt, AdvancesOn, AdvancesSo, HasWritten, StopsFor, EndsB, Sweeping, is_over as is_done, want_in, want_of}
 use Rattle.bt_bed.specs.calls.Stage.{at_start, Stage, with_first_ended}
 use Rattle.bt_sweep.specs.calls.SweepView.{order_of as sweep_order, state_of}
 use Rattle.bt_tool.specs.inside.Feed.{IsFresh, KeepsOwnFault, ConsumesGiven}
@@ -70,6 +70,34 @@ none_of o e = ap (λ (o : Option Feature). length (option_to_list o)) e
 rounds_few : (o n : Option Feature) (done now : Bool) (k : ℕ) → now ≡ done → length (option_to_list n) ≤ length (option_to_list o) + k
     → sweep_rounds (is_some n) now ≤ sweep_rounds (is_some o) done + 2 * k
 rounds_few o n done now k same few = grind arith
+
+-- fewer rounds are left, by the room of both readers, what waits and whether the first input has ended
+abbrev IsFewer : (o n : Option Feature) (done now : Bool) (old_room new_room : ℕ) → Type 0
+IsFewer o n done now old_room new_room = 2 * new_room + sweep_rounds (is_some n) now < 2 * old_room + sweep_rounds (is_some o) done
+
+-- none of the first was taken, though one was wanted and buffered
+fewer_first : (w : Want) (o n : Option Feature) (done now : Bool) (newly old_room new_room rest : ℕ) → now ≡ done → want_of (is_some n) now ≡ w → want_of (is_some o) done ≡ WantA
+    → length (option_to_list o) ≡ newly + length (option_to_list n) → new_room ≤ old_room → 0 < rest → (w ≡ WantA → rest ≡ 0) → IsFewer o n done now old_room new_room
+fewer_first w o n done now newly old_room new_room rest same is wants counted rooms some ended = grind arith
+
+-- none of the second was
+fewer_second : (w : Want) (o n : Option Feature) (done now : Bool) (old_room new_room rest : ℕ) → want_of (is_some n) now ≡ w → want_of (is_some o) done ≡ WantB
+    → new_room ≤ old_room → 0 < rest → (w ≡ WantB → rest ≡ 0) → IsFewer o n done now old_room new_room
+fewer_second w o n done now old_room new_room rest is wants rooms some ended = grind arith
+
+-- what is wanted was buffered, and some of it was taken, or none
+fewer_taken : (want : Want) (o n : Option Feature) (done now : Bool) (firsts seconds newly old_room new_room la lb : ℕ) → want_of (is_some o) done ≡ want
+    → length (option_to_list o) + firsts ≡ newly + length (option_to_list n) → new_room + firsts + seconds ≤ old_room → IsBuffered want la lb
+    → (firsts ≡ 0 → want ≡ WantA → 0 < la → IsFewer o n done now old_room new_room) → (seconds ≡ 0 → want ≡ WantB → 0 < lb → IsFewer o n done now old_room new_room) → IsFewer o n done now old_room new_room
+fewer_taken WantA o n done now zero seconds newly old_room new_room la lb wants counted rooms some none none_second = none refl refl some
+fewer_taken WantA o n done now (suc k) seconds newly old_room new_room la lb wants counted rooms some none none_second = grind (arith, wants_first, (rounds_most n now))
+fewer_taken WantB o n done now firsts zero newly old_room new_room la lb wants counted rooms some none none_second = none_second refl refl some
+fewer_taken WantB o n done now firsts (suc k) newly old_room new_room la lb wants counted rooms some none none_second = grind (arith, (wants_second o done wants), (rounds_most n now))
+fewer_taken Nothing o n done now firsts seconds newly old_room new_room la lb wants counted rooms some none none_second = absurd some
+
+-- the one that waited was written
+fewer_written : (o n : Option Feature) (done now : Bool) (old_room new_room : ℕ) → is_some o ≡ true → n ≡ None → new_room ≤ old_room → IsFewer o n done now old_room new_room
+fewer_written o n done now old_room new_room some none rooms = grind arith
 
 answers_none : {T : Type 0} (answer : Result T Fault) → TellsNoRead (fault_in answer) → AnswersNoRead answer
 answers_none answer never = grind arith
@@ -277,18 +305,36 @@ module _ {A B O : Type 0} {g : Ghosts O} {source_a : Source A} {source_b : Sourc
       abbrev Stops : Want → Type 0
       Stops want = StopsFor batch_cursor batch_cursor want last_firsts last_seconds
 
-      -- none of the first was taken, though one was buffered
-      stopped_a : (w : Want) → want_in swept ≡ w → 0 < length (view_of old.first).buffered → want_in sweep ≡ WantA → waits sweep ≡ 0 → length gives.proceeds.firsts ≡ 0 → Stops w → IsLess new
-      stopped_a w e some wants none taken none_left = grind (arith, first_left, counted, rooms, wants_first)
+      left_first : (w : Want) → Stops w → w ≡ WantA → length (view_of new.first).buffered ≡ 0
+      left_first WantA ended e = ap length (consumes.left_is ∙ ended.none)
+      left_first WantB ended e = absurd (let apart : WantB ≡ WantA = e in cc)
+      left_first Nothing ended e = absurd (let apart : Nothing ≡ WantA = e in cc)
 
-      stopped_b : (w : Want) → want_in swept ≡ w → 0 < length (view_of old.second).buffered → want_in sweep ≡ WantB → length gives.proceeds.seconds ≡ 0 → Stops w → IsLess new
-      stopped_b w e some wants taken none_left = grind (arith, second_left, rooms, wants_first)
+      left_second : (w : Want) → Stops w → w ≡ WantB → length (view_of new.second).buffered ≡ 0
+      left_second WantB ended e = ap length (consumes_second.left_is ∙ ended.none)
+      left_second WantA ended e = absurd (let apart : WantA ≡ WantB = e in cc)
+      left_second Nothing ended e = absurd (let apart : Nothing ≡ WantB = e in cc)
+
+      -- none of the first was taken, though one was buffered
+      stopped_a : Stops (want_in swept) → length gives.proceeds.firsts ≡ 0 → want_in sweep ≡ WantA → 0 < length (view_of old.first).buffered → IsLess new
+      stopped_a stops taken wants some =
+          fewer_first (want_in swept) sweep.current swept.current (is_done sweep.phase) (is_done swept.phase) (length gives.proceeds.newly) (room old.first + room old.second) (room new.first + room new.second) (length (view_of new.first).buffered)
+          same_done refl wants (omega (arith, counted, taken)) (omega (arith, rooms)) (omega (arith, first_left, taken, some)) (left_first (want_in swept) stops)
+
+      stopped_b : Stops (want_in swept) → length gives.proceeds.seconds ≡ 0 → want_in sweep ≡ WantB → 0 < length (view_of old.second).buffered → IsLess new
+      stopped_b stops taken wants some =
+          fewer_second (want_in swept) sweep.current swept.current (is_done sweep.phase) (is_done swept.phase) (room old.first + room old.second) (room new.first + room new.second) (length (view_of new.second).buffered)
+          refl wants (omega (arith, rooms)) (omega (arith, second_left, taken, some)) (left_second (want_in swept) stops)
+
+      less : Stops (want_in swept) ⊎ HasWritten sweep swept → IsBuffered (want_in sweep) (length (view_of old.first).buffered) (length (view_of old.second).buffered) → IsLess new
+      less (inl stops) ready =
+          fewer_taken (want_in sweep) sweep.current swept.current (is_done sweep.phase) (is_done swept.phase) (length gives.proceeds.firsts) (length gives.proceeds.seconds) (length gives.proceeds.newly) (room old.first + room old.second) (room new.first + room new.second) (length (view_of old.first).buffered) (length (view_of old.second).buffered)
+          refl counted rooms ready (stopped_a stops) (stopped_b stops)
+      less (inr written) ready =
+          fewer_written sweep.current swept.current (is_done sweep.phase) (is_done swept.phase) (room old.first + room old.second) (room new.first + room new.second) written.0 written.1 (omega (arith, rooms))
 
       came_further : Stops (want_in swept) ⊎ HasWritten sweep swept → sweep_order new.sweep ≡ order → Goes new later × Given new
-      came_further stops same = (
-        comes_to new later (goes_both s consumes consumes_second swept later gives) same (have_read takes),
-        (few, grind (arith, none_of, wants_first, number_cases, stopped_a, some_waits, rooms, most, counted, stopped_b)),
-      )
+      came_further stops same = (comes_to new later (goes_both s consumes consumes_second swept later gives) same (have_read takes), (few, less stops))
 
     gave : {T : Type 0} (answer : Result T Fault) → sweep_order new.sweep ≡ order
         → AdvancesOn batch_cursor batch_cursor (order_in start.first) sweep firsts seconds grown answer (state_of new.sweep) last_firsts last_seconds later → Leads Given answer new later

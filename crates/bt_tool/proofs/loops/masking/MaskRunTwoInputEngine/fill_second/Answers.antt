@@ -1,5 +1,8 @@
-use Rattle.bt_tool.proofs.lemmas.running.mask.MaskRounds.{records_filled, records_over, records_stopped}
+use Rattle.bt_tool.proofs.lemmas.running.mask.MaskRounds.{is_wanted, records_filled, records_over, records_stopped}
 use Rattle.bt_tool.proofs.loops.masking.MaskRunTwoInputEngine.fill_second.Goals as goal
+
+pub end_bed-requires : goal.end_bed-requires
+end_bed-requires g c = is_wanted _ _ c.requires
 
 pub returns-in_err-fill : goal.returns-in_err-fill
 returns-in_err-fill g c = λ start out s.
