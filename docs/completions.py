@@ -24,6 +24,8 @@ OWN = {"help": "shows the options of a command", "check": "says whether the comm
        "report": "says how many calls of a pipeline Dunekettle took, and why not the others"}
 # The options of `check`, as those of the commands.
 CHECK = [("-g", "GENOME", "", "the order of the chromosomes"), ("--json", "", "", "writes JSON")]
+# What ends them, which nobody completes.
+CHECK_END = ("--", "", "", "all that follows is a file, also if it begins with a dash")
 VARIABLES = {
     "DUNEKETTLE_HINTS=0": "dunekettle gives no hints, and becomes the program",
     "DUNEKETTLE_TELL=1": "the drop-in says which program takes a command line, and why; a path instead of 1 is a file for it, which report reads",
@@ -120,7 +122,7 @@ def help_text(kit, commands):
               *wrapped("", "Says of each file of what kind it is, by which order it is sorted, and what it has: header lines, blank "
                        "lines, CR LF, records without a strand; then which names the files don't share. Status 0 if the seven "
                        "commands can take them all, else 1."), ""]
-    for option, value, _, text in CHECK:
+    for option, value, _, text in [*CHECK, CHECK_END]:
         lines += wrapped(f"  {(option + ' ' + value).rstrip():<15}", text)
     lines += ["% report", "dunekettle report FILE", "",
               *wrapped("", "Reads the file that DUNEKETTLE_TELL names, which has a line for each call of the drop-in, and says how many "

@@ -15,6 +15,7 @@ FILES = {
     "vcf.vcf": b"##fileformat=VCFv4.2\n#CHROM\tPOS\tID\nchr1\t5\trs1\tA\tG\n", "numbers.vcf": b"##fileformat=VCFv4.2\nchr1\t5\t120\tA\tG\n",
     "gff.gff": b"chr1\tx\texon\t3\t6\t.\t+\t.\tid\n", "sam.sam": b"@SQ\tSN:chr1\tLN:20\nr\t0\tchr1\t3\t9\t4M\t*\t0\t0\t*\t*\n",
     "utf16.bed": "\ufeffchr1\t2\t6\n".encode("utf-16-le"), "little.bed": "chr1\t2\t6\n".encode("utf-16-le"), "big.bed": "chr1\t2\t6\n".encode("utf-16-be"),
+    "marked.bed": "\ufeffchr1\t2\t6\nchr1\t4\t9\n".encode(), "commas.bed": b"chr1\t1,000\t2,000\nchr1\t4,000\t5,000\n",
     "mark.bed": "\ufeff#chrom\tstart\tend\nchr1\t2\t6\n".encode(),
     "cr.bed": b"chr1\t2\t6\rchr1\t4\t9\r", "spaces.bed": b"chr1 2 6\n", "names.bed": b"name\tstart\tend\nchr1\t2\t6\n",
     "bare.bed": b"1\t2\t6\n", "natural.bed": b"chr2\t2\t6\nchr10\t2\t6\n", "cram.cram": b"CRAM\3\0", "a\nb.bed": b"chr1\t2\t6\n",
@@ -39,6 +40,10 @@ HINTS = [
     ("merge -i sam.sam", "sam.sam:1: start is not a number", "it is SAM: dunekettle bamtobed -i sam.sam | dunekettle merge"),
     ("merge -i utf16.bed", "utf16.bed:1: start is not a number", "it is UTF-16: iconv"),
     ("merge -i mark.bed", "mark.bed:1: start is not a number", "it begins with a byte order mark: tail -c +4 mark.bed"),
+    ("merge -i marked.bed", "marked.bed:2: record is out of order", "it begins with a byte order mark: tail -c +4 marked.bed | dunekettle merge -i -"),
+    ("merge -i marked.bed -g g.txt", "marked.bed:1: chromosome is not in the genome file", "it begins with a byte order mark: tail -c +4 marked.bed | dunekettle merge"),
+    ("maskfasta -fi s.fa -bed marked.bed", "marked.bed:1: no such sequence from here on", "it begins with a byte order mark: tail -c +4 marked.bed | dunekettle maskfasta"),
+    ("merge -i commas.bed", "commas.bed:1: start is not a number", "line 1 is: chr1 1,000 2,000"),
     ("merge -i little.bed", "little.bed:1: start is not a number", "it is UTF-16LE: iconv"),
     ("merge -i big.bed", "big.bed:1: start is not a number", "it is UTF-16BE: iconv"),
     ("intersect -a f.bed -b zip.gz", "zip.gz:1: too few columns", "zcat zip.gz | dunekettle intersect -a f.bed -b -"),
@@ -92,6 +97,7 @@ HINTS = [
     ("merge -i", None, "usage: dunekettle merge"),
     ("merge -x", None, "usage: dunekettle merge"),
     ("marge", None, "see dunekettle --help"),
+    ("version", None, "the commands: see dunekettle --help"),
     ("sort -i f.bed", None, "LC_ALL=C sort -k1,1 -k2,2n FILE"),
     ("closest -a f.bed -b f.bed", None, "closest is a command of bedtools alone; the drop-in"),
 ]
@@ -156,6 +162,9 @@ def try_help(place, folder, count):
             if line.startswith("  -"):
                 unknown = b"" if "unknown option" not in call([program, command, line.split()[0]], folder, looking())[1] else line
                 count.expect(f"an option of {command}", b"", unknown)
+    for command in ("check", "report"):
+        gave = [call([front, *words], folder, looking()) for words in (["help", command], [command, "--help"], [command, "-h"])]
+        count.expect(f"help of {command}", (True, True), (gave[0] == gave[1] == gave[2], gave[0][0].startswith(f"dunekettle {command} ".encode())))
     count.expect("version", True, call([front, "--version"], folder, looking())[0].startswith(b"Dunekettle "))
     count.expect("help of nothing", 2, call([front, "help", "nothing"], folder, looking())[2])
     output, _, status = call([front, "check", "--json", *(name for name in FILES if name != "-x"), "none.bed"], folder, looking())

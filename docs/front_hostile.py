@@ -44,6 +44,11 @@ def try_originals(place, folder, count):
         count.expect(f"original {name}: merge", (MERGED, "", 0), call(["bedtools", "merge", "-i", "f.bed"], folder, env))
         count.expect(f"original {name}: sort", (b"", "bedtools: no or unknown command\n", 2), call(["bedtools", "sort", "-i", "f.bed"], folder, env))
         count.expect(f"original {name}: -c", (b"", "bedtools: unknown option: -c\n", 2), call(["mergeBed", "-i", "f.bed", "-c", "1"], folder, env))
+        # What may be another answer than that of bedtools isn't taken silently; a fault says so by itself.
+        doubt = "dunekettle: there is no other bedtools on PATH, and Dunekettle may write something else: crlf.bed has a blank line, CR CR, or a header line of VCF\n"
+        count.expect(f"original {name}: a blank line", (b"chr1\t2\t6\n", doubt, 0), call(["bedtools", "merge", "-i", "crlf.bed"], folder, env))
+        count.expect(f"original {name}: a blank line, to a pipe", (b"chr1\t2\t6\n", doubt, 0), shell("bedtools merge -i crlf.bed | cat", folder, env))
+        count.expect(f"original {name}: a fault", (b"", "bedtools merge: no_base.bed:1: start is not below end\n", 1), call(["bedtools", "merge", "-i", "no_base.bed"], folder, env))
         output, _, status = call(["bedtools", "--version"], folder, env)
         count.expect(f"original {name}: --version", (True, 0), (output.startswith(b"bedtools v2.30.0 (Dunekettle ") and b"without bedtools" in output, status))
         for words in (["--help"], ["merge", "-h"], []):
@@ -70,6 +75,9 @@ def try_originals(place, folder, count):
     count.expect("ALWAYS", (b"", "bedtools: unknown option: -c\n", 2), call(["bedtools", "merge", "-c", "1"], folder, {**env, "DUNEKETTLE_ALWAYS": "1"}))
     told = call(["bedtools", "merge", "-i", "f.bed"], folder, {**env, "DUNEKETTLE_TELL": "1"})
     count.expect("TELL", (MERGED, True, 0), (told[0], told[1].startswith("dunekettle: Dunekettle takes merge: "), told[2]))
+    for line in ("merge -h", "intersect -a f.bed -b f.bed --help"):
+        said = call(["bedtools", *line.split()], folder, {**env, "DUNEKETTLE_TELL": "1"})[1]
+        count.expect(f"TELL of {line}", f"dunekettle: {top / 'says' / 'bedtools'} takes {line.split()[0]}: it asks for help\n", said)
     call(["bedtools", "merge", "-c"], folder, {**env, "DUNEKETTLE_TELL": str(top / "told.txt")})
     long = "x" * 100_000
     count.expect("a long word", 2, call([place / "bin" / "dunekettle", "merge", long], folder, looking())[2])
@@ -194,7 +202,14 @@ def try_streams(place, folder, count):
         count.expect(f"a pipe of a shell: {line}, STREAMS", 0, call(["bash", "-c", f"bedtools {line}"], folder, {**alone, "DUNEKETTLE_STREAMS": "1"})[2])
     os.mkfifo(folder / "pipe")
     count.expect("a named pipe", 0, shell("cat f.bed > pipe & bedtools complement -i pipe -g g.txt", folder, alone)[2])
+    # The writers of two may wait for the order in which bedtools opens them.
+    os.mkfifo(folder / "other")
+    script = f"(cat g.txt > other; cat f.bed > pipe) & {shutil.which('timeout')} 20 bedtools complement -i pipe -g other; status=$?; cat other pipe > /dev/null; exit $status"
+    count.expect("two named pipes", 7, shell(script, folder, alone)[2])
     (folder / "pipe").unlink()
+    (folder / "other").unlink()
+    lost = "dunekettle: a stream is lost: it cannot be read, or TMPDIR has no room for it\n"
+    count.expect("a stream that can't be read", (b"", lost, 1), shell("bedtools merge < .", folder, alone))
 
 
 def try_signals(place, folder, count):
@@ -278,9 +293,10 @@ def try_gone_readers(place, folder, count):
             for more in ({}, {"DUNEKETTLE_ALWAYS": "1"})[: 1 if " -scale " in line or " -d " in line else 2]:
                 found = call(["bash", "-c", f"{program} {line} | head -n 1 > /dev/null; exit ${{PIPESTATUS[0]}}"], folder, {**env, **more})
                 count.expect(f"a reader that is gone: {program} {line}", (b"", "", 141), found)
-    # A signal that is ignored ends nothing: the program says what it couldn't do.
+    # A signal that is ignored ends nothing: the call says what it couldn't do.
     found = call(["bash", "-c", f"trap '' PIPE; bedtools {lines[0]} | head -n 1 > /dev/null; exit ${{PIPESTATUS[0]}}"], folder, {**env, "DUNEKETTLE_ALWAYS": "1"})
     count.expect("a reader that is gone, SIGPIPE ignored", (b"", "bedtools merge: writing failed\n", 1), found)
+    try_failed_writes(place, folder, count)
     # A socket is as a pipe. What isn't read before the reader goes away has no status of its own.
     ours, theirs = socket.socketpair()
     child = subprocess.Popen(["bedtools", *lines[0].split()], cwd=folder, env=env, stdout=theirs, stderr=subprocess.PIPE)
@@ -295,14 +311,34 @@ def try_gone_readers(place, folder, count):
     count.expect("a reader that stays", (MERGED, "", 0), found)
 
 
+def try_failed_writes(place, folder, count):
+    """What awk can't write, of a form of genomecov, is a fault as that of the program is."""
+    for name in filter(shutil.which, ("mawk", "gawk")):
+        made = folder.parent / f"{name} alone"
+        made.mkdir()
+        (made / "awk").symlink_to(shutil.which(name))
+        env = {**looking(), "PATH": os.pathsep.join(map(str, [drop_in(place), made, folder.parent / "says", folder.parent / "tools"]))}
+        for form in ("-d", "-bg -scale 0.5", ""):
+            line = f"bedtools genomecov {form} -i long.bed -g far.txt"
+            for script in (f"{line} > /dev/full", f"{line} >&-", f"trap '' PIPE; {line} | true; exit ${{PIPESTATUS[0]}}"):
+                found = call(["bash", "-c", script], folder, env)
+                count.expect(f"{name}: {script}", (b"", "bedtools genomecov: writing failed\n", 1), found)
+
+
 def try_report(place, folder, count):
     """What `report` says of the file that DUNEKETTLE_TELL names, and of one that has no call."""
     front, told = place / "bin" / "dunekettle", folder.parent / "report.txt"
     env = {**looking(), "DUNEKETTLE_TELL": str(told), "PATH": os.pathsep.join(map(str, [drop_in(place), folder.parent / "says", folder.parent / "tools"]))}
     for line in ("merge -i f.bed", "merge -i unsorted.bed", "merge -d 1 -i unsorted.bed", "merge -i f.bed -c 4 -o count", "intersect -u -a f.bed -b f.bed", "sort -i f.bed", "--version"):
         call(["bedtools", *line.split()], folder, env)
-    wanted = ("6 calls, of which 5 of the seven commands; Dunekettle took 2 of 5 (40 percent)\n  merge       1 of 4 (25 percent)\n"
-              "  intersect   1 of 1 (100 percent)\nwhy bedtools took the others:\n       2  merge: record is out of order\n       1  merge: unknown option: -c\n")
+    # A reason is counted without the name of its file, also if that has spaces or no dot.
+    for name in ("zeros", "a name", "with two.bed"):
+        (folder / name).write_bytes(b"chr1\t2\t6\t\0\n")
+        call(["bedtools", "merge", "-i", name], folder, env)
+        (folder / name).unlink()
+    wanted = ("9 calls, of which 8 of the seven commands; Dunekettle took 2 of 8 (25 percent)\n  merge       1 of 7 (14 percent)\n"
+              "  intersect   1 of 1 (100 percent)\nwhy bedtools took the others:\n       3  merge: FILE has a NUL\n       2  merge: record is out of order\n"
+              "       1  merge: unknown option: -c\n")
     count.expect("report", (wanted.encode(), "", 0), call([front, "report", told], folder, env))
     for name in ("mawk", "gawk", "busybox"):
         if shutil.which(name):
@@ -345,6 +381,11 @@ def try_rest(place, folder, count):
         found = list(pool.map(lambda words: call(words, folder, env), calls))
     count.expect("200 calls at once", [(MERGED, "", 0)] * 200, found)
     count.expect("what they left", [], list(temporary.iterdir()))
+    (top / "dies").mkdir()
+    (top / "dies" / "mktemp").write_text(f'#!/bin/sh\n{shutil.which("mktemp")} "$@"\nkill -s KILL $$\n', encoding="utf-8")
+    (top / "dies" / "mktemp").chmod(0o755)
+    died = {**env, "PATH": os.pathsep.join(map(str, [drop_in(place), top / "dies", top / "says", top / "tools"]))}
+    count.expect("a mktemp that dies", (7, []), (call(["bedtools", "merge", "-i", "f.bed"], folder, died)[2], list(temporary.iterdir())))
     for words in (["dash"], ["bash", "--posix"], ["busybox", "sh"], ["zsh", "--emulate", "sh"], ["ksh"], ["mksh"], ["yash"]):
         if not shutil.which(words[0]):
             print(f"no {words[0]}: passed over")

@@ -54,7 +54,7 @@ function name_kind() {
     else if (NF >= 3 && is_number($2)) known = "BED"
     else if (NF == 2 && is_number($2)) known = "genome file"
     else if (NF < 3 && /^[^ ]+ +[0-9]+ +[0-9]+/) known = "spaces"
-    else if (NF >= 3 && NR == 1) known = "names of columns"
+    else if (NF >= 3 && NR == 1 && ($2 $3) !~ /[0-9]/) known = "names of columns"
     else known = "text"
     print known
     exit

@@ -52,9 +52,14 @@ count_stream() {
     dk_streams=$((dk_streams + 1))
     case $1 in - | stdin | /dev/std* | /dev/fd/0 | /proc/*) set -- /dev/fd/0 ;; esac
     [ "$1" != "$dk_one" ] || dk_odd='two of its inputs are one stream'
+    # Each waits for its writer, and bedtools may open them in another order.
+    ! is_named_pipe "$1" || ! is_named_pipe "$dk_one" || dk_odd='two of its inputs are named pipes'
     dk_one=$1
     [ -r "$1" ] && [ ! -c "$1" ] || dk_odd="$1 is no stream that can be copied"
 }
+
+# is_named_pipe FILE: whether its writer may still be waited for. One in /dev/fd is open.
+is_named_pipe() { case $1 in /dev/fd/*) return 1 ;; *) [ -p "$1" ] ;; esac; }
 
 # is_head_exact: whether head leaves in a pipe what it isn't told to read
 is_head_exact() { [ "$(printf ab | { head -c 1 > /dev/null && cat; })" = b ]; }
@@ -112,7 +117,7 @@ put_copy() {
     dk_left=${dk_left# }
     case $dk_kind$dk_word in
     gzip*)
-        unzip "$dk_word" "$dk_copy" || return 0
+        unpack "$dk_word" "$dk_copy" || return 0
         eval "dk_word_${dk_copy##*/}=\$dk_word"
         ;;
     stream- | streamstdin)
@@ -124,8 +129,8 @@ put_copy() {
     dk_word=$dk_copy
 }
 
-# unzip FILE COPY: sets `dk_why` if it is no whole gzip file, or a long one
-unzip() {
+# unpack FILE COPY: sets `dk_why` if it is no whole gzip file, or a long one
+unpack() {
     # shellcheck disable=SC2094 # Its name alone is noted.
     { gzip -dc < "$1" 2> /dev/null && note whole "$2"; } | head -c "$((dk_room + 1))" > "$2" 2> /dev/null &
     await $! && read_notes && is_noted "whole $2" && is_one_part "$1" "$2" && [ "$(wc -c < "$2")" -le "$dk_room" ] &&
@@ -154,7 +159,7 @@ copy_streams() {
     await_copies
     if [ -n "$dk_lost" ]; then
         end_children
-        say 'TMPDIR has no room for a stream, which is lost'
+        say 'a stream is lost: it cannot be read, or TMPDIR has no room for it'
         exit 1
     fi
     dk_from=${dk_pairs%%/*} dk_to=${dk_pairs#*/}

@@ -5,12 +5,17 @@
 # open_files NAME..: opens an empty file for each, and sets `dk_NAME` to where it is. Its name in TMPDIR is gone by
 # then, so that nothing is left of it, however this ends.
 open_files() {
-    dk_folder=$(mktemp -d "${TMPDIR:-/tmp}/dunekettle-XXXXXX" 2> /dev/null) || return
+    dk_folder=$(mktemp -d "${TMPDIR:-/tmp}/dunekettle-XXXXXX" 2> /dev/null) || {
+        # One that was killed may have made it. Half of a name is no name.
+        case $dk_folder in "${TMPDIR:-/tmp}"/dunekettle-??????) rm -rf "$dk_folder" ;; esac
+        dk_folder=''
+        return 1
+    }
     dk_opened=0
-    for dk_name; do
+    for dk_label; do
         free_descriptor || break
-        eval "command exec $dk_free<> \"\$dk_folder/\$dk_name\"" || break
-        eval "dk_$dk_name=/dev/fd/$dk_free"
+        eval "command exec $dk_free<> \"\$dk_folder/\$dk_label\"" || break
+        eval "dk_$dk_label=/dev/fd/$dk_free"
         dk_opened=$((dk_opened + 1))
     done 2> /dev/null
     rm -rf "$dk_folder"
@@ -44,7 +49,7 @@ is_running() {
 
 # finish STATUS: ends as a process did that had this status
 finish() {
-    [ "$1" -le 128 ] || as_signalled "$(kill -l "$1")"
+    [ "$1" -le 128 ] || as_signalled "$(kill -l "$1")" "$1"
     exit "$1"
 }
 

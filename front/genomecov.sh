@@ -33,7 +33,7 @@ look_at_chromosomes() {
         /^#|\r/ || $1 == "" || $1 in seen || $2 !~ /^[1-9][0-9]*$/ { bad = 1; exit }
         length($2) > 10 || $2 + 0 > 2147483647 { bad = 1; exit }
         { seen[$1]; bases += $2 }
-        END { exit bad || !bases || bases > 4294967295 }' < "$1" 2> /dev/null ||
+        END { exit bad || !bases || bases > 4294967295 }' < "$1" > /dev/null 2>&1 ||
         dk_why="the chromosomes of $1 may be others for bedtools"
 }
 
@@ -174,14 +174,19 @@ write_through() {
     dk_filter=$1 dk_value=$2
     shift 2
     { "$dk_program" genomecov "$@" < /dev/null 2> "$dk_spare" && echo; } | LC_ALL=C awk -v value="$dk_value" \
-        -f "$dk_files/whole.awk" -f "$dk_files/float.awk" -f "$dk_files/$dk_filter" &
+        -f "$dk_files/whole.awk" -f "$dk_files/float.awk" -f "$dk_files/$dk_filter" 2> /dev/null &
     await $!
     dk_status=$?
     # What the program says where awk has failed, or has ended without a reader, isn't a fault of its own.
-    if [ "$dk_status" = 3 ]; then
-        grep . < "$dk_spare" >&2 || say 'genomecov was cut off'
-        dk_status=1
-    fi
-    finish "$dk_status"
+    case $dk_status in
+    3) grep . < "$dk_spare" >&2 || say 'genomecov was cut off' ;;
+    1 | 2) fail_to_write ;;
+    141) kill -s PIPE "$$"; fail_to_write ;; # The signal ends this shell, unless its caller ignores it.
+    *) finish "$dk_status" ;;
+    esac
+    exit 1
 }
+
+# fail_to_write: says so as the program does
+fail_to_write() { printf 'bedtools genomecov: writing failed\n' >&2 2> /dev/null; }
 dk_part=genomecov.sh

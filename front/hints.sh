@@ -106,8 +106,8 @@ hint_place() {
         hint_kind "$@"
         ;;
     'reading failed') [ ! -d "$file" ] || advise "$file is a directory" ;;
-    'record is out of order') hint_order ;;
-    'chromosome is not in the genome file' | 'no such sequence from here on') hint_name ;;
+    'record is out of order') hint_mark "$@" || hint_order ;;
+    'chromosome is not in the genome file' | 'no such sequence from here on') hint_mark "$@" || hint_name ;;
     esac
 }
 
@@ -202,6 +202,12 @@ sort_line() {
     else
         printf '%s\n' "LC_ALL=C sort -k1,1 -k2,2n $1"
     fi
+}
+
+# hint_mark WORD..: what to do about a byte order mark, which makes another name of the first one
+hint_mark() {
+    ! is_stream "$file" && [ "$(kind_of "$file")" = 'byte order mark' ] || return
+    advise "$(in_words 'byte order mark'): $(pipe_for 'byte order mark' "$file")$(piped_words "$@")"
 }
 
 # The record, the one before it, the order in use and how to sort by it

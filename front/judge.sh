@@ -4,6 +4,8 @@
 #
 # Three files without a name serve the looks: `dk_spans` has each chromosome with its first start and its last end,
 # `dk_genome` the chromosomes in an order that was found, and `dk_spare` what one step writes for the next.
+#
+# An awk of which only the status counts has /dev/null as its output: some end with a fault if theirs is closed.
 
 # Larger than any end
 dk_far=999999999999
@@ -12,7 +14,7 @@ dk_mark=$(printf '\357\273\277 \037\213 \r')
 dk_zipped=${dk_mark#* } dk_cr=${dk_mark##* }
 dk_mark=${dk_mark%% *} dk_zipped=${dk_zipped% *}
 dk_kilobyte=xxxx
-for dk_part in 1 2 3 4; do dk_kilobyte=$dk_kilobyte$dk_kilobyte$dk_kilobyte$dk_kilobyte; done
+for dk_round in 1 2 3 4; do dk_kilobyte=$dk_kilobyte$dk_kilobyte$dk_kilobyte$dk_kilobyte; done
 
 # look_at_features FILE..: sets `dk_why` for merge, complement, intersect and subtract
 look_at_features() {
@@ -64,7 +66,7 @@ find_spans() {
 look_at_names() {
     LC_ALL=C awk -F '\t' '
         tolower($1) ~ /^(track|browser|visibility|!|>|chr[ \013\014\r]|chrom([ \013\014\r]|$))/ { exit 1 }
-        $3 > 536870912 { exit 1 }' < "$dk_spans" ||
+        $3 > 536870912 { exit 1 }' < "$dk_spans" > /dev/null ||
         dk_why="$1 has lines that bedtools passes over, or an end above 536,870,912"
 }
 
@@ -89,7 +91,7 @@ outline() { LC_ALL=C tr -c '\n' x < "$1"; }
 
 # look_at_genome FILE: a comment with a tab is a chromosome of bedtools
 look_at_genome() {
-    LC_ALL=C awk '/^#.*\t/ { exit 1 }' < "$1" 2> /dev/null || dk_why="$1 has a comment with a tab"
+    LC_ALL=C awk '/^#.*\t/ { exit 1 }' < "$1" > /dev/null 2>&1 || dk_why="$1 has a comment with a tab"
 }
 
 # look_closer FILE [GENOME]: sets `dk_why` if bedtools writes something else for what this file has, silently
@@ -115,7 +117,7 @@ ends_fit() {
         $0 == "\t" { parts++; next }
         !parts { end[$1] = $3 + 0; next }
         !/^#/ && end[$1] > $2 + 0 { is_past = 1 }
-        END { exit is_past || parts != 2 }'
+        END { exit is_past || parts != 2 }' > /dev/null
 }
 
 # write_both FILE FILE: writes them, after each a line with a tab alone. Where one is missing, what came was cut off.

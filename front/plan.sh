@@ -19,10 +19,10 @@ plan() {
     read_options "$@"
     [ -n "$dk_why" ] || judge_first
     [ -n "$dk_why" ] || has_word -held || find_copies "$@"
-    [ -n "$dk_why" ] || has_word -held || [ -n "$dk_copied" ] || is_worth_it
+    [ -n "$dk_why" ] || has_word -held || [ -n "$dk_copied" ] || judge_worth
     [ -n "$dk_why" ] || judge_words "$@"
     [ -n "$dk_why" ] || ! has_word -held || by_program 'bedtools only refuses -held' "$dk_command" "$@"
-    [ -n "$dk_why" ] || is_known_version
+    [ -n "$dk_why" ] || judge_version
     [ -z "$dk_why" ] || by_original "$dk_why" "$dk_command" "$@"
     ! reads_standard_input || set -- "$@" -i -
     open_copies "$@" || by_original 'TMPDIR takes no file, or too many are open' "$dk_command" "$@"
@@ -34,7 +34,7 @@ plan() {
 with_files() {
     if [ -n "$dk_copies" ]; then
         read_options "$@"
-        [ -n "$dk_why" ] || is_worth_it
+        [ -n "$dk_why" ] || judge_worth
     fi
     [ -n "$dk_why" ] || open_files spans spare genome || dk_why='TMPDIR takes no file, or too many are open'
     [ -n "$dk_why" ] || decide "$@"

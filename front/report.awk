@@ -6,6 +6,9 @@
 # Ends with 1 if the file has no call. A reason is counted without the names of files and without numbers.
 
 BEGIN {
+    # What comes right after the name of a file in a reason
+    SAID = " (has (a|lines|records|alignments|odd) |goes past |begins as |isn't (SAM|plain) |can't be read$)" \
+        "| is (VCF,|SAM text|a long gzip|odd,|no (file|stream|BAM))"
     count = split("merge complement intersect subtract genomecov bamtobed maskfasta", commands, " ")
     for (at = 1; at <= count; at++) is_ours[commands[at]]
 }
@@ -49,6 +52,7 @@ function plain(text) {
     sub(/^bedtools [a-z]+: .*:[0-9]+: /, "", text)
     sub(/^bedtools [a-z]+: .*: cannot be opened$/, "an input cannot be opened", text)
     sub(/^bedtools: /, "", text)
+    if (match(text, SAID)) text = "FILE" substr(text, RSTART)
     gsub(/[^ ]*[.\/][^ ]*[^ .:;,]/, "FILE", text)
     return text
 }

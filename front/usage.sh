@@ -30,7 +30,7 @@ hint_usage() {
 # How the command is called
 hint_synopsis() {
     synopsis=$(LC_ALL=C part=$dk_command awk '
-        $1 == "%" { found = $2 == ENVIRON["part"]; next }
+        $1 == "%" { found = $2 == ENVIRON["part"] && $2 != "version"; next }
         found && !NF { exit }
         found' "$files/help.txt" | tr -s '\n ' ' ')
     if [ -n "$synopsis" ]; then say "usage: ${synopsis% }"; else say 'the commands: see dunekettle --help'; fi

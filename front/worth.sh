@@ -12,14 +12,15 @@ judge_first() {
         command -v "$dk_tool" > /dev/null || { dk_why="there is no $dk_tool"; return; }
     done
     case $dk_command$dk_words in
+    *' -h '* | *' --help '*) dk_why='it asks for help' ;;
     *' -held '*) ;;
     merge*' -S '* | maskfasta*) dk_why='bedtools is as quick as a look at the files' ;;
     bamtobed*) is_stream "$dk_i" || judge_alignments ;;
     esac
 }
 
-# is_worth_it: sets `dk_why` where the original is quicker than a look at the files. genomecov goes over each base.
-is_worth_it() {
+# judge_worth: sets `dk_why` where the original is quicker than a look at the files. genomecov goes over each base.
+judge_worth() {
     case $dk_command in
     intersect | subtract) set -- "$dk_a" "$dk_b" ;;
     *) set -- "${dk_ibam:-$dk_i}" ;;
@@ -67,16 +68,16 @@ alignments_pay() {
     command -v samtools > /dev/null || return
     samtools view -H "$dk_ibam" < /dev/null 2> /dev/null | LC_ALL=C awk -v bytes="$dk_bytes" '
         /^@SQ/ && match($0, /\tLN:[0-9]+/) { bases += substr($0, RSTART + 4, RLENGTH - 4) }
-        END { exit bases < 20000000 || bases < bytes * 2 }'
+        END { exit bases < 20000000 || bases < bytes * 2 }' > /dev/null
 }
 
 is_large_genome() {
-    LC_ALL=C awk -F '\t' '{ bases += $2 } END { exit bases < 20000000 }' < "$dk_g" 2> /dev/null
+    LC_ALL=C awk -F '\t' '{ bases += $2 } END { exit bases < 20000000 }' < "$dk_g" > /dev/null 2>&1
 }
 
-# is_known_version: sets `dk_why` if the original isn't one that all was compared with, and the command line isn't one
+# judge_version: sets `dk_why` if the original isn't one that all was compared with, and the command line isn't one
 # of those for which all versions write the same
-is_known_version() {
+judge_version() {
     ! is_for_any_version || return 0
     [ -n "${dk_original-}" ] || find_original
     [ -n "$dk_original" ] || return 0
