@@ -101,20 +101,20 @@ def try_losses(place, folder, count):
         return
     child = start("(head -n 4000 a.bed; sleep 2; tail -n 4000 a.bed) | bedtools merge > /dev/null; exit ${PIPESTATUS[1]}", place, folder, DUNEKETTLE_ROOM="1000")
     time.sleep(1)
-    feeders = [pid for pid, comm in of_session(child.pid) if comm == "cat"]
+    feeders = [pid for pid, comm in started_by(child.pid) if comm == "cat"]
     for pid in feeders:
         os.kill(pid, signal.SIGKILL)
     count.expect("a stream that isn't fed any longer", (1, 1), (len(feeders), child.wait(timeout=20)))
 
 
 def start(script, place, folder, *first, **more):
-    """A script in a session of its own."""
+    """A script, whose processes `started_by` finds."""
     env = looking(drop_in(place), *first, **more)
     return subprocess.Popen(["bash", "-c", script], cwd=folder, env=env, stdin=subprocess.DEVNULL, stdout=subprocess.DEVNULL, stderr=subprocess.DEVNULL, start_new_session=True)
 
 
-def of_session(session):
-    """The processes of a session and their names."""
+def started_by(leader):
+    """The processes that a script has started, with it, and their names."""
     found = []
     for entry in Path("/proc").iterdir():
         if entry.name.isdigit():
@@ -122,7 +122,7 @@ def of_session(session):
                 name, fields = entry.joinpath("stat").read_text(encoding="utf-8", errors="replace").rsplit(")", 1)
             except OSError:
                 continue
-            if int(fields.split()[3]) == session and fields.split()[0] != "Z":
+            if int(fields.split()[3]) == leader and fields.split()[0] != "Z":
                 found.append((int(entry.name), name.split("(", 1)[1]))
     return found
 
@@ -151,9 +151,9 @@ def try_signals(place, folder, count):
             took = time.monotonic() - begun
             time.sleep(0.2)
             # The producers are the trial's own; a kill leaves what nobody can end.
-            left = [comm for _, comm in of_session(child.pid) if comm not in ("bash", "tee", "sleep" if "looks" not in name and "writes" not in name else "")]
+            left = [comm for _, comm in started_by(child.pid) if comm not in ("bash", "tee", "sleep" if "looks" not in name and "writes" not in name else "")]
             count.expect(f"{sent.name} while it {name}", (-sent, True, [], []), (status, took < 3, left if sent != signal.SIGKILL else [], list(temporary.iterdir())))
-            for pid, _ in of_session(child.pid):
+            for pid, _ in started_by(child.pid):
                 with contextlib.suppress(ProcessLookupError):
                     os.kill(pid, signal.SIGKILL)
 

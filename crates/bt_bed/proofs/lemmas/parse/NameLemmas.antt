@@ -36,12 +36,12 @@ words_same : (x y : List ℕ) → length x ≡ 4 → length y ≡ 4 → ((i : �
     → from_le_bytes w32 x ≡ from_le_bytes w32 y → x ≡ y
 words_same x y m n xs ys e = grind (arith, (le_bytes_4 x (from_le_bytes w32 x) m xs refl), (le_bytes_4 y (from_le_bytes w32 x) n ys e))
 
--- so many bytes are the same if they are one number
+-- that many bytes are the same if they are one number
 abbrev Tells : (List ℕ → ℕ) → ℕ → Type 0
 Tells number size = (x y : List ℕ) → length x ≡ size → length y ≡ size → ((i : ℕ) → get_or x i 0 < 256)
     → ((i : ℕ) → get_or y i 0 < 256) → number x ≡ number y → x ≡ y
 
--- names of at most twice so many bytes whose first ones are the same, as are the last ones
+-- names of at most twice that many bytes whose first ones are the same, as are the last ones
 ends_same : (size : ℕ) (a b : List ℕ) → length a ≡ length b → size ≤ length a → length a ≤ 2 * size → take size a ≡ take size b
     → drop (length a - size) a ≡ drop (length b - size) b → a ≡ b
 ends_same size a b n some short first last =
@@ -60,7 +60,7 @@ byte_behind : (xs : List ℕ) (n : ℕ) → ((i : ℕ) → get_or xs i 0 < 256) 
     → get_or (drop n xs) i 0 < 256
 byte_behind xs n all i = rw (get_or-drop n xs i 0) (all (n + i))
 
--- the first and the last bytes, each as one number, tell whether two names of at most twice so many are one
+-- the first and the last bytes, each as one number, tell whether two names of at most twice that many are one
 numbers_tell : (number : List ℕ → ℕ) (size : ℕ) → Tells number size → (a b : List ℕ) {first last other_first other_last : ℕ} → length a ≡ length b
     → size ≤ length a → length a ≤ 2 * size
     → ((i : ℕ) → get_or a i 0 < 256) → ((i : ℕ) → get_or b i 0 < 256)
