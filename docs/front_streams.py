@@ -36,7 +36,7 @@ SCRIPTS = [
 
 
 # Two streams of one producer: bedtools alone waits for ever.
-TWINS = "rm -f p q; mkfifo p q; tee q < a.bed > p & timeout 60 PROGRAM intersect -sorted -u -a p -b q"
+TWINS = "rm -f p q; mkfifo p q; tee q < a.bed > p & timeout 60 PROGRAM intersect -sorted -u -a <(cat p) -b <(cat q)"
 
 
 def compare(name, script, theirs, place, folder, count, **more):
