@@ -83,7 +83,7 @@ HISTORY = re.compile(r"earlier version|version of today|of today\b|another hour|
                      r"|any more|stood here|came from \d|[Tt]ried, and not kept|as before\b")
 LINK = re.compile(r"\[([^\]]*)\]\([^)]*\)")
 # A line that begins a paragraph of its own, and the end of a sentence.
-BEGINS = re.compile(r"(?:[-*] |\d+\. |\||> )")
+BEGINS = re.compile(r" *(?:[-*] |\d+\. |\||> )")
 SENTENCE_END = re.compile(r"(?<=[.!?])\s+")
 # The end of a sentence in a cell, or of one of several items.
 ITEM_END = re.compile(r"(?<=[.!?;])\s+")
