@@ -225,7 +225,7 @@ def summary(kept):
     on_text = digits(next(times_less(row) for row in kept["workloads"] if row["command"] == "bamtobed"))
     return (f"- [By command](bench/README.md#results): {spread(factors, digits)} times less processor time than bedtools {kept['bedtools']}, "
             f"over {len(factors)} workloads. For half of them it is at least {half}. [What is slow](bench/README.md#what-is-slow-and-why).\n"
-            f"- `bamtobed` reads SAM text, {on_text} times faster than bedtools reads BAM. With `samtools view` before it, it is 1.5 to 1.8 times.\n")
+            f"- `bamtobed` takes {on_text} times less for SAM text than bedtools for BAM. With `samtools view` before it, the two take 1.5 to 1.8 times less.\n")
 
 
 def by_command(kept):
