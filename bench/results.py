@@ -285,7 +285,7 @@ def pipelines(_):
     if not PIPELINES.exists():
         return "Whole pipelines are measured by `bench/pipelines.py --results`; there is no result of this commit yet.\n"
     measured = json.loads(PIPELINES.read_text(encoding="utf-8"))
-    lines = ["| pipeline, seconds by the clock | bedtools | drop-in, unchanged | calls it took | rewritten |\n|---|---|---|---|---|\n"]
+    lines = ["| pipeline, seconds by the clock | bedtools | drop-in, unchanged | calls it took | [rewritten](bench/pipelines) |\n|---|---|---|---|---|\n"]
     for row in measured["pipelines"]:
         theirs, front, ours = (digits(row["seconds"][form]) for form in ("bedtools", "drop-in", "rewritten"))
         lines.append(f"| {row['what']} | {theirs} | {front} | {row['taken']} of {row['calls']} | {ours} |\n")
