@@ -25,6 +25,7 @@ LOG := bin/build.log
 SOURCES := crates.txt $(shell find crates -name out -prune -o -type f \( -name '*.rt' -o -name '*.antt' \) -print)
 
 DOCS := README.md CHANGELOG.md LICENSE $(wildcard docs/*.md docs/*.svg) $(wildcard bench/*.md bench/*.svg) \
+	docs/differences.tsv docs/front_costs.tsv docs/front_pipelines.tsv bench/odd.tsv bench/results.tsv \
 	CITATION.cff $(shell find examples/shards examples/recipes -type f)
 
 .PHONY: all built example test mutants definitions check-docs check-program check-speed check-differences check-front check-shards \

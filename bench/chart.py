@@ -138,23 +138,24 @@ def draw_growth(kept, caption):
 
 def draw_pipelines(kept, caption):
     """Three bars for each pipeline, on one linear scale of seconds by the clock: bedtools, the drop-in, rewritten."""
-    forms = (("bedtools", "theirs", "bedtools"), ("drop-in", "both", "drop-in, unchanged"), ("rewritten", "ours", "rewritten"))
+    forms = (("bedtools", "theirs", "bedtools", 330), ("drop-in", "both", "drop-in, unchanged", 430), ("rewritten", "ours", "rewritten", 595))
     most = max(seconds for row in kept["pipelines"] for seconds in row["seconds"].values())
     left, right, first, step = 330, 820, 62, 66
     step_of_ticks = next(mark for mark in (0.1, 0.2, 0.5, 1, 2, 5, 10, 20, 50, 100, 200, 500) if most / mark <= 6)
     values = [step_of_ticks * at for at in range(int(most / step_of_ticks) + 1)]
     bottom = first + step * len(kept["pipelines"])
     parts = [text(16, 20, "whole pipelines, seconds by the clock", "title")]
-    for at, (_, kind, label) in enumerate(forms):
-        parts += [f'<rect class="{kind}" x="{330 + 150 * at}" y="10" width="12" height="12" rx="2"/>', text(347 + 150 * at, 20, label)]
+    for _, kind, label, at in forms:
+        parts += [f'<rect class="{kind}" x="{at}" y="10" width="12" height="12" rx="2"/>', text(at + 17, 20, label)]
     parts += ticks(lambda value: left + (right - left) * value / most, values, lambda value: f"{value:g} s", first - 12, bottom - 10)
     for at, row in enumerate(kept["pipelines"]):
         top = first + step * at
         words = row["what"].split(" ")
         half = next((cut for cut in range(len(words), 0, -1) if len(" ".join(words[:cut])) <= 40), len(words))
-        parts += [text(16, top + 12, " ".join(words[:half]), "name"), text(16, top + 28, " ".join(words[half:]), "name"),
-                  text(16, top + 44, f"the drop-in took {row['taken']} of {row['calls']} calls", "note")]
-        for line, (form, kind, _) in enumerate(forms):
+        named = [" ".join(part) for part in (words[:half], words[half:]) if part]
+        parts += [text(16, top + 12 + 16 * line, part, "name") for line, part in enumerate(named)]
+        parts.append(text(16, top + 12 + 16 * len(named), f"the drop-in took {row['taken']} of {row['calls']} calls", "note"))
+        for line, (form, kind, _, _) in enumerate(forms):
             value = row["seconds"][form]
             width = (right - left) * value / most
             parts += [f'<rect class="{kind}" x="{left}" y="{top + 16 * line}" width="{max(width, 1):.1f}" height="12" rx="2"/>',

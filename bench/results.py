@@ -34,9 +34,11 @@ TOP = HERE.parent
 RESULTS = HERE / "results.json"
 # What bench/pipelines.py measured.
 PIPELINES = HERE / "pipelines.json"
-# What bench/odd.py measured, and the same as a table of all rows. The page shows the worst of them.
-ODD, ODD_ROWS = HERE / "odd.json", HERE / "odd.tsv"
-WORST = 20
+# What bench/odd.py measured. The page shows the worst of it.
+ODD = HERE / "odd.json"
+WORST = 10
+# The same as tables of all rows.
+RESULT_ROWS, ODD_ROWS = HERE / "results.tsv", HERE / "odd.tsv"
 # What is measured of growth: a workload for each command, also the one that the chart shows, by the name of its data.
 SHOWN = {
     "merge": "3 columns",
@@ -225,31 +227,33 @@ def summary(kept):
     on_text = digits(next(times_less(row) for row in kept["workloads"] if row["command"] == "bamtobed"))
     return (f"- [By command](bench/README.md#results): {spread(factors, digits)} times less processor time than bedtools {kept['bedtools']}, "
             f"over {len(factors)} workloads. For half of them it is at least {half}. [What is slow](bench/README.md#what-is-slow-and-why).\n"
-            f"- `bamtobed` reads SAM text, {on_text} times faster than bedtools reads BAM. With `samtools view` before it, it is 1.5 to 1.8 times.\n")
+            f"- `bamtobed` takes {on_text} times less for SAM text than bedtools for BAM. With `samtools view` before it, the two take 1.5 to 1.8 times less.\n")
 
 
 def by_command(kept):
-    """The table of bench/README.md by command: how much less each takes. Its caption is that of the next one."""
-    lines = []
-    lines.append("| command | times less processor time than bedtools | memory | memory of bedtools |\n|---|---|---|---|\n")
+    """The table of bench/README.md by command: how much less each takes, and below it what other programs than bedtools take."""
+    lines = ["| command | times less processor time | such as | seconds | of bedtools | memory | of bedtools |\n|" + "---|" * 7 + "\n"]
     for command in SHOWN:
         rows = [row for row in kept["workloads"] if row["command"] == command]
         ours, theirs = ([row["runs"][program]["kilobytes"] for row in rows] for program in ("dunekettle", "bedtools"))
-        lines.append(f"| `{command}` | {spread([times_less(row) for row in rows], digits)} | {spread(ours, megabytes)} | {spread(theirs, megabytes)} |\n")
-    return "".join(lines)
-
-
-def by_workload(kept):
-    """The table of bench/README.md: each workload, and below it what other programs than bedtools take."""
-    lines = ["| workload | Dunekettle, s | bedtools, s | times less than bedtools | MB | of bedtools |\n|" + "---|" * 6 + "\n"]
-    for row in kept["workloads"]:
-        ours, theirs = row["runs"]["dunekettle"], row["runs"]["bedtools"]
-        cells = [row["name"], digits(ours["seconds"]), digits(theirs["seconds"]), digits(times_less(row)),
-                 *(digits(run["kilobytes"] * 1024 / 1e6) for run in (ours, theirs))]
-        lines.append(f"| {' | '.join(cells)} |\n")
+        example = next(row for row in rows if row["name"] == shown(command).name())
+        took = " | ".join(digits(example["runs"][program]["seconds"]) for program in ("dunekettle", "bedtools"))
+        lines.append(f"| `{command}` | {spread([times_less(row) for row in rows], digits)} | {SHOWN[command]} | {took} "
+                     f"| {spread(ours, megabytes)} | {spread(theirs, megabytes)} |\n")
     plain = [f"A [plain C program](plain_merge.c) that does nothing but {row['name']} takes {digits(row['runs']['plain C']['seconds'])} s.\n"
              for row in kept["workloads"] if "plain C" in row["runs"]]
-    return "".join(lines) + "".join(f"\n{line}" for line in [*plain, bedops(kept), caption(kept)])
+    all_rows = f"[{RESULT_ROWS.name}]({RESULT_ROWS.name}) has each of the {len(kept['workloads'])} workloads.\n"
+    return "".join(lines) + "".join(f"\n{line}" for line in [all_rows, *plain, bedops(kept), caption(kept)])
+
+
+def result_rows(kept):
+    """The file of all workloads."""
+    rows = [["workload", "Dunekettle, s", "bedtools, s", "times less than bedtools", "MB", "MB of bedtools"]]
+    for row in kept["workloads"]:
+        runs = [row["runs"][program] for program in ("dunekettle", "bedtools")]
+        rows.append([row["name"], *(digits(run["seconds"]) for run in runs), digits(times_less(row)),
+                     *(digits(run["kilobytes"] * 1024 / 1e6) for run in runs)])
+    return "".join("\t".join(cells) + "\n" for cells in rows)
 
 
 def bedops(kept):
@@ -281,7 +285,7 @@ def pipelines(_):
     if not PIPELINES.exists():
         return "Whole pipelines are measured by `bench/pipelines.py --results`; there is no result of this commit yet.\n"
     measured = json.loads(PIPELINES.read_text(encoding="utf-8"))
-    lines = ["| pipeline, seconds by the clock | bedtools | drop-in, unchanged | calls it took | rewritten |\n|---|---|---|---|---|\n"]
+    lines = ["| pipeline, seconds by the clock | bedtools | drop-in, unchanged | calls it took | [rewritten](bench/pipelines) |\n|---|---|---|---|---|\n"]
     for row in measured["pipelines"]:
         theirs, front, ours = (digits(row["seconds"][form]) for form in ("bedtools", "drop-in", "rewritten"))
         lines.append(f"| {row['what']} | {theirs} | {front} | {row['taken']} of {row['calls']} | {ours} |\n")
@@ -338,7 +342,7 @@ def odd_claim(kept):
     return f"- Never slower than bedtools on {on}: at most {digits(max(ratios))} of its processor time.\n"
 
 
-TABLES = {"summary": summary, "by_command": by_command, "by_workload": by_workload, "growth": growth, "pipelines": pipelines}
+TABLES = {"summary": summary, "by_command": by_command, "growth": growth, "pipelines": pipelines}
 # Those of odd.json, for which it may be missing. The claim comes after the summary.
 ODD_TABLES = {"odd_inputs": odd_inputs, "odd_claim": odd_claim}
 
@@ -371,7 +375,7 @@ def agree(is_written):
     kept, odd = read(RESULTS), read(ODD)
     made = {TOP / name: page(TOP / name, kept, odd) for name in PAGES}
     made |= {HERE / name: text for name, text in charts(kept).items()}
-    made |= {ODD_ROWS: odd_rows(odd)} if odd else {}
+    made |= {RESULT_ROWS: result_rows(kept), **({ODD_ROWS: odd_rows(odd)} if odd else {})}
     differ = [path for path, text in made.items() if not path.exists() or path.read_text(encoding="utf-8") != text]
     for path in differ:
         if is_written:
@@ -399,8 +403,9 @@ def memory_differs(kept):
 def render(kept, folder):
     """Writes the tables and charts of some results into a folder."""
     folder.mkdir(parents=True, exist_ok=True)
-    tables, drawn = (ODD_TABLES, {ODD_ROWS.name: odd_rows(kept)}) if "odd" in kept else (TABLES, charts(kept))
-    for name, text in [*drawn.items(), *((f"{name}.md", table(kept)) for name, table in tables.items())]:
+    tables, rows = (ODD_TABLES, {ODD_ROWS.name: odd_rows(kept)}) if "odd" in kept else (TABLES, {RESULT_ROWS.name: result_rows(kept)})
+    drawn = {} if "odd" in kept else charts(kept)
+    for name, text in [*rows.items(), *drawn.items(), *((f"{name}.md", table(kept)) for name, table in tables.items())]:
         (folder / name).write_text(text, encoding="utf-8")
     return 0
 

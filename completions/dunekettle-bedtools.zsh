@@ -20,59 +20,59 @@ shift words
 case $command in
 merge)
     _arguments \
-        '-i[the features; - or stdin is standard input]:FILE:_files' \
-        '-g[the chromosomes in their order\: a genome file or a .fai index]:GENOME:_files' \
+        '-i[the features]:FILE:_files' \
+        '-g[the chromosomes in their order]:GENOME:_files' \
         '-d[joins features up to N bases apart too]:N: ' \
         '-S[merges the features of this strand alone, by the sixth column]:+ or -:(+ -)' \
-        '-s[merges the features of each strand separately; not beside -S]' ;;
+        '-s[merges the features of each strand separately]' ;;
 complement)
     _arguments \
-        '-i[the features; - or stdin is standard input]:FILE:_files' \
-        '-g[the chromosomes, their lengths and their order\: a genome file or a .fai index]:GENOME:_files' \
+        '-i[the features]:FILE:_files' \
+        '-g[the chromosomes, their lengths and their order]:GENOME:_files' \
         '-L[leaves out the chromosomes that have no feature]' ;;
 intersect)
     _arguments \
-        '-a[the features A; - or stdin is standard input]:FILE:_files' \
-        '-b[the features B; - or stdin is standard input]:FILE:_files' \
-        '-g[the chromosomes in their order\: a genome file or a .fai index]:GENOME:_files' \
+        '-a[the features A]:FILE:_files' \
+        '-b[the features B]:FILE:_files' \
+        '-g[the chromosomes in their order]:GENOME:_files' \
         '-wa[for each hit A as it is, instead of the shared part]' \
-        '-wb[for each hit the shared part of A, then B; with -wa A as it is, then B]' \
+        '-wb[for each hit the shared part of A, then B]' \
         '-wo[for each hit A, B and the number of bases that they share]' \
         '-u[A once, if anything hits it]' \
         '-v[A, if nothing hits it]' \
         '-c[A and the number of its hits, which may be 0]' \
         '-f[a hit shares at least the fraction F of the bases of A]:F: ' \
         '-r[requires the fraction of -f of the bases of B too]' \
-        '-s[a hit has the strand of A; no strand equals no strand]' \
-        '-sorted[accepted; all input has to be sorted anyway]' \
-        '-held[ends the run where more than N features B would be kept in memory]:N: ' ;;
+        '-s[a hit has the strand of A]' \
+        '-sorted[accepted, and changes nothing]' \
+        '-held[ends the run if more than N features B would be kept in memory]:N: ' ;;
 subtract)
     _arguments \
-        '-a[the features A; - or stdin is standard input]:FILE:_files' \
-        '-b[the features B; - or stdin is standard input]:FILE:_files' \
-        '-g[the chromosomes in their order\: a genome file or a .fai index]:GENOME:_files' \
+        '-a[the features A]:FILE:_files' \
+        '-b[the features B]:FILE:_files' \
+        '-g[the chromosomes in their order]:GENOME:_files' \
         '-A[leaves out each A that anything hits, whole]' \
         '-f[a hit shares at least the fraction F of the bases of A]:F: ' \
-        '-s[a hit has the strand of A; no strand equals no strand]' \
-        '-held[ends the run where more than N features B would be kept in memory]:N: ' ;;
+        '-s[a hit has the strand of A]' \
+        '-held[ends the run if more than N features B would be kept in memory]:N: ' ;;
 genomecov)
     _arguments \
-        '-i[the features; - or stdin is standard input]:FILE:_files' \
-        '-g[the chromosomes, their lengths and their order\: a genome file or a .fai index]:GENOME:_files' \
+        '-i[the features]:FILE:_files' \
+        '-g[the chromosomes, their lengths and their order]:GENOME:_files' \
         '-bg[the intervals of a depth above 0]' \
         '-bga[all intervals, those of depth 0 too]' \
         '-strand[counts the features of this strand alone, by the sixth column]:+ or -:(+ -)' ;;
 bamtobed)
     _arguments \
-        '-i[the SAM text; - or stdin is standard input]:FILE:_files' \
-        '-split[cuts each alignment at the N operations of its CIGAR, one line for each block]' \
+        '-i[the SAM text]:FILE:_files' \
+        '-split[cuts each alignment at the N operations of its CIGAR (introns)]' \
         '-cigar[writes the CIGAR as a seventh column]' ;;
 maskfasta)
     _arguments \
-        '-fi[the sequences; - or stdin is standard input]:FASTA:_files' \
+        '-fi[the sequences]:FASTA:_files' \
         '-bed[the records that mask them, in the order of the sequences]:BED:_files' \
         '-fo[the file to write to, which is made or emptied]:FILE:_files' \
-        '-soft[lower case instead of N]' \
-        '-mc[the character C instead of N; not beside -soft]:C: ' \
+        '-soft[lower case instead of N, and any byte but A to Z as it was]' \
+        '-mc[the character C instead of N]:C: ' \
         '-fullHeader[takes the whole header after > as the sequence'\''s name, with its spaces]' ;;
 esac

@@ -24,60 +24,60 @@ _dunekettle() {
         report:*) compopt -o default; return ;;
         check:*) [[ $word == -* ]] || { compopt -o default; return; } ;;&
         merge:*) lines=(
-            '-i  (the features; - or stdin is standard input)'
-            '-g  (the chromosomes in their order: a genome file or a .fai index)'
+            '-i  (the features)'
+            '-g  (the chromosomes in their order)'
             '-d  (joins features up to N bases apart too)'
             '-S  (merges the features of this strand alone, by the sixth column)'
-            '-s  (merges the features of each strand separately; not beside -S)'
+            '-s  (merges the features of each strand separately)'
         ) ;;
         complement:*) lines=(
-            '-i  (the features; - or stdin is standard input)'
-            '-g  (the chromosomes, their lengths and their order: a genome file or a .fai index)'
+            '-i  (the features)'
+            '-g  (the chromosomes, their lengths and their order)'
             '-L  (leaves out the chromosomes that have no feature)'
         ) ;;
         intersect:*) lines=(
-            '-a  (the features A; - or stdin is standard input)'
-            '-b  (the features B; - or stdin is standard input)'
-            '-g  (the chromosomes in their order: a genome file or a .fai index)'
+            '-a  (the features A)'
+            '-b  (the features B)'
+            '-g  (the chromosomes in their order)'
             '-wa  (for each hit A as it is, instead of the shared part)'
-            '-wb  (for each hit the shared part of A, then B; with -wa A as it is, then B)'
+            '-wb  (for each hit the shared part of A, then B)'
             '-wo  (for each hit A, B and the number of bases that they share)'
             '-u  (A once, if anything hits it)'
             '-v  (A, if nothing hits it)'
             '-c  (A and the number of its hits, which may be 0)'
             '-f  (a hit shares at least the fraction F of the bases of A)'
             '-r  (requires the fraction of -f of the bases of B too)'
-            '-s  (a hit has the strand of A; no strand equals no strand)'
-            '-sorted  (accepted; all input has to be sorted anyway)'
-            '-held  (ends the run where more than N features B would be kept in memory)'
+            '-s  (a hit has the strand of A)'
+            '-sorted  (accepted, and changes nothing)'
+            '-held  (ends the run if more than N features B would be kept in memory)'
         ) ;;
         subtract:*) lines=(
-            '-a  (the features A; - or stdin is standard input)'
-            '-b  (the features B; - or stdin is standard input)'
-            '-g  (the chromosomes in their order: a genome file or a .fai index)'
+            '-a  (the features A)'
+            '-b  (the features B)'
+            '-g  (the chromosomes in their order)'
             '-A  (leaves out each A that anything hits, whole)'
             '-f  (a hit shares at least the fraction F of the bases of A)'
-            '-s  (a hit has the strand of A; no strand equals no strand)'
-            '-held  (ends the run where more than N features B would be kept in memory)'
+            '-s  (a hit has the strand of A)'
+            '-held  (ends the run if more than N features B would be kept in memory)'
         ) ;;
         genomecov:*) lines=(
-            '-i  (the features; - or stdin is standard input)'
-            '-g  (the chromosomes, their lengths and their order: a genome file or a .fai index)'
+            '-i  (the features)'
+            '-g  (the chromosomes, their lengths and their order)'
             '-bg  (the intervals of a depth above 0)'
             '-bga  (all intervals, those of depth 0 too)'
             '-strand  (counts the features of this strand alone, by the sixth column)'
         ) ;;
         bamtobed:*) lines=(
-            '-i  (the SAM text; - or stdin is standard input)'
-            '-split  (cuts each alignment at the N operations of its CIGAR, one line for each block)'
+            '-i  (the SAM text)'
+            '-split  (cuts each alignment at the N operations of its CIGAR (introns))'
             '-cigar  (writes the CIGAR as a seventh column)'
         ) ;;
         maskfasta:*) lines=(
-            '-fi  (the sequences; - or stdin is standard input)'
+            '-fi  (the sequences)'
             '-bed  (the records that mask them, in the order of the sequences)'
             '-fo  (the file to write to, which is made or emptied)'
-            '-soft  (lower case instead of N)'
-            '-mc  (the character C instead of N; not beside -soft)'
+            '-soft  (lower case instead of N, and any byte but A to Z as it was)'
+            '-mc  (the character C instead of N)'
             '-fullHeader  (takes the whole header after > as the sequence'\''s name, with its spaces)'
         ) ;;
         check:*) lines=(

@@ -9,6 +9,11 @@ bytes allocated at once than over 1,000, but for half a byte a record: so a seco
 of starts, of names, of whole lines or of records, is seen. Where no record is kept for the other input, or opens a run
 beside another, no more growths may come either: so is a copy that is made anew for each record though there is a
 buffer for it. Needs gcc. Ends with 1 where something else comes of it.
+
+These bodies were planted by hand, and each rose with the records: `merge` and `genomecov` that keep all starts; a sweep
+that copies each record of the second input, and one that keeps held records once they are cleared; masking that keeps
+each line or each record's chromosome; a second list of starts in `State::take`, `UnstrandedMerge::step` and
+`MaskState::take_bed`, with which 21, 10 and 5 of 65 command lines rise.
 """
 
 import argparse

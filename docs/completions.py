@@ -1,14 +1,13 @@
 #!/usr/bin/env python3
-"""Makes of front/options.txt the help of `dunekettle`, and the completions for bash, zsh and fish of the program and of
-its front. docs/manuals.py makes the manual pages of the commands.
+"""Makes of front/options.txt the help of `dunekettle`, the tables of options in COMMANDS.md, and the completions for bash,
+zsh and fish of the program and of its front. docs/manuals.py makes the manual pages of the commands.
 
     docs/completions.py            sees that these files have what would be made
     docs/completions.py --write    writes them
 
 Each line of front/options.txt is a command, or an option of one: its word, its value, its default and a line of
-help. COMMANDS.md has to have a table with the same options and values for each command, and an example of each
-option; how a command is called is taken from there, and the version from CHANGELOG.md. `make install` puts its NAME
-into the files. Ends with 1 if one differs, or an option has no example.
+help. Completions have that up to its first colon or semicolon. COMMANDS.md has to have an example of each option; how
+a command is called is taken from there, and the version from CHANGELOG.md. `make install` puts its NAME into the files. Ends with 1 if one differs, or an option has no example.
 """
 
 import re
@@ -35,6 +34,9 @@ VARIABLES = {
     "DUNEKETTLE_SMALL=0": "the drop-in looks at the smallest inputs too; a number of bytes instead of 0 is from where on",
 }
 WIDTH = 80
+# A table of options in COMMANDS.md, and what that page says once, above all of them.
+TABLE = re.compile(r"^\| option \|.*?(?=\n\n)", re.MULTILINE | re.DOTALL)
+SAID = ("; - or stdin is standard input", ": a genome file or a .fai index")
 
 
 def read_options():
@@ -78,22 +80,31 @@ def without_example(commands):
         yield from (f"{command} {option}" for option, _, _, _ in commands[command][1] if option not in given)
 
 
-def tables_differ(commands):
-    """Whether a table of COMMANDS.md has other options than front/options.txt, or other values."""
-    parts, differ = sections(commands), False
-    for command, (_, options) in commands.items():
-        words = set()
-        for line in parts[command].splitlines():
-            if line.startswith("| `-"):
-                words.update(re.findall(r"`(-[^`]*)`", line.split(" | ")[0]))
-        # A strand's option stands with each of its values.
-        wanted = set()
-        for option, value, _, _ in options:
-            wanted.update([f"{option} {sign}" for sign in "+-"] if value == "+ or -" else [f"{option} {value}".rstrip()])
-        for word in sorted(words ^ wanted):
-            print(f"{command}: {word} stands in {'COMMANDS.md' if word in words else 'front/options.txt'} alone")
-            differ = True
-    return differ
+def as_code(text, value):
+    """A line of help for a page: options, files and the letter of a value as code, and without what the page says once."""
+    for said in SAID:
+        text = text.replace(said, "")
+    letter = rf"|\b{value}\b" if len(value) == 1 else ""
+    return re.sub(rf"(?<![\w-])-[A-Za-z]\w*{letter}", r"`\g<0>`", text)
+
+
+def table(options):
+    """The table of a command's options in COMMANDS.md. A strand's option has each of its values."""
+    lines = ["| option | what it does |", "|---|---|"]
+    for option, value, default, text in options:
+        names = [f"{option} {sign}" for sign in "+-"] if value == "+ or -" else [f"{option} {value}".rstrip()]
+        words = default_in_words(default).rstrip(".")
+        ends = "" if default in ("off", "on") else f"; {words[0].lower()}{words[1:]}"
+        lines.append(f"| {', '.join(f'`{name}`' for name in names)} | {as_code(text + ends, value)} |")
+    return "\n".join(lines)
+
+
+def with_tables(commands):
+    """COMMANDS.md with the tables of options."""
+    page = (TOP / "docs" / "COMMANDS.md").read_text(encoding="utf-8")
+    for command, section in sections(commands).items():
+        page = page.replace(section, TABLE.sub(lambda _: table(commands[command][1]), section))
+    return page
 
 
 def help_text(kit, commands):
@@ -236,6 +247,11 @@ def fish_file(name, commands):
     return lines
 
 
+def text_of(text):
+    """A line of help up to its first colon or semicolon."""
+    return re.split("[:;] ", text)[0]
+
+
 def kind_of(value):
     """What follows an option: a file, a strand, something else or nothing."""
     if not value:
@@ -256,10 +272,12 @@ def fish_quoted(text):
 def made(kit, commands):
     """Each file and its text."""
     files = {"front/help.txt": help_text(kit, commands)}
+    short = {command: (purpose, [(*words, text_of(text)) for *words, text in options]) for command, (purpose, options) in commands.items()}
     for name in (NAME, FRONT):
         for shell, lines in (("bash", bash_file), ("zsh", zsh_file), ("fish", fish_file)):
-            files[f"completions/{name}.{shell}"] = lines(name, commands)
-    return {name: "".join(f"{line}\n" for line in lines) for name, lines in files.items()}
+            files[f"completions/{name}.{shell}"] = lines(name, short)
+    texts = {name: "".join(f"{line}\n" for line in lines) for name, lines in files.items()}
+    return {**texts, "docs/COMMANDS.md": with_tables(commands)}
 
 
 def main():
@@ -280,9 +298,8 @@ def main():
     bare = list(without_example(commands))
     for option in bare:
         print(f"docs/COMMANDS.md: no example of {option}")
-    differ = tables_differ(commands)
-    print(f"{len(files)} files of help and completions, {wrong} of them differ")
-    return 1 if wrong or kits or bare or differ else 0
+    print(f"{len(files)} files of help, options and completions, {wrong} of them differ")
+    return 1 if wrong or kits or bare else 0
 
 
 if __name__ == "__main__":

@@ -99,7 +99,8 @@ def manual(command, purpose, options, section, date):
     lines = [f".Dd {date}", f".Dt DUNEKETTLE-{command.upper()} 1", ".Os", ".Sh NAME", f".Nm dunekettle-{command}", f".Nd {purpose}", ".Sh SYNOPSIS",
              escaped(f"dunekettle {synopsis(command, section)}"), ".Sh DESCRIPTION", *body(section.split("\n| option |")[0], made), ".Sh OPTIONS", ".Bl -tag -width Ds"]
     for option, value, default, text in options:
-        lines += [f".It \\fB{escaped(option)}\\fP {value}".rstrip(), f"{text[0].upper()}{text[1:]}.", default_in_words(default)]
+        lines += [f".It \\fB{escaped(option)}\\fP {value}".rstrip(), f"{text[0].upper()}{text[1:]}."]
+        lines += [default_in_words(default)] if default not in ("off", "on") else []
     lines += [".El", ".Sh EXAMPLES", *body("\n\n".join(section.split("\n\n")[options_end(section):]), made), ".Sh EXIT STATUS", ".Bl -tag -width Ds",
               ".It 0", "All output was written.", ".It 1", "An error of an input, of reading or writing, or of memory.", ".It 2", "The command line can't be used.", ".El",
               ".Sh SEE ALSO", f".Xr {NAME} 1 ,", ".Xr dunekettle 1", ".Pp", f"This page is that of Dunekettle {version()}.", ".Pa docs/COMMANDS.md",

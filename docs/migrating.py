@@ -1,10 +1,11 @@
 #!/usr/bin/env python3
 """Shows the rows of differences.tsv and options.tsv in MIGRATING.md, by command.
 
-    docs/migrating.py             fails if a table of the page isn't that of the files
-    docs/migrating.py --write     writes the tables anew
+    docs/migrating.py             fails if a list of the page isn't that of the files
+    docs/migrating.py --write     writes the lists anew
+    docs/migrating.py merge       prints all that the files have of a command, or of `every`
 
-Columns are separated by tabs. differences.tsv has the command (`every` for all), the difference, what bedtools 2.30.0
+The page has the options, the silent differences, and the names of the others. Columns are separated by tabs. differences.tsv has the command (`every` for all), the difference, what bedtools 2.30.0
 and Dunekettle do, the kind, who takes such a command line of the drop-in, and what to do. options.tsv has the command,
 its options, whether Dunekettle takes them, and what to write. docs/differences.py tries each row of both. An option that
 is taken says `same`, and no other does. Each script that a row names is in examples/recipes. Ends with 1 if one differs.
@@ -21,7 +22,7 @@ SCRIPTS = HERE.parent / "examples" / "recipes"
 INSTEAD = HERE.parent / "front" / "instead.txt"
 KINDS = ("silent", "error", "cosmetic")
 TAKERS = ("bedtools", "Dunekettle", "either")
-# A table of the page: its command, and what is between the two marks.
+# A list of the page: its command, and what is between the two marks.
 MARKS = re.compile(r"(<!-- docs/migrating.py --write: (\w+) -->\n).*?(<!-- it ends here -->)", re.DOTALL)
 
 
@@ -52,14 +53,32 @@ def options_of(command):
     return "".join(lines)
 
 
+def starred(name, taker):
+    """The name of a difference, with a star if Dunekettle takes it with the drop-in, in parentheses if it takes some."""
+    return name + {"bedtools": "", "Dunekettle": " \\*", "either": " (\\*)"}[taker]
+
+
 def differences_of(command):
-    """The table of a command's differences, the silent ones first. What Dunekettle takes with the drop-in has a star."""
-    lines = ["| difference | bedtools 2.30.0 | Dunekettle | kind: what to do |\n|---|---|---|---|\n"]
+    """The table of a command's silent differences, and the names of the others."""
     rows = [row for row in differences() if row[0] == command]
-    for _, name, theirs, ours, kind, taker, text in sorted(rows, key=lambda row: KINDS.index(row[4])):
-        star = {"bedtools": "", "Dunekettle": " \\*", "either": " (\\*)"}[taker]
-        lines.append(f"| {name} | {theirs} | {ours} | {kind}{star}{': ' if text else ''}{text} |\n")
-    return "".join(lines)
+    lines = ["| silent difference | bedtools 2.30.0 | Dunekettle | what to do |\n|---|---|---|---|\n"]
+    lines += [f"| {starred(name, taker)} | {theirs} | {ours} | {text} |\n" for _, name, theirs, ours, kind, taker, text in rows if kind == "silent"]
+    if len(lines) == 1:
+        lines = []
+    for kind, head in (("error", "Errors"), ("cosmetic", "Cosmetic")):
+        names = [f"- {starred(row[1], row[5])}\n" for row in rows if row[4] == kind]
+        lines += [f"\n{head}:\n\n", *names] if names else []
+    return "".join(lines).lstrip("\n")
+
+
+def print_all(command):
+    """Prints the options of a command and each of its differences with all columns. Returns the exit status."""
+    shown = "".join(f"{', '.join(words)}: {text}\n" for name, words, _, text in options() if name == command)
+    for _, name, theirs, ours, kind, taker, text in (row for row in differences() if row[0] == command):
+        shown += f"\n{kind}: {name}\n    bedtools 2.30.0: {theirs}\n    Dunekettle: {ours}\n    with the drop-in: {taker}\n"
+        shown += f"    what to do: {text}\n" if text else ""
+    print(shown.lstrip("\n"), end="")
+    return 0 if shown else 1
 
 
 def instead():
@@ -93,16 +112,19 @@ def amiss():
 
 
 def main():
+    chosen = [word for word in sys.argv[1:] if word != "--write"]
+    if chosen:
+        return print_all(chosen[0])
     wrong = list(amiss())
     text = PAGE.read_text(encoding="utf-8")
     shown = {found[1] for found in MARKS.findall(text)}
     commands = {row[0] for row in differences()} | {row[0] for row in options()}
-    wrong += [f"MIGRATING.md: no table of {command}" for command in sorted(commands - shown)]
+    wrong += [f"MIGRATING.md: nothing of {command}" for command in sorted(commands - shown)]
     renewed = MARKS.sub(lambda found: found[1] + made(found[2]) + found[3], text)
     if renewed != text and "--write" in sys.argv[1:]:
         PAGE.write_text(renewed, encoding="utf-8")
     elif renewed != text:
-        wrong.append("MIGRATING.md: a table isn't that of the files: docs/migrating.py --write")
+        wrong.append("MIGRATING.md: a list isn't that of the files: docs/migrating.py --write")
     hints = "".join(instead())
     if INSTEAD.exists() and INSTEAD.read_text(encoding="utf-8") != hints:
         if "--write" in sys.argv[1:]:

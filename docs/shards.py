@@ -242,9 +242,9 @@ def has_faults(script, folder, wanted):
 def faults(top):
     """The page's shard at fault, with the lines that it reports, and where the fault stands in the whole."""
     folder = folder_of(top, KINDS[0])
-    following = PAGE.read_text(encoding="utf-8").partition("# A fault in the part of")[2]
+    following = PAGE.read_text(encoding="utf-8").partition("# An error in the part of")[2]
     said = re.findall(r"^    (bedtools .*|parallel: .*|\./shard.sh chr2 .*)$", following, re.MULTILINE)
-    wrong = has_faults(block("A fault in the part of"), folder, said)
+    wrong = has_faults(block("An error in the part of"), folder, said)
     place = run(block("Where it is in the whole"), folder).stdout
     if f"    {place}" not in following or not place or Path(folder, "merged.bed").exists():
         wrong += 1
