@@ -48,7 +48,7 @@ WHOLE_GENOME = ("".join(f"chr3\t{row}\n" for row in ("0\t9009300\t10000000\t0.90
                                                        "2\t282800\t3100000000\t9.12258e-05")))
 AWKS = ("mawk", "gawk", "busybox awk")
 # Lines of scripts that lack an option without which bedtools writes something else, or have one that the script doesn't
-# know: each ends with status 2.
+# know, or read a pipe twice: each ends with status 2.
 REFUSED = (
     "intersect-split.sh -a a.bed -b b.bed",
     "intersect-loj.sh -a a.bed -b b.bed",
@@ -61,6 +61,12 @@ REFUSED = (
     "intersect-files.sh -a a.bed -b b.bed c.bed -u -S",
     "subtract-F.sh -a a.bed -b b.bed -f 0.5 -N",
     "merge-overlap.sh -3 a.bed",
+    "cat a.bed | header.sh merge -i -",
+    "merge-c.sh -i <(cat a.bed) -c 5 -o count",
+    "intersect-files.sh -a <(cat a.bed) -b b.bed c.bed -wa -wb",
+    "intersect-bam.sh -a <(cat reads.bam) -b b.bed",
+    "genomecov-bam.sh -ibam <(cat reads.bam) -bg",
+    "genomecov-split.sh -i a.bed -g <(cat genome.txt) -bg",
     "genomecov-d.sh -i a.bed -g genome.txt",
     "genomecov-scale.sh -i a.bed -g genome.txt -scale 2",
     "genomecov-split.sh -i a.bed -g genome.txt",

@@ -21,6 +21,10 @@ bt() {
 }
 fail() { echo "${0##*/}: $1" >&2; exit 2; }
 
+# twice FILE: fails unless it can be read twice, as no pipe can: records would be lost
+twice() { [ -f "$1" ] || fail "$1 is read twice, and is no file: write it to one"; }
+[ -z "${GENOME-}" ] || twice "$GENOME"
+
 # A folder of this run, which is removed at its end.
 work() { folder=$(mktemp -d) && trap 'rm -rf "$folder"' EXIT; }
 

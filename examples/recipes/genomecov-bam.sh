@@ -6,6 +6,7 @@
 . "${BASH_SOURCE%/*}/functions.sh"
 read_words '-ibam: -strand: -bg -bga -d -5 -3 -split -ignoreD -du' "$@"
 one_of -bg -bga -d
+twice "$opt_ibam"
 [ -z "${opt_5-}${opt_3-}" ] || one_of -5 -3
 work
 bam_genome "$opt_ibam" > "$folder/genome"

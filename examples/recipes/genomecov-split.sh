@@ -4,6 +4,7 @@
 . "${BASH_SOURCE%/*}/functions.sh"
 read_words '-i: -g: -strand: -bg -bga' "$@"
 one_of -bg -bga
+twice "$opt_g"
 records "$opt_i" | awk -F'\t' -v OFS='\t' '
     NF < 12 { print $1, $2, $3, ".", 0, $6; next }
     { n = split($11, size, ","); split($12, from, ",")

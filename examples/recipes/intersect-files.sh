@@ -18,6 +18,7 @@ for name in u v c; do
     option=opt_$name
     [ -z "${!option-}" ] || { cat "${files[@]}" | in_order | bt intersect -a "$opt_a" -b - "-$name" "${rule[@]}"; exit; }
 done
+twice "$opt_a"
 shape=(-wa -wb)
 [ -z "${opt_C-}" ] || shape=(-c)
 number=0
