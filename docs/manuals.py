@@ -93,6 +93,10 @@ def body(section, made):
     return [line for line in lines if line]
 
 
+# What ends a command with status 1.
+ERROR = "An error of an input, of reading or writing, or of memory"
+
+
 def manual(command, purpose, options, section, date):
     """The text of a command's page."""
     made = files_before(section)
@@ -102,7 +106,7 @@ def manual(command, purpose, options, section, date):
         lines += [f".It \\fB{escaped(option)}\\fP {value}".rstrip(), f"{text[0].upper()}{text[1:]}."]
         lines += [default_in_words(default)] if default not in ("off", "on") else []
     lines += [".El", ".Sh EXAMPLES", *body("\n\n".join(section.split("\n\n")[options_end(section):]), made), ".Sh EXIT STATUS", ".Bl -tag -width Ds",
-              ".It 0", "All output was written.", ".It 1", "An error of an input, of reading or writing, or of memory.", ".It 2", "The command line can't be used.", ".El",
+              ".It 0", "All output was written.", ".It 1", f"{ERROR}, or more records than -held allows." if "-held" in synopsis(command, section) else f"{ERROR}.", ".It 2", "The command line can't be used.", ".El",
               ".Sh SEE ALSO", f".Xr {NAME} 1 ,", ".Xr dunekettle 1", ".Pp", f"This page is that of Dunekettle {version()}.", ".Pa docs/COMMANDS.md",
               "has pictures too,", ".Pa docs/ERRORS.md", "each message,", ".Pa docs/MIGRATING.md", "what differs from bedtools 2.30.0."]
     return "".join(f"{line}\n" for line in lines)

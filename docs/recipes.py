@@ -10,8 +10,8 @@ files over which it must not. Both are run by bash over files of each kind below
 in natural order too; a kind over which bedtools itself ends with an error is skipped. Scripts are run as they are
 installed, with the program as `dunekettle-bedtools`, and the original isn't on their PATH: there `bedtools` fails. The
 block of MIGRATING.md that compares the two programs is run with both on PATH. needs.tsv says of each script what it is
-for, its limits, and which case its cost is measured by. Ends with 1 if one differs, if a script has no case or no row
-there, or if the table of RECIPES.md isn't that of these files; and with 0 and a word if there is no such bedtools.
+for, its limits, and which case its cost is measured by. Ends with 1 if one differs, if a line of REFUSED is taken, if a
+script has no case or no row there, or if the table of RECIPES.md isn't that of these files; and with 0 and a word if there is no such bedtools.
 """
 
 import gzip
@@ -47,6 +47,36 @@ WHOLE_GENOME = ("".join(f"chr3\t{row}\n" for row in ("0\t9009300\t10000000\t0.90
                 + "".join(f"genome\t{row}\n" for row in ("0\t3099009300\t3100000000\t0.99968", "1\t707900\t3100000000\t0.000228355",
                                                        "2\t282800\t3100000000\t9.12258e-05")))
 AWKS = ("mawk", "gawk", "busybox awk")
+# Lines of scripts that lack an option without which bedtools writes something else, or have one that the script doesn't
+# know, or read a pipe twice: each ends with status 2.
+REFUSED = (
+    "intersect-split.sh -a a.bed -b b.bed",
+    "intersect-loj.sh -a a.bed -b b.bed",
+    "intersect-files.sh -a a.bed -b b.bed c.bed",
+    "intersect-files.sh -a a.bed -b b.bed c.bed -wa",
+    "intersect-F.sh -a a.bed -b b.bed -F 0.5 -wb",
+    "intersect-F.sh -a a.bed -b b.bed -F 0.5 -u -c",
+    "intersect-F.sh -a a.bed -b b.bed -F 0.5 -S",
+    "intersect-loj.sh -a a.bed -b b.bed c.bed -wao",
+    "intersect-files.sh -a a.bed -b b.bed c.bed -u -S",
+    "subtract-F.sh -a a.bed -b b.bed -f 0.5 -N",
+    "merge-overlap.sh -3 a.bed",
+    "bam.sh reads.bam -tag NM -split",
+    "bam.sh reads.bam -bed12 -splitD",
+    "bam.sh reads.bam -color 1,2,3",
+    "cat a.bed | header.sh merge -i -",
+    "merge-c.sh -i <(cat a.bed) -c 5 -o count",
+    "intersect-files.sh -a <(cat a.bed) -b b.bed c.bed -wa -wb",
+    "intersect-bam.sh -a <(cat reads.bam) -b b.bed",
+    "genomecov-bam.sh -ibam <(cat reads.bam) -bg",
+    "genomecov-split.sh -i a.bed -g <(cat genome.txt) -bg",
+    "genomecov-d.sh -i a.bed -g genome.txt",
+    "genomecov-scale.sh -i a.bed -g genome.txt -scale 2",
+    "genomecov-split.sh -i a.bed -g genome.txt",
+    "genomecov-ends.sh -i a.bed -g genome.txt -5",
+    "genomecov-bam.sh -ibam reads.bam",
+    "genomecov-bam.sh -ibam reads.bam -5",
+)
 # The table of RECIPES.md, between two marks.
 MARKS = re.compile(r"(<!-- docs/recipes.py --write: table -->\n).*?(<!-- it ends here -->)", re.DOTALL)
 # Costs are measured over this many records, on chromosomes longer by as much; the least of so many runs counts.
@@ -221,6 +251,15 @@ def tried(command, script, differ, folders):
     return sum(answer or 0 for answer in answers)
 
 
+def takes(script, folders):
+    """Whether a line of a script is taken that has to be refused."""
+    ours, _, status = wrote(script, folders[KINDS[0]], folders["ours"])
+    if (ours, status) == (b"", 2):
+        return False
+    print(f"{script}, which has to be refused: status {status}\n{short(ours)}")
+    return True
+
+
 def comparisons_differ(folders):
     """Runs the block that compares both programs over each kind, and returns how many end with another status than 0."""
     found = [textwrap.dedent(block) for block in BLOCK.findall(MIGRATING.read_text(encoding="utf-8"))]
@@ -345,7 +384,7 @@ def run_cases(folders, words):
         Path(folders[kind]).mkdir()
         fill(folders[kind], kind)
     chosen = [case for case in cases() if all(word in case[0] for word in words)]
-    wrong = sum(tried(*case, folders) for case in chosen)
+    wrong = sum(tried(*case, folders) for case in chosen) + sum(takes(script, folders) for script in REFUSED)
     return len(chosen), wrong + (0 if words else comparisons_differ(folders) + whole_genome_differs(folders))
 
 

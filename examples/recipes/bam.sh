@@ -1,12 +1,18 @@
 #!/bin/bash
-# bam.sh BAM [-split] [-cigar] [-splitD] [-ed | -tag XX] [-bed12] [-color C]: for bamtobed of BAM: its alignments as BED.
+# bam.sh BAM [[-split] [-splitD] [-cigar] | -ed | -tag XX | -bed12 [-color C]]: for bamtobed of BAM: its alignments as BED.
 # A mapped read without the tag, or whose tag isn't a whole number, is a fault.
 # shellcheck source=functions.sh source-path=SCRIPTDIR disable=SC2154
 . "${BASH_SOURCE%/*}/functions.sh"
 bam=$1
 shift
 read_words '-split -cigar -splitD -ed -tag: -bed12 -color:' "$@"
+# With these bedtools writes something else, or nothing.
+if [ -n "${opt_ed-}${opt_tag-}" ]; then one_of -ed -tag -split -cigar -splitD -bed12; fi
+[ -z "${opt_bed12-}" ] || one_of -bed12 -splitD
+[ -z "${opt_color-}" ] || one_of -bed12
 [ -z "${opt_ed-}" ] || opt_tag=NM
+# Beside -split bedtools leaves the CIGAR out.
+[ -z "${opt_split-}" ] || opt_cigar=
 if [ -n "${opt_tag-}" ]; then
     samtools view "$bam" | awk -F'\t' -v OFS='\t' -v tag="$opt_tag" '{ value = ""
         for (i = 12; i <= NF; i++)

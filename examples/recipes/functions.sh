@@ -21,11 +21,15 @@ bt() {
 }
 fail() { echo "${0##*/}: $1" >&2; exit 2; }
 
+# twice FILE: fails unless it can be read twice, as no pipe can: records would be lost
+twice() { [ -f "$1" ] || fail "$1 is read twice, and is no file: write it to one"; }
+[ -z "${GENOME-}" ] || twice "$GENOME"
+
 # A folder of this run, which is removed at its end.
 work() { folder=$(mktemp -d) && trap 'rm -rf "$folder"' EXIT; }
 
 # read_words KNOWN WORD..: the options of a command line, as variables opt_X; those in KNOWN that end with : have a value.
-# `files` has the files of -b.
+# `files` has the files of -b, which are several only if KNOWN has ..
 read_words() {
     local known=" $1 " word
     shift
@@ -33,17 +37,28 @@ read_words() {
     while [ $# -gt 0 ]; do
         word=$1
         shift
-        case $known in
-        *" $word: "*) [ $# -gt 0 ] || fail "$word needs a value"
+        case $word:$known in
+        -*:*" $word: "*) [ $# -gt 0 ] || fail "$word needs a value"
             declare -g "opt_${word#-}=$1"
             [ "$word" != -b ] || files+=("$1")
             shift ;;
-        *" $word "*) declare -g "opt_${word#-}=1" ;;
+        -*:*" $word "*) declare -g "opt_${word#-}=1" ;;
         -*) fail "unknown option: $word" ;;
-        *) [ ${#files[@]} -gt 0 ] || fail "unknown word: $word"
+        *' .. '*) [ ${#files[@]} -gt 0 ] || fail "unknown word: $word"
             files+=("$word") ;;
+        *) fail "unknown word: $word" ;;
         esac
     done
+}
+
+# one_of WORD..: fails unless exactly one of these options is given: without it bedtools writes something else
+one_of() {
+    local word name given=0
+    for word; do
+        name=opt_${word#-}
+        [ -z "${!name-}" ] || given=$((given + 1))
+    done
+    [ "$given" = 1 ] || fail "give one of $*"
 }
 
 # records FILE: its records, without header lines, blank lines and CR

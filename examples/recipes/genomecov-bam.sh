@@ -1,10 +1,13 @@
 #!/bin/bash
-# genomecov-bam.sh -ibam BAM [-split] [-ignoreD] [-du] [-strand S] -bg | -bga | -d | -5 | -3: for genomecov -ibam, whose
+# genomecov-bam.sh -ibam BAM [-split] [-ignoreD] [-du] [-strand S] [-5 | -3] -bg | -bga | -d: for genomecov -ibam, whose
 # genome is that of the header. bedtools leaves out deletions (D) and counts introns (N); with -split it leaves out both,
 # with -ignoreD it counts deletions.
 # shellcheck source=functions.sh source-path=SCRIPTDIR disable=SC2154
 . "${BASH_SOURCE%/*}/functions.sh"
 read_words '-ibam: -strand: -bg -bga -d -5 -3 -split -ignoreD -du' "$@"
+one_of -bg -bga -d
+twice "$opt_ibam"
+[ -z "${opt_5-}${opt_3-}" ] || one_of -5 -3
 work
 bam_genome "$opt_ibam" > "$folder/genome"
 cut_at() {

@@ -3,6 +3,7 @@
 # shellcheck source=functions.sh source-path=SCRIPTDIR disable=SC2154
 . "${BASH_SOURCE%/*}/functions.sh"
 read_words '-i: -g: -strand: -d -dz' "$@"
+one_of -d -dz
 shape=-bga first=1
 [ -z "${opt_dz-}" ] || shape=-bg first=0
 bt genomecov -i "$opt_i" -g "$opt_g" ${opt_strand:+-strand "$opt_strand"} $shape |

@@ -1,8 +1,11 @@
 #!/bin/bash
-# genomecov-ends.sh -i FILE -g GENOME -5 | -3 [-bga]: counts the first or the last base of each feature, by its strand.
+# genomecov-ends.sh -i FILE -g GENOME -5 | -3 -bg | -bga: counts the first or the last base of each feature, by its strand.
 # shellcheck source=functions.sh source-path=SCRIPTDIR disable=SC2154
 . "${BASH_SOURCE%/*}/functions.sh"
 read_words '-i: -g: -5 -3 -bg -bga' "$@"
+one_of -5 -3
+one_of -bg -bga
+twice "$opt_g"
 records "$opt_i" | awk -F'\t' -v OFS='\t' -v is_3="${opt_3:-0}" '{
     p = is_3 ? ($6 == "-" ? $2 : $3 - 1) : ($6 == "+" ? $2 : $3 - 1)
     print $1, p, p + 1, ".", 0, $6 }' | by_genome "$opt_g" |

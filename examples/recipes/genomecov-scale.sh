@@ -3,6 +3,7 @@
 # shellcheck source=functions.sh source-path=SCRIPTDIR disable=SC2154
 . "${BASH_SOURCE%/*}/functions.sh"
 read_words '-i: -g: -strand: -scale: -bg -bga' "$@"
+one_of -bg -bga
 bt genomecov -i "$opt_i" -g "$opt_g" ${opt_strand:+-strand "$opt_strand"} "-bg${opt_bga:+a}" |
     awk -F'\t' -v OFS='\t' -v scale="$opt_scale" "$single"'
     { print $1, $2, $3, sprintf("%.6g", single($4 * single(scale))) }'

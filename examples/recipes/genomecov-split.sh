@@ -1,8 +1,10 @@
 #!/bin/bash
-# genomecov-split.sh -i FILE -g GENOME [-bga] [-strand S]: counts the blocks of BED12 alone.
+# genomecov-split.sh -i FILE -g GENOME -bg | -bga [-strand S]: counts the blocks of BED12 alone.
 # shellcheck source=functions.sh source-path=SCRIPTDIR disable=SC2154
 . "${BASH_SOURCE%/*}/functions.sh"
 read_words '-i: -g: -strand: -bg -bga' "$@"
+one_of -bg -bga
+twice "$opt_g"
 records "$opt_i" | awk -F'\t' -v OFS='\t' '
     NF < 12 { print $1, $2, $3, ".", 0, $6; next }
     { n = split($11, size, ","); split($12, from, ",")

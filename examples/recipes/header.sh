@@ -8,6 +8,7 @@ for word; do
     before=$word
 done
 [ -n "$file" ] || fail 'no input is named'
+twice "$file"
 awk '!/^#/ && !/^(track|browser)([ \t\r]|$)/ { exit }
     { sub(/\r$/, ""); print }' "$file"
 bt "$@"

@@ -5,6 +5,9 @@
 . "${BASH_SOURCE%/*}/functions.sh"
 read_words '-a: -b: -f: -F: -e -s -sorted -wo -wa -wb -u -c -v' "$@"
 [ -n "${opt_F-}" ] || fail '-F is missing'
+[ -z "${opt_u-}${opt_c-}${opt_v-}" ] || one_of -wo -u -c -v
+[ -z "${opt_wo-}" ] || one_of -wo -wa -wb
+[ -z "${opt_wb-}" ] || one_of -wa -u -c -v
 work
 rule=(${opt_s:+-s})
 [ -n "${opt_e-}" ] || rule+=(${opt_f:+-f "$opt_f"})

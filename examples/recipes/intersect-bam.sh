@@ -4,6 +4,7 @@
 # shellcheck source=functions.sh source-path=SCRIPTDIR disable=SC2154
 . "${BASH_SOURCE%/*}/functions.sh"
 read_words '-a: -b: -f: -v -ubam -g:' "$@"
+twice "$opt_a"
 work
 form=-b
 [ -z "${opt_ubam-}" ] || form=-u

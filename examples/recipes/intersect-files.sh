@@ -1,5 +1,5 @@
 #!/bin/bash
-# intersect-files.sh -a A -b B1 B2 .. [-u | -v | -c | -C | -wa -wb] [-names N1 N2 .. -- | -filenames] [-f F] [-s]: for
+# intersect-files.sh -a A -b B1 B2 .. -u | -v | -c | -C | -wa -wb [-names N1 N2 .. -- | -filenames] [-f F] [-s]: for
 # several files of -b. Without names each line has the file's number, as in bedtools. End the list of names by --.
 # shellcheck source=functions.sh source-path=SCRIPTDIR disable=SC2154
 . "${BASH_SOURCE%/*}/functions.sh"
@@ -11,12 +11,14 @@ for word; do
     *) if [ -n "$is_name" ]; then names+=("$word"); else words+=("$word"); fi ;;
     esac
 done
-read_words '-a: -b: -f: -s -sorted -u -v -c -C -wa -wb -filenames' "${words[@]}"
+read_words '-a: -b: .. -f: -s -sorted -u -v -c -C -wa -wb -filenames' "${words[@]}"
+if [ -z "${opt_wa-}" ] || [ -z "${opt_wb-}" ]; then one_of -u -v -c -C; fi
 rule=(${opt_f:+-f "$opt_f"} ${opt_s:+-s})
 for name in u v c; do
     option=opt_$name
     [ -z "${!option-}" ] || { cat "${files[@]}" | in_order | bt intersect -a "$opt_a" -b - "-$name" "${rule[@]}"; exit; }
 done
+twice "$opt_a"
 shape=(-wa -wb)
 [ -z "${opt_C-}" ] || shape=(-c)
 number=0

@@ -4,6 +4,7 @@
 # shellcheck source=functions.sh source-path=SCRIPTDIR disable=SC2154
 . "${BASH_SOURCE%/*}/functions.sh"
 read_words '-a: -b: -f: -r -s -sorted -loj -wao -plain' "$@"
+one_of -loj -wao
 work
 records "$opt_b" > "$folder/b.bed"
 none=$(awk -F'\t' -v plain="${opt_plain-}" 'NR == 1 { n = NF } NF != n { n = 0; exit }

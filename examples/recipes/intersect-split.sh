@@ -3,6 +3,7 @@
 # shellcheck source=functions.sh source-path=SCRIPTDIR disable=SC2154
 . "${BASH_SOURCE%/*}/functions.sh"
 read_words '-a: -b: -sorted -u -v' "$@"
+one_of -u -v
 work
 # The blocks of standard input, each with the number of its record.
 blocks() {

@@ -4,6 +4,7 @@
 # shellcheck source=functions.sh source-path=SCRIPTDIR disable=SC2154
 . "${BASH_SOURCE%/*}/functions.sh"
 read_words '-i: -c: -o: -d: -delim: -prec:' "$@"
+twice "$opt_i"
 bt merge -i "$opt_i" ${opt_d:+-d "$opt_d"} | bt intersect -a - -b "$opt_i" -wa -wb |
     awk -F'\t' -v columns="$opt_c" -v operations="$opt_o" -v delim="${opt_delim:-,}" -v prec="${opt_prec:-10}" '
     BEGIN { wanted = split(columns, column, ","); given = split(operations, operation, ",")
