@@ -1,13 +1,10 @@
 -- What the program opens: the input that a name means,
 -- and whether a device has failed or was flushed.
-use Rattle.std.specs.Prelude.{◌≡◌, ◌⊎◌, Bool, true, false, List, ℕ, Option, Some, None, if◌then◌else◌, is_some}
+use Rattle.std.specs.Prelude.{◌≡◌, Bool, true, false, List, ℕ, Option, Some, None, if◌then◌else◌}
 use Rattle.bt_lines.specs.declared.device.Sink.{Ghosts as Sink}
 use Rattle.bt_lines.specs.declared.device.Source.{Ghosts as Source}
-use Rattle.bt_lines.specs.calls.Faults.{write_failed}
-use Rattle.bt_lines.specs.model.Fault.{FaultValue}
 use Rattle.bt_lines.specs.calls.Device.{TellsFailure, read_has_failed, read_end_told, write_has_failed, write_is_flushed}
-use Rattle.bt_tool.specs.calls.Run.{Runs}
-use Rattle.bt_tool.specs.model.Options.{PlanSeen, is_standard_input}
+use Rattle.bt_tool.specs.model.Options.{is_standard_input}
 use Rattle.bedtools.specs.declared.opened.Input.{Input}
 use Rattle.bedtools.specs.declared.opened.Input.TheVariants.{Standard as StandardInput, File as FileInput}
 use Rattle.bedtools.specs.declared.opened.Opened.{Opened}
@@ -32,14 +29,25 @@ opened_source = record {
   is_read = λ before count after. TellsFailure count (opened_has_failed before) (opened_has_failed after);
 }
 
--- an input of which nothing was read
-pub record IsFresh (input : Opened) : Type 0 where
+-- whether it is standard input
+abbrev pub opened_is_standard : Opened → Bool
+opened_is_standard (File source) = false
+opened_is_standard (Standard source) = true
+
+-- an input of which nothing was read: standard input, or a file, as its name says
+pub record IsFresh (name : List ℕ) (input : Opened) : Type 0 where
   pub served : opened_has_failed input ≡ false
   pub going : opened_end_told input ≡ false
+  pub standard : opened_is_standard input ≡ is_standard_input name
 
 abbrev pub output_has_failed : Output → Bool
 output_has_failed (StandardOutput sink) = write_has_failed sink
 output_has_failed (FileOutput sink) = write_has_failed sink
+
+-- whether it is a file
+abbrev pub output_is_file : Output → Bool
+output_is_file (StandardOutput sink) = false
+output_is_file (FileOutput sink) = true
 
 -- whether it was flushed since the last write
 abbrev pub output_is_flushed : Output → Bool
@@ -53,24 +61,6 @@ output_sink = record {
   has_failed = output_has_failed;
   is_flushed = output_is_flushed;
 }
-
--- A run of a plan's command can end with this fault, or without one: over some inputs, those that the plan names, of
--- which the first wasn't read before. That they are the opened ones `run_over` says, of the files that it gets.
-pub record ComesOfRun (plan : PlanSeen) (fault : Option FaultValue) : Type 0 where
-  pub genome : Option Opened
-  pub first : Opened
-  pub second : Option Opened
-  pub out : Output
-  pub genome_after : Option Opened
-  pub first_after : Opened
-  pub second_after : Option Opened
-  pub out_after : Output
-  pub genome_named : is_some genome ≡ is_some plan.names.genome
-  pub second_named : is_some second ≡ is_some plan.names.second
-  pub unread : IsFresh first
-  pub runs : Runs opened_source opened_source opened_source output_sink plan.command genome first second out fault
-      genome_after first_after second_after out_after
-  pub flushed : (fault ≡ Some write_failed) ⊎ (output_is_flushed out_after ≡ true)
 
 -- the file that is opened by its name, or none for standard input
 abbrev pub file_named : List ℕ → Option (List ℕ)

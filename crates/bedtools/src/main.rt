@@ -26,30 +26,31 @@ ghost use Rattle.std.specs.Prelude.{◌≡◌, ◌⊎◌, Ok, Err, [], is_some, 
 ghost use Rattle.bt_lines.specs.calls.Names.{fault_value};
 ghost use Rattle.bt_tool.specs.model.Options.{PlanSeen, options};
 ghost use Rattle.bt_tool.specs.calls.Plan.{plan_seen, words_seen};
-ghost use Rattle.bt_tool.specs.model.Table.{Word};
+ghost use Rattle.bt_tool.specs.model.Table.{Word, tool_name, tool_of};
 ghost use Rattle.bt_tool.specs.model.Usage.{usage_text};
 ghost use Rattle.bt_tool.specs.declared.options.usage.Usage.{Usage};
-ghost use Rattle.bedtools.specs.Ending.{CannotBegin, Ends, ReportsRun, ReportsUnopened};
+ghost use Rattle.bedtools.specs.Ending.{CannotBegin, Ends, OpensIf, ReportsRun, ReportsUnopened};
 ghost use Rattle.bt_lines.specs.calls.Faults.{write_failed};
 ghost use Rattle.bt_tool.specs.calls.Run.{Runs};
-ghost use Rattle.bedtools.specs.Opened.{IsFresh, opened_source, output_sink, output_is_flushed};
-ghost use Rattle.bedtools.specs.Message.{Says, SaysNoMemory, line_seen};
+ghost use Rattle.bedtools.specs.Message.{Says, SaysNoMemory, cannot_open_text, line_seen};
 
+mod files;
 mod identity;
 mod message;
 mod opened;
 mod output;
 mod stand_ins;
+mod system_files;
 
+use bt_lines::{Sink, Source};
 use bt_tool::{Ended, Outcome, Plan, Refusal, plan, run};
-use identity::is_input;
+use files::{Files, Unopened};
 use message::{Message, MessageLine, Obstacle};
-use opened::Opened;
-use output::Output;
 use stand_ins::StandIns;
 use std::alloc::Global;
 use std::process::ExitCode;
 use std::{env, io};
+use system_files::SystemFiles;
 
 fn main(rt: HostRuntime) -> ExitCode {
     // They are kept to the end, so that no file is ever a standard stream.
@@ -65,7 +66,7 @@ fn main(rt: HostRuntime) -> ExitCode {
 // Reads the words of the command line and starts with them.
 fn start_by_words(rt: &HostRuntime) -> Message {
     match words(rt) {
-        Ok(words) => start(rt, words.as_slice()),
+        Ok(words) => start(rt.alloc(), &SystemFiles { rt }, words.as_slice()),
         Err(error) if error.kind() == io::ErrorKind::OutOfMemory => Message::no_memory(),
         Err(_) => Message::of(rt.alloc(), &Obstacle::NotUnicode),
     }
@@ -80,72 +81,84 @@ fn words(rt: &HostRuntime) -> io::Result<Vec<String>> {
     Ok(all)
 }
 
-// Makes the plan and carries it out. The result is what standard error is to say, and the exit
+// Makes the plan and carries it out over these files. The result is what standard error is to say, and the exit
 // status, here and below.
-fn start(rt: &HostRuntime, words: &[String]) -> Message
+fn start<F: Files>(alloc: Global, files: &F, words: &[String]) -> Message
     ensures usage { (usage : Usage) → options (words_seen words.now) ≡ Err usage
         → Says (usage_text (words_seen words.now) usage) 2 result }
-    ensures run { (plan : PlanSeen) → options (words_seen words.now) ≡ Ok plan → Ends plan result ⊎ SaysNoMemory result }
+    ensures run { (plan : PlanSeen) → options (words_seen words.now) ≡ Ok plan
+        → Ends F.Files F.Input.Source F.Output.Sink files.now plan result ⊎ SaysNoMemory result }
 {
-    match plan(rt.alloc(), words) {
-        Ok(plan) => carry_out(rt, &plan),
-        Err(Refusal::Usage(usage)) => Message::of(rt.alloc(), &Obstacle::Usage(words, usage)),
+    match plan(alloc, words) {
+        Ok(plan) => carry_out(alloc, files, &plan),
+        Err(Refusal::Usage(usage)) => Message::of(alloc, &Obstacle::Usage(words, usage)),
         Err(Refusal::NoMemory) => Message::no_memory(),
     }
 }
 
 // Opens the files of a plan, the genome file first and the output last, and runs it.
-fn carry_out(rt: &HostRuntime, plan: &Plan) -> Message
-    ensures { Ends (plan_seen plan.now) result }
+fn carry_out<F: Files>(alloc: Global, files: &F, plan: &Plan) -> Message
+    ensures { Ends F.Files F.Input.Source F.Output.Sink files.now (plan_seen plan.now) result }
 {
-    match open_files(rt, plan) {
-        Ok(files) => {
-            let ended = run_over(rt.alloc(), plan, files);
-            end_of(rt.alloc(), plan, &ended.outcome)
+    match open_files(alloc, files, plan) {
+        Ok(opened) => {
+            let ended = run_over(alloc, plan, opened);
+            end_of(alloc, plan, &ended.outcome)
         }
         Err(message) => message,
     }
 }
 
 // The opened files of a plan.
-struct Files {
-    genome: Option<Opened>,
-    first: Opened,
-    second: Option<Opened>,
-    output: Output,
+struct OpenedFiles<I, O> {
+    genome: Option<I>,
+    first: I,
+    second: Option<I>,
+    output: O,
 }
 
 // Runs a plan over its opened files, and hands them back.
-fn run_over(alloc: Global, plan: &Plan, files: Files) -> Ended<Opened, Opened, Opened, Output>
-    requires genome { is_some files.genome ≡ is_some plan.now.genome }
-    requires second { is_some files.second ≡ is_some plan.now.second }
-    ensures report { Runs opened_source opened_source opened_source output_sink plan.now.command
-        files.genome files.first files.second files.output (option_map fault_value result.outcome.fault)
+fn run_over<I: Source, O: Sink>(
+    alloc: Global,
+    plan: &Plan,
+    opened: OpenedFiles<I, O>,
+) -> Ended<I, I, I, O>
+    requires genome { is_some opened.genome ≡ is_some plan.now.genome }
+    requires second { is_some opened.second ≡ is_some plan.now.second }
+    ensures report { Runs I.Source I.Source I.Source O.Sink plan.now.command
+        opened.genome opened.first opened.second opened.output (option_map fault_value result.outcome.fault)
         result.genome result.first result.second result.out }
     ensures flushed { (option_map fault_value result.outcome.fault ≡ Some write_failed)
-        ⊎ (output_is_flushed result.out ≡ true) }
+        ⊎ (O.is_flushed result.out ≡ true) }
 {
-    let Files {
+    let OpenedFiles {
         genome,
         first,
         second,
         output,
-    } = files;
+    } = opened;
     run(alloc, plan, genome, first, second, output)
 }
 
 // Opens the files of a plan, of which nothing is read. `Err` if one can't be opened.
-fn open_files(rt: &HostRuntime, plan: &Plan) -> Result<Files, Message>
-    ensures genome { IfOk result (λ files. is_some files.genome ≡ is_some plan.now.genome) }
-    ensures second { IfOk result (λ files. is_some files.second ≡ is_some plan.now.second) }
-    ensures fresh { IfOk result (λ files. IsFresh files.first) }
-    ensures unopened { IfErr result (CannotBegin (plan_seen plan.now)) }
+fn open_files<F: Files>(
+    alloc: Global,
+    files: &F,
+    plan: &Plan,
+) -> Result<OpenedFiles<F::Input, F::Output>, Message>
+    ensures genome { IfOk result (λ opened. OpensIf F.Files files.now (plan_seen plan.now).names.genome opened.genome) }
+    ensures first { IfOk result (λ opened. F.opens files.now (plan_seen plan.now).names.first opened.first) }
+    ensures second { IfOk result (λ opened. OpensIf F.Files files.now (plan_seen plan.now).names.second opened.second) }
+    ensures output { IfOk result (λ opened. F.creates files.now (plan_seen plan.now).names.output opened.output) }
+    ensures has_genome { IfOk result (λ opened. is_some opened.genome ≡ is_some plan.now.genome) }
+    ensures has_second { IfOk result (λ opened. is_some opened.second ≡ is_some plan.now.second) }
+    ensures unopened { IfErr result (CannotBegin F.Files files.now (plan_seen plan.now)) }
 {
-    let genome = open_if_named(rt, plan, &plan.genome)?;
-    let first = open(rt, plan, plan.first.as_str())?;
-    let second = open_if_named(rt, plan, &plan.second)?;
-    let output = open_output(rt, plan)?;
-    Ok(Files {
+    let genome = open_if_named(alloc, files, plan, &plan.genome)?;
+    let first = open(alloc, files, plan, plan.first.as_str())?;
+    let second = open_if_named(alloc, files, plan, &plan.second)?;
+    let output = open_output(alloc, files, plan)?;
+    Ok(OpenedFiles {
         genome,
         first,
         second,
@@ -153,56 +166,55 @@ fn open_files(rt: &HostRuntime, plan: &Plan) -> Result<Files, Message>
     })
 }
 
-// Creates the output file of a plan, or takes standard output if it has none. `Err` if it can't be
-// created, or is one of the inputs: that isn't touched.
-fn open_output(rt: &HostRuntime, plan: &Plan) -> Result<Output, Message>
-    ensures { IfErr result (λ message. (word : Word) × ((plan_seen plan.now).names.output ≡ Some word)
-        × ReportsUnopened (plan_seen plan.now) word message) }
+// Creates the output file of a plan, or takes standard output if it has none. `Err` if it can't be created.
+fn open_output<F: Files>(alloc: Global, files: &F, plan: &Plan) -> Result<F::Output, Message>
+    ensures creates { IfOk result (F.creates files.now (plan_seen plan.now).names.output) }
+    ensures reports { IfErr result (λ message. (word : Word) × ((plan_seen plan.now).names.output ≡ Some word)
+        × ReportsUnopened F.Files files.now (plan_seen plan.now) word message) }
 {
     let Some(name) = &plan.output else {
-        return Ok(Output::standard(rt));
+        return Ok(files.standard_output());
     };
-    if is_input(rt, plan, name.as_str()) {
-        return Err(cannot_open(rt.alloc(), plan, name.as_str()));
-    }
-    match Output::create(rt, name.as_str()) {
+    match files.create(plan, name.as_str()) {
         Ok(output) => Ok(output),
-        Err(error) if error.kind() == io::ErrorKind::OutOfMemory => Err(Message::no_memory()),
-        Err(_) => Err(cannot_open(rt.alloc(), plan, name.as_str())),
+        Err(Unopened::NoMemory) => Err(Message::no_memory()),
+        Err(Unopened::Refused) => Err(cannot_open(alloc, plan, name.as_str())),
     }
 }
 
 // Opens an input that the plan may not have. `Err` if it can't be opened.
-fn open_if_named(
-    rt: &HostRuntime,
+fn open_if_named<F: Files>(
+    alloc: Global,
+    files: &F,
     plan: &Plan,
     name: &Option<String>,
-) -> Result<Option<Opened>, Message>
+) -> Result<Option<F::Input>, Message>
+    ensures opens { IfOk result (OpensIf F.Files files.now (option_map string_bytes name.now)) }
     ensures input { IfOk result (λ input. is_some input ≡ is_some name.now) }
     ensures reports { IfErr result (λ message. (word : Word) × (option_map string_bytes name.now ≡ Some word)
-        × ReportsUnopened (plan_seen plan.now) word message) }
+        × ReportsUnopened F.Files files.now (plan_seen plan.now) word message) }
 {
     match name {
-        Some(name) => Ok(Some(open(rt, plan, name.as_str())?)),
+        Some(name) => Ok(Some(open(alloc, files, plan, name.as_str())?)),
         None => Ok(None),
     }
 }
 
 // Opens an input. `Err` if it can't be opened.
-fn open(rt: &HostRuntime, plan: &Plan, name: &str) -> Result<Opened, Message>
-    ensures unread { IfOk result IsFresh }
-    ensures reports { IfErr result (ReportsUnopened (plan_seen plan.now) name.now) }
+fn open<F: Files>(alloc: Global, files: &F, plan: &Plan, name: &str) -> Result<F::Input, Message>
+    ensures opens { IfOk result (F.opens files.now name.now) }
+    ensures reports { IfErr result (ReportsUnopened F.Files files.now (plan_seen plan.now) name.now) }
 {
-    match Opened::open(rt, name) {
+    match files.open(name) {
         Ok(input) => Ok(input),
-        Err(error) if error.kind() == io::ErrorKind::OutOfMemory => Err(Message::no_memory()),
-        Err(_) => Err(cannot_open(rt.alloc(), plan, name)),
+        Err(Unopened::NoMemory) => Err(Message::no_memory()),
+        Err(Unopened::Refused) => Err(cannot_open(alloc, plan, name)),
     }
 }
 
 // Reports that a file can't be opened.
 fn cannot_open(alloc: Global, plan: &Plan, name: &str) -> Message
-    ensures { ReportsUnopened (plan_seen plan.now) name.now result }
+    ensures { Says (cannot_open_text (tool_name (tool_of plan.now.command)) name.now) 1 result }
 {
     Message::of(alloc, &Obstacle::CannotOpen(plan.command.name(), name))
 }
@@ -266,7 +278,7 @@ mod tests {
         for word in command.split_whitespace() {
             words.push(String::from_str(rt.alloc(), word)?)?;
         }
-        Ok(start(rt, words.as_slice()))
+        Ok(start(rt.alloc(), &SystemFiles { rt }, words.as_slice()))
     }
 
     fn expect(rt: &impl Abort, message: &Message, end: &str, row: &str) {

@@ -20,7 +20,7 @@ pub enum Opened {
 impl Opened {
     /// Opens the input of this name. `Err` if it can't be opened, or memory runs out.
     pub fn open(rt: &HostRuntime, name: &str) -> io::Result<Opened>
-        ensures { IfOk result IsFresh }
+        ensures { IfOk result (IsFresh name.now) }
     {
         match input_named(name) {
             Input::Standard => Ok(Opened::Standard(FromRead::new(rt.stdin()))),

@@ -1,7 +1,7 @@
 //! Where the program writes to: standard output or a file.
 
-ghost use Rattle.std.specs.Prelude.{None};
-ghost use Rattle.bedtools.specs.Opened.{output_has_failed, output_is_flushed};
+ghost use Rattle.std.specs.Prelude.{◌≡◌, None, IfOk, false, true};
+ghost use Rattle.bedtools.specs.Opened.{output_has_failed, output_is_file, output_is_flushed};
 
 use bt_lines::{DeviceFailed, Sink, ToWrite};
 use std::fs::File;
@@ -17,12 +17,16 @@ pub enum Output {
 
 impl Output {
     /// Standard output.
-    pub fn standard(rt: &HostRuntime) -> Output {
+    pub fn standard(rt: &HostRuntime) -> Output
+        ensures { output_is_file result ≡ false }
+    {
         Output::Standard(ToWrite::new(rt.stdout()))
     }
 
     /// Creates the file of this name, or empties it if it exists. `Err` if it can't be created, or memory runs out.
-    pub fn create(rt: &HostRuntime, name: &str) -> io::Result<Output> {
+    pub fn create(rt: &HostRuntime, name: &str) -> io::Result<Output>
+        ensures { IfOk result (λ output. output_is_file output ≡ true) }
+    {
         let file = File::create(rt, name)?;
         Ok(Output::File(ToWrite::new(file)))
     }

@@ -1,23 +1,24 @@
 use Rattle.std.specs.Prelude.{option_map}
-use Rattle.std.proofs.Common.{arith, inr}
+use Rattle.std.proofs.Common.{inr}
 use Rattle.bt_lines.specs.calls.Names.{fault_value}
 use Rattle.bedtools.proofs.carry_out.Goals as goal
 
 pub returns-in-Ok : goal.returns-in-Ok
-returns-in-Ok c = inr (record {
+returns-in-Ok g c = inr (record {
   fault = option_map fault_value c.run_over-ended.result.outcome.fault;
   comes = record {
-    genome = c.in-Ok.files.genome;
-    first = c.in-Ok.files.first;
-    second = c.in-Ok.files.second;
-    out = c.in-Ok.files.output;
+    genome = c.in-Ok.opened.genome;
+    first = c.in-Ok.opened.first;
+    second = c.in-Ok.opened.second;
+    out = c.in-Ok.opened.output;
     genome_after = c.run_over-ended.result.genome;
     first_after = c.run_over-ended.result.first;
     second_after = c.run_over-ended.result.second;
     out_after = c.run_over-ended.result.out;
-    genome_named = grind (arith, c.in-Ok.ensures.genome);
-    second_named = grind (arith, c.in-Ok.ensures.second);
-    unread = c.in-Ok.ensures.fresh;
+    opens_genome = c.in-Ok.ensures.genome;
+    opens_first = c.in-Ok.ensures.first;
+    opens_second = c.in-Ok.ensures.second;
+    creates = c.in-Ok.ensures.output;
     runs = c.run_over-ended.ensures.report;
     flushed = c.run_over-ended.ensures.flushed;
   };
