@@ -1,6 +1,6 @@
 //! What a masking engine keeps, and its steps.
 
-ghost use Rattle.std.specs.Prelude.{◌≡◌, ◌<◌, ◌≤◌, ℕ, None, Some, [], OnErr, OnOk, IfErr, IfSome, IsErr, IsOk, cond, false, not, true, is_some, length, nat_eq, nat_le, nat_lt, if◌then◌else◌};
+ghost use Rattle.std.specs.Prelude.{◌≡◌, ◌<◌, ◌≤◌, ℕ, None, Some, [], OnErr, OnOk, IfErr, IfSome, IsErr, IsOk, cond, false, true, is_some, length, nat_eq, nat_le, nat_lt, if◌then◌else◌};
 ghost use Rattle.std.specs.Option.{option_map_or};
 ghost use Rattle.bt_lines.specs.calls.Faults.{no_memory};
 ghost use Rattle.bt_lines.specs.calls.Names.{fault_value};
@@ -10,7 +10,6 @@ ghost use Rattle.bt_lines.specs.calls.Reader.{lines_in};
 ghost use Rattle.bt_seq.specs.inside.Masking.{CopiesThrough};
 ghost use Rattle.bt_seq.specs.calls.MaskSteps.{GivesBoth};
 ghost use Rattle.bt_seq.specs.calls.MaskState.{ChecksBed, Keeps, Moves, TakesBed, TakesLine, Waiting, Writes, WritesGiven, decides_by, decides_up_to, with_extent, writes_at_once};
-ghost use Rattle.bt_seq.specs.model.Masked.{is_header};
 ghost use Rattle.bt_seq.specs.inside.Window.{limit, no_bases};
 
 use crate::mask::MaskWant;
