@@ -52,20 +52,22 @@ impl Model for Merge {
 }
 
 impl Merge {
-    /// A merge that has taken no record. It bridges up to `d` bases between features, at most 999,999,999,999: with 0
+    /// A merge that has taken no record. It bridges up to `gap` bases between features, at most 999,999,999,999: with 0
     /// those that overlap or touch become one.
     #[tactic(auto, using(crate::proofs::lemmas::merge::MergeLemmas::begun_stands))]
-    pub fn new(alloc: Global, d: u64, strand: MergeStrand) -> Merge
-        requires { d ≤ max_number }
-        ensures stands { IsAfter (merge_begun d strand) [] result }
-        ensures begun { result ≡ merge_begun d strand }
+    pub fn new(alloc: Global, gap: u64, strand: MergeStrand) -> Merge
+        requires { gap ≤ max_number }
+        ensures stands { IsAfter (merge_begun gap strand) [] result }
+        ensures begun { result ≡ merge_begun gap strand }
     {
         let kind = match strand {
-            MergeStrand::Each => Kind::PerStrand(Ruled::new(PerStrandMerge::new(alloc, d))),
-            MergeStrand::All => Kind::Unstranded(Ruled::new(UnstrandedMerge::new(alloc, d, None))),
+            MergeStrand::Each => Kind::PerStrand(Ruled::new(PerStrandMerge::new(alloc, gap))),
+            MergeStrand::All => Kind::Unstranded(Ruled::new(UnstrandedMerge::new(
+                alloc, gap, None,
+            ))),
             MergeStrand::One(strand) => Kind::Unstranded(Ruled::new(UnstrandedMerge::new(
                 alloc,
-                d,
+                gap,
                 Some(strand),
             ))),
         };

@@ -34,11 +34,11 @@ impl Model for PerStrandMerge {
 
 impl PerStrandMerge {
     // A merge that has taken no record.
-    pub(crate) fn new(alloc: Global, d: u64) -> PerStrandMerge
-        ensures { result ≡ record { gap = d; chrom = []; kept = [] } }
+    pub(crate) fn new(alloc: Global, gap: u64) -> PerStrandMerge
+        ensures { result ≡ record { gap = gap; chrom = []; kept = [] } }
     {
         PerStrandMerge {
-            gap: d,
+            gap,
             chrom: Vec::new(alloc),
             runs: PendingRuns::new(alloc),
         }

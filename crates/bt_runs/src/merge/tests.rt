@@ -135,13 +135,13 @@ const CASES: [Rows; 12] = [
     ]),
 ];
 
-fn check(rt: &impl Abort, alloc: Global, (d, strand, rows): &Rows) -> Result<(), Fail> {
-    let d = (*d).min(GREATEST);
+fn check(rt: &impl Abort, alloc: Global, (gap, strand, rows): &Rows) -> Result<(), Fail> {
+    let gap = (*gap).min(GREATEST);
     for row in *rows {
-        check_row(rt, alloc, Merge::new(alloc, d, *strand), row);
-        check_batches(rt, alloc, Merge::new(alloc, d, *strand), row)?;
+        check_row(rt, alloc, Merge::new(alloc, gap, *strand), row);
+        check_batches(rt, alloc, Merge::new(alloc, gap, *strand), row)?;
         for room in 0..written_len(row) {
-            check_failing(rt, alloc, Merge::new(alloc, d, *strand), row, room)?;
+            check_failing(rt, alloc, Merge::new(alloc, gap, *strand), row, room)?;
         }
     }
     Ok(())

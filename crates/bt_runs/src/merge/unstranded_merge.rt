@@ -51,13 +51,13 @@ impl Model for UnstrandedMerge {
 }
 
 impl UnstrandedMerge {
-    // A merge that has taken no record. It bridges up to `d` bases between features: with 0
+    // A merge that has taken no record. It bridges up to `gap` bases between features: with 0
     // those that overlap or touch become one. With a strand it merges the records of that strand alone.
-    pub(crate) fn new(alloc: Global, d: u64, strand: Option<Strand>) -> UnstrandedMerge
-        ensures { result ≡ record { gap = d; strand = merged_of strand; chrom = []; kept = [] } }
+    pub(crate) fn new(alloc: Global, gap: u64, strand: Option<Strand>) -> UnstrandedMerge
+        ensures { result ≡ record { gap = gap; strand = merged_of strand; chrom = []; kept = [] } }
     {
         UnstrandedMerge {
-            gap: d,
+            gap,
             strand,
             chrom: Vec::new(alloc),
             run: NONE,

@@ -1,6 +1,7 @@
 //! What a masking engine keeps, and its steps.
 
-ghost use Rattle.std.specs.Prelude.{◌≡◌, ◌<◌, ◌&&◌, None, Some, [], OnErr, OnOk, IfErr, IsErr, IsOk, cond, false, not, true, is_some, length, nat_eq, nat_le, nat_lt, if◌then◌else◌};
+ghost use Rattle.std.specs.Prelude.{◌≡◌, ◌<◌, ◌≤◌, ℕ, None, Some, [], OnErr, OnOk, IfErr, IfSome, IsErr, IsOk, cond, false, true, is_some, length, nat_eq, nat_le, nat_lt, if◌then◌else◌};
+ghost use Rattle.std.specs.Option.{option_map_or};
 ghost use Rattle.bt_lines.specs.calls.Faults.{no_memory};
 ghost use Rattle.bt_lines.specs.calls.Names.{fault_value};
 ghost use Rattle.bt_bed.specs.calls.Bed.{feature_lent};
@@ -9,7 +10,6 @@ ghost use Rattle.bt_lines.specs.calls.Reader.{lines_in};
 ghost use Rattle.bt_seq.specs.inside.Masking.{CopiesThrough};
 ghost use Rattle.bt_seq.specs.calls.MaskSteps.{GivesBoth};
 ghost use Rattle.bt_seq.specs.calls.MaskState.{ChecksBed, Keeps, Moves, TakesBed, TakesLine, Waiting, Writes, WritesGiven, decides_by, decides_up_to, with_extent, writes_at_once};
-ghost use Rattle.bt_seq.specs.model.Masked.{is_header};
 ghost use Rattle.bt_seq.specs.inside.Window.{limit, no_bases};
 
 use crate::mask::MaskWant;
@@ -185,8 +185,10 @@ impl MaskState {
         ensures leaves { result ≡ Ok Taken.No → self.new.want ≡ MaskWant.Line }
     {
         let owner = self.matching.owner(bed.chrom);
-        if self.is_decided(owner, bed.start) {
-            self.know(owner, bed.start);
+        if let Some(to) = decided_up_to(owner, bed.start)
+            && self.window.bases() <= to
+        {
+            self.decided_to = to;
             self.write(out)?;
             return Ok(Taken::No);
         }
@@ -293,36 +295,9 @@ impl MaskState {
     fn writes_at_once(&self, text: &[u8]) -> bool
         ensures { result ≡ writes_at_once self.now text.now }
     {
-        self.bed_ended || !self.matching.is_named() || self.is_known(text)
-    }
-
-    // Whether the record ahead is known to decide a line of this text.
-    fn is_known(&self, text: &[u8]) -> bool
-        ensures { result ≡ (not (is_header text.now) && nat_le self.now.window.bases self.now.decided_to) }
-    {
-        is_decided_to(text, self.window.bases(), self.decided_to)
-    }
-
-    // Whether a record of a block with this owner decides the line that waits.
-    fn is_decided(&self, owner: Owner, start: u64) -> bool
-        ensures { result ≡ decides_by owner self.now.window.bases start }
-    {
-        match owner {
-            Owner::Earlier => false,
-            Owner::Own => !self.window.reaches(start),
-            Owner::Nobody => true,
-        }
-    }
-
-    // Keeps up to which base a record decides lines, since it decides the one that waits: up to its start,
-    // or all if its block belongs to no sequence.
-    fn know(&mut self, owner: Owner, start: u64)
-        ensures { self.new ≡ record self.old { decided_to = decides_up_to owner start } }
-    {
-        self.decided_to = match owner {
-            Owner::Own | Owner::Earlier => start,
-            Owner::Nobody => LIMIT,
-        };
+        self.bed_ended
+            || !self.matching.is_named()
+            || is_decided_to(text, self.window.bases(), self.decided_to)
     }
 
     // Holds the part of a record that reaches past the start of the line.
@@ -416,6 +391,19 @@ impl MaskState {
         };
         written?;
         Ok(())
+    }
+}
+
+// Up to which base of the sequence given last a record of a block with this owner decides lines, if it decides any: up to its
+// start, or all if its block belongs to no sequence.
+fn decided_up_to(owner: Owner, start: u64) -> Option<u64>
+    ensures decides { (bases : ℕ) → bases ≤ limit → decides_by owner bases start ≡ option_map_or (nat_le bases) result false }
+    ensures to { IfSome result (λ to. to ≡ decides_up_to owner start) }
+{
+    match owner {
+        Owner::Earlier => None,
+        Owner::Own => Some(start),
+        Owner::Nobody => Some(LIMIT),
     }
 }
 

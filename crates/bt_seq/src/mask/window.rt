@@ -91,13 +91,6 @@ impl Window {
         self.bases = bases;
     }
 
-    // Whether a place lies before the end of the line.
-    pub(crate) fn reaches(&self, place: u64) -> bool
-        ensures { result ≡ nat_lt place self.now.bases }
-    {
-        place < self.bases
-    }
-
     // Holds the part of a record that reaches past the start of the line.
     pub(crate) fn hold(&mut self, start: u64, stop: u64) -> Result<(), AllocError>
         ensures held { OnOk result (self.new ≡ (if nat_lt self.old.before stop

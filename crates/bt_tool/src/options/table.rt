@@ -26,127 +26,67 @@ pub(crate) struct Table {
     pub(crate) output: Option<&'static str>,
 }
 
-/// `bedtools merge`.
-pub(crate) const MERGE: Table = Table {
-    options: &[
-        Row {
-            option: "-i",
-            takes: Takes::FileName,
-        },
-        Row {
-            option: "-g",
-            takes: Takes::FileName,
-        },
-        Row {
-            option: "-d",
-            takes: Takes::Number,
-        },
-        Row {
-            option: "-s",
-            takes: Takes::Nothing,
-        },
-        Row {
-            option: "-S",
-            takes: Takes::Strand,
-        },
-    ],
+// No options yet; `-i` will name the first input.
+const NO_OPTIONS: Table = Table {
+    options: &[],
     required: &[],
     one_of: &[],
-    exclusive: &[("-s", "-S")],
-    genome: Some("-g"),
+    exclusive: &[],
+    genome: None,
     first: "-i",
     second: None,
     output: None,
 };
 
+/// `bedtools merge`.
+#[rattlefmt::skip]
+pub(crate) const MERGE: Table = Table {
+    options: &[
+        Row { option: "-i", takes: Takes::FileName },
+        Row { option: "-g", takes: Takes::FileName },
+        Row { option: "-d", takes: Takes::Number },
+        Row { option: "-s", takes: Takes::Nothing },
+        Row { option: "-S", takes: Takes::Strand },
+    ],
+    exclusive: &[("-s", "-S")],
+    genome: Some("-g"),
+    ..NO_OPTIONS
+};
+
 /// `bedtools complement`.
+#[rattlefmt::skip]
 pub(crate) const COMPLEMENT: Table = Table {
     options: &[
-        Row {
-            option: "-i",
-            takes: Takes::FileName,
-        },
-        Row {
-            option: "-g",
-            takes: Takes::FileName,
-        },
-        Row {
-            option: "-L",
-            takes: Takes::Nothing,
-        },
+        Row { option: "-i", takes: Takes::FileName },
+        Row { option: "-g", takes: Takes::FileName },
+        Row { option: "-L", takes: Takes::Nothing },
     ],
     required: &["-g"],
-    one_of: &[],
-    exclusive: &[],
     genome: Some("-g"),
-    first: "-i",
-    second: None,
-    output: None,
+    ..NO_OPTIONS
 };
 
 /// `bedtools intersect`. `-wa` changes nothing beside `-u`, `-v` and `-c`, nor does `-sorted` ever: all
 /// input is.
+#[rattlefmt::skip]
 pub(crate) const INTERSECT: Table = Table {
     options: &[
-        Row {
-            option: "-a",
-            takes: Takes::FileName,
-        },
-        Row {
-            option: "-b",
-            takes: Takes::FileName,
-        },
-        Row {
-            option: "-g",
-            takes: Takes::FileName,
-        },
-        Row {
-            option: "-wa",
-            takes: Takes::Nothing,
-        },
-        Row {
-            option: "-wb",
-            takes: Takes::Nothing,
-        },
-        Row {
-            option: "-wo",
-            takes: Takes::Nothing,
-        },
-        Row {
-            option: "-u",
-            takes: Takes::Nothing,
-        },
-        Row {
-            option: "-v",
-            takes: Takes::Nothing,
-        },
-        Row {
-            option: "-c",
-            takes: Takes::Nothing,
-        },
-        Row {
-            option: "-f",
-            takes: Takes::Fraction,
-        },
-        Row {
-            option: "-r",
-            takes: Takes::Nothing,
-        },
-        Row {
-            option: "-s",
-            takes: Takes::Nothing,
-        },
-        Row {
-            option: "-sorted",
-            takes: Takes::Nothing,
-        },
-        Row {
-            option: "-held",
-            takes: Takes::Number,
-        },
+        Row { option: "-a", takes: Takes::FileName },
+        Row { option: "-b", takes: Takes::FileName },
+        Row { option: "-g", takes: Takes::FileName },
+        Row { option: "-wa", takes: Takes::Nothing },
+        Row { option: "-wb", takes: Takes::Nothing },
+        Row { option: "-wo", takes: Takes::Nothing },
+        Row { option: "-u", takes: Takes::Nothing },
+        Row { option: "-v", takes: Takes::Nothing },
+        Row { option: "-c", takes: Takes::Nothing },
+        Row { option: "-f", takes: Takes::Fraction },
+        Row { option: "-r", takes: Takes::Nothing },
+        Row { option: "-s", takes: Takes::Nothing },
+        Row { option: "-sorted", takes: Takes::Nothing },
+        Row { option: "-held", takes: Takes::Number },
     ],
     required: &["-a", "-b"],
-    one_of: &[],
     exclusive: &[
         ("-wa", "-wo"),
         ("-wb", "-wo"),
@@ -163,143 +103,72 @@ pub(crate) const INTERSECT: Table = Table {
     genome: Some("-g"),
     first: "-a",
     second: Some("-b"),
-    output: None,
+    ..NO_OPTIONS
 };
 
 /// `bedtools subtract`.
+#[rattlefmt::skip]
 pub(crate) const SUBTRACT: Table = Table {
     options: &[
-        Row {
-            option: "-a",
-            takes: Takes::FileName,
-        },
-        Row {
-            option: "-b",
-            takes: Takes::FileName,
-        },
-        Row {
-            option: "-g",
-            takes: Takes::FileName,
-        },
-        Row {
-            option: "-A",
-            takes: Takes::Nothing,
-        },
-        Row {
-            option: "-f",
-            takes: Takes::Fraction,
-        },
-        Row {
-            option: "-s",
-            takes: Takes::Nothing,
-        },
-        Row {
-            option: "-held",
-            takes: Takes::Number,
-        },
+        Row { option: "-a", takes: Takes::FileName },
+        Row { option: "-b", takes: Takes::FileName },
+        Row { option: "-g", takes: Takes::FileName },
+        Row { option: "-A", takes: Takes::Nothing },
+        Row { option: "-f", takes: Takes::Fraction },
+        Row { option: "-s", takes: Takes::Nothing },
+        Row { option: "-held", takes: Takes::Number },
     ],
     required: &["-a", "-b"],
-    one_of: &[],
-    exclusive: &[],
     genome: Some("-g"),
     first: "-a",
     second: Some("-b"),
-    output: None,
+    ..NO_OPTIONS
 };
 
 /// `bedtools genomecov`. `-bga` reports all that `-bg` does.
+#[rattlefmt::skip]
 pub(crate) const COVERAGE: Table = Table {
     options: &[
-        Row {
-            option: "-i",
-            takes: Takes::FileName,
-        },
-        Row {
-            option: "-g",
-            takes: Takes::FileName,
-        },
-        Row {
-            option: "-bg",
-            takes: Takes::Nothing,
-        },
-        Row {
-            option: "-bga",
-            takes: Takes::Nothing,
-        },
-        Row {
-            option: "-strand",
-            takes: Takes::Strand,
-        },
+        Row { option: "-i", takes: Takes::FileName },
+        Row { option: "-g", takes: Takes::FileName },
+        Row { option: "-bg", takes: Takes::Nothing },
+        Row { option: "-bga", takes: Takes::Nothing },
+        Row { option: "-strand", takes: Takes::Strand },
     ],
     required: &["-g"],
     one_of: &["-bg", "-bga"],
-    exclusive: &[],
     genome: Some("-g"),
-    first: "-i",
-    second: None,
-    output: None,
+    ..NO_OPTIONS
 };
 
 /// `bedtools bamtobed`.
+#[rattlefmt::skip]
 pub(crate) const BAM_TO_BED: Table = Table {
     options: &[
-        Row {
-            option: "-i",
-            takes: Takes::FileName,
-        },
-        Row {
-            option: "-split",
-            takes: Takes::Nothing,
-        },
-        Row {
-            option: "-cigar",
-            takes: Takes::Nothing,
-        },
+        Row { option: "-i", takes: Takes::FileName },
+        Row { option: "-split", takes: Takes::Nothing },
+        Row { option: "-cigar", takes: Takes::Nothing },
     ],
-    required: &[],
-    one_of: &[],
-    exclusive: &[],
-    genome: None,
-    first: "-i",
-    second: None,
-    output: None,
+    ..NO_OPTIONS
 };
 
 /// `bedtools maskfasta`.
+#[rattlefmt::skip]
 pub(crate) const MASK_FASTA: Table = Table {
     options: &[
-        Row {
-            option: "-fi",
-            takes: Takes::FileName,
-        },
-        Row {
-            option: "-bed",
-            takes: Takes::FileName,
-        },
-        Row {
-            option: "-fo",
-            takes: Takes::FileName,
-        },
-        Row {
-            option: "-soft",
-            takes: Takes::Nothing,
-        },
-        Row {
-            option: "-mc",
-            takes: Takes::Character,
-        },
-        Row {
-            option: "-fullHeader",
-            takes: Takes::Nothing,
-        },
+        Row { option: "-fi", takes: Takes::FileName },
+        Row { option: "-bed", takes: Takes::FileName },
+        Row { option: "-fo", takes: Takes::FileName },
+        Row { option: "-soft", takes: Takes::Nothing },
+        Row { option: "-mc", takes: Takes::Character },
+        Row { option: "-fullHeader", takes: Takes::Nothing },
     ],
     required: &["-fi", "-bed"],
-    one_of: &[],
     exclusive: &[("-soft", "-mc")],
-    genome: None,
     first: "-fi",
     second: Some("-bed"),
     output: Some("-fo"),
+    ..NO_OPTIONS
 };
 
 impl Table {

@@ -1,6 +1,5 @@
 //! Running a plan over its devices.
 
-pub(crate) mod flushing;
 pub(crate) mod outcome;
 
 ghost use Rattle.std.specs.Prelude.{IfSome, IsSome, IsTrue, MatchResult, ◌≡◌, ◌≢◌, ◌≤◌, ◌⊎◌, ⊤, true, Some, is_some, option_map};
@@ -15,6 +14,7 @@ ghost use Rattle.bt_tool.specs.model.Report.{behaviour_of, entries_in, of_inters
 ghost use Rattle.bt_tool.specs.calls.Inputs.{OfBoth};
 ghost use Rattle.bt_tool.specs.calls.Run.{ReadsChromosomes, Runs, AnswersNoRead, IsOwnFailure, IsOwnFailureIf, ReadsServe, TellsNoRead, TellsOwnReads, RunsAlone, RunsBy};
 ghost use Rattle.bt_tool.specs.calls.Limits.{is_within_limits, IsNamedBy};
+ghost use Rattle.bt_tool.specs.inside.Feed.{Flushes};
 ghost use Rattle.bt_tool.specs.inside.Setup.{chromosomes_in};
 ghost use Rattle.bt_tool.specs.model.Table.{table_of, tool_of};
 ghost use Rattle.bt_tool.specs.model.Written.{complement_written, coverage_written, merge_written};
@@ -25,10 +25,9 @@ use crate::loops::driving::drive;
 use crate::loops::masking::mask;
 use crate::loops::sweeping::{SweepConfig, sweep};
 use crate::planning::plan_type::{Command, Plan};
-use crate::running::flushing::flushed;
 use crate::running::outcome::Outcome;
 use bt_bed::{ByteOrder, Genome, Strand};
-use bt_lines::{Fault, Input, LineReader, Out, Sink, Source};
+use bt_lines::{Fault, Input, Kind, LineReader, Out, Sink, Source};
 use bt_runs::{Complement, Coverage, Merge, MergeStrand};
 use bt_seq::MaskHow;
 use bt_sweep::Shape;
@@ -86,6 +85,23 @@ pub fn run<G: Source, A: Source, B: Source, K: Sink>(
         first,
         second,
         out: out.into_sink(),
+    }
+}
+
+// Hands on what is held back, unless a write failed, and gives the fault that the run ends with.
+fn flushed<K: Sink>(fault: Option<Fault>, out: &mut Out<K>) -> Option<Fault>
+    ensures ends { Flushes out.old.output (option_map fault_value fault) (option_map fault_value result) out.new.output }
+    ensures flushed { (option_map fault_value result ≡ Some write_failed)
+        ⊎ (out.new.output.sink_is_flushed ≡ true) }
+{
+    if let Some(fault) = fault {
+        if fault.kind == Kind::WriteFailed {
+            return Some(fault);
+        }
+    }
+    match out.flush() {
+        Ok(()) => fault,
+        Err(failure) => Some(failure),
     }
 }
 

@@ -51,11 +51,12 @@ pub passes_line : {A : Type 0} (done : A) (old new : Masking) (number : ℕ) (li
 passes_line done old new number line out grown p = grind (arith, none_held, none_masked)
 
 -- a record decided the line that waits, which was written
-pub wrote_line : {old inside known new : Masking} (r : Feature) {owner : Owner} {matched : Matched} (line : Waiting) {out grown : Output}
-    → known ≡ record inside { matched = matched; decided_to = decides_up_to owner r.start } → inside ≡ old
+pub wrote_line : {old inside new : Masking} (r : Feature) {owner : Owner} {matched : Matched} {to : ℕ} (line : Waiting) {out grown : Output}
+    → to ≡ decides_up_to owner r.start → inside ≡ old
     → owner ≡ owner_of inside.matched r.chrom → matched ≡ matched_with inside.matched r.chrom
     → decides_by owner inside.window.bases r.start ≡ true
-    → (new ≡ record known { waiting = None; want = Line }) × Grown out (line_bytes known line) grown
+    → (new ≡ record inside { matched = matched; decided_to = to; waiting = None; want = Line })
+    × Grown out (line_bytes (record inside { matched = matched; decided_to = to }) line) grown
     → (decides old r ≡ true)
     × (new ≡ record (with_owner old r.chrom) { waiting = None; want = Line; decided_to = decides_up_to (owner_of old.matched r.chrom) r.start })
     × Grown out (line_bytes old line) grown
