@@ -43,6 +43,11 @@ def chromosomes(count, length, further=""):
     return "".join(f"chr{FROM + at}\t{FROM}\t{FROM + length}{further}\n" for at in range(count))
 
 
+def with_comments(count):
+    """Records with a comment before each."""
+    return "".join(f"#x\nchr1\t{FROM + at * 20}\t{FROM + at * 20 + 10}\n" for at in range(count))
+
+
 def strands(count, apart, length):
     """Records of both strands in turn."""
     return "".join(f"chr1\t{FROM + at * apart}\t{FROM + at * apart + length}\tx\t0\t{'+-'[at % 2]}\n" for at in range(count))
@@ -93,6 +98,7 @@ STEADY = [
     *(one_input(f"merge -i a{further}", lambda count: strands(count, 20, 10)) for further in ("", " -d 5", " -S +", " -g g")),
     *(one_input(f"merge -i a{further}", lambda count: bed(count, 1, 10)) for further in ("", " -d 5", " -s", " -S +", " -g g")),
     one_input("merge -i a", nested),
+    one_input("merge -i a", with_comments),
     one_input("merge -i a", lambda count: chromosomes(count, 10)),
     *(one_input(f"complement -i a -g g{further}", lambda count: bed(count, 20, 10)) for further in ("", " -L")),
     one_input("complement -i a -g g", lambda count: bed(count, 1, 10)),
@@ -115,6 +121,8 @@ STEADY = [
 ]
 # Command lines that keep a record, or a run, for a while, and as many at once however many come.
 KEEPING = [
+    # Each line is longer than a block.
+    one_input("merge -i a", lambda count: bed(count, 20, 10, "\t" + "x" * 9000)),
     one_input("merge -i a -s", lambda count: strands(count, 5, 20)),
     one_input("merge -i a -s", lambda count: strands(count, 20, 10)),
     one_input("genomecov -i a -g g -bg", lambda count: bed(count, 5, 40)),

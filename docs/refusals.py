@@ -212,10 +212,8 @@ class Refuser:
         """Lets writing fail behind each number of bytes, or some where these are many. Answers as above."""
         runs = wrong = 0
         size = len(self.whole.output)
-        # The writer behind -fo tries a failed write once more when it is let go.
-        again = {"REFUSE_AGAIN": "1"} if "-fo" in self.words else {}
         for taken in range(size) if size < 400 else [at for at in (0, 1, 8191, 8192, 8193, size - 1) if at < size]:
-            answer = self.run({"REFUSE_WRITES": str(taken), **again})
+            answer = self.run({"REFUSE_WRITES": str(taken)})
             wanted = (1, self.whole.output[:taken], f"bedtools {self.command()}: writing failed\n".encode())
             is_right = (answer.status, answer.output, answer.error) == wanted
             wrong += 0 if is_right else self.tell(f"writing fails behind {taken} bytes", answer)

@@ -6,7 +6,6 @@
 //   REFUSE_ALL    whether all growths behind that one are refused too
 //   REFUSE_READS  files and numbers, as "a.bed 3 b.bed 1 ": behind so many lines of the file reading fails
 //   REFUSE_WRITES a number: behind so many bytes writing fails, but on standard error
-//   REFUSE_AGAIN  whether a write may be tried again; it fails again
 //   COUNT_NOTES   where it notes, as the program ends, how many growths there were, and how many bytes were allocated at
 //                 once, as "growths 12" and "most 4096" on a line each
 //   REFUSE_NOTES  where it notes, once a growth is refused, how many lines of each file were handed over, as "a.bed 3" and
@@ -196,7 +195,7 @@ ssize_t write(int file, const void *bytes, size_t size) {
     if (!said || file == STDERR_FILENO) {
         return syscall(SYS_write, file, bytes, size);
     }
-    if (write_has_failed && !getenv("REFUSE_AGAIN")) {
+    if (write_has_failed) {
         _exit(TRIED_AGAIN);
     }
     left = left < 0 ? atol(said) : left;
