@@ -131,8 +131,8 @@ module _ (text : List ℕ) {name : List ℕ} {r : Feature} (says : record_of tex
       whole_is = of_whole (take (length name) text) (value_of (take a first)) (value_of (take b second)) (columns_in (drop b second)) r (sym (ap columns_say cut_all) ∙ said)
 
       -- the columns denote the bounds
-      pub parsed_bounds : (start stop : ℕ) → IfSome (value_of (take a first)) (λ v. start ≡ v) → IfSome (value_of (take b second)) (λ v. stop ≡ v) → AreBounds text (length name) (record { value = start; end = a }) (record { value = stop; end = b })
-      parsed_bounds start stop p q = grind (arith, whole_is, parsed_inside)
+      pub parsed_bounds : AreBounds text (length name) (record { value = r.start; end = a }) (record { value = r.stop; end = b })
+      parsed_bounds = grind (arith, whole_is, parsed_inside)
 
   pub parsed_no_header : is_header text ≡ false
   parsed_no_header = (record_said text r says).0
