@@ -1,4 +1,4 @@
-use Rattle.bt_lines.proofs.Std.{arith, ◌≡◌, ◌+◌, Ok, Some, ap, length, length-drop, sym, ◌∙◌, subst, strip_last, bytes_eq-Decides}
+use Rattle.bt_lines.proofs.Std.{arith, ◌≡◌, ◌+◌, Ok, Some, length, length-drop, sym, subst, bytes_eq-Decides}
 use Rattle.bt_bed.proofs.lemmas.read.ColumnLemmas.{front_is_name, parsed_begins, parsed_bounds, parsed_inside, parsed_name, parsed_no_header, third_at}
 use Rattle.bt_bed.specs.calls.Bed.{feature_lent}
 use Rattle.bt_bed.specs.inside.FirstColumns.{EndsFirst}
