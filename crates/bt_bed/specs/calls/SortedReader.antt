@@ -1,5 +1,5 @@
 -- What a reader of sorted records holds, and what the calls of one do.
-use Rattle.std.specs.Prelude.{◌≡◌, ℕ, List, [], ◌∷◌, drop, length, take, ◌-◌, ◌≤◌, ◌&&◌, not, Bool, true, false, Option, Some, None, Result, Ok, Err, IsTrue, option_map, IfSome}
+use Rattle.std.specs.Prelude.{◌≡◌, ℕ, List, [], ◌∷◌, drop, length, take, ◌-◌, ◌≤◌, ◌&&◌, not, Bool, true, false, Option, Some, None, Result, Ok, Err, IsTrue, option_map, IfSome, bytes_eq, ⊤}
 use Rattle.bt_lines.specs.calls.Reader.{BeginsLines, IsKept, TakenLines, TakesLines, buffered_bytes, buffered_in as lines_buffered, input_of, is_open, fault_kept as line_fault, lines_given}
 use Rattle.bt_bed.specs.model.Feature.{Feature}
 use Rattle.bt_bed.specs.calls.Features.{IsFeature}
@@ -8,16 +8,17 @@ use Rattle.bt_bed.specs.declared.read.batch.Batch.{Batch}
 use Rattle.bt_bed.specs.declared.read.batch.Consumed.{Consumed}
 use Rattle.std.specs.Option.{ForSome}
 use Rattle.bt_lines.specs.declared.device.Source.{Ghosts as Source}
+use Rattle.bt_lines.specs.calls.Faults.{no_memory}
 use Rattle.bt_lines.specs.model.Fault.{FaultValue}
 use Rattle.bt_lines.specs.model.Lines.{TextLine}
 use Rattle.bt_lines.specs.calls.Names.{fault_value}
 use Rattle.bt_lines.specs.declared.reader.buffered_lines.ConsumedLines.{ConsumedLines}
 use Rattle.bt_lines.specs.declared.fault.Fault.{Fault}
 use Rattle.bt_lines.specs.declared.reader.line_reader.LineReader.{LineReader}
-use Rattle.bt_bed.specs.model.Good.{or_else, bed_format, line_says, locus_at}
+use Rattle.bt_bed.specs.model.Good.{Member, or_else, bed_format, line_says, locus_at}
 use Rattle.bt_bed.specs.inside.OrderedLookahead.{IsElsewhere, KeepsLast, ahead_of, last_in, name_in, start_in as kept_start}
 use Rattle.bt_bed.specs.model.Sorted.{Locus, Sorting, falls_in}
-use Rattle.bt_bed.specs.calls.Reading.{AnswersFault, EndsMembers, FillAnswers, GivesMember, IsLost, MemberReader, Takes, TellsOwnFailure, ahead_in}
+use Rattle.bt_bed.specs.calls.Reading.{AnswersFault, EndsMembers, FillAnswers, GivesMember, IsLost, IsSaidBehind, MemberReader, Takes, TellsOwnFailure, ahead_in, good_coming}
 use Rattle.bt_bed.specs.declared.record.bed.BedRef.{BedRef}
 use Rattle.bt_bed.specs.declared.read.sorted.Sorted.{Ghosts as SortedGhosts}
 use Rattle.bt_bed.specs.declared.read.sorted_reader.SortedReader.{SortedReader}
@@ -140,6 +141,23 @@ module _ {S Q : Type 0} where
       pub takes : TakesAs old line answer new
       pub keeps : KeepsLast old.lookahead new.lookahead
 
+-- the record of the last line given lies on another chromosome than the record consumed last, and its name couldn't be kept
+pub record NameUnkept {S : Type 0} (device : Source S) (old : MemberReader S Feature (Option Locus)) (new : LineReader S) : Type 0 where
+  pub r : Feature
+  -- it is the first of what was still to come, if that is known
+  pub first : IfSome (good_coming device.left old) (λ good. (rest : List (Member Feature))
+      × (good.members ≡ record { line = lines_given new; item = r } ∷ rest))
+  -- known or not, it is what a line says after the record consumed last
+  pub said : IsSaidBehind old.format old.state r
+  pub elsewhere : IfSome old.state (λ last. bytes_eq last.chrom r.chrom ≡ false)
+
+-- memory runs out only for a line that couldn't be read, or for the name of another chromosome
+abbrev pub RunsOutForName : {S T : Type 0} → Source S → MemberReader S Feature (Option Locus) → Result T Fault
+    → LineReader S → Type 0
+RunsOutForName device old (Ok done) new = ⊤
+RunsOutForName device old (Err fault) new = old.fault ≡ None → fault_value fault ≡ no_memory → line_fault new ≡ None
+    → NameUnkept device old new
+
 -- What the calls do, whatever the rule. `Next` is what is known of the record ahead, and `Keeps` is
 -- what else the call leaves as it was.
 module _ {S : Type 0} (device : Source S) (Next : Feature → Type 0) (Keeps : Type 0)
@@ -150,6 +168,7 @@ module _ {S : Type 0} (device : Source S) (Next : Feature → Type 0) (Keeps : T
     -- the record ahead, if there is one, is one that a line can say, and comes next
     pub next : IfSome (ahead_in new) (λ m. IsFeature m.item × Next m.item)
     pub own_failure : TellsOwnFailure device.is_read old.fault old.below answer new.below
+    pub for_name : RunsOutForName device old answer new.below
     pub kept : IsKept device old.below → IsKept device new.below
     pub order : Keeps
 
@@ -165,6 +184,7 @@ module _ {S : Type 0} (device : Source S) (Next : Feature → Type 0) (Keeps : T
     pub answers : PeekAnswers answer
     pub next : IfSome (ahead_in new) (λ m. IsFeature m.item × Next m.item)
     pub own_failure : TellsOwnFailure device.is_read old.fault old.below answer new.below
+    pub for_name : RunsOutForName device old answer new.below
     pub kept : IsKept device old.below → IsKept device new.below
     pub order : Keeps
 

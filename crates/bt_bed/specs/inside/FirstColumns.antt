@@ -51,6 +51,13 @@ pub record AreBounds (text : List ℕ) (name : ℕ) (start stop : ParsedNumber) 
   pub second : Leads (drop (start.end + 1) (drop (name + 1) text)) stop
   pub below : start.value < stop.value
 
+-- the text says a record on the chromosome of this name, whose start and end the second and the third column denote
+pub record SaysBounds (text name : List ℕ) (start stop : ParsedNumber) : Type 0 where
+  pub named : EndsName text (length name)
+  pub chrom : take (length name) text ≡ name
+  pub bounds : AreBounds text (length name) start stop
+  pub no_header : is_header text ≡ false
+
 -- `lead.end` digits come first, at most twelve, and denote the number
 pub record BeginsWith (text : List ℕ) (lead : ParsedNumber) : Type 0 where
   pub within : lead.end ≤ length text

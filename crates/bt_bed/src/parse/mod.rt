@@ -6,5 +6,4 @@ pub(crate) mod faults;
 pub(crate) mod header;
 pub(crate) mod names;
 pub(crate) mod packed_name;
-pub(crate) mod parsed_number;
 pub(crate) mod parsing;

@@ -1,20 +1,20 @@
 //! Records that a reader has buffered.
 
-ghost use Rattle.std.specs.Prelude.{◌≡◌, ◌-◌, ◌<◌, ◌≤◌, IsTrue, get_or, length, nat_eq};
+ghost use Rattle.std.specs.Prelude.{◌≡◌, ◌-◌, ◌<◌, ◌≤◌, IfNone, IfSome, IsTrue, drop, false, get_or, length, nat_eq};
 ghost use Rattle.std.specs.Io.BufRead.{strip_last};
 ghost use Rattle.bt_lines.specs.calls.Reader.{rest_in};
-ghost use Rattle.bt_bed.specs.inside.FirstColumns.{IsRecordName, HasKey};
+ghost use Rattle.bt_bed.specs.inside.FirstColumns.{EndsFirst, HasKey, IsRecordName, SaysBounds};
 ghost use Rattle.bt_bed.specs.calls.Bed.{is_on};
 ghost use Rattle.bt_bed.specs.model.BedLine.{record_of};
 
-use crate::parse::columns::{LOOKAHEAD, begins_with_long, scan_columns};
+use crate::parse::columns::{FirstColumns, LOOKAHEAD, begins_with_long, scan_columns};
 use crate::parse::names::is_same_name;
 use crate::parse::packed_name::PackedName;
-use crate::parse::parsed_number::parse_number;
 use crate::parse::parsing::parse_bed;
 use crate::read::cursor::Cursor;
-use crate::record::raw_record::RawRecord;
-use bt_lines::{BufferedLines, ConsumedLines, without_return};
+use crate::record::kept_strand::behind;
+use crate::record::raw_record::{ParsedNumber, RawRecord};
+use bt_lines::{BufferedLines, ConsumedLines, first_tab, without_return};
 
 /// Records that a reader has buffered, of one chromosome and in order, as a cursor over them. It ends before the first line
 /// that isn't such a record's. What was consumed is reported to the reader ([`Records::consume`](crate::Records::consume)).
@@ -47,7 +47,7 @@ impl<'a> Batch<'a> {
     ghost use Rattle.std.specs.Io.BufRead.{strip_last};
     ghost use Rattle.bt_lines.specs.calls.Reader.{lines_in, rest_in};
     ghost use Rattle.bt_bed.specs.calls.Batch.{IsWhere, Passes, StandsFirst, chrom_in, consumed_in, cursor_in, left, line_in, start_in};
-    ghost use Rattle.bt_bed.specs.inside.FirstColumns.{HasKey, IsRecordName};
+    ghost use Rattle.bt_bed.specs.inside.FirstColumns.{HasKey, IsRecordName, SaysBounds};
     ghost use Rattle.bt_bed.specs.calls.Bed.{IsOnLine, raw_in, record_in, is_on, run_of};
     ghost use Rattle.bt_bed.specs.model.BedLine.{record_of};
 
@@ -111,28 +111,23 @@ impl<'a> Batch<'a> {
         ensures some { IfSome result (IsOnLine line.now (chrom_in self.now)) }
         ensures none { IfNone result (is_on (chrom_in self.now) (record_of (strip_last 13 line.now)) ≡ false) }
     {
-        if let Some(record) = self.scan(line) {
-            return Some(record);
-        }
-        if !is_record_on(line, self.name) {
-            return None;
-        }
-        let text = without_return(line);
-        let start = parse_number(text, self.name.len() + 1);
-        let stop = parse_number(text, self.name.len() + start.end + 2);
+        let columns = match self.scan(line) {
+            Some(columns) => columns,
+            None => parsed_columns(line, self.name)?,
+        };
         Some(RawRecord {
             line,
             name: self.name.len(),
-            start,
-            stop,
+            start: columns.start,
+            stop: columns.stop,
         })
     }
 
-    // The record by a scan of the first columns; `None` says nothing.
+    // The bounds by a scan of the first columns; `None` says nothing.
     #[inline(always)]
-    fn scan(&self, line: &'a [u8]) -> Option<RawRecord<'a>>
+    fn scan(&self, line: &'a [u8]) -> Option<FirstColumns>
         requires { take (length line.now) (rest_in (cursor_in self.now)) ≡ line.now }
-        ensures { IfSome result (IsOnLine line.now (chrom_in self.now)) }
+        ensures { IfSome result (λ columns. SaysBounds (strip_last 13 line.now) (chrom_in self.now) columns.start columns.stop) }
     {
         let rest = self.lines.rest();
         if rest.len() < self.name.len() + LOOKAHEAD {
@@ -143,12 +138,7 @@ impl<'a> Batch<'a> {
         if !ends_column(line, end) {
             return None;
         }
-        Some(RawRecord {
-            line,
-            name: self.name.len(),
-            start: columns.start,
-            stop: columns.stop,
-        })
+        Some(columns)
     }
 
     /// What was consumed.
@@ -237,20 +227,49 @@ fn ends_text(line: &[u8], end: usize) -> bool
     without_return(line).len() == end
 }
 
-// Whether a line says a record on the chromosome of this name. One that begins with another name isn't parsed.
+// The bounds by the parser, if the line says a record on the chromosome of this name. One that begins with another name
+// isn't parsed.
 #[cold]
 #[inline(never)]
 #[tactic(auto, using(crate::proofs::lemmas::read::ColumnLemmas::begins_within, crate::proofs::lemmas::read::ColumnLemmas::not_on))]
-fn is_record_on(line: &[u8], name: &[u8]) -> bool
-    ensures { result ≡ is_on name.now (record_of (strip_last 13 line.now)) }
+fn parsed_columns(line: &[u8], name: &[u8]) -> Option<FirstColumns>
+    ensures some { IfSome result (λ columns. SaysBounds (strip_last 13 line.now) name.now columns.start columns.stop) }
+    ensures none { IfNone result (is_on name.now (record_of (strip_last 13 line.now)) ≡ false) }
 {
     let text = without_return(line);
     if text.len() <= name.len() || !begins_with_long(text, name) {
-        return false;
+        return None;
     }
-    match parse_bed(text) {
-        Ok(Some(bed)) => is_same_name(bed.chrom, name),
-        _ => false,
+    let Ok(Some(bed)) = parse_bed(text) else {
+        return None;
+    };
+    if !is_same_name(bed.chrom, name) {
+        return None;
+    }
+    let start = column_end(text, name.len() + 1);
+    let stop = column_end(text, name.len() + start + 2);
+    Some(FirstColumns {
+        start: ParsedNumber {
+            value: bed.start,
+            end: start,
+        },
+        stop: ParsedNumber {
+            value: bed.stop,
+            end: stop,
+        },
+    })
+}
+
+// Where the column that begins here ends, counted from there.
+#[tactic(auto, using(crate::proofs::lemmas::read::ColumnLemmas::alone_ends))]
+fn column_end(text: &[u8], from: usize) -> usize
+    requires { from ≤ length text.now }
+    ensures { EndsFirst (drop from text.now) result }
+{
+    let rest = behind(text, from);
+    match first_tab(rest) {
+        Some(end) => end,
+        None => rest.len(),
     }
 }
 

@@ -33,7 +33,7 @@ impl<S: Source, Q: Sorted + Drop> SortedReader<S, Q> {
     ghost use Rattle.bt_bed.specs.model.Feature.{Feature};
     ghost use Rattle.bt_bed.specs.inside.OrderedLookahead.{IsKnownLast, last_in};
     ghost use Rattle.bt_bed.specs.calls.Reading.{Fills, Takes, TellsOwnFailure};
-    ghost use Rattle.bt_bed.specs.calls.SortedReader.{IsPlaced, IsPlacedBy, IsTaken, Lends, TakesFirst, buffered_in, count_in, fault_in, sorting_in, view_by, view_with};
+    ghost use Rattle.bt_bed.specs.calls.SortedReader.{IsPlaced, IsPlacedBy, IsTaken, Lends, RunsOutForName, TakesFirst, buffered_in, count_in, fault_in, sorting_in, view_by, view_with};
 
     // No record yet.
     pub(crate) fn new(alloc: Global, reader: LineReader<S>, rule: Q) -> SortedReader<S, Q>
@@ -59,6 +59,7 @@ impl<S: Source, Q: Sorted + Drop> SortedReader<S, Q> {
         ensures fills { Fills S.Source (view_by Q.Sorted self.old self.old) result (view_by Q.Sorted self.old self.new) }
         ensures own_failure { TellsOwnFailure S.is_read
             (view_by Q.Sorted self.old self.old).fault self.old.reader result self.new.reader }
+        ensures for_name { RunsOutForName S.Source (view_by Q.Sorted self.old self.old) result self.new.reader }
         ensures placed { IsPlacedBy Q.Sorted self.old self.new }
     {
         if self.is_ahead {
@@ -135,6 +136,7 @@ impl<S: Source, Q: Sorted + Drop> SortedReader<S, Q> {
         ensures fills { Fills S.Source (view_by Q.Sorted self.old self.old) result (view_by Q.Sorted self.old self.new) }
         ensures own_failure { TellsOwnFailure S.is_read
             (view_by Q.Sorted self.old self.old).fault self.old.reader result self.new.reader }
+        ensures for_name { RunsOutForName S.Source (view_by Q.Sorted self.old self.old) result self.new.reader }
         ensures placed { IsPlacedBy Q.Sorted self.old self.new }
     {
         if let Some(fault) = self.fault {
@@ -161,6 +163,7 @@ impl<S: Source, Q: Sorted + Drop> SortedReader<S, Q> {
             (view_with (sorting_in Q.Sorted self.old.lookahead) (fault_in result) self.new.reader self.new.lookahead (buffered_in self.new)) }
         ensures own_failure { TellsOwnFailure S.is_read (line_fault self.old.reader) self.old.reader result
             self.new.reader }
+        ensures for_name { RunsOutForName S.Source (view_by Q.Sorted self.old self.old) result self.new.reader }
         ensures placed { IsPlaced (sorting_in Q.Sorted self.old.lookahead)
             (view_with (sorting_in Q.Sorted self.old.lookahead) (fault_in result) self.new.reader self.new.lookahead (buffered_in self.new)) }
     {

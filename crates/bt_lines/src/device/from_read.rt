@@ -37,11 +37,7 @@ impl<R> FromRead<R> {
     pub fn into_inner(self) -> R
         ensures { result ≡ reader_of self }
     {
-        let FromRead {
-            reader,
-            has_failed: _,
-            end_told: _,
-        } = self;
+        let FromRead { reader, .. } = self;
         reader
     }
 }

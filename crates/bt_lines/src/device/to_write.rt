@@ -37,11 +37,7 @@ impl<W> ToWrite<W> {
     pub fn into_inner(self) -> W
         ensures { result ≡ writer_of self }
     {
-        let ToWrite {
-            writer,
-            has_failed: _,
-            is_flushed: _,
-        } = self;
+        let ToWrite { writer, .. } = self;
         writer
     }
 }

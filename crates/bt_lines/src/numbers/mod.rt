@@ -15,20 +15,14 @@ use std::simd::prelude::*;
 /// The greatest number that a text may denote.
 pub const MAX_NUMBER: u64 = 999_999_999_999;
 
-// That many digits denote at most [`MAX_NUMBER`], whatever they are.
-const MAX_DIGITS: usize = 12;
-
 /// The number that a text of one or more decimal digits denotes, if it is at most
 /// [`MAX_NUMBER`]. Leading zeros are allowed, a sign or a space isn't.
-#[tactic(auto, using(crate::proofs::lemmas::numbers::NumberLemmas::value_of_empty, crate::proofs::lemmas::numbers::NumberLemmas::value_of_other))]
+#[tactic(auto, using(crate::proofs::lemmas::numbers::NumberLemmas::value_of_empty, crate::proofs::lemmas::numbers::NumberLemmas::value_of_other, crate::proofs::lemmas::numbers::NumberLemmas::value_more, crate::proofs::lemmas::numbers::NumberLemmas::value_of_large, crate::proofs::lemmas::numbers::NumberLemmas::digits_more))]
 pub fn number(text: &[u8]) -> Option<u64>
     ensures { result ≡ value_of text.now }
 {
     if text.is_empty() {
         return None;
-    }
-    if text.len() > MAX_DIGITS {
-        return long_number(text);
     }
     let mut value: u64 = 0;
     for byte in text {
@@ -36,6 +30,9 @@ pub fn number(text: &[u8]) -> Option<u64>
             return None;
         }
         value = value * 10 + u64::from(*byte - b'0');
+        if value > MAX_NUMBER {
+            return None;
+        }
     }
     Some(value)
 }
@@ -120,23 +117,4 @@ fn joined(ones: u64) -> u64
     let pairs = (ones * 10 + ones / 0x100) & EVEN_BYTES;
     let fours = pairs * 100 + pairs / 0x1_0000;
     fours % 0x1_0000 * 10_000 + fours / 0x1_0000_0000 % 0x1_0000
-}
-
-// The number of a text of more digits: they are too many unless the first ones are zeros.
-#[tactic(auto, using(crate::proofs::lemmas::numbers::NumberLemmas::value_of_other, crate::proofs::lemmas::numbers::NumberLemmas::value_more, crate::proofs::lemmas::numbers::NumberLemmas::value_of_large, crate::proofs::lemmas::numbers::NumberLemmas::digits_more))]
-fn long_number(text: &[u8]) -> Option<u64>
-    requires { 0 < length text.now }
-    ensures { result ≡ value_of text.now }
-{
-    let mut value: u64 = 0;
-    for byte in text {
-        if !byte.is_ascii_digit() {
-            return None;
-        }
-        value = value * 10 + u64::from(*byte - b'0');
-        if value > MAX_NUMBER {
-            return None;
-        }
-    }
-    Some(value)
 }

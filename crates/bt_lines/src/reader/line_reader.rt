@@ -162,14 +162,7 @@ impl<S: Source> LineReader<S> {
     pub fn into_source(self) -> S
         ensures { result ≡ source_of self }
     {
-        let LineReader {
-            source,
-            input: _,
-            buffer: _,
-            lines: _,
-            taken: _,
-            state: _,
-        } = self;
+        let LineReader { source, .. } = self;
         source
     }
 

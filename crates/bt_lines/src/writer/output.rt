@@ -184,11 +184,7 @@ impl<K: Sink> Out<K> {
         ensures failed { K.has_failed result ≡ self.output.sink_has_failed }
         ensures flushed { K.is_flushed result ≡ self.output.sink_is_flushed }
     {
-        let Out {
-            sink,
-            held: _,
-            has_failed: _,
-        } = self;
+        let Out { sink, .. } = self;
         sink
     }
 }

@@ -1,5 +1,5 @@
 -- Lemmas on the first columns of a line that are in order.
-use Rattle.bt_lines.proofs.Std.{common_steps, rules, ◌≡◌, ℕ, ◌+◌, ◌^◌, ◌<◌, ◌≤◌, Bool, true, false, List, [], ◌∷◌, ◌++◌, length, take, drop, get_or, Some, Ok, refl, sym, ap, ◌∙◌, subst, arith, append_assoc, bytes_eq, eqb, ltb, length-take, is_ascii_digit, list_all, digits_value, get_or-append_seam, take-append_seam, drop-drop, drop_more, drop_all, length-append, take_all, take-append-drop, slice_split_none, length-slice_split, bytes_eq-Decides, inl, inr, IfSome, cases_Bool, cases_lt, false≢true, drop_at, ◌-◌, decimal, eq-eqb, length-drop, IsTrue, not, strip_last, list_all_at, AllDigits, decimal-digits_value, get_or-drop, get_or-take, length-take-le, numerals_by_value, tells_digits}
+use Rattle.bt_lines.proofs.Std.{common_steps, rules, ◌≡◌, ℕ, ◌+◌, ◌^◌, ◌<◌, ◌≤◌, Bool, true, false, List, [], ◌∷◌, ◌++◌, length, take, drop, get_or, Some, Ok, refl, sym, ap, ◌∙◌, subst, arith, append_assoc, bytes_eq, eqb, ltb, length-take, is_ascii_digit, list_all, digits_value, get_or-append_seam, take-append_seam, drop-drop, drop_more, drop_all, length-append, take_all, take-append-drop, slice_split_none, length-slice_split, bytes_eq-Decides, inl, inr, cases_Bool, cases_lt, false≢true, drop_at, ◌-◌, decimal, eq-eqb, length-drop, IsTrue, not, strip_last, list_all_at, AllDigits, decimal-digits_value, get_or-drop, get_or-take, length-take-le, numerals_by_value, tells_digits}
 use Rattle.bt_lines.proofs.lemmas.reader.lines.TextLemmas.{cut_at, IsColumn}
 use Rattle.bt_lines.proofs.lemmas.numbers.NumberLemmas.{digits_below, value_of_digits, all_digits_in, digits_denoting}
 use Rattle.bt_lines.specs.model.Lines.{pieces, value_of}
@@ -131,8 +131,8 @@ module _ (text : List ℕ) {name : List ℕ} {r : Feature} (says : record_of tex
       whole_is = of_whole (take (length name) text) (value_of (take a first)) (value_of (take b second)) (columns_in (drop b second)) r (sym (ap columns_say cut_all) ∙ said)
 
       -- the columns denote the bounds
-      pub parsed_bounds : (start stop : ℕ) → IfSome (value_of (take a first)) (λ v. start ≡ v) → IfSome (value_of (take b second)) (λ v. stop ≡ v) → AreBounds text (length name) (record { value = start; end = a }) (record { value = stop; end = b })
-      parsed_bounds start stop p q = grind (arith, whole_is, parsed_inside)
+      pub parsed_bounds : AreBounds text (length name) (record { value = r.start; end = a }) (record { value = r.stop; end = b })
+      parsed_bounds = grind (arith, whole_is, parsed_inside)
 
   pub parsed_no_header : is_header text ≡ false
   parsed_no_header = (record_said text r says).0

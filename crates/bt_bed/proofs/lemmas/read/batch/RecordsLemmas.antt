@@ -9,7 +9,7 @@ use Rattle.bt_bed.proofs.lemmas.read.good.ReadingLemmas.{good_at_first}
 use Rattle.bt_bed.proofs.lemmas.read.good.SaidLemmas.{said_features, wrong_is_of_line, wrong_is_of_record}
 use Rattle.bt_bed.proofs.lemmas.order.OrderLemmas.{sorted_up_to}
 use Rattle.bt_bed.specs.calls.Batch.{StandsFirst, chrom_in, cursor_in, left, left_after, start_in}
-use Rattle.bt_bed.specs.calls.SortedReader.{IsPlaced, buffered_in as records_in, view_in, view_with}
+use Rattle.bt_bed.specs.calls.SortedReader.{IsPlaced, RunsOutForName, buffered_in as records_in, view_in, view_with}
 use Rattle.bt_bed.specs.model.Feature.{Feature}
 use Rattle.bt_bed.specs.model.BedLine.{is_bed_kind, is_record_kind, record_of}
 use Rattle.bt_bed.specs.calls.Features.{IsFeature, wrong_lines_are_of_bed}
@@ -104,11 +104,12 @@ module _ {S O : Type 0} {g : Ghosts O} (device : Source S) (old new : Records S 
 
   -- `fill` of the reader below
   pub fills_records : (result : Result Bool Fault) → IsTotal (order_in old) → Fills device (view_in (sorting_at g old.sorted) old.sorted) result (view_in (sorting_at g old.sorted) new.sorted)
-      → TellsOwnFailure device.is_read (view_in (sorting_at g old.sorted) old.sorted).fault old.sorted.reader result new.sorted.reader → FillsRecords device old result new
+      → TellsOwnFailure device.is_read (view_in (sorting_at g old.sorted) old.sorted).fault old.sorted.reader result new.sorted.reader
+      → RunsOutForName device (view_in (sorting_at g old.sorted) old.sorted) result new.sorted.reader → FillsRecords device old result new
   unfolding view_of view_with
-  fills_records result total fills own =
+  fills_records result total fills own for_name =
       let there : Fills device (view_of old) result (view_of new) = rw (same_view, ← was_view) fills in
-      grind (arith, (filled device old new result total there.answers), same_order)
+      record { answers = there.answers; next = filled device old new result total there.answers; own_failure = own; for_name = for_name; kept = there.kept; order = same_order }
 
   -- `consume` of the reader below
   pub takes_records : (count : ℕ) → Takes device (view_in (sorting_at g old.sorted) old.sorted) (take count (records_in old.sorted)) (view_in (sorting_at g old.sorted) new.sorted) → TakesRecords device old count new

@@ -8,7 +8,7 @@ use Rattle.bt_lines.specs.calls.Line.{AreNumbered}
 use Rattle.bt_lines.specs.calls.Names.{fault_value}
 use Rattle.bt_lines.specs.declared.fault.Input.{Input}
 use Rattle.bt_lines.specs.declared.reader.line_reader.LineReader.{LineReader}
-use Rattle.bt_bed.proofs.lemmas.read.good.ReadingLemmas.{left_numbered, LineCame, line_came, lost_is_own, Follows, Going, gives_again, going_end, going_member, going_more, going_start, going_unkept, going_unread, going_wrong}
+use Rattle.bt_bed.proofs.lemmas.read.good.ReadingLemmas.{left_numbered, LineCame, line_came, lost_is_own, Follows, Going, gives_again, going_end, going_member, going_more, going_start, going_unkept, going_unread, going_wrong, given_first}
 use Rattle.bt_bed.proofs.lemmas.Definitions.{line_said}
 use Rattle.bt_bed.proofs.lemmas.read.batch.RecordsLemmas.{placed_there, run_some, says_of_line}
 use Rattle.bt_bed.proofs.lemmas.read.good.SaidRuns.{LinesSay, good_said, order_behind, order_is_said, place_behind, run_behind, run_is_said, run_says, said_fewer, said_in_order, say_fewer, say_front, FirstOfRun, first_of_run, says_again}
@@ -24,10 +24,11 @@ use Rattle.bt_bed.specs.declared.record.bed.BedRef.{BedRef}
 use Rattle.bt_bed.specs.declared.read.batch.Batch.{Batch}
 use Rattle.bt_bed.specs.declared.record.raw_record.RawRecord.{RawRecord}
 use Rattle.bt_bed.proofs.lemmas.parse.NameLemmas.{name_eq}
-use Rattle.bt_bed.specs.calls.SortedReader.{FillsSorted, PeeksSorted, IsPlaced, IsTaken, are_in_order, buffered_in, count_in, view_in, view_with, FindsRecord, LosesLine, SkipsLine, TakesFirst, TakesOne}
+use Rattle.bt_bed.specs.calls.SortedReader.{FillsSorted, NameUnkept, PeeksSorted, RunsOutForName, IsPlaced, IsTaken, are_in_order, buffered_in, count_in, view_in, view_with, FindsRecord, LosesLine, SkipsLine, TakesFirst, TakesOne}
 use Rattle.bt_bed.specs.declared.read.batch.Consumed.{Consumed}
 use Rattle.bt_bed.specs.declared.read.lookahead.OrderedLookahead.{OrderedLookahead}
 use Rattle.bt_bed.specs.declared.read.sorted_reader.SortedReader.{SortedReader}
+use Rattle.bt_lines.specs.calls.Faults.{no_memory}
 use Rattle.bt_lines.specs.model.Fault.{FaultValue}
 use Rattle.bt_lines.specs.declared.fault.Fault.{Fault}
 use Rattle.bt_bed.proofs.lemmas.read.good.SaidLemmas.{bed_of_line}
@@ -343,6 +344,24 @@ module _ {S Q : Type 0} (device : Source S) (sorting : Sorting) where
       kept = λ was. kept_on loses.takes (g.passed.kept was);
     }
 
+    unkept_by : (fault : FaultValue) → LosesLine device sorting mid line fault new → fault ≡ no_memory → NameUnkept device old new.reader
+    unfolding view_with
+    unkept_by fault loses is = elim (lost_parts (record { input = input_of mid.reader; line = line.number }) (line_says sorting (last_in mid.lookahead) line.text) fault loses.cause) [
+      | inl wrong ↦
+          absurd (let other = ap (λ (f : FaultValue). f.place) (sym wrong.is ∙ is) in cc)
+      | inr unkept ↦
+          record {
+            r = unkept.item;
+            first = given_first device old (view_with sorting None now mid.lookahead []) new.reader line unkept.item g (came loses.takes) unkept.says;
+            said = rw (← g.format, ← g.state) (line, unkept.says);
+            elsewhere = rw (← g.state) (rw unkept.says at loses.elsewhere);
+          }
+    ]
+
+    -- it wasn't taken, and it wasn't at fault
+    pub sorted_unkept : (fault : Fault) → LosesLine device sorting mid line (fault_value fault) new → fault_value fault ≡ no_memory → NameUnkept device old new.reader
+    sorted_unkept fault loses is = unkept_by (fault_value fault) loses is
+
   module _ (old : MemberReader S Feature (Option Locus)) (now new : LineReader S) (lookahead : OrderedLookahead Q) (kept : IsKept device now → IsKept device new) (g : Going device old (view_with sorting None now lookahead [])) where
     alike : (own : Option FaultValue) → (view_with sorting own new lookahead []).below ≡ (view_with sorting None now lookahead []).below → (view_with sorting own new lookahead []).fault ≡ (view_with sorting None now lookahead []).fault
         → view_with sorting own new lookahead [] ≡ view_with sorting None now lookahead []
@@ -399,6 +418,12 @@ module _ {S Q : Type 0} (device : Source S) (sorting : Sorting) where
       taken_fault fault taken =
           let first = there (Err fault) taken in
           rw (none_buffered new first.takes.none) (sorted_lost device sorting mid new makes kept g first.first first.keeps fault first.takes)
+
+      -- if memory ran out for it
+      pub taken_unkept : (fault : Fault) → TakesFirst device rules mid (Err fault) new → RunsOutForName {T = Bool} device old (Err fault) new.reader
+      taken_unkept fault taken = λ going is none.
+          let first = there (Err fault) taken in
+          sorted_unkept device sorting mid new makes kept g first.first first.keeps fault first.takes is
 
   -- what was read until then
   module _ {mid new : SortedReader S Q} (rules : Sorting) (old : LineReader S) (read : HasRead device.is_read old mid.reader) where

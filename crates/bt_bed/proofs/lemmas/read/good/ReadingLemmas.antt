@@ -275,12 +275,19 @@ module _ {S A State : Type 0} (device : Source S) where
         rw before (good_fault now.format (input_of now.below) now.state line (lines_left device.left now.below) (lines_left device.left new.below) kind gives.first says) in
         grind arith
 
+    -- the member of the last line given came first
+    pub given_first : (now : MemberReader S A State) (reader : LineReader S) (line : TextLine) (item : A) → Going old now → LineCame device now.below line reader → now.format.says now.state line ≡ Ok (Some item)
+        → IfSome (good_coming device.left old) (λ good. (rest : List (Member A)) × (good.members ≡ record { line = lines_given reader; item = item } ∷ rest))
+    given_first now reader line item g gives says =
+        let first = good_first now.format (input_of now.below) now.state line item (lines_left device.left now.below) (grind arith) says in
+        grind (arith, good_is)
+
     -- a member that couldn't be kept was good
     unkept_cause : (now new : MemberReader S A State) (line : TextLine) (fault : FaultValue) (item : A) → Going old now → LineCame device now.below line new.below
         → now.format.says now.state line ≡ Ok (Some item) → fault ≡ no_memory → RunsOut device old fault new
     unkept_cause now new line fault item g gives says is =
-        let first = good_first now.format (input_of now.below) now.state line item (lines_left device.left now.below) (grind arith) says in
-        grind (arith, good_is)
+        let first = given_first now new.below line item g gives says in
+        grind arith
 
     lost_by : (now new : MemberReader S A State) (line : TextLine) (fault : FaultValue) → Going old now → LineCame device now.below line new.below → new.fault ≡ Some fault → new.buffered ≡ [] → Follows now new → (IsKept device now.below → IsKept device new.below)
         → Cause device old fault new → AnswersFault device old fault new

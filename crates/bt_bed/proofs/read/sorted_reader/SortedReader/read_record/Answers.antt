@@ -1,8 +1,9 @@
-use Rattle.bt_lines.proofs.Std.{arith, refl, ap, ◌∙◌, Bool}
+use Rattle.bt_lines.proofs.Std.{arith, ◌≡◌, refl, sym, ap, ◌∙◌, Bool, None, Some}
+use Rattle.bt_lines.specs.calls.Names.{fault_value}
 use Rattle.bt_lines.proofs.lemmas.reader.block.ReadsLemmas.{has_read_then, reads_same}
 use Rattle.bt_lines.specs.calls.Reader.{fault_kept as line_fault}
 use Rattle.bt_bed.proofs.lemmas.read.good.ReadingLemmas.{read_is_own}
-use Rattle.bt_bed.proofs.lemmas.read.batch.SortedReaderLemmas.{read_fault, read_nothing, read_record, sorted_end, sorted_start, sorted_unread, still_going, taken_fault, taken_nothing, taken_record, view_before}
+use Rattle.bt_bed.proofs.lemmas.read.batch.SortedReaderLemmas.{read_fault, read_nothing, read_record, sorted_end, sorted_start, sorted_unread, still_going, taken_fault, taken_nothing, taken_record, taken_unkept, view_before}
 use Rattle.bt_bed.specs.calls.SortedReader.{buffered_in}
 use Rattle.bt_bed.proofs.read.sorted_reader.SortedReader.read_record.Goals as goal
 
@@ -53,6 +54,13 @@ returns-in-Err-take_line-clause-own_failure g c =
     (has_read_then g.S.Source.is_read c.args.self.now.reader c.loop-self.self.reader c.fill.new.self c.loop-self.invariant.read c.in-Ok-true.ensures.own_failure) (line_fault c.args.self.now.reader) c.in-Err-take_line.fault
     c.in-Err-take_line.ensures.takes
 
+pub returns-in-Err-take_line-clause-for_name : goal.returns-in-Err-take_line-clause-for_name
+returns-in-Err-take_line-clause-for_name g c =
+    let fills = rw c.in-Ok-true.field-0-test at c.in-Ok-true.ensures.fills in
+    rw (view_before g.S.Source (g.Q.Sorted.sorting c.args.self.now.lookahead.rule) c.args.self.now c.requires.none c.requires.going)
+    (taken_unkept g.S.Source (g.Q.Sorted.sorting c.args.self.now.lookahead.rule) _ (ap g.Q.Sorted.sorting c.loop-self.invariant.rule) _ c.loop-self.self.reader fills.answers fills.kept c.loop-self.invariant.going c.in-Err-take_line.fault
+    c.in-Err-take_line.ensures.takes)
+
 pub returns-in-Ok-false-clause-fills : goal.returns-in-Ok-false-clause-fills
 unfolding buffered_in
 returns-in-Ok-false-clause-fills g c =
@@ -75,3 +83,8 @@ returns-in-Err-clause-own_failure g c =
     read_is_own Bool g.S.Source.is_read (line_fault c.args.self.now.reader) c.args.self.now.reader c.fill.new.self c.in-Err.fault c.loop-self.self.reader c.loop-self.invariant.read
     (still_going g.S.Source (g.Q.Sorted.sorting c.args.self.now.lookahead.rule) c.args.self.now.reader c.loop-self.self.reader c.args.self.now.lookahead c.loop-self.self.lookahead c.loop-self.invariant.going)
     c.in-Err.ensures.own_failure
+
+pub returns-in-Err-clause-for_name : goal.returns-in-Err-clause-for_name
+returns-in-Err-clause-for_name g c = λ going is none.
+    let gives = c.in-Err.ensures.fills.answers in
+    absurd (let apart : None ≡ Some (fault_value c.in-Err.fault) = sym none ∙ gives.kept in cc)
