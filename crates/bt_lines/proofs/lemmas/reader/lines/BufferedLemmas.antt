@@ -1,5 +1,5 @@
 -- Lemmas on a line that is taken of those that are buffered.
-use Rattle.bt_lines.proofs.Std.{common_steps, ◌≡◌, ◌⊎◌, ℕ, suc, ◌+◌, ◌-◌, ◌<◌, ◌≤◌, Bool, true, false, cond, List, [], ◌∷◌, ◌++◌, length, take, drop, Option, Some, refl, sym, ap, ◌∙◌, subst, append_assoc, append-nil, length-append, add-zero, arith, nat_lt, ends_with_byte, strip_last, take-append_seam, length-take, Consumes-nil, Consumes, ◌^◌, drop-drop, length-drop, take-append-drop, take_all, take-add, drop_all, drop_more}
+use Rattle.bt_lines.proofs.Std.{common_steps, ◌≡◌, ◌⊎◌, ℕ, suc, ◌+◌, ◌-◌, ◌<◌, ◌≤◌, Bool, true, false, cond, List, [], ◌∷◌, ◌++◌, length, take, drop, Option, refl, sym, ap, ◌∙◌, subst, append_assoc, append-nil, length-append, add-zero, arith, nat_lt, ends_with_byte, strip_last, take-append_seam, length-take, Consumes-nil, Consumes, ◌^◌, drop-drop, length-drop, take-append-drop, take_all, take-add, drop_all, drop_more}
 use Rattle.bt_lines.specs.declared.device.Source.{Ghosts as Source}
 use Rattle.bt_lines.proofs.lemmas.reader.block.BufferLemmas.{unread_fits, fed_none, fed_clear, fed_drop, fed_after, fed_push}
 use Rattle.bt_lines.proofs.lemmas.reader.lines.StepLemmas.{some_state, goes, told_last, gives_fed, sound_fed, gives_last, sound_last}
