@@ -7,16 +7,23 @@ ghost use Rattle.std.specs.Int.{from_le_bytes, w32, w64};
 const SHORT: usize = 8;
 
 // The longest one that two words of eight bytes cover.
-const LONGEST: usize = 16;
+const LONG: usize = 16;
+
+// The longest one that two such names cover.
+const LONGEST: usize = 32;
 
 /// Whether two names are equal. The first and the last bytes of a name of four to sixteen bytes are read as one
-/// number each, of four or eight bytes: names are compared several times a record.
+/// number each, of four or eight bytes, and a name of up to thirty-two as two of sixteen: names are compared several
+/// times a record.
 #[inline(always)]
 pub fn is_same_name(left: &[u8], right: &[u8]) -> bool
     ensures { result ≡ bytes_eq left.now right.now }
 {
     if left.len() != right.len() || left.len() > LONGEST {
         return is_same_text(left, right);
+    }
+    if left.len() > LONG {
+        return have_same_halves(left, right);
     }
     if left.len() > SHORT {
         return have_same_ends(left, right);
@@ -40,6 +47,19 @@ fn have_same_ends(left: &[u8], right: &[u8]) -> bool
         return is_same_text(left, right);
     };
     words.0 == other.0 && words.1 == other.1
+}
+
+// Whether two names of the same length, seventeen to thirty-two bytes, are equal. Those of an assembly's parts mostly
+// differ in their last bytes.
+#[inline(always)]
+fn have_same_halves(left: &[u8], right: &[u8]) -> bool
+    requires same { length left.now ≡ length right.now }
+    requires long { 16 < length left.now }
+    requires short { length left.now ≤ 32 }
+    ensures { result ≡ bytes_eq left.now right.now }
+{
+    let last = left.len() - LONG;
+    have_same_ends(&left[last..], &right[last..]) && have_same_ends(&left[..LONG], &right[..LONG])
 }
 
 // Whether two names of any length are equal. Those of an assembly's parts mostly differ in their last byte.

@@ -4,7 +4,7 @@ ghost use Rattle.std.specs.Prelude.{◌≡◌, ◌-◌, ◌≤◌, ◌++◌, len
 ghost use Rattle.bt_lines.specs.calls.Columns.{IsBefore, IsFirstOf, Lacks};
 
 use crate::writer::copying::copy_short;
-use memchr::memchr;
+use memchr::{memchr, memchr2};
 
 // How many bytes are searched at once.
 const NEAR: usize = 32;
@@ -50,16 +50,34 @@ fn late_length(byte: u8, text: &[u8], from: usize) -> usize
     requires clear { Lacks byte (take from text.now) }
     ensures { IsBefore byte text.now result }
 {
-    let mut at = from;
-    while let Some(near) = text[at..].first_chunk::<NEAR>() {
-        if let Some(place) = find_near(byte, near) {
-            return at + place;
-        }
-        at += NEAR;
+    from + rest_length(byte, &text[from..])
+}
+
+// The same of the bytes after those: it is looked for among the next ones, and then further on.
+#[inline(always)]
+fn rest_length(byte: u8, rest: &[u8]) -> usize
+    ensures { IsBefore byte rest.now result }
+{
+    let Some(near) = rest.first_chunk::<NEAR>() else {
+        return match find_near(byte, &padded(rest, !byte)) {
+            Some(at) => at,
+            None => rest.len(),
+        };
+    };
+    match find_near(byte, near) {
+        Some(at) => at,
+        None => far_length(byte, rest),
     }
-    let rest = &text[at..];
-    match find_near(byte, &padded(rest, !byte)) {
-        Some(place) => at + place,
+}
+
+// The same of many bytes, by `memchr2`, which looks at 128 at once. A second call of `memchr` wouldn't be inlined.
+#[cold]
+#[inline(never)]
+fn far_length(byte: u8, text: &[u8]) -> usize
+    ensures { IsBefore byte text.now result }
+{
+    match memchr2(byte, byte, text) {
+        Some(at) => at,
         None => text.len(),
     }
 }

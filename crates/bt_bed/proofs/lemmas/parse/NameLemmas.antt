@@ -160,6 +160,22 @@ pub long_ends_tell : (a b : List ℕ) {first last other_first other_last : ℕ} 
     → first ≡ other_first → eqb last other_last ≡ bytes_eq a b
 long_ends_tell = numbers_tell (from_le_bytes w64) 8 eights_same
 
+-- what a text has from an offset on, to its end
+to_the_end : (n : ℕ) (xs : List ℕ) → take (length xs - n) (drop n xs) ≡ drop n xs
+to_the_end n xs = ap (λ (k : ℕ). take k (drop n xs)) (sym (length-drop n xs)) ∙ take-length (drop n xs)
+
+-- sixteen bytes at each end, of names of sixteen to thirty-two: the last ones are the same
+pub halves_tell : (a b : List ℕ) → length a ≡ length b → 16 ≤ length a → length a ≤ 32
+    → bytes_eq (take (length a - (length a - 16)) (drop (length a - 16) a)) (take (length b - (length a - 16)) (drop (length a - 16) b)) ≡ true
+    → bytes_eq (take 16 a) (take 16 b) ≡ bytes_eq a b
+halves_tell a b n some short last =
+    let back : drop (length a - 16) a ≡ drop (length b - 16) b =
+    sym (to_the_end (length a - 16) a) ∙ same_name _ _ last ∙ to_the_end (length a - 16) b ∙ ap (λ (k : ℕ). drop (k - 16) b) n in
+    elim (cases_name (take 16 a) (take 16 b)) [
+      | inl same ↦ name_eq _ _ same ∙ sym (name_eq a b (ends_same 16 a b n some short same back))
+      | inr other ↦ other ∙ sym (name_ne a b (λ e. other_name _ _ other (ap (take 16) e)))
+    ]
+
 -- what is lost of a product is a multiple of the other factor
 lost_parts : (a b f k n : ℕ) → f * k ≡ n → 0 < n → (a * f) % n ≡ (b * f) % n → a + (b * f / n) * k ≡ b + (a * f / n) * k
 lost_parts a b f k n is some same =

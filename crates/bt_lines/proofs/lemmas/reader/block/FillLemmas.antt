@@ -1,5 +1,5 @@
 -- Lemmas on making a line buffered, and on the step to the next line by it.
-use Rattle.bt_lines.proofs.Std.{IsErrAnd, err_from_is_err_and, common_steps, rules, ◌≡◌, ℕ, ◌-◌, ◌<◌, Bool, true, false, List, [], ◌++◌, length, take, Option, Result, None, Some, Ok, Err, sym, ap, ◌∙◌, subst, append_assoc, length-append, arith, IfSome, ◌+◌, ◌≤◌, ◌∷◌, drop, eqb, take-add, take-append-drop, take_at, drop_at, length-take-le, length-drop, All-append, replicate, get_or, get_or-append_right, get_or-append_seam, get_or-replicate, get_or_append_left, length-replicate, drop_more, take-append-le}
+use Rattle.bt_lines.proofs.Std.{IsErrAnd, err_from_is_err_and, common_steps, rules, ◌≡◌, ℕ, ◌-◌, ◌<◌, Bool, true, false, List, [], ◌++◌, length, take, Option, Result, None, Some, Ok, Err, sym, ap, ◌∙◌, subst, append_assoc, length-append, arith, IfSome, ◌+◌, ◌≤◌, ◌∷◌, drop, eqb, take-add, take-append-drop, take_at, drop_at, length-take-le, length-drop, All-append, replicate, get_or, get_or-append_right, get_or-append_seam, get_or-replicate, get_or_append_left, length-replicate, drop_more, take-append-le, take-take}
 use Rattle.bt_lines.specs.declared.device.Source.{Ghosts as Source}
 use Rattle.bt_lines.proofs.lemmas.reader.block.ReadsLemmas.{has_read_then}
 use Rattle.bt_lines.proofs.lemmas.reader.lines.BufferedLemmas.{CutsFirst}
@@ -97,6 +97,10 @@ chunk_of text at near n e h = grind (arith, common_steps)
 pub chunk_first : (text near : List ℕ) (n : ℕ) → near ≡ take n text → n ≤ length text → Chunk text 0 near n
 chunk_first text near n e h = record { enough = h; same = e }
 
+-- what is left of a text
+pub chunk_left : (text : List ℕ) (at : ℕ) (rest : List ℕ) → rest ≡ take (length text - at) (drop at text) → Chunk text at rest (length rest)
+chunk_left text at rest e = grind (arith, common_steps)
+
 -- the first one, if some bytes before it have none
 module _ (value : ℕ) (text : List ℕ) (at : ℕ) (inside : at ≤ length text) (clear : Lacks value (take at text)) where
   pub feed_behind : (near : List ℕ) (n place : ℕ) → Chunk text at near n → IsFirstOf value near (Some place) → IsFirstOf value text (Some (at + place))
@@ -115,6 +119,23 @@ module _ (value : ℕ) (text : List ℕ) (at : ℕ) (inside : at ≤ length text
 
   pub chunk_inside : (near : List ℕ) (n : ℕ) → Chunk text at near n → at + n ≤ length text
   chunk_inside near n chunk = omega (arith, chunk.enough, length-drop at text, inside)
+
+  -- so many bytes of what is left come before it, and those before them
+  pub before_behind : (rest : List ℕ) (n : ℕ) → rest ≡ take (length text - at) (drop at text) → IsBefore value rest n → IsBefore value text (at + n)
+  before_behind rest n e is =
+      let left = chunk_left text at rest e in
+      let size : length rest ≡ length text - at = ap length e ∙ length-take-le (length text - at) (drop at text) (omega (arith, length-drop at text)) in
+      let front : Chunk text at (take n rest) n = record {
+        enough = omega (arith, is.within, left.enough);
+        same = ap (take n) left.same ∙ take-take n (length rest) (drop at text) is.within;
+      } in
+      record {
+        within = chunk_inside (take n rest) n front;
+        clear = none_behind (take n rest) n front is.clear;
+        cut = λ h.
+            let below : n < length rest = omega (arith, size, h) in
+            (feed_behind rest (length rest) n left (below, is.cut below, is.clear)).1;
+      }
 
 -- the count of bytes before it
 pub before_feed : (value : ℕ) (text : List ℕ) (n : ℕ) → IsFirstOf value text (Some n) → IsBefore value text n
@@ -140,10 +161,6 @@ module _ (value other : ℕ) (text : List ℕ) (n : ℕ) (differs : other ≡ va
       let read : get_or text place 0 ≡ value = sym (get_or_append_left text (replicate n other) 0 place inside) ∙ read_at place first in
       let cut : text ≡ take place text ++ value ∷ drop (place + 1) text = sym (take-append-drop place text) ∙ ap (λ l. take place text ++ l) (drop_more text place 0 inside ∙ ap (λ b. b ∷ drop (place + 1) text) read) in
       (inside, cut, subst (Lacks value) (take-append-le place text (replicate n other) (omega (arith, inside))) first.2)
-
--- what is left of a text
-pub chunk_left : (text : List ℕ) (at : ℕ) (rest : List ℕ) → rest ≡ take (length text - at) (drop at text) → Chunk text at rest (length rest)
-chunk_left text at rest e = grind (arith, common_steps)
 
 -- it isn't among some bytes if it isn't with others after them
 pub none_before_pad : (value : ℕ) (text others : List ℕ) → Lacks value (text ++ others) → Lacks value text
