@@ -4,7 +4,7 @@ use Rattle.bt_bed.specs.model.Feature.{Feature, interval_of, intervals_of, Inter
 use Rattle.bt_bed.specs.calls.Stretches.{IsCovered}
 use Rattle.bt_bed.specs.model.BedLine.{cut_to}
 use Rattle.bt_bed.specs.model.Genome.{Entry, genome_names}
-use Rattle.bt_bed.specs.model.Order.{is_among, Order}
+use Rattle.bt_bed.specs.model.Order.{is_among}
 use Rattle.bt_bed.specs.calls.Orders.{AreDistinct}
 use Rattle.bt_bed.specs.declared.record.strand.Strand.{Strand}
 use Rattle.bt_bed.proofs.lemmas.parse.NameLemmas.{cases_name, name_eq, name_eq-sym}
@@ -17,10 +17,8 @@ use Rattle.bt_bed.proofs.lemmas.LevelScans.{levels_more}
 use Rattle.bt_laws.specs.Counts.{depth_bases, depths_sum, IsMutual, HitPair, exchanged, pair_line, pairs_have_two_sides, pairs_of, with_sides_exchanged, PartBases, intersect_and_subtract_part}
 use Rattle.bt_laws.specs.WholeRuns.{first_records, second_records, RunWrites, RunsWithoutFault}
 use Rattle.bt_laws.proofs.lemmas.pipes.PipeLaws.{depth_both, chroms_of, genomecov_whole, intersect_whole, well_there, cut_intersect_input, subtract_input}
-use Rattle.bt_lines.specs.model.Lines.{Handed, cut_fault, lines_handed}
 use Rattle.bt_lines.specs.declared.fault.Input.TheVariants.{First, Second}
-use Rattle.bt_bed.specs.model.Good.{good, items_in, bed_format, bed_good}
-use Rattle.bt_bed.specs.model.Sorted.{sorting_of}
+use Rattle.bt_bed.specs.model.Good.{bed_good}
 use Rattle.bt_sweep.specs.model.Hits.{hits, hits_among, is_enough, shared_bases, strands_agree}
 use Rattle.bt_sweep.specs.calls.Sweeping.{any_overlap}
 use Rattle.bt_sweep.specs.model.Lines.{intersect, lines_for, pieces}
@@ -30,7 +28,7 @@ use Rattle.bt_sweep.specs.declared.output.shape.Shape.TheVariants.{OrigBoth, Cut
 use Rattle.bt_sweep.proofs.lemmas.definitions.HitLemmas.{enough_of_nothing}
 use Rattle.bt_tool.specs.model.Report.{order_of, or_empty}
 use Rattle.bt_tool.specs.declared.planning.plan_type.Command.TheVariants.{Intersect, Subtract}
-use Rattle.bt_laws.proofs.lemmas.same.SameSweeps.{writes_lines, cut_none, like_from, met_faultless, other_input, sweeps_from, other_shape, hit_back, hit_to}
+use Rattle.bt_laws.proofs.lemmas.same.SameSweeps.{writes_lines, met_faultless, other_input, sweeps_from, other_shape, hit_back, hit_to}
 use Rattle.bt_runs.specs.model.Merged.{is_covered}
 use Rattle.bt_runs.proofs.lemmas.merge.Bridging.{covered_left, covered_parts, covered_right, is_covered-Decides}
 use Rattle.bt_sweep.proofs.lemmas.definitions.PieceLemmas.{are_pieces}
@@ -235,22 +233,16 @@ unfolding lines_for
 pair_lines rule [] second = refl
 pair_lines rule (a ∷ first) second = grind (arith, (pair_lines rule first second), flat_map-map, flat_map-append)
 
--- what is good of the first input is good of it as a second one
-other_second : (order : Order) (handed : Handed) → (bed_good First order handed).fault ≡ None → (items_in (bed_good Second order handed) ≡ items_in (bed_good First order handed)) × ((bed_good Second order handed).fault ≡ None)
-other_second order handed e =
-    let lines = lines_handed handed in
-    grind (arith, (like_from (sorting_of order) First Second None lines (cut_none (good (bed_format (sorting_of order)) First lines).fault (cut_fault First handed) e).0))
-
 pub two_sides : pairs_have_two_sides
 two_sides rule held inputs chromosomes even well =
     let order = order_of chromosomes in
     let firsts = first_records chromosomes inputs in
     let seconds = second_records chromosomes inputs in
     let nones = met_faultless order OrigBoth rule held (bed_good First order inputs.first) (bed_good Second order (or_empty inputs.second)) (well_there (Intersect OrigBoth rule held) inputs chromosomes well) in
-    let one = other_input order (or_empty inputs.second) nones.1 in
-    let two = other_second order inputs.first nones.0 in
+    let one = other_input order Second First (or_empty inputs.second) nones.1 in
+    let two = other_input order First Second inputs.first nones.0 in
     let lines : intersect OrigBoth rule (first_records chromosomes (exchanged inputs)) (second_records chromosomes (exchanged inputs)) ≡ flat_map pair_line (pairs_of rule seconds firsts) =
-    ap₂ (intersect OrigBoth rule) one.0 two.0 ∙ pair_lines rule seconds firsts in (
+    ap₂ (intersect OrigBoth rule) one.items two.items ∙ pair_lines rule seconds firsts in (
       subst (RunWrites (Intersect OrigBoth rule held) inputs) (pair_lines rule firsts seconds) (writes_lines OrigBoth rule held inputs chromosomes well),
       sweeps_from (Intersect OrigBoth rule None) (exchanged inputs) chromosomes (flat_map pair_line (pairs_of rule seconds firsts)) well.genome
           (grind arith)

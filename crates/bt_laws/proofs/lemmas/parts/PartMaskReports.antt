@@ -15,7 +15,7 @@ use Rattle.bt_seq.specs.model.Masked.{masked_line, names_of, decided, is_unnamed
 use Rattle.bt_seq.specs.declared.mask.mask_how.MaskHow.{MaskHow}
 use Rattle.bt_laws.specs.Parts.{BelongsToNone, MasksNone, begins_sequence, sequence_names, StandsBefore, said_records, Texts}
 use Rattle.bt_tool.specs.model.Written.{Report}
-use Rattle.bt_laws.proofs.lemmas.parts.PartSequences.{BeginsElsewhere, calm_joint, fresh_joint, sound_from, among_from, faulty_same, first_front, AreBothBy, fasta_both, line_after, names_begin, names_both, names_grown, second_named, second_sound, unnamed_from}
+use Rattle.bt_laws.proofs.lemmas.parts.PartSequences.{BeginsElsewhere, calm_joint, fresh_joint, sound_from, faulty_same, first_front, AreBothBy, fasta_both, line_after, names_begin, names_both, names_grown, second_named, second_sound, unnamed_from, among, named_more}
 use Rattle.bt_laws.proofs.lemmas.parts.PartMasked.{IsSound, lines_both, mask_good, report_sound, sound_output, sound_report, line_second, lines_first, told_lost}
 use Rattle.bt_laws.proofs.lemmas.parts.PartGenomes.{AreOff, IsLost, apart_next, both_owned, leave_append, lost_more, lost_off, any_behind, any_lost, any_second, later_leave, none_behind, left_fewer, tags_first}
 use Rattle.bt_laws.proofs.lemmas.parts.PartReports.{Adds, Stops}
@@ -23,6 +23,12 @@ use Rattle.bt_lines.specs.declared.fault.Kind.TheVariants.{NoSequence}
 use Rattle.bt_bed.proofs.lemmas.Definitions.{all_written, met_lines, written_at, written_past}
 use Rattle.bt_runs.proofs.lemmas.Lists.{all_so, flat_map_same, all_map}
 use Rattle.bt_laws.proofs.lemmas.parts.PartSweep.{all_true, take_front, written_before}
+use Rattle.bt_bed.specs.model.Sorted.{block_sorting}
+
+-- records that belong to none begin on another chromosome
+begins_elsewhere : (names rest : List (List ℕ)) (ones : List Feature) → leave (Some names) None ones ≡ Some rest → (twos : List Feature) → IsLost names ones twos → BeginsElsewhere (last_from None ones) twos
+begins_elsewhere names rest ones kept [] lost = tt
+begins_elsewhere names rest ones kept (r ∷ rs) lost = apart_next names rest ones kept r rs lost
 
 module _ (how : MaskHow) (full : Bool) where
   -- what is good of FASTA text, and of records in blocks
@@ -75,16 +81,12 @@ module _ (how : MaskHow) (full : Bool) where
       rest_of : (rest : List (List ℕ)) × (leave (Some (fasta_names one.first)) None (block_records one.second) ≡ Some rest)
       rest_of = some_list (leave (Some (fasta_names one.first)) None (block_records one.second)) first.owned
 
-      elsewhere : (twos : List Feature) → IsLost (fasta_names one.first) (block_records one.second) twos → BeginsElsewhere (last_from None (block_records one.second)) twos
-      elsewhere [] lost = tt
-      elsewhere (r ∷ rs) lost = apart_next (fasta_names one.first) rest_of.0 (block_records one.second) rest_of.1 r rs lost
-
       records_two : block_records two.second ≡ said_records two.second
-      records_two = sound_from Second None (text_lines two.second) second.records
+      records_two = sound_from block_sorting Second None (text_lines two.second) second.records
 
       records_both : (block_records (one.second ++ two.second) ≡ block_records one.second ++ block_records two.second) × ((blocks_of (one.second ++ two.second)).fault ≡ None)
       records_both =
-          let joint = fresh_joint Second one.second two.second are.second first.records (subst (BeginsElsewhere (last_from None (block_records one.second))) records_two (elsewhere (block_records two.second) lost)) in
+          let joint = fresh_joint Second one.second two.second are.second first.records (subst (BeginsElsewhere (last_from None (block_records one.second))) records_two (begins_elsewhere (fasta_names one.first) rest_of.0 (block_records one.second) rest_of.1 (block_records two.second) lost)) in
           (joint.0, grind arith)
 
       pub whole_sound : IsSound (fasta_of (one.first ++ two.first)) (blocks_of (one.second ++ two.second))
@@ -121,7 +123,7 @@ module _ (how : MaskHow) (full : Bool) where
       lost_names e twos off = lost_off (fasta_names one.first) (block_records one.second) twos (subst (λ names. AreOff names twos) (sym (names_grown full First one.first e)) off)
 
       lost_sound : IsSound (fasta_of one.first) (blocks_of one.second) → IsSound (fasta_of two.first) (blocks_of two.second) → IsLost (fasta_names one.first) (block_records one.second) (block_records two.second)
-      lost_sound first second = lost_names first.lines (block_records two.second) (subst (AreOff (sequence_names full one.first)) (sym (sound_from Second None (text_lines two.second) second.records)) off_one)
+      lost_sound first second = lost_names first.lines (block_records two.second) (subst (AreOff (sequence_names full one.first)) (sym (sound_from block_sorting Second None (text_lines two.second) second.records)) off_one)
 
       -- if both are sound, so is each part
       module _ (whole : IsSound (fasta_of (one.first ++ two.first)) (blocks_of (one.second ++ two.second))) where
@@ -137,10 +139,10 @@ module _ (how : MaskHow) (full : Bool) where
         ones_off : AreOff (fasta_names two.first) (block_records one.second)
         ones_off =
             subst (λ names. AreOff names (block_records one.second)) (sym (names_grown full First two.first (second_sound full First one.first two.first are.first are.begins)))
-            (subst (AreOff (sequence_names full two.first)) (sym (sound_from Second None (text_lines one.second) calm.0)) off_two)
+            (subst (AreOff (sequence_names full two.first)) (sym (sound_from block_sorting Second None (text_lines one.second) calm.0)) off_two)
 
         twos_lost : IsLost (fasta_names one.first) (block_records one.second) (block_records two.second)
-        twos_lost = lost_names lines_one (block_records two.second) (subst (AreOff (sequence_names full one.first)) (sym (sound_from Second None (text_lines two.second) calm.1)) off_one)
+        twos_lost = lost_names lines_one (block_records two.second) (subst (AreOff (sequence_names full one.first)) (sym (sound_from block_sorting Second None (text_lines two.second) calm.1)) off_one)
 
         by_left : (o : Option (List (List ℕ))) → leave (Some (fasta_names one.first)) None (block_records one.second) ≡ o
             → IsSound (fasta_of one.first) (blocks_of one.second) × IsSound (fasta_of two.first) (blocks_of two.second)
@@ -237,7 +239,7 @@ module _ (how : MaskHow) (full : Bool) where
     ones_away : AreOff (N two.first) (R one.second)
     ones_away =
         subst (λ names. AreOff names (R one.second)) (sym (names_grown full First two.first (second_sound full First one.first two.first are.first are.begins)))
-        (among_from Second _ None (text_lines one.second) off_two)
+        (among Second _ (text_lines one.second) off_two)
 
     lost_on : (F one.first).fault ≡ None → (twos : List Feature) → AreOff (sequence_names full one.first) twos → IsLost (N one.first) (R one.second) twos
     lost_on e twos off = lost_off (N one.first) (R one.second) twos (subst (λ names. AreOff names twos) (sym (names_grown full First one.first e)) off)
@@ -289,11 +291,7 @@ module _ (how : MaskHow) (full : Bool) where
         where
           by_names : (line : SequenceLine) (own : List (List ℕ)) → line.names ≡ own → is_unnamed own ≡ false → (is_unnamed (N one.first ++ line.names) || list_any (tag_decides (bases_up_to line)) (tags_of (N one.first ++ line.names) (R one.second))) ≡ false
           by_names line [] is u = cc
-          by_names line (n ∷ ns) is u = grind (arith, named, any_behind)
-            where
-              named : (names : List (List ℕ)) → is_unnamed (names ++ n ∷ ns) ≡ false
-              named [] = refl
-              named (m ∷ ms) = refl
+          by_names line (n ∷ ns) is u = grind (arith, (named_more (N one.first) (n ∷ ns) refl), any_behind)
 
           each : (line : SequenceLine) → is_unnamed line.names ≡ false → (mask_rule how names second).decided (line_after (N one.first) line) ≡ false
           each line u =
@@ -312,14 +310,10 @@ module _ (how : MaskHow) (full : Bool) where
 
       module _ (records : (B one.second).fault ≡ None) where
         lost : IsLost (N one.first) (R one.second) (R two.second)
-        lost = lost_on lines (R two.second) (among_from Second _ None (text_lines two.second) off_one)
-
-        others_begin : (twos : List Feature) → IsLost (N one.first) (R one.second) twos → BeginsElsewhere (last_from None (R one.second)) twos
-        others_begin [] gone = tt
-        others_begin (r ∷ rs) gone = apart_next (N one.first) rest (R one.second) kept r rs gone
+        lost = lost_on lines (R two.second) (among Second _ (text_lines two.second) off_one)
 
         joint : (R (one.second ++ two.second) ≡ R one.second ++ R two.second) × (is_none (B (one.second ++ two.second)).fault ≡ is_none (B two.second).fault)
-        joint = fresh_joint Second one.second two.second are.second records (others_begin (said_records two.second) (lost_on lines (said_records two.second) off_one))
+        joint = fresh_joint Second one.second two.second are.second records (begins_elsewhere (N one.first) rest (R one.second) kept (said_records two.second) (lost_on lines (said_records two.second) off_one))
 
         first_output : (report_on one).output ≡ flat_map (masked_line how (R one.second)) (items_in (F one.first))
         first_output = sound_output how (F one.first) (B one.second) records
@@ -370,15 +364,11 @@ module _ (how : MaskHow) (full : Bool) where
             each : (line : SequenceLine) → (more : List (List ℕ)) × (N one.first ≡ line.names ++ more) → W.decided line ≡ true
             each line begins = grind (arith, joint, decided_by_tags, tags_first, list_any-append, left_fewer, lost)
 
-            named : (names : List (List ℕ)) (n : List ℕ) (ns : List (List ℕ)) → is_unnamed (names ++ n ∷ ns) ≡ false
-            named [] n ns = refl
-            named (m ∷ ms) n ns = refl
-
             by_names : (line : SequenceLine) (own : List (List ℕ)) → line.names ≡ own → is_unnamed own ≡ false
                 → (is_unnamed (N one.first ++ line.names) || list_any (tag_decides (bases_up_to line)) (tags_of (N one.first ++ line.names) (R one.second ++ R two.second)))
                 ≡ (is_unnamed line.names || list_any (tag_decides (bases_up_to line)) (tags_of line.names (R two.second)))
             by_names line [] is u = cc
-            by_names line (n ∷ ns) is u = grind (arith, named, any_second, lost)
+            by_names line (n ∷ ns) is u = grind (arith, (named_more (N one.first) (n ∷ ns) refl), any_second, lost)
 
             same : (line : SequenceLine) → is_unnamed line.names ≡ false → (W.decided (line_after (N one.first) line) ≡ (rule_on two).decided line) × (W.lines (line_after (N one.first) line) ≡ (rule_on two).lines line)
             same line u = (

@@ -15,7 +15,7 @@ use Rattle.bt_sweep.specs.declared.output.shape.Shape.{Shape}
 use Rattle.bt_laws.specs.Parts.{unless_fault}
 use Rattle.bt_tool.specs.model.Written.{Report, met_report}
 use Rattle.bt_laws.proofs.lemmas.parts.PartBed.{Earlier}
-use Rattle.bt_runs.proofs.lemmas.Lists.{all_any, all_so, all_swapped, filter_none, flat_map_same}
+use Rattle.bt_runs.proofs.lemmas.Lists.{all_any, all_so, all_swapped, filter_none, flat_map_same, none_from}
 use Rattle.bt_laws.proofs.lemmas.parts.PartReports.{Adds, Stops, Contiguous, Joins}
 
 -- ---- lists up to the first that fails a test
@@ -42,10 +42,6 @@ take_front t l (x ∷ xs) = let more = front_by l x xs (take_while t xs) (t x) (
 pub all_true : {A : Type 0} (t : A → Bool) (xs : List A) → AllByRecursion (λ x. t x ≡ true) xs → list_all t xs ≡ true
 all_true t [] h = refl
 all_true t (x ∷ xs) h = ap (λ b. b && list_all t xs) h.0 ∙ all_true t xs h.1
-
-pub any_false : {A : Type 0} (t : A → Bool) (xs : List A) → AllByRecursion (λ x. t x ≡ false) xs → list_any t xs ≡ false
-any_false t [] h = refl
-any_false t (x ∷ xs) h = ap (λ b. b || list_any t xs) h.0 ∙ any_false t xs h.1
 
 pub any_behind : {A : Type 0} (t : A → Bool) (xs ys : List A) → AllByRecursion (λ x. t x ≡ false) xs → list_any t (xs ++ ys) ≡ list_any t ys
 any_behind t [] ys h = refl
@@ -134,7 +130,7 @@ module _ {order : Order} {total : IsTotal order} (shape : Shape) (rule : HitRule
   -- if the second input of the first part is at fault, nothing after it is written
   module _ (f : FaultValue) (fa1 fa2 fa fb2 fb : Option FaultValue) (all bs : List Feature) (ja : Contiguous fa1 fa2 fa aones atwos all) (jb : Contiguous (Some f) fb2 fb bones btwos bs) where
     written_one : (fa1 : Option FaultValue) → Contiguous fa1 fa2 fa aones atwos all → written (sweep_rule order shape rule bones (Some f)) all ≡ written (sweep_rule order shape rule bones (Some f)) aones
-    written_one None j = grind (arith, (written_before (sweep_rule order shape rule bones (Some f)) aones atwos (all_so _ _ atwos (λ a h. any_false (decides order a) bones h) none_second)))
+    written_one None j = grind (arith, (written_before (sweep_rule order shape rule bones (Some f)) aones atwos (all_so _ _ atwos (λ a h. none_from (decides order a) bones h) none_second)))
     written_one (Some g) j = ap (written (sweep_rule order shape rule bones (Some f))) j.0
 
     stops_second : Stops (sweep_report order shape rule aones fa1 bones (Some f)) (sweep_report order shape rule atwos fa2 btwos fb2) (sweep_report order shape rule all fa bs fb)

@@ -47,7 +47,7 @@ module _ (split cigar : Bool) where
   lines_split ones twos = grind (arith, flat_map-append, append-nil)
 
   sam_joint : (one two : List ℕ) → StandsBefore one two → IsJoint (good sam_format First (text_lines one)) (good sam_format First (text_lines two)) (good sam_format First (text_lines (one ++ two)))
-  sam_joint one two ends = good_joint sam_format First (λ state. Unit {0}) one two ends (λ state l m e d. ap alignment_of e) tt (λ n now leads. refl) (all_any _ (text_lines one) (λ l state item leads e. tt))
+  sam_joint one two ends = good_joint sam_format First one two ends (λ state l m e d. ap alignment_of e) (λ n. refl)
 
   sam_joins : (one two : List ℕ) → StandsBefore one two → Joins (on_sam one) (on_sam two) (on_sam (one ++ two))
   unfolding on_sam
@@ -104,7 +104,7 @@ module _ (order : Order) (total : IsTotal order) where
   pair_report shape rule first second = sweep_report order shape rule (text_records First first) (bed_text_good First first).fault (text_records Second second) (bed_text_good Second second).fault
 
   known_all : (input : Input) (text : List ℕ) → AllByRecursion (λ r. IsTrue (order.knows r.chrom)) (text_records input text)
-  known_all input text = items_all order total input (λ r. IsTrue (order.knows r.chrom)) None (text_lines text) (all_any _ _ (λ r known. known))
+  known_all input text = items_all (sorting_of order) input (λ r. IsTrue (order.knows r.chrom)) None (text_lines text) (all_any _ _ (λ r known. known))
 
   module _ (shape : Shape) (rule : HitRule) (a_one b_one a_two b_two : List ℕ) (a_ends : StandsBefore a_one a_two) (b_ends : StandsBefore b_one b_two)
       (before : ComeBefore order (said_records a_one ++ said_records b_one) (said_records a_two ++ said_records b_two)) where

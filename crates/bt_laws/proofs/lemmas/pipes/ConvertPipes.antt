@@ -1,13 +1,12 @@
 -- The lines of alignments that are sorted are an input.
-use Rattle.bt_lines.proofs.Std.{common_steps, rules, ◌≡◌, ℕ, ◌<◌, ◌≤◌, Bool, true, false, cond, List, [], ◌∷◌, ◌++◌, append-nil, append_assoc, map, filter, length, Option, Some, None, Result, Ok, refl, sym, ap, ◌∙◌, subst, arith, eqb, decimal, codes, if◌then◌else◌, AllByRecursion, join_with_byte, ends_with_byte, strip_last, All-append, All-cons, All-from_recursion, All-nil, join_with_byte-slice_split, suc, ap₂, flat_map, get_or-append-add, length-append}
+use Rattle.bt_lines.proofs.Std.{common_steps, rules, ◌≡◌, ℕ, ◌<◌, ◌≤◌, Bool, true, false, cond, List, [], ◌∷◌, ◌++◌, append-nil, append_assoc, map, filter, length, Option, Some, None, Ok, refl, sym, ap, ◌∙◌, subst, arith, eqb, decimal, codes, if◌then◌else◌, AllByRecursion, join_with_byte, ends_with_byte, strip_last, All-append, All-cons, All-from_recursion, All-nil, join_with_byte-slice_split, suc, ap₂, flat_map, get_or-append-add, length-append}
 use Rattle.std.specs.Prelude.{option_and_then}
 use Rattle.bt_lines.specs.model.Lines.{lines_handed, TextLine, pieces, end_bytes, fed_line, last_line, lines_from}
 use Rattle.bt_lines.specs.calls.Line.{NoLineFeed}
 use Rattle.bt_lines.specs.declared.fault.Input.{Input}
 use Rattle.bt_lines.specs.declared.fault.Input.TheVariants.{First}
-use Rattle.bt_lines.specs.declared.fault.Kind.{Kind}
 use Rattle.bt_lines.proofs.lemmas.reader.lines.TextLemmas.{IsColumn, IsInside, strip_last-other, lines_from-fed, lines_from-last, lines_from-nil, by_lines}
-use Rattle.bt_bed.specs.model.Good.{Good, good_from, good_with, items_in}
+use Rattle.bt_bed.specs.model.Good.{Good, good_from, items_in}
 use Rattle.bt_bed.specs.model.BedLine.{kept_columns, strand_of}
 use Rattle.bt_bed.specs.calls.Features.{IsName, columns_in}
 use Rattle.bt_bed.specs.declared.record.strand.Strand.TheVariants.{Plus, Minus}
@@ -17,11 +16,13 @@ use Rattle.bt_tool.specs.model.Written.{alignment_lines}
 use Rattle.bt_tool.specs.model.Report.{Inputs, chromosomes_of, report_of, report_on}
 use Rattle.bt_tool.specs.declared.planning.plan_type.Command.TheVariants.{BamToBed}
 use Rattle.bt_laws.specs.Pipes.{aligned_at, aligned_record, alignments_of, bamtobed_is_input, IsInput, is_no_header}
-use Rattle.bt_laws.proofs.lemmas.pipes.LinesBack.{AreClear, clear_back, clear_both, clear_front, clear_tab, clear_number, number_column, Columns, IsColumns, record_back, text_of_columns, written_back, ends_both, strip_both, clear_handed, clear_strip}
+use Rattle.bt_laws.proofs.lemmas.pipes.LinesBack.{clear_back, clear_both, clear_front, clear_tab, clear_number, Columns, IsColumns, record_back, text_of_columns, written_back, ends_both, strip_both, clear_handed, clear_strip}
 use Rattle.bt_runs.proofs.lemmas.Lists.{all_so}
 use Rattle.bt_lines.specs.declared.reader.line.LineEnd.{LineEnd}
 use Rattle.bt_lines.specs.declared.reader.line.LineEnd.TheVariants.{Absent, Cr, CrLf, Lf}
 use Rattle.bt_seq.specs.model.Masked.{Reached, SequenceLine, is_header, sequence_format}
+use Rattle.bt_laws.proofs.lemmas.parts.PartLines.{items_so}
+use Rattle.bt_laws.proofs.lemmas.single.Records.{number_column}
 
 -- ---- columns of a text
 
@@ -91,15 +92,6 @@ line_aligned : (text : List ℕ) (a : Alignment) → NoLineFeed text → alignme
 unfolding alignment_of
 line_aligned text a clear e =
     said_by (fields_of (pieces 9 text)) a (λ f is. fields_columns (pieces 9 text) f (pieces_are_columns text) (clear_columns text clear) is) (grind arith)
-
-aligned_with : (input : Input) (n : ℕ) (text : List ℕ) (said : Result (Option Alignment) Kind) (rest : Unit {0} → Good Alignment) → NoLineFeed text → alignment_of text ≡ said
-    → AllByRecursion IsAligned (items_in (rest tt)) → AllByRecursion IsAligned (items_in (good_with sam_format input n tt said rest))
-aligned_with input n text said rest clear e h = grind (arith, line_aligned)
-
-aligned_lines : (input : Input) (lines : List TextLine) → AreClear lines → AllByRecursion IsAligned (items_in (good_from sam_format input tt lines))
-unfolding good_from
-aligned_lines input [] clear = tt
-aligned_lines input (line ∷ lines) clear = aligned_with input line.number line.text (alignment_of line.text) (λ now. good_from sam_format input now lines) clear.0 refl (aligned_lines input lines clear.1)
 
 -- ---- its line
 
@@ -189,7 +181,7 @@ pub bamtobed_input : bamtobed_is_input
 unfolding report_of
 bamtobed_input cigar inputs order total none placed =
     let all = alignments_of inputs in
-    let aligned = aligned_lines First (lines_handed inputs.first) (clear_handed inputs.first) in
+    let aligned = items_so sam_format First IsAligned tt (lines_handed inputs.first) (all_so _ _ (lines_handed inputs.first) (λ line clear now a e. line_aligned line.text a clear e) (clear_handed inputs.first)) in
     subst (λ text. IsInput order text (filter is_no_header (map (aligned_record cigar) all))) (sym (output_is inputs cigar none))
     (written_back order total (bed_lines false cigar) (aligned_columns cigar) (aligned_record cigar) all (line_as cigar) (all_so _ _ all (record_is cigar) aligned) (all_so _ _ all (columns_aligned cigar) aligned) placed)
 

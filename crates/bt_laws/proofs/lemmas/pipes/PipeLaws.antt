@@ -35,7 +35,7 @@ use Rattle.bt_tool.specs.declared.planning.plan_type.Command.TheVariants.{Comple
 use Rattle.bt_laws.specs.WholeRuns.{RunsWithoutFault, first_records, second_records}
 use Rattle.bt_laws.specs.Pipes.{complement_is_input, cut_intersect_is_input, cut_strands_stay, genomecov_is_input, intersect_is_input, kept_places_stay, kept_records_stay, kept_strands_stay, merge_is_input, subtract_is_input, whole_subtract_is_input, begins_with_a, records_written, AreSeparate, AreDisjoint, IsInput, four_columns, is_no_header, three_columns, complement_writes_disjoint, genomecov_writes_disjoint, merge_writes_disjoint}
 use Rattle.bt_runs.proofs.lemmas.Lists.{EachPair, pairs_all, pairs_each}
-use Rattle.bt_laws.proofs.lemmas.pipes.RunsBack.{coverage_back, depths_disjoint, gaps_back, gaps_pairs, intervals_back, merge_apart, merge_back, runs_back, strands_written}
+use Rattle.bt_laws.proofs.lemmas.pipes.RunsBack.{coverage_back, depths_in_order, gaps_back, gaps_in_order, intervals_back, merge_in_order, merge_back, runs_back, strands_written}
 use Rattle.bt_laws.proofs.lemmas.pipes.LinesBack.{IsChrom, IsSaid, genome_chroms, good_are_said}
 use Rattle.bt_laws.proofs.lemmas.pipes.SweepBack.{cut_back, kept_back, pieces_back}
 use Rattle.bt_laws.proofs.lemmas.pipes.SweepRead.{all_read, cut_stay, places_stay, records_stay, strands_stay}
@@ -93,7 +93,7 @@ module _ (d : ℕ) (inputs : Inputs) (chromosomes : Option (List Entry)) where
   pooled strand e = (
     e,
     subst (λ text. IsInput order_used text (map three_columns (ordered_runs order_used d strand merged_records))) (sym e) (merge_back order_used total d strand merged_records (good_are_said First order_used inputs.first) placed),
-    λ other. pairs_all AreSeparate (ordered_runs order_used d strand merged_records) (merge_apart order_used total d strand merged_records (good_are_said First order_used inputs.first) placed),
+    λ other. pairs_all AreSeparate (ordered_runs order_used d strand merged_records) (merge_in_order order_used total d strand merged_records (good_are_said First order_used inputs.first) placed).pairs,
   )
 
 pub merge_input : merge_is_input
@@ -120,7 +120,7 @@ unfolding complement
 gaps_input limit genome None records e = (intervals_back byte_order bytes_total [] tt tt, tt)
 gaps_input limit genome (Some entries) records e =
     let known = chroms_of genome entries e in
-    (gaps_back entries known.0 known.1 limit records, gaps_pairs entries known.0 known.1 limit records)
+    (gaps_back entries known.0 known.1 limit records, (gaps_in_order entries known.0 known.1 limit records).pairs)
 
 pub complement_input : complement_is_input
 complement_input limit inputs chromosomes well =
@@ -135,7 +135,7 @@ unfolding coverage
 depths_input zeros strand genome None records e = (intervals_back byte_order bytes_total [] tt tt, tt)
 depths_input zeros strand genome (Some entries) records e =
     let known = chroms_of genome entries e in
-    (coverage_back entries known.0 known.1 zeros strand records, depths_disjoint entries known.0 known.1 zeros strand records)
+    (coverage_back entries known.0 known.1 zeros strand records, (depths_in_order entries known.0 known.1 zeros strand records).pairs)
 
 pub genomecov_whole : (zeros : Bool) (strand : Option Strand) (inputs : Inputs) (chromosomes : Option (List Entry)) → RunsWithoutFault (Coverage zeros strand) inputs chromosomes
     → (report_of (Coverage zeros strand) inputs).output ≡ depth_lines (coverage zeros strand (entries_in chromosomes) (first_records chromosomes inputs))

@@ -71,6 +71,11 @@ names_pairs (n ∷ ns) distinct = grind (arith, (others n ns distinct.0), (rank_
 
 -- ---- intervals chromosome by chromosome
 
+-- intervals in order, each pair of which is so
+pub record AreInOrder (order : Order) (R : Interval → Interval → Type 0) (rs : List Interval) : Type 0 where
+  pub placed : ArePlaced order rs
+  pub pairs : EachPair R rs
+
 module _ (order : Order) (total : IsTotal order) where
   placed_both : (xs ys : List Interval) → ArePlaced order xs → ArePlaced order ys → AllByRecursion (λ r. AllByRecursion (λ s. Earlier order r.chrom s.chrom) ys) xs → ArePlaced order (xs ++ ys)
   placed_both [] ys one two early = two
@@ -86,19 +91,19 @@ module _ (order : Order) (total : IsTotal order) where
         (λ j less. all_so (λ s. s.chrom ≡ name j) (λ s. Earlier order r.chrom s.chrom) (part j) (λ s there. rw (here, there) less) (on j)) later))
         (on k)
 
-    pub parts_placed : (ks : List K) → EachPair (λ j k. Earlier order (name j) (name k)) ks → AllByRecursion (λ k. ArePlaced order (part k)) ks → ArePlaced order (flat_map part ks)
-    parts_placed [] early placed = tt
-    parts_placed (k ∷ ks) early placed = placed_both (part k) (flat_map part ks) placed.0 (parts_placed ks early.1 placed.1) (behind_parts k ks early.0)
-
     -- pairs of different chromosomes are as they may be
-    pub parts_pairs : (R : Interval → Interval → Type 0) → ((r s : Interval) → (r.chrom ≡ s.chrom → ⊥) → R r s) → (ks : List K) → AllByRecursion (λ k. IsTrue (order.knows (name k))) ks
-        → EachPair (λ j k. Earlier order (name j) (name k)) ks → AllByRecursion (λ k. EachPair R (part k)) ks → EachPair R (flat_map part ks)
-    parts_pairs R other [] known early pairs = tt
-    parts_pairs R other (k ∷ ks) known early pairs =
-        pairs_both R (part k) (flat_map part ks) pairs.0 (parts_pairs R other ks known.1 early.1 pairs.1)
-        (all_zip (λ r. r.chrom ≡ name k) (λ r. AllByRecursion (λ s. Earlier order r.chrom s.chrom) (flat_map part ks)) (λ r. AllByRecursion (R r) (flat_map part ks)) (part k)
-        (λ r here later. all_so (λ s. Earlier order r.chrom s.chrom) (R r) (flat_map part ks) (λ s less. other r s (grind arith)) later)
-        (on k) (behind_parts k ks early.0))
+    pub parts_in_order : (R : Interval → Interval → Type 0) → ((r s : Interval) → (r.chrom ≡ s.chrom → ⊥) → R r s) → (ks : List K) → AllByRecursion (λ k. IsTrue (order.knows (name k))) ks
+        → EachPair (λ j k. Earlier order (name j) (name k)) ks → AllByRecursion (λ k. AreInOrder order R (part k)) ks → AreInOrder order R (flat_map part ks)
+    parts_in_order R other [] known early are = record { placed = tt; pairs = tt }
+    parts_in_order R other (k ∷ ks) known early are =
+        let rest = parts_in_order R other ks known.1 early.1 are.1 in
+        let behind = behind_parts k ks early.0 in
+        record {
+          placed = placed_both (part k) (flat_map part ks) are.0.placed rest.placed behind;
+          pairs = pairs_both R (part k) (flat_map part ks) are.0.pairs rest.pairs
+              (all_zip (λ r. r.chrom ≡ name k) (λ r. AllByRecursion (λ s. Earlier order r.chrom s.chrom) (flat_map part ks)) (λ r. AllByRecursion (R r) (flat_map part ks)) (part k)
+              (λ r here later. all_so (λ s. Earlier order r.chrom s.chrom) (R r) (flat_map part ks) (λ s less. other r s (grind arith)) later) (on k) behind);
+        }
 
 -- ---- spans of one chromosome
 
@@ -113,7 +118,7 @@ pub apart_pairs : (first : ℕ) (spans : List Span) → AreApartFrom first spans
 apart_pairs first [] h = tt
 apart_pairs first (s ∷ ss) h = (apart_behind (s.stop + 1) s.stop ss (omega arith) h.2, apart_pairs (s.stop + 1) ss h.2)
 
-pub spans_apart : (name : List ℕ) (spans : List Span) → EachPair (λ (s t : Span). s.stop < t.start) spans → EachPair AreSeparate (map (placed_on name) spans)
+spans_apart : (name : List ℕ) (spans : List Span) → EachPair (λ (s t : Span). s.stop < t.start) spans → EachPair AreSeparate (map (placed_on name) spans)
 spans_apart name spans h = pairs_map AreSeparate (placed_on name) spans (pairs_so (λ s. Unit {0}) (λ (s t : Span). s.stop < t.start) (λ s t. AreSeparate (placed_on name s) (placed_on name t)) spans (λ s t p q less same. less) (all_any (λ s. Unit {0}) spans (λ s. tt)) h)
 
 module _ (order : Order) (name : List ℕ) (known : IsTrue (order.knows name)) where
@@ -121,6 +126,9 @@ module _ (order : Order) (name : List ℕ) (known : IsTrue (order.knows name)) w
   spans_before first s [] up h = tt
   spans_before first s (t ∷ ts) up h = inr (refl, omega (arith, up, h.0))
 
-  pub spans_placed : (first : ℕ) (spans : List Span) → AreApartFrom first spans → ArePlaced order (map (placed_on name) spans)
+  spans_placed : (first : ℕ) (spans : List Span) → AreApartFrom first spans → ArePlaced order (map (placed_on name) spans)
   spans_placed first [] h = tt
   spans_placed first (s ∷ ss) h = (known, spans_before (s.stop + 1) s ss (omega (arith, h.1)) h.2, spans_placed (s.stop + 1) ss h.2)
+
+  pub spans_in_order : (spans : List Span) → AreApartFrom 0 spans → AreInOrder order AreSeparate (map (placed_on name) spans)
+  spans_in_order spans h = record { placed = spans_placed 0 spans h; pairs = spans_apart name spans (apart_pairs 0 spans h) }

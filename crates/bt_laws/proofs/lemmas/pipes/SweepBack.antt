@@ -185,9 +185,7 @@ map_at shape a (b ∷ bs) h = ap₂ (λ x y. x ∷ y) (h b) (map_at shape a bs h
 
 part_at : (shape : Shape) (a : Feature) (found : List Feature) → begins_with_a shape ≡ true → map (λ line. line.at) (columns_for shape a found) ≡ replicate (line_count shape (length found)) (interval_of a)
 unfolding columns_for hit_columns
-part_at Cut a found e = cc
 part_at OrigA a found e = map_at OrigA a found (λ b. refl)
-part_at CutAndB a found e = cc
 part_at OrigBoth a found e = map_at OrigBoth a found (λ b. refl)
 part_at Overlap a found e = map_at Overlap a found (λ b. refl)
 part_at Once a [] e = refl
@@ -195,9 +193,9 @@ part_at Once a (b ∷ more) e = refl
 part_at Missing a [] e = refl
 part_at Missing a (b ∷ more) e = refl
 part_at Count a found e = refl
-part_at Pieces a found e = cc
 part_at Whole a [] e = refl
 part_at Whole a (b ∷ more) e = refl
+part_at _ a found e = cc
 
 repeated : {A : Type 0} (P : A → Type 0) (n : ℕ) (x : A) → P x → AllByRecursion P (replicate n x)
 repeated P zero x p = tt
@@ -283,13 +281,7 @@ part_within Cut rule a is found e h = all_map (IsWithin a) (hit_columns Cut a) f
 part_within CutAndB rule a is found e h = all_map (IsWithin a) (hit_columns CutAndB a) found (all_so (Hit rule a) (λ b. IsWithin a (hit_columns CutAndB a b)) found (λ b k. cut_within rule a b (a.rest ++ 9 ∷ bed_text b) k) h)
 part_within Pieces rule a is found e h = all_map (IsWithin a) (piece_columns a) (pieces a found) (all_so (λ (p : Span). (a.start ≤ p.start) × (p.start < p.stop) × (p.stop ≤ a.stop)) (λ p. IsWithin a (piece_columns a p)) (pieces a found)
     (λ p k. record { same = refl; from_start = k.0; non_empty = k.1; to_stop = k.2 }) (piece_bounds rule a is found))
-part_within OrigA rule a is found e h = cc
-part_within OrigBoth rule a is found e h = cc
-part_within Overlap rule a is found e h = cc
-part_within Once rule a is found e h = cc
-part_within Missing rule a is found e h = cc
-part_within Count rule a is found e h = cc
-part_within Whole rule a is found e h = cc
+part_within _ rule a is found e h = cc
 
 -- starts that don't fall
 abbrev Rise : Feature → Feature → Type 0
@@ -307,13 +299,7 @@ module _ (order : Order) (total : IsTotal order) where
   part_rises Cut a found e h = pairs_map LineUpTo (hit_columns Cut a) found (pairs_so (λ b. Unit {0}) Rise (λ b c. LineUpTo (hit_columns Cut a b) (hit_columns Cut a c)) found (λ b c p q up. inr (refl, omega (arith, up))) (all_any (λ b. Unit {0}) found (λ b. tt)) h)
   part_rises CutAndB a found e h = pairs_map LineUpTo (hit_columns CutAndB a) found (pairs_so (λ b. Unit {0}) Rise (λ b c. LineUpTo (hit_columns CutAndB a b) (hit_columns CutAndB a c)) found (λ b c p q up. inr (refl, omega (arith, up))) (all_any (λ b. Unit {0}) found (λ b. tt)) h)
   part_rises Pieces a found e h = grind (arith, pairs_map, pairs_so, (apart_some 0 (pieces a found) (are_pieces a found).apart), (apart_pairs 0 (pieces a found) (are_pieces a found).apart))
-  part_rises OrigA a found e h = cc
-  part_rises OrigBoth a found e h = cc
-  part_rises Overlap a found e h = cc
-  part_rises Once a found e h = cc
-  part_rises Missing a found e h = cc
-  part_rises Count a found e h = cc
-  part_rises Whole a found e h = cc
+  part_rises _ a found e h = cc
 
   abbrev FollowsApart : Feature → Feature → Type 0
   FollowsApart a b = UpTo order total (interval_of a) (interval_of b) × AreDisjoint (interval_of a) (interval_of b)

@@ -27,7 +27,7 @@ use Rattle.bt_laws.specs.WholeRuns.{first_records, second_records, RunWrites, of
 use Rattle.bt_laws.specs.Same.{LieWithinLengths, subtract_by_complement}
 use Rattle.bt_laws.specs.Pipes.{AreSeparate, IsInput, is_no_header, three_columns}
 use Rattle.bt_runs.proofs.lemmas.Lists.{EachPair, all_any, all_map, all_so, filter_all, flat_map_same, all_zip}
-use Rattle.bt_laws.proofs.lemmas.pipes.RunsBack.{gaps_back, gaps_pairs}
+use Rattle.bt_laws.proofs.lemmas.pipes.RunsBack.{gaps_back, gaps_in_order}
 use Rattle.bt_laws.proofs.lemmas.pipes.PipeLaws.{chroms_of, intersect_whole, subtract_whole, well_there}
 use Rattle.bt_laws.proofs.lemmas.pipes.Placing.{pairs_filter, pairs_map, pairs_so}
 use Rattle.bt_laws.proofs.lemmas.same.SameRuns.{here_all, none_there, report_there}
@@ -116,7 +116,7 @@ module _ (inputs : Inputs) (entries : List Entry) (genome : chromosomes_of input
   alone = record { genome = inputs.genome; first = or_empty inputs.second; second = None }
 
   second_is : of_second (Complement false) inputs ≡ interval_lines gaps
-  second_is = grind (arith, (other_input order (or_empty inputs.second) none), (report_there (Complement false) alone (Some entries) genome))
+  second_is = grind (arith, (other_input order Second First (or_empty inputs.second) none), (report_there (Complement false) alone (Some entries) genome))
 
   known : AllByRecursion IsChrom entries × AreDistinct (genome_names entries)
   known = chroms_of inputs.genome entries genome
@@ -128,7 +128,7 @@ module _ (inputs : Inputs) (entries : List Entry) (genome : chromosomes_of input
   gaps_said = subst (AllByRecursion IsSaid) (second_input.records_are Second) (good_are_said Second order (whole_text (of_second (Complement false) inputs)))
 
   gaps_far : EachPair (λ (g h : Feature). AreSeparate (interval_of g) (interval_of h)) gap_records
-  gaps_far = grind (arith, pairs_filter, (pairs_map (λ (g h : Feature). AreSeparate (interval_of g) (interval_of h)) three_columns gaps (gaps_pairs entries known.0 known.1 false seconds)))
+  gaps_far = grind (arith, pairs_filter, (pairs_map (λ (g h : Feature). AreSeparate (interval_of g) (interval_of h)) three_columns gaps (gaps_in_order entries known.0 known.1 false seconds).pairs))
 
   one_line : (a : Feature) → IsSaid a → a.stop ≤ length_in entries a.chrom → lines_for Cut any_overlap a gap_records ≡ lines_for Pieces any_overlap a seconds
   unfolding lines_for

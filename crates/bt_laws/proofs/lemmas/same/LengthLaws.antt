@@ -195,9 +195,6 @@ module _ (records : List Feature) where
   depths_there name [] distinct = sym (no_levels name)
   depths_there name (entry ∷ entries) distinct = grind (arith, (depths_there name entries distinct.1), at_both, spans_on-append, cases_name, here_all, depths_absent, append-nil, none_there)
 
-  counted_all : (name : List ℕ) → counted_on None name records ≡ spans_on name (intervals_of records)
-  counted_all name = ap (λ rs. spans_on name (intervals_of rs)) (filter_all (λ (r : Feature). true) records (all_any _ records (λ r. refl)))
-
   -- within the lengths the records cover what has a depth
   depth_cover : (name : List ℕ) (size : ℕ) → ((p : ℕ) → IsCovered (spans_on name (intervals_of records)) p → p < size) → SameCover (spans_for name size) (spans_on name (intervals_of records))
   unfolding depth_of
@@ -207,9 +204,9 @@ module _ (records : List Feature) where
         to = λ p c.
             let has = covered_value (levels_for name size) p c in
             let deep = shown (depth_at (counted_on None name records) p) has.0 (are.within p has.0 has.1).1 in
-            subst (λ l. IsCovered l p) (counted_all name) (some_covered (counted_on None name records) p (subst (λ n. 0 < n) (sym deep.0) deep.1));
+            subst (λ l. IsCovered l p) (ap (spans_on name) (all_counted records)) (some_covered (counted_on None name records) p (subst (λ n. 0 < n) (sym deep.0) deep.1));
         back = λ p c.
-            let deep = covered_some (counted_on None name records) p (subst (λ l. IsCovered l p) (sym (counted_all name)) c) in
+            let deep = covered_some (counted_on None name records) p (subst (λ l. IsCovered l p) (sym (ap (spans_on name) (all_counted records))) c) in
             value_covered (levels_for name size) p (depth_at (counted_on None name records) p)
             (are.whole p (depth_at (counted_on None name records) p) (below p c) (ap (λ b. cond b (Some (depth_at (counted_on None name records) p)) None) (lt-ltb 0 (depth_at (counted_on None name records) p) deep)));
       }

@@ -8,7 +8,7 @@ use Rattle.bt_bed.proofs.lemmas.parse.NameLemmas.{cases_name, name_eq, name_ne-s
 use Rattle.bt_laws.proofs.lemmas.single.StrandOrder.{names_in_order}
 use Rattle.bt_runs.proofs.lemmas.order.FileOrder.{distinct_chromosomes, among_chromosomes, spans_on-append, some_placed, spans_on-here, spans_on-elsewhere, spans_on-none, without-here, runs_of-nil, without_absent, ordered_come}
 use Rattle.bt_laws.proofs.lemmas.pipes.LinesBack.{placed_known, IsSaid, good_are_said}
-use Rattle.bt_laws.proofs.lemmas.pipes.RunsBack.{ordered_all, merge_back, merge_placed}
+use Rattle.bt_laws.proofs.lemmas.pipes.RunsBack.{ordered_all, merge_back, merge_in_order}
 use Rattle.bt_laws.proofs.lemmas.parts.PartMerge.{named_all}
 use Rattle.bt_laws.proofs.lemmas.pipes.Placing.{Earlier, ascending_pairs}
 use Rattle.bt_bed.specs.model.Feature.{Feature, interval_of, intervals_of, Interval, placed_on, spans_on, Span, span_of}
@@ -28,7 +28,7 @@ use Rattle.bt_tool.specs.declared.planning.plan_type.Command.TheVariants.{Comple
 use Rattle.bt_laws.specs.WholeRuns.{RunsWithoutFault, first_records, RunWrites, piped}
 use Rattle.bt_laws.specs.Same.{IsRepeated, exchanged_complement, exchanged_genomecov, exchanged_merge, repeated_complement, repeated_merge, complement_of_merge, merge_of_merge}
 use Rattle.bt_laws.proofs.lemmas.pipes.PipeLaws.{SameCover, depth_both, same_by_depth, same_gaps, same_levels, complement_whole, genomecov_whole, merge_whole, runs_again, runs_cover}
-use Rattle.bt_runs.proofs.lemmas.Lists.{EachPair, all_any, filter_all, flat_map_same, all_filter, all_map, all_so}
+use Rattle.bt_runs.proofs.lemmas.Lists.{EachPair, all_any, filter_all, flat_map_same, all_filter, all_map, all_so, filter_passes}
 use Rattle.bt_laws.proofs.lemmas.parts.PartTexts.{order_total}
 use Rattle.bt_lines.specs.model.Fault.{FaultValue}
 use Rattle.bt_lines.specs.model.Lines.{whole_text}
@@ -158,8 +158,8 @@ alike_runs order total gap strand rs ss placed other is =
     ap (λ names. merged names gap (counted strand rs)) (alike_names order total keep rs ss placed other is)
     ∙ alike_merged (in_order order (chromosomes (counted strand ss))) gap (counted strand rs) (counted strand ss) (is.cover keep)
 
-all_kept : (rs : List Feature) → kept (λ r. true) rs ≡ intervals_of rs
-all_kept rs = ap intervals_of (filter_all (λ r. true) rs (all_any _ rs (λ r. refl)))
+pub all_counted : (rs : List Feature) → counted All rs ≡ intervals_of rs
+all_counted rs = ap intervals_of (filter_all (λ r. true) rs (all_any _ rs (λ r. refl)))
 
 pub gaps_by : (limit : Bool) (entries : List Entry) (rs ss : List Feature) → ((name : List ℕ) → has_records name (intervals_of rs) ≡ has_records name (intervals_of ss))
     → ((name : List ℕ) → SameCover (spans_on name (intervals_of rs)) (spans_on name (intervals_of ss))) → complement limit entries rs ≡ complement limit entries ss
@@ -167,7 +167,7 @@ unfolding complement
 gaps_by limit entries rs ss has cover = grind (arith, same_gaps)
 
 alike_gaps : (limit : Bool) (entries : List Entry) (rs ss : List Feature) → IsAlike rs ss → complement limit entries rs ≡ complement limit entries ss
-alike_gaps limit entries rs ss is = grind (arith, gaps_by, (all_kept rs), (all_kept ss))
+alike_gaps limit entries rs ss is = grind (arith, gaps_by, (all_counted rs), (all_counted ss))
 
 exchanged_depths : (zeros : Bool) (strand : Option Strand) (entries : List Entry) (rs ss : List Feature) → IsPermutation rs ss → coverage zeros strand entries rs ≡ coverage zeros strand entries ss
 unfolding coverage depth_of
@@ -181,13 +181,18 @@ exchanged_depths zeros strand entries rs ss is =
 placed_first : (chromosomes : Option (List Entry)) (inputs : Inputs) → ArePlaced (order_of chromosomes) (intervals_of (first_records chromosomes inputs))
 placed_first chromosomes inputs = placed_good First (order_of chromosomes) inputs.first (order_total chromosomes)
 
+-- all runs at once, or those of one strand
+pub merge_pooled : (d : ℕ) (strand : MergeStrand) (inputs : Inputs) (chromosomes : Option (List Entry)) → strand ≢ Each → RunsWithoutFault (Merge d strand) inputs chromosomes
+    → (report_of (Merge d strand) inputs).output ≡ interval_lines (ordered_runs (order_of chromosomes) d strand (first_records chromosomes inputs))
+merge_pooled d Each inputs chromosomes other well = absurd (other refl)
+merge_pooled d All inputs chromosomes other well = merge_whole d All inputs chromosomes well
+merge_pooled d (One strand) inputs chromosomes other well = merge_whole d (One strand) inputs chromosomes well
+
 merge_alike : (d : ℕ) (strand : MergeStrand) (inputs others : Inputs) (chromosomes : Option (List Entry)) → strand ≢ Each → RunsWithoutFault (Merge d strand) inputs chromosomes → RunsWithoutFault (Merge d strand) others chromosomes
     → IsAlike (first_records chromosomes inputs) (first_records chromosomes others) → (report_of (Merge d strand) inputs).output ≡ (report_of (Merge d strand) others).output
-merge_alike d Each inputs others chromosomes other one two is = absurd (other refl)
-merge_alike d All inputs others chromosomes other one two is =
-    merge_whole d All inputs chromosomes one ∙ ap interval_lines (alike_runs (order_of chromosomes) (order_total chromosomes) d All (first_records chromosomes inputs) (first_records chromosomes others) (placed_first chromosomes inputs) (placed_first chromosomes others) is) ∙ sym (merge_whole d All others chromosomes two)
-merge_alike d (One strand) inputs others chromosomes other one two is =
-    merge_whole d (One strand) inputs chromosomes one ∙ ap interval_lines (alike_runs (order_of chromosomes) (order_total chromosomes) d (One strand) (first_records chromosomes inputs) (first_records chromosomes others) (placed_first chromosomes inputs) (placed_first chromosomes others) is) ∙ sym (merge_whole d (One strand) others chromosomes two)
+merge_alike d strand inputs others chromosomes other one two is =
+    merge_pooled d strand inputs chromosomes other one ∙ ap interval_lines (alike_runs (order_of chromosomes) (order_total chromosomes) d strand (first_records chromosomes inputs) (first_records chromosomes others) (placed_first chromosomes inputs) (placed_first chromosomes others) is)
+    ∙ sym (merge_pooled d strand others chromosomes other two)
 
 complement_alike : (limit : Bool) (inputs others : Inputs) (chromosomes : Option (List Entry)) → RunsWithoutFault (Complement limit) inputs chromosomes → RunsWithoutFault (Complement limit) others chromosomes
     → IsAlike (first_records chromosomes inputs) (first_records chromosomes others) → (report_of (Complement limit) inputs).output ≡ (report_of (Complement limit) others).output
@@ -216,24 +221,14 @@ complement_repeated limit inputs others chromosomes one two is =
 
 -- Outputs of merge: merged again, and their gaps.
 
-pub all_counted : (rs : List Feature) → counted All rs ≡ intervals_of rs
-all_counted rs = ap intervals_of (filter_all (λ r. true) rs (all_any _ rs (λ r. refl)))
-
 -- ---- merged again
-
-kept_one : {A : Type 0} (t : A → Bool) (x : A) (xs : List A) (b : Bool) → t x ≡ b → AllByRecursion (λ y. t y ≡ true) xs → AllByRecursion (λ y. t y ≡ true) (cond b (x ∷ xs) xs)
-kept_one t x xs b e h = grind arith
-
-pub kept_pass : {A : Type 0} (t : A → Bool) (xs : List A) → AllByRecursion (λ y. t y ≡ true) (filter t xs)
-kept_pass t [] = tt
-kept_pass t (x ∷ xs) = kept_one t x (filter t xs) (t x) refl (kept_pass t xs)
 
 pub back : (rs : List Interval) → intervals_of (map three_columns rs) ≡ rs
 back [] = refl
 back (r ∷ rs) = ap (λ l. r ∷ l) (back rs)
 
 again : (name : List ℕ) (ns : List (List ℕ)) → without name (without name ns) ≡ without name ns
-again name ns = filter_all (λ other. not (bytes_eq other name)) (without name ns) (kept_pass (λ other. not (bytes_eq other name)) ns)
+again name ns = filter_all (λ other. not (bytes_eq other name)) (without name ns) (filter_passes (λ other. not (bytes_eq other name)) ns)
 
 -- what holds of each name that has records
 names_so : (P : List ℕ → Type 0) (rs : List Interval) → ((name : List ℕ) → has_records name rs ≡ true → P name) → AllByRecursion P (chromosomes rs)
@@ -375,7 +370,7 @@ module _ (chromosomes_in : Option (List Entry)) (inputs : Inputs) where
   read_full = all_so IsSaid (λ (r : Feature). r.start < r.stop) as_read (λ r is. is.feature.non_empty) (good_are_said First order_in inputs.first)
 
   there_placed : (d : ℕ) (strand : MergeStrand) → ArePlaced order_in (ordered_runs order_in d strand as_read)
-  there_placed d strand = merge_placed order_in (order_total chromosomes_in) d strand as_read (good_are_said First order_in inputs.first) read_placed
+  there_placed d strand = (merge_in_order order_in (order_total chromosomes_in) d strand as_read (good_are_said First order_in inputs.first) read_placed).placed
 
   there_input : (d : ℕ) (strand : MergeStrand) → IsInput order_in (interval_lines (ordered_runs order_in d strand as_read)) (map three_columns (ordered_runs order_in d strand as_read))
   there_input d strand = merge_back order_in (order_total chromosomes_in) d strand as_read (good_are_said First order_in inputs.first) read_placed
@@ -393,7 +388,7 @@ merged_by d strand inputs chromosomes_in well e =
     ∙ ap (λ bytes. record { output = bytes; fault = None }) (sym e))
 
 pub merge_twice : merge_of_merge
-merge_twice = grind (arith, merged_by, merge_whole)
+merge_twice d strand inputs chromosomes other well = merged_by d strand inputs chromosomes well (merge_pooled d strand inputs chromosomes other well)
 
 -- ---- complement of merge
 

@@ -5,9 +5,9 @@ use Rattle.bt_lines.specs.model.Lines.{Handed, cut_fault, lines_handed, whole_te
 use Rattle.bt_lines.specs.declared.fault.Input.TheVariants.{First, Second}
 use Rattle.bt_bed.specs.model.Feature.{Feature, interval_of, intervals_of, Interval, span_of, spans_on}
 use Rattle.bt_bed.specs.calls.Stretches.{IsCovered}
-use Rattle.bt_bed.specs.model.BedLine.{bed_text, interval_lines}
+use Rattle.bt_bed.specs.model.BedLine.{bed_text, interval_lines, record_of}
 use Rattle.bt_bed.specs.model.Genome.{Entry}
-use Rattle.bt_bed.specs.model.Good.{Good, items_in, good, good_from, good_with, or_else, bed_good, bed_format, line_says}
+use Rattle.bt_bed.specs.model.Good.{Good, items_in, good, good_from, good_with, or_else, bed_good, bed_format, line_says, said_after, good_handed}
 use Rattle.bt_bed.specs.model.Meeting.{join_report, written}
 use Rattle.bt_bed.specs.model.Order.{Order, is_among}
 use Rattle.bt_sweep.specs.model.Hits.{hits_among, hits, strands_agree}
@@ -22,7 +22,7 @@ use Rattle.bt_tool.specs.model.Written.{met_report, met_within, Report, report_b
 use Rattle.bt_tool.specs.declared.planning.plan_type.Command.TheVariants.{Intersect, Subtract, Merge}
 use Rattle.bt_laws.specs.WholeRuns.{RunsWithoutFault, first_records, second_records, RunWrites, of_second, with_second}
 use Rattle.bt_laws.specs.Same.{Counted, counts_say_all, missing_is_whole, own_line, with_hits, merged_second_missing, merged_second_once, merged_second_subtract, one_base}
-use Rattle.bt_runs.proofs.lemmas.Lists.{all_any, flat_map_same, map_map, all_so}
+use Rattle.bt_runs.proofs.lemmas.Lists.{all_any, flat_map_same, map_map, all_so, filter_passes}
 use Rattle.bt_laws.proofs.lemmas.parts.PartSweep.{all_true}
 use Rattle.bt_laws.proofs.lemmas.pipes.PipeLaws.{intersect_whole, limit_whole, subtract_whole, well_there, SameCover, runs_cover, same_sym}
 use Rattle.bt_lines.specs.declared.fault.Input.{Input}
@@ -39,7 +39,7 @@ use Rattle.bt_sweep.proofs.lemmas.definitions.HitLemmas.{enough_of_nothing}
 use Rattle.bt_laws.proofs.lemmas.single.Sweeps.{of_nothing}
 use Rattle.bt_tool.specs.declared.planning.plan_type.Command.{Command}
 use Rattle.bt_laws.specs.Pipes.{IsInput, three_columns}
-use Rattle.bt_laws.proofs.lemmas.same.SameRuns.{back, report_there, run_spans, all_counted, kept_pass}
+use Rattle.bt_laws.proofs.lemmas.same.SameRuns.{back, report_there, run_spans, all_counted}
 use Rattle.bt_laws.proofs.lemmas.pipes.RunsBack.{merge_back}
 use Rattle.bt_laws.proofs.lemmas.pipes.LinesBack.{IsSaid, good_are_said}
 use Rattle.bt_laws.proofs.lemmas.pipes.SweepBack.{Hit, all_hits, cut_bounds, same_name}
@@ -210,26 +210,42 @@ met_none order shape rule first second one two = grind arith
 pub met_faultless : (order : Order) (shape : Shape) (rule : HitRule) (limit : Option ℕ) (first second : Good Feature) → (met_within order shape rule limit first second).fault ≡ None → (first.fault ≡ None) × (second.fault ≡ None)
 met_faultless order shape rule limit first second e = grind (arith, first_none, limit_whole)
 
--- a text without a fault as one input has none as another, and the same records
-like_with : (sorting : Sorting) (n : ℕ) (last : Option Locus) (one other : Input) (said : Result (Option Feature) Kind) (ls ms : Option Locus → Good Feature) → ((now : Option Locus) → (ls now).fault ≡ None → (items_in (ms now) ≡ items_in (ls now)) × ((ms now).fault ≡ None))
-    → (good_with (bed_format sorting) one n last said ls).fault ≡ None → (items_in (good_with (bed_format sorting) other n last said ms) ≡ items_in (good_with (bed_format sorting) one n last said ls)) × ((good_with (bed_format sorting) other n last said ms).fault ≡ None)
-like_with sorting n last one other said ls ms h e = grind arith
+-- a text without a fault in one form has none in another, and the same records
 
-pub like_from : (sorting : Sorting) (one other : Input) (last : Option Locus) (lines : List TextLine) → (good_from (bed_format sorting) one last lines).fault ≡ None
-    → (items_in (good_from (bed_format sorting) other last lines) ≡ items_in (good_from (bed_format sorting) one last lines)) × ((good_from (bed_format sorting) other last lines).fault ≡ None)
-unfolding good_from
-like_from sorting one other last [] e = (refl, refl)
-like_from sorting one other last (line ∷ lines) e =
-    like_with sorting line.number last one other (line_says sorting last line.text) (λ now. good_from (bed_format sorting) one now lines) (λ now. good_from (bed_format sorting) other now lines) (λ now none. like_from sorting one other now lines none) e
+-- the same records, and no fault
+pub record IsLike (one other : Good Feature) : Type 0 where
+  pub items : items_in other ≡ items_in one
+  pub faultless : other.fault ≡ None
+
+-- what is said without a fault is said too
+abbrev pub SaidToo : Result (Option Feature) Kind → Result (Option Feature) Kind → Type 0
+SaidToo (Err kind) too = Unit {0}
+SaidToo (Ok said) too = too ≡ Ok said
+
+said_itself : (said : Result (Option Feature) Kind) → SaidToo said said
+said_itself (Err kind) = tt
+said_itself (Ok said) = refl
 
 pub cut_none : (fault cut : Option FaultValue) → or_else fault cut ≡ None → (fault ≡ None) × (cut ≡ None)
 cut_none fault cut e = grind arith
 
-pub other_input : (order : Order) (handed : Handed) → (bed_good Second order handed).fault ≡ None → (items_in (bed_good First order handed) ≡ items_in (bed_good Second order handed)) × ((bed_good First order handed).fault ≡ None)
-other_input order handed e =
-    let lines = lines_handed handed in
-    let parts = cut_none (good (bed_format (sorting_of order)) Second lines).fault (cut_fault Second handed) e in
-    grind (arith, (like_from (sorting_of order) Second First None lines parts.0))
+module _ (one other : Sorting) (too : (last : Option Locus) (said : Result (Option Feature) Kind) → SaidToo (said_after one last said) (said_after other last said)) (from to : Input) where
+  like_with : (n : ℕ) (last : Option Locus) (said again : Result (Option Feature) Kind) (ls ms : Option Locus → Good Feature) → SaidToo said again → ((now : Option Locus) → (ls now).fault ≡ None → IsLike (ls now) (ms now))
+      → (good_with (bed_format one) from n last said ls).fault ≡ None → IsLike (good_with (bed_format one) from n last said ls) (good_with (bed_format other) to n last again ms)
+  like_with n last said again ls ms is h e = grind arith
+
+  like_from : (last : Option Locus) (lines : List TextLine) → (good_from (bed_format one) from last lines).fault ≡ None → IsLike (good_from (bed_format one) from last lines) (good_from (bed_format other) to last lines)
+  unfolding good_from line_says
+  like_from last [] e = record { items = refl; faultless = refl }
+  like_from last (line ∷ lines) e =
+      let said = record_of line.text in
+      like_with line.number last (said_after one last said) (said_after other last said) (λ now. good_from (bed_format one) from now lines) (λ now. good_from (bed_format other) to now lines) (too last said) (λ now none. like_from now lines none) e
+
+  pub read_again : (handed : Handed) → (good_handed (bed_format one) from handed).fault ≡ None → IsLike (good_handed (bed_format one) from handed) (good_handed (bed_format other) to handed)
+  read_again handed e = grind (arith, (like_from None (lines_handed handed) (cut_none (good (bed_format one) from (lines_handed handed)).fault (cut_fault from handed) e).0))
+
+pub other_input : (order : Order) (from to : Input) (handed : Handed) → (bed_good from order handed).fault ≡ None → IsLike (bed_good from order handed) (bed_good to order handed)
+other_input order = read_again (sorting_of order) (sorting_of order) (λ last said. said_itself (said_after (sorting_of order) last said))
 
 pub output_by : (written : Written Feature) (members : List Feature) (fault : Option FaultValue) → fault ≡ None → (report_by written members fault).output ≡ written.whole members
 output_by written members fault e = grind arith
@@ -252,13 +268,13 @@ module _ (inputs : Inputs) (chromosomes : Option (List Entry)) (genome : chromos
   alone = record { genome = inputs.genome; first = or_empty inputs.second; second = None }
 
   -- the records of the second input, read as a first one
-  seconds_first : (items_in (bed_good First order (or_empty inputs.second)) ≡ seconds) × ((bed_good First order (or_empty inputs.second)).fault ≡ None)
-  seconds_first = other_input order (or_empty inputs.second) none
+  seconds_first : IsLike (bed_good Second order (or_empty inputs.second)) (bed_good First order (or_empty inputs.second))
+  seconds_first = other_input order Second First (or_empty inputs.second) none
 
   second_is : of_second (Merge 0 All) inputs ≡ interval_lines runs
   second_is =
       let good = bed_good First order (or_empty inputs.second) in
-      ap (λ (r : Report). r.output) (report_there (Merge 0 All) alone chromosomes genome) ∙ output_by (merge_written order 0 All) (items_in good) good.fault seconds_first.1 ∙ ap (λ rs. interval_lines (ordered_runs order 0 All rs)) seconds_first.0
+      ap (λ (r : Report). r.output) (report_there (Merge 0 All) alone chromosomes genome) ∙ output_by (merge_written order 0 All) (items_in good) good.fault seconds_first.faultless ∙ ap (λ rs. interval_lines (ordered_runs order 0 All rs)) seconds_first.items
 
   second_input : IsInput order (of_second (Merge 0 All) inputs) (map three_columns runs)
   second_input = grind (arith, second_is, merge_back, order_total, good_are_said, placed_good)
@@ -341,7 +357,7 @@ followed : (r s : Feature) (ss : List Feature) → IsFollowed (interval_of r) (i
 followed r s ss (inl same) e =
     let rest = without s.chrom (chromosomes (intervals_of ss)) in
     let here = name_eq r.chrom s.chrom (sym same.0) in
-    let apart : AllByRecursion (λ n. bytes_eq r.chrom n ≡ false) rest = subst (λ name. AllByRecursion (λ n. bytes_eq name n ≡ false) rest) same.0 (grind (arith, all_so, name_ne-sym, kept_pass)) in
+    let apart : AllByRecursion (λ n. bytes_eq r.chrom n ≡ false) rest = subst (λ name. AllByRecursion (λ n. bytes_eq name n ≡ false) rest) same.0 (grind (arith, all_so, name_ne-sym, filter_passes)) in
     grind (arith, (elsewhere r (s ∷ ss) rest apart), (same_chromosome (interval_of r) (interval_of s) (intervals_of ss) (sym same.0)))
 followed r s ss (inr off) e =
     let later = s ∷ ss in

@@ -224,7 +224,7 @@ module _ (how : MaskHow) (names : List (List ℕ)) (second : Good Feature) where
   all_stay [] seen more is placed = tt
   all_stay (line ∷ lines) seen more is placed = grind (arith, late_decided, masked_stay, (all_stay lines seen more is placed))
 
-  all_decided : (first : List SequenceLine) → second.fault ≡ None → list_all (mask_rule how names second).decided first ≡ true
+  pub all_decided : (first : List SequenceLine) → second.fault ≡ None → list_all (mask_rule how names second).decided first ≡ true
   all_decided [] e = refl
   all_decided (line ∷ lines) e = grind (arith, (all_decided lines e))
 

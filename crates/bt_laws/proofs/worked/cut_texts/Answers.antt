@@ -9,18 +9,6 @@ use Rattle.bt_tool.specs.model.Report.{report_of}
 use Rattle.std.specs.Fmt.{digits}
 use Rattle.bt_laws.proofs.worked.cut_texts.Goals as goal
 
-pub returns-clause-after_three_lines : goal.returns-clause-after_three_lines
-unfolding whole_lines_from report_of lines_from value_of good_from line_says record_of digits stretches_from with_position is_bridged runs_of merged ordered_runs strand_runs settled_strand_runs genome_from entry_of
-returns-clause-after_three_lines c = refl
-
 pub returns-clause-within_a_line : goal.returns-clause-within_a_line
 unfolding whole_lines_from report_of lines_from value_of good_from line_says record_of digits stretches_from with_position is_bridged runs_of merged ordered_runs strand_runs settled_strand_runs genome_from entry_of
 returns-clause-within_a_line c = refl
-
-pub returns-clause-at_once : goal.returns-clause-at_once
-unfolding whole_lines_from report_of lines_from value_of good_from line_says record_of digits stretches_from with_position is_bridged runs_of merged ordered_runs strand_runs settled_strand_runs genome_from entry_of
-returns-clause-at_once c = refl
-
-pub returns-clause-genome_file : goal.returns-clause-genome_file
-unfolding whole_lines_from report_of lines_from value_of good_from line_says record_of digits stretches_from with_position is_bridged runs_of merged ordered_runs strand_runs settled_strand_runs genome_from entry_of
-returns-clause-genome_file c = refl

@@ -9,10 +9,6 @@ use Rattle.bt_tool.specs.model.Report.{report_of}
 use Rattle.std.specs.Fmt.{digits}
 use Rattle.bt_laws.proofs.worked.hits.Goals as goal
 
-pub returns-clause-bookended : goal.returns-clause-bookended
-unfolding report_of lines_from value_of good_from line_says record_of digits lines_for hits strands_agree is_enough has_fraction genome_from entry_of
-returns-clause-bookended c = refl
-
 pub returns-clause-bookended_missing : goal.returns-clause-bookended_missing
 unfolding report_of lines_from value_of good_from line_says record_of digits lines_for hits strands_agree is_enough has_fraction genome_from entry_of
 returns-clause-bookended_missing c = refl
@@ -21,17 +17,9 @@ pub returns-clause-half : goal.returns-clause-half
 unfolding report_of lines_from value_of good_from line_says record_of digits lines_for hits strands_agree is_enough has_fraction genome_from entry_of
 returns-clause-half c = refl
 
-pub returns-clause-above_half : goal.returns-clause-above_half
-unfolding report_of lines_from value_of good_from line_says record_of digits lines_for hits strands_agree is_enough has_fraction genome_from entry_of
-returns-clause-above_half c = refl
-
 pub returns-clause-half_of_both : goal.returns-clause-half_of_both
 unfolding report_of lines_from value_of good_from line_says record_of digits lines_for hits strands_agree is_enough has_fraction genome_from entry_of
 returns-clause-half_of_both c = refl
-
-pub returns-clause-less_of_the_second : goal.returns-clause-less_of_the_second
-unfolding report_of lines_from value_of good_from line_says record_of digits lines_for hits strands_agree is_enough has_fraction genome_from entry_of
-returns-clause-less_of_the_second c = refl
 
 pub returns-clause-all_pairs : goal.returns-clause-all_pairs
 unfolding report_of lines_from value_of good_from line_says record_of digits lines_for hits strands_agree is_enough has_fraction genome_from entry_of
@@ -40,10 +28,6 @@ returns-clause-all_pairs c = refl
 pub returns-clause-numbers : goal.returns-clause-numbers
 unfolding report_of lines_from value_of good_from line_says record_of digits lines_for hits strands_agree is_enough has_fraction genome_from entry_of
 returns-clause-numbers c = refl
-
-pub returns-clause-two_held : goal.returns-clause-two_held
-unfolding report_of lines_from value_of good_from line_says record_of digits lines_for hits strands_agree is_enough has_fraction genome_from entry_of
-returns-clause-two_held c = refl
 
 pub returns-clause-three_held : goal.returns-clause-three_held
 unfolding report_of lines_from value_of good_from line_says record_of digits lines_for hits strands_agree is_enough has_fraction genome_from entry_of
@@ -81,10 +65,6 @@ pub returns-clause-second_at_fault : goal.returns-clause-second_at_fault
 unfolding report_of lines_from value_of good_from line_says record_of digits lines_for hits strands_agree is_enough has_fraction genome_from entry_of
 returns-clause-second_at_fault c = refl
 
-pub returns-clause-rest_of_the_second : goal.returns-clause-rest_of_the_second
-unfolding report_of lines_from value_of good_from line_says record_of digits lines_for hits strands_agree is_enough has_fraction genome_from entry_of
-returns-clause-rest_of_the_second c = refl
-
 pub returns-clause-first_at_fault : goal.returns-clause-first_at_fault
 unfolding report_of lines_from value_of good_from line_says record_of digits lines_for hits strands_agree is_enough has_fraction genome_from entry_of
 returns-clause-first_at_fault c = refl
@@ -92,19 +72,3 @@ returns-clause-first_at_fault c = refl
 pub returns-clause-returns_to_a_chromosome : goal.returns-clause-returns_to_a_chromosome
 unfolding report_of lines_from value_of good_from line_says record_of digits lines_for hits strands_agree is_enough has_fraction genome_from entry_of
 returns-clause-returns_to_a_chromosome c = refl
-
-pub returns-clause-no_bases : goal.returns-clause-no_bases
-unfolding report_of lines_from value_of good_from line_says record_of digits lines_for hits strands_agree is_enough has_fraction genome_from entry_of
-returns-clause-no_bases c = refl
-
-pub returns-clause-two_columns : goal.returns-clause-two_columns
-unfolding report_of lines_from value_of good_from line_says record_of digits lines_for hits strands_agree is_enough has_fraction genome_from entry_of
-returns-clause-two_columns c = refl
-
-pub returns-clause-empty_name : goal.returns-clause-empty_name
-unfolding report_of lines_from value_of good_from line_says record_of digits lines_for hits strands_agree is_enough has_fraction genome_from entry_of
-returns-clause-empty_name c = refl
-
-pub returns-clause-high_start : goal.returns-clause-high_start
-unfolding report_of lines_from value_of good_from line_says record_of digits lines_for hits strands_agree is_enough has_fraction genome_from entry_of
-returns-clause-high_start c = refl

@@ -38,26 +38,6 @@ pub returns-clause-both_original : goal.returns-clause-both_original
 unfolding report_of lines_from value_of good_from line_says record_of digits stretches_from with_position is_bridged runs_of merged ordered_runs strand_runs settled_strand_runs genome_from entry_of lines_for hits strands_agree is_enough has_fraction report options word_fault items_of fraction_in
 returns-clause-both_original c = refl
 
-pub returns-clause-soft : goal.returns-clause-soft
-unfolding report_of lines_from value_of good_from line_says record_of digits stretches_from with_position is_bridged runs_of merged ordered_runs strand_runs settled_strand_runs genome_from entry_of lines_for hits strands_agree is_enough has_fraction report options word_fault items_of fraction_in
-returns-clause-soft c = refl
-
-pub returns-clause-a_character : goal.returns-clause-a_character
-unfolding report_of lines_from value_of good_from line_says record_of digits stretches_from with_position is_bridged runs_of merged ordered_runs strand_runs settled_strand_runs genome_from entry_of lines_for hits strands_agree is_enough has_fraction report options word_fault items_of fraction_in
-returns-clause-a_character c = refl
-
-pub returns-clause-neither : goal.returns-clause-neither
-unfolding report_of lines_from value_of good_from line_says record_of digits stretches_from with_position is_bridged runs_of merged ordered_runs strand_runs settled_strand_runs genome_from entry_of lines_for hits strands_agree is_enough has_fraction report options word_fault items_of fraction_in
-returns-clause-neither c = refl
-
-pub returns-clause-whole_header : goal.returns-clause-whole_header
-unfolding report_of lines_from value_of good_from line_says record_of digits stretches_from with_position is_bridged runs_of merged ordered_runs strand_runs settled_strand_runs genome_from entry_of lines_for hits strands_agree is_enough has_fraction report options word_fault items_of fraction_in
-returns-clause-whole_header c = refl
-
-pub returns-clause-standard_output : goal.returns-clause-standard_output
-unfolding report_of lines_from value_of good_from line_says record_of digits stretches_from with_position is_bridged runs_of merged ordered_runs strand_runs settled_strand_runs genome_from entry_of lines_for hits strands_agree is_enough has_fraction report options word_fault items_of fraction_in
-returns-clause-standard_output c = refl
-
 pub returns-clause-once_original : goal.returns-clause-once_original
 unfolding report_of lines_from value_of good_from line_says record_of digits stretches_from with_position is_bridged runs_of merged ordered_runs strand_runs settled_strand_runs genome_from entry_of lines_for hits strands_agree is_enough has_fraction report options word_fault items_of fraction_in
 returns-clause-once_original c = refl
