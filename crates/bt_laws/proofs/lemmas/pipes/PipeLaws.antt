@@ -42,7 +42,7 @@ use Rattle.bt_laws.proofs.lemmas.pipes.SweepRead.{all_read, cut_stay, places_sta
 use Rattle.bt_laws.proofs.lemmas.parts.PartTexts.{order_total}
 use Rattle.bt_laws.proofs.lemmas.pipes.Placing.{pairs_filter, pairs_from_map, pairs_map}
 use Rattle.bt_runs.proofs.lemmas.merge.Bridging.{are_runs, bridged_here, is_covered-Decides, only_runs}
-use Rattle.bt_laws.proofs.lemmas.single.LevelLemmas.{covered_depth}
+use Rattle.bt_laws.proofs.lemmas.single.LevelLemmas.{covered_depth, bridged_covered}
 use Rattle.bt_runs.proofs.lemmas.complement.Walks.{are_gaps, only_gaps}
 use Rattle.bt_laws.proofs.lemmas.single.Records.{distinct_genome}
 
@@ -297,9 +297,6 @@ again_by gap spans p b l r = grind (arith, (cases_lt l.right p), (cases_lt p r.l
 
 pub runs_again : (gap : ℕ) (spans : List Span) → runs_of gap (runs_of gap spans) ≡ runs_of gap spans
 runs_again gap spans = grind (arith, (are_runs gap spans), only_runs, again_by)
-
-bridged_covered : (spans : List Span) (p : ℕ) → Bridged 0 spans p → IsCovered spans p
-bridged_covered spans p b = grind arith
 
 -- without a gap the runs cover what the spans cover
 pub runs_cover : (spans : List Span) → SameCover (runs_of 0 spans) spans

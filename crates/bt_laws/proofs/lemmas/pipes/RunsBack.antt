@@ -9,12 +9,12 @@ use Rattle.bt_bed.specs.calls.Features.{IsName}
 use Rattle.bt_bed.specs.calls.Orders.{ArePlaced, IsPlacedBefore, IsTotal, AreDistinct}
 use Rattle.bt_bed.specs.model.Order.{Order, rank_order}
 use Rattle.bt_bed.proofs.lemmas.Definitions.{scan_finds}
-use Rattle.bt_runs.specs.model.Merged.{counted, is_counted, chromosomes, end_of, merged, runs_of, runs_on, in_order, ordered_runs, put_in_order, StrandRun, places_of, runs_of_strand, strand_runs}
+use Rattle.bt_runs.specs.model.Merged.{counted, is_counted, chromosomes, end_of, merged, runs_of, runs_on, in_order, ordered_runs, StrandRun, places_of, runs_of_strand, strand_runs}
 use Rattle.bt_runs.specs.declared.merge.merge_strand.MergeStrand.{MergeStrand}
 use Rattle.bt_runs.specs.declared.merge.merge_strand.MergeStrand.TheVariants.{One}
 use Rattle.bt_bed.specs.declared.record.strand.Strand.{Strand}
 use Rattle.bt_runs.proofs.lemmas.order.FileOrder.{some_placed, distinct_chromosomes}
-use Rattle.bt_laws.proofs.lemmas.single.StrandOrder.{names_in_order}
+use Rattle.bt_laws.proofs.lemmas.single.StrandOrder.{names_in_order, ordered_all}
 use Rattle.bt_laws.specs.Pipes.{AreSeparate, IsInput, is_no_header, three_columns, AreDisjoint, four_columns}
 use Rattle.bt_runs.proofs.lemmas.Lists.{EachPair, all_any, all_filter, all_flat_map, all_map, all_so, filter_all, all_zip, all_unmap, map_map}
 use Rattle.bt_laws.proofs.lemmas.pipes.LinesBack.{Columns, IsColumns, text_of_columns, placed_known, written_back, record_back, IsSaid, IsChrom, clear_tab, clear_number, strip_number}
@@ -82,14 +82,6 @@ end_small name (r ∷ rs) h = grind (arith, (end_small name rs h.1))
 runs_apart : (gap : ℕ) (spans : List Span) → AreApartFrom 0 (runs_of gap spans) × AllByRecursion (λ (s : Span). (s.start < s.stop) × (s.stop ≤ end_of spans)) (runs_of gap spans)
 unfolding runs_of
 runs_apart gap spans = scanned _ (end_of spans)
-
-put_all : (P : List ℕ → Type 0) (order : Order) (name : List ℕ) (names : List (List ℕ)) → P name → AllByRecursion P names → AllByRecursion P (put_in_order order name names)
-put_all P order name [] one all = (one, tt)
-put_all P order name (n ∷ ns) one all = grind (arith, (put_all P order name ns one all.1))
-
-pub ordered_all : (P : List ℕ → Type 0) (order : Order) (names : List (List ℕ)) → AllByRecursion P names → AllByRecursion P (in_order order names)
-ordered_all P order [] all = tt
-ordered_all P order (n ∷ ns) all = put_all P order n (in_order order ns) all.0 (ordered_all P order ns all.1)
 
 -- a run, whose name is no header word
 pub record IsRun (r : Interval) : Type 0 where

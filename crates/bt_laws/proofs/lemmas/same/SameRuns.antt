@@ -5,10 +5,10 @@ use Rattle.bt_bed.specs.model.Sorted.{has_records}
 use Rattle.bt_bed.specs.calls.Orders.{ArePlaced, IsTotal, AreDistinct}
 use Rattle.bt_bed.proofs.lemmas.Definitions.{placed_good}
 use Rattle.bt_bed.proofs.lemmas.parse.NameLemmas.{cases_name, name_eq, name_ne-sym}
-use Rattle.bt_laws.proofs.lemmas.single.StrandOrder.{names_in_order}
+use Rattle.bt_laws.proofs.lemmas.single.StrandOrder.{names_in_order, ordered_all}
 use Rattle.bt_runs.proofs.lemmas.order.FileOrder.{distinct_chromosomes, among_chromosomes, spans_on-append, some_placed, spans_on-here, spans_on-elsewhere, spans_on-none, without-here, runs_of-nil, without_absent, ordered_come}
 use Rattle.bt_laws.proofs.lemmas.pipes.LinesBack.{placed_known, IsSaid, good_are_said}
-use Rattle.bt_laws.proofs.lemmas.pipes.RunsBack.{ordered_all, merge_back, merge_in_order}
+use Rattle.bt_laws.proofs.lemmas.pipes.RunsBack.{merge_back, merge_in_order}
 use Rattle.bt_laws.proofs.lemmas.parts.PartMerge.{named_all}
 use Rattle.bt_laws.proofs.lemmas.pipes.Placing.{Earlier, ascending_pairs}
 use Rattle.bt_bed.specs.model.Feature.{Feature, interval_of, intervals_of, Interval, placed_on, spans_on, Span, span_of}
