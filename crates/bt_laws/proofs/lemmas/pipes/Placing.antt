@@ -21,6 +21,10 @@ pub pairs_so : {A : Type 0} (P : A → Type 0) (R S : A → A → Type 0) (xs : 
 pairs_so P R S [] f ps h = tt
 pairs_so P R S (x ∷ xs) f ps h = (all_with P R S x xs (λ y q r. f x y ps.0 q r) ps.1 h.0, pairs_so P R S xs f ps.1 h.1)
 
+pub pairs_any : {A : Type 0} (P : A → Type 0) (R : A → A → Type 0) (xs : List A) → ((x y : A) → P x → P y → R x y) → AllByRecursion P xs → EachPair R xs
+pairs_any P R [] f h = tt
+pairs_any P R (x ∷ xs) f h = (all_so P (R x) xs (λ y q. f x y h.0 q) h.1, pairs_any P R xs f h.1)
+
 pairs_by : {A : Type 0} (R : A → A → Type 0) (b : Bool) (x : A) (xs : List A) → AllByRecursion (R x) xs → EachPair R xs → EachPair R (cond b (x ∷ xs) xs)
 pairs_by R b x xs h k = grind arith
 
