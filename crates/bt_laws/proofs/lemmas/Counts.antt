@@ -2,7 +2,6 @@
 use Rattle.bt_lines.proofs.Std.{common_steps, rules, ◌≡◌, ℕ, zero, suc, ◌+◌, ◌-◌, ◌*◌, ◌<◌, ◌≤◌, Bool, false, cond, List, [], ◌∷◌, map, filter, max, min, Option, Some, None, inl, inr, refl, sym, ap, ap₂, ◌∙◌, arith, ◌⊎◌, bytes_eq, flat_map, sum_by, or_parts, mul-suc, sum_by-append, sum_by-cons, ◌++◌, append_assoc, subst, IsPermutation, flat_map-append, map-append, IsPermutation-append_comm, IsPermutation-append_left, IsPermutation-append_right, IsPermutation-refl, IsPermutation-trans, flat_map-map, cases_Bool, false≢true}
 use Rattle.bt_bed.specs.model.Feature.{Feature, interval_of, intervals_of, Interval, Span, span_of, spans_on, placed_on}
 use Rattle.bt_bed.specs.calls.Stretches.{IsCovered}
-use Rattle.bt_bed.specs.model.BedLine.{cut_to}
 use Rattle.bt_bed.specs.model.Genome.{Entry, genome_names}
 use Rattle.bt_bed.specs.model.Order.{is_among}
 use Rattle.bt_bed.specs.calls.Orders.{AreDistinct}
@@ -15,7 +14,7 @@ use Rattle.bt_runs.specs.calls.Complementing.{length_in}
 use Rattle.bt_runs.proofs.lemmas.order.FileOrder.{spans_on-append}
 use Rattle.bt_bed.proofs.lemmas.LevelScans.{levels_more}
 use Rattle.bt_laws.specs.Counts.{depth_bases, depths_sum, IsMutual, HitPair, exchanged, pair_line, pairs_have_two_sides, pairs_of, with_sides_exchanged, PartBases, intersect_and_subtract_part}
-use Rattle.bt_laws.specs.WholeRuns.{first_records, second_records, RunWrites, RunsWithoutFault}
+use Rattle.bt_laws.specs.WholeRuns.{first_records, second_records, RunWrites}
 use Rattle.bt_laws.proofs.lemmas.pipes.PipeLaws.{depth_both, chroms_of, genomecov_whole, intersect_whole, well_there, cut_intersect_input, subtract_input}
 use Rattle.bt_lines.specs.declared.fault.Input.TheVariants.{First, Second}
 use Rattle.bt_bed.specs.model.Good.{bed_good}
@@ -32,8 +31,7 @@ use Rattle.bt_laws.proofs.lemmas.same.SameSweeps.{writes_lines, met_faultless, o
 use Rattle.bt_runs.specs.model.Merged.{is_covered}
 use Rattle.bt_runs.proofs.lemmas.merge.Bridging.{covered_left, covered_parts, covered_right, is_covered-Decides}
 use Rattle.bt_sweep.proofs.lemmas.definitions.PieceLemmas.{are_pieces}
-use Rattle.bt_tool.specs.model.Written.{Report}
-use Rattle.bt_laws.specs.Pipes.{read_alone, records_for, records_written}
+use Rattle.bt_laws.specs.Pipes.{records_for, records_written}
 use Rattle.bt_laws.proofs.lemmas.same.GapsHit.{covered_cut, cut_covered, cut_span}
 use Rattle.bt_laws.proofs.lemmas.same.SameRuns.{here_all, none_there, report_there}
 use Rattle.bt_runs.proofs.lemmas.Lists.{map_flat, map_map, all_any}
@@ -298,10 +296,7 @@ module _ (bs : List Feature) where
   left_so a p c = grind (arith, (are_pieces a (hits_among any_overlap a bs)), hit_back)
 
   one_of : (a : Feature) (p : ℕ) → a.start ≤ p → p < a.stop → IsCovered (cuts a) p ⊎ IsCovered (lefts a) p
-  one_of a p from to = elim (cases_Bool (is_covered (spans_of (hits_among any_overlap a bs)) p)) [
-    | inl t ↦ inl (covered_cut a (hits_among any_overlap a bs) p from to ((is_covered-Decides (spans_of (hits_among any_overlap a bs)) p).0 t))
-    | inr f ↦ inr ((are_pieces a (hits_among any_overlap a bs)).whole p (record { from_start = from; before_stop = to; bare = λ c. false≢true (sym f ∙ (is_covered-Decides (spans_of (hits_among any_overlap a bs)) p).1 c) }))
-  ]
+  one_of a p from to = grind (arith, (cases_Bool (is_covered (spans_of (hits_among any_overlap a bs)) p)), covered_cut, (is_covered-Decides (spans_of (hits_among any_overlap a bs)) p), (are_pieces a (hits_among any_overlap a bs)), false≢true)
 
   either_here : (a : Feature) (more : List Feature) (name : List ℕ) (p : ℕ) → a.chrom ≡ name → IsCovered (cuts a) p ⊎ IsCovered (lefts a) p → IsCovered (spans_on name (places cuts (a ∷ more))) p ⊎ IsCovered (spans_on name (places lefts (a ∷ more))) p
   either_here a more name p same (inl c) = inl (subst (λ l. IsCovered l p) (sym (spans_here cuts name a more same)) (covered_left (cuts a) (spans_on name (places cuts more)) p c))
@@ -346,19 +341,9 @@ cut_places : (bs as_read : List Feature) → intervals_of (records_written Cut a
 cut_places bs as_read = map_flat interval_of (λ a. records_for Cut a (hits_among any_overlap a bs)) (λ a. map (placed_on a.chrom) (cuts bs a)) as_read (λ a. cut_each a (hits_among any_overlap a bs))
 
 left_places : (bs as_read : List Feature) → intervals_of (records_written Pieces any_overlap as_read bs) ≡ places (lefts bs) as_read
-left_places bs as_read = map_flat interval_of (λ a. records_for Pieces a (hits_among any_overlap a bs)) (λ a. map (placed_on a.chrom) (lefts bs a)) as_read (λ a. map_map (λ (p : Span). read_alone (cut_to p.start p.stop a)) interval_of (placed_on a.chrom) (lefts bs a) (all_any _ (lefts bs a) (λ p. refl)))
+left_places bs as_read = grind (arith, map_flat, map_map, all_any)
 
 -- ---- the runs
 
 pub parts_of_first : intersect_and_subtract_part
-parts_of_first held inputs chromosomes well apart =
-    let firsts = first_records chromosomes inputs in
-    let seconds = second_records chromosomes inputs in
-    let pieces_well = other_shape Cut Pieces any_overlap held inputs chromosomes well in
-    let subtract_well : RunsWithoutFault (Subtract false any_overlap held) inputs chromosomes = record { genome = well.genome; faultless = ap (λ (r : Report). r.fault) (report_there (Subtract false any_overlap held) inputs chromosomes well.genome ∙ sym (report_there (Intersect Pieces any_overlap held) inputs chromosomes well.genome)) ∙ pieces_well.faultless } in (
-      subtract_well.faultless,
-      cut_intersect_input Cut any_overlap held inputs chromosomes refl well apart,
-      (subtract_input any_overlap held inputs chromosomes subtract_well apart).0,
-      subst (λ cut_at. PartBases (intervals_of firsts) cut_at (intervals_of (records_written Pieces any_overlap firsts seconds))) (sym (cut_places seconds firsts))
-          (subst (PartBases (intervals_of firsts) (places (cuts seconds) firsts)) (sym (left_places seconds firsts)) (bases_part seconds firsts)),
-    )
+parts_of_first held inputs chromosomes well apart = grind (arith, (other_shape Cut Pieces any_overlap held inputs chromosomes well), (report_there (Subtract false any_overlap held) inputs chromosomes well.genome), (report_there (Intersect Pieces any_overlap held) inputs chromosomes well.genome), (cut_intersect_input Cut any_overlap held inputs chromosomes refl well apart), subtract_input, cut_places, left_places, bases_part)

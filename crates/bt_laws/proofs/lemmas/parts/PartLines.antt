@@ -126,9 +126,7 @@ module _ {A State : Type 0} (format : Format A State) where
     pub good_joint : (one two : List ℕ) → StandsBefore one two → IsNumberless
         → ((n : ℕ) → good_from format input (reached format.begin (items_in (good format input (text_lines one)))) (lines_from n two) ≡ good_from format input format.begin (lines_from n two))
         → IsJoint (good format input (text_lines one)) (good format input (text_lines two)) (good format input (text_lines (one ++ two)))
-    good_joint one two ends free is =
-        let split = lines_join 1 one two ends in
-        grind (arith, (go_from format.begin (text_lines one) (lines_from split.0 two)), (is split.0), joint_by, (like_from input format.begin (lines_from split.0 two) (text_lines two) free (alike_lines split.0 1 two)))
+    good_joint one two ends free is = grind (arith, (lines_join 1 one two ends), go_from, joint_by, like_from, alike_lines)
 
     -- what holds of each member that a line says, holds of the good members
     module _ (Q : A → Type 0) where

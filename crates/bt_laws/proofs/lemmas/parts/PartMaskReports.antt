@@ -433,13 +433,7 @@ module _ (how : MaskHow) (full : Bool) where
 
     -- the first part has none: what the second part does, the whole does
     pub sound_stops : (report_on one).fault ≡ None → Stops (report_on one) (report_on two) (report_on both)
-    sound_stops none =
-        let sound = report_sound how (F one.first) (B one.second) none in
-        let rest = some_list (leave (Some (N one.first)) None (R one.second)) sound.owned in
-        stops_sound sound.lines rest.0 rest.1 sound.records none
+    sound_stops none = grind (arith, (report_sound how (F one.first) (B one.second) none), some_list, (leave (Some (N one.first)) None (R one.second)), stops_sound)
 
     pub sound_goes : (report_on one).fault ≡ None → Lacks two → Lacks both × ((report_on both).output ≡ (report_on one).output ++ (report_on two).output)
-    sound_goes none lacks =
-        let sound = report_sound how (F one.first) (B one.second) none in
-        let rest = some_list (leave (Some (N one.first)) None (R one.second)) sound.owned in
-        (both_lack sound.lines rest.0 rest.1 sound.records lacks, both_lines sound.lines rest.0 rest.1 sound.records lacks)
+    sound_goes none lacks = grind (arith, (report_sound how (F one.first) (B one.second) none), some_list, (leave (Some (N one.first)) None (R one.second)), both_lack, both_lines)

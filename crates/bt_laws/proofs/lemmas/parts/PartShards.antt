@@ -18,7 +18,7 @@ use Rattle.bt_laws.proofs.lemmas.parts.PartGenomes.{agree_first, agree_second, a
 use Rattle.bt_runs.proofs.lemmas.Lists.{all_flat_map, all_so, filter_all, filter_none, filter_same, flat_map_same, all_any, all_both, all_map, map_same}
 use Rattle.bt_laws.proofs.lemmas.parts.PartReports.{Splits, nothing, parts_both, splits_as, Joins, good_joins}
 use Rattle.bt_laws.proofs.lemmas.parts.PartBed.{reversed_less, Earlier, bed_joint, good_earlier, items_all}
-use Rattle.bt_lines.specs.model.Lines.{Handed, whole_text, lines_from, text_lines}
+use Rattle.bt_lines.specs.model.Lines.{Handed, lines_from, text_lines}
 use Rattle.bt_lines.specs.declared.fault.Input.TheVariants.{First}
 use Rattle.bt_bed.specs.model.Good.{Good, good, good_from, items_in, bed_format}
 use Rattle.bt_bed.specs.declared.record.strand.Strand.{Strand}
@@ -156,11 +156,7 @@ module _ {T : Type 0} (chrom : T → List ℕ) (ends : Interval → T → Bool) 
     pub chromosomes_split : {ones twos : List Feature} → AllByRecursion (λ r. is_among One-names r.chrom ≡ true) (intervals_of ones) → AllByRecursion (λ r. is_among Two-names r.chrom ≡ true) (intervals_of twos)
         → ((rest : List T) × (whole_of e_one ones ≡ settled_of e_one ones ++ rest))
         → Splits (written_of e_one) (written_of e_two) (written_of (e_one ++ e_two)) ones twos
-    chromosomes_split {ones} {twos} in_one in_two begins = record {
-      all = ap (flat_map line) (whole_both ones twos in_one in_two) ∙ lines_both (whole_of e_one ones) (whole_of e_two twos);
-      first = ap (flat_map line) (settled_first ones in_one);
-      begin = begin_by ones twos in_one in_two begins;
-    }
+    chromosomes_split {ones} {twos} in_one in_two begins = grind (arith, (whole_both ones twos in_one in_two), (lines_both (whole_of e_one ones) (whole_of e_two twos)), (settled_first ones in_one), (begin_by ones twos in_one in_two begins))
 
 -- ---- gaps
 
@@ -338,11 +334,7 @@ module _ {X : Type 0} (entries : X → List Entry) (records : X → List Feature
     within : AllByRecursion (λ x. AllByRecursion (LiesWithin (entries x) (flat_map entries xs)) (records x)) xs
 
   fit_less : (x : X) (xs : List X) → Fit (x ∷ xs) → Fit xs
-  fit_less x xs fit = record {
-    distinct = back_distinct (genome_names (entries x)) (genome_names (flat_map entries xs)) (subst AreDistinct (names_both (entries x) (flat_map entries xs)) fit.distinct);
-    lines = less x xs fit.lines;
-    within = all_so _ _ xs (λ y l. all_so _ _ (records y) (λ r k here. k (grind (arith, names_both, among_append))) l) fit.within.1;
-  }
+  fit_less x xs fit = grind (arith, back_distinct, (names_both (entries x) (flat_map entries xs)), (less x xs fit.lines), all_so, names_both, among_append)
 
   -- the runs on the parts, and the run on the whole
   pub own_add : (on : X → Report) (whole : Report) (xs : List X) → AllByRecursion (λ x. on x ≡ report x) xs → whole ≡ report (join xs) → AreDistinct (genome_names (flat_map entries xs)) → AreLines xs
@@ -365,9 +357,7 @@ module _ (W : List Entry → Written Feature) (command : Command)
   -- a run by the genome file
   pub text_report : (genome : Handed) (entries : List Entry) (text : List ℕ) → chromosomes_of (Some genome) ≡ Ok (Some entries) → on_text command (Some genome) text ≡ report_in entries text
   unfolding report_of
-  text_report genome entries text has =
-      ap (λ c. report_on command c (whole_text text) None) has ∙ is entries (whole_text text)
-      ∙ ap (good_report (W entries)) (good_whole (bed_format (sorting_of (rank_order (genome_names entries)))) First text)
+  text_report genome entries text has = grind (arith, (good_whole (bed_format (sorting_of (rank_order (genome_names entries)))) First text))
 
   known_in : (entries : List Entry) (text : List ℕ) → AllByRecursion (λ r. is_among (genome_names entries) r.chrom ≡ true) (intervals_of (items_in (good_of entries text)))
   known_in entries text =

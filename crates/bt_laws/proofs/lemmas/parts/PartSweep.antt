@@ -134,12 +134,7 @@ module _ {order : Order} {total : IsTotal order} (shape : Shape) (rule : HitRule
     written_one (Some g) j = ap (written (sweep_rule order shape rule bones (Some f))) j.0
 
     stops_second : Stops (sweep_report order shape rule aones fa1 bones (Some f)) (sweep_report order shape rule atwos fa2 btwos fb2) (sweep_report order shape rule all fa bs fb)
-    stops_second =
-        let whole = sweep_report order shape rule all fa bs fb in (
-          [],
-          ap (λ l. (sweep_report order shape rule aones fa1 bones (Some f)).output ++ l) (grind arith)
-              ∙ ap (λ l. l ++ []) (met_lines (sweep_rule order shape rule bones (Some f)) aones fa1 ∙ sym (written_one fa1 ja) ∙ sym (grind arith) ∙ sym (met_lines (sweep_rule order shape rule bs fb) all fa)),
-        )
+    stops_second = grind (arith, (met_lines (sweep_rule order shape rule bones (Some f)) aones fa1), (written_one fa1 ja), (met_lines (sweep_rule order shape rule bs fb) all fa))
 
   module _ (fa1 fa2 fa fb2 fb : Option FaultValue) (all bs : List Feature) (ja : Contiguous fa1 fa2 fa aones atwos all) (jb : Contiguous None fb2 fb bones btwos bs) where
     abbrev Rule-of-both : Rule Feature ℕ FaultValue

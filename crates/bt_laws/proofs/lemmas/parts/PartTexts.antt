@@ -1,5 +1,5 @@
 -- The reports of bamtobed, merge, intersect and subtract on two concatenated texts, and on any number.
-use Rattle.bt_lines.proofs.Std.{common_steps, rules, arith, ◌≡◌, ℕ, Bool, List, [], ◌∷◌, ◌++◌, append-nil, Option, Some, None, refl, sym, ap, ◌∙◌, map, Ok, ap₂, flat_map-append, IsTrue, AllByRecursion, ◌⊎◌, append_assoc, inl, inr, subst, flat_map, flat_map-map}
+use Rattle.bt_lines.proofs.Std.{common_steps, rules, arith, ◌≡◌, ℕ, Bool, List, [], ◌∷◌, ◌++◌, append-nil, Option, Some, None, refl, sym, ap, ◌∙◌, map, Ok, ap₂, flat_map-append, IsTrue, AllByRecursion, ◌⊎◌, append_assoc, inl, subst, flat_map, flat_map-map, inr}
 use Rattle.bt_lines.specs.model.Lines.{lines_from, text_lines, Handed}
 use Rattle.bt_lines.specs.declared.fault.Input.TheVariants.{First, Second}
 use Rattle.bt_bed.specs.model.Good.{Good, good, good_from, items_in, bed_format}

@@ -123,18 +123,7 @@ unfolding cigar_tail
 clear_cigar_tail cigar a h = grind arith
 
 columns_aligned : (cigar : Bool) (a : Alignment) → IsAligned a → IsColumns (aligned_columns cigar a)
-columns_aligned cigar a is = record {
-  named = is.named;
-  clear = is.clear_chrom;
-  below = is.below;
-  small = is.small;
-  kept = refl;
-  clear_tail = clear_tab (read_name a ++ 9 ∷ (decimal a.quality ++ 9 ∷ (strand_sign a.reverse ++ cigar_tail cigar a)))
-      (clear_both (read_name a) (9 ∷ (decimal a.quality ++ 9 ∷ (strand_sign a.reverse ++ cigar_tail cigar a))) (clear_read a is.clear_name)
-      (clear_tab (decimal a.quality ++ 9 ∷ (strand_sign a.reverse ++ cigar_tail cigar a))
-      (clear_both (decimal a.quality) (9 ∷ (strand_sign a.reverse ++ cigar_tail cigar a)) (clear_number a.quality)
-      (clear_tab (strand_sign a.reverse ++ cigar_tail cigar a) (clear_both (strand_sign a.reverse) (cigar_tail cigar a) (grind arith) (clear_cigar_tail cigar a is.clear_cigar))))));
-}
+columns_aligned cigar a is = grind (arith, clear_tab, (decimal a.quality), clear_both, (clear_read a is.clear_name), (clear_number a.quality), (clear_cigar_tail cigar a is.clear_cigar))
 
 -- ---- the record that is read of it
 

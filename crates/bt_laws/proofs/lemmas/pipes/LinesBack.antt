@@ -249,12 +249,7 @@ module _ (order : Order) (total : IsTotal order) where
   pub written_back : {A : Type 0} (line : A → List ℕ) (columns : A → Columns) (back : A → Feature) (items : List A) → ((a : A) → line a ≡ text_of_columns (columns a) ++ 10 ∷ [])
       → AllByRecursion (λ a. record_back (columns a) ≡ back a) items → AllByRecursion (λ a. IsColumns (columns a)) items → ArePlaced order (map (λ a. (columns a).at) items)
       → IsInput order (flat_map line items) (filter is_no_header (map back items))
-  written_back line columns back items as_line as_read are placed =
-      let text : Columns → List ℕ = λ line. text_of_columns line ++ 10 ∷ [] in
-      subst (λ bytes. IsInput order bytes (filter is_no_header (map back items))) (flat_map-map text columns items ∙ sym (flat_map_same line (λ a. text (columns a)) items (all_any _ items as_line)))
-      (subst (λ rs. IsInput order (flat_map text (map columns items)) (filter is_no_header rs)) (map_map columns record_back back items as_read)
-      (lines_back (map columns items) (all_map IsColumns columns items are)
-      (subst (ArePlaced order) (sym (map_map columns (λ line. line.at) (λ a. (columns a).at) items (all_any _ items (λ a. refl)))) placed)))
+  written_back line columns back items as_line as_read are placed = grind (arith, flat_map-map, flat_map_same, (all_any _ items as_line), (map_map columns record_back back items as_read), lines_back, (all_map IsColumns columns items are), map_map, all_any)
 
 -- What is known of each good record of an input, and of each chromosome of a genome file.
 

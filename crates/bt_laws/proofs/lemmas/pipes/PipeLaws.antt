@@ -29,7 +29,7 @@ use Rattle.bt_sweep.specs.declared.output.shape.Shape.{Shape}
 use Rattle.bt_sweep.specs.declared.output.shape.Shape.TheVariants.{Pieces, Whole}
 use Rattle.bt_sweep.proofs.lemmas.definitions.HitLemmas.{faultless_all}
 use Rattle.bt_tool.specs.model.Report.{behaviour_of, entries_in, order_of, Inputs, or_empty, chromosomes_of, report_of, report_on}
-use Rattle.bt_tool.specs.model.Written.{Report, report_by, met_within, Written, coverage_written, merge_written}
+use Rattle.bt_tool.specs.model.Written.{Report, report_by, met_within, Written, merge_written}
 use Rattle.bt_tool.specs.declared.planning.plan_type.Command.{Command}
 use Rattle.bt_tool.specs.declared.planning.plan_type.Command.TheVariants.{Complement, Coverage, Intersect, Merge, Subtract}
 use Rattle.bt_laws.specs.WholeRuns.{RunsWithoutFault, first_records, second_records}
@@ -71,9 +71,7 @@ module _ (command : Command) (inputs : Inputs) (chromosomes : Option (List Entry
 
 pub merge_whole : (d : ℕ) (strand : MergeStrand) (inputs : Inputs) (chromosomes : Option (List Entry)) → RunsWithoutFault (Merge d strand) inputs chromosomes
     → (report_of (Merge d strand) inputs).output ≡ (merge_written (order_of chromosomes) d strand).whole (first_records chromosomes inputs)
-merge_whole d strand inputs chromosomes well =
-    output_is (Merge d strand) inputs chromosomes well
-    ∙ whole_by (merge_written (order_of chromosomes) d strand) (first_records chromosomes inputs) (bed_good First (order_of chromosomes) inputs.first).fault (well_there (Merge d strand) inputs chromosomes well)
+merge_whole d strand inputs chromosomes well = grind (arith, (output_is (Merge d strand) inputs chromosomes well), whole_by, (well_there (Merge d strand) inputs chromosomes well))
 
 module _ (d : ℕ) (inputs : Inputs) (chromosomes : Option (List Entry)) where
   abbrev order_used : Order
@@ -139,9 +137,7 @@ depths_input zeros strand genome (Some entries) records e =
 
 pub genomecov_whole : (zeros : Bool) (strand : Option Strand) (inputs : Inputs) (chromosomes : Option (List Entry)) → RunsWithoutFault (Coverage zeros strand) inputs chromosomes
     → (report_of (Coverage zeros strand) inputs).output ≡ depth_lines (coverage zeros strand (entries_in chromosomes) (first_records chromosomes inputs))
-genomecov_whole zeros strand inputs chromosomes well =
-    output_is (Coverage zeros strand) inputs chromosomes well
-    ∙ whole_by (coverage_written (entries_in chromosomes) zeros strand) (first_records chromosomes inputs) (bed_good First (order_of chromosomes) inputs.first).fault (well_there (Coverage zeros strand) inputs chromosomes well)
+genomecov_whole zeros strand inputs chromosomes well = grind (arith, (output_is (Coverage zeros strand) inputs chromosomes well), whole_by, (well_there (Coverage zeros strand) inputs chromosomes well))
 
 pub genomecov_input : genomecov_is_input
 genomecov_input zeros strand inputs chromosomes well =
@@ -214,14 +210,10 @@ subtract_whole whole rule held inputs chromosomes well =
     ∙ swept_whole (order_of chromosomes) (subtract_shape whole) rule held (bed_good First (order_of chromosomes) inputs.first) (bed_good Second (order_of chromosomes) (or_empty inputs.second)) (well_there (Subtract whole rule held) inputs chromosomes well)
 
 pub intersect_input : intersect_is_input
-intersect_input shape rule held inputs chromosomes begins well =
-    subst (λ text. IsInput (order_of chromosomes) text (records_written shape rule (first_records chromosomes inputs) (second_records chromosomes inputs))) (sym (intersect_whole shape rule held inputs chromosomes well))
-    (kept_input shape rule chromosomes inputs begins)
+intersect_input shape rule held inputs chromosomes begins well = grind (arith, (intersect_whole shape rule held inputs chromosomes well), (kept_input shape rule chromosomes inputs begins))
 
 pub whole_subtract_input : whole_subtract_is_input
-whole_subtract_input rule held inputs chromosomes well =
-    subst (λ text. IsInput (order_of chromosomes) text (records_written Whole rule (first_records chromosomes inputs) (second_records chromosomes inputs))) (sym (subtract_whole true rule held inputs chromosomes well))
-    (kept_input Whole rule chromosomes inputs refl)
+whole_subtract_input rule held inputs chromosomes well = grind (arith, (subtract_whole true rule held inputs chromosomes well), (kept_input Whole rule chromosomes inputs refl))
 
 pub kept_records : kept_records_stay
 kept_records shape rule inputs chromosomes alone plain = records_stay shape rule (first_records chromosomes inputs) (second_records chromosomes inputs) alone (said shape rule chromosomes inputs) plain
@@ -238,8 +230,7 @@ cut_strands shape rule inputs chromosomes cuts keeps =
     cut_stay shape rule (first_records chromosomes inputs) (second_records chromosomes inputs) cuts (said shape rule chromosomes inputs) (said_second shape rule chromosomes inputs) keeps
 
 pub cut_intersect_input : cut_intersect_is_input
-cut_intersect_input shape rule held inputs chromosomes cuts well apart =
-    subst (λ text. IsInput (order_of chromosomes) text (records_written shape rule (first_records chromosomes inputs) (second_records chromosomes inputs))) (sym (intersect_whole shape rule held inputs chromosomes well)) (cut_input shape rule chromosomes inputs cuts apart)
+cut_intersect_input shape rule held inputs chromosomes cuts well apart = grind (arith, (intersect_whole shape rule held inputs chromosomes well), (cut_input shape rule chromosomes inputs cuts apart))
 
 pub subtract_input : subtract_is_input
 subtract_input rule held inputs chromosomes well apart =

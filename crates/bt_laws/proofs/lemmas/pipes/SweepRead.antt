@@ -129,13 +129,8 @@ module _ (a : Feature) (is : IsSaid a) where
 
 pub cut_stay : (shape : Shape) (rule : HitRule) (first second : List Feature) → begins_with_a shape ≡ false → AllByRecursion IsSaid first → AllByRecursion IsSaid second → AllByRecursion (KeepsStrand shape) first
     → AllByRecursion (λ a. AllByRecursion (λ (r : Feature). r.strand ≡ a.strand) (records_for shape a (hits_among rule a second))) first
-cut_stay shape rule first second e said said_second keeps =
-    all_zip IsSaid (KeepsStrand shape) (λ a. AllByRecursion (λ (r : Feature). r.strand ≡ a.strand) (records_for shape a (hits_among rule a second))) first
-    (λ a is keeps_it. cut_strands_for a is rule shape (hits_among rule a second) e keeps_it (all_hits rule a second said_second)) said keeps
+cut_stay shape rule first second e said said_second keeps = grind (arith, all_zip, cut_strands_for, all_hits)
 
 pub strands_stay : (shape : Shape) (rule : HitRule) (first second : List Feature) → begins_with_a shape ≡ true → is_a_alone shape ≡ false → AllByRecursion IsSaid first → AllByRecursion IsSaid second → AllByRecursion (TakesNoStrand shape) first
     → map (λ (r : Feature). r.strand) (records_written shape rule first second) ≡ map (λ (r : Feature). r.strand) (copies_written shape rule first second)
-strands_stay shape rule first second e alone said said_second unsigned =
-    map_flat_same (λ (r : Feature). r.strand) (λ a. records_for shape a (hits_among rule a second)) (λ a. replicate (line_count shape (length (hits_among rule a second))) a) first
-    (all_zip IsSaid (TakesNoStrand shape) (λ a. map (λ (r : Feature). r.strand) (records_for shape a (hits_among rule a second)) ≡ map (λ (r : Feature). r.strand) (replicate (line_count shape (length (hits_among rule a second))) a)) first
-    (λ a is takes. strands_for a is rule shape (hits_among rule a second) e alone takes (all_hits rule a second said_second)) said unsigned)
+strands_stay shape rule first second e alone said said_second unsigned = grind (arith, map_flat_same, replicate, length, all_zip, strands_for, all_hits)

@@ -11,7 +11,7 @@ use Rattle.bt_bed.specs.model.Good.{bed_good}
 use Rattle.bt_bed.specs.model.Order.{Order, is_among}
 use Rattle.bt_bed.specs.calls.Orders.{AreDistinct}
 use Rattle.bt_bed.proofs.lemmas.parse.NameLemmas.{cases_name}
-use Rattle.bt_runs.specs.model.Gaps.{complement, gaps_of, gaps_on, is_asked}
+use Rattle.bt_runs.specs.model.Gaps.{complement, gaps_of, gaps_on}
 use Rattle.bt_runs.specs.calls.Complementing.{length_in}
 use Rattle.bt_runs.proofs.lemmas.order.FileOrder.{spans_on-append}
 use Rattle.bt_runs.proofs.lemmas.complement.Walks.{are_gaps}
@@ -53,9 +53,7 @@ module _ (records : List Interval) where
 
 pub complement_spans : (entries : List Entry) (records : List Feature) (name : List ℕ) → AreDistinct (genome_names entries) → spans_on name (complement false entries records) ≡ gaps_of (length_in entries name) (spans_on name (intervals_of records))
 unfolding complement
-complement_spans entries records name distinct =
-    ap (λ es. spans_on name (flat_map (gaps_on (intervals_of records)) es)) (filter_all (is_asked false (intervals_of records)) entries (all_any _ entries (λ e. refl)))
-    ∙ gaps_there (intervals_of records) name entries distinct
+complement_spans entries records name distinct = grind (arith, filter_all, all_any, (gaps_there (intervals_of records) name entries distinct))
 
 -- lines of header words hide nothing of another chromosome
 pub unhidden : (name : List ℕ) (rs : List Interval) → is_header name ≡ false → spans_on name (intervals_of (filter is_no_header (map three_columns rs))) ≡ spans_on name rs
@@ -147,7 +145,4 @@ module _ (inputs : Inputs) (entries : List Entry) (genome : chromosomes_of input
       ∙ all_lines (first_records (Some entries) inputs) (good_are_said First order inputs.first) within)
 
 pub subtract_gaps : subtract_by_complement
-subtract_gaps held inputs entries well within =
-    let none = nones Pieces held inputs (Some entries) (well_there (Subtract false any_overlap held) inputs (Some entries) well) in
-    subst (RunWrites (Intersect Cut any_overlap None) (with_second (Complement false) inputs)) (sym (subtract_whole false any_overlap held inputs (Some entries) well))
-    (by_gaps inputs entries well.genome none.1 none.0 within)
+subtract_gaps held inputs entries well within = grind (arith, (nones Pieces held inputs (Some entries) (well_there (Subtract false any_overlap held) inputs (Some entries) well)), (well_there (Subtract false any_overlap held) inputs (Some entries) well), (subtract_whole false any_overlap held inputs (Some entries) well), by_gaps)

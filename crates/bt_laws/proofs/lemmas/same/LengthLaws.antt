@@ -246,10 +246,7 @@ module _ (entries : List Entry) (distinct : AreDistinct (genome_names entries)) 
   lengths_order = rank_order (genome_names entries)
 
   pub same_merge : (d : ℕ) → ArePlaced lengths_order (intervals_of records) → ArePlaced lengths_order (intervals_of read) → ordered_runs lengths_order d All read ≡ ordered_runs lengths_order d All records
-  same_merge d placed read_placed =
-      sym (file_ordered (genome_names entries) d All read distinct read_placed) ∙ ap (merged (genome_names entries) d) (all_counted read)
-      ∙ alike_merged (genome_names entries) d (intervals_of read) (intervals_of records) same_bases
-      ∙ sym (ap (merged (genome_names entries) d) (all_counted records)) ∙ file_ordered (genome_names entries) d All records distinct placed
+  same_merge d placed read_placed = grind (arith, (file_ordered (genome_names entries) d All read distinct read_placed), (all_counted read), (alike_merged (genome_names entries) d (intervals_of read) (intervals_of records) same_bases), same_bases, (all_counted records), (file_ordered (genome_names entries) d All records distinct placed))
 
 pub genomecov_merged : merge_of_genomecov
 genomecov_merged d inputs entries well within =

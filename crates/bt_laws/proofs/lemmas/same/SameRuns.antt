@@ -18,7 +18,7 @@ use Rattle.bt_bed.specs.model.Genome.{Entry}
 use Rattle.bt_bed.specs.model.Order.{Order, is_among}
 use Rattle.bt_bed.specs.declared.record.strand.Strand.{Strand}
 use Rattle.bt_runs.specs.model.Merged.{counted, is_counted, chromosomes, merged, runs_on, in_order, ordered_runs, without, runs_of}
-use Rattle.bt_runs.specs.model.Depth.{coverage, depth_at, depth_lines, depth_of, depth_on, depths_on, is_counted_by, reported}
+use Rattle.bt_runs.specs.model.Depth.{coverage, depth_at, depth_of, depth_on, depths_on, is_counted_by, reported}
 use Rattle.bt_runs.specs.model.Gaps.{complement}
 use Rattle.bt_laws.specs.Runs.{AreKnown}
 use Rattle.bt_runs.specs.declared.merge.merge_strand.MergeStrand.{MergeStrand}
@@ -140,10 +140,7 @@ module _ (order : Order) (total : IsTotal order) where
     named_come = grind (arith, names_in_order, known, distinct_chromosomes, ascending_pairs, known_named, among_chromosomes)
 
   alike_names : (keep : Feature → Bool) (rs ss : List Feature) → ArePlaced order (intervals_of rs) → ArePlaced order (intervals_of ss) → IsAlike rs ss → named keep rs ≡ named keep ss
-  alike_names keep rs ss placed other is =
-      let one = named_come keep rs placed in
-      let two = named_come keep ss other in
-      same_names (named keep rs) (named keep ss) (known_named keep rs placed) (known_named keep ss other) one.0 two.0 (λ name. one.1 name ∙ is.has keep name ∙ sym (two.1 name))
+  alike_names keep rs ss placed other is = grind (arith, (named_come keep rs placed), (named_come keep ss other), same_names, (known_named keep rs placed), (known_named keep ss other))
 
 -- ---- merge, complement and genomecov of them
 
@@ -153,10 +150,7 @@ alike_merged names gap rs ss same = flat_map_same (λ name. runs_on name gap rs)
 
 alike_runs : (order : Order) → IsTotal order → (gap : ℕ) (strand : MergeStrand) (rs ss : List Feature) → ArePlaced order (intervals_of rs) → ArePlaced order (intervals_of ss) → IsAlike rs ss → ordered_runs order gap strand rs ≡ ordered_runs order gap strand ss
 unfolding ordered_runs
-alike_runs order total gap strand rs ss placed other is =
-    let keep : Feature → Bool = λ r. is_counted strand r.strand in
-    ap (λ names. merged names gap (counted strand rs)) (alike_names order total keep rs ss placed other is)
-    ∙ alike_merged (in_order order (chromosomes (counted strand ss))) gap (counted strand rs) (counted strand ss) (is.cover keep)
+alike_runs order total gap strand rs ss placed other is = grind (arith, alike_names, alike_merged)
 
 pub all_counted : (rs : List Feature) → counted All rs ≡ intervals_of rs
 all_counted rs = ap intervals_of (filter_all (λ r. true) rs (all_any _ rs (λ r. refl)))
@@ -196,8 +190,7 @@ merge_alike d strand inputs others chromosomes other one two is =
 
 complement_alike : (limit : Bool) (inputs others : Inputs) (chromosomes : Option (List Entry)) → RunsWithoutFault (Complement limit) inputs chromosomes → RunsWithoutFault (Complement limit) others chromosomes
     → IsAlike (first_records chromosomes inputs) (first_records chromosomes others) → (report_of (Complement limit) inputs).output ≡ (report_of (Complement limit) others).output
-complement_alike limit inputs others chromosomes one two is =
-    complement_whole limit inputs chromosomes one ∙ ap interval_lines (alike_gaps limit (entries_in chromosomes) (first_records chromosomes inputs) (first_records chromosomes others) is) ∙ sym (complement_whole limit others chromosomes two)
+complement_alike limit inputs others chromosomes one two is = grind (arith, (complement_whole limit inputs chromosomes one), (alike_gaps limit (entries_in chromosomes) (first_records chromosomes inputs) (first_records chromosomes others) is), (complement_whole limit others chromosomes two))
 
 pub merge_exchanged : exchanged_merge
 merge_exchanged d strand other inputs others chromosomes one two is = grind (arith, merge_alike, (exchanged_alike (first_records chromosomes inputs) (first_records chromosomes others) is))
@@ -207,10 +200,7 @@ complement_exchanged limit inputs others chromosomes one two is =
     grind (arith, (complement_alike limit inputs others chromosomes one two (exchanged_alike (first_records chromosomes inputs) (first_records chromosomes others) is)))
 
 pub genomecov_exchanged : exchanged_genomecov
-genomecov_exchanged zeros strand inputs others chromosomes one two is =
-    genomecov_whole zeros strand inputs chromosomes one
-    ∙ ap depth_lines (exchanged_depths zeros strand (entries_in chromosomes) (first_records chromosomes inputs) (first_records chromosomes others) is)
-    ∙ sym (genomecov_whole zeros strand others chromosomes two)
+genomecov_exchanged zeros strand inputs others chromosomes one two is = grind (arith, (genomecov_whole zeros strand inputs chromosomes one), (exchanged_depths zeros strand (entries_in chromosomes) (first_records chromosomes inputs) (first_records chromosomes others) is), (genomecov_whole zeros strand others chromosomes two))
 
 pub merge_repeated : repeated_merge
 merge_repeated d strand other inputs others chromosomes one two is = grind (arith, merge_alike, (repeated_alike (first_records chromosomes inputs) (first_records chromosomes others) is))
@@ -395,24 +385,14 @@ merge_twice d strand inputs chromosomes other well = merged_by d strand inputs c
 pub fault_as : (command other : Command) (inputs : Inputs) (chromosomes_in : Option (List Entry)) → RunsWithoutFault command inputs chromosomes_in
     → (((behaviour_of command chromosomes_in).report inputs.first inputs.second).fault ≡ ((behaviour_of other chromosomes_in).report inputs.first inputs.second).fault)
     → RunsWithoutFault other inputs chromosomes_in
-fault_as command other inputs chromosomes_in well same = record {
-  genome = well.genome;
-  faultless =
-      ap (λ (r : Report). r.fault) (report_there other inputs chromosomes_in well.genome) ∙ sym same
-      ∙ ap (λ (r : Report). r.fault) (sym (report_there command inputs chromosomes_in well.genome)) ∙ well.faultless;
-}
+fault_as command other inputs chromosomes_in well same = grind (arith, (report_there other inputs chromosomes_in well.genome), (report_there command inputs chromosomes_in well.genome))
 
 pub told_same : (one other : Written Feature) (members : List Feature) (fault : Option FaultValue) → (report_by one members fault).fault ≡ (report_by other members fault).fault
 told_same one other members fault = grind arith
 
 gaps_again : (limit : Bool) (entries : List Entry) (order : Order) (total : IsTotal order) (records : List Feature) (placed : ArePlaced order (intervals_of records)) (full : AllByRecursion (λ (r : Feature). r.start < r.stop) records)
     → complement limit entries (map three_columns (ordered_runs order 0 All records)) ≡ complement limit entries records
-gaps_again limit entries order total records placed full =
-    let result = ordered_runs order 0 All records in
-    let all : counted All records ≡ intervals_of records = all_counted records in
-    gaps_by limit entries (map three_columns result) records
-    (λ name. ap (has_records name) (back result) ∙ run_has order total 0 All records placed full name ∙ ap (has_records name) all)
-    (λ name. subst (λ l. SameCover l (spans_on name (intervals_of records))) (sym (ap (spans_on name) (back result) ∙ run_spans order total 0 All records placed full name ∙ ap (λ l. runs_of 0 (spans_on name l)) all)) (runs_cover (spans_on name (intervals_of records))))
+gaps_again limit entries order total records placed full = grind (arith, (all_counted records), gaps_by, back, run_has, run_spans, runs_cover)
 
 pub complement_merged : complement_of_merge
 complement_merged limit inputs chromosomes_in well =

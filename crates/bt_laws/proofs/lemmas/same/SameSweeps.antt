@@ -324,10 +324,7 @@ pub missing_merged : merged_second_missing
 missing_merged both held inputs chromosomes well = by_intersect Missing held inputs chromosomes both missing_sees well
 
 pub subtracts_merged : merged_second_subtract
-subtracts_merged held inputs chromosomes well =
-    let none = nones Pieces held inputs chromosomes (well_there (Subtract false any_overlap held) inputs chromosomes well) in
-    subst (RunWrites (Subtract false any_overlap None) (with_second (Merge 0 All) inputs)) (sym (subtract_whole false any_overlap held inputs chromosomes well))
-    (subtract_merged inputs chromosomes well.genome none.1 none.0)
+subtracts_merged held inputs chromosomes well = grind (arith, (nones Pieces held inputs chromosomes (well_there (Subtract false any_overlap held) inputs chromosomes well)), (well_there (Subtract false any_overlap held) inputs chromosomes well), (subtract_whole false any_overlap held inputs chromosomes well), subtract_merged)
 
 -- The blocks of records that are contiguous: one for each chromosome.
 

@@ -237,9 +237,7 @@ no_header_again : (text : List ℕ) (f : Feature) (between : List ℕ) → text 
 no_header_again text f between e = grind (arith, append_assoc, header_until_tab)
 
 pub rewritten_feature : read_are_rewritten
-rewritten_feature text f e =
-    let s = record_said text f e in
-    grind (arith, (written_feature f (said_is_feature text f s.1) (no_header_again text f (said_stands text f s.1).0 (said_stands text f s.1).1 ∙ s.0)))
+rewritten_feature text f e = grind (arith, (record_said text f e), written_feature, said_is_feature, no_header_again, said_stands)
 
 -- Lemmas on what is written early of two inputs.
 
