@@ -15,7 +15,7 @@ use Rattle.bt_runs.proofs.lemmas.order.FileOrder.{spans_on-append}
 use Rattle.bt_bed.proofs.lemmas.LevelScans.{levels_more}
 use Rattle.bt_laws.specs.Counts.{depth_bases, depths_sum, IsMutual, HitPair, exchanged, pair_line, pairs_have_two_sides, pairs_of, with_sides_exchanged, PartBases, intersect_and_subtract_part}
 use Rattle.bt_laws.specs.WholeRuns.{first_records, second_records, RunWrites}
-use Rattle.bt_laws.proofs.lemmas.pipes.PipeLaws.{depth_both, chroms_of, genomecov_whole, intersect_whole, well_there, cut_intersect_input, subtract_input}
+use Rattle.bt_laws.proofs.lemmas.pipes.PipeLaws.{depth_both, chroms_of, genomecov_whole, intersect_whole, well_there, cut_intersect_input, subtract_input, report_there}
 use Rattle.bt_lines.specs.declared.fault.Input.TheVariants.{First, Second}
 use Rattle.bt_bed.specs.model.Good.{bed_good}
 use Rattle.bt_sweep.specs.model.Hits.{hits, hits_among, is_enough, shared_bases, strands_agree}
@@ -33,7 +33,7 @@ use Rattle.bt_runs.proofs.lemmas.merge.Bridging.{covered_left, covered_parts, co
 use Rattle.bt_sweep.proofs.lemmas.definitions.PieceLemmas.{are_pieces}
 use Rattle.bt_laws.specs.Pipes.{records_for, records_written}
 use Rattle.bt_laws.proofs.lemmas.same.GapsHit.{covered_cut, cut_covered, cut_span}
-use Rattle.bt_laws.proofs.lemmas.same.SameRuns.{here_all, none_there, report_there}
+use Rattle.bt_laws.proofs.lemmas.same.SameRuns.{here_all, none_there}
 use Rattle.bt_runs.proofs.lemmas.Lists.{map_flat, map_map, all_any}
 
 -- Depth times length, added up.

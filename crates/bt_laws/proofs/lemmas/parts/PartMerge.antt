@@ -191,7 +191,7 @@ module _ (gap : ℕ) where
 
   strand_begin : (ones twos : List Feature) → Away (intervals_of ones) (intervals_of twos)
       → (rest : List ℕ) × (interval_lines (places_of (strand_runs gap ones)) ++ interval_lines (places_of (settled_strand_runs gap twos)) ≡ interval_lines (places_of (settled_strand_runs gap (ones ++ twos))) ++ rest)
-  strand_begin ones [] away = (
+  strand_begin ones [] _ = (
     interval_lines (places_of (kept_strand_runs gap ones)),
     ap (λ l. interval_lines (places_of (strand_runs gap ones)) ++ l) nothing_settled ∙ append-nil (interval_lines (places_of (strand_runs gap ones)))
         ∙ ap (λ items. interval_lines (places_of items)) (divide gap ones) ∙ places_both (settled_strand_runs gap ones) (kept_strand_runs gap ones)

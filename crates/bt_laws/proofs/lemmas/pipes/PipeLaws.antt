@@ -56,16 +56,16 @@ chroms_of genome entries e = grind (arith, genome_chroms, distinct_genome)
 whole_by : {A : Type 0} (written : Written A) (members : List A) (fault : Option FaultValue) → (report_by written members fault).fault ≡ None → (report_by written members fault).output ≡ written.whole members
 whole_by written members fault e = grind arith
 
-module _ (command : Command) (inputs : Inputs) (chromosomes : Option (List Entry)) (well : RunsWithoutFault command inputs chromosomes) where
-  pub report_is : report_of command inputs ≡ (behaviour_of command chromosomes).report inputs.first inputs.second
-  unfolding report_of
-  report_is = ap (λ found. report_on command found inputs.first inputs.second) well.genome
+pub report_there : (command : Command) (inputs : Inputs) (chromosomes : Option (List Entry)) → chromosomes_of inputs.genome ≡ Ok chromosomes → report_of command inputs ≡ (behaviour_of command chromosomes).report inputs.first inputs.second
+unfolding report_of
+report_there command inputs chromosomes genome = ap (λ found. report_on command found inputs.first inputs.second) genome
 
+module _ (command : Command) (inputs : Inputs) (chromosomes : Option (List Entry)) (well : RunsWithoutFault command inputs chromosomes) where
   pub well_there : ((behaviour_of command chromosomes).report inputs.first inputs.second).fault ≡ None
-  well_there = ap (λ (r : Report). r.fault) (sym report_is) ∙ well.faultless
+  well_there = ap (λ (r : Report). r.fault) (sym (report_there command inputs chromosomes well.genome)) ∙ well.faultless
 
   pub output_is : (report_of command inputs).output ≡ ((behaviour_of command chromosomes).report inputs.first inputs.second).output
-  output_is = ap (λ (r : Report). r.output) report_is
+  output_is = ap (λ (r : Report). r.output) (report_there command inputs chromosomes well.genome)
 
 -- ---- merge
 

@@ -238,7 +238,7 @@ module _ (order : Order) (total : IsTotal order) (shape : Shape) (rule : HitRule
         let at : AllByRecursion (λ a. AllByRecursion (λ (line : Columns). line.at ≡ interval_of a) (part shape rule second a)) first = all_any _ first (λ a. part_at shape a (hits_among rule a second) begins) in
         lines_input (lines_placed order total (part shape rule second) (λ a line. line.at ≡ interval_of a) (λ a b. UpTo order total (interval_of a) (interval_of b)) first at (pairs_of_places order total first (placed_pairs order total (intervals_of first) placed))
         (λ a line is. ap (λ (r : Interval). r.chrom) is) (λ a b k l up one two. rw (one, two) up) (all_unmap _ interval_of first (placed_known order (intervals_of first) placed))
-        (all_so _ (λ a. EachPair (LineUpTo order total) (part shape rule second a)) first (λ a all. pairs_any (λ (line : Columns). line.at ≡ interval_of a) (LineUpTo order total) (part shape rule second a) (λ k l one two. rw (one, two) (inr (refl, omega arith))) all) at))
+        (all_so (λ a. AllByRecursion (λ (line : Columns). line.at ≡ interval_of a) (part shape rule second a)) (λ a. EachPair (LineUpTo order total) (part shape rule second a)) first (λ a all. pairs_any (λ (line : Columns). line.at ≡ interval_of a) (LineUpTo order total) (part shape rule second a) (λ k l one two. rw (one, two) (inr (refl, omega arith))) all) at))
 
 -- ---- lines whose start and end are cut, of records that have no base in common
 

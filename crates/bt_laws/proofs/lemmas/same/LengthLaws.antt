@@ -1,5 +1,5 @@
 -- Gaps of gaps, and merged depths.
-use Rattle.bt_lines.proofs.Std.{◌≡◌, ℕ, ◌+◌, ◌<◌, ◌≤◌, true, false, cond, List, [], ◌∷◌, ◌++◌, map, filter, min, Some, None, refl, sym, ap, ◌∙◌, subst, inl, inr, arith, append-nil, bytes_eq, flat_map, nat_lt, AllByRecursion, cases_Bool, cases_lt, le-ltb, lt-ltb, or_parts, flat_map-append, map-append, rules}
+use Rattle.bt_lines.proofs.Std.{◌≡◌, ℕ, ◌+◌, ◌<◌, ◌≤◌, true, false, cond, List, [], ◌∷◌, ◌++◌, map, filter, min, Some, None, refl, sym, ap, ◌∙◌, subst, inl, inr, arith, bytes_eq, flat_map, nat_lt, AllByRecursion, cases_Bool, cases_lt, le-ltb, lt-ltb, or_parts, flat_map-append, rules}
 use Rattle.bt_lines.specs.declared.fault.Input.TheVariants.{First}
 use Rattle.bt_bed.specs.model.Feature.{Feature, intervals_of, interval_of, Interval, Span, placed_on, spans_on, span_of}
 use Rattle.bt_bed.specs.calls.Stretches.{AreApartFrom, IsCovered}
@@ -25,16 +25,15 @@ use Rattle.bt_laws.specs.WholeRuns.{first_records, piped}
 use Rattle.bt_laws.specs.Pipes.{IsInput, is_no_header, three_columns, four_columns}
 use Rattle.bt_laws.proofs.lemmas.pipes.PipeLaws.{runs_cover, SameCover, covered_some, some_covered, chroms_of, complement_whole, merge_whole, genomecov_whole}
 use Rattle.bt_laws.proofs.lemmas.pipes.RunsBack.{gaps_back, coverage_back}
-use Rattle.bt_laws.proofs.lemmas.same.GapsHit.{complement_spans, unhidden}
-use Rattle.bt_runs.proofs.lemmas.Lists.{all_any, filter_all, flat_map_same, all_zip}
-use Rattle.bt_laws.proofs.lemmas.same.SameRuns.{alike_merged, complement_on, fault_as, told_same, writes_is, here_all, merge_on, none_there, all_counted}
+use Rattle.bt_laws.proofs.lemmas.same.GapsHit.{complement_spans, unhidden, on_entry, spans_there}
+use Rattle.bt_runs.proofs.lemmas.Lists.{all_any, filter_all, flat_map_same, all_zip, map_flat}
+use Rattle.bt_laws.proofs.lemmas.same.SameRuns.{alike_merged, complement_on, fault_as, told_same, writes_is, merge_on, all_counted}
 use Rattle.bt_laws.proofs.lemmas.parts.PartTexts.{order_total}
 use Rattle.bt_lines.specs.model.Lines.{whole_text}
 use Rattle.bt_bed.specs.model.Levels.{HasValue, Level}
 use Rattle.bt_laws.specs.Runs.{interval_at}
 use Rattle.bt_bed.specs.calls.LevelScan.{begun_after, ended_after}
 use Rattle.bt_runs.specs.model.Depth.{DepthInterval, counted_on, coverage, depth_at, depth_of, depth_on, depths_on, levels_of}
-use Rattle.bt_runs.proofs.lemmas.order.FileOrder.{spans_on-append}
 use Rattle.bt_laws.proofs.lemmas.single.LevelLemmas.{are_levels}
 use Rattle.bt_laws.proofs.lemmas.pipes.DepthParts.{shown}
 use Rattle.bt_laws.proofs.lemmas.pipes.LinesBack.{IsSaid, good_are_said}
@@ -183,17 +182,8 @@ module _ (records : List Feature) where
   unfolding ended_after begun_after
   no_levels name = refl
 
-  at_both : (entry : Entry) (es : List Entry) → map interval_at (flat_map (depths_on false None records) (entry ∷ es)) ≡ map (placed_on entry.name) (spans_for entry.name entry.length) ++ map interval_at (flat_map (depths_on false None records) es)
-  at_both entry es = map-append interval_at (depths_on false None records entry) (flat_map (depths_on false None records) es) ∙ ap (λ l. l ++ map interval_at (flat_map (depths_on false None records) es)) (parts_at entry)
-
-  depths_absent : (name : List ℕ) (entries : List Entry) → is_among (genome_names entries) name ≡ false → spans_on name (map interval_at (flat_map (depths_on false None records) entries)) ≡ []
-  depths_absent name [] e = refl
-  depths_absent name (entry ∷ entries) e =
-      grind (arith, (depths_absent name entries (or_parts (bytes_eq entry.name name) (is_among (genome_names entries) name) e).1), at_both, spans_on-append, none_there)
-
   depths_there : (name : List ℕ) (entries : List Entry) → AreDistinct (genome_names entries) → spans_on name (map interval_at (flat_map (depths_on false None records) entries)) ≡ spans_for name (length_in entries name)
-  depths_there name [] distinct = sym (no_levels name)
-  depths_there name (entry ∷ entries) distinct = grind (arith, (depths_there name entries distinct.1), at_both, spans_on-append, cases_name, here_all, depths_absent, append-nil, none_there)
+  depths_there name entries distinct = ap (spans_on name) (map_flat interval_at (depths_on false None records) (on_entry spans_for no_levels) entries parts_at) ∙ spans_there spans_for no_levels name entries distinct
 
   -- within the lengths the records cover what has a depth
   depth_cover : (name : List ℕ) (size : ℕ) → ((p : ℕ) → IsCovered (spans_on name (intervals_of records)) p → p < size) → SameCover (spans_for name size) (spans_on name (intervals_of records))

@@ -17,8 +17,8 @@ use Rattle.bt_tool.specs.declared.planning.plan_type.Command.TheVariants.{MaskFa
 use Rattle.bt_laws.specs.Same.{KeepsLines, layout_of, masked_keep_layout, masked_twice, sequence_lines, masked_by_both, masked_by_positions, masked_goes_on, with_bed, masked_by_merged, with_merged_bed}
 use Rattle.bt_laws.specs.WholeRuns.{RunsWithoutFault, piped, second_alone}
 use Rattle.bt_laws.proofs.lemmas.pipes.ConvertPipes.{IsAgain, Stands, again_lines, with_text}
-use Rattle.bt_laws.proofs.lemmas.pipes.PipeLaws.{well_there, SameCover, runs_cover, same_sym, merge_whole, output_is}
-use Rattle.bt_laws.proofs.lemmas.same.SameRuns.{report_there, back, run_names, run_spans, all_counted}
+use Rattle.bt_laws.proofs.lemmas.pipes.PipeLaws.{well_there, SameCover, runs_cover, same_sym, merge_whole, output_is, report_there}
+use Rattle.bt_laws.proofs.lemmas.same.SameRuns.{back, run_names, run_spans, all_counted}
 use Rattle.bt_laws.proofs.lemmas.pipes.LinesBack.{ends_both, IsSaid, good_are_said}
 use Rattle.bt_runs.proofs.lemmas.Lists.{all_any, flat_map_same, all_so}
 use Rattle.bt_laws.proofs.lemmas.same.SameSweeps.{cut_none, leave_alike, own_alike, IsLike, SaidToo, read_again}

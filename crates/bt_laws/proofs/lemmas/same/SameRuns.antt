@@ -23,11 +23,11 @@ use Rattle.bt_runs.specs.model.Gaps.{complement}
 use Rattle.bt_laws.specs.Runs.{AreKnown}
 use Rattle.bt_runs.specs.declared.merge.merge_strand.MergeStrand.{MergeStrand}
 use Rattle.bt_runs.specs.declared.merge.merge_strand.MergeStrand.TheVariants.{All, Each, One}
-use Rattle.bt_tool.specs.model.Report.{entries_in, order_of, Inputs, report_of, behaviour_of, chromosomes_of, report_on}
+use Rattle.bt_tool.specs.model.Report.{entries_in, order_of, Inputs, report_of, behaviour_of, chromosomes_of}
 use Rattle.bt_tool.specs.declared.planning.plan_type.Command.TheVariants.{Complement, Merge}
 use Rattle.bt_laws.specs.WholeRuns.{RunsWithoutFault, first_records, RunWrites, piped}
 use Rattle.bt_laws.specs.Same.{IsRepeated, exchanged_complement, exchanged_genomecov, exchanged_merge, repeated_complement, repeated_merge, complement_of_merge, merge_of_merge}
-use Rattle.bt_laws.proofs.lemmas.pipes.PipeLaws.{SameCover, depth_both, same_by_depth, same_gaps, same_levels, complement_whole, genomecov_whole, merge_whole, runs_again, runs_cover}
+use Rattle.bt_laws.proofs.lemmas.pipes.PipeLaws.{SameCover, depth_both, same_by_depth, same_gaps, same_levels, complement_whole, genomecov_whole, merge_whole, runs_again, runs_cover, report_there}
 use Rattle.bt_runs.proofs.lemmas.Lists.{EachPair, all_any, filter_all, flat_map_same, all_filter, all_map, all_so, filter_passes}
 use Rattle.bt_laws.proofs.lemmas.parts.PartTexts.{order_total}
 use Rattle.bt_lines.specs.model.Fault.{FaultValue}
@@ -324,11 +324,6 @@ module _ (order : Order) (total : IsTotal order) (gap : ℕ) (strand : MergeStra
   merged_again there = grind (arith, ordered_come, back, all_of_them, run_names, run_spans, runs_again)
 
 -- ---- a run on an output
-
-module _ (command : Command) (inputs : Inputs) (chromosomes : Option (List Entry)) (genome : chromosomes_of inputs.genome ≡ Ok chromosomes) where
-  pub report_there : report_of command inputs ≡ (behaviour_of command chromosomes).report inputs.first inputs.second
-  unfolding report_of
-  report_there = ap (λ found. report_on command found inputs.first inputs.second) genome
 
 pub merge_on : (d : ℕ) (strand : MergeStrand) (inputs : Inputs) (chromosomes : Option (List Entry)) (text : List ℕ) (records : List Feature) → chromosomes_of inputs.genome ≡ Ok chromosomes → inputs.first ≡ whole_text text → IsInput (order_of chromosomes) text records
     → report_of (Merge d strand) inputs ≡ record { output = (merge_written (order_of chromosomes) d strand).whole records; fault = None }

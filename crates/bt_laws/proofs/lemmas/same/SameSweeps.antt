@@ -24,7 +24,7 @@ use Rattle.bt_laws.specs.WholeRuns.{RunsWithoutFault, first_records, second_reco
 use Rattle.bt_laws.specs.Same.{Counted, counts_say_all, missing_is_whole, own_line, with_hits, merged_second_missing, merged_second_once, merged_second_subtract, one_base}
 use Rattle.bt_runs.proofs.lemmas.Lists.{all_any, flat_map_same, map_map, all_so, filter_passes}
 use Rattle.bt_laws.proofs.lemmas.parts.PartSweep.{all_true}
-use Rattle.bt_laws.proofs.lemmas.pipes.PipeLaws.{intersect_whole, limit_whole, subtract_whole, well_there, SameCover, runs_cover, same_sym}
+use Rattle.bt_laws.proofs.lemmas.pipes.PipeLaws.{intersect_whole, limit_whole, subtract_whole, well_there, SameCover, runs_cover, same_sym, report_there}
 use Rattle.bt_lines.specs.declared.fault.Input.{Input}
 use Rattle.bt_lines.specs.declared.fault.Kind.{Kind}
 use Rattle.bt_bed.specs.model.Sorted.{Locus, Sorting, sorting_of, has_records}
@@ -39,7 +39,7 @@ use Rattle.bt_sweep.proofs.lemmas.definitions.HitLemmas.{enough_of_nothing}
 use Rattle.bt_laws.proofs.lemmas.single.Sweeps.{of_nothing}
 use Rattle.bt_tool.specs.declared.planning.plan_type.Command.{Command}
 use Rattle.bt_laws.specs.Pipes.{IsInput, three_columns}
-use Rattle.bt_laws.proofs.lemmas.same.SameRuns.{back, report_there, run_spans, all_counted}
+use Rattle.bt_laws.proofs.lemmas.same.SameRuns.{back, run_spans, all_counted}
 use Rattle.bt_laws.proofs.lemmas.pipes.RunsBack.{merge_back}
 use Rattle.bt_laws.proofs.lemmas.pipes.LinesBack.{IsSaid, good_are_said}
 use Rattle.bt_laws.proofs.lemmas.pipes.SweepBack.{Hit, all_hits, cut_bounds, same_name}
