@@ -106,7 +106,7 @@ span_step s p n t e = grind arith
 span_sum : (s : Span) (n p : ℕ) → total (λ q. depth_at (s ∷ []) q) p n ≡ min s.stop (p + n) - max s.start p
 unfolding total
 span_sum s zero p = omega arith
-span_sum s (suc n) p = ap (λ k. k + total (λ q. depth_at (s ∷ []) q) (p + 1) n) (grind arith) ∙ span_step s p n (total (λ q. depth_at (s ∷ []) q) (p + 1) n) (span_sum s n (p + 1))
+span_sum s (suc n) p = grind (arith, span_step, (span_sum s n (p + 1)))
 
 abbrev below : ℕ → Span → ℕ
 below size s = min s.stop size - s.start
@@ -168,7 +168,7 @@ sum_depths strand inputs entries well =
 -- ---- a rule that asks the same of both
 
 shared_swap : (a b : Feature) → shared_bases a b ≡ shared_bases b a
-shared_swap a b = ap₂ (λ t n. cond t n 0) (name_eq-sym a.chrom b.chrom) (ap₂ (λ x y. x - y) (omega arith) (omega arith))
+shared_swap a b = grind (arith, cond, (name_eq-sym a.chrom b.chrom))
 
 enough_swap : (rule : HitRule) (bases : ℕ) (a b : Feature) → IsMutual rule → is_enough rule bases a b ≡ is_enough rule bases b a
 unfolding is_enough
@@ -260,10 +260,10 @@ module _ (S : Feature → List Span) where
   places as_read = flat_map part_at as_read
 
   spans_here : (name : List ℕ) (a : Feature) (more : List Feature) → a.chrom ≡ name → spans_on name (places (a ∷ more)) ≡ S a ++ spans_on name (places more)
-  spans_here name a more same = spans_on-append name (part_at a) (places more) ∙ ap (λ l. l ++ spans_on name (places more)) (subst (λ n. spans_on n (part_at a) ≡ S a) same (here_all a.chrom (S a)))
+  spans_here name a more same = grind (arith, (spans_on-append name (part_at a) (places more)), (here_all a.chrom (S a)))
 
   spans_there : (name : List ℕ) (a : Feature) (more : List Feature) → bytes_eq a.chrom name ≡ false → spans_on name (places (a ∷ more)) ≡ spans_on name (places more)
-  spans_there name a more other = spans_on-append name (part_at a) (places more) ∙ ap (λ l. l ++ spans_on name (places more)) (none_there name a.chrom (S a) other)
+  spans_there name a more other = grind (arith, (spans_on-append name (part_at a) (places more)), (none_there name a.chrom (S a) other))
 
   here_so : (P : List ℕ → ℕ → Type 0) (a : Feature) (more : List Feature) → ((a : Feature) (p : ℕ) → IsCovered (S a) p → (a.start ≤ p) × (p < a.stop) × P a.chrom p) → (name : List ℕ) (p : ℕ) → a.chrom ≡ name
       → IsCovered (S a) p ⊎ IsCovered (spans_on name (places more)) p → (IsCovered (spans_on name (places more)) p → IsCovered (spans_on name (intervals_of more)) p × P name p)
@@ -299,12 +299,12 @@ module _ (bs : List Feature) where
   one_of a p from to = grind (arith, (cases_Bool (is_covered (spans_of (hits_among any_overlap a bs)) p)), covered_cut, (is_covered-Decides (spans_of (hits_among any_overlap a bs)) p), (are_pieces a (hits_among any_overlap a bs)), false≢true)
 
   either_here : (a : Feature) (more : List Feature) (name : List ℕ) (p : ℕ) → a.chrom ≡ name → IsCovered (cuts a) p ⊎ IsCovered (lefts a) p → IsCovered (spans_on name (places cuts (a ∷ more))) p ⊎ IsCovered (spans_on name (places lefts (a ∷ more))) p
-  either_here a more name p same (inl c) = inl (subst (λ l. IsCovered l p) (sym (spans_here cuts name a more same)) (covered_left (cuts a) (spans_on name (places cuts more)) p c))
-  either_here a more name p same (inr c) = inr (subst (λ l. IsCovered l p) (sym (spans_here lefts name a more same)) (covered_left (lefts a) (spans_on name (places lefts more)) p c))
+  either_here a more name p same (inl c) = grind (arith, (spans_here cuts name a more same), (covered_left (cuts a) (spans_on name (places cuts more)) p c))
+  either_here a more name p same (inr c) = grind (arith, (spans_here lefts name a more same), (covered_left (lefts a) (spans_on name (places lefts more)) p c))
 
   either_later : (a : Feature) (more : List Feature) (name : List ℕ) (p : ℕ) → a.chrom ≡ name → IsCovered (spans_on name (places cuts more)) p ⊎ IsCovered (spans_on name (places lefts more)) p → IsCovered (spans_on name (places cuts (a ∷ more))) p ⊎ IsCovered (spans_on name (places lefts (a ∷ more))) p
-  either_later a more name p same (inl c) = inl (subst (λ l. IsCovered l p) (sym (spans_here cuts name a more same)) (covered_right (cuts a) (spans_on name (places cuts more)) p c))
-  either_later a more name p same (inr c) = inr (subst (λ l. IsCovered l p) (sym (spans_here lefts name a more same)) (covered_right (lefts a) (spans_on name (places lefts more)) p c))
+  either_later a more name p same (inl c) = grind (arith, (spans_here cuts name a more same), (covered_right (cuts a) (spans_on name (places cuts more)) p c))
+  either_later a more name p same (inr c) = grind (arith, (spans_here lefts name a more same), (covered_right (lefts a) (spans_on name (places lefts more)) p c))
 
   first_of : (a : Feature) (more : List Feature) (name : List ℕ) (p : ℕ) → a.chrom ≡ name → IsCovered (span_of (interval_of a) ∷ spans_on name (intervals_of more)) p
       → (IsCovered (spans_on name (intervals_of more)) p → IsCovered (spans_on name (places cuts more)) p ⊎ IsCovered (spans_on name (places lefts more)) p)
@@ -338,7 +338,7 @@ cut_each a [] = refl
 cut_each a (b ∷ found) = ap (λ l. placed_on a.chrom (cut_span a b) ∷ l) (cut_each a found)
 
 cut_places : (bs as_read : List Feature) → intervals_of (records_written Cut any_overlap as_read bs) ≡ places (cuts bs) as_read
-cut_places bs as_read = map_flat interval_of (λ a. records_for Cut a (hits_among any_overlap a bs)) (λ a. map (placed_on a.chrom) (cuts bs a)) as_read (λ a. cut_each a (hits_among any_overlap a bs))
+cut_places bs as_read = grind (arith, map_flat, cut_each)
 
 left_places : (bs as_read : List Feature) → intervals_of (records_written Pieces any_overlap as_read bs) ≡ places (lefts bs) as_read
 left_places bs as_read = grind (arith, map_flat, map_map, all_any)

@@ -1,5 +1,5 @@
 -- What is good of two concatenated texts of records.
-use Rattle.bt_lines.proofs.Std.{rules, arith, ◌≡◌, ℕ, List, [], ◌∷◌, ◌++◌, Option, Some, None, Ok, refl, ap, ◌∙◌, subst, IsTrue, flat_map, AllByRecursion, ordering_reverse}
+use Rattle.bt_lines.proofs.Std.{rules, arith, ◌≡◌, ℕ, List, [], ◌∷◌, ◌++◌, Option, Some, None, Ok, refl, ap, IsTrue, flat_map, AllByRecursion, ordering_reverse}
 use Rattle.std.specs.declared.cmp.Ordering.{Ordering}
 use Rattle.std.specs.declared.cmp.Ordering.TheVariants.{Less, Greater}
 use Rattle.bt_lines.specs.model.Lines.{TextLine, lines_from, text_lines}
@@ -27,7 +27,7 @@ pub alike_records : (ls ms : List TextLine) → AreAlike ls ms → records_on ls
 alike_records [] [] h = refl
 alike_records [] (m ∷ ms) h = absurd h
 alike_records (l ∷ ls) [] h = absurd h
-alike_records (l ∷ ls) (m ∷ ms) h = ap (λ t. said_record (record_of t) ++ records_on ls) h.0 ∙ ap (λ rs. said_record (record_of m.text) ++ rs) (alike_records ls ms h.2)
+alike_records (l ∷ ls) (m ∷ ms) h = grind (arith, (alike_records ls ms h.2))
 
 -- the members are among the records that the lines say, and their chromosomes are known
 module _ (sorting : Sorting) (input : Input) (Q : Feature → Type 0) where
@@ -38,7 +38,7 @@ module _ (sorting : Sorting) (input : Input) (Q : Feature → Type 0) where
   item_so line h last r e = grind (arith, (line_said sorting last line.text r e))
 
   pub items_all : (last : Option Locus) (lines : List TextLine) → AllByRecursion IfKnown (records_on lines) → AllByRecursion Q (items_in (good_from (bed_format sorting) input last lines))
-  items_all last lines q = items_so (bed_format sorting) input Q last lines (all_so _ _ lines item_so (all_parts IfKnown (λ line. said_record (record_of line.text)) lines q))
+  items_all last lines q = grind (arith, items_so, all_so, item_so, all_parts)
 
 pub reversed_less : (o p : Ordering) → o ≡ Less → p ≡ ordering_reverse o → p ≡ Greater
 reversed_less o p e is = cc
@@ -66,7 +66,7 @@ module _ (order : Order) (total : IsTotal order) where
 
     fresh : (input : Input) (n : ℕ) (last : Option Locus) → Leads last → good_from (bed_format (sorting_of order)) input last (lines_from n two) ≡ good_from (bed_format (sorting_of order)) input None (lines_from n two)
     fresh input n None leads = refl
-    fresh input n (Some last) leads = fresh_from input last leads.0 (lines_from n two) (subst (Leading last.chrom) (alike_records (text_lines two) (lines_from n two) (alike_lines 1 n two)) leads.1)
+    fresh input n (Some last) leads = grind (arith, fresh_from, (alike_records (text_lines two) (lines_from n two) (alike_lines 1 n two)), (alike_lines 1 n two))
 
     leads_on : (last : Option Locus) (rs : List Feature) → Leads last → AllByRecursion (λ r. Leads (Some (locus_at r))) rs → Leads (reached (bed_format (sorting_of order)) last rs)
     leads_on last [] leads h = leads

@@ -1,5 +1,5 @@
 -- The reports of maskfasta on two parts, and on both.
-use Rattle.bt_lines.proofs.Std.{arith, ◌≡◌, ℕ, Bool, true, false, List, [], ◌∷◌, ◌++◌, map, Option, Some, None, refl, sym, ap, ap₂, ◌∙◌, subst, ◌||◌, ◌⊎◌, append-nil, inl, inr, IsTrue, flat_map, is_some, is_none, option_map, AllByRecursion, list_all, list_any, flat_map-append, list_any-append}
+use Rattle.bt_lines.proofs.Std.{arith, ◌≡◌, ℕ, Bool, true, false, List, [], ◌∷◌, ◌++◌, map, Option, Some, None, refl, sym, ap, ap₂, ◌∙◌, subst, ◌||◌, ◌⊎◌, append-nil, inl, IsTrue, flat_map, is_some, is_none, option_map, AllByRecursion, list_all, list_any, flat_map-append, list_any-append}
 use Rattle.bt_laws.proofs.lemmas.parts.PartLines.{none_like}
 use Rattle.bt_seq.proofs.lemmas.mask.steps.LineStepLemmas.{some_list}
 use Rattle.bt_lines.specs.model.Fault.{FaultValue}
@@ -15,7 +15,7 @@ use Rattle.bt_seq.specs.model.Masked.{masked_line, names_of, decided, is_unnamed
 use Rattle.bt_seq.specs.declared.mask.mask_how.MaskHow.{MaskHow}
 use Rattle.bt_laws.specs.Parts.{BelongsToNone, MasksNone, begins_sequence, sequence_names, StandsBefore, said_records, Texts}
 use Rattle.bt_tool.specs.model.Written.{Report}
-use Rattle.bt_laws.proofs.lemmas.parts.PartSequences.{BeginsElsewhere, calm_joint, fresh_joint, sound_from, faulty_same, first_front, AreBothBy, fasta_both, line_after, names_begin, names_both, names_grown, second_named, second_sound, unnamed_from, among, named_more}
+use Rattle.bt_laws.proofs.lemmas.parts.PartSequences.{BeginsElsewhere, calm_joint, fresh_joint, sound_from, faulty_same, first_front, fasta_both, line_after, names_begin, names_both, names_grown, second_named, second_sound, unnamed_from, among, named_more}
 use Rattle.bt_laws.proofs.lemmas.parts.PartMasked.{IsSound, lines_both, mask_good, report_sound, sound_output, sound_report, line_second, lines_first, told_lost}
 use Rattle.bt_laws.proofs.lemmas.parts.PartGenomes.{AreOff, IsLost, apart_next, both_owned, leave_append, lost_more, lost_off, any_behind, any_lost, any_second, later_leave, none_behind, left_fewer, tags_first}
 use Rattle.bt_laws.proofs.lemmas.parts.PartReports.{Adds, Stops}
@@ -60,7 +60,7 @@ module _ (how : MaskHow) (full : Bool) where
   module _ (one two : Texts) (are : AreTwo one two) where
     sound_lines : (fault : Option FaultValue) → (fasta_of one.first).fault ≡ fault → fault ≡ None
         → (items_in (fasta_of (one.first ++ two.first)) ≡ items_in (fasta_of one.first) ++ map (line_after (fasta_names one.first)) (items_in (fasta_of two.first))) × ((fasta_of (one.first ++ two.first)).fault ≡ None)
-    sound_lines None is e = subst (λ f. AreBothBy full First f (fasta_of one.first) (fasta_of two.first) (fasta_of (one.first ++ two.first))) is (fasta_both full First one.first two.first are.first are.begins)
+    sound_lines None is e = grind (arith, (fasta_both full First one.first two.first are.first are.begins))
     sound_lines (Some f) is e = cc
 
     -- the lines of both, if the first part has no fault
@@ -120,10 +120,10 @@ module _ (how : MaskHow) (full : Bool) where
     -- no record is named as a sequence of the other part
     module _ (off_two : MasksNone full one two) (off_one : MasksNone full two one) where
       lost_names : (fasta_of one.first).fault ≡ None → (twos : List Feature) → AreOff (sequence_names full one.first) twos → IsLost (fasta_names one.first) (block_records one.second) twos
-      lost_names e twos off = lost_off (fasta_names one.first) (block_records one.second) twos (subst (λ names. AreOff names twos) (sym (names_grown full First one.first e)) off)
+      lost_names e twos off = grind (arith, lost_off, (names_grown full First one.first e))
 
       lost_sound : IsSound (fasta_of one.first) (blocks_of one.second) → IsSound (fasta_of two.first) (blocks_of two.second) → IsLost (fasta_names one.first) (block_records one.second) (block_records two.second)
-      lost_sound first second = lost_names first.lines (block_records two.second) (subst (AreOff (sequence_names full one.first)) (sym (sound_from block_sorting Second None (text_lines two.second) second.records)) off_one)
+      lost_sound first second = grind (arith, lost_names, (sound_from block_sorting Second None (text_lines two.second) second.records))
 
       -- if both are sound, so is each part
       module _ (whole : IsSound (fasta_of (one.first ++ two.first)) (blocks_of (one.second ++ two.second))) where
@@ -142,7 +142,7 @@ module _ (how : MaskHow) (full : Bool) where
             (subst (AreOff (sequence_names full two.first)) (sym (sound_from block_sorting Second None (text_lines one.second) calm.0)) off_two)
 
         twos_lost : IsLost (fasta_names one.first) (block_records one.second) (block_records two.second)
-        twos_lost = lost_names lines_one (block_records two.second) (subst (AreOff (sequence_names full one.first)) (sym (sound_from block_sorting Second None (text_lines two.second) calm.1)) off_one)
+        twos_lost = grind (arith, lost_names, lines_one, (sound_from block_sorting Second None (text_lines two.second) calm.1))
 
         by_left : (o : Option (List (List ℕ))) → leave (Some (fasta_names one.first)) None (block_records one.second) ≡ o
             → IsSound (fasta_of one.first) (blocks_of one.second) × IsSound (fasta_of two.first) (blocks_of two.second)
@@ -180,7 +180,7 @@ module _ (mine yours : Rule SequenceLine ℕ FaultValue) (move : SequenceLine �
   -- lines that were moved, by a rule that says the same of them
   moved_at : (x : SequenceLine) (xs : List SequenceLine) (b : Bool) → mine.decided (move x) ≡ b → yours.decided x ≡ b → mine.lines (move x) ≡ yours.lines x → written mine (map move xs) ≡ written yours xs
       → written mine (move x ∷ map move xs) ≡ written yours (x ∷ xs)
-  moved_at x xs true e d same more = written_at mine (move x) (map move xs) true e ∙ ap₂ (λ a c. a ++ c) same more ∙ sym (written_at yours x xs true d)
+  moved_at x xs true e d same more = grind (arith, (written_at mine (move x) (map move xs) true e), (written_at yours x xs true d))
   moved_at x xs false e d same more = written_at mine (move x) (map move xs) false e ∙ sym (written_at yours x xs false d)
 
   written_moved : (xs : List SequenceLine) → AllByRecursion (λ x. (mine.decided (move x) ≡ yours.decided x) × (mine.lines (move x) ≡ yours.lines x)) xs → written mine (map move xs) ≡ written yours xs
@@ -219,11 +219,11 @@ module _ (how : MaskHow) (full : Bool) where
   lacks_one texts lacks line begins = grind (arith, decided_by_tags, any_lost)
 
   lacks_decided : (texts : Texts) → Lacks texts → list_all (rule_on texts).decided (items_in (F texts.first)) ≡ true
-  lacks_decided texts lacks = all_true (rule_on texts).decided (items_in (F texts.first)) (all_so _ _ (items_in (F texts.first)) (λ line b. lacks_one texts lacks line b) (names_begin full First (text_lines texts.first)))
+  lacks_decided texts lacks = grind (arith, all_true, all_so, lacks_one, (names_begin full First (text_lines texts.first)))
 
   -- then all lines are written
   lacks_output : (texts : Texts) → Lacks texts → (report_on texts).output ≡ flat_map (masked_line how (R texts.second)) (items_in (F texts.first))
-  lacks_output texts lacks = met_lines (rule_on texts) (items_in (F texts.first)) (F texts.first).fault ∙ sym (all_written (rule_on texts) (items_in (F texts.first)) (lacks_decided texts lacks))
+  lacks_output texts lacks = grind (arith, met_lines, (all_written (rule_on texts) (items_in (F texts.first)) (lacks_decided texts lacks)), (lacks_decided texts lacks))
 
   -- and this is reported
   pub lacks_kind : (texts : Texts) → Lacks texts → option_map (λ fault. fault.kind) (report_on texts).fault ≡ Some NoSequence
@@ -242,7 +242,7 @@ module _ (how : MaskHow) (full : Bool) where
         (among Second _ (text_lines one.second) off_two)
 
     lost_on : (F one.first).fault ≡ None → (twos : List Feature) → AreOff (sequence_names full one.first) twos → IsLost (N one.first) (R one.second) twos
-    lost_on e twos off = lost_off (N one.first) (R one.second) twos (subst (λ names. AreOff names twos) (sym (names_grown full First one.first e)) off)
+    lost_on e twos off = grind (arith, lost_off, (names_grown full First one.first e))
 
     -- ---- the first part lacks a sequence
 
@@ -273,7 +273,7 @@ module _ (how : MaskHow) (full : Bool) where
 
     module _ (fault : FaultValue) (e : (F one.first).fault ≡ Some fault) where
       same_lines : F (one.first ++ two.first) ≡ F one.first
-      same_lines = subst (λ f. AreBothBy full First f (F one.first) (F two.first) (F (one.first ++ two.first))) e (fasta_both full First one.first two.first are.first are.begins)
+      same_lines = grind (arith, (fasta_both full First one.first two.first are.first are.begins))
 
       unnamed : AllByRecursion (λ line. is_unnamed line.names ≡ true) (items_in (F one.first))
       unnamed = unnamed_from full First (sequence_format full).begin (text_lines one.first) fault e
@@ -424,7 +424,7 @@ module _ (how : MaskHow) (full : Bool) where
         by_records (Some fault) e lines rest kept = inl ([], stops_faulty lines rest kept fault e ∙ sym (append-nil (report_on both).output))
 
         by_left : (o : Option (List (List ℕ))) → leave (Some (N one.first)) None (R one.second) ≡ o → (F one.first).fault ≡ None → StopsOrGoes
-        by_left None e lines = let lacks : Lacks one = record { lines = lines; lost = e } in inr (whole_lacks lacks, goes_on lacks)
+        by_left None e lines = grind (arith, lost, whole_lacks, goes_on)
         by_left (Some rest) e lines = by_records (B one.second).fault refl lines rest e
 
         by_lines : (g : Option FaultValue) → (F one.first).fault ≡ g → StopsOrGoes

@@ -88,7 +88,7 @@ pub owned_none : (names : List (List ℕ)) (ms : List (Member Feature)) → is_s
 owned_none names ms e = lack_none names ms (ap is_some (sym (leave_all (Some names) (items ms))) ∙ e)
 
 pub none_owned : (names : List (List ℕ)) (ms : List (Member Feature)) → no_sequence names ms ≡ None → is_some (leave (Some names) None (items ms)) ≡ true
-none_owned names ms e = some_left (leave (Some names) None (items ms)) (λ lost. let told = told_lost names ms lost in let apart : Some (fault_at_line Second told.0 NoSequence) ≡ None = sym told.1 ∙ e in cc)
+none_owned names ms e = grind (arith, some_left, (leave (Some names) None (items ms)), (items ms), told_lost)
 
 -- ---- a report without a fault
 

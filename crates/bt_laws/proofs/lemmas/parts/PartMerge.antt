@@ -80,12 +80,7 @@ module _ (gap : ℕ) where
     begin_by : (ones twos : List Feature) → AreTaken ones → Away (intervals_of ones) (intervals_of twos)
         → (rest : List ℕ) × (interval_lines (merged_runs gap strand ones) ++ interval_lines (passed_by gap (merged_runs gap strand twos) (last_of (intervals_of twos)))
         ≡ interval_lines (passed_by gap (merged_runs gap strand (ones ++ twos)) (last_of (intervals_of (ones ++ twos)))) ++ rest)
-    begin_by ones [] taken away =
-        let front = begins ones taken in (
-          interval_lines front.0,
-          append-nil (interval_lines (merged_runs gap strand ones)) ∙ ap interval_lines front.1 ∙ flat_map-append interval_line _ front.0
-              ∙ ap (λ rs. interval_lines (passed_by gap (merged_runs gap strand rs) (last_of (intervals_of rs))) ++ interval_lines front.0) (sym (append-nil ones)),
-        )
+    begin_by ones [] taken away = grind (arith, (begins ones taken), (append-nil (interval_lines (merged_runs gap strand ones))), flat_map-append, (append-nil ones))
     begin_by ones (s ∷ twos) taken away = grind (arith, append-nil, map-append, last_behind, runs_both, filter-append, passed_first, last_is, flat_map-append)
 
     module _ (order : Order) (total : IsTotal order) (ones twos : List Feature) (one : ArePlaced order (intervals_of ones)) (two : ArePlaced order (intervals_of twos))
@@ -176,14 +171,14 @@ module _ (gap : ℕ) where
 
   take_front : (t : StrandRun → Bool) (xs ys : List StrandRun) → AllByRecursion (λ x. t x ≡ true) xs → take_while t (xs ++ ys) ≡ xs ++ take_while t ys
   take_front t [] ys h = refl
-  take_front t (x ∷ xs) ys h = take_while-cons t x (xs ++ ys) ∙ ap (λ b. cond b (x ∷ take_while t (xs ++ ys)) []) h.0 ∙ ap (λ l. x ∷ l) (take_front t xs ys h.1)
+  take_front t (x ∷ xs) ys h = grind (arith, (take_while-cons t x (xs ++ ys)), cond, (take_while t (xs ++ ys)), (take_front t xs ys h.1))
 
   settled_both : (ones : List Feature) (s : Feature) (twos : List Feature) → Away (intervals_of ones) (intervals_of (s ∷ twos)) → settled_strand_runs gap (ones ++ s ∷ twos) ≡ strand_runs gap ones ++ settled_strand_runs gap (s ∷ twos)
   unfolding settled_strand_runs
   settled_both ones s twos away = grind (arith, (map-append interval_of ones (s ∷ twos)), (last_behind (intervals_of ones) (interval_of s) (intervals_of twos)), take_while, (strand_runs_both ones (s ∷ twos) away), take_front, all_so, passed_elsewhere, strand_runs_elsewhere, last_is)
 
   places_both : (xs ys : List StrandRun) → interval_lines (places_of (xs ++ ys)) ≡ interval_lines (places_of xs) ++ interval_lines (places_of ys)
-  places_both xs ys = ap interval_lines (map-append (λ item. item.run) xs ys) ∙ flat_map-append interval_line (places_of xs) (places_of ys)
+  places_both xs ys = grind (arith, map-append, (flat_map-append interval_line (places_of xs) (places_of ys)))
 
   nothing_settled : interval_lines (places_of (settled_strand_runs gap [])) ≡ []
   unfolding settled_strand_runs

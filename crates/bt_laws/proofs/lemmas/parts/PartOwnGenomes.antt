@@ -53,7 +53,7 @@ module _ (mine yours : List (List ℕ)) (agree : Agree (rank_order mine) (rank_o
   decides_same a b one two = ap (λ o. not (is_below_at o b.start a.stop)) (agree.compare b.chrom a.chrom two one)
 
   decided_same : (a : Feature) (bs : List Feature) → In a → AllByRecursion In bs → decided (rank_order mine) a bs ≡ decided (rank_order yours) a bs
-  decided_same a bs one h = any_same (decides (rank_order mine) a) (decides (rank_order yours) a) bs (all_so _ _ bs (λ b two. decides_same a b one two) h)
+  decided_same a bs one h = grind (arith, any_same, all_so, decides_same)
 
   sweep_same : (given : List Feature) (fa : Option FaultValue) (bs : List Feature) (fb : Option FaultValue) → AllByRecursion In given → AllByRecursion In bs
       → sweep_report (rank_order mine) shape rule given fa bs fb ≡ sweep_report (rank_order yours) shape rule given fa bs fb
@@ -121,8 +121,7 @@ known_from order input ms e =
 
 -- on those of the part's genome file
 lies : (own whole : List Entry) (input : Input) (text : List ℕ) → (good (bed_format (sorting_of (rank_order (genome_names own)))) input (text_lines text)).fault ≡ None → AllByRecursion (LiesWithin own whole) (said_records text)
-lies own whole input text e =
-    all_so _ _ (said_records text) (λ r known here. sym (among_ranked (genome_names own) r.chrom) ∙ known) (known_from (rank_order (genome_names own)) input (text_lines text) e)
+lies own whole input text e = grind (arith, all_so, among_ranked, (known_from (rank_order (genome_names own)) input (text_lines text) e))
 
 -- ---- commands of one input
 

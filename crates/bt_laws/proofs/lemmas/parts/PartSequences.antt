@@ -56,7 +56,7 @@ module _ (full : Bool) (input : Input) where
     named : is_unnamed it.names ≡ false
 
   says_header : (s : Reached) (line : TextLine) → is_header line.text ≡ true → line_says full s line ≡ Ok (Some (header_behind full s line))
-  says_header s line e = ap (λ h. cond h (Ok (Some (header_behind full s line))) (cond (may_stand s.names line.text) (Ok (Some (line_behind s line))) (Err TextBeforeHeader))) e
+  says_header s line e = grind (arith, cond, (cond (may_stand s.names line.text) (Ok (Some (line_behind s line))) (Err TextBeforeHeader)))
 
   says_bases : (s : Reached) (line : TextLine) → is_header line.text ≡ false → is_unnamed s.names ≡ false → line_says full s line ≡ Ok (Some (line_behind s line))
   says_bases s line e named = grind arith
@@ -146,7 +146,7 @@ module _ (full : Bool) (input : Input) where
   grows_from s (l ∷ ls) = grows_with s l (λ now. good_from Fasta input now ls) (λ now. grows_from now ls) (is_header l.text) (may_stand s.names l.text)
 
   pub names_begin : (ls : List TextLine) → AllByRecursion (Begins (names_of (items_in (good Fasta input ls)))) (items_in (good Fasta input ls))
-  names_begin ls = subst (λ names. AllByRecursion (Begins names) (items_in (good Fasta input ls))) (begin_names (items_in (good Fasta input ls))) (grows_from Fasta.begin ls).all
+  names_begin ls = grind (arith, (begin_names (items_in (good Fasta input ls))), (grows_from Fasta.begin ls))
 
   -- the names of two parts
   names_moved : (names : List (List ℕ)) (y : SequenceLine) (ys : List SequenceLine) → names_of (map (line_after names) (y ∷ ys)) ≡ names ++ names_of (y ∷ ys)
@@ -235,7 +235,7 @@ module _ (input : Input) where
   pub fresh_from : (last : Option Locus) (ms : List TextLine) → BeginsElsewhere (name_at last) (records_on ms) → good_from block_format input last ms ≡ good_from block_format input None ms
   unfolding good_from record_says
   fresh_from last [] h = refl
-  fresh_from last (m ∷ ms) h = fresh_with m.number last (record_of m.text) (λ now. good_from block_format input now ms) (records_on ms) (fresh_from last ms) h
+  fresh_from last (m ∷ ms) h = grind (arith, fresh_with, (records_on ms), (fresh_from last ms))
 
   calm_with : (n : ℕ) (last : Option Locus) (said : Result (Option Feature) Kind) (rest : Option Locus → Good Feature) → ((rest last).fault ≡ None → rest last ≡ rest None)
       → (good_with block_format input n last (said_after block_sorting last said) rest).fault ≡ None
@@ -246,7 +246,7 @@ module _ (input : Input) where
   pub calm_from : (last : Option Locus) (ms : List TextLine) → (good_from block_format input last ms).fault ≡ None → good_from block_format input last ms ≡ good_from block_format input None ms
   unfolding good_from record_says
   calm_from last [] e = refl
-  calm_from last (m ∷ ms) e = calm_with m.number last (record_of m.text) (λ now. good_from block_format input now ms) (calm_from last ms) e
+  calm_from last (m ∷ ms) e = grind (arith, calm_with, (calm_from last ms))
 
   -- ---- two texts
 
@@ -268,7 +268,7 @@ module _ (input : Input) where
     Last = reached block_format None (items_in First-good)
 
     whole_is : Whole-good ≡ put_on First-good.fault First-good (good_from block_format input Last Lines-behind)
-    whole_is = ap (good block_format input) (lines_join 1 one two ends).1 ∙ go_from block_format input None (text_lines one) Lines-behind
+    whole_is = grind (arith, (lines_join 1 one two ends), (go_from block_format input None (text_lines one) Lines-behind))
 
     like_two : IsLike (good_from block_format input None Lines-behind) Second-good
     like_two = like_from block_format input None Lines-behind (text_lines two) (λ state l m t d. ap (record_says block_sorting state) t) (alike_lines (lines_join 1 one two ends).0 1 two)

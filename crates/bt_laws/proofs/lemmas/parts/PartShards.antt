@@ -83,16 +83,16 @@ module _ {T : Type 0} (chrom : T → List ℕ) (ends : Interval → T → Bool) 
     Both = genome_names (e_one ++ e_two)
 
     one_in : (name : List ℕ) → is_among One-names name ≡ true → IsTrue ((rank_order Both).knows name)
-    one_in name h = among_ranked Both name ∙ ap (λ ns. is_among ns name) (names_both e_one e_two) ∙ among_append One-names Two-names name ∙ or_left (is_among One-names name) (is_among Two-names name) h
+    one_in name h = grind (arith, (among_ranked Both name), (names_both e_one e_two), (among_append One-names Two-names name), (or_left (is_among One-names name) (is_among Two-names name) h))
 
     two_in : (name : List ℕ) → is_among Two-names name ≡ true → IsTrue ((rank_order Both).knows name)
-    two_in name h = among_ranked Both name ∙ ap (λ ns. is_among ns name) (names_both e_one e_two) ∙ among_append One-names Two-names name ∙ or_right (is_among One-names name) (is_among Two-names name) h
+    two_in name h = grind (arith, (among_ranked Both name), (names_both e_one e_two), (among_append One-names Two-names name), (or_right (is_among One-names name) (is_among Two-names name) h))
 
     less : (a b : List ℕ) → is_among One-names a ≡ true → is_among Two-names b ≡ true → (rank_order Both).compare a b ≡ Less
     less a b one two = entry_less e_one e_two distinct a b one two
 
     greater : (a b : List ℕ) → is_among Two-names a ≡ true → is_among One-names b ≡ true → (rank_order Both).compare a b ≡ Greater
-    greater a b two one = reversed_less ((rank_order Both).compare b a) ((rank_order Both).compare a b) (less b a one two) ((ranks_total Both).swapped b a (one_in b one) (two_in a two))
+    greater a b two one = grind (arith, reversed_less, (less b a one two), (one_in b one), (two_in a two))
 
     apart : (a b : List ℕ) → is_among One-names a ≡ true → is_among Two-names b ≡ true → bytes_eq b a ≡ false
     apart a b one two = grind (arith, name_ne, (no_first One-names Two-names (apart_both e_one e_two distinct) b two))
@@ -275,7 +275,7 @@ module _ (d : ℕ) where
 
     settled_as : (mine yours : List (List ℕ)) (records : List Feature) → ArePlaced (rank_order mine) (intervals_of records) → ArePlaced (rank_order yours) (intervals_of records)
         → interval_lines (passed_by d (ordered_runs (rank_order mine) d strand records) (last_of (intervals_of records))) ≡ interval_lines (passed_by d (ordered_runs (rank_order yours) d strand records) (last_of (intervals_of records)))
-    settled_as mine yours records one two = ap (λ runs. interval_lines (passed_by d runs (last_of (intervals_of records)))) (runs_as mine yours records one two)
+    settled_as mine yours records one two = grind (arith, (runs_as mine yours records one two))
 
     pooled_own : (e_one e_two : List Entry) (ones twos : List Feature) → OwnParts e_one e_two ones twos
         → Splits (pooled_written (rank_order (genome_names e_one)) d strand) (pooled_written (rank_order (genome_names e_two)) d strand) (pooled_written (rank_order (genome_names (e_one ++ e_two))) d strand) ones twos
@@ -323,10 +323,7 @@ module _ {X : Type 0} (entries : X → List Entry) (records : X → List Feature
   -- each part's records lie on chromosomes of all parts
   within_all : (whole : List Entry) (xs : List X) → AllByRecursion (λ x. AllByRecursion (LiesWithin (entries x) whole) (records x)) xs → AllByRecursion (λ x. AllByRecursion (LiesWithin (flat_map entries xs) whole) (records x)) xs
   within_all whole [] h = tt
-  within_all whole (x ∷ xs) h = (
-    all_so _ _ (records x) (λ r k here. grind (arith, names_both, among_append)) h.0,
-    all_so _ _ xs (λ y l. all_so _ _ (records y) (λ r k here. grind (arith, names_both, among_append)) l) (within_all whole xs h.1),
-  )
+  within_all whole (x ∷ xs) h = grind (arith, all_so, names_both, among_append, (within_all whole xs h.1))
 
   record Fit (xs : List X) : Type 0 where
     distinct : AreDistinct (genome_names (flat_map entries xs))

@@ -25,11 +25,11 @@ take_none t xs h = grind arith
 
 take_before : {A : Type 0} (t : A → Bool) (xs ys : List A) → AllByRecursion (λ y. t y ≡ false) ys → take_while t (xs ++ ys) ≡ take_while t xs
 take_before t [] ys h = take_none t ys h
-take_before t (x ∷ xs) ys h = take_while-cons t x (xs ++ ys) ∙ ap (λ l. cond (t x) (x ∷ l) []) (take_before t xs ys h) ∙ sym (take_while-cons t x xs)
+take_before t (x ∷ xs) ys h = grind (arith, (take_while-cons t x (xs ++ ys)), cond, (take_before t xs ys h), (take_while-cons t x xs))
 
 pub take_same : {A : Type 0} (t u : A → Bool) (xs : List A) → AllByRecursion (λ x. t x ≡ u x) xs → take_while t xs ≡ take_while u xs
 take_same t u [] h = refl
-take_same t u (x ∷ xs) h = take_while-cons t x xs ∙ ap₂ (λ b l. cond b (x ∷ l) []) h.0 (take_same t u xs h.1) ∙ sym (take_while-cons u x xs)
+take_same t u (x ∷ xs) h = grind (arith, (take_while-cons t x xs), cond, (take_same t u xs h.1), (take_while-cons u x xs))
 
 front_by : {A : Type 0} (l : A → List ℕ) (x : A) (xs kept : List A) (b : Bool) → (rest : List ℕ) × (flat_map l xs ≡ flat_map l kept ++ rest) → (rest : List ℕ) × (flat_map l (x ∷ xs) ≡ flat_map l (cond b (x ∷ kept) []) ++ rest)
 front_by l x xs kept true more = (more.0, ap (λ r. l x ++ r) more.1 ∙ sym (append_assoc (l x) (flat_map l kept) more.0))
@@ -37,7 +37,7 @@ front_by l x xs kept false more = (flat_map l (x ∷ xs), refl)
 
 pub take_front : {A : Type 0} (t : A → Bool) (l : A → List ℕ) (xs : List A) → (rest : List ℕ) × (flat_map l xs ≡ flat_map l (take_while t xs) ++ rest)
 take_front t l [] = ([], refl)
-take_front t l (x ∷ xs) = let more = front_by l x xs (take_while t xs) (t x) (take_front t l xs) in (more.0, more.1 ∙ ap (λ k. flat_map l k ++ more.0) (sym (take_while-cons t x xs)))
+take_front t l (x ∷ xs) = grind (arith, (front_by l x xs (take_while t xs) (t x) (take_front t l xs)), (take_while t xs), (take_front t l xs), (take_while-cons t x xs))
 
 pub all_true : {A : Type 0} (t : A → Bool) (xs : List A) → AllByRecursion (λ x. t x ≡ true) xs → list_all t xs ≡ true
 all_true t [] h = refl
@@ -150,7 +150,7 @@ module _ {order : Order} {total : IsTotal order} (shape : Shape) (rule : HitRule
     first_lines = grind (arith, flat_map_same, all_so, lines_first, lines_none)
 
     front : (rest : List ℕ) × (first_report.output ≡ written Rule-of-both aones ++ rest)
-    front = let some = take_front Rule-of-both.decided Rule-of-both.lines aones in (some.0, (grind (arith, flat_map_same, all_so, lines_first, lines_none)) ∙ some.1)
+    front = grind (arith, (take_front Rule-of-both.decided Rule-of-both.lines aones), flat_map_same, all_so, lines_first, lines_none)
 
     second_same : written Rule-of-both atwos ≡ written (sweep_rule order shape rule btwos fb2) atwos
     second_same = written_same Rule-of-both (sweep_rule order shape rule btwos fb2) atwos (each atwos none_second split.apart_second)

@@ -227,7 +227,7 @@ module _ (how : MaskHow) (full : Bool) where
       by_first (byte ∷ bytes) e more = e
 
   are_two : (t u : Texts) (ts : List Texts) → AreMasked (t ∷ u ∷ ts) → AreTwo how full t (joined_texts (u ∷ ts))
-  are_two t u ts fit = record { first = fit.lines.0.0; second = fit.lines.1.0; begins = begins_joined (u ∷ ts) fit.headers }
+  are_two t u ts fit = grind (arith, (begins_joined (u ∷ ts) fit.headers))
 
   -- ---- names of one part alone
 
@@ -289,7 +289,7 @@ module _ (how : MaskHow) (full : Bool) where
   suffice_all : (parts : List Texts) → CutFit parts → AllByRecursion (λ part. (T part).fault ≡ None) parts
       → ((T (joined_texts parts)).fault ≡ None) × ((T (joined_texts parts)).output ≡ flat_map (λ part. (T part).output) parts)
   suffice_all [] cut all = (ap (λ (r : Report). r.fault) empty, ap (λ (r : Report). r.output) empty)
-  suffice_all (t ∷ []) cut all = (ap (λ (r : Report). r.fault) (alone t) ∙ all.0, ap (λ (r : Report). r.output) (alone t) ∙ sym (append-nil (T t).output))
+  suffice_all (t ∷ []) cut all = grind (arith, (alone t), append-nil)
   suffice_all (t ∷ u ∷ ts) cut all =
       let more = suffice_all (u ∷ ts) (record { fit = grind arith; none = cut.none.1 }) all.1 in
       grind (arith, (two_suffice how full t (joined_texts (u ∷ ts)) (are_two t u ts cut.fit) cut.none.0 all.0 more.0))

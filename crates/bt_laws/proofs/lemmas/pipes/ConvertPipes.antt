@@ -1,5 +1,5 @@
 -- The lines of alignments that are sorted are an input.
-use Rattle.bt_lines.proofs.Std.{common_steps, rules, ◌≡◌, ℕ, ◌<◌, ◌≤◌, Bool, true, false, cond, List, [], ◌∷◌, ◌++◌, append-nil, append_assoc, map, filter, length, Option, Some, None, Ok, refl, sym, ap, ◌∙◌, subst, arith, eqb, decimal, codes, if◌then◌else◌, AllByRecursion, join_with_byte, ends_with_byte, strip_last, All-append, All-cons, All-from_recursion, All-nil, join_with_byte-slice_split, suc, ap₂, flat_map, get_or-append-add, length-append}
+use Rattle.bt_lines.proofs.Std.{common_steps, rules, ◌≡◌, ℕ, ◌<◌, ◌≤◌, Bool, true, false, cond, List, [], ◌∷◌, ◌++◌, append-nil, append_assoc, map, filter, length, Option, Some, None, Ok, refl, sym, ap, ◌∙◌, subst, arith, eqb, decimal, codes, if◌then◌else◌, AllByRecursion, join_with_byte, ends_with_byte, strip_last, All-append, All-from_recursion, join_with_byte-slice_split, suc, flat_map, get_or-append-add, length-append}
 use Rattle.std.specs.Prelude.{option_and_then}
 use Rattle.bt_lines.specs.model.Lines.{lines_handed, TextLine, pieces, end_bytes, fed_line, last_line, lines_from}
 use Rattle.bt_lines.specs.calls.Line.{NoLineFeed}
@@ -13,7 +13,7 @@ use Rattle.bt_bed.specs.declared.record.strand.Strand.TheVariants.{Plus, Minus}
 use Rattle.bt_bed.proofs.lemmas.parse.FeatureLemmas.{kept_is_cut, pieces_are_columns}
 use Rattle.bt_seq.specs.model.Alignment.{Alignment, Fields, alignment_of, columns_say, fields_of, fields_say, value_up_to, bed_lines, read_name, strand_sign, length_of, operations_in, each_operation, parts_of, sam_format}
 use Rattle.bt_tool.specs.model.Written.{alignment_lines}
-use Rattle.bt_tool.specs.model.Report.{Inputs, chromosomes_of, report_of, report_on}
+use Rattle.bt_tool.specs.model.Report.{Inputs, report_of}
 use Rattle.bt_tool.specs.declared.planning.plan_type.Command.TheVariants.{BamToBed}
 use Rattle.bt_laws.specs.Pipes.{aligned_at, aligned_record, alignments_of, bamtobed_is_input, IsInput, is_no_header}
 use Rattle.bt_laws.proofs.lemmas.pipes.LinesBack.{clear_back, clear_both, clear_front, clear_tab, clear_number, Columns, IsColumns, record_back, text_of_columns, written_back, ends_both, strip_both, clear_handed, clear_strip}
@@ -113,7 +113,7 @@ clear_if : (b : Bool) (text : List ℕ) → NoLineFeed text → NoLineFeed (if b
 clear_if b text h = grind arith
 
 clear_segment : (number : ℕ) → eqb number 10 ≡ false → NoLineFeed (47 ∷ number ∷ [])
-clear_segment number e = All-cons (λ c. eqb c 10 ≡ false) 47 (number ∷ []) refl (All-cons (λ c. eqb c 10 ≡ false) number [] e (All-nil (λ c. eqb c 10 ≡ false)))
+clear_segment number e = grind (arith, eqb)
 
 clear_read : (a : Alignment) → NoLineFeed a.name → NoLineFeed (read_name a)
 clear_read a h = clear_both a.name _ h (clear_both _ _ (grind arith) (clear_if a.last (codes "/2") (clear_segment 50 refl)))
@@ -164,7 +164,7 @@ record_is cigar a is = grind (arith, tail_plain, tail_kept, strand_is)
 
 output_is : (inputs : Inputs) (cigar : Bool) → inputs.genome ≡ None → (report_of (BamToBed false cigar) inputs).output ≡ alignment_lines false cigar (alignments_of inputs)
 unfolding report_of
-output_is inputs cigar none = ap (λ g. (report_on (BamToBed false cigar) (chromosomes_of g) inputs.first inputs.second).output) none ∙ (grind arith)
+output_is inputs cigar none = grind arith
 
 pub bamtobed_input : bamtobed_is_input
 unfolding report_of
@@ -193,7 +193,7 @@ pub record Stands (old new : List ℕ) : Type 0 where
 -- ---- line ends
 
 clear_return : (text : List ℕ) → NoLineFeed text → NoLineFeed (text ++ 13 ∷ [])
-clear_return text h = clear_both text (13 ∷ []) h (All-cons (λ b. eqb b 10 ≡ false) 13 [] refl (All-nil (λ b. eqb b 10 ≡ false)))
+clear_return text h = grind (arith, clear_both, eqb)
 
 stripped : (text : List ℕ) → strip_last 13 (text ++ 13 ∷ []) ≡ text
 stripped text = strip_both 13 text (13 ∷ []) (omega arith) ∙ append-nil text
@@ -205,10 +205,7 @@ abbrev line_at : ℕ → List ℕ → LineEnd → TextLine
 line_at number text ending = record { number = number; text = text; ending = ending }
 
 fed_by : (m : ℕ) (new rest : List ℕ) (b : Bool) → NoLineFeed new → (b ≡ false → ends_with_byte 13 new ≡ false) → lines_from m ((new ++ end_bytes (cond b CrLf Lf)) ++ rest) ≡ line_at m new (cond b CrLf Lf) ∷ lines_from (suc m) rest
-fed_by m new rest true clear last =
-    ap (lines_from m) (append_assoc new (13 ∷ 10 ∷ []) rest ∙ sym (append_assoc new (13 ∷ []) (10 ∷ rest)))
-    ∙ lines_from-fed m (new ++ 13 ∷ []) rest (clear_return new clear)
-    ∙ ap₂ (λ t (e : Bool). record { number = m; text = t; ending = if e then CrLf else Lf } ∷ lines_from (suc m) rest) (stripped new) (returned new)
+fed_by m new rest true clear last = grind (arith, (append_assoc new (13 ∷ 10 ∷ []) rest), (append_assoc new (13 ∷ []) (10 ∷ rest)), (lines_from-fed m (new ++ 13 ∷ []) rest (clear_return new clear)), (clear_return new clear), (suc m), (stripped new), (returned new))
 fed_by m new rest false clear last = grind (arith, append_assoc, lines_from-fed)
 
 last_some : (m : ℕ) (bytes : List ℕ) → 0 < length bytes → last_line m bytes ≡ record { number = m; text = strip_last 13 bytes; ending = if ends_with_byte 13 bytes then Cr else Absent } ∷ []
@@ -242,7 +239,7 @@ module _ (full : Bool) (input : Input) (f : SequenceLine → List ℕ) (safe : (
 
   none_again : (m : ℕ) (reached : Reached) → IsAgain [] (goods reached (lines_from m []))
   unfolding good_from
-  none_again m reached = subst (λ ls. IsAgain [] (goods reached ls)) (sym (lines_from-nil m)) (record { items = refl; faultless = refl })
+  none_again m reached = grind (arith, (lines_from-nil m))
 
   one_again : (n m : ℕ) (byte : ℕ) (bytes : List ℕ) (reached : Reached) → NoLineFeed (byte ∷ bytes) → (goods reached (last_line n (byte ∷ bytes))).fault ≡ None
       → ReadAgain m reached (last_line n (byte ∷ bytes))

@@ -1,5 +1,5 @@
 -- The intervals of depth 0, and the others.
-use Rattle.bt_lines.proofs.Std.{◌≡◌, ℕ, ◌<◌, Bool, true, false, cond, List, [], ◌∷◌, ◌++◌, map, filter, Option, Some, None, refl, sym, ap, ap₂, ◌∙◌, arith, eqb, flat_map, nat_lt, lt-ltb, ltb-true, filter-append}
+use Rattle.bt_lines.proofs.Std.{◌≡◌, ℕ, ◌<◌, Bool, true, false, cond, List, [], ◌∷◌, map, filter, Option, Some, None, refl, sym, ap, ◌∙◌, arith, eqb, flat_map, nat_lt, lt-ltb, ltb-true, filter-append}
 use Rattle.bt_lines.specs.declared.fault.Input.TheVariants.{First}
 use Rattle.bt_bed.specs.model.Feature.{Feature, Span}
 use Rattle.bt_bed.specs.model.Genome.{Entry}
@@ -44,9 +44,7 @@ map_filter name (l ∷ ls) = grind (arith, (map_filter name ls))
 
 deep_all : (strand : Option Strand) (records : List Feature) (entries : List Entry) → flat_map (depths_on false strand records) entries ≡ filter (λ (r : DepthInterval). nat_lt 0 r.depth) (flat_map (depths_on true strand records) entries)
 deep_all strand records [] = refl
-deep_all strand records (e ∷ es) =
-    ap₂ (λ a b. a ++ b) (ap (map (depth_on e.name)) (deep_levels (counted_on strand e.name records) e.length) ∙ map_filter e.name (levels_of (depth_of true (counted_on strand e.name records)) e.length)) (deep_all strand records es)
-    ∙ sym (filter-append (λ (r : DepthInterval). nat_lt 0 r.depth) (depths_on true strand records e) (flat_map (depths_on true strand records) es))
+deep_all strand records (e ∷ es) = grind (arith, (deep_levels (counted_on strand e.name records) e.length), (map_filter e.name (levels_of (depth_of true (counted_on strand e.name records)) e.length)), (deep_all strand records es), filter-append, nat_lt)
 
 pub deep_coverage : (strand : Option Strand) (entries : List Entry) (records : List Feature) → coverage false strand entries records ≡ filter (λ (r : DepthInterval). nat_lt 0 r.depth) (coverage true strand entries records)
 unfolding coverage

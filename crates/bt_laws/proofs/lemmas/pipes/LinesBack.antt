@@ -181,7 +181,7 @@ module _ (order : Order) (total : IsTotal order) where
       good_written : (n : ℕ) (last : Option Locus) (xs : List X) → AllByRecursion SaysLine xs → Follow last (said_of xs)
           → IsGood (said_of xs) (good_from (bed_format (sorting_of order)) input last (lines_from n (flat_map line_for xs)))
       unfolding good_from line_says
-      good_written n last [] says follow = subst (λ ls. IsGood [] (good_from (bed_format (sorting_of order)) input last ls)) (sym (lines_from-nil n)) (record { items = refl; faultless = refl })
+      good_written n last [] says follow = grind (arith, (lines_from-nil n))
       good_written n last (x ∷ xs) says follow =
           let behind = flat_map line_for xs in
           let lines : lines_from n (line_for x ++ behind) ≡ fed_line n (text x) ∷ lines_from (suc n) behind =

@@ -97,10 +97,7 @@ module _ (d : ℕ) (inputs : Inputs) (chromosomes : Option (List Entry)) where
 pub merge_input : merge_is_input
 merge_input d All inputs chromosomes well = pooled d inputs chromosomes All (merge_whole d All inputs chromosomes well)
 merge_input d (One strand) inputs chromosomes well = pooled d inputs chromosomes (One strand) (merge_whole d (One strand) inputs chromosomes well)
-merge_input d Each inputs chromosomes well =
-    let total = order_total chromosomes in
-    let e = merge_whole d Each inputs chromosomes well in
-    grind (arith, runs_back, strands_written, good_are_said, in_order, placed_good, non_empty_good)
+merge_input d Each inputs chromosomes well = grind (arith, (order_total chromosomes), (merge_whole d Each inputs chromosomes well), runs_back, strands_written, good_are_said, in_order, placed_good, non_empty_good)
 
 -- ---- complement and genomecov
 
@@ -116,9 +113,7 @@ gaps_input : (limit : Bool) (genome : Option Handed) (chromosomes : Option (List
     × EachPair AreSeparate (complement limit (entries_in chromosomes) records)
 unfolding complement
 gaps_input limit genome None records e = (intervals_back byte_order bytes_total [] tt tt, tt)
-gaps_input limit genome (Some entries) records e =
-    let known = chroms_of genome entries e in
-    (gaps_back entries known.0 known.1 limit records, (gaps_in_order entries known.0 known.1 limit records).pairs)
+gaps_input limit genome (Some entries) records e = grind (arith, (chroms_of genome entries e), gaps_back, gaps_in_order)
 
 pub complement_input : complement_is_input
 complement_input limit inputs chromosomes well =
@@ -131,9 +126,7 @@ depths_input : (zeros : Bool) (strand : Option Strand) (genome : Option Handed) 
     × EachPair AreDisjoint (map interval_at (coverage zeros strand (entries_in chromosomes) records))
 unfolding coverage
 depths_input zeros strand genome None records e = (intervals_back byte_order bytes_total [] tt tt, tt)
-depths_input zeros strand genome (Some entries) records e =
-    let known = chroms_of genome entries e in
-    (coverage_back entries known.0 known.1 zeros strand records, (depths_in_order entries known.0 known.1 zeros strand records).pairs)
+depths_input zeros strand genome (Some entries) records e = grind (arith, (chroms_of genome entries e), coverage_back, depths_in_order)
 
 pub genomecov_whole : (zeros : Bool) (strand : Option Strand) (inputs : Inputs) (chromosomes : Option (List Entry)) → RunsWithoutFault (Coverage zeros strand) inputs chromosomes
     → (report_of (Coverage zeros strand) inputs).output ≡ depth_lines (coverage zeros strand (entries_in chromosomes) (first_records chromosomes inputs))
@@ -250,7 +243,7 @@ of_three : (rs : List Interval) → EachPair AreDisjoint rs → EachPair (λ (r 
 of_three rs h = pairs_map (λ (r s : Feature). AreDisjoint (interval_of r) (interval_of s)) three_columns rs h
 
 of_four : (rs : List DepthInterval) → EachPair AreDisjoint (map interval_at rs) → EachPair (λ (r s : Feature). AreDisjoint (interval_of r) (interval_of s)) (map four_columns rs)
-of_four rs h = pairs_map (λ (r s : Feature). AreDisjoint (interval_of r) (interval_of s)) four_columns rs (pairs_from_map AreDisjoint interval_at rs h)
+of_four rs h = grind (arith, pairs_map, (pairs_from_map AreDisjoint interval_at rs h))
 
 -- the places of records that are read of these
 places_apart : (rs : List Feature) → EachPair (λ (r s : Feature). AreDisjoint (interval_of r) (interval_of s)) rs → AllPairs AreDisjoint (intervals_of rs)

@@ -52,7 +52,7 @@ module _ (order : Order) where
 
   later_all : IsTotal order → (n m : List ℕ) (ns : List (List ℕ)) → IsTrue (order.knows n) → IsTrue (order.knows m) → AreKnown order ns → Earlier n m → AllByRecursion (Earlier m) ns → AllByRecursion (Earlier n) ns
   later_all total n m [] known mid knowns less later = tt
-  later_all total n m (k ∷ ns) known mid knowns less later = (total.ascends n m k known mid knowns.0 less later.0, later_all total n m ns known mid knowns.1 less later.1)
+  later_all total n m (k ∷ ns) known mid knowns less later = grind (arith, (later_all total n m ns known mid knowns.1 less later.1))
 
   pub ascending_pairs : IsTotal order → (names : List (List ℕ)) → AreKnown order names → AreAscending order names → EachPair Earlier names
   ascending_pairs total [] known up = tt
@@ -112,7 +112,7 @@ module _ (order : Order) (total : IsTotal order) where
 -- ---- spans of one chromosome
 
 pub on_name : (name : List ℕ) (spans : List Span) → AllByRecursion (λ (r : Interval). r.chrom ≡ name) (map (placed_on name) spans)
-on_name name spans = all_map (λ (r : Interval). r.chrom ≡ name) (placed_on name) spans (all_any (λ s. name ≡ name) spans (λ s. refl))
+on_name name spans = grind (arith, all_map, all_any)
 
 apart_behind : (first stop : ℕ) (spans : List Span) → stop < first → AreApartFrom first spans → AllByRecursion (λ (t : Span). stop < t.start) spans
 apart_behind first stop [] up h = tt

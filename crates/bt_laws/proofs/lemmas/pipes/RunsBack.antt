@@ -1,5 +1,5 @@
 -- What merge, complement and genomecov write is an input of the next command.
-use Rattle.bt_lines.proofs.Std.{◌≡◌, ℕ, ◌+◌, ◌-◌, ◌<◌, ◌≤◌, Bool, true, false, not, List, [], ◌∷◌, ◌++◌, map, filter, refl, sym, ap, subst, inl, inr, arith, eqb, append-nil, decimal, Option, append_assoc, IsTrue, codes, flat_map, AllByRecursion, All-nil, map-id, map-append, slice_split_none}
+use Rattle.bt_lines.proofs.Std.{◌≡◌, ℕ, ◌+◌, ◌-◌, ◌<◌, ◌≤◌, Bool, true, false, not, List, [], ◌∷◌, ◌++◌, map, filter, refl, sym, ap, subst, inl, inr, arith, eqb, append-nil, decimal, Option, append_assoc, IsTrue, codes, flat_map, AllByRecursion, map-id, map-append, slice_split_none}
 use Rattle.bt_lines.specs.calls.Line.{NoLineFeed}
 use Rattle.bt_bed.specs.model.Feature.{Feature, intervals_of, Interval, Span, placed_on, spans_on}
 use Rattle.bt_bed.specs.model.Positions.{stretches_from}
@@ -43,7 +43,7 @@ abbrev pub alone : Interval → Columns
 alone r = record { at = r; tail = [] }
 
 alone_columns : (r : Interval) → IsWritten r → IsColumns (alone r)
-alone_columns r is = record { named = is.named; clear = is.clear; below = is.below; small = is.small; kept = refl; clear_tail = All-nil (λ b. eqb b 10 ≡ false) }
+alone_columns r is = grind (arith, eqb)
 
 alone_line : (r : Interval) → interval_line r ≡ text_of_columns (alone r) ++ 10 ∷ []
 alone_line r = ap (λ l. l ++ 10 ∷ []) (sym (append-nil (r.chrom ++ codes "\t" ++ decimal r.start ++ codes "\t" ++ decimal r.stop)))
@@ -62,7 +62,7 @@ stops_within first n (s ∷ ss) apart h =
     ((apart.1, omega (arith, last, apart.1)), stops_within (s.stop + 1) n ss apart.2 (λ p c. h p (inr c)))
 
 pub scanned : (test : ℕ → Bool) (n : ℕ) → AreApartFrom 0 (stretches_from test 0 n) × AllByRecursion (λ (s : Span). (s.start < s.stop) × (s.stop ≤ n)) (stretches_from test 0 n)
-scanned test n = let found = scan_finds test n in (found.apart, stops_within 0 n (stretches_from test 0 n) found.apart (λ p c. (found.within p c).0))
+scanned test n = grind (arith, (scan_finds test n), stops_within)
 
 pub on_written : (name : List ℕ) (n : ℕ) (spans : List Span) → IsName name → NoLineFeed name → n ≤ 999999999999 → AllByRecursion (λ (s : Span). (s.start < s.stop) × (s.stop ≤ n)) spans → AllByRecursion IsWritten (map (placed_on name) spans)
 on_written name n spans named clear small h = grind (arith, all_map, all_so)
@@ -107,7 +107,7 @@ no_headers rs runs = filter_all is_no_header (map three_columns rs) (all_map (λ
 
 module _ (order : Order) (total : IsTotal order) where
   pub runs_back : (rs : List Interval) → AllByRecursion IsRun rs → ArePlaced order rs → IsInput order (interval_lines rs) (map three_columns rs)
-  runs_back rs runs placed = subst (IsInput order (interval_lines rs)) (no_headers rs runs) (intervals_back order total rs (all_so IsRun IsWritten rs (λ r is. is.written) runs) placed)
+  runs_back rs runs placed = grind (arith, (no_headers rs runs), intervals_back, all_so)
 
   module _ (gap : ℕ) (strand : MergeStrand) (records : List Feature) (said : AllByRecursion IsSaid records) (placed : ArePlaced order (intervals_of records)) where
     names : List (List ℕ)
@@ -118,7 +118,7 @@ module _ (order : Order) (total : IsTotal order) where
 
     known_in_order : AllByRecursion (λ name. IsTrue (order.knows name)) names
     unfolding names
-    known_in_order = ordered_all (λ name. IsTrue (order.knows name)) order (chromosomes (counted strand records)) names_known
+    known_in_order = grind (arith, ordered_all, names_known)
 
     names_earlier : EachPair (Earlier order) names
     unfolding names
@@ -164,10 +164,10 @@ module _ (entries : List Entry) (chroms : AllByRecursion IsChrom entries) (disti
   file_total = ranks_total (genome_names entries)
 
   entries_known : AllByRecursion (λ (e : Entry). IsTrue (file_order.knows e.name)) entries
-  entries_known = all_unmap (λ name. IsTrue (file_order.knows name)) (λ (e : Entry). e.name) entries (known_names (genome_names entries))
+  entries_known = grind (arith, all_unmap, (known_names (genome_names entries)))
 
   entries_earlier : EachPair (λ (d e : Entry). Earlier file_order d.name e.name) entries
-  entries_earlier = pairs_from_map (Earlier file_order) (λ (e : Entry). e.name) entries (names_pairs (genome_names entries) distinct)
+  entries_earlier = grind (arith, pairs_from_map, (names_pairs (genome_names entries) distinct))
 
   module _ (limit : Bool) (records : List Feature) where
     abbrev asked : Entry → Bool
@@ -203,7 +203,7 @@ abbrev pub with_depth : DepthInterval → Columns
 with_depth r = record { at = interval_at r; tail = codes "\t" ++ decimal r.depth }
 
 depth_columns : (r : DepthInterval) → IsWritten (interval_at r) → IsColumns (with_depth r)
-depth_columns r is = record { named = is.named; clear = is.clear; below = is.below; small = is.small; kept = refl; clear_tail = clear_tab (decimal r.depth) (clear_number r.depth) }
+depth_columns r is = grind (arith, (clear_tab (decimal r.depth) (clear_number r.depth)), (decimal r.depth), (clear_number r.depth))
 
 depth_as : (r : DepthInterval) → depth_line r ≡ text_of_columns (with_depth r) ++ 10 ∷ []
 depth_as r = simp append_assoc
@@ -267,7 +267,7 @@ module _ (entries : List Entry) (chroms : AllByRecursion IsChrom entries) (disti
 
   on_level : (e : Entry) → AllByRecursion (λ (r : Interval). r.chrom ≡ e.name) (level_part e)
   unfolding level_part
-  on_level e = all_map (λ (r : Interval). r.chrom ≡ e.name) (level_place e.name) (levels_for e) (all_any (λ l. e.name ≡ e.name) (levels_for e) (λ l. refl))
+  on_level e = grind (arith, all_map, all_any)
 
   level_disjoint : (e : Entry) → EachPair AreDisjoint (level_part e)
   unfolding level_part

@@ -131,7 +131,7 @@ clear_record : (b : Feature) → IsSaid b → NoLineFeed (bed_text b)
 clear_record b is = tail_clear b.chrom b.start b.stop is.feature.named is.feature.non_empty is.feature.in_range b.rest is.clear_name is.clear_rest
 
 said_columns : (a : Feature) (start stop : ℕ) (more : List ℕ) → IsSaid a → start < stop → stop ≤ a.stop → IsTrue (is_kept more) → NoLineFeed more → IsColumns (columns_at (cut_to start stop a) more)
-said_columns a start stop more is below up kept clear = record { named = is.feature.named; clear = is.clear_name; below = below; small = omega (arith, up, is.feature.in_range); kept = kept; clear_tail = clear }
+said_columns a start stop more is below up kept clear = grind arith
 
 abbrev pub Hit : HitRule → Feature → Feature → Type 0
 Hit rule a b = IsSaid b × (hits rule a b ≡ true)
@@ -248,7 +248,7 @@ apart_some first (s ∷ ss) h = (h.1, apart_some (s.stop + 1) ss h.2)
 
 pairs_zip : {A : Type 0} (R S : A → A → Type 0) (xs : List A) → EachPair R xs → EachPair S xs → EachPair (λ x y. R x y × S x y) xs
 pairs_zip R S [] h k = tt
-pairs_zip R S (x ∷ xs) h k = (all_zip (R x) (S x) (λ y. R x y × S x y) xs (λ y r s. (r, s)) h.0 k.0, pairs_zip R S xs h.1 k.1)
+pairs_zip R S (x ∷ xs) h k = grind (arith, all_zip, (pairs_zip R S xs h.1 k.1))
 
 -- a line lies within the record
 pub record IsWithin (a : Feature) (line : Columns) : Type 0 where
@@ -258,14 +258,13 @@ pub record IsWithin (a : Feature) (line : Columns) : Type 0 where
   pub to_stop : line.at.stop ≤ a.stop
 
 cut_within : (rule : HitRule) (a b : Feature) (tail : List ℕ) → Hit rule a b → IsWithin a (columns_at (cut a b) tail)
-cut_within rule a b tail hit = record { same = refl; from_start = omega arith; non_empty = cut_bounds rule a b hit.1; to_stop = omega arith }
+cut_within rule a b tail hit = grind (arith, (cut_bounds rule a b hit.1))
 
 part_within : (shape : Shape) (rule : HitRule) (a : Feature) (is : IsSaid a) (found : List Feature) → begins_with_a shape ≡ false → AllByRecursion (Hit rule a) found → AllByRecursion (IsWithin a) (columns_for shape a found)
 unfolding columns_for hit_columns piece_columns
 part_within Cut rule a is found e h = all_map (IsWithin a) (hit_columns Cut a) found (all_so (Hit rule a) (λ b. IsWithin a (hit_columns Cut a b)) found (λ b k. cut_within rule a b a.rest k) h)
 part_within CutAndB rule a is found e h = all_map (IsWithin a) (hit_columns CutAndB a) found (all_so (Hit rule a) (λ b. IsWithin a (hit_columns CutAndB a b)) found (λ b k. cut_within rule a b (a.rest ++ 9 ∷ bed_text b) k) h)
-part_within Pieces rule a is found e h = all_map (IsWithin a) (piece_columns a) (pieces a found) (all_so (λ (p : Span). (a.start ≤ p.start) × (p.start < p.stop) × (p.stop ≤ a.stop)) (λ p. IsWithin a (piece_columns a p)) (pieces a found)
-    (λ p k. record { same = refl; from_start = k.0; non_empty = k.1; to_stop = k.2 }) (piece_bounds rule a is found))
+part_within Pieces rule a is found e h = grind (arith, all_map, all_so, (piece_bounds rule a is found))
 part_within _ rule a is found e h = cc
 
 -- starts that don't fall
@@ -298,10 +297,10 @@ module _ (order : Order) (total : IsTotal order) where
     cut_part a = columns_for shape a (hits_among rule a second)
 
     all_within : AllByRecursion (λ a. AllByRecursion (IsWithin a) (cut_part a)) first
-    all_within = all_so IsSaid (λ a. AllByRecursion (IsWithin a) (cut_part a)) first (λ a is. part_within shape rule a is (hits_among rule a second) cuts (all_hits rule a second said_second)) said
+    all_within = grind (arith, all_so, part_within, all_hits)
 
     follow_apart : EachPair FollowsApart first
-    follow_apart = pairs_zip (λ a b. UpTo order total (interval_of a) (interval_of b)) (λ a b. AreDisjoint (interval_of a) (interval_of b)) first (pairs_of_places order total first (placed_pairs order total (intervals_of first) placed)) (pairs_from_map AreDisjoint interval_of first apart)
+    follow_apart = grind (arith, pairs_zip, (pairs_of_places order total first (placed_pairs order total (intervals_of first) placed)), (placed_pairs order total (intervals_of first) placed), (pairs_from_map AreDisjoint interval_of first apart))
 
     cut_lines : List Columns
     cut_lines = flat_map cut_part first

@@ -124,7 +124,7 @@ module _ (inputs : Inputs) (entries : List Entry) (genome : chromosomes_of input
   known = chroms_of inputs.genome entries genome
 
   second_input : IsInput order (of_second (Complement false) inputs) gap_records
-  second_input = subst (λ text. IsInput order text gap_records) (sym second_is) (gaps_back entries known.0 known.1 false seconds)
+  second_input = grind (arith, second_is, (gaps_back entries known.0 known.1 false seconds))
 
   gaps_said : AllByRecursion IsSaid gap_records
   gaps_said = subst (AllByRecursion IsSaid) (second_input.records_are Second) (good_are_said Second order (whole_text (of_second (Complement false) inputs)))

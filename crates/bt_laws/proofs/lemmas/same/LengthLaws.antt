@@ -66,7 +66,7 @@ cut_to size (s ∷ ss) p c = elim (cases_lt s.start size) [
 
 cut_back : (size : ℕ) (spans : List Span) (p : ℕ) → p < size → IsCovered spans p → IsCovered (cut_spans size spans) p
 cut_back size [] p within c = absurd c
-cut_back size (s ∷ ss) p within (inl here) = subst (λ b. IsCovered (cond b (record { start = s.start; stop = min s.stop size } ∷ []) [] ++ cut_spans size ss) p) (sym (lt-ltb s.start size (omega (arith, here.0, within)))) (inl (here.0, omega (arith, here.1, within)))
+cut_back size (s ∷ ss) p within (inl here) = grind (arith, cond, (min s.stop size), (lt-ltb s.start size (omega (arith, here.0, within))))
 cut_back size (s ∷ ss) p within (inr there) = grind (arith, (cut_back size ss p within there))
 
 -- the gaps of the gaps are the runs, cut at the length
@@ -119,7 +119,7 @@ module _ (entries : List Entry) (distinct : AreDistinct (genome_names entries)) 
 
   by_entries : ordered_runs order 0 All records ≡ flat_map (λ name. runs_on name 0 (intervals_of records)) (genome_names entries)
   unfolding merged
-  by_entries = sym (file_ordered (genome_names entries) 0 All records distinct placed) ∙ ap (merged (genome_names entries) 0) (all_counted records)
+  by_entries = grind (arith, (file_ordered (genome_names entries) 0 All records distinct placed), (all_counted records))
 
   gap_twice : (e : Entry) → is_header e.name ≡ false → length_in entries e.name ≡ e.length → gaps_on (intervals_of gap_records) e ≡ map (placed_on e.name) (cut_spans e.length (runs_of 0 (spans_on e.name (intervals_of records))))
   gap_twice e plain size = grind (arith, unhidden, complement_spans, gaps_twice)

@@ -12,7 +12,7 @@ use Rattle.bt_seq.specs.model.Masked.{covers, masked_byte, masked_from, masked_l
 use Rattle.bt_seq.specs.declared.mask.mask_how.MaskHow.{MaskHow}
 use Rattle.bt_seq.specs.declared.mask.mask_how.MaskHow.TheVariants.{Soft, Hard}
 use Rattle.bt_tool.specs.model.Report.{Inputs, or_empty, report_of, order_of}
-use Rattle.bt_tool.specs.model.Written.{Report, report_by, Written, merge_written}
+use Rattle.bt_tool.specs.model.Written.{Report, report_by, Written}
 use Rattle.bt_tool.specs.declared.planning.plan_type.Command.TheVariants.{MaskFasta, Merge}
 use Rattle.bt_laws.specs.Same.{KeepsLines, layout_of, masked_keep_layout, masked_twice, sequence_lines, masked_by_both, masked_by_positions, masked_goes_on, with_bed, masked_by_merged, with_merged_bed}
 use Rattle.bt_laws.specs.WholeRuns.{RunsWithoutFault, piped, second_alone}
@@ -142,14 +142,14 @@ module _ (how : MaskHow) (full : Bool) (inputs : Inputs) (chromosomes : Option (
 
     layouts : (all : List SequenceLine) → map layout_of (map again_line all) ≡ map layout_of all
     layouts [] = refl
-    layouts (line ∷ all) = ap₂ (λ n rest. record { names = line.names; before = line.before; bytes = n; ending = line.ending } ∷ rest) (grind (arith, size_of)) (layouts all)
+    layouts (line ∷ all) = grind (arith, size_of, (layouts all))
 
     pub layout : (read.fault ≡ None) × (map layout_of (items_in read) ≡ map layout_of items)
     layout = (read_none, ap (map layout_of) read_items ∙ layouts items)
 
     -- records that have sequences in the input have them in the output
     pub read_sound : (other : Good Feature) → IsSound first other → IsSound read other
-    read_sound other is = record { lines = read_none; records = is.records; owned = ap (λ ns. is_some (leave (Some ns) None (items_in other))) (ap names_of read_items ∙ names_same new_text items) ∙ is.owned }
+    read_sound other is = grind (arith, read_none, is_some, leave, read_items, (names_same new_text items))
 
 pub layout_kept : masked_keep_layout
 layout_kept how full inputs chromosomes keeps well = layout how full inputs chromosomes well keeps
@@ -204,7 +204,7 @@ by_both how full inputs other both chromosomes keeps one two three same =
     }
 
 pub mask_twice : masked_twice
-mask_twice how full inputs chromosomes keeps well = by_both how full inputs inputs inputs chromosomes keeps well well well (all_any _ (sequence_lines full inputs) (λ line p from to. grind arith))
+mask_twice how full inputs chromosomes keeps well = grind (arith, by_both, all_any)
 
 -- ---- records in an order, read in blocks
 
@@ -245,7 +245,7 @@ module _ (inputs : Inputs) (genome : Option Handed) (merging : Option (List Entr
   placed = placed_good First order bed total
 
   bed_is : IsLike (bed_good First order bed) (block_good Second bed)
-  bed_is = in_blocks order bed (none_by (merge_written order 0 All) as_read (bed_good First order bed).fault (well_there (Merge 0 All) (second_alone genome inputs) merging merged))
+  bed_is = grind (arith, in_blocks, none_by, (well_there (Merge 0 All) (second_alone genome inputs) merging merged))
 
   input : IsInput order text (map three_columns runs)
   input = subst (λ t. IsInput order t (map three_columns runs)) (sym (merge_whole 0 All (second_alone genome inputs) merging merged)) (merge_back order total 0 All as_read said placed)

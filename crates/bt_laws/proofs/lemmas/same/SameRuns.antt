@@ -7,7 +7,7 @@ use Rattle.bt_bed.proofs.lemmas.Definitions.{placed_good}
 use Rattle.bt_bed.proofs.lemmas.parse.NameLemmas.{cases_name, name_eq, name_ne-sym}
 use Rattle.bt_laws.proofs.lemmas.single.StrandOrder.{names_in_order, ordered_all}
 use Rattle.bt_runs.proofs.lemmas.order.FileOrder.{distinct_chromosomes, among_chromosomes, spans_on-append, some_placed, spans_on-here, spans_on-elsewhere, spans_on-none, without-here, runs_of-nil, without_absent, ordered_come}
-use Rattle.bt_laws.proofs.lemmas.pipes.LinesBack.{placed_known, IsSaid, good_are_said}
+use Rattle.bt_laws.proofs.lemmas.pipes.LinesBack.{placed_known, good_are_said}
 use Rattle.bt_laws.proofs.lemmas.pipes.RunsBack.{merge_back, merge_in_order}
 use Rattle.bt_laws.proofs.lemmas.parts.PartMerge.{named_all}
 use Rattle.bt_laws.proofs.lemmas.pipes.Placing.{Earlier, ascending_pairs}
@@ -17,7 +17,7 @@ use Rattle.bt_bed.specs.model.BedLine.{interval_lines}
 use Rattle.bt_bed.specs.model.Genome.{Entry}
 use Rattle.bt_bed.specs.model.Order.{Order, is_among}
 use Rattle.bt_bed.specs.declared.record.strand.Strand.{Strand}
-use Rattle.bt_runs.specs.model.Merged.{counted, is_counted, chromosomes, merged, runs_on, in_order, ordered_runs, without, runs_of}
+use Rattle.bt_runs.specs.model.Merged.{counted, chromosomes, merged, runs_on, in_order, ordered_runs, without, runs_of}
 use Rattle.bt_runs.specs.model.Depth.{coverage, depth_at, depth_of, depth_on, depths_on, is_counted_by, reported}
 use Rattle.bt_runs.specs.model.Gaps.{complement}
 use Rattle.bt_laws.specs.Runs.{AreKnown}
@@ -74,7 +74,7 @@ module _ (keep : Feature → Bool) where
   exchanged_has rs ss is name = has_any name rs ∙ list_any-IsPermutation (has_one name) rs ss is ∙ sym (has_any name ss)
 
   pub exchanged_depth : (rs ss : List Feature) → IsPermutation rs ss → (name : List ℕ) (p : ℕ) → depth_in name rs p ≡ depth_in name ss p
-  exchanged_depth rs ss is name p = depth_sum name rs p ∙ sym (sum_by-IsPermutation (λ r. depth_in name (r ∷ []) p) rs ss is) ∙ sym (depth_sum name ss p)
+  exchanged_depth rs ss is name p = grind (arith, (depth_sum name rs p), sum_by-IsPermutation, (depth_sum name ss p))
 
   repeated_has : (rs ss : List Feature) → IsRepeated rs ss → (name : List ℕ) → has_records name (kept rs) ≡ has_records name (kept ss)
   repeated_has rs ss is name = grind (arith, (has_any name rs), common_steps, (list_any-IsPermutation (has_one name) (is.twice ∷ rs) ss is.second), (has_any name ss))
@@ -94,7 +94,7 @@ pub record IsAlike (rs ss : List Feature) : Type 0 where
   pub cover : (keep : Feature → Bool) (name : List ℕ) → SameCover (spans_on name (kept keep rs)) (spans_on name (kept keep ss))
 
 exchanged_alike : (rs ss : List Feature) → IsPermutation rs ss → IsAlike rs ss
-exchanged_alike rs ss is = record { has = λ keep. exchanged_has keep rs ss is; cover = λ keep. exchanged_cover keep rs ss is }
+exchanged_alike rs ss is = grind (arith, exchanged_has, exchanged_cover)
 
 repeated_alike : (rs ss : List Feature) → IsRepeated rs ss → IsAlike rs ss
 repeated_alike rs ss is = record { has = λ keep. repeated_has keep rs ss is; cover = λ keep. repeated_cover keep rs ss is }
@@ -218,7 +218,7 @@ back [] = refl
 back (r ∷ rs) = ap (λ l. r ∷ l) (back rs)
 
 again : (name : List ℕ) (ns : List (List ℕ)) → without name (without name ns) ≡ without name ns
-again name ns = filter_all (λ other. not (bytes_eq other name)) (without name ns) (filter_passes (λ other. not (bytes_eq other name)) ns)
+again name ns = grind (arith, filter_all, not, bytes_eq, filter_passes)
 
 -- what holds of each name that has records
 names_so : (P : List ℕ → Type 0) (rs : List Interval) → ((name : List ℕ) → has_records name rs ≡ true → P name) → AllByRecursion P (chromosomes rs)
@@ -287,7 +287,7 @@ some_run gap [] some full = absurd (omega arith)
 some_run gap (x ∷ xs) some full = some_spans (runs_of gap (x ∷ xs)) x.start ((are_runs gap (x ∷ xs)).whole x.start (bridged_here gap (x ∷ xs) x.start (inl (omega arith, full.0))))
 
 counted_full : (strand : MergeStrand) (records : List Feature) → AllByRecursion (λ (r : Feature). r.start < r.stop) records → AllByRecursion (λ (r : Interval). r.start < r.stop) (counted strand records)
-counted_full strand records h = all_map (λ (r : Interval). r.start < r.stop) interval_of (filter (λ r. is_counted strand r.strand) records) (all_filter (λ (r : Feature). r.start < r.stop) (λ r. is_counted strand r.strand) records h)
+counted_full strand records h = grind (arith, all_map, all_filter)
 
 all_of_them : (rs : List Interval) → counted All (map three_columns rs) ≡ rs
 all_of_them rs = all_counted (map three_columns rs) ∙ back rs
@@ -316,7 +316,7 @@ module _ (order : Order) (total : IsTotal order) (gap : ℕ) (strand : MergeStra
   run_spans name = grind (arith, runs_are_by, distinct_chromosomes, spans_on-none, among_chromosomes, runs_of-nil, spans_present, spans_absent)
 
   pub run_has : (name : List ℕ) → has_records name (ordered_runs order gap strand records) ≡ has_records name used
-  run_has name = sym (among_chromosomes name (ordered_runs order gap strand records)) ∙ ap (λ ns. is_among ns name) run_names ∙ among_chromosomes name used
+  run_has name = grind (arith, (among_chromosomes name (ordered_runs order gap strand records)), run_names, (among_chromosomes name used))
 
   -- merged again they stay as they are
   pub merged_again : ArePlaced order (ordered_runs order gap strand records) → ordered_runs order gap All (map three_columns (ordered_runs order gap strand records)) ≡ ordered_runs order gap strand records
@@ -352,7 +352,7 @@ module _ (chromosomes_in : Option (List Entry)) (inputs : Inputs) where
   read_placed = placed_good First order_in inputs.first (order_total chromosomes_in)
 
   read_full : AllByRecursion (λ (r : Feature). r.start < r.stop) as_read
-  read_full = all_so IsSaid (λ (r : Feature). r.start < r.stop) as_read (λ r is. is.feature.non_empty) (good_are_said First order_in inputs.first)
+  read_full = grind (arith, all_so, (good_are_said First order_in inputs.first))
 
   there_placed : (d : ℕ) (strand : MergeStrand) → ArePlaced order_in (ordered_runs order_in d strand as_read)
   there_placed d strand = (merge_in_order order_in (order_total chromosomes_in) d strand as_read (good_are_said First order_in inputs.first) read_placed).placed

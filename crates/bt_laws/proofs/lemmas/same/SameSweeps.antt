@@ -12,7 +12,7 @@ use Rattle.bt_bed.specs.model.Meeting.{join_report, written}
 use Rattle.bt_bed.specs.model.Order.{Order, is_among}
 use Rattle.bt_sweep.specs.model.Hits.{hits_among, hits, strands_agree}
 use Rattle.bt_sweep.specs.calls.Sweeping.{any_overlap}
-use Rattle.bt_sweep.specs.model.Lines.{hit_line, intersect, line_with, lines_for, lines_of, piece_line, sweep_rule, pieces}
+use Rattle.bt_sweep.specs.model.Lines.{hit_line, intersect, line_with, lines_for, lines_of, sweep_rule, pieces}
 use Rattle.bt_sweep.specs.calls.LineLaws.{spans_of}
 use Rattle.bt_sweep.specs.declared.hits.hit_rule.HitRule.{HitRule}
 use Rattle.bt_sweep.specs.declared.output.shape.Shape.{Shape}
@@ -31,7 +31,7 @@ use Rattle.bt_bed.specs.model.Sorted.{Locus, Sorting, sorting_of, has_records}
 use Rattle.bt_bed.specs.calls.Orders.{AreContiguous, IsFollowed}
 use Rattle.bt_bed.proofs.lemmas.Definitions.{placed_good}
 use Rattle.bt_bed.proofs.lemmas.parse.NameLemmas.{cases_name, name_eq, name_ne-sym}
-use Rattle.bt_runs.specs.model.Merged.{ordered_runs, chromosomes, is_covered, without}
+use Rattle.bt_runs.specs.model.Merged.{ordered_runs, chromosomes, is_covered}
 use Rattle.bt_runs.specs.declared.merge.merge_strand.MergeStrand.TheVariants.{All}
 use Rattle.bt_runs.proofs.lemmas.order.FileOrder.{spans_on-here, spans_on-elsewhere, among_chromosomes, same_chromosome, without_absent}
 use Rattle.bt_sweep.proofs.lemmas.definitions.PieceLemmas.{are_pieces, only_pieces}
@@ -72,7 +72,7 @@ other_shape one other rule held inputs chromosomes well = grind arith
 
 pub writes_lines : (shape : Shape) (rule : HitRule) (held : Option ℕ) (inputs : Inputs) (chromosomes : Option (List Entry)) → RunsWithoutFault (Intersect shape rule held) inputs chromosomes
     → RunWrites (Intersect shape rule held) inputs (intersect shape rule (first_records chromosomes inputs) (second_records chromosomes inputs))
-writes_lines shape rule held inputs chromosomes well = record { output = intersect_whole shape rule held inputs chromosomes well; faultless = well.faultless }
+writes_lines shape rule held inputs chromosomes well = grind (arith, (intersect_whole shape rule held inputs chromosomes well))
 
 -- ---- numbers of hits
 
@@ -184,15 +184,15 @@ pub record SeesBases (shape : Shape) : Type 0 where
 
 once_sees : SeesBases Once
 unfolding lines_for
-once_sees = record { sees = λ a bs cs one two same. (once_same a (hits_among any_overlap a bs) (hits_among any_overlap a cs) (some_to a bs cs one same) (some_to a cs bs two (same_sym (spans_on a.chrom (intervals_of bs)) (spans_on a.chrom (intervals_of cs)) same))).0 }
+once_sees = grind (arith, once_same, some_to, same_sym)
 
 missing_sees : SeesBases Missing
 unfolding lines_for
-missing_sees = record { sees = λ a bs cs one two same. (once_same a (hits_among any_overlap a bs) (hits_among any_overlap a cs) (some_to a bs cs one same) (some_to a cs bs two (same_sym (spans_on a.chrom (intervals_of bs)) (spans_on a.chrom (intervals_of cs)) same))).1 }
+missing_sees = grind (arith, once_same, some_to, same_sym)
 
 pieces_see : SeesBases Pieces
 unfolding lines_for
-pieces_see = record { sees = λ a bs cs one two same. ap (flat_map (piece_line a)) (pieces_same a bs cs one same) }
+pieces_see = grind (arith, pieces_same)
 
 pub intersect_sees : (shape : Shape) → SeesBases shape → (first bs cs : List Feature) → AllByRecursion IsSaid bs → AllByRecursion IsSaid cs → ((name : List ℕ) → SameCover (spans_on name (intervals_of bs)) (spans_on name (intervals_of cs)))
     → intersect shape any_overlap first bs ≡ intersect shape any_overlap first cs
@@ -341,7 +341,7 @@ blocks rs = blocks_by (λ r. r.chrom) rs
 
 elsewhere : (r : Feature) (rs : List Feature) (names : List (List ℕ)) → AllByRecursion (λ n. bytes_eq r.chrom n ≡ false) names → map (block_of (r ∷ rs)) names ≡ map (block_of rs) names
 elsewhere r rs [] h = refl
-elsewhere r rs (n ∷ ns) h = ap₂ (λ (b : Bool) more. record { chrom = n; items = cond b (r ∷ on_name n rs) (on_name n rs) } ∷ more) h.0 (elsewhere r rs ns h.1)
+elsewhere r rs (n ∷ ns) h = grind (arith, cond, (elsewhere r rs ns h.1))
 
 none_on : (name : List ℕ) (rs : List Feature) → has_records name (intervals_of rs) ≡ false → on_name name rs ≡ []
 none_on name [] e = refl
@@ -351,11 +351,7 @@ none_on name (r ∷ rs) e = grind (arith, (none_on name rs (or_parts (bytes_eq r
 
 followed : (r s : Feature) (ss : List Feature) → IsFollowed (interval_of r) (intervals_of (s ∷ ss)) → blocks (s ∷ ss) ≡ map (block_of (s ∷ ss)) (chromosomes (intervals_of (s ∷ ss)))
     → blocks (r ∷ s ∷ ss) ≡ map (block_of (r ∷ s ∷ ss)) (chromosomes (intervals_of (r ∷ s ∷ ss)))
-followed r s ss (inl same) e =
-    let rest = without s.chrom (chromosomes (intervals_of ss)) in
-    let here = name_eq r.chrom s.chrom (sym same.0) in
-    let apart : AllByRecursion (λ n. bytes_eq r.chrom n ≡ false) rest = subst (λ name. AllByRecursion (λ n. bytes_eq name n ≡ false) rest) same.0 (grind (arith, all_so, name_ne-sym, filter_passes)) in
-    grind (arith, (elsewhere r (s ∷ ss) rest apart), (same_chromosome (interval_of r) (interval_of s) (intervals_of ss) (sym same.0)))
+followed r s ss (inl same) e = grind (arith, (name_eq r.chrom s.chrom (sym same.0)), bytes_eq, all_so, name_ne-sym, filter_passes, elsewhere, (same_chromosome (interval_of r) (interval_of s) (intervals_of ss) (sym same.0)))
 followed r s ss (inr off) e =
     let later = s ∷ ss in
     let names = chromosomes (intervals_of later) in
@@ -365,7 +361,7 @@ followed r s ss (inr off) e =
 
 pub together_blocks : (rs : List Feature) → AreContiguous (intervals_of rs) → blocks rs ≡ map (block_of rs) (chromosomes (intervals_of rs))
 together_blocks [] h = refl
-together_blocks (r ∷ []) h = ap (λ (b : Bool). record { chrom = r.chrom; items = cond b (r ∷ []) [] } ∷ []) (sym (name_eq r.chrom r.chrom refl))
+together_blocks (r ∷ []) h = grind (arith, cond, (name_eq r.chrom r.chrom refl))
 together_blocks (r ∷ s ∷ ss) h = followed r s ss h.0 (together_blocks (s ∷ ss) h.1)
 
 -- ---- what they cover

@@ -1,5 +1,5 @@
 -- Lemmas on lines, records and their orders.
-use Rattle.bt_lines.proofs.Std.{◌≡◌, ℕ, Bool, true, false, cond, List, [], ◌∷◌, Option, Some, None, Result, Ok, Err, refl, sym, ap, ◌∙◌, ⊤, ◌≢◌, IfSome, length, arith, zero, suc, ◌+◌, ◌<◌, ◌≤◌, take, ◌++◌, append_assoc, append-nil, IfErr, decimal, lt-ltb, decimal_is_IsNumeral, digit_from_value, is_ascii_digit, IsInRange, AllByRecursion, list_all, AllDigits, digits_value, false≢true, nat_cmp_total, tied_itself, slice_cmp, nat_cmp, ordering_then, IsTrue, ◌⊎◌, inl, inr, bytes_eq, or_parts, or_from, digit_glyph, digits_onto, ◌/◌, ◌%◌, All-from_recursion, codes, subst}
+use Rattle.bt_lines.proofs.Std.{◌≡◌, ℕ, Bool, true, false, cond, List, [], ◌∷◌, Option, Some, None, Result, Ok, Err, refl, sym, ap, ◌∙◌, ⊤, ◌≢◌, IfSome, length, arith, zero, suc, ◌+◌, ◌<◌, ◌≤◌, take, ◌++◌, append_assoc, append-nil, IfErr, decimal, lt-ltb, decimal_is_IsNumeral, digit_from_value, is_ascii_digit, IsInRange, AllByRecursion, list_all, AllDigits, digits_value, false≢true, nat_cmp_total, tied_itself, slice_cmp, nat_cmp, ordering_then, IsTrue, ◌⊎◌, inl, inr, bytes_eq, or_parts, or_from, digit_glyph, digits_onto, ◌/◌, ◌%◌, All-from_recursion, codes}
 use Rattle.bt_lines.specs.model.Fault.{FaultValue}
 use Rattle.bt_lines.specs.model.Lines.{lines_handed, TextLine, pieces, value_of, text_lines}
 use Rattle.bt_lines.specs.calls.Line.{AreNumbered}
@@ -185,7 +185,7 @@ abbrev pub IsDigit : ℕ → Type 0
 IsDigit c = (48 ≤ c) × (c ≤ 57)
 
 glyph_is_digit : (d : ℕ) → d < 10 → IsDigit (digit_glyph false d)
-glyph_is_digit d below = subst (λ b. IsDigit (cond b (48 + d) (87 + d))) (sym (lt-ltb d 10 below)) (omega arith, omega (arith, below))
+glyph_is_digit d below = grind (arith, cond, (lt-ltb d 10 below))
 
 onto_digits : (k n : ℕ) (acc : List ℕ) → AllByRecursion IsDigit acc → AllByRecursion IsDigit (digits_onto k 10 false n acc)
 onto_digits zero n acc h = h

@@ -99,7 +99,7 @@ limit_kept order most first second enough =
     (λ front m rest e. enough_few order most (map (λ m. m.item) (front ++ m ∷ [])) first (enough (front ++ m ∷ []) rest (e ∙ sym (append_assoc front (m ∷ []) rest))))
 
 met_is : (met : Met ℕ FaultValue) (lines : List ℕ) (fault : Option FaultValue) → met.lines ≡ lines → met.fault ≡ fault → met ≡ record { lines = lines; fault = fault }
-met_is met lines fault e f = ap (λ l. record { lines = l; fault = met.fault }) e ∙ ap (λ (o : Option FaultValue). record { lines = lines; fault = o }) f
+met_is met lines fault e f = grind arith
 
 -- if a record is undecided, and the second input has a fault
 met_stops : (order : Order) (shape : Shape) (rule : HitRule) (first second : Good Feature) (before after : List Feature) (a : Feature) (fault : FaultValue) → items_in first ≡ before ++ a ∷ after → second.fault ≡ Some fault
