@@ -119,6 +119,11 @@ module _ (how : MaskHow) (full : Bool) where
 
     -- no record is named as a sequence of the other part
     module _ (off_two : MasksNone full one two) (off_one : MasksNone full two one) where
+      ones_away : AreOff (fasta_names two.first) (block_records one.second)
+      ones_away =
+          subst (λ names. AreOff names (block_records one.second)) (sym (names_grown full First two.first (second_sound full First one.first two.first are.first are.begins)))
+          (among Second _ (text_lines one.second) off_two)
+
       lost_names : (fasta_of one.first).fault ≡ None → (twos : List Feature) → AreOff (sequence_names full one.first) twos → IsLost (fasta_names one.first) (block_records one.second) twos
       lost_names e twos off = grind (arith, lost_off, (names_grown full First one.first e))
 
@@ -136,17 +141,12 @@ module _ (how : MaskHow) (full : Bool) where
         owned_both : is_some (leave (Some (fasta_names one.first ++ fasta_names two.first)) None (block_records one.second ++ block_records two.second)) ≡ true
         owned_both = sym (ap₂ (λ names records. is_some (leave (Some names) None records)) (names_of_both lines_one) calm.2) ∙ whole.owned
 
-        ones_off : AreOff (fasta_names two.first) (block_records one.second)
-        ones_off =
-            subst (λ names. AreOff names (block_records one.second)) (sym (names_grown full First two.first (second_sound full First one.first two.first are.first are.begins)))
-            (subst (AreOff (sequence_names full two.first)) (sym (sound_from block_sorting Second None (text_lines one.second) calm.0)) off_two)
-
         twos_lost : IsLost (fasta_names one.first) (block_records one.second) (block_records two.second)
         twos_lost = grind (arith, lost_names, lines_one, (sound_from block_sorting Second None (text_lines two.second) calm.1))
 
         by_left : (o : Option (List (List ℕ))) → leave (Some (fasta_names one.first)) None (block_records one.second) ≡ o
             → IsSound (fasta_of one.first) (blocks_of one.second) × IsSound (fasta_of two.first) (blocks_of two.second)
-        by_left None is = grind (arith, lost_more, ones_off, leave_append, none_leaves, owned_both)
+        by_left None is = grind (arith, lost_more, ones_away, leave_append, none_leaves, owned_both)
         by_left (Some rest) is = (
           record { lines = lines_one; records = calm.0; owned = ap is_some is },
           record {
@@ -236,14 +236,6 @@ module _ (how : MaskHow) (full : Bool) where
     named_two : AllByRecursion (λ line. is_unnamed line.names ≡ false) (items_in (F two.first))
     named_two = second_named full First one.first two.first are.first are.begins
 
-    ones_away : AreOff (N two.first) (R one.second)
-    ones_away =
-        subst (λ names. AreOff names (R one.second)) (sym (names_grown full First two.first (second_sound full First one.first two.first are.first are.begins)))
-        (among Second _ (text_lines one.second) off_two)
-
-    lost_on : (F one.first).fault ≡ None → (twos : List Feature) → AreOff (sequence_names full one.first) twos → IsLost (N one.first) (R one.second) twos
-    lost_on e twos off = grind (arith, lost_off, (names_grown full First one.first e))
-
     -- ---- the first part lacks a sequence
 
     module _ (lacks : Lacks one) where
@@ -253,7 +245,7 @@ module _ (how : MaskHow) (full : Bool) where
         lost =
             let more = first_front Second one.second two.second are.second in
             ap₂ (λ names records. leave (Some names) None records) (names_of_both how full one two are lacks.lines) more.1
-            ∙ none_behind (N one.first ++ N two.first) (R one.second) more.0 (lost_more (N one.first) (N two.first) None (R one.second) ones_away lacks.lost);
+            ∙ none_behind (N one.first ++ N two.first) (R one.second) more.0 (lost_more (N one.first) (N two.first) None (R one.second) (ones_away how full one two are off_two off_one) lacks.lost);
       }
 
       goes_on : (more : List ℕ) × ((report_on both).output ≡ (report_on one).output ++ more)
@@ -310,10 +302,10 @@ module _ (how : MaskHow) (full : Bool) where
 
       module _ (records : (B one.second).fault ≡ None) where
         lost : IsLost (N one.first) (R one.second) (R two.second)
-        lost = lost_on lines (R two.second) (among Second _ (text_lines two.second) off_one)
+        lost = lost_names how full one two are off_two off_one lines (R two.second) (among Second _ (text_lines two.second) off_one)
 
         joint : (R (one.second ++ two.second) ≡ R one.second ++ R two.second) × (is_none (B (one.second ++ two.second)).fault ≡ is_none (B two.second).fault)
-        joint = fresh_joint Second one.second two.second are.second records (begins_elsewhere (N one.first) rest (R one.second) kept (said_records two.second) (lost_on lines (said_records two.second) off_one))
+        joint = fresh_joint Second one.second two.second are.second records (begins_elsewhere (N one.first) rest (R one.second) kept (said_records two.second) (lost_names how full one two are off_two off_one lines (said_records two.second) off_one))
 
         first_output : (report_on one).output ≡ flat_map (masked_line how (R one.second)) (items_in (F one.first))
         first_output = sound_output how (F one.first) (B one.second) records
