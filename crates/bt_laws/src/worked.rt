@@ -259,7 +259,7 @@ pub fn texts()
 {}
 
 /// Command lines that can't be used.
-#[tactic(auto, unfolding(bt_tool::specs::model::Report::report_of, bt_lines::specs::model::Lines::lines_from, bt_lines::specs::model::Lines::value_of, bt_bed::specs::model::Good::good_from, bt_bed::specs::model::Good::line_says, bt_bed::specs::model::BedLine::record_of, bt_bed::specs::model::Positions::stretches_from, bt_bed::specs::model::Positions::with_position, bt_runs::specs::model::Merged::is_bridged, bt_runs::specs::model::Merged::runs_of, bt_runs::specs::model::Merged::merged, bt_runs::specs::model::Merged::ordered_runs, bt_runs::specs::model::Merged::strand_runs, bt_runs::specs::model::Merged::settled_strand_runs, bt_bed::specs::model::Genome::genome_from, bt_bed::specs::model::Genome::entry_of, bt_sweep::specs::model::Lines::lines_for, bt_sweep::specs::model::Hits::hits, bt_sweep::specs::model::Hits::strands_agree, bt_sweep::specs::model::Hits::is_enough, bt_sweep::specs::model::Hits::has_fraction, bt_tool::specs::model::Report::report, bt_tool::specs::model::Options::options, bt_tool::specs::model::Options::word_fault, bt_tool::specs::model::Usage::items_of, bt_tool::specs::model::Fraction::fraction_in))]
+#[tactic(auto, unfolding(bt_lines::specs::model::Lines::value_of, bt_tool::specs::model::Report::report, bt_tool::specs::model::Options::options, bt_tool::specs::model::Options::word_fault, bt_tool::specs::model::Usage::items_of, bt_tool::specs::model::Fraction::fraction_in))]
 pub fn usage()
     ensures no_command { AreRefused ([]) (codes "bedtools: no or unknown command\n") }
     ensures unknown_command { AreRefused (codes "sort" ∷ []) (codes "bedtools: no or unknown command\n") }
@@ -284,7 +284,7 @@ pub fn usage()
 {}
 
 /// Options of intersect that exclude one another.
-#[tactic(auto, unfolding(bt_tool::specs::model::Report::report_of, bt_lines::specs::model::Lines::lines_from, bt_lines::specs::model::Lines::value_of, bt_bed::specs::model::Good::good_from, bt_bed::specs::model::Good::line_says, bt_bed::specs::model::BedLine::record_of, bt_bed::specs::model::Positions::stretches_from, bt_bed::specs::model::Positions::with_position, bt_runs::specs::model::Merged::is_bridged, bt_runs::specs::model::Merged::runs_of, bt_runs::specs::model::Merged::merged, bt_runs::specs::model::Merged::ordered_runs, bt_runs::specs::model::Merged::strand_runs, bt_runs::specs::model::Merged::settled_strand_runs, bt_bed::specs::model::Genome::genome_from, bt_bed::specs::model::Genome::entry_of, bt_sweep::specs::model::Lines::lines_for, bt_sweep::specs::model::Hits::hits, bt_sweep::specs::model::Hits::strands_agree, bt_sweep::specs::model::Hits::is_enough, bt_sweep::specs::model::Hits::has_fraction, bt_tool::specs::model::Report::report, bt_tool::specs::model::Options::options, bt_tool::specs::model::Options::word_fault, bt_tool::specs::model::Usage::items_of, bt_tool::specs::model::Fraction::fraction_in))]
+#[tactic(auto, unfolding(bt_lines::specs::model::Lines::value_of, bt_tool::specs::model::Report::report, bt_tool::specs::model::Options::options, bt_tool::specs::model::Options::word_fault, bt_tool::specs::model::Usage::items_of))]
 pub fn exclusive_options()
     ensures wa_wo { Exclude (codes "-wa") (codes "-wo") }
     ensures wb_wo { Exclude (codes "-wb") (codes "-wo") }
