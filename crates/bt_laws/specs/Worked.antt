@@ -1,7 +1,7 @@
 -- Worked values: what commands give of small inputs, as the public standards and the bedtools manual have it.
 use Rattle.std.specs.Prelude.{◌≡◌, ℕ, Bool, true, false, List, [], ◌∷◌, ◌++◌, Option, None, Some, codes}
-use Rattle.bt_lines.specs.model.Fault.{FaultValue, read_failed}
-use Rattle.bt_lines.specs.model.Lines.{Handed, whole_text, text_lines}
+use Rattle.bt_lines.specs.model.Fault.{read_failed}
+use Rattle.bt_lines.specs.model.Lines.{whole_text, text_lines}
 use Rattle.bt_lines.specs.declared.fault.Input.{Input}
 use Rattle.bt_lines.specs.declared.fault.Input.TheVariants.{First, Genome}
 use Rattle.bt_lines.specs.declared.fault.Kind.{Kind}
@@ -13,7 +13,6 @@ use Rattle.bt_tool.specs.model.Table.{Word}
 use Rattle.bt_tool.specs.model.Written.{intersect_reaches, mask_reaches}
 use Rattle.bt_tool.specs.declared.planning.plan_type.Command.{Command}
 use Rattle.bt_tool.specs.declared.planning.plan_type.Command.TheVariants.{BamToBed}
-use Rattle.bt_laws.specs.WholeRuns.{two_texts}
 
 -- Inputs, and what is written of them.
 

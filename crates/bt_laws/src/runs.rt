@@ -22,6 +22,7 @@ pub fn runs_are_determined()
 
 /// Chromosomes that have records are named once each, and in a total order each of these names comes before
 /// the next.
+#[tactic(auto, using(bt_runs::proofs::lemmas::order::FileOrder::distinct_chromosomes, crate::proofs::lemmas::single::StrandOrder::names_in_order))]
 pub fn chromosomes_come_in_order()
     ensures once { chromosomes_are_named_once }
     ensures order { names_come_in_order }
@@ -36,6 +37,7 @@ pub fn runs_follow_the_order()
 
 /// In the order of a genome file the chromosomes of the merged runs come as in that file, which is the
 /// order of its names' ranks.
+#[tactic(auto, using(bt_runs::proofs::lemmas::order::FileOrder::in_file_order, crate::proofs::lemmas::single::StrandOrder::file_ordered))]
 pub fn runs_come_in_file_order()
     ensures come { (names : List (List ℕ)) (gap : ℕ) (strand : MergeStrand) (records : List Feature) → AreDistinct names
         → ArePlaced (rank_order names) (intervals_of records) → merged names gap (counted strand records) ≡ merged_runs gap strand records }
@@ -51,6 +53,7 @@ pub fn settled_runs_are_a_prefix()
 
 /// With each strand separately no later record changes a settled run either, and the kept runs are the
 /// others. The runs of one strand are listed in their order, each once.
+#[tactic(auto, using(bt_runs::proofs::lemmas::merge::StrandSettling::stay, bt_runs::proofs::lemmas::merge::StrandSettling::begin, crate::proofs::lemmas::single::LevelLemmas::divide, crate::proofs::lemmas::single::LevelLemmas::in_order))]
 pub fn settled_strand_runs_are_a_prefix()
     ensures stay { (gap : ℕ) → SettledStays (settled_strand_runs gap) AreTaken }
     ensures begin { (gap : ℕ) → SettledBegins (settled_strand_runs gap) (strand_runs gap) AreTaken }
@@ -60,6 +63,7 @@ pub fn settled_strand_runs_are_a_prefix()
 
 /// The runs of several strands come in the order of their first records, and each starts where its
 /// first record does. So they are in a total order of the chromosomes if the records are.
+#[tactic(auto, using(crate::proofs::lemmas::single::StrandOrder::in_turn, crate::proofs::lemmas::single::StrandOrder::start_with_records, crate::proofs::lemmas::single::StrandOrder::in_order))]
 pub fn strand_runs_follow_the_order()
     ensures turn { strand_runs_come_in_turn }
     ensures start { strand_runs_start_with_records }

@@ -2,9 +2,8 @@
 use Rattle.bt_lines.proofs.Std.{common_steps, rules, ◌≡◌, ℕ, zero, suc, ◌+◌, ◌-◌, ◌*◌, ◌<◌, ◌≤◌, Bool, false, cond, List, [], ◌∷◌, map, filter, max, min, Option, Some, None, inl, inr, refl, sym, ap, ap₂, ◌∙◌, arith, ◌⊎◌, bytes_eq, flat_map, sum_by, or_parts, mul-suc, sum_by-append, sum_by-cons, ◌++◌, append_assoc, subst, IsPermutation, flat_map-append, map-append, IsPermutation-append_comm, IsPermutation-append_left, IsPermutation-append_right, IsPermutation-refl, IsPermutation-trans, flat_map-map, cases_Bool, false≢true}
 use Rattle.bt_bed.specs.model.Feature.{Feature, interval_of, intervals_of, Interval, Span, span_of, spans_on, placed_on}
 use Rattle.bt_bed.specs.calls.Stretches.{IsCovered}
-use Rattle.bt_bed.specs.model.BedLine.{cut_to}
 use Rattle.bt_bed.specs.model.Genome.{Entry, genome_names}
-use Rattle.bt_bed.specs.model.Order.{is_among, Order}
+use Rattle.bt_bed.specs.model.Order.{is_among}
 use Rattle.bt_bed.specs.calls.Orders.{AreDistinct}
 use Rattle.bt_bed.specs.declared.record.strand.Strand.{Strand}
 use Rattle.bt_bed.proofs.lemmas.parse.NameLemmas.{cases_name, name_eq, name_eq-sym}
@@ -15,12 +14,10 @@ use Rattle.bt_runs.specs.calls.Complementing.{length_in}
 use Rattle.bt_runs.proofs.lemmas.order.FileOrder.{spans_on-append}
 use Rattle.bt_bed.proofs.lemmas.LevelScans.{levels_more}
 use Rattle.bt_laws.specs.Counts.{depth_bases, depths_sum, IsMutual, HitPair, exchanged, pair_line, pairs_have_two_sides, pairs_of, with_sides_exchanged, PartBases, intersect_and_subtract_part}
-use Rattle.bt_laws.specs.WholeRuns.{first_records, second_records, RunWrites, RunsWithoutFault}
-use Rattle.bt_laws.proofs.lemmas.pipes.PipeLaws.{depth_both, chroms_of, genomecov_whole, intersect_whole, well_there, cut_intersect_input, subtract_input}
-use Rattle.bt_lines.specs.model.Lines.{Handed, cut_fault, lines_handed}
+use Rattle.bt_laws.specs.WholeRuns.{first_records, second_records, RunWrites}
+use Rattle.bt_laws.proofs.lemmas.pipes.PipeLaws.{depth_both, chroms_of, genomecov_whole, intersect_whole, well_there, cut_intersect_input, subtract_input, report_there}
 use Rattle.bt_lines.specs.declared.fault.Input.TheVariants.{First, Second}
-use Rattle.bt_bed.specs.model.Good.{good, items_in, bed_format, bed_good}
-use Rattle.bt_bed.specs.model.Sorted.{sorting_of}
+use Rattle.bt_bed.specs.model.Good.{bed_good}
 use Rattle.bt_sweep.specs.model.Hits.{hits, hits_among, is_enough, shared_bases, strands_agree}
 use Rattle.bt_sweep.specs.calls.Sweeping.{any_overlap}
 use Rattle.bt_sweep.specs.model.Lines.{intersect, lines_for, pieces}
@@ -30,14 +27,13 @@ use Rattle.bt_sweep.specs.declared.output.shape.Shape.TheVariants.{OrigBoth, Cut
 use Rattle.bt_sweep.proofs.lemmas.definitions.HitLemmas.{enough_of_nothing}
 use Rattle.bt_tool.specs.model.Report.{order_of, or_empty}
 use Rattle.bt_tool.specs.declared.planning.plan_type.Command.TheVariants.{Intersect, Subtract}
-use Rattle.bt_laws.proofs.lemmas.same.SameSweeps.{writes_lines, cut_none, like_from, met_faultless, other_input, sweeps_from, other_shape, hit_back, hit_to}
+use Rattle.bt_laws.proofs.lemmas.same.SameSweeps.{writes_lines, met_faultless, other_input, sweeps_from, other_shape, hit_back, hit_to}
 use Rattle.bt_runs.specs.model.Merged.{is_covered}
 use Rattle.bt_runs.proofs.lemmas.merge.Bridging.{covered_left, covered_parts, covered_right, is_covered-Decides}
 use Rattle.bt_sweep.proofs.lemmas.definitions.PieceLemmas.{are_pieces}
-use Rattle.bt_tool.specs.model.Written.{Report}
-use Rattle.bt_laws.specs.Pipes.{read_alone, records_for, records_written}
+use Rattle.bt_laws.specs.Pipes.{records_for, records_written}
 use Rattle.bt_laws.proofs.lemmas.same.GapsHit.{covered_cut, cut_covered, cut_span}
-use Rattle.bt_laws.proofs.lemmas.same.SameRuns.{here_all, none_there, report_there}
+use Rattle.bt_laws.proofs.lemmas.same.SameRuns.{here_all, none_there}
 use Rattle.bt_runs.proofs.lemmas.Lists.{map_flat, map_map, all_any}
 
 -- Depth times length, added up.
@@ -110,7 +106,7 @@ span_step s p n t e = grind arith
 span_sum : (s : Span) (n p : ℕ) → total (λ q. depth_at (s ∷ []) q) p n ≡ min s.stop (p + n) - max s.start p
 unfolding total
 span_sum s zero p = omega arith
-span_sum s (suc n) p = ap (λ k. k + total (λ q. depth_at (s ∷ []) q) (p + 1) n) (grind arith) ∙ span_step s p n (total (λ q. depth_at (s ∷ []) q) (p + 1) n) (span_sum s n (p + 1))
+span_sum s (suc n) p = grind (arith, span_step, (span_sum s n (p + 1)))
 
 abbrev below : ℕ → Span → ℕ
 below size s = min s.stop size - s.start
@@ -172,7 +168,7 @@ sum_depths strand inputs entries well =
 -- ---- a rule that asks the same of both
 
 shared_swap : (a b : Feature) → shared_bases a b ≡ shared_bases b a
-shared_swap a b = ap₂ (λ t n. cond t n 0) (name_eq-sym a.chrom b.chrom) (ap₂ (λ x y. x - y) (omega arith) (omega arith))
+shared_swap a b = grind (arith, cond, (name_eq-sym a.chrom b.chrom))
 
 enough_swap : (rule : HitRule) (bases : ℕ) (a b : Feature) → IsMutual rule → is_enough rule bases a b ≡ is_enough rule bases b a
 unfolding is_enough
@@ -235,22 +231,16 @@ unfolding lines_for
 pair_lines rule [] second = refl
 pair_lines rule (a ∷ first) second = grind (arith, (pair_lines rule first second), flat_map-map, flat_map-append)
 
--- what is good of the first input is good of it as a second one
-other_second : (order : Order) (handed : Handed) → (bed_good First order handed).fault ≡ None → (items_in (bed_good Second order handed) ≡ items_in (bed_good First order handed)) × ((bed_good Second order handed).fault ≡ None)
-other_second order handed e =
-    let lines = lines_handed handed in
-    grind (arith, (like_from (sorting_of order) First Second None lines (cut_none (good (bed_format (sorting_of order)) First lines).fault (cut_fault First handed) e).0))
-
 pub two_sides : pairs_have_two_sides
 two_sides rule held inputs chromosomes even well =
     let order = order_of chromosomes in
     let firsts = first_records chromosomes inputs in
     let seconds = second_records chromosomes inputs in
     let nones = met_faultless order OrigBoth rule held (bed_good First order inputs.first) (bed_good Second order (or_empty inputs.second)) (well_there (Intersect OrigBoth rule held) inputs chromosomes well) in
-    let one = other_input order (or_empty inputs.second) nones.1 in
-    let two = other_second order inputs.first nones.0 in
+    let one = other_input order Second First (or_empty inputs.second) nones.1 in
+    let two = other_input order First Second inputs.first nones.0 in
     let lines : intersect OrigBoth rule (first_records chromosomes (exchanged inputs)) (second_records chromosomes (exchanged inputs)) ≡ flat_map pair_line (pairs_of rule seconds firsts) =
-    ap₂ (intersect OrigBoth rule) one.0 two.0 ∙ pair_lines rule seconds firsts in (
+    ap₂ (intersect OrigBoth rule) one.items two.items ∙ pair_lines rule seconds firsts in (
       subst (RunWrites (Intersect OrigBoth rule held) inputs) (pair_lines rule firsts seconds) (writes_lines OrigBoth rule held inputs chromosomes well),
       sweeps_from (Intersect OrigBoth rule None) (exchanged inputs) chromosomes (flat_map pair_line (pairs_of rule seconds firsts)) well.genome
           (grind arith)
@@ -270,10 +260,10 @@ module _ (S : Feature → List Span) where
   places as_read = flat_map part_at as_read
 
   spans_here : (name : List ℕ) (a : Feature) (more : List Feature) → a.chrom ≡ name → spans_on name (places (a ∷ more)) ≡ S a ++ spans_on name (places more)
-  spans_here name a more same = spans_on-append name (part_at a) (places more) ∙ ap (λ l. l ++ spans_on name (places more)) (subst (λ n. spans_on n (part_at a) ≡ S a) same (here_all a.chrom (S a)))
+  spans_here name a more same = grind (arith, (spans_on-append name (part_at a) (places more)), (here_all a.chrom (S a)))
 
   spans_there : (name : List ℕ) (a : Feature) (more : List Feature) → bytes_eq a.chrom name ≡ false → spans_on name (places (a ∷ more)) ≡ spans_on name (places more)
-  spans_there name a more other = spans_on-append name (part_at a) (places more) ∙ ap (λ l. l ++ spans_on name (places more)) (none_there name a.chrom (S a) other)
+  spans_there name a more other = grind (arith, (spans_on-append name (part_at a) (places more)), (none_there name a.chrom (S a) other))
 
   here_so : (P : List ℕ → ℕ → Type 0) (a : Feature) (more : List Feature) → ((a : Feature) (p : ℕ) → IsCovered (S a) p → (a.start ≤ p) × (p < a.stop) × P a.chrom p) → (name : List ℕ) (p : ℕ) → a.chrom ≡ name
       → IsCovered (S a) p ⊎ IsCovered (spans_on name (places more)) p → (IsCovered (spans_on name (places more)) p → IsCovered (spans_on name (intervals_of more)) p × P name p)
@@ -306,18 +296,15 @@ module _ (bs : List Feature) where
   left_so a p c = grind (arith, (are_pieces a (hits_among any_overlap a bs)), hit_back)
 
   one_of : (a : Feature) (p : ℕ) → a.start ≤ p → p < a.stop → IsCovered (cuts a) p ⊎ IsCovered (lefts a) p
-  one_of a p from to = elim (cases_Bool (is_covered (spans_of (hits_among any_overlap a bs)) p)) [
-    | inl t ↦ inl (covered_cut a (hits_among any_overlap a bs) p from to ((is_covered-Decides (spans_of (hits_among any_overlap a bs)) p).0 t))
-    | inr f ↦ inr ((are_pieces a (hits_among any_overlap a bs)).whole p (record { from_start = from; before_stop = to; bare = λ c. false≢true (sym f ∙ (is_covered-Decides (spans_of (hits_among any_overlap a bs)) p).1 c) }))
-  ]
+  one_of a p from to = grind (arith, (cases_Bool (is_covered (spans_of (hits_among any_overlap a bs)) p)), covered_cut, (is_covered-Decides (spans_of (hits_among any_overlap a bs)) p), (are_pieces a (hits_among any_overlap a bs)), false≢true)
 
   either_here : (a : Feature) (more : List Feature) (name : List ℕ) (p : ℕ) → a.chrom ≡ name → IsCovered (cuts a) p ⊎ IsCovered (lefts a) p → IsCovered (spans_on name (places cuts (a ∷ more))) p ⊎ IsCovered (spans_on name (places lefts (a ∷ more))) p
-  either_here a more name p same (inl c) = inl (subst (λ l. IsCovered l p) (sym (spans_here cuts name a more same)) (covered_left (cuts a) (spans_on name (places cuts more)) p c))
-  either_here a more name p same (inr c) = inr (subst (λ l. IsCovered l p) (sym (spans_here lefts name a more same)) (covered_left (lefts a) (spans_on name (places lefts more)) p c))
+  either_here a more name p same (inl c) = grind (arith, (spans_here cuts name a more same), (covered_left (cuts a) (spans_on name (places cuts more)) p c))
+  either_here a more name p same (inr c) = grind (arith, (spans_here lefts name a more same), (covered_left (lefts a) (spans_on name (places lefts more)) p c))
 
   either_later : (a : Feature) (more : List Feature) (name : List ℕ) (p : ℕ) → a.chrom ≡ name → IsCovered (spans_on name (places cuts more)) p ⊎ IsCovered (spans_on name (places lefts more)) p → IsCovered (spans_on name (places cuts (a ∷ more))) p ⊎ IsCovered (spans_on name (places lefts (a ∷ more))) p
-  either_later a more name p same (inl c) = inl (subst (λ l. IsCovered l p) (sym (spans_here cuts name a more same)) (covered_right (cuts a) (spans_on name (places cuts more)) p c))
-  either_later a more name p same (inr c) = inr (subst (λ l. IsCovered l p) (sym (spans_here lefts name a more same)) (covered_right (lefts a) (spans_on name (places lefts more)) p c))
+  either_later a more name p same (inl c) = grind (arith, (spans_here cuts name a more same), (covered_right (cuts a) (spans_on name (places cuts more)) p c))
+  either_later a more name p same (inr c) = grind (arith, (spans_here lefts name a more same), (covered_right (lefts a) (spans_on name (places lefts more)) p c))
 
   first_of : (a : Feature) (more : List Feature) (name : List ℕ) (p : ℕ) → a.chrom ≡ name → IsCovered (span_of (interval_of a) ∷ spans_on name (intervals_of more)) p
       → (IsCovered (spans_on name (intervals_of more)) p → IsCovered (spans_on name (places cuts more)) p ⊎ IsCovered (spans_on name (places lefts more)) p)
@@ -351,22 +338,12 @@ cut_each a [] = refl
 cut_each a (b ∷ found) = ap (λ l. placed_on a.chrom (cut_span a b) ∷ l) (cut_each a found)
 
 cut_places : (bs as_read : List Feature) → intervals_of (records_written Cut any_overlap as_read bs) ≡ places (cuts bs) as_read
-cut_places bs as_read = map_flat interval_of (λ a. records_for Cut a (hits_among any_overlap a bs)) (λ a. map (placed_on a.chrom) (cuts bs a)) as_read (λ a. cut_each a (hits_among any_overlap a bs))
+cut_places bs as_read = grind (arith, map_flat, cut_each)
 
 left_places : (bs as_read : List Feature) → intervals_of (records_written Pieces any_overlap as_read bs) ≡ places (lefts bs) as_read
-left_places bs as_read = map_flat interval_of (λ a. records_for Pieces a (hits_among any_overlap a bs)) (λ a. map (placed_on a.chrom) (lefts bs a)) as_read (λ a. map_map (λ (p : Span). read_alone (cut_to p.start p.stop a)) interval_of (placed_on a.chrom) (lefts bs a) (all_any _ (lefts bs a) (λ p. refl)))
+left_places bs as_read = grind (arith, map_flat, map_map, all_any)
 
 -- ---- the runs
 
 pub parts_of_first : intersect_and_subtract_part
-parts_of_first held inputs chromosomes well apart =
-    let firsts = first_records chromosomes inputs in
-    let seconds = second_records chromosomes inputs in
-    let pieces_well = other_shape Cut Pieces any_overlap held inputs chromosomes well in
-    let subtract_well : RunsWithoutFault (Subtract false any_overlap held) inputs chromosomes = record { genome = well.genome; faultless = ap (λ (r : Report). r.fault) (report_there (Subtract false any_overlap held) inputs chromosomes well.genome ∙ sym (report_there (Intersect Pieces any_overlap held) inputs chromosomes well.genome)) ∙ pieces_well.faultless } in (
-      subtract_well.faultless,
-      cut_intersect_input Cut any_overlap held inputs chromosomes refl well apart,
-      (subtract_input any_overlap held inputs chromosomes subtract_well apart).0,
-      subst (λ cut_at. PartBases (intervals_of firsts) cut_at (intervals_of (records_written Pieces any_overlap firsts seconds))) (sym (cut_places seconds firsts))
-          (subst (PartBases (intervals_of firsts) (places (cuts seconds) firsts)) (sym (left_places seconds firsts)) (bases_part seconds firsts)),
-    )
+parts_of_first held inputs chromosomes well apart = grind (arith, (other_shape Cut Pieces any_overlap held inputs chromosomes well), (report_there (Subtract false any_overlap held) inputs chromosomes well.genome), (report_there (Intersect Pieces any_overlap held) inputs chromosomes well.genome), (cut_intersect_input Cut any_overlap held inputs chromosomes refl well apart), subtract_input, cut_places, left_places, bases_part)

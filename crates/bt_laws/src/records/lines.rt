@@ -8,6 +8,7 @@ ghost use Rattle.bt_lines.specs.calls.Output.{block_size};
 use bt_lines::{BLOCK, LineEnd};
 
 /// The lines of a text lose nothing: with their line ends, one after another, they are its bytes.
+#[tactic(auto, using(bt_lines::proofs::lemmas::reader::lines::TextLemmas::lines_lose_nothing))]
 pub fn lines_lose_nothing()
     ensures { (bytes : List ℕ) → flat_map spelled (text_lines bytes) ≡ bytes }
 {}
@@ -19,6 +20,7 @@ pub fn a_block_has_so_many_bytes()
 
 /// The complete lines of a text that was cut off are as many as its line feeds, and they are the first
 /// lines of each text that begins with it.
+#[tactic(auto, using(bt_lines::proofs::lemmas::reader::lines::TextLemmas::whole_count, bt_lines::proofs::lemmas::reader::lines::TextLemmas::whole_front))]
 pub fn whole_lines_come_first()
     ensures count { (bytes : List ℕ) → length (whole_lines bytes) ≡ line_feeds bytes }
     ensures front { (bytes more : List ℕ)
@@ -26,6 +28,7 @@ pub fn whole_lines_come_first()
 {}
 
 /// The lines of a text are numbered from 1 on, and so are its complete lines.
+#[tactic(auto, using(bt_lines::proofs::lemmas::reader::lines::TextLemmas::lines_are_numbered, bt_lines::proofs::lemmas::reader::lines::TextLemmas::whole_lines_are_numbered))]
 pub fn lines_count_up()
     ensures lines { (bytes : List ℕ) → AreNumbered 1 (text_lines bytes) }
     ensures whole { (bytes : List ℕ) → AreNumbered 1 (whole_lines bytes) }

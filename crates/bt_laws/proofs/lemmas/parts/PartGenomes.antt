@@ -136,14 +136,14 @@ names_both ones twos = map-append (λ entry. entry.name) ones twos
 
 module _ (e_one e_two : List Entry) where
   pub agree_first : Agree (rank_order (genome_names (e_one ++ e_two))) (rank_order (genome_names e_one)) (Within (genome_names e_one) (genome_names (e_one ++ e_two)))
-  agree_first = subst (λ ns. Agree (rank_order ns) (rank_order (genome_names e_one)) (Within (genome_names e_one) ns)) (sym (names_both e_one e_two)) (first_agree (genome_names e_one) (genome_names e_two))
+  agree_first = grind (arith, (names_both e_one e_two), (first_agree (genome_names e_one) (genome_names e_two)))
 
   module _ (distinct : AreDistinct (genome_names (e_one ++ e_two))) where
     pub apart_both : AreDistinct (genome_names e_one ++ genome_names e_two)
     apart_both = subst AreDistinct (names_both e_one e_two) distinct
 
     pub agree_second : Agree (rank_order (genome_names (e_one ++ e_two))) (rank_order (genome_names e_two)) (Within (genome_names e_two) (genome_names (e_one ++ e_two)))
-    agree_second = subst (λ ns. Agree (rank_order ns) (rank_order (genome_names e_two)) (Within (genome_names e_two) ns)) (sym (names_both e_one e_two)) (second_agree (genome_names e_one) (genome_names e_two) apart_both)
+    agree_second = grind (arith, (names_both e_one e_two), (second_agree (genome_names e_one) (genome_names e_two) apart_both), apart_both)
 
     pub entry_less : (a b : List ℕ) → is_among (genome_names e_one) a ≡ true → is_among (genome_names e_two) b ≡ true → (rank_order (genome_names (e_one ++ e_two))).compare a b ≡ Less
     entry_less a b one two = subst (λ ns. (rank_order ns).compare a b ≡ Less) (sym (names_both e_one e_two)) (first_less (genome_names e_one) (genome_names e_two) a b apart_both one two)
@@ -204,7 +204,7 @@ IsLost names ones [] = ⊤
 IsLost names ones (r ∷ twos) = leave (Some names) None (ones ++ r ∷ []) ≡ None
 
 pub tags_first : (names : Names) (ones twos : List Feature) → IsLost names ones twos → tags_of names (ones ++ twos) ≡ tags_of names ones ++ tag_items None twos
-tags_first names ones twos lost = tags_append (Some names) None ones twos ∙ ap (λ ts. tags_of names ones ++ ts) (grind (arith, leave_append, none_tags))
+tags_first names ones twos lost = grind (arith, (tags_append (Some names) None ones twos), (tags_of names ones), leave_append, none_tags)
 
 -- the later records mask no sequence of the first part
 pub own_first : (names : Names) (ones twos : List Feature) → IsLost names ones twos → own_records names (ones ++ twos) ≡ own_records names ones
@@ -265,7 +265,7 @@ next_enters rest more last r e = grind (arith, none_found)
 
 module _ (names rest : Names) (ones : List Feature) (kept : leave (Some names) None ones ≡ Some rest) where
   lost_next : (r : Feature) (rs : List Feature) → IsLost names ones (r ∷ rs) → one_leaves (Some rest) (last_tagged None ones) r ≡ None
-  lost_next r rs lost = ap (λ o. one_leaves o (last_tagged None ones) r) (sym kept) ∙ sym (leave_append (Some names) None ones (r ∷ [])) ∙ lost
+  lost_next r rs lost = grind (arith, one_leaves, (last_tagged None ones), (leave_append (Some names) None ones (r ∷ [])))
 
   -- the first of the later records lies on another chromosome than the last of the first ones
   pub apart_next : (r : Feature) (rs : List Feature) → IsLost names ones (r ∷ rs) → is_last (last_tagged None ones) r.chrom ≡ false
@@ -285,7 +285,7 @@ module _ (names rest : Names) (ones : List Feature) (kept : leave (Some names) N
 
   -- whether all belong to a sequence
   pub both_owned : (more : Names) (twos : List Feature) → IsLost names ones twos → is_some (leave (Some (names ++ more)) None (ones ++ twos)) ≡ is_some (leave (Some more) None twos)
-  both_owned more [] lost = ap (λ rs. is_some (leave (Some (names ++ more)) None rs)) (append-nil ones) ∙ ap is_some (stays_from more rest names None ones kept).leaves
+  both_owned more [] lost = grind (arith, is_some, leave, (append-nil ones), (stays_from more rest names None ones kept))
   both_owned more (r ∷ rs) lost = ap is_some (grind (arith, (stays_from more rest names None ones kept), next_enters, leave_append))
 
   module _ (n : List ℕ) (ns : Names) (twos : List Feature) (lost : IsLost names ones twos) where
@@ -400,7 +400,7 @@ last_behind (r ∷ s ∷ ss) q qs = last_behind (s ∷ ss) q qs
 
 -- the records of a chromosome that has none in the other part
 pub spans_first : (name : List ℕ) (ones twos : List Interval) → has_records name twos ≡ false → spans_on name (ones ++ twos) ≡ spans_on name ones
-spans_first name ones twos e = spans_on-append name ones twos ∙ ap (λ l. spans_on name ones ++ l) (spans_on-none name twos e) ∙ append-nil (spans_on name ones)
+spans_first name ones twos e = grind (arith, (spans_on-append name ones twos), (spans_on-none name twos e), (append-nil (spans_on name ones)))
 
 pub spans_second : (name : List ℕ) (ones twos : List Interval) → has_records name ones ≡ false → spans_on name (ones ++ twos) ≡ spans_on name twos
 spans_second name ones twos e = spans_on-append name ones twos ∙ ap (λ l. l ++ spans_on name twos) (spans_on-none name ones e)

@@ -1,5 +1,5 @@
 -- Lines of two concatenated texts, of which the first is empty or ends with a line feed.
-use Rattle.bt_lines.proofs.Std.{arith, ◌≡◌, ℕ, suc, false, List, [], ◌∷◌, ◌++◌, refl, sym, ap, ◌∙◌, append-nil, append_assoc, eqb, IsTrue, All-head, All-tail, Option, Some, None, Result, Ok, subst, is_none, AllByRecursion, map-append}
+use Rattle.bt_lines.proofs.Std.{arith, ◌≡◌, ℕ, suc, false, List, [], ◌∷◌, ◌++◌, refl, sym, ap, ◌∙◌, append-nil, append_assoc, eqb, IsTrue, All-head, All-tail, Option, Some, None, Result, Ok, subst, is_none, AllByRecursion, map-append, Err}
 use Rattle.bt_lines.specs.model.Lines.{TextLine, fed_line, last_line, lines_from, numbered, pieces, text_lines}
 use Rattle.bt_lines.specs.calls.Line.{NoLineFeed}
 use Rattle.bt_lines.proofs.lemmas.reader.lines.TextLemmas.{lines_from-fed, lines_from-nil, by_lines}
@@ -69,14 +69,10 @@ pub record IsLike {A : Type 0} (g h : Good A) : Type 0 where
 pub none_like : (f g : Option FaultValue) → is_none f ≡ is_none g → f ≡ None → g ≡ None
 none_like f g e d = grind arith
 
-put_by : {A : Type 0} → Option FaultValue → Good A → Good A → Good A
-put_by None g h = record { members = g.members ++ h.members; fault = h.fault }
-put_by (Some fault) g h = g
-
--- what is good of lines, if this is good of those after them
-put_behind : {A : Type 0} → Good A → Good A → Good A
-unfolding put_by
-put_behind g h = put_by g.fault g h
+-- what is good of lines, followed by this
+abbrev pub put_on : {A : Type 0} → Option FaultValue → Good A → Good A → Good A
+put_on None g h = record { members = g.members ++ h.members; fault = h.fault }
+put_on (Some fault) g h = g
 
 abbrev pub IsJointBy : {A : Type 0} → Option FaultValue → Good A → Good A → Good A → Type 0
 IsJointBy None one two whole = (items_in whole ≡ items_in one ++ items_in two) × (is_none whole.fault ≡ is_none two.fault)
@@ -86,8 +82,7 @@ IsJointBy (Some fault) one two whole = (items_in whole ≡ items_in one) × (is_
 abbrev pub IsJoint : {A : Type 0} → Good A → Good A → Good A → Type 0
 IsJoint one two whole = IsJointBy one.fault one two whole
 
-joint_by : {A : Type 0} (fault : Option FaultValue) (one two like : Good A) → one.fault ≡ fault → IsLike two like → IsJointBy fault one like (put_by fault one two)
-unfolding put_by
+joint_by : {A : Type 0} (fault : Option FaultValue) (one two like : Good A) → one.fault ≡ fault → IsLike two like → IsJointBy fault one like (put_on fault one two)
 joint_by fault one two like e is = grind (arith, map-append)
 
 module _ {A State : Type 0} (format : Format A State) where
@@ -108,29 +103,40 @@ module _ {A State : Type 0} (format : Format A State) where
       (free state l m alike.0 alike.1)
       (like_with input state l.number m.number (format.says state l) (λ now. good_from format input now ls) (λ now. good_from format input now ms) (λ now. like_from input now ls ms free alike.2))
 
-  -- a member of this line leads to such a state
-  abbrev pub LeadsOn : (State → Type 0) → TextLine → Type 0
-  LeadsOn Leads line = (state : State) (item : A) → Leads state → format.says state line ≡ Ok (Some item) → Leads (format.after state item)
+  -- what is known after members
+  abbrev pub reached : State → List A → State
+  reached state [] = state
+  reached state (x ∷ xs) = reached (format.after state x) xs
 
-  module _ (input : Input) (Leads : State → Type 0) (behind : Good A) where
-    put_with : (n : ℕ) (state : State) (said : Result (Option A) Kind) (whole ones : State → Good A) → Leads state → ((item : A) → said ≡ Ok (Some item) → Leads (format.after state item)) → ((now : State) → Leads now → whole now ≡ put_behind (ones now) behind)
-        → good_with format input n state said whole ≡ put_behind (good_with format input n state said ones) behind
-    unfolding put_behind put_by
-    put_with n state said whole ones leads on h = grind arith
+  module _ (input : Input) where
+    go_with : (n : ℕ) (state : State) (said : Result (Option A) Kind) (ms : List TextLine) (whole ones : State → Good A)
+        → ((now : State) → whole now ≡ put_on (ones now).fault (ones now) (good_from format input (reached now (items_in (ones now))) ms))
+        → good_with format input n state said whole ≡ put_on (good_with format input n state said ones).fault (good_with format input n state said ones) (good_from format input (reached state (items_in (good_with format input n state said ones))) ms)
+    go_with n state said ms whole ones h = grind arith
 
-    put_from : (state : State) (ls ms : List TextLine) → Leads state → ((now : State) → Leads now → good_from format input now ms ≡ behind) → AllByRecursion (LeadsOn Leads) ls → good_from format input state (ls ++ ms) ≡ put_behind (good_from format input state ls) behind
-    unfolding good_from put_behind put_by
-    put_from state [] ms leads is on = is state leads
-    put_from state (l ∷ ls) ms leads is on =
-        put_with l.number state (format.says state l) (λ now. good_from format input now (ls ++ ms)) (λ now. good_from format input now ls) leads (λ item e. on.0 state item leads e) (λ now to. put_from now ls ms to is on.1)
+    -- what is good of lines and of others after them
+    pub go_from : (state : State) (ls ms : List TextLine) → good_from format input state (ls ++ ms)
+        ≡ put_on (good_from format input state ls).fault (good_from format input state ls) (good_from format input (reached state (items_in (good_from format input state ls))) ms)
+    unfolding good_from
+    go_from state [] ms = refl
+    go_from state (l ∷ ls) ms =
+        go_with l.number state (format.says state l) ms (λ now. good_from format input now (ls ++ ms)) (λ now. good_from format input now ls) (λ now. go_from now ls ms)
 
-  module _ (input : Input) (Leads : State → Type 0) (one two : List ℕ) (ends : StandsBefore one two) (free : IsNumberless) where
-    -- if what is good of the second text is so after each member of the first
-    pub good_joint : Leads format.begin → ((n : ℕ) (now : State) → Leads now → good_from format input now (lines_from n two) ≡ good_from format input format.begin (lines_from n two))
-        → AllByRecursion (LeadsOn Leads) (text_lines one)
+    -- of two texts, if what is good of the second is so after the members of the first
+    pub good_joint : (one two : List ℕ) → StandsBefore one two → IsNumberless
+        → ((n : ℕ) → good_from format input (reached format.begin (items_in (good format input (text_lines one)))) (lines_from n two) ≡ good_from format input format.begin (lines_from n two))
         → IsJoint (good format input (text_lines one)) (good format input (text_lines two)) (good format input (text_lines (one ++ two)))
-    unfolding put_behind put_by
-    good_joint begins is on =
-        let split = lines_join 1 one two ends in
-        let behind = good_from format input format.begin (lines_from split.0 two) in
-        grind (arith, (put_from input Leads behind format.begin (text_lines one) (lines_from split.0 two) begins (is split.0) on), joint_by, like_from, alike_lines)
+    good_joint one two ends free is = grind (arith, (lines_join 1 one two ends), go_from, joint_by, like_from, alike_lines)
+
+    -- what holds of each member that a line says, holds of the good members
+    module _ (Q : A → Type 0) where
+      items_with : (n : ℕ) (state : State) (said : Result (Option A) Kind) (rest : State → Good A) → ((x : A) → said ≡ Ok (Some x) → Q x) → ((now : State) → AllByRecursion Q (items_in (rest now)))
+          → AllByRecursion Q (items_in (good_with format input n state said rest))
+      items_with n state (Err kind) rest q h = tt
+      items_with n state (Ok None) rest q h = h state
+      items_with n state (Ok (Some x)) rest q h = (q x refl, h (format.after state x))
+
+      pub items_so : (state : State) (ls : List TextLine) → AllByRecursion (λ l. (now : State) (x : A) → format.says now l ≡ Ok (Some x) → Q x) ls → AllByRecursion Q (items_in (good_from format input state ls))
+      unfolding good_from
+      items_so state [] q = tt
+      items_so state (l ∷ ls) q = items_with l.number state (format.says state l) (λ now. good_from format input now ls) (q.0 state) (λ now. items_so now ls q.1)

@@ -1,5 +1,5 @@
 -- The reports of maskfasta on two parts, and on both.
-use Rattle.bt_lines.proofs.Std.{arith, ◌≡◌, ℕ, Bool, true, false, List, [], ◌∷◌, ◌++◌, map, Option, Some, None, refl, sym, ap, ap₂, ◌∙◌, subst, ◌||◌, ◌⊎◌, append-nil, inl, inr, IsTrue, flat_map, is_some, is_none, option_map, AllByRecursion, list_all, list_any, flat_map-append, list_any-append}
+use Rattle.bt_lines.proofs.Std.{arith, ◌≡◌, ℕ, Bool, true, false, List, [], ◌∷◌, ◌++◌, map, Option, Some, None, refl, sym, ap, ap₂, ◌∙◌, subst, ◌||◌, ◌⊎◌, append-nil, inl, IsTrue, flat_map, is_some, is_none, option_map, AllByRecursion, list_all, list_any, flat_map-append, list_any-append}
 use Rattle.bt_laws.proofs.lemmas.parts.PartLines.{none_like}
 use Rattle.bt_seq.proofs.lemmas.mask.steps.LineStepLemmas.{some_list}
 use Rattle.bt_lines.specs.model.Fault.{FaultValue}
@@ -15,7 +15,7 @@ use Rattle.bt_seq.specs.model.Masked.{masked_line, names_of, decided, is_unnamed
 use Rattle.bt_seq.specs.declared.mask.mask_how.MaskHow.{MaskHow}
 use Rattle.bt_laws.specs.Parts.{BelongsToNone, MasksNone, begins_sequence, sequence_names, StandsBefore, said_records, Texts}
 use Rattle.bt_tool.specs.model.Written.{Report}
-use Rattle.bt_laws.proofs.lemmas.parts.PartSequences.{BeginsElsewhere, calm_joint, fresh_joint, sound_from, among_from, faulty_same, first_front, AreBothBy, fasta_both, line_after, names_begin, names_both, names_grown, second_named, second_sound, unnamed_from}
+use Rattle.bt_laws.proofs.lemmas.parts.PartSequences.{BeginsElsewhere, calm_joint, fresh_joint, sound_from, faulty_same, first_front, fasta_both, line_after, names_begin, names_both, names_grown, second_named, second_sound, unnamed_from, among, named_more}
 use Rattle.bt_laws.proofs.lemmas.parts.PartMasked.{IsSound, lines_both, mask_good, report_sound, sound_output, sound_report, line_second, lines_first, told_lost}
 use Rattle.bt_laws.proofs.lemmas.parts.PartGenomes.{AreOff, IsLost, apart_next, both_owned, leave_append, lost_more, lost_off, any_behind, any_lost, any_second, later_leave, none_behind, left_fewer, tags_first}
 use Rattle.bt_laws.proofs.lemmas.parts.PartReports.{Adds, Stops}
@@ -23,6 +23,12 @@ use Rattle.bt_lines.specs.declared.fault.Kind.TheVariants.{NoSequence}
 use Rattle.bt_bed.proofs.lemmas.Definitions.{all_written, met_lines, written_at, written_past}
 use Rattle.bt_runs.proofs.lemmas.Lists.{all_so, flat_map_same, all_map}
 use Rattle.bt_laws.proofs.lemmas.parts.PartSweep.{all_true, take_front, written_before}
+use Rattle.bt_bed.specs.model.Sorted.{block_sorting}
+
+-- records that belong to none begin on another chromosome
+begins_elsewhere : (names rest : List (List ℕ)) (ones : List Feature) → leave (Some names) None ones ≡ Some rest → (twos : List Feature) → IsLost names ones twos → BeginsElsewhere (last_from None ones) twos
+begins_elsewhere names rest ones kept [] lost = tt
+begins_elsewhere names rest ones kept (r ∷ rs) lost = apart_next names rest ones kept r rs lost
 
 module _ (how : MaskHow) (full : Bool) where
   -- what is good of FASTA text, and of records in blocks
@@ -54,7 +60,7 @@ module _ (how : MaskHow) (full : Bool) where
   module _ (one two : Texts) (are : AreTwo one two) where
     sound_lines : (fault : Option FaultValue) → (fasta_of one.first).fault ≡ fault → fault ≡ None
         → (items_in (fasta_of (one.first ++ two.first)) ≡ items_in (fasta_of one.first) ++ map (line_after (fasta_names one.first)) (items_in (fasta_of two.first))) × ((fasta_of (one.first ++ two.first)).fault ≡ None)
-    sound_lines None is e = subst (λ f. AreBothBy full First f (fasta_of one.first) (fasta_of two.first) (fasta_of (one.first ++ two.first))) is (fasta_both full First one.first two.first are.first are.begins)
+    sound_lines None is e = grind (arith, (fasta_both full First one.first two.first are.first are.begins))
     sound_lines (Some f) is e = cc
 
     -- the lines of both, if the first part has no fault
@@ -75,16 +81,12 @@ module _ (how : MaskHow) (full : Bool) where
       rest_of : (rest : List (List ℕ)) × (leave (Some (fasta_names one.first)) None (block_records one.second) ≡ Some rest)
       rest_of = some_list (leave (Some (fasta_names one.first)) None (block_records one.second)) first.owned
 
-      elsewhere : (twos : List Feature) → IsLost (fasta_names one.first) (block_records one.second) twos → BeginsElsewhere (last_from None (block_records one.second)) twos
-      elsewhere [] lost = tt
-      elsewhere (r ∷ rs) lost = apart_next (fasta_names one.first) rest_of.0 (block_records one.second) rest_of.1 r rs lost
-
       records_two : block_records two.second ≡ said_records two.second
-      records_two = sound_from Second None (text_lines two.second) second.records
+      records_two = sound_from block_sorting Second None (text_lines two.second) second.records
 
       records_both : (block_records (one.second ++ two.second) ≡ block_records one.second ++ block_records two.second) × ((blocks_of (one.second ++ two.second)).fault ≡ None)
       records_both =
-          let joint = fresh_joint Second one.second two.second are.second first.records (subst (BeginsElsewhere (last_from None (block_records one.second))) records_two (elsewhere (block_records two.second) lost)) in
+          let joint = fresh_joint Second one.second two.second are.second first.records (subst (BeginsElsewhere (last_from None (block_records one.second))) records_two (begins_elsewhere (fasta_names one.first) rest_of.0 (block_records one.second) rest_of.1 (block_records two.second) lost)) in
           (joint.0, grind arith)
 
       pub whole_sound : IsSound (fasta_of (one.first ++ two.first)) (blocks_of (one.second ++ two.second))
@@ -117,11 +119,16 @@ module _ (how : MaskHow) (full : Bool) where
 
     -- no record is named as a sequence of the other part
     module _ (off_two : MasksNone full one two) (off_one : MasksNone full two one) where
+      ones_away : AreOff (fasta_names two.first) (block_records one.second)
+      ones_away =
+          subst (λ names. AreOff names (block_records one.second)) (sym (names_grown full First two.first (second_sound full First one.first two.first are.first are.begins)))
+          (among Second _ (text_lines one.second) off_two)
+
       lost_names : (fasta_of one.first).fault ≡ None → (twos : List Feature) → AreOff (sequence_names full one.first) twos → IsLost (fasta_names one.first) (block_records one.second) twos
-      lost_names e twos off = lost_off (fasta_names one.first) (block_records one.second) twos (subst (λ names. AreOff names twos) (sym (names_grown full First one.first e)) off)
+      lost_names e twos off = grind (arith, lost_off, (names_grown full First one.first e))
 
       lost_sound : IsSound (fasta_of one.first) (blocks_of one.second) → IsSound (fasta_of two.first) (blocks_of two.second) → IsLost (fasta_names one.first) (block_records one.second) (block_records two.second)
-      lost_sound first second = lost_names first.lines (block_records two.second) (subst (AreOff (sequence_names full one.first)) (sym (sound_from Second None (text_lines two.second) second.records)) off_one)
+      lost_sound first second = grind (arith, lost_names, (sound_from block_sorting Second None (text_lines two.second) second.records))
 
       -- if both are sound, so is each part
       module _ (whole : IsSound (fasta_of (one.first ++ two.first)) (blocks_of (one.second ++ two.second))) where
@@ -134,17 +141,12 @@ module _ (how : MaskHow) (full : Bool) where
         owned_both : is_some (leave (Some (fasta_names one.first ++ fasta_names two.first)) None (block_records one.second ++ block_records two.second)) ≡ true
         owned_both = sym (ap₂ (λ names records. is_some (leave (Some names) None records)) (names_of_both lines_one) calm.2) ∙ whole.owned
 
-        ones_off : AreOff (fasta_names two.first) (block_records one.second)
-        ones_off =
-            subst (λ names. AreOff names (block_records one.second)) (sym (names_grown full First two.first (second_sound full First one.first two.first are.first are.begins)))
-            (subst (AreOff (sequence_names full two.first)) (sym (sound_from Second None (text_lines one.second) calm.0)) off_two)
-
         twos_lost : IsLost (fasta_names one.first) (block_records one.second) (block_records two.second)
-        twos_lost = lost_names lines_one (block_records two.second) (subst (AreOff (sequence_names full one.first)) (sym (sound_from Second None (text_lines two.second) calm.1)) off_one)
+        twos_lost = grind (arith, lost_names, lines_one, (sound_from block_sorting Second None (text_lines two.second) calm.1))
 
         by_left : (o : Option (List (List ℕ))) → leave (Some (fasta_names one.first)) None (block_records one.second) ≡ o
             → IsSound (fasta_of one.first) (blocks_of one.second) × IsSound (fasta_of two.first) (blocks_of two.second)
-        by_left None is = grind (arith, lost_more, ones_off, leave_append, none_leaves, owned_both)
+        by_left None is = grind (arith, lost_more, ones_away, leave_append, none_leaves, owned_both)
         by_left (Some rest) is = (
           record { lines = lines_one; records = calm.0; owned = ap is_some is },
           record {
@@ -178,7 +180,7 @@ module _ (mine yours : Rule SequenceLine ℕ FaultValue) (move : SequenceLine �
   -- lines that were moved, by a rule that says the same of them
   moved_at : (x : SequenceLine) (xs : List SequenceLine) (b : Bool) → mine.decided (move x) ≡ b → yours.decided x ≡ b → mine.lines (move x) ≡ yours.lines x → written mine (map move xs) ≡ written yours xs
       → written mine (move x ∷ map move xs) ≡ written yours (x ∷ xs)
-  moved_at x xs true e d same more = written_at mine (move x) (map move xs) true e ∙ ap₂ (λ a c. a ++ c) same more ∙ sym (written_at yours x xs true d)
+  moved_at x xs true e d same more = grind (arith, (written_at mine (move x) (map move xs) true e), (written_at yours x xs true d))
   moved_at x xs false e d same more = written_at mine (move x) (map move xs) false e ∙ sym (written_at yours x xs false d)
 
   written_moved : (xs : List SequenceLine) → AllByRecursion (λ x. (mine.decided (move x) ≡ yours.decided x) × (mine.lines (move x) ≡ yours.lines x)) xs → written mine (map move xs) ≡ written yours xs
@@ -217,11 +219,11 @@ module _ (how : MaskHow) (full : Bool) where
   lacks_one texts lacks line begins = grind (arith, decided_by_tags, any_lost)
 
   lacks_decided : (texts : Texts) → Lacks texts → list_all (rule_on texts).decided (items_in (F texts.first)) ≡ true
-  lacks_decided texts lacks = all_true (rule_on texts).decided (items_in (F texts.first)) (all_so _ _ (items_in (F texts.first)) (λ line b. lacks_one texts lacks line b) (names_begin full First (text_lines texts.first)))
+  lacks_decided texts lacks = grind (arith, all_true, all_so, lacks_one, (names_begin full First (text_lines texts.first)))
 
   -- then all lines are written
   lacks_output : (texts : Texts) → Lacks texts → (report_on texts).output ≡ flat_map (masked_line how (R texts.second)) (items_in (F texts.first))
-  lacks_output texts lacks = met_lines (rule_on texts) (items_in (F texts.first)) (F texts.first).fault ∙ sym (all_written (rule_on texts) (items_in (F texts.first)) (lacks_decided texts lacks))
+  lacks_output texts lacks = grind (arith, met_lines, (all_written (rule_on texts) (items_in (F texts.first)) (lacks_decided texts lacks)), (lacks_decided texts lacks))
 
   -- and this is reported
   pub lacks_kind : (texts : Texts) → Lacks texts → option_map (λ fault. fault.kind) (report_on texts).fault ≡ Some NoSequence
@@ -234,14 +236,6 @@ module _ (how : MaskHow) (full : Bool) where
     named_two : AllByRecursion (λ line. is_unnamed line.names ≡ false) (items_in (F two.first))
     named_two = second_named full First one.first two.first are.first are.begins
 
-    ones_away : AreOff (N two.first) (R one.second)
-    ones_away =
-        subst (λ names. AreOff names (R one.second)) (sym (names_grown full First two.first (second_sound full First one.first two.first are.first are.begins)))
-        (among_from Second _ None (text_lines one.second) off_two)
-
-    lost_on : (F one.first).fault ≡ None → (twos : List Feature) → AreOff (sequence_names full one.first) twos → IsLost (N one.first) (R one.second) twos
-    lost_on e twos off = lost_off (N one.first) (R one.second) twos (subst (λ names. AreOff names twos) (sym (names_grown full First one.first e)) off)
-
     -- ---- the first part lacks a sequence
 
     module _ (lacks : Lacks one) where
@@ -251,7 +245,7 @@ module _ (how : MaskHow) (full : Bool) where
         lost =
             let more = first_front Second one.second two.second are.second in
             ap₂ (λ names records. leave (Some names) None records) (names_of_both how full one two are lacks.lines) more.1
-            ∙ none_behind (N one.first ++ N two.first) (R one.second) more.0 (lost_more (N one.first) (N two.first) None (R one.second) ones_away lacks.lost);
+            ∙ none_behind (N one.first ++ N two.first) (R one.second) more.0 (lost_more (N one.first) (N two.first) None (R one.second) (ones_away how full one two are off_two off_one) lacks.lost);
       }
 
       goes_on : (more : List ℕ) × ((report_on both).output ≡ (report_on one).output ++ more)
@@ -271,7 +265,7 @@ module _ (how : MaskHow) (full : Bool) where
 
     module _ (fault : FaultValue) (e : (F one.first).fault ≡ Some fault) where
       same_lines : F (one.first ++ two.first) ≡ F one.first
-      same_lines = subst (λ f. AreBothBy full First f (F one.first) (F two.first) (F (one.first ++ two.first))) e (fasta_both full First one.first two.first are.first are.begins)
+      same_lines = grind (arith, (fasta_both full First one.first two.first are.first are.begins))
 
       unnamed : AllByRecursion (λ line. is_unnamed line.names ≡ true) (items_in (F one.first))
       unnamed = unnamed_from full First (sequence_format full).begin (text_lines one.first) fault e
@@ -289,11 +283,7 @@ module _ (how : MaskHow) (full : Bool) where
         where
           by_names : (line : SequenceLine) (own : List (List ℕ)) → line.names ≡ own → is_unnamed own ≡ false → (is_unnamed (N one.first ++ line.names) || list_any (tag_decides (bases_up_to line)) (tags_of (N one.first ++ line.names) (R one.second))) ≡ false
           by_names line [] is u = cc
-          by_names line (n ∷ ns) is u = grind (arith, named, any_behind)
-            where
-              named : (names : List (List ℕ)) → is_unnamed (names ++ n ∷ ns) ≡ false
-              named [] = refl
-              named (m ∷ ms) = refl
+          by_names line (n ∷ ns) is u = grind (arith, (named_more (N one.first) (n ∷ ns) refl), any_behind)
 
           each : (line : SequenceLine) → is_unnamed line.names ≡ false → (mask_rule how names second).decided (line_after (N one.first) line) ≡ false
           each line u =
@@ -312,14 +302,10 @@ module _ (how : MaskHow) (full : Bool) where
 
       module _ (records : (B one.second).fault ≡ None) where
         lost : IsLost (N one.first) (R one.second) (R two.second)
-        lost = lost_on lines (R two.second) (among_from Second _ None (text_lines two.second) off_one)
-
-        others_begin : (twos : List Feature) → IsLost (N one.first) (R one.second) twos → BeginsElsewhere (last_from None (R one.second)) twos
-        others_begin [] gone = tt
-        others_begin (r ∷ rs) gone = apart_next (N one.first) rest (R one.second) kept r rs gone
+        lost = lost_names how full one two are off_two off_one lines (R two.second) (among Second _ (text_lines two.second) off_one)
 
         joint : (R (one.second ++ two.second) ≡ R one.second ++ R two.second) × (is_none (B (one.second ++ two.second)).fault ≡ is_none (B two.second).fault)
-        joint = fresh_joint Second one.second two.second are.second records (others_begin (said_records two.second) (lost_on lines (said_records two.second) off_one))
+        joint = fresh_joint Second one.second two.second are.second records (begins_elsewhere (N one.first) rest (R one.second) kept (said_records two.second) (lost_names how full one two are off_two off_one lines (said_records two.second) off_one))
 
         first_output : (report_on one).output ≡ flat_map (masked_line how (R one.second)) (items_in (F one.first))
         first_output = sound_output how (F one.first) (B one.second) records
@@ -370,15 +356,11 @@ module _ (how : MaskHow) (full : Bool) where
             each : (line : SequenceLine) → (more : List (List ℕ)) × (N one.first ≡ line.names ++ more) → W.decided line ≡ true
             each line begins = grind (arith, joint, decided_by_tags, tags_first, list_any-append, left_fewer, lost)
 
-            named : (names : List (List ℕ)) (n : List ℕ) (ns : List (List ℕ)) → is_unnamed (names ++ n ∷ ns) ≡ false
-            named [] n ns = refl
-            named (m ∷ ms) n ns = refl
-
             by_names : (line : SequenceLine) (own : List (List ℕ)) → line.names ≡ own → is_unnamed own ≡ false
                 → (is_unnamed (N one.first ++ line.names) || list_any (tag_decides (bases_up_to line)) (tags_of (N one.first ++ line.names) (R one.second ++ R two.second)))
                 ≡ (is_unnamed line.names || list_any (tag_decides (bases_up_to line)) (tags_of line.names (R two.second)))
             by_names line [] is u = cc
-            by_names line (n ∷ ns) is u = grind (arith, named, any_second, lost)
+            by_names line (n ∷ ns) is u = grind (arith, (named_more (N one.first) (n ∷ ns) refl), any_second, lost)
 
             same : (line : SequenceLine) → is_unnamed line.names ≡ false → (W.decided (line_after (N one.first) line) ≡ (rule_on two).decided line) × (W.lines (line_after (N one.first) line) ≡ (rule_on two).lines line)
             same line u = (
@@ -434,7 +416,7 @@ module _ (how : MaskHow) (full : Bool) where
         by_records (Some fault) e lines rest kept = inl ([], stops_faulty lines rest kept fault e ∙ sym (append-nil (report_on both).output))
 
         by_left : (o : Option (List (List ℕ))) → leave (Some (N one.first)) None (R one.second) ≡ o → (F one.first).fault ≡ None → StopsOrGoes
-        by_left None e lines = let lacks : Lacks one = record { lines = lines; lost = e } in inr (whole_lacks lacks, goes_on lacks)
+        by_left None e lines = grind (arith, lost, whole_lacks, goes_on)
         by_left (Some rest) e lines = by_records (B one.second).fault refl lines rest e
 
         by_lines : (g : Option FaultValue) → (F one.first).fault ≡ g → StopsOrGoes
@@ -443,13 +425,7 @@ module _ (how : MaskHow) (full : Bool) where
 
     -- the first part has none: what the second part does, the whole does
     pub sound_stops : (report_on one).fault ≡ None → Stops (report_on one) (report_on two) (report_on both)
-    sound_stops none =
-        let sound = report_sound how (F one.first) (B one.second) none in
-        let rest = some_list (leave (Some (N one.first)) None (R one.second)) sound.owned in
-        stops_sound sound.lines rest.0 rest.1 sound.records none
+    sound_stops none = grind (arith, (report_sound how (F one.first) (B one.second) none), some_list, (leave (Some (N one.first)) None (R one.second)), stops_sound)
 
     pub sound_goes : (report_on one).fault ≡ None → Lacks two → Lacks both × ((report_on both).output ≡ (report_on one).output ++ (report_on two).output)
-    sound_goes none lacks =
-        let sound = report_sound how (F one.first) (B one.second) none in
-        let rest = some_list (leave (Some (N one.first)) None (R one.second)) sound.owned in
-        (both_lack sound.lines rest.0 rest.1 sound.records lacks, both_lines sound.lines rest.0 rest.1 sound.records lacks)
+    sound_goes none lacks = grind (arith, (report_sound how (F one.first) (B one.second) none), some_list, (leave (Some (N one.first)) None (R one.second)), both_lack, both_lines)

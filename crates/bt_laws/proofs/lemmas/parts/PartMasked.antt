@@ -1,5 +1,5 @@
 -- What maskfasta writes and tells of two parts.
-use Rattle.bt_lines.proofs.Std.{arith, ◌≡◌, ℕ, Bool, true, false, List, [], ◌∷◌, ◌++◌, map, append-nil, append_assoc, Option, Some, None, refl, sym, ap, ap₂, ◌∙◌, flat_map, is_some, AllByRecursion, list_all, option_or, flat_map-append, flat_map-map}
+use Rattle.bt_lines.proofs.Std.{arith, ◌≡◌, ℕ, Bool, true, false, List, [], ◌∷◌, ◌++◌, map, append-nil, append_assoc, Option, Some, None, refl, sym, ap, ap₂, ◌∙◌, flat_map, is_some, AllByRecursion, option_or, flat_map-append, flat_map-map}
 use Rattle.bt_lines.specs.model.Fault.{FaultValue}
 use Rattle.bt_lines.specs.model.Lines.{text_lines}
 use Rattle.bt_lines.specs.declared.fault.Input.TheVariants.{First, Second}
@@ -10,7 +10,7 @@ use Rattle.bt_bed.specs.model.Good.{Good, Member, good, items_in, or_else, block
 use Rattle.bt_bed.specs.model.Meeting.{Rule, join_report}
 use Rattle.bt_bed.proofs.lemmas.Definitions.{met_fault_all}
 use Rattle.bt_seq.proofs.lemmas.definitions.KnowsLemmas.{leave, leave_all}
-use Rattle.bt_laws.proofs.lemmas.single.Sequences.{faultless_masked}
+use Rattle.bt_laws.proofs.lemmas.single.Sequences.{faultless_masked, all_decided}
 use Rattle.bt_seq.proofs.lemmas.definitions.MaskPrefixLemmas.{first_is_told, lack_none, items}
 use Rattle.bt_seq.specs.model.Masked.{is_unnamed, mask_met, mask_rule, masked_line, names_of, no_sequence, SequenceLine, sequence_format}
 use Rattle.bt_seq.specs.declared.mask.mask_how.MaskHow.{MaskHow}
@@ -38,16 +38,12 @@ module _ (how : MaskHow) where
   abbrev pub rule_of : List (List ℕ) → List (Member Feature) → Option FaultValue → Rule SequenceLine ℕ FaultValue
   rule_of names members fault = mask_rule how names (record { members = members; fault = fault })
 
-  pub all_decided : (names : List (List ℕ)) (members : List (Member Feature)) (lines : List SequenceLine) → list_all (rule_of names members None).decided lines ≡ true
-  all_decided names members [] = refl
-  all_decided names members (l ∷ ls) = all_decided names members ls
-
   both_none : (fault other : Option FaultValue) → option_or fault (or_else other None) ≡ None → (fault ≡ None) × (other ≡ None)
   both_none fault other e = grind arith
 
   sound_by : (names : List (List ℕ)) (lines : List SequenceLine) (fault : Option FaultValue) (members : List (Member Feature)) (second : Option FaultValue)
       → (join_report (rule_of names members second) lines fault).fault ≡ None → (fault ≡ None) × (second ≡ None) × (no_sequence names members ≡ None)
-  sound_by names lines fault members None e = grind (arith, (both_none fault (no_sequence names members) (sym (met_fault_all (rule_of names members None) lines fault (all_decided names members lines)) ∙ e)))
+  sound_by names lines fault members None e = grind (arith, (both_none fault (no_sequence names members) (sym (met_fault_all (rule_of names members None) lines fault (all_decided how names (record { members = members; fault = None }) lines refl)) ∙ e)))
   sound_by names lines fault members (Some f) e = absurd (grind arith)
 
   none_by : (names : List (List ℕ)) (lines : List SequenceLine) (fault : Option FaultValue) (members : List (Member Feature)) (second : Option FaultValue)
@@ -92,7 +88,7 @@ pub owned_none : (names : List (List ℕ)) (ms : List (Member Feature)) → is_s
 owned_none names ms e = lack_none names ms (ap is_some (sym (leave_all (Some names) (items ms))) ∙ e)
 
 pub none_owned : (names : List (List ℕ)) (ms : List (Member Feature)) → no_sequence names ms ≡ None → is_some (leave (Some names) None (items ms)) ≡ true
-none_owned names ms e = some_left (leave (Some names) None (items ms)) (λ lost. let told = told_lost names ms lost in let apart : Some (fault_at_line Second told.0 NoSequence) ≡ None = sym told.1 ∙ e in cc)
+none_owned names ms e = grind (arith, some_left, (leave (Some names) None (items ms)), (items ms), told_lost)
 
 -- ---- a report without a fault
 

@@ -1,12 +1,12 @@
 -- Merged runs of records of two parts, and those of each strand.
 use Rattle.bt_lines.proofs.Std.{arith, ◌≡◌, ℕ, Bool, false, List, [], ◌∷◌, ◌++◌, map, filter, append-nil, refl, sym, ap, ap₂, ◌∙◌, subst, true, ◌&&◌, not, cond, append_assoc, bytes_eq, flat_map, AllByRecursion, list_any, take_while, flat_map-append, map-append, filter-append, take_while-cons, and_left}
-use Rattle.bt_bed.specs.model.Feature.{Feature, interval_of, intervals_of, Interval, last_from, last_of, placed_on, spans_on}
+use Rattle.bt_bed.specs.model.Feature.{Feature, interval_of, intervals_of, Interval, last_of, placed_on, spans_on}
 use Rattle.bt_bed.specs.calls.Orders.{AreNonEmpty, ArePlaced, IsTotal}
 use Rattle.bt_bed.specs.model.BedLine.{interval_lines, interval_line}
 use Rattle.bt_bed.specs.model.Sorted.{has_records}
 use Rattle.bt_bed.specs.model.Order.{Order}
 use Rattle.bt_bed.proofs.lemmas.order.OrderLemmas.{placed_contiguous}
-use Rattle.bt_runs.specs.model.Merged.{counted, is_counted, chromosomes, merged, runs_of, runs_on, is_closed, merged_runs, passed_by, ordered_runs, StrandRun, begun_by, is_in, listed_behind, closed_prefix, places_of, runs_of_strand, settled_strand_runs, strand_runs}
+use Rattle.bt_runs.specs.model.Merged.{counted, is_counted, chromosomes, merged, runs_of, runs_on, is_closed, merged_runs, passed_by, ordered_runs, StrandRun, begun_by, is_in, listed_behind, places_of, runs_of_strand, settled_strand_runs, strand_runs}
 use Rattle.bt_runs.specs.calls.MergedRuns.{AreTaken, settled_runs, kept_strand_runs}
 use Rattle.bt_runs.specs.declared.merge.merge_strand.MergeStrand.{MergeStrand}
 use Rattle.bt_runs.proofs.lemmas.order.FileOrder.{among_chromosomes, without_absent, ordered_come}
@@ -80,12 +80,7 @@ module _ (gap : ℕ) where
     begin_by : (ones twos : List Feature) → AreTaken ones → Away (intervals_of ones) (intervals_of twos)
         → (rest : List ℕ) × (interval_lines (merged_runs gap strand ones) ++ interval_lines (passed_by gap (merged_runs gap strand twos) (last_of (intervals_of twos)))
         ≡ interval_lines (passed_by gap (merged_runs gap strand (ones ++ twos)) (last_of (intervals_of (ones ++ twos)))) ++ rest)
-    begin_by ones [] taken away =
-        let front = begins ones taken in (
-          interval_lines front.0,
-          append-nil (interval_lines (merged_runs gap strand ones)) ∙ ap interval_lines front.1 ∙ flat_map-append interval_line _ front.0
-              ∙ ap (λ rs. interval_lines (passed_by gap (merged_runs gap strand rs) (last_of (intervals_of rs))) ++ interval_lines front.0) (sym (append-nil ones)),
-        )
+    begin_by ones [] taken away = grind (arith, (begins ones taken), (append-nil (interval_lines (merged_runs gap strand ones))), flat_map-append, (append-nil ones))
     begin_by ones (s ∷ twos) taken away = grind (arith, append-nil, map-append, last_behind, runs_both, filter-append, passed_first, last_is, flat_map-append)
 
     module _ (order : Order) (total : IsTotal order) (ones twos : List Feature) (one : ArePlaced order (intervals_of ones)) (two : ArePlaced order (intervals_of twos))
@@ -168,10 +163,7 @@ module _ (gap : ℕ) where
 
     pub strand_runs_both : strand_runs gap (ones ++ twos) ≡ strand_runs gap ones ++ strand_runs gap twos
     unfolding strand_runs
-    strand_runs_both =
-        listed_append (runs_of_strand gap (ones ++ twos)) [] ones twos
-        ∙ ap₂ (λ a b. a ++ b) (listed_first [] ones (all_unmap _ interval_of ones away.first))
-        (ap (λ b. listed_behind (runs_of_strand gap (ones ++ twos)) b twos) (sym (append-nil ones)) ∙ listed_second [] twos (all_unmap _ interval_of twos away.second))
+    strand_runs_both = grind (arith, (listed_append (runs_of_strand gap (ones ++ twos))), listed_first, (all_unmap _ interval_of ones away.first), (append-nil ones), listed_second, (all_unmap _ interval_of twos away.second))
 
   strand_runs_elsewhere : (name : List ℕ) (rs : List Feature) → has_records name (intervals_of rs) ≡ false → AllByRecursion (Elsewhere name) (strand_runs gap rs)
   unfolding strand_runs
@@ -179,21 +171,14 @@ module _ (gap : ℕ) where
 
   take_front : (t : StrandRun → Bool) (xs ys : List StrandRun) → AllByRecursion (λ x. t x ≡ true) xs → take_while t (xs ++ ys) ≡ xs ++ take_while t ys
   take_front t [] ys h = refl
-  take_front t (x ∷ xs) ys h = take_while-cons t x (xs ++ ys) ∙ ap (λ b. cond b (x ∷ take_while t (xs ++ ys)) []) h.0 ∙ ap (λ l. x ∷ l) (take_front t xs ys h.1)
+  take_front t (x ∷ xs) ys h = grind (arith, (take_while-cons t x (xs ++ ys)), cond, (take_while t (xs ++ ys)), (take_front t xs ys h.1))
 
   settled_both : (ones : List Feature) (s : Feature) (twos : List Feature) → Away (intervals_of ones) (intervals_of (s ∷ twos)) → settled_strand_runs gap (ones ++ s ∷ twos) ≡ strand_runs gap ones ++ settled_strand_runs gap (s ∷ twos)
   unfolding settled_strand_runs
-  settled_both ones s twos away =
-      let last = last_from (interval_of s) (intervals_of twos) in
-      let test : StrandRun → Bool = λ item. is_closed gap last item.run in
-      ap (closed_prefix gap (strand_runs gap (ones ++ s ∷ twos))) (ap last_of (map-append interval_of ones (s ∷ twos)) ∙ last_behind (intervals_of ones) (interval_of s) (intervals_of twos))
-      ∙ ap (take_while test) (strand_runs_both ones (s ∷ twos) away)
-      ∙ take_front test (strand_runs gap ones) (strand_runs gap (s ∷ twos))
-      (all_so (Elsewhere last.chrom) (λ item. test item ≡ true) (strand_runs gap ones) (λ item out. passed_elsewhere gap last item.run out)
-      (strand_runs_elsewhere last.chrom ones (last_is (λ r. has_records r.chrom (intervals_of ones) ≡ false) (interval_of s) (intervals_of twos) away.second)))
+  settled_both ones s twos away = grind (arith, (map-append interval_of ones (s ∷ twos)), (last_behind (intervals_of ones) (interval_of s) (intervals_of twos)), take_while, (strand_runs_both ones (s ∷ twos) away), take_front, all_so, passed_elsewhere, strand_runs_elsewhere, last_is)
 
   places_both : (xs ys : List StrandRun) → interval_lines (places_of (xs ++ ys)) ≡ interval_lines (places_of xs) ++ interval_lines (places_of ys)
-  places_both xs ys = ap interval_lines (map-append (λ item. item.run) xs ys) ∙ flat_map-append interval_line (places_of xs) (places_of ys)
+  places_both xs ys = grind (arith, map-append, (flat_map-append interval_line (places_of xs) (places_of ys)))
 
   nothing_settled : interval_lines (places_of (settled_strand_runs gap [])) ≡ []
   unfolding settled_strand_runs
@@ -201,7 +186,7 @@ module _ (gap : ℕ) where
 
   strand_begin : (ones twos : List Feature) → Away (intervals_of ones) (intervals_of twos)
       → (rest : List ℕ) × (interval_lines (places_of (strand_runs gap ones)) ++ interval_lines (places_of (settled_strand_runs gap twos)) ≡ interval_lines (places_of (settled_strand_runs gap (ones ++ twos))) ++ rest)
-  strand_begin ones [] away = (
+  strand_begin ones [] _ = (
     interval_lines (places_of (kept_strand_runs gap ones)),
     ap (λ l. interval_lines (places_of (strand_runs gap ones)) ++ l) nothing_settled ∙ append-nil (interval_lines (places_of (strand_runs gap ones)))
         ∙ ap (λ items. interval_lines (places_of items)) (divide gap ones) ∙ places_both (settled_strand_runs gap ones) (kept_strand_runs gap ones)
@@ -210,8 +195,4 @@ module _ (gap : ℕ) where
   strand_begin ones (s ∷ twos) away = ([], sym (append-nil _ ∙ ap (λ items. interval_lines (places_of items)) (settled_both ones s twos away) ∙ places_both (strand_runs gap ones) (settled_strand_runs gap (s ∷ twos))))
 
   pub strands_split : (ones twos : List Feature) → Away (intervals_of ones) (intervals_of twos) → Splits (strands_written gap) (strands_written gap) (strands_written gap) ones twos
-  strands_split ones twos away = record {
-    all = ap (λ items. interval_lines (places_of items)) (strand_runs_both ones twos away) ∙ places_both (strand_runs gap ones) (strand_runs gap twos);
-    first = refl;
-    begin = strand_begin ones twos away;
-  }
+  strands_split ones twos away = grind (arith, (strand_runs_both ones twos away), (places_both (strand_runs gap ones) (strand_runs gap twos)), (strand_begin ones twos away))

@@ -1,15 +1,14 @@
 -- Two inputs of which each part has its own part of the genome file.
-use Rattle.bt_lines.proofs.Std.{arith, ◌≡◌, ℕ, Bool, not, ◌&&◌, ◌||◌, List, [], ◌∷◌, ◌++◌, map, append-nil, append_assoc, Option, Some, None, Ok, refl, sym, ap, ap₂, ◌∙◌, subst, Result, IsTrue, AllByRecursion, list_all, list_any, or_left, or_right}
+use Rattle.bt_lines.proofs.Std.{arith, ◌≡◌, ℕ, Bool, not, ◌&&◌, List, [], ◌∷◌, ◌++◌, map, append-nil, Option, Some, None, Ok, refl, sym, ap, ap₂, ◌∙◌, IsTrue, AllByRecursion, list_all, subst}
 use Rattle.bt_lines.specs.model.Fault.{FaultValue}
-use Rattle.bt_lines.specs.model.Lines.{Handed, whole_text, lines_from, text_lines, TextLine}
+use Rattle.bt_lines.specs.model.Lines.{Handed, text_lines, TextLine}
 use Rattle.bt_lines.specs.declared.fault.Input.{Input}
 use Rattle.bt_lines.specs.declared.fault.Input.TheVariants.{First, Second}
 use Rattle.bt_bed.specs.model.Feature.{Feature}
-use Rattle.bt_bed.specs.model.BedLine.{record_of}
 use Rattle.bt_bed.specs.model.Genome.{Entry, genome_names}
-use Rattle.bt_bed.specs.model.Good.{Good, good, items_in, good_from, good_with, bed_format, line_says, said_after}
-use Rattle.bt_bed.specs.model.Sorted.{is_below_at, Locus, sorting_of}
-use Rattle.bt_bed.specs.model.Order.{is_among, rank_order, Order}
+use Rattle.bt_bed.specs.model.Good.{Good, good, items_in, bed_format}
+use Rattle.bt_bed.specs.model.Sorted.{is_below_at, sorting_of}
+use Rattle.bt_bed.specs.model.Order.{rank_order, Order}
 use Rattle.bt_bed.specs.calls.Orders.{AreDistinct}
 use Rattle.bt_bed.specs.inside.RankTotal.{ranks_total}
 use Rattle.bt_bed.proofs.lemmas.order.OrderLemmas.{among_ranked}
@@ -17,54 +16,25 @@ use Rattle.bt_sweep.specs.model.Hits.{decided, decides}
 use Rattle.bt_sweep.specs.model.Lines.{subtract_shape}
 use Rattle.bt_sweep.specs.declared.hits.hit_rule.HitRule.{HitRule}
 use Rattle.bt_sweep.specs.declared.output.shape.Shape.{Shape}
-use Rattle.bt_laws.specs.Parts.{LiesWithin, AreShards, Shard, ShardsAddUp, all_entries, PairShard, intersect_genomes_divide, pair_entries, pair_texts, subtract_genomes_divide, PairShardsAddUp, PairShardsSuffice, ShardsSuffice, complement_shards_suffice, genomecov_shards_suffice, intersect_shards_suffice, merge_shards_suffice, subtract_shards_suffice, AddUp, AreOfLines, ComeBefore, StopWithin, joined, said_records, said_record, ArePairs, PairsAscend, Texts, joined_texts, on_texts, records_of, PairsAddUp, on_text}
-use Rattle.bt_tool.specs.model.Written.{Report, good_report, Written, complement_written, coverage_written, merge_written}
-use Rattle.bt_tool.specs.model.Report.{chromosomes_of, report_of, report_on, order_of}
+use Rattle.bt_laws.specs.Parts.{LiesWithin, AreShards, Shard, ShardsAddUp, all_entries, PairShard, intersect_genomes_divide, pair_entries, pair_texts, subtract_genomes_divide, PairShardsAddUp, PairShardsSuffice, ShardsSuffice, complement_shards_suffice, genomecov_shards_suffice, intersect_shards_suffice, merge_shards_suffice, subtract_shards_suffice, joined, said_records, ArePairs, Texts, joined_texts, on_texts, records_of, on_text, on_pairs, StandsBefore}
+use Rattle.bt_tool.specs.model.Written.{Report, Written, complement_written, coverage_written, merge_written, members_report}
+use Rattle.bt_tool.specs.model.Report.{chromosomes_of, report_on}
 use Rattle.bt_tool.specs.declared.planning.plan_type.Command.TheVariants.{Intersect, Subtract, Complement, Coverage, Merge}
 use Rattle.bt_laws.proofs.lemmas.parts.PartBed.{items_all, records_on}
-use Rattle.bt_laws.proofs.lemmas.parts.PartGenomes.{agree_good, names_both, records_both, Agree, Within, among_append, first_agree, first_less, second_agree}
-use Rattle.bt_runs.proofs.lemmas.Lists.{all_back, all_both, all_front, all_so, all_map, all_unmap, all_zip}
-use Rattle.bt_laws.proofs.lemmas.parts.PartTexts.{lines_less, intersect_is, intersect_parts, pair_report, subtract_is, subtract_parts, order_total}
-use Rattle.bt_laws.proofs.lemmas.parts.PartShards.{distinct_in, complement_parts, genomecov_parts, merge_genome_parts}
+use Rattle.bt_laws.proofs.lemmas.parts.PartGenomes.{agree_good, Agree, Within, agree_first, agree_second, within_before}
+use Rattle.bt_runs.proofs.lemmas.Lists.{all_back, all_both, all_front, all_so, all_map, all_unmap, all_zip, any_same, all_any}
+use Rattle.bt_laws.proofs.lemmas.parts.PartTexts.{intersect_is, pair_report, subtract_is, pair_joins, pair_empty, join_one}
+use Rattle.bt_laws.proofs.lemmas.parts.PartShards.{distinct_in, complement_parts, genomecov_parts, merge_genome_parts, own_add, joined_all, text_report}
 use Rattle.bt_laws.proofs.lemmas.parts.PartSweep.{sweep_report, take_same, report_none}
 use Rattle.bt_tool.specs.declared.planning.plan_type.Command.{Command}
-use Rattle.bt_lines.specs.declared.fault.Kind.{Kind}
-use Rattle.bt_tool.proofs.lemmas.running.members.CursorLemmas.{good_whole}
+use Rattle.bt_laws.proofs.lemmas.parts.PartReports.{Joins}
+use Rattle.bt_laws.proofs.lemmas.parts.PartSequences.{sound_from}
 
 -- ---- two rules that agree
 
 all_same : {A : Type 0} (t u : A → Bool) (xs : List A) → AllByRecursion (λ x. t x ≡ u x) xs → list_all t xs ≡ list_all u xs
 all_same t u [] h = refl
 all_same t u (x ∷ xs) h = ap₂ (λ a b. a && b) h.0 (all_same t u xs h.1)
-
-any_same : {A : Type 0} (t u : A → Bool) (xs : List A) → AllByRecursion (λ x. t x ≡ u x) xs → list_any t xs ≡ list_any u xs
-any_same t u [] h = refl
-any_same t u (x ∷ xs) h = ap₂ (λ a b. a || b) h.0 (any_same t u xs h.1)
-
--- ---- names of a part in the middle
-
-module _ (before own behind : List (List ℕ)) where
-  abbrev All-names : List (List ℕ)
-  All-names = before ++ (own ++ behind)
-
-  abbrev Later-names : List (List ℕ)
-  Later-names = own ++ behind
-
-  in_later : (name : List ℕ) → IsTrue (is_among own name) → IsTrue (is_among Later-names name)
-  in_later name e = among_append own behind name ∙ or_left (is_among own name) (is_among behind name) e
-
-  in_all : (name : List ℕ) → IsTrue (is_among Later-names name) → IsTrue (is_among All-names name)
-  in_all name e = among_append before Later-names name ∙ or_right (is_among before name) (is_among Later-names name) e
-
-  middle_agree : AreDistinct All-names → Agree (rank_order All-names) (rank_order own) (Within own All-names)
-  middle_agree distinct =
-      let outer = second_agree before Later-names distinct in
-      let inner = first_agree own behind in
-      record {
-        knows = λ a within. outer.knows a (λ e. in_later a (within e)) ∙ inner.knows a (λ e. within (in_all a e));
-        compare = λ a b one two.
-            outer.compare a b (λ e. in_later a (one e)) (λ e. in_later b (two e)) ∙ inner.compare a b (λ e. one (in_all a e)) (λ e. two (in_all b e));
-      }
 
 -- ---- a part's report, by its own genome file
 
@@ -77,13 +47,13 @@ module _ (mine yours : List (List ℕ)) (agree : Agree (rank_order mine) (rank_o
   good_same input text h = agree_good (rank_order mine) (rank_order yours) (Within yours mine) agree input None (text_lines text) tt h
 
   good_within : (input : Input) (text : List ℕ) → AllByRecursion In (said_records text) → AllByRecursion In (items_in (good (bed_format (sorting_of (rank_order yours))) input (text_lines text)))
-  good_within input text h = items_all (rank_order yours) (ranks_total yours) input In None (text_lines text) (all_so _ _ (said_records text) (λ r i known. i) h)
+  good_within input text h = items_all (sorting_of (rank_order yours)) input In None (text_lines text) (all_so _ _ (said_records text) (λ r i known. i) h)
 
   decides_same : (a b : Feature) → In a → In b → decides (rank_order mine) a b ≡ decides (rank_order yours) a b
   decides_same a b one two = ap (λ o. not (is_below_at o b.start a.stop)) (agree.compare b.chrom a.chrom two one)
 
   decided_same : (a : Feature) (bs : List Feature) → In a → AllByRecursion In bs → decided (rank_order mine) a bs ≡ decided (rank_order yours) a bs
-  decided_same a bs one h = any_same (decides (rank_order mine) a) (decides (rank_order yours) a) bs (all_so _ _ bs (λ b two. decides_same a b one two) h)
+  decided_same a bs one h = grind (arith, any_same, all_so, decides_same)
 
   sweep_same : (given : List Feature) (fa : Option FaultValue) (bs : List Feature) (fb : Option FaultValue) → AllByRecursion In given → AllByRecursion In bs
       → sweep_report (rank_order mine) shape rule given fa bs fb ≡ sweep_report (rank_order yours) shape rule given fa bs fb
@@ -97,142 +67,83 @@ module _ (mine yours : List (List ℕ)) (agree : Agree (rank_order mine) (rank_o
       ap₂ (λ (a b : Good Feature). sweep_report (rank_order mine) shape rule (items_in a) a.fault (items_in b) b.fault) (good_same First texts.first first) (good_same Second texts.second second)
       ∙ sweep_same _ _ _ _ (good_within First texts.first first) (good_within Second texts.second second)
 
--- ---- parts in the order of the whole genome file
+-- ---- parts of two inputs
 
--- what holds of the records of each text, holds of those of all
-joined_all : (P : Feature → Type 0) (texts : List (List ℕ)) → AreOfLines texts → AllByRecursion (λ text. AllByRecursion P (said_records text)) texts → AllByRecursion P (said_records (joined texts))
-unfolding lines_from
-joined_all P [] lines h = tt
-joined_all P (t ∷ []) lines h = subst (λ text. AllByRecursion P (said_records text)) (sym (append-nil t)) h.0
-joined_all P (t ∷ u ∷ ts) lines h = grind (arith, (joined_all P (u ∷ ts) lines.1 h.1), records_both, all_both)
+lines_behind : (shard : PairShard) (shards : List PairShard) → ArePairs (pair_texts (shard ∷ shards)) → ArePairs (pair_texts shards)
+lines_behind shard shards lines = (lines.0.1, lines.1.1)
 
-module _ (whole : List Entry) (distinct : AreDistinct (genome_names whole)) where
-  abbrev Lies : PairShard → Type 0
-  Lies shard = AllByRecursion (LiesWithin shard.entries whole) (records_of shard.texts)
-
-  -- the records of all parts lie on the chromosomes of these parts
-  lie_all : (shards : List PairShard) → AllByRecursion Lies shards → AllByRecursion (λ shard. AllByRecursion (LiesWithin (pair_entries shards) whole) (records_of shard.texts)) shards
-  lie_all [] h = tt
-  lie_all (t ∷ ts) h = (
-    all_so _ _ (records_of t.texts) (λ r k here. grind (arith, names_both, among_append)) h.0,
-    all_so _ _ ts (λ s l. all_so _ _ (records_of s.texts) (λ r k here. grind (arith, names_both, among_append)) l) (lie_all ts h.1),
-  )
-
-  lie_joined : (shards : List PairShard) → ArePairs (pair_texts shards) → AllByRecursion Lies shards → AllByRecursion (LiesWithin (pair_entries shards) whole) (records_of (joined_texts (pair_texts shards)))
-  lie_joined shards lines h =
-      let all = lie_all shards h in
-      all_both _ (said_records (joined (map (λ (p : Texts). p.first) (pair_texts shards)))) (said_records (joined (map (λ (p : Texts). p.second) (pair_texts shards))))
-      (joined_all _ (map (λ (p : Texts). p.first) (pair_texts shards)) lines.0
-      (all_map _ _ (pair_texts shards) (all_map _ _ shards (all_so _ _ shards (λ s k. all_front _ (said_records s.texts.first) (said_records s.texts.second) k) all))))
-      (joined_all _ (map (λ (p : Texts). p.second) (pair_texts shards)) lines.1
-      (all_map _ _ (pair_texts shards) (all_map _ _ shards (all_so _ _ shards (λ s k. all_back _ (said_records s.texts.first) (said_records s.texts.second) k) all))))
-
-  -- these are the names before the parts
-  module _ (before : List (List ℕ)) where
-    come : (shard : PairShard) (shards : List PairShard) → genome_names whole ≡ before ++ genome_names (pair_entries (shard ∷ shards)) → ArePairs (pair_texts (shard ∷ shards)) → AllByRecursion Lies (shard ∷ shards)
-        → ComeBefore (rank_order (genome_names whole)) (records_of shard.texts) (records_of (joined_texts (pair_texts shards)))
-    come shard shards is lines h =
-        let split : genome_names whole ≡ (before ++ genome_names shard.entries) ++ genome_names (pair_entries shards) = is ∙ ap (λ ns. before ++ ns) (names_both shard.entries (pair_entries shards)) ∙ sym (append_assoc before (genome_names shard.entries) (genome_names (pair_entries shards))) in
-        let later = lie_joined shards (lines_less shard.texts.first (map (λ (p : Texts). p.first) (pair_texts shards)) lines.0, lines_less shard.texts.second (map (λ (p : Texts). p.second) (pair_texts shards)) lines.1) h.1 in
-        grind (arith, all_so, first_less, among_append, among_ranked)
-
-  ascend_from : (before : List (List ℕ)) (shards : List PairShard) → genome_names whole ≡ before ++ genome_names (pair_entries shards) → ArePairs (pair_texts shards) → AllByRecursion Lies shards
-      → PairsAscend (rank_order (genome_names whole)) (pair_texts shards)
-  ascend_from before [] is lines h = tt
-  ascend_from before (t ∷ ts) is lines h = (
-    come before t ts is lines h,
-    ascend_from (before ++ genome_names t.entries) ts
-        (is ∙ ap (λ ns. before ++ ns) (names_both t.entries (pair_entries ts)) ∙ sym (append_assoc before (genome_names t.entries) (genome_names (pair_entries ts))))
-        (lines_less t.texts.first (map (λ (p : Texts). p.first) (pair_texts ts)) lines.0, lines_less t.texts.second (map (λ (p : Texts). p.second) (pair_texts ts)) lines.1) h.1,
-  )
-
-  -- each part's report is the same by the whole genome file
-  module _ (report : Option Handed → Texts → Report) {genome : Handed} (shape : Shape) (rule : HitRule)
-      (by_whole : (texts : Texts) → report (Some genome) texts ≡ pair_report (rank_order (genome_names whole)) (ranks_total (genome_names whole)) shape rule texts.first texts.second)
-      (by_own : (own : Handed) (entries : List Entry) → chromosomes_of (Some own) ≡ Ok (Some entries) → (texts : Texts) → report (Some own) texts ≡ pair_report (rank_order (genome_names entries)) (ranks_total (genome_names entries)) shape rule texts.first texts.second) where
-    one_same : (before : List (List ℕ)) (shard : PairShard) (shards : List PairShard) → genome_names whole ≡ before ++ genome_names (pair_entries (shard ∷ shards)) → chromosomes_of (Some shard.genome) ≡ Ok (Some shard.entries) → Lies shard
-        → report (Some genome) shard.texts ≡ report (Some shard.genome) shard.texts
-    one_same before shard shards is has lies =
-        let middle : genome_names whole ≡ before ++ (genome_names shard.entries ++ genome_names (pair_entries shards)) = is ∙ ap (λ ns. before ++ ns) (names_both shard.entries (pair_entries shards)) in
-        let agree = subst (λ ns. Agree (rank_order ns) (rank_order (genome_names shard.entries)) (Within (genome_names shard.entries) ns)) (sym middle)
-        (middle_agree before (genome_names shard.entries) (genome_names (pair_entries shards)) (subst AreDistinct middle distinct)) in
-        by_whole shard.texts ∙ own_report (genome_names whole) (genome_names shard.entries) agree shape rule shard.texts lies ∙ sym (by_own shard.genome shard.entries has shard.texts)
-
-    pub all_reports : (before : List (List ℕ)) (shards : List PairShard) → genome_names whole ≡ before ++ genome_names (pair_entries shards) → AllByRecursion (λ shard. chromosomes_of (Some shard.genome) ≡ Ok (Some shard.entries)) shards → AllByRecursion Lies shards
-        → map (report (Some genome)) (pair_texts shards) ≡ map (λ (shard : PairShard). report (Some shard.genome) shard.texts) shards
-    all_reports before [] is has h = refl
-    all_reports before (t ∷ ts) is has h =
-        ap₂ (λ a b. a ∷ b) (one_same before t ts is has.0 h.0)
-        (all_reports (before ++ genome_names t.entries) ts
-        (is ∙ ap (λ ns. before ++ ns) (names_both t.entries (pair_entries ts)) ∙ sym (append_assoc before (genome_names t.entries) (genome_names (pair_entries ts)))) has.1 h.1)
+-- what holds of the records of each part, holds of those of all
+pairs_all : (P : Feature → Type 0) (shards : List PairShard) → ArePairs (pair_texts shards) → AllByRecursion (λ shard. AllByRecursion P (records_of shard.texts)) shards → AllByRecursion P (records_of (joined_texts (pair_texts shards)))
+pairs_all P shards lines h =
+    let firsts = map (λ (p : Texts). p.first) (pair_texts shards) in
+    let seconds = map (λ (p : Texts). p.second) (pair_texts shards) in
+    all_both P (said_records (joined firsts)) (said_records (joined seconds))
+    (joined_all P firsts lines.0 (all_map _ _ (pair_texts shards) (all_map _ _ shards (all_so _ _ shards (λ s k. all_front P (said_records s.texts.first) (said_records s.texts.second) k) h))))
+    (joined_all P seconds lines.1 (all_map _ _ (pair_texts shards) (all_map _ _ shards (all_so _ _ shards (λ s k. all_back P (said_records s.texts.first) (said_records s.texts.second) k) h))))
 
 -- a command that writes such a report, of parts with their own genome files
-own_parts : (command : Command) (shape : Shape) (rule : HitRule)
-    → ((genome : Option Handed) (chromosomes : Option (List Entry)) → chromosomes_of genome ≡ Ok chromosomes → (texts : Texts) → on_texts command genome texts ≡ pair_report (order_of chromosomes) (order_total chromosomes) shape rule texts.first texts.second)
-    → ((genome : Option Handed) (chromosomes : Option (List Entry)) (parts : List Texts) → chromosomes_of genome ≡ Ok chromosomes → ArePairs parts → PairsAscend (order_of chromosomes) parts → PairsAddUp command genome parts)
-    → PairShardsAddUp command
-own_parts command shape rule is divides genome shards are lies =
-    let distinct = distinct_in genome (pair_entries shards) are.whole in
-    subst (λ (parts : List Report). AddUp parts (on_texts command (Some genome) (joined_texts (pair_texts shards))) × StopWithin parts (on_texts command (Some genome) (joined_texts (pair_texts shards))))
-    (all_reports (pair_entries shards) distinct (on_texts command) shape rule (is (Some genome) (Some (pair_entries shards)) are.whole) (λ own entries has. is (Some own) (Some entries) has) [] shards refl are.parts lies)
-    (divides (Some genome) (Some (pair_entries shards)) (pair_texts shards) are.whole are.lines (ascend_from (pair_entries shards) distinct [] shards refl are.lines lies))
+module _ (command : Command) (shape : Shape) (rule : HitRule)
+    (is : (genome : Handed) (entries : List Entry) → chromosomes_of (Some genome) ≡ Ok (Some entries) → (texts : Texts) → on_texts command (Some genome) texts ≡ pair_report (rank_order (genome_names entries)) (ranks_total (genome_names entries)) shape rule texts.first texts.second) where
+  report_in : List Entry → Texts → Report
+  report_in entries texts = pair_report (rank_order (genome_names entries)) (ranks_total (genome_names entries)) shape rule texts.first texts.second
+
+  two_parts : (e_one e_two : List Entry) (one two : Texts) → StandsBefore one.first two.first → StandsBefore one.second two.second → AreDistinct (genome_names (e_one ++ e_two))
+      → AllByRecursion (LiesWithin e_one (e_one ++ e_two)) (records_of one) → AllByRecursion (LiesWithin e_two (e_one ++ e_two)) (records_of two)
+      → Joins (report_in e_one one) (report_in e_two two) (report_in (e_one ++ e_two) (record { first = one.first ++ two.first; second = one.second ++ two.second }))
+  unfolding report_in
+  two_parts e_one e_two one two first second distinct within_one within_two =
+      let both = genome_names (e_one ++ e_two) in
+      let whole = report_in (e_one ++ e_two) (record { first = one.first ++ two.first; second = one.second ++ two.second }) in
+      subst (λ r. Joins r (report_in e_two two) whole) (own_report both (genome_names e_one) (agree_first e_one e_two) shape rule one within_one)
+      (subst (λ r. Joins (report_in (e_one ++ e_two) one) r whole) (own_report both (genome_names e_two) (agree_second e_one e_two distinct) shape rule two within_two)
+      (pair_joins (rank_order both) (ranks_total both) shape rule one.first one.second two.first two.second first second (within_before e_one e_two distinct (records_of one) (records_of two) within_one within_two)))
+
+  own_parts : PairShardsAddUp command
+  unfolding report_in
+  own_parts genome shards are lies =
+      own_add (λ s. s.entries) (λ s. records_of s.texts) (λ ss. ArePairs (pair_texts ss)) (λ ss. record { genome = genome; entries = pair_entries ss; texts = joined_texts (pair_texts ss) }) (λ s. report_in s.entries s.texts)
+      lines_behind pairs_all (pair_empty (rank_order []) (ranks_total []) shape rule) (λ s. ap₂ report_in (append-nil s.entries) (join_one s.texts))
+      (λ s t ss lines. two_parts s.entries (pair_entries (t ∷ ss)) s.texts (joined_texts (pair_texts (t ∷ ss))) lines.0.0 lines.1.0)
+      (λ s. on_texts command (Some s.genome) s.texts) (on_pairs command genome shards) shards (all_so _ _ shards (λ s has. is s.genome s.entries has s.texts) are.parts)
+      (is genome (pair_entries shards) are.whole (joined_texts (pair_texts shards))) (distinct_in genome (pair_entries shards) are.whole) are.lines lies
 
 pub intersect_genome_parts : intersect_genomes_divide
-intersect_genome_parts shape rule = own_parts (Intersect shape rule None) shape rule (λ genome chromosomes has. intersect_is genome chromosomes has shape rule) (intersect_parts shape rule)
+intersect_genome_parts shape rule = own_parts (Intersect shape rule None) shape rule (λ genome entries has. intersect_is (Some genome) (Some entries) has shape rule)
 
 pub subtract_genome_parts : subtract_genomes_divide
-subtract_genome_parts whole rule = own_parts (Subtract whole rule None) (subtract_shape whole) rule (λ genome chromosomes has. subtract_is genome chromosomes has whole rule) (subtract_parts whole rule)
+subtract_genome_parts whole rule = own_parts (Subtract whole rule None) (subtract_shape whole) rule (λ genome entries has. subtract_is (Some genome) (Some entries) has whole rule)
 
 -- ---- records without a fault lie on known chromosomes
 
-module _ (order : Order) (input : Input) where
-  abbrev Known : List Feature → Type 0
-  Known rs = AllByRecursion (λ r. IsTrue (order.knows r.chrom)) rs
-
-  known_with : (n : ℕ) (last : Option Locus) (said : Result (Option Feature) Kind) (rest : Option Locus → Good Feature) (more : List Feature) → ((now : Option Locus) → (rest now).fault ≡ None → Known more)
-      → (good_with (bed_format (sorting_of order)) input n last (said_after (sorting_of order) last said) rest).fault ≡ None → Known (said_record said ++ more)
-  known_with n last said rest more next e = grind arith
-
-  known_from : (last : Option Locus) (ms : List TextLine) → (good_from (bed_format (sorting_of order)) input last ms).fault ≡ None → Known (records_on ms)
-  unfolding good_from line_says
-  known_from last [] e = tt
-  known_from last (m ∷ ms) e = known_with m.number last (record_of m.text) (λ now. good_from (bed_format (sorting_of order)) input now ms) (records_on ms) (λ now d. known_from now ms d) e
+known_from : (order : Order) (input : Input) (ms : List TextLine) → (good (bed_format (sorting_of order)) input ms).fault ≡ None → AllByRecursion (λ r. IsTrue (order.knows r.chrom)) (records_on ms)
+known_from order input ms e =
+    subst (AllByRecursion (λ r. IsTrue (order.knows r.chrom))) (sound_from (sorting_of order) input None ms e) (items_all (sorting_of order) input (λ r. IsTrue (order.knows r.chrom)) None ms (all_any _ _ (λ r known. known)))
 
 -- on those of the part's genome file
 lies : (own whole : List Entry) (input : Input) (text : List ℕ) → (good (bed_format (sorting_of (rank_order (genome_names own)))) input (text_lines text)).fault ≡ None → AllByRecursion (LiesWithin own whole) (said_records text)
-lies own whole input text e =
-    all_so _ _ (said_records text) (λ r known here. sym (among_ranked (genome_names own) r.chrom) ∙ known) (known_from (rank_order (genome_names own)) input None (text_lines text) e)
+lies own whole input text e = grind (arith, all_so, among_ranked, (known_from (rank_order (genome_names own)) input (text_lines text) e))
 
 -- ---- commands of one input
 
 module _ (W : List Entry → Written Feature) (command : Command)
-    (is : (entries : List Entry) (text : List ℕ) → report_on command (Ok (Some entries)) (whole_text text) None ≡ good_report (W entries) (good (bed_format (sorting_of (rank_order (genome_names entries)))) First (text_lines text)))
+    (is : (entries : List Entry) (first : Handed) → report_on command (Ok (Some entries)) first None ≡ members_report (W entries) (bed_format (sorting_of (rank_order (genome_names entries)))) first)
     (add : (genome : Handed) (shards : List Shard) → AreShards genome shards → ShardsAddUp command genome shards) where
   shard_lies : (whole : List Entry) (shard : Shard) → chromosomes_of (Some shard.genome) ≡ Ok (Some shard.entries) → (on_text command (Some shard.genome) shard.text).fault ≡ None
       → AllByRecursion (LiesWithin shard.entries whole) (said_records shard.text)
-  unfolding report_of
   shard_lies whole shard has e =
-      lies shard.entries whole First shard.text
-      (sym (grind arith)
-      ∙ ap (λ (r : Report). r.fault) (sym (ap (λ c. report_on command c (whole_text shard.text) None) has ∙ is shard.entries shard.text)) ∙ e)
+      lies shard.entries whole First shard.text (sym (grind arith) ∙ ap (λ (r : Report). r.fault) (sym (text_report W command is shard.genome shard.entries shard.text has)) ∙ e)
 
   shards_suffice : ShardsSuffice command
   shards_suffice genome shards are all = grind (arith, (all_zip _ _ _ shards (λ shard has e. shard_lies (all_entries shards) shard has e) are.parts (all_unmap _ _ shards all)))
 
 pub merge_suffice : merge_shards_suffice
-merge_suffice d strand = shards_suffice (λ entries. merge_written (rank_order (genome_names entries)) d strand) (Merge d strand)
-    (λ entries text. ap (good_report (merge_written (rank_order (genome_names entries)) d strand)) (good_whole (bed_format (sorting_of (rank_order (genome_names entries)))) First text))
-    (merge_genome_parts d strand)
+merge_suffice d strand = shards_suffice (λ entries. merge_written (rank_order (genome_names entries)) d strand) (Merge d strand) (λ entries first. refl) (merge_genome_parts d strand)
 
 pub complement_suffice : complement_shards_suffice
-complement_suffice limit = shards_suffice (λ entries. complement_written entries limit) (Complement limit)
-    (λ entries text. ap (good_report (complement_written entries limit)) (good_whole (bed_format (sorting_of (rank_order (genome_names entries)))) First text))
-    (complement_parts limit)
+complement_suffice limit = shards_suffice (λ entries. complement_written entries limit) (Complement limit) (λ entries first. refl) (complement_parts limit)
 
 pub genomecov_suffice : genomecov_shards_suffice
-genomecov_suffice zeros strand = shards_suffice (λ entries. coverage_written entries zeros strand) (Coverage zeros strand)
-    (λ entries text. ap (good_report (coverage_written entries zeros strand)) (good_whole (bed_format (sorting_of (rank_order (genome_names entries)))) First text))
-    (genomecov_parts zeros strand)
+genomecov_suffice zeros strand = shards_suffice (λ entries. coverage_written entries zeros strand) (Coverage zeros strand) (λ entries first. refl) (genomecov_parts zeros strand)
 
 -- ---- of two
 
@@ -252,7 +163,7 @@ module _ (command : Command) (shape : Shape) (rule : HitRule)
   pairs_suffice genome shards are all = grind (arith, (all_zip _ _ _ shards (λ shard has e. pair_lies (pair_entries shards) shard has e) are.parts (all_unmap _ _ shards all)))
 
 pub intersect_suffice : intersect_shards_suffice
-intersect_suffice shape rule = pairs_suffice (Intersect shape rule None) shape rule (λ genome entries has texts. intersect_is (Some genome) (Some entries) has shape rule texts) (intersect_genome_parts shape rule)
+intersect_suffice shape rule = pairs_suffice (Intersect shape rule None) shape rule (λ genome entries has. intersect_is (Some genome) (Some entries) has shape rule) (intersect_genome_parts shape rule)
 
 pub subtract_suffice : subtract_shards_suffice
-subtract_suffice whole rule = pairs_suffice (Subtract whole rule None) (subtract_shape whole) rule (λ genome entries has texts. subtract_is (Some genome) (Some entries) has whole rule texts) (subtract_genome_parts whole rule)
+subtract_suffice whole rule = pairs_suffice (Subtract whole rule None) (subtract_shape whole) rule (λ genome entries has. subtract_is (Some genome) (Some entries) has whole rule) (subtract_genome_parts whole rule)

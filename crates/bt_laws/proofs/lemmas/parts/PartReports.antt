@@ -71,7 +71,7 @@ module _ {T : Type 0} (join : List T → T) (report : T → Report) (Fits : List
     (less : (t : T) (ts : List T) → Fits (t ∷ ts) → Fits ts) where
   pub parts_add : ((t u : T) (ts : List T) → Fits (t ∷ u ∷ ts) → Adds (report t) (report (join (u ∷ ts))) (report (join (t ∷ u ∷ ts))))
       → (ts : List T) → Fits ts → AddUp (map report ts) (report (join ts))
-  parts_add two [] fits = add_none (report (join [])) (ap (λ (r : Report). r.fault) empty) (ap (λ (r : Report). r.output) empty)
+  parts_add two [] fits = grind (arith, add_none)
   parts_add two (t ∷ []) fits = subst (λ r. AddUp (report t ∷ []) r) (sym (one t)) (add_one (report t))
   parts_add two (t ∷ u ∷ ts) fits = grind (arith, (parts_add two (u ∷ ts) (less t (u ∷ ts) fits)))
 
@@ -84,7 +84,7 @@ module _ {T : Type 0} (join : List T → T) (report : T → Report) (Fits : List
 
   pub parts_both : ((t u : T) (ts : List T) → Fits (t ∷ u ∷ ts) → Joins (report t) (report (join (u ∷ ts))) (report (join (t ∷ u ∷ ts))))
       → (ts : List T) → Fits ts → AddUp (map report ts) (report (join ts)) × StopWithin (map report ts) (report (join ts))
-  parts_both two ts fits = (parts_add (λ t u ts f. (two t u ts f).0) ts fits, parts_stop (λ t u ts f. (two t u ts f).1) ts fits)
+  parts_both two ts fits = grind (arith, parts_add, parts_stop)
 
 -- commands that write the same of these members
 pub splits_as : {A : Type 0} {one two whole one_too two_too whole_too : Written A} {ones twos : List A}

@@ -6,42 +6,17 @@ use Rattle.bt_lines.specs.declared.fault.Input.{Input}
 use Rattle.bt_lines.specs.declared.fault.Kind.{Kind}
 use Rattle.bt_lines.specs.declared.fault.Kind.TheVariants.{TextBeforeHeader}
 use Rattle.bt_lines.proofs.lemmas.reader.lines.TextLemmas.{lines_from-fed, lines_from-last, by_lines}
-use Rattle.bt_bed.specs.model.Good.{Format, Good, good, good_from, good_with, items_in, line_says as record_says, locus_at, said_after, block_format}
+use Rattle.bt_bed.specs.model.Good.{Format, Good, good, good_from, good_with, items_in, line_says as record_says, locus_at, said_after, block_format, bed_format}
 use Rattle.bt_seq.specs.model.Masked.{is_unnamed, names_of, Reached, SequenceLine, header_behind, is_header, line_behind, line_says, may_stand, name_in, sequence_format}
 use Rattle.bt_laws.specs.Parts.{begins_sequence, name_on, sequence_names, StandsBefore, said_record, said_records}
-use Rattle.bt_laws.proofs.lemmas.parts.PartLines.{like_from, alike_lines, lines_join, IsLike}
+use Rattle.bt_laws.proofs.lemmas.parts.PartLines.{like_from, alike_lines, lines_join, IsLike, put_on, reached, go_from}
 use Rattle.bt_bed.specs.model.Feature.{Feature}
 use Rattle.bt_bed.specs.model.BedLine.{record_of}
-use Rattle.bt_bed.specs.model.Sorted.{Locus, block_sorting}
+use Rattle.bt_bed.specs.model.Sorted.{Locus, block_sorting, Sorting}
 use Rattle.bt_seq.proofs.lemmas.definitions.KnowsLemmas.{is_last}
 use Rattle.bt_seq.proofs.lemmas.Sam.{last_from}
-use Rattle.bt_laws.proofs.lemmas.parts.PartBed.{alike_records, records_on}
-use Rattle.bt_runs.proofs.lemmas.Lists.{all_back, all_front}
-
-module _ {A State : Type 0} (format : Format A State) where
-  -- what is known after members
-  abbrev pub reached : State → List A → State
-  reached state [] = state
-  reached state (x ∷ xs) = reached (format.after state x) xs
-
-  -- what is good of lines, followed by this
-  abbrev pub put_on : Option FaultValue → Good A → Good A → Good A
-  put_on None g h = record { members = g.members ++ h.members; fault = h.fault }
-  put_on (Some fault) g h = g
-
-  module _ (input : Input) where
-    go_with : (n : ℕ) (state : State) (said : Result (Option A) Kind) (ms : List TextLine) (whole ones : State → Good A)
-        → ((now : State) → whole now ≡ put_on (ones now).fault (ones now) (good_from format input (reached now (items_in (ones now))) ms))
-        → good_with format input n state said whole ≡ put_on (good_with format input n state said ones).fault (good_with format input n state said ones) (good_from format input (reached state (items_in (good_with format input n state said ones))) ms)
-    go_with n state said ms whole ones h = grind arith
-
-    -- what is good of lines and of others after them
-    pub go_from : (state : State) (ls ms : List TextLine) → good_from format input state (ls ++ ms)
-        ≡ put_on (good_from format input state ls).fault (good_from format input state ls) (good_from format input (reached state (items_in (good_from format input state ls))) ms)
-    unfolding good_from
-    go_from state [] ms = refl
-    go_from state (l ∷ ls) ms =
-        go_with l.number state (format.says state l) ms (λ now. good_from format input now (ls ++ ms)) (λ now. good_from format input now ls) (λ now. go_from now ls ms)
+use Rattle.bt_laws.proofs.lemmas.parts.PartBed.{alike_records, records_on, items_all}
+use Rattle.bt_runs.proofs.lemmas.Lists.{all_so}
 
 -- ---- sequences
 
@@ -65,7 +40,7 @@ abbrev pub BeginsAtHeader : List TextLine → Type 0
 BeginsAtHeader [] = ⊤
 BeginsAtHeader (line ∷ lines) = is_header line.text ≡ true
 
-named_more : (names more : List (List ℕ)) → is_unnamed more ≡ false → is_unnamed (names ++ more) ≡ false
+pub named_more : (names more : List (List ℕ)) → is_unnamed more ≡ false → is_unnamed (names ++ more) ≡ false
 named_more [] more e = e
 named_more (n ∷ ns) more e = refl
 
@@ -81,7 +56,7 @@ module _ (full : Bool) (input : Input) where
     named : is_unnamed it.names ≡ false
 
   says_header : (s : Reached) (line : TextLine) → is_header line.text ≡ true → line_says full s line ≡ Ok (Some (header_behind full s line))
-  says_header s line e = ap (λ h. cond h (Ok (Some (header_behind full s line))) (cond (may_stand s.names line.text) (Ok (Some (line_behind s line))) (Err TextBeforeHeader))) e
+  says_header s line e = grind (arith, cond, (cond (may_stand s.names line.text) (Ok (Some (line_behind s line))) (Err TextBeforeHeader)))
 
   says_bases : (s : Reached) (line : TextLine) → is_header line.text ≡ false → is_unnamed s.names ≡ false → line_says full s line ≡ Ok (Some (line_behind s line))
   says_bases s line e named = grind arith
@@ -171,7 +146,7 @@ module _ (full : Bool) (input : Input) where
   grows_from s (l ∷ ls) = grows_with s l (λ now. good_from Fasta input now ls) (λ now. grows_from now ls) (is_header l.text) (may_stand s.names l.text)
 
   pub names_begin : (ls : List TextLine) → AllByRecursion (Begins (names_of (items_in (good Fasta input ls)))) (items_in (good Fasta input ls))
-  names_begin ls = subst (λ names. AllByRecursion (Begins names) (items_in (good Fasta input ls))) (begin_names (items_in (good Fasta input ls))) (grows_from Fasta.begin ls).all
+  names_begin ls = grind (arith, (begin_names (items_in (good Fasta input ls))), (grows_from Fasta.begin ls))
 
   -- the names of two parts
   names_moved : (names : List (List ℕ)) (y : SequenceLine) (ys : List SequenceLine) → names_of (map (line_after names) (y ∷ ys)) ≡ names ++ names_of (y ∷ ys)
@@ -235,6 +210,21 @@ abbrev pub BeginsElsewhere : Option (List ℕ) → List Feature → Type 0
 BeginsElsewhere last [] = ⊤
 BeginsElsewhere last (r ∷ rs) = is_last last r.chrom ≡ false
 
+module _ (sorting : Sorting) (input : Input) where
+  sound_with : (n : ℕ) (last : Option Locus) (said : Result (Option Feature) Kind) (rest : Option Locus → Good Feature) (more : List Feature) → ((now : Option Locus) → (rest now).fault ≡ None → items_in (rest now) ≡ more)
+      → (good_with (bed_format sorting) input n last (said_after sorting last said) rest).fault ≡ None → items_in (good_with (bed_format sorting) input n last (said_after sorting last said) rest) ≡ said_record said ++ more
+  sound_with n last said rest more same e = grind arith
+
+  -- without a fault the records are all that the lines say
+  pub sound_from : (last : Option Locus) (ms : List TextLine) → (good_from (bed_format sorting) input last ms).fault ≡ None → items_in (good_from (bed_format sorting) input last ms) ≡ records_on ms
+  unfolding good_from record_says
+  sound_from last [] e = refl
+  sound_from last (m ∷ ms) e = sound_with m.number last (record_of m.text) (λ now. good_from (bed_format sorting) input now ms) (records_on ms) (λ now d. sound_from now ms d) e
+
+-- what holds of all that the lines say, holds of the good records
+pub among : (input : Input) (P : Feature → Type 0) (ms : List TextLine) → AllByRecursion P (records_on ms) → AllByRecursion P (items_in (good block_format input ms))
+among input P ms h = items_all block_sorting input P None ms (all_so _ _ (records_on ms) (λ r p known. p) h)
+
 module _ (input : Input) where
   fresh_with : (n : ℕ) (last : Option Locus) (said : Result (Option Feature) Kind) (rest : Option Locus → Good Feature) (more : List Feature)
       → (BeginsElsewhere (name_at last) more → rest last ≡ rest None) → BeginsElsewhere (name_at last) (said_record said ++ more)
@@ -245,7 +235,7 @@ module _ (input : Input) where
   pub fresh_from : (last : Option Locus) (ms : List TextLine) → BeginsElsewhere (name_at last) (records_on ms) → good_from block_format input last ms ≡ good_from block_format input None ms
   unfolding good_from record_says
   fresh_from last [] h = refl
-  fresh_from last (m ∷ ms) h = fresh_with m.number last (record_of m.text) (λ now. good_from block_format input now ms) (records_on ms) (fresh_from last ms) h
+  fresh_from last (m ∷ ms) h = grind (arith, fresh_with, (records_on ms), (fresh_from last ms))
 
   calm_with : (n : ℕ) (last : Option Locus) (said : Result (Option Feature) Kind) (rest : Option Locus → Good Feature) → ((rest last).fault ≡ None → rest last ≡ rest None)
       → (good_with block_format input n last (said_after block_sorting last said) rest).fault ≡ None
@@ -256,29 +246,7 @@ module _ (input : Input) where
   pub calm_from : (last : Option Locus) (ms : List TextLine) → (good_from block_format input last ms).fault ≡ None → good_from block_format input last ms ≡ good_from block_format input None ms
   unfolding good_from record_says
   calm_from last [] e = refl
-  calm_from last (m ∷ ms) e = calm_with m.number last (record_of m.text) (λ now. good_from block_format input now ms) (calm_from last ms) e
-
-  sound_with : (n : ℕ) (last : Option Locus) (said : Result (Option Feature) Kind) (rest : Option Locus → Good Feature) (more : List Feature) → ((now : Option Locus) → (rest now).fault ≡ None → items_in (rest now) ≡ more)
-      → (good_with block_format input n last (said_after block_sorting last said) rest).fault ≡ None → items_in (good_with block_format input n last (said_after block_sorting last said) rest) ≡ said_record said ++ more
-  sound_with n last said rest more same e = grind arith
-
-  -- without a fault the records are all that the lines say
-  pub sound_from : (last : Option Locus) (ms : List TextLine) → (good_from block_format input last ms).fault ≡ None → items_in (good_from block_format input last ms) ≡ records_on ms
-  unfolding good_from record_says
-  sound_from last [] e = refl
-  sound_from last (m ∷ ms) e = sound_with m.number last (record_of m.text) (λ now. good_from block_format input now ms) (records_on ms) (λ now d. sound_from now ms d) e
-
-  among_with : (P : Feature → Type 0) (n : ℕ) (last : Option Locus) (said : Result (Option Feature) Kind) (rest : Option Locus → Good Feature) → ((now : Option Locus) → AllByRecursion P (items_in (rest now)))
-      → AllByRecursion P (said_record said) → AllByRecursion P (items_in (good_with block_format input n last (said_after block_sorting last said) rest))
-  among_with P n last said rest h p = grind arith
-
-  -- what holds of all that the lines say, holds of the good records
-  pub among_from : (P : Feature → Type 0) (last : Option Locus) (ms : List TextLine) → AllByRecursion P (records_on ms) → AllByRecursion P (items_in (good_from block_format input last ms))
-  unfolding good_from record_says
-  among_from P last [] h = tt
-  among_from P last (m ∷ ms) h =
-      among_with P m.number last (record_of m.text) (λ now. good_from block_format input now ms) (λ now. among_from P now ms (all_back P (said_record (record_of m.text)) (records_on ms) h))
-      (all_front P (said_record (record_of m.text)) (records_on ms) h)
+  calm_from last (m ∷ ms) e = grind (arith, calm_with, (calm_from last ms))
 
   -- ---- two texts
 
@@ -299,8 +267,8 @@ module _ (input : Input) where
     abbrev Last : Option Locus
     Last = reached block_format None (items_in First-good)
 
-    whole_is : Whole-good ≡ put_on block_format First-good.fault First-good (good_from block_format input Last Lines-behind)
-    whole_is = ap (good block_format input) (lines_join 1 one two ends).1 ∙ go_from block_format input None (text_lines one) Lines-behind
+    whole_is : Whole-good ≡ put_on First-good.fault First-good (good_from block_format input Last Lines-behind)
+    whole_is = grind (arith, (lines_join 1 one two ends), (go_from block_format input None (text_lines one) Lines-behind))
 
     like_two : IsLike (good_from block_format input None Lines-behind) Second-good
     like_two = like_from block_format input None Lines-behind (text_lines two) (λ state l m t d. ap (record_says block_sorting state) t) (alike_lines (lines_join 1 one two ends).0 1 two)
@@ -319,9 +287,9 @@ module _ (input : Input) where
 
     -- a fault of the first text is that of both
     pub faulty_same : (fault : FaultValue) → First-good.fault ≡ Some fault → Whole-good ≡ First-good
-    faulty_same fault e = whole_is ∙ ap (λ f. put_on block_format f First-good (good_from block_format input Last Lines-behind)) e
+    faulty_same fault e = whole_is ∙ ap (λ f. put_on f First-good (good_from block_format input Last Lines-behind)) e
 
-    front_by : (fault : Option FaultValue) (g h : Good Feature) → (more : List Feature) × (items_in (put_on block_format fault g h) ≡ items_in g ++ more)
+    front_by : (fault : Option FaultValue) (g h : Good Feature) → (more : List Feature) × (items_in (put_on fault g h) ≡ items_in g ++ more)
     front_by None g h = (items_in h, map-append (λ m. m.item) g.members h.members)
     front_by (Some fault) g h = ([], sym (append-nil (items_in g)))
 

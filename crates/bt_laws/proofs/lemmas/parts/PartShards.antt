@@ -1,5 +1,5 @@
 -- Parts with their own parts of the genome file: complement, genomecov and merge.
-use Rattle.bt_lines.proofs.Std.{arith, ◌≡◌, ℕ, Bool, true, false, List, [], ◌∷◌, ◌++◌, filter, append-nil, Option, Some, None, refl, sym, ap, ap₂, ◌∙◌, cond, ◌||◌, map, Ok, subst, IsTrue, bytes_eq, flat_map, nat_le, nat_lt, AllByRecursion, or_left, or_right, flat_map-append, map-append, filter-append}
+use Rattle.bt_lines.proofs.Std.{arith, ◌≡◌, ℕ, Bool, true, false, List, [], ◌∷◌, ◌++◌, filter, append-nil, Option, Some, None, refl, sym, ap, ap₂, ◌∙◌, cond, map, Ok, subst, IsTrue, bytes_eq, flat_map, nat_le, nat_lt, AllByRecursion, or_left, or_right, flat_map-append, map-append, filter-append, or_parts}
 use Rattle.std.specs.declared.cmp.Ordering.{Ordering}
 use Rattle.std.specs.declared.cmp.Ordering.TheVariants.{Less, Greater}
 use Rattle.bt_bed.specs.model.Feature.{Feature, interval_of, intervals_of, Interval, last_from, last_of}
@@ -13,12 +13,12 @@ use Rattle.bt_bed.proofs.lemmas.parse.NameLemmas.{name_eq, name_ne}
 use Rattle.bt_bed.proofs.lemmas.order.OrderLemmas.{among_ranked}
 use Rattle.bt_runs.specs.model.Gaps.{is_over_at, complement, gaps_on, is_asked, settled_gaps}
 use Rattle.bt_runs.specs.calls.Complementing.{AreTaken}
-use Rattle.bt_tool.specs.model.Written.{Written, complement_written, coverage_written, merge_written, pooled_written, Report, good_report}
+use Rattle.bt_tool.specs.model.Written.{Written, complement_written, coverage_written, merge_written, pooled_written, Report, good_report, members_report}
 use Rattle.bt_laws.proofs.lemmas.parts.PartGenomes.{agree_first, agree_second, apart_both, entry_less, names_both, among_append, no_first, agree_good, records_both, within_before, last_behind, last_is, none_has, has_append, records_away, spans_first, spans_second}
 use Rattle.bt_runs.proofs.lemmas.Lists.{all_flat_map, all_so, filter_all, filter_none, filter_same, flat_map_same, all_any, all_both, all_map, map_same}
 use Rattle.bt_laws.proofs.lemmas.parts.PartReports.{Splits, nothing, parts_both, splits_as, Joins, good_joins}
 use Rattle.bt_laws.proofs.lemmas.parts.PartBed.{reversed_less, Earlier, bed_joint, good_earlier, items_all}
-use Rattle.bt_lines.specs.model.Lines.{Handed, whole_text, lines_from, text_lines}
+use Rattle.bt_lines.specs.model.Lines.{Handed, lines_from, text_lines}
 use Rattle.bt_lines.specs.declared.fault.Input.TheVariants.{First}
 use Rattle.bt_bed.specs.model.Good.{Good, good, good_from, items_in, bed_format}
 use Rattle.bt_bed.specs.declared.record.strand.Strand.{Strand}
@@ -32,7 +32,7 @@ use Rattle.bt_runs.proofs.lemmas.order.FileOrder.{ordered_come}
 use Rattle.bt_runs.proofs.lemmas.coverage.DepthSteps.{settles_depths}
 use Rattle.bt_runs.proofs.lemmas.complement.GapRuleLemmas.{settles_gaps}
 use Rattle.bt_runs.proofs.lemmas.definitions.Standing.{begins}
-use Rattle.bt_laws.specs.Parts.{AreShards, LiesWithin, Shard, ShardsAddUp, all_entries, complement_divides, genomecov_divides, merge_genomes_divide, shard_texts, AreOfLines, StandsBefore, joined, said_records, on_text}
+use Rattle.bt_laws.specs.Parts.{AreShards, LiesWithin, Shard, ShardsAddUp, all_entries, complement_divides, genomecov_divides, merge_genomes_divide, shard_texts, AreOfLines, StandsBefore, joined, said_records, on_text, AddUp, StopWithin}
 use Rattle.bt_tool.specs.model.Report.{chromosomes_of, report_of, report_on}
 use Rattle.bt_tool.specs.declared.planning.plan_type.Command.{Command}
 use Rattle.bt_tool.specs.declared.planning.plan_type.Command.TheVariants.{Complement, Coverage, Merge}
@@ -83,16 +83,16 @@ module _ {T : Type 0} (chrom : T → List ℕ) (ends : Interval → T → Bool) 
     Both = genome_names (e_one ++ e_two)
 
     one_in : (name : List ℕ) → is_among One-names name ≡ true → IsTrue ((rank_order Both).knows name)
-    one_in name h = among_ranked Both name ∙ ap (λ ns. is_among ns name) (names_both e_one e_two) ∙ among_append One-names Two-names name ∙ or_left (is_among One-names name) (is_among Two-names name) h
+    one_in name h = grind (arith, (among_ranked Both name), (names_both e_one e_two), (among_append One-names Two-names name), (or_left (is_among One-names name) (is_among Two-names name) h))
 
     two_in : (name : List ℕ) → is_among Two-names name ≡ true → IsTrue ((rank_order Both).knows name)
-    two_in name h = among_ranked Both name ∙ ap (λ ns. is_among ns name) (names_both e_one e_two) ∙ among_append One-names Two-names name ∙ or_right (is_among One-names name) (is_among Two-names name) h
+    two_in name h = grind (arith, (among_ranked Both name), (names_both e_one e_two), (among_append One-names Two-names name), (or_right (is_among One-names name) (is_among Two-names name) h))
 
     less : (a b : List ℕ) → is_among One-names a ≡ true → is_among Two-names b ≡ true → (rank_order Both).compare a b ≡ Less
     less a b one two = entry_less e_one e_two distinct a b one two
 
     greater : (a b : List ℕ) → is_among Two-names a ≡ true → is_among One-names b ≡ true → (rank_order Both).compare a b ≡ Greater
-    greater a b two one = reversed_less ((rank_order Both).compare b a) ((rank_order Both).compare a b) (less b a one two) ((ranks_total Both).swapped b a (one_in b one) (two_in a two))
+    greater a b two one = grind (arith, reversed_less, (less b a one two), (one_in b one), (two_in a two))
 
     apart : (a b : List ℕ) → is_among One-names a ≡ true → is_among Two-names b ≡ true → bytes_eq b a ≡ false
     apart a b one two = grind (arith, name_ne, (no_first One-names Two-names (apart_both e_one e_two distinct) b two))
@@ -156,11 +156,7 @@ module _ {T : Type 0} (chrom : T → List ℕ) (ends : Interval → T → Bool) 
     pub chromosomes_split : {ones twos : List Feature} → AllByRecursion (λ r. is_among One-names r.chrom ≡ true) (intervals_of ones) → AllByRecursion (λ r. is_among Two-names r.chrom ≡ true) (intervals_of twos)
         → ((rest : List T) × (whole_of e_one ones ≡ settled_of e_one ones ++ rest))
         → Splits (written_of e_one) (written_of e_two) (written_of (e_one ++ e_two)) ones twos
-    chromosomes_split {ones} {twos} in_one in_two begins = record {
-      all = ap (flat_map line) (whole_both ones twos in_one in_two) ∙ lines_both (whole_of e_one ones) (whole_of e_two twos);
-      first = ap (flat_map line) (settled_first ones in_one);
-      begin = begin_by ones twos in_one in_two begins;
-    }
+    chromosomes_split {ones} {twos} in_one in_two begins = grind (arith, (whole_both ones twos in_one in_two), (lines_both (whole_of e_one ones) (whole_of e_two twos)), (settled_first ones in_one), (begin_by ones twos in_one in_two begins))
 
 -- ---- gaps
 
@@ -279,7 +275,7 @@ module _ (d : ℕ) where
 
     settled_as : (mine yours : List (List ℕ)) (records : List Feature) → ArePlaced (rank_order mine) (intervals_of records) → ArePlaced (rank_order yours) (intervals_of records)
         → interval_lines (passed_by d (ordered_runs (rank_order mine) d strand records) (last_of (intervals_of records))) ≡ interval_lines (passed_by d (ordered_runs (rank_order yours) d strand records) (last_of (intervals_of records)))
-    settled_as mine yours records one two = ap (λ runs. interval_lines (passed_by d runs (last_of (intervals_of records)))) (runs_as mine yours records one two)
+    settled_as mine yours records one two = grind (arith, (runs_as mine yours records one two))
 
     pooled_own : (e_one e_two : List Entry) (ones twos : List Feature) → OwnParts e_one e_two ones twos
         → Splits (pooled_written (rank_order (genome_names e_one)) d strand) (pooled_written (rank_order (genome_names e_two)) d strand) (pooled_written (rank_order (genome_names (e_one ++ e_two))) d strand) ones twos
@@ -296,35 +292,76 @@ module _ (d : ℕ) where
   merge_own (One strand) = pooled_own (One strand)
   merge_own Each = λ e_one e_two ones twos own. strands_split d ones twos (records_away (rank_order (genome_names (e_one ++ e_two))) (ranks_total (genome_names (e_one ++ e_two))) ones twos own.first_placed own.early)
 
--- ---- any command that writes so
+-- ---- parts with their own parts of the genome file
 
 pub distinct_in : (genome : Handed) (entries : List Entry) → chromosomes_of (Some genome) ≡ Ok (Some entries) → AreDistinct (genome_names entries)
 distinct_in genome entries e = grind (arith, distinct_genome)
 
+front_distinct : (xs ys : List (List ℕ)) → AreDistinct (xs ++ ys) → AreDistinct xs
+front_distinct [] ys d = tt
+front_distinct (x ∷ xs) ys d = ((or_parts (is_among xs x) (is_among ys x) (sym (among_append xs ys x) ∙ d.0)).0, front_distinct xs ys d.1)
+
+back_distinct : (xs ys : List (List ℕ)) → AreDistinct (xs ++ ys) → AreDistinct ys
+back_distinct [] ys d = d
+back_distinct (x ∷ xs) ys d = back_distinct xs ys d.1
+
+-- what holds of the records of each text, holds of those of all
+pub joined_all : (P : Feature → Type 0) (texts : List (List ℕ)) → AreOfLines texts → AllByRecursion (λ text. AllByRecursion P (said_records text)) texts → AllByRecursion P (said_records (joined texts))
+unfolding lines_from
+joined_all P [] lines h = tt
+joined_all P (t ∷ []) lines h = subst (λ text. AllByRecursion P (said_records text)) (sym (append-nil t)) h.0
+joined_all P (t ∷ u ∷ ts) lines h = grind (arith, (joined_all P (u ∷ ts) lines.1 h.1), records_both, all_both)
+
+-- parts of any kind, of which two join, if their chromosomes differ and each part's records lie on its own
+module _ {X : Type 0} (entries : X → List Entry) (records : X → List Feature) (AreLines : List X → Type 0) (join : List X → X) (report : X → Report)
+    (less : (x : X) (xs : List X) → AreLines (x ∷ xs) → AreLines xs)
+    (records_all : (P : Feature → Type 0) (xs : List X) → AreLines xs → AllByRecursion (λ x. AllByRecursion P (records x)) xs → AllByRecursion P (records (join xs)))
+    (empty : report (join []) ≡ nothing) (alone : (x : X) → report (join (x ∷ [])) ≡ report x)
+    (two : (x y : X) (xs : List X) → AreLines (x ∷ y ∷ xs) → let later = flat_map entries (y ∷ xs) in let all = entries x ++ later in
+    AreDistinct (genome_names all) → AllByRecursion (LiesWithin (entries x) all) (records x) → AllByRecursion (LiesWithin later all) (records (join (y ∷ xs)))
+    → Joins (report x) (report (join (y ∷ xs))) (report (join (x ∷ y ∷ xs)))) where
+  -- each part's records lie on chromosomes of all parts
+  within_all : (whole : List Entry) (xs : List X) → AllByRecursion (λ x. AllByRecursion (LiesWithin (entries x) whole) (records x)) xs → AllByRecursion (λ x. AllByRecursion (LiesWithin (flat_map entries xs) whole) (records x)) xs
+  within_all whole [] h = tt
+  within_all whole (x ∷ xs) h = grind (arith, all_so, names_both, among_append, (within_all whole xs h.1))
+
+  record Fit (xs : List X) : Type 0 where
+    distinct : AreDistinct (genome_names (flat_map entries xs))
+    lines : AreLines xs
+    within : AllByRecursion (λ x. AllByRecursion (LiesWithin (entries x) (flat_map entries xs)) (records x)) xs
+
+  fit_less : (x : X) (xs : List X) → Fit (x ∷ xs) → Fit xs
+  fit_less x xs fit = grind (arith, back_distinct, (names_both (entries x) (flat_map entries xs)), (less x xs fit.lines), all_so, names_both, among_append)
+
+  -- the runs on the parts, and the run on the whole
+  pub own_add : (on : X → Report) (whole : Report) (xs : List X) → AllByRecursion (λ x. on x ≡ report x) xs → whole ≡ report (join xs) → AreDistinct (genome_names (flat_map entries xs)) → AreLines xs
+      → AllByRecursion (λ x. AllByRecursion (LiesWithin (entries x) (flat_map entries xs)) (records x)) xs → AddUp (map on xs) whole × StopWithin (map on xs) whole
+  own_add on whole xs same is distinct lines within =
+      rw (map_same on report xs same, is)
+      (parts_both join report Fit empty alone fit_less (λ x y xs fit. two x y xs fit.lines fit.distinct fit.within.0 (records_all _ (y ∷ xs) (less x (y ∷ xs) fit.lines) (within_all _ (y ∷ xs) fit.within.1)))
+      xs (record { distinct = distinct; lines = lines; within = within }))
+
+-- ---- any command that writes so
+
 module _ (W : List Entry → Written Feature) (command : Command)
-    (is : (entries : List Entry) (text : List ℕ) → report_on command (Ok (Some entries)) (whole_text text) None ≡ good_report (W entries) (good (bed_format (sorting_of (rank_order (genome_names entries)))) First (text_lines text)))
-    (splits : (e_one e_two : List Entry) (ones twos : List Feature) → OwnParts e_one e_two ones twos → Splits (W e_one) (W e_two) (W (e_one ++ e_two)) ones twos) where
+    (is : (entries : List Entry) (first : Handed) → report_on command (Ok (Some entries)) first None ≡ members_report (W entries) (bed_format (sorting_of (rank_order (genome_names entries)))) first) where
   abbrev good_of : List Entry → List ℕ → Good Feature
   good_of entries text = good (bed_format (sorting_of (rank_order (genome_names entries)))) First (text_lines text)
 
   abbrev report_in : List Entry → List ℕ → Report
   report_in entries text = good_report (W entries) (good_of entries text)
 
+  -- a run by the genome file
+  pub text_report : (genome : Handed) (entries : List Entry) (text : List ℕ) → chromosomes_of (Some genome) ≡ Ok (Some entries) → on_text command (Some genome) text ≡ report_in entries text
+  unfolding report_of
+  text_report genome entries text has = grind (arith, (good_whole (bed_format (sorting_of (rank_order (genome_names entries)))) First text))
+
   known_in : (entries : List Entry) (text : List ℕ) → AllByRecursion (λ r. is_among (genome_names entries) r.chrom ≡ true) (intervals_of (items_in (good_of entries text)))
   known_in entries text =
-      let total = ranks_total (genome_names entries) in
       all_map (λ r. is_among (genome_names entries) r.chrom ≡ true) interval_of (items_in (good_of entries text))
-      (items_all (rank_order (genome_names entries)) total First (λ r. is_among (genome_names entries) r.chrom ≡ true) None (text_lines text) (all_any _ _ (λ r known. sym (among_ranked (genome_names entries) r.chrom) ∙ known)))
+      (items_all (sorting_of (rank_order (genome_names entries))) First (λ r. is_among (genome_names entries) r.chrom ≡ true) None (text_lines text) (all_any _ _ (λ r known. sym (among_ranked (genome_names entries) r.chrom) ∙ known)))
 
-  front_distinct : (xs ys : List (List ℕ)) → AreDistinct (xs ++ ys) → AreDistinct xs
-  front_distinct [] ys d = tt
-  front_distinct (x ∷ xs) ys d = (not_there (is_among xs x) (is_among ys x) (sym (among_append xs ys x) ∙ d.0), front_distinct xs ys d.1)
-    where
-      not_there : (a b : Bool) → (a || b) ≡ false → a ≡ false
-      not_there true b e = cc
-      not_there false b e = refl
-
-  module _ (e_one e_two : List Entry) (one two : List ℕ) (distinct : AreDistinct (genome_names (e_one ++ e_two))) (ends : StandsBefore one two)
+  module _ (e_one e_two : List Entry) (one two : List ℕ) (ends : StandsBefore one two) (distinct : AreDistinct (genome_names (e_one ++ e_two)))
       (within_one : AllByRecursion (LiesWithin e_one (e_one ++ e_two)) (said_records one)) (within_two : AllByRecursion (LiesWithin e_two (e_one ++ e_two)) (said_records two)) where
     one_same : good_of (e_one ++ e_two) one ≡ good_of e_one one
     one_same = agree_good _ _ _ (agree_first e_one e_two) First None (text_lines one) tt within_one
@@ -361,82 +398,32 @@ module _ (W : List Entry → Written Feature) (command : Command)
           (good_earlier order_of_both total_of_both one two (within_before e_one e_two distinct (said_records one) (said_records two) within_one within_two) First First));
     }
 
-    both_reports : Joins (report_in e_one one) (report_in e_two two) (report_in (e_one ++ e_two) (one ++ two))
-    both_reports = good_joins (W e_one) (W e_two) (W (e_one ++ e_two)) (good_of e_one one) (good_of e_two two) (good_of (e_one ++ e_two) (one ++ two)) joint (splits e_one e_two (items_in (good_of e_one one)) (items_in (good_of e_two two)) own)
+    both_reports : Splits (W e_one) (W e_two) (W (e_one ++ e_two)) (items_in (good_of e_one one)) (items_in (good_of e_two two)) → Joins (report_in e_one one) (report_in e_two two) (report_in (e_one ++ e_two) (one ++ two))
+    both_reports = good_joins (W e_one) (W e_two) (W (e_one ++ e_two)) (good_of e_one one) (good_of e_two two) (good_of (e_one ++ e_two) (one ++ two)) joint
 
-  join : List Shard → Shard
-  join shards = record { genome = whole_text []; entries = all_entries shards; text = joined (shard_texts shards) }
-
-  record Fit (shards : List Shard) : Type 0 where
-    distinct : AreDistinct (genome_names (all_entries shards))
-    lines : AreOfLines (shard_texts shards)
-    within : AllByRecursion (λ shard. AllByRecursion (LiesWithin shard.entries (all_entries shards)) (said_records shard.text)) shards
-
-  back_distinct : (xs ys : List (List ℕ)) → AreDistinct (xs ++ ys) → AreDistinct ys
-  back_distinct [] ys d = d
-  back_distinct (x ∷ xs) ys d = back_distinct xs ys d.1
-
-  among_more : (e_one e_two : List Entry) (name : List ℕ) → is_among (genome_names e_two) name ≡ true → is_among (genome_names (e_one ++ e_two)) name ≡ true
-  among_more e_one e_two name h = ap (λ ns. is_among ns name) (names_both e_one e_two) ∙ among_append (genome_names e_one) (genome_names e_two) name ∙ or_right (is_among (genome_names e_one) name) (is_among (genome_names e_two) name) h
-
-  among_less : (e_one e_two : List Entry) (name : List ℕ) → is_among (genome_names e_one) name ≡ true → is_among (genome_names (e_one ++ e_two)) name ≡ true
-  among_less e_one e_two name h = ap (λ ns. is_among ns name) (names_both e_one e_two) ∙ among_append (genome_names e_one) (genome_names e_two) name ∙ or_left (is_among (genome_names e_one) name) (is_among (genome_names e_two) name) h
-
-  fit_less : (t : Shard) (ts : List Shard) → Fit (t ∷ ts) → Fit ts
-  fit_less t ts fit = grind (arith, back_distinct, names_both, all_so, among_more)
-
-  within_all : (whole : List Entry) (shards : List Shard) → AreOfLines (shard_texts shards) → AllByRecursion (λ shard. AllByRecursion (LiesWithin shard.entries whole) (said_records shard.text)) shards
-      → AllByRecursion (LiesWithin (all_entries shards) whole) (said_records (joined (shard_texts shards)))
-  unfolding lines_from
-  within_all whole [] lines h = tt
-  within_all whole (t ∷ []) lines h = grind (arith, append-nil)
-  within_all whole (t ∷ u ∷ ts) lines h = grind (arith, (within_all whole (u ∷ ts) lines.1 h.1), records_both, all_both, all_so, among_less, among_more)
-
-  on_shard : Shard → Report
-  on_shard shard = report_in shard.entries shard.text
-
-  on_own : (shards : List Shard) → AllByRecursion (λ shard. chromosomes_of (Some shard.genome) ≡ Ok (Some shard.entries)) shards → map (λ shard. on_text command (Some shard.genome) shard.text) shards ≡ map on_shard shards
-  unfolding report_of on_shard
-  on_own shards h = map_same _ _ shards (all_so _ _ shards (λ s has. ap (λ c. report_on command c (whole_text s.text) None) has ∙ is s.entries s.text) h)
-
-  same_parts : (shards : List Shard) (genome : Handed) → AreShards genome shards → on_text command (Some genome) (joined (shard_texts shards)) ≡ on_shard (join shards)
-  unfolding report_of on_shard join
-  same_parts shards genome are = ap (λ c. report_on command c (whole_text (joined (shard_texts shards))) None) are.whole ∙ is (all_entries shards) (joined (shard_texts shards))
-
-  fit_of : (shards : List Shard) (genome : Handed) → AreShards genome shards → Fit shards
-  fit_of shards genome are = record { distinct = distinct_in genome (all_entries shards) are.whole; lines = are.lines; within = are.within }
-
-  alone : (t : Shard) → on_shard (join (t ∷ [])) ≡ on_shard t
-  unfolding on_shard join
-  alone t = ap₂ report_in (append-nil t.entries) (append-nil t.text)
-
-  next : (t u : Shard) (ts : List Shard) → Fit (t ∷ u ∷ ts) → Joins (on_shard t) (on_shard (join (u ∷ ts))) (on_shard (join (t ∷ u ∷ ts)))
-  unfolding on_shard join
-  next t u ts fit =
-      both_reports t.entries (all_entries (u ∷ ts)) t.text (joined (shard_texts (u ∷ ts))) fit.distinct fit.lines.0 fit.within.0
-      (within_all (t.entries ++ all_entries (u ∷ ts)) (u ∷ ts) fit.lines.1 fit.within.1)
-
-  pub shards_add : report_in [] [] ≡ nothing → (genome : Handed) (shards : List Shard) → AreShards genome shards → ShardsAddUp command genome shards
-  unfolding on_shard join
-  shards_add empty genome shards are = grind (arith, (parts_both join on_shard Fit empty alone fit_less next shards (fit_of shards genome are)), (on_own shards are.parts), (same_parts shards genome are))
+  pub shards_add : ((e_one e_two : List Entry) (ones twos : List Feature) → OwnParts e_one e_two ones twos → Splits (W e_one) (W e_two) (W (e_one ++ e_two)) ones twos) → report_in [] [] ≡ nothing
+      → (genome : Handed) (shards : List Shard) → AreShards genome shards → ShardsAddUp command genome shards
+  shards_add splits empty genome shards are =
+      own_add (λ s. s.entries) (λ s. said_records s.text) (λ ss. AreOfLines (shard_texts ss)) (λ ss. record { genome = genome; entries = all_entries ss; text = joined (shard_texts ss) }) (λ s. report_in s.entries s.text)
+      (λ s ss lines. lines.1) (λ P ss lines h. joined_all P (shard_texts ss) lines (all_map _ _ ss h)) empty (λ s. ap₂ report_in (append-nil s.entries) (append-nil s.text))
+      (λ s t ss lines distinct one two.
+      let later = all_entries (t ∷ ss) in
+      let rest = joined (shard_texts (t ∷ ss)) in
+      both_reports s.entries later s.text rest lines.0 distinct one two (splits s.entries later (items_in (good_of s.entries s.text)) (items_in (good_of later rest)) (own s.entries later s.text rest lines.0 distinct one two)))
+      (λ s. on_text command (Some s.genome) s.text) (on_text command (Some genome) (joined (shard_texts shards))) shards (all_so _ _ shards (λ s has. text_report s.genome s.entries s.text has) are.parts)
+      (text_report genome (all_entries shards) (joined (shard_texts shards)) are.whole) (distinct_in genome (all_entries shards) are.whole) are.lines are.within
 
 pub complement_parts : complement_divides
 unfolding lines_from good_from complement
-complement_parts limit = shards_add (λ entries. complement_written entries limit) (Complement limit)
-    (λ entries text. ap (good_report (complement_written entries limit)) (good_whole (bed_format (sorting_of (rank_order (genome_names entries)))) First text))
-    (gaps_split limit) refl
+complement_parts limit = shards_add (λ entries. complement_written entries limit) (Complement limit) (λ entries first. refl) (gaps_split limit) refl
 
 pub genomecov_parts : genomecov_divides
 unfolding lines_from good_from coverage
-genomecov_parts zeros strand = shards_add (λ entries. coverage_written entries zeros strand) (Coverage zeros strand)
-    (λ entries text. ap (good_report (coverage_written entries zeros strand)) (good_whole (bed_format (sorting_of (rank_order (genome_names entries)))) First text))
-    (depths_split zeros strand) refl
+genomecov_parts zeros strand = shards_add (λ entries. coverage_written entries zeros strand) (Coverage zeros strand) (λ entries first. refl) (depths_split zeros strand) refl
 
 merge_nothing : (d : ℕ) (strand : MergeStrand) → good_report (merge_written (rank_order []) d strand) (good (bed_format (sorting_of (rank_order []))) First (text_lines [])) ≡ nothing
 unfolding lines_from good_from ordered_runs merged strand_runs
 merge_nothing d strand = grind arith
 
 pub merge_genome_parts : merge_genomes_divide
-merge_genome_parts d strand = shards_add (λ entries. merge_written (rank_order (genome_names entries)) d strand) (Merge d strand)
-    (λ entries text. ap (good_report (merge_written (rank_order (genome_names entries)) d strand)) (good_whole (bed_format (sorting_of (rank_order (genome_names entries)))) First text))
-    (merge_own d strand) (merge_nothing d strand)
+merge_genome_parts d strand = shards_add (λ entries. merge_written (rank_order (genome_names entries)) d strand) (Merge d strand) (λ entries first. refl) (merge_own d strand) (merge_nothing d strand)

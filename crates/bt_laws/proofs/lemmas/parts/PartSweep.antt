@@ -15,7 +15,7 @@ use Rattle.bt_sweep.specs.declared.output.shape.Shape.{Shape}
 use Rattle.bt_laws.specs.Parts.{unless_fault}
 use Rattle.bt_tool.specs.model.Written.{Report, met_report}
 use Rattle.bt_laws.proofs.lemmas.parts.PartBed.{Earlier}
-use Rattle.bt_runs.proofs.lemmas.Lists.{all_any, all_so, all_swapped, filter_none, flat_map_same}
+use Rattle.bt_runs.proofs.lemmas.Lists.{all_any, all_so, all_swapped, filter_none, flat_map_same, none_from}
 use Rattle.bt_laws.proofs.lemmas.parts.PartReports.{Adds, Stops, Contiguous, Joins}
 
 -- ---- lists up to the first that fails a test
@@ -25,11 +25,11 @@ take_none t xs h = grind arith
 
 take_before : {A : Type 0} (t : A → Bool) (xs ys : List A) → AllByRecursion (λ y. t y ≡ false) ys → take_while t (xs ++ ys) ≡ take_while t xs
 take_before t [] ys h = take_none t ys h
-take_before t (x ∷ xs) ys h = take_while-cons t x (xs ++ ys) ∙ ap (λ l. cond (t x) (x ∷ l) []) (take_before t xs ys h) ∙ sym (take_while-cons t x xs)
+take_before t (x ∷ xs) ys h = grind (arith, (take_while-cons t x (xs ++ ys)), cond, (take_before t xs ys h), (take_while-cons t x xs))
 
 pub take_same : {A : Type 0} (t u : A → Bool) (xs : List A) → AllByRecursion (λ x. t x ≡ u x) xs → take_while t xs ≡ take_while u xs
 take_same t u [] h = refl
-take_same t u (x ∷ xs) h = take_while-cons t x xs ∙ ap₂ (λ b l. cond b (x ∷ l) []) h.0 (take_same t u xs h.1) ∙ sym (take_while-cons u x xs)
+take_same t u (x ∷ xs) h = grind (arith, (take_while-cons t x xs), cond, (take_same t u xs h.1), (take_while-cons u x xs))
 
 front_by : {A : Type 0} (l : A → List ℕ) (x : A) (xs kept : List A) (b : Bool) → (rest : List ℕ) × (flat_map l xs ≡ flat_map l kept ++ rest) → (rest : List ℕ) × (flat_map l (x ∷ xs) ≡ flat_map l (cond b (x ∷ kept) []) ++ rest)
 front_by l x xs kept true more = (more.0, ap (λ r. l x ++ r) more.1 ∙ sym (append_assoc (l x) (flat_map l kept) more.0))
@@ -37,15 +37,11 @@ front_by l x xs kept false more = (flat_map l (x ∷ xs), refl)
 
 pub take_front : {A : Type 0} (t : A → Bool) (l : A → List ℕ) (xs : List A) → (rest : List ℕ) × (flat_map l xs ≡ flat_map l (take_while t xs) ++ rest)
 take_front t l [] = ([], refl)
-take_front t l (x ∷ xs) = let more = front_by l x xs (take_while t xs) (t x) (take_front t l xs) in (more.0, more.1 ∙ ap (λ k. flat_map l k ++ more.0) (sym (take_while-cons t x xs)))
+take_front t l (x ∷ xs) = grind (arith, (front_by l x xs (take_while t xs) (t x) (take_front t l xs)), (take_while t xs), (take_front t l xs), (take_while-cons t x xs))
 
 pub all_true : {A : Type 0} (t : A → Bool) (xs : List A) → AllByRecursion (λ x. t x ≡ true) xs → list_all t xs ≡ true
 all_true t [] h = refl
 all_true t (x ∷ xs) h = ap (λ b. b && list_all t xs) h.0 ∙ all_true t xs h.1
-
-pub any_false : {A : Type 0} (t : A → Bool) (xs : List A) → AllByRecursion (λ x. t x ≡ false) xs → list_any t xs ≡ false
-any_false t [] h = refl
-any_false t (x ∷ xs) h = ap (λ b. b || list_any t xs) h.0 ∙ any_false t xs h.1
 
 pub any_behind : {A : Type 0} (t : A → Bool) (xs ys : List A) → AllByRecursion (λ x. t x ≡ false) xs → list_any t (xs ++ ys) ≡ list_any t ys
 any_behind t [] ys h = refl
@@ -134,16 +130,11 @@ module _ {order : Order} {total : IsTotal order} (shape : Shape) (rule : HitRule
   -- if the second input of the first part is at fault, nothing after it is written
   module _ (f : FaultValue) (fa1 fa2 fa fb2 fb : Option FaultValue) (all bs : List Feature) (ja : Contiguous fa1 fa2 fa aones atwos all) (jb : Contiguous (Some f) fb2 fb bones btwos bs) where
     written_one : (fa1 : Option FaultValue) → Contiguous fa1 fa2 fa aones atwos all → written (sweep_rule order shape rule bones (Some f)) all ≡ written (sweep_rule order shape rule bones (Some f)) aones
-    written_one None j = grind (arith, (written_before (sweep_rule order shape rule bones (Some f)) aones atwos (all_so _ _ atwos (λ a h. any_false (decides order a) bones h) none_second)))
+    written_one None j = grind (arith, (written_before (sweep_rule order shape rule bones (Some f)) aones atwos (all_so _ _ atwos (λ a h. none_from (decides order a) bones h) none_second)))
     written_one (Some g) j = ap (written (sweep_rule order shape rule bones (Some f))) j.0
 
     stops_second : Stops (sweep_report order shape rule aones fa1 bones (Some f)) (sweep_report order shape rule atwos fa2 btwos fb2) (sweep_report order shape rule all fa bs fb)
-    stops_second =
-        let whole = sweep_report order shape rule all fa bs fb in (
-          [],
-          ap (λ l. (sweep_report order shape rule aones fa1 bones (Some f)).output ++ l) (grind arith)
-              ∙ ap (λ l. l ++ []) (met_lines (sweep_rule order shape rule bones (Some f)) aones fa1 ∙ sym (written_one fa1 ja) ∙ sym (grind arith) ∙ sym (met_lines (sweep_rule order shape rule bs fb) all fa)),
-        )
+    stops_second = grind (arith, (met_lines (sweep_rule order shape rule bones (Some f)) aones fa1), (written_one fa1 ja), (met_lines (sweep_rule order shape rule bs fb) all fa))
 
   module _ (fa1 fa2 fa fb2 fb : Option FaultValue) (all bs : List Feature) (ja : Contiguous fa1 fa2 fa aones atwos all) (jb : Contiguous None fb2 fb bones btwos bs) where
     abbrev Rule-of-both : Rule Feature ℕ FaultValue
@@ -159,7 +150,7 @@ module _ {order : Order} {total : IsTotal order} (shape : Shape) (rule : HitRule
     first_lines = grind (arith, flat_map_same, all_so, lines_first, lines_none)
 
     front : (rest : List ℕ) × (first_report.output ≡ written Rule-of-both aones ++ rest)
-    front = let some = take_front Rule-of-both.decided Rule-of-both.lines aones in (some.0, (grind (arith, flat_map_same, all_so, lines_first, lines_none)) ∙ some.1)
+    front = grind (arith, (take_front Rule-of-both.decided Rule-of-both.lines aones), flat_map_same, all_so, lines_first, lines_none)
 
     second_same : written Rule-of-both atwos ≡ written (sweep_rule order shape rule btwos fb2) atwos
     second_same = written_same Rule-of-both (sweep_rule order shape rule btwos fb2) atwos (each atwos none_second split.apart_second)

@@ -1,5 +1,5 @@
 -- The reports of bamtobed, merge, intersect and subtract on two concatenated texts, and on any number.
-use Rattle.bt_lines.proofs.Std.{common_steps, rules, arith, ◌≡◌, ℕ, Bool, List, [], ◌∷◌, ◌++◌, append-nil, Option, Some, None, refl, sym, ap, ◌∙◌, map, Ok, ap₂, flat_map-append, IsTrue, AllByRecursion, ◌⊎◌, append_assoc, inl, inr, subst, flat_map, flat_map-map}
+use Rattle.bt_lines.proofs.Std.{common_steps, rules, arith, ◌≡◌, ℕ, Bool, List, [], ◌∷◌, ◌++◌, append-nil, Option, Some, None, refl, sym, ap, ◌∙◌, map, Ok, ap₂, flat_map-append, IsTrue, AllByRecursion, ◌⊎◌, append_assoc, inl, subst, flat_map, flat_map-map, inr}
 use Rattle.bt_lines.specs.model.Lines.{lines_from, text_lines, Handed}
 use Rattle.bt_lines.specs.declared.fault.Input.TheVariants.{First, Second}
 use Rattle.bt_bed.specs.model.Good.{Good, good, good_from, items_in, bed_format}
@@ -47,7 +47,7 @@ module _ (split cigar : Bool) where
   lines_split ones twos = grind (arith, flat_map-append, append-nil)
 
   sam_joint : (one two : List ℕ) → StandsBefore one two → IsJoint (good sam_format First (text_lines one)) (good sam_format First (text_lines two)) (good sam_format First (text_lines (one ++ two)))
-  sam_joint one two ends = good_joint sam_format First (λ state. Unit {0}) one two ends (λ state l m e d. ap alignment_of e) tt (λ n now leads. refl) (all_any _ (text_lines one) (λ l state item leads e. tt))
+  sam_joint one two ends = good_joint sam_format First one two ends (λ state l m e d. ap alignment_of e) (λ n. refl)
 
   sam_joins : (one two : List ℕ) → StandsBefore one two → Joins (on_sam one) (on_sam two) (on_sam (one ++ two))
   unfolding on_sam
@@ -104,7 +104,7 @@ module _ (order : Order) (total : IsTotal order) where
   pair_report shape rule first second = sweep_report order shape rule (text_records First first) (bed_text_good First first).fault (text_records Second second) (bed_text_good Second second).fault
 
   known_all : (input : Input) (text : List ℕ) → AllByRecursion (λ r. IsTrue (order.knows r.chrom)) (text_records input text)
-  known_all input text = items_all order total input (λ r. IsTrue (order.knows r.chrom)) None (text_lines text) (all_any _ _ (λ r known. known))
+  known_all input text = items_all (sorting_of order) input (λ r. IsTrue (order.knows r.chrom)) None (text_lines text) (all_any _ _ (λ r known. known))
 
   module _ (shape : Shape) (rule : HitRule) (a_one b_one a_two b_two : List ℕ) (a_ends : StandsBefore a_one a_two) (b_ends : StandsBefore b_one b_two)
       (before : ComeBefore order (said_records a_one ++ said_records b_one) (said_records a_two ++ said_records b_two)) where
@@ -227,7 +227,7 @@ module _ (how : MaskHow) (full : Bool) where
       by_first (byte ∷ bytes) e more = e
 
   are_two : (t u : Texts) (ts : List Texts) → AreMasked (t ∷ u ∷ ts) → AreTwo how full t (joined_texts (u ∷ ts))
-  are_two t u ts fit = record { first = fit.lines.0.0; second = fit.lines.1.0; begins = begins_joined (u ∷ ts) fit.headers }
+  are_two t u ts fit = grind (arith, (begins_joined (u ∷ ts) fit.headers))
 
   -- ---- names of one part alone
 
@@ -289,7 +289,7 @@ module _ (how : MaskHow) (full : Bool) where
   suffice_all : (parts : List Texts) → CutFit parts → AllByRecursion (λ part. (T part).fault ≡ None) parts
       → ((T (joined_texts parts)).fault ≡ None) × ((T (joined_texts parts)).output ≡ flat_map (λ part. (T part).output) parts)
   suffice_all [] cut all = (ap (λ (r : Report). r.fault) empty, ap (λ (r : Report). r.output) empty)
-  suffice_all (t ∷ []) cut all = (ap (λ (r : Report). r.fault) (alone t) ∙ all.0, ap (λ (r : Report). r.output) (alone t) ∙ sym (append-nil (T t).output))
+  suffice_all (t ∷ []) cut all = grind (arith, (alone t), append-nil)
   suffice_all (t ∷ u ∷ ts) cut all =
       let more = suffice_all (u ∷ ts) (record { fit = grind arith; none = cut.none.1 }) all.1 in
       grind (arith, (two_suffice how full t (joined_texts (u ∷ ts)) (are_two t u ts cut.fit) cut.none.0 all.0 more.0))

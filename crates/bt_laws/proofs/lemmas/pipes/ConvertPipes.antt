@@ -1,27 +1,28 @@
 -- The lines of alignments that are sorted are an input.
-use Rattle.bt_lines.proofs.Std.{common_steps, rules, ◌≡◌, ℕ, ◌<◌, ◌≤◌, Bool, true, false, cond, List, [], ◌∷◌, ◌++◌, append-nil, append_assoc, map, filter, length, Option, Some, None, Result, Ok, refl, sym, ap, ◌∙◌, subst, arith, eqb, decimal, codes, if◌then◌else◌, AllByRecursion, join_with_byte, ends_with_byte, strip_last, All-append, All-cons, All-from_recursion, All-nil, join_with_byte-slice_split, suc, ap₂, flat_map, get_or-append-add, length-append}
+use Rattle.bt_lines.proofs.Std.{common_steps, rules, ◌≡◌, ℕ, ◌<◌, ◌≤◌, Bool, true, false, cond, List, [], ◌∷◌, ◌++◌, append-nil, append_assoc, map, filter, length, Option, Some, None, Ok, refl, sym, ap, ◌∙◌, subst, arith, eqb, decimal, codes, if◌then◌else◌, AllByRecursion, join_with_byte, ends_with_byte, strip_last, All-append, All-from_recursion, join_with_byte-slice_split, suc, flat_map, get_or-append-add, length-append}
 use Rattle.std.specs.Prelude.{option_and_then}
 use Rattle.bt_lines.specs.model.Lines.{lines_handed, TextLine, pieces, end_bytes, fed_line, last_line, lines_from}
 use Rattle.bt_lines.specs.calls.Line.{NoLineFeed}
 use Rattle.bt_lines.specs.declared.fault.Input.{Input}
 use Rattle.bt_lines.specs.declared.fault.Input.TheVariants.{First}
-use Rattle.bt_lines.specs.declared.fault.Kind.{Kind}
 use Rattle.bt_lines.proofs.lemmas.reader.lines.TextLemmas.{IsColumn, IsInside, strip_last-other, lines_from-fed, lines_from-last, lines_from-nil, by_lines}
-use Rattle.bt_bed.specs.model.Good.{Good, good_from, good_with, items_in}
+use Rattle.bt_bed.specs.model.Good.{Good, good_from, items_in}
 use Rattle.bt_bed.specs.model.BedLine.{kept_columns, strand_of}
 use Rattle.bt_bed.specs.calls.Features.{IsName, columns_in}
 use Rattle.bt_bed.specs.declared.record.strand.Strand.TheVariants.{Plus, Minus}
 use Rattle.bt_bed.proofs.lemmas.parse.FeatureLemmas.{kept_is_cut, pieces_are_columns}
 use Rattle.bt_seq.specs.model.Alignment.{Alignment, Fields, alignment_of, columns_say, fields_of, fields_say, value_up_to, bed_lines, read_name, strand_sign, length_of, operations_in, each_operation, parts_of, sam_format}
 use Rattle.bt_tool.specs.model.Written.{alignment_lines}
-use Rattle.bt_tool.specs.model.Report.{Inputs, chromosomes_of, report_of, report_on}
+use Rattle.bt_tool.specs.model.Report.{Inputs, report_of}
 use Rattle.bt_tool.specs.declared.planning.plan_type.Command.TheVariants.{BamToBed}
 use Rattle.bt_laws.specs.Pipes.{aligned_at, aligned_record, alignments_of, bamtobed_is_input, IsInput, is_no_header}
-use Rattle.bt_laws.proofs.lemmas.pipes.LinesBack.{AreClear, clear_back, clear_both, clear_front, clear_tab, clear_number, number_column, Columns, IsColumns, record_back, text_of_columns, written_back, ends_both, strip_both, clear_handed, clear_strip}
+use Rattle.bt_laws.proofs.lemmas.pipes.LinesBack.{clear_back, clear_both, clear_front, clear_tab, clear_number, Columns, IsColumns, record_back, text_of_columns, written_back, ends_both, strip_both, clear_handed, clear_strip}
 use Rattle.bt_runs.proofs.lemmas.Lists.{all_so}
 use Rattle.bt_lines.specs.declared.reader.line.LineEnd.{LineEnd}
 use Rattle.bt_lines.specs.declared.reader.line.LineEnd.TheVariants.{Absent, Cr, CrLf, Lf}
 use Rattle.bt_seq.specs.model.Masked.{Reached, SequenceLine, is_header, sequence_format}
+use Rattle.bt_laws.proofs.lemmas.parts.PartLines.{items_so}
+use Rattle.bt_laws.proofs.lemmas.single.Records.{number_column}
 
 -- ---- columns of a text
 
@@ -92,15 +93,6 @@ unfolding alignment_of
 line_aligned text a clear e =
     said_by (fields_of (pieces 9 text)) a (λ f is. fields_columns (pieces 9 text) f (pieces_are_columns text) (clear_columns text clear) is) (grind arith)
 
-aligned_with : (input : Input) (n : ℕ) (text : List ℕ) (said : Result (Option Alignment) Kind) (rest : Unit {0} → Good Alignment) → NoLineFeed text → alignment_of text ≡ said
-    → AllByRecursion IsAligned (items_in (rest tt)) → AllByRecursion IsAligned (items_in (good_with sam_format input n tt said rest))
-aligned_with input n text said rest clear e h = grind (arith, line_aligned)
-
-aligned_lines : (input : Input) (lines : List TextLine) → AreClear lines → AllByRecursion IsAligned (items_in (good_from sam_format input tt lines))
-unfolding good_from
-aligned_lines input [] clear = tt
-aligned_lines input (line ∷ lines) clear = aligned_with input line.number line.text (alignment_of line.text) (λ now. good_from sam_format input now lines) clear.0 refl (aligned_lines input lines clear.1)
-
 -- ---- its line
 
 cigar_tail : Bool → Alignment → List ℕ
@@ -121,7 +113,7 @@ clear_if : (b : Bool) (text : List ℕ) → NoLineFeed text → NoLineFeed (if b
 clear_if b text h = grind arith
 
 clear_segment : (number : ℕ) → eqb number 10 ≡ false → NoLineFeed (47 ∷ number ∷ [])
-clear_segment number e = All-cons (λ c. eqb c 10 ≡ false) 47 (number ∷ []) refl (All-cons (λ c. eqb c 10 ≡ false) number [] e (All-nil (λ c. eqb c 10 ≡ false)))
+clear_segment number e = grind (arith, eqb)
 
 clear_read : (a : Alignment) → NoLineFeed a.name → NoLineFeed (read_name a)
 clear_read a h = clear_both a.name _ h (clear_both _ _ (grind arith) (clear_if a.last (codes "/2") (clear_segment 50 refl)))
@@ -131,18 +123,7 @@ unfolding cigar_tail
 clear_cigar_tail cigar a h = grind arith
 
 columns_aligned : (cigar : Bool) (a : Alignment) → IsAligned a → IsColumns (aligned_columns cigar a)
-columns_aligned cigar a is = record {
-  named = is.named;
-  clear = is.clear_chrom;
-  below = is.below;
-  small = is.small;
-  kept = refl;
-  clear_tail = clear_tab (read_name a ++ 9 ∷ (decimal a.quality ++ 9 ∷ (strand_sign a.reverse ++ cigar_tail cigar a)))
-      (clear_both (read_name a) (9 ∷ (decimal a.quality ++ 9 ∷ (strand_sign a.reverse ++ cigar_tail cigar a))) (clear_read a is.clear_name)
-      (clear_tab (decimal a.quality ++ 9 ∷ (strand_sign a.reverse ++ cigar_tail cigar a))
-      (clear_both (decimal a.quality) (9 ∷ (strand_sign a.reverse ++ cigar_tail cigar a)) (clear_number a.quality)
-      (clear_tab (strand_sign a.reverse ++ cigar_tail cigar a) (clear_both (strand_sign a.reverse) (cigar_tail cigar a) (grind arith) (clear_cigar_tail cigar a is.clear_cigar))))));
-}
+columns_aligned cigar a is = grind (arith, clear_tab, (decimal a.quality), clear_both, (clear_read a is.clear_name), (clear_number a.quality), (clear_cigar_tail cigar a is.clear_cigar))
 
 -- ---- the record that is read of it
 
@@ -183,13 +164,13 @@ record_is cigar a is = grind (arith, tail_plain, tail_kept, strand_is)
 
 output_is : (inputs : Inputs) (cigar : Bool) → inputs.genome ≡ None → (report_of (BamToBed false cigar) inputs).output ≡ alignment_lines false cigar (alignments_of inputs)
 unfolding report_of
-output_is inputs cigar none = ap (λ g. (report_on (BamToBed false cigar) (chromosomes_of g) inputs.first inputs.second).output) none ∙ (grind arith)
+output_is inputs cigar none = grind arith
 
 pub bamtobed_input : bamtobed_is_input
 unfolding report_of
 bamtobed_input cigar inputs order total none placed =
     let all = alignments_of inputs in
-    let aligned = aligned_lines First (lines_handed inputs.first) (clear_handed inputs.first) in
+    let aligned = items_so sam_format First IsAligned tt (lines_handed inputs.first) (all_so _ _ (lines_handed inputs.first) (λ line clear now a e. line_aligned line.text a clear e) (clear_handed inputs.first)) in
     subst (λ text. IsInput order text (filter is_no_header (map (aligned_record cigar) all))) (sym (output_is inputs cigar none))
     (written_back order total (bed_lines false cigar) (aligned_columns cigar) (aligned_record cigar) all (line_as cigar) (all_so _ _ all (record_is cigar) aligned) (all_so _ _ all (columns_aligned cigar) aligned) placed)
 
@@ -212,7 +193,7 @@ pub record Stands (old new : List ℕ) : Type 0 where
 -- ---- line ends
 
 clear_return : (text : List ℕ) → NoLineFeed text → NoLineFeed (text ++ 13 ∷ [])
-clear_return text h = clear_both text (13 ∷ []) h (All-cons (λ b. eqb b 10 ≡ false) 13 [] refl (All-nil (λ b. eqb b 10 ≡ false)))
+clear_return text h = grind (arith, clear_both, eqb)
 
 stripped : (text : List ℕ) → strip_last 13 (text ++ 13 ∷ []) ≡ text
 stripped text = strip_both 13 text (13 ∷ []) (omega arith) ∙ append-nil text
@@ -224,10 +205,7 @@ abbrev line_at : ℕ → List ℕ → LineEnd → TextLine
 line_at number text ending = record { number = number; text = text; ending = ending }
 
 fed_by : (m : ℕ) (new rest : List ℕ) (b : Bool) → NoLineFeed new → (b ≡ false → ends_with_byte 13 new ≡ false) → lines_from m ((new ++ end_bytes (cond b CrLf Lf)) ++ rest) ≡ line_at m new (cond b CrLf Lf) ∷ lines_from (suc m) rest
-fed_by m new rest true clear last =
-    ap (lines_from m) (append_assoc new (13 ∷ 10 ∷ []) rest ∙ sym (append_assoc new (13 ∷ []) (10 ∷ rest)))
-    ∙ lines_from-fed m (new ++ 13 ∷ []) rest (clear_return new clear)
-    ∙ ap₂ (λ t (e : Bool). record { number = m; text = t; ending = if e then CrLf else Lf } ∷ lines_from (suc m) rest) (stripped new) (returned new)
+fed_by m new rest true clear last = grind (arith, (append_assoc new (13 ∷ 10 ∷ []) rest), (append_assoc new (13 ∷ []) (10 ∷ rest)), (lines_from-fed m (new ++ 13 ∷ []) rest (clear_return new clear)), (clear_return new clear), (suc m), (stripped new), (returned new))
 fed_by m new rest false clear last = grind (arith, append_assoc, lines_from-fed)
 
 last_some : (m : ℕ) (bytes : List ℕ) → 0 < length bytes → last_line m bytes ≡ record { number = m; text = strip_last 13 bytes; ending = if ends_with_byte 13 bytes then Cr else Absent } ∷ []
@@ -261,7 +239,7 @@ module _ (full : Bool) (input : Input) (f : SequenceLine → List ℕ) (safe : (
 
   none_again : (m : ℕ) (reached : Reached) → IsAgain [] (goods reached (lines_from m []))
   unfolding good_from
-  none_again m reached = subst (λ ls. IsAgain [] (goods reached ls)) (sym (lines_from-nil m)) (record { items = refl; faultless = refl })
+  none_again m reached = grind (arith, (lines_from-nil m))
 
   one_again : (n m : ℕ) (byte : ℕ) (bytes : List ℕ) (reached : Reached) → NoLineFeed (byte ∷ bytes) → (goods reached (last_line n (byte ∷ bytes))).fault ≡ None
       → ReadAgain m reached (last_line n (byte ∷ bytes))

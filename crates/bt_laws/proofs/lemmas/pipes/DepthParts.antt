@@ -1,15 +1,14 @@
 -- The intervals of depth 0, and the others.
-use Rattle.bt_lines.proofs.Std.{◌≡◌, ℕ, ◌<◌, Bool, true, false, cond, List, [], ◌∷◌, ◌++◌, map, filter, Option, Some, None, refl, sym, ap, ap₂, ◌∙◌, subst, inl, inr, arith, eqb, flat_map, nat_lt, cases_Bool, lt-ltb, ltb-true, filter-append}
+use Rattle.bt_lines.proofs.Std.{◌≡◌, ℕ, ◌<◌, Bool, true, false, cond, List, [], ◌∷◌, map, filter, Option, Some, None, refl, sym, ap, ◌∙◌, arith, eqb, flat_map, nat_lt, lt-ltb, ltb-true, filter-append}
 use Rattle.bt_lines.specs.declared.fault.Input.TheVariants.{First}
 use Rattle.bt_bed.specs.model.Feature.{Feature, Span}
 use Rattle.bt_bed.specs.model.Genome.{Entry}
 use Rattle.bt_bed.specs.model.Good.{items_in, bed_good}
 use Rattle.bt_bed.specs.declared.record.strand.Strand.{Strand}
-use Rattle.bt_bed.specs.model.Levels.{AreDisjointFrom, DiffersFromNext, HasValue, Level}
+use Rattle.bt_bed.specs.model.Levels.{HasValue, Level}
 use Rattle.bt_laws.specs.Runs.{interval_at}
 use Rattle.bt_runs.specs.model.Depth.{DepthInterval, counted_on, coverage, depth_lines, depth_of, depth_on, depths_on, levels_of}
-use Rattle.bt_bed.proofs.lemmas.LevelScans.{looser}
-use Rattle.bt_laws.proofs.lemmas.single.LevelLemmas.{gaps_depth_0, are_levels, only_levels}
+use Rattle.bt_laws.proofs.lemmas.single.LevelLemmas.{gaps_depth_0, are_levels, only_levels, some_value, value_some, some_disjoint}
 use Rattle.bt_tool.specs.model.Report.{entries_in, order_of}
 use Rattle.bt_tool.specs.model.Written.{complement_written, coverage_written}
 use Rattle.bt_tool.specs.declared.planning.plan_type.Command.TheVariants.{Complement, Coverage}
@@ -18,39 +17,16 @@ use Rattle.bt_laws.specs.Same.{bg_is_bga_above_0, depth_0_is_complement, without
 use Rattle.bt_laws.proofs.lemmas.pipes.PipeLaws.{complement_whole, genomecov_whole}
 use Rattle.bt_laws.proofs.lemmas.same.SameRuns.{fault_as, told_same}
 
--- ---- some of the levels
-
-module _ (t : Level → Bool) where
-  -- what starts past a level doesn't touch it
-  differs_far : (l : Level) (first : ℕ) (ms : List Level) → l.stop < first → AreDisjointFrom first ms → DiffersFromNext l (filter t ms)
-  differs_far l first [] far d = tt
-  differs_far l first (m ∷ ms) far d = grind (arith, (differs_far l m.stop ms (omega (arith, far, d.0, d.1)) d.3))
-
-  differs_some : (l : Level) (ms : List Level) → DiffersFromNext l ms → AreDisjointFrom l.stop ms → DiffersFromNext l (filter t ms)
-  differs_some l [] differs d = tt
-  differs_some l (m ∷ ms) differs d = grind (arith, (differs_far l m.stop ms (omega (arith, d.0, d.1)) d.3))
-
-  some_disjoint : (first : ℕ) (ls : List Level) → AreDisjointFrom first ls → AreDisjointFrom first (filter t ls)
-  some_disjoint first [] d = tt
-  some_disjoint first (l ∷ ls) d = grind (arith, (some_disjoint l.stop ls d.3), differs_some, looser)
+-- ---- levels above 0
 
 abbrev is_deep : Level → Bool
 is_deep l = nat_lt 0 l.value
 
-deep_here : (l : Level) (ls : List Level) (p v : ℕ) → 0 < l.value → HasValue (l ∷ filter is_deep ls) p v → (HasValue (filter is_deep ls) p v → HasValue ls p v × (0 < v)) → HasValue (l ∷ ls) p v × (0 < v)
-deep_here l ls p v some p1 more = grind arith
-
 deep_value : (ls : List Level) (p v : ℕ) → HasValue (filter is_deep ls) p v → HasValue ls p v × (0 < v)
-deep_value [] p v h = absurd h
-deep_value (l ∷ ls) p v h = elim (cases_Bool (nat_lt 0 l.value)) [
-  | inl t ↦ deep_here l ls p v (ltb-true 0 l.value t) (subst (λ b. HasValue (cond b (l ∷ filter is_deep ls) (filter is_deep ls)) p v) t h) (deep_value ls p v)
-  | inr f ↦ let more = deep_value ls p v (subst (λ b. HasValue (cond b (l ∷ filter is_deep ls) (filter is_deep ls)) p v) f h) in (inr more.0, more.1)
-]
+deep_value ls p v h = let some = some_value (nat_lt 0) ls p v h in (some.0, ltb-true 0 v some.1)
 
 value_deep : (ls : List Level) (p v : ℕ) → 0 < v → HasValue ls p v → HasValue (filter is_deep ls) p v
-value_deep [] p v some h = absurd h
-value_deep (l ∷ ls) p v some (inl here) = subst (λ b. HasValue (cond b (l ∷ filter is_deep ls) (filter is_deep ls)) p v) (sym (lt-ltb 0 l.value (omega (arith, some, here.2)))) (inl here)
-value_deep (l ∷ ls) p v some (inr there) = grind (arith, (value_deep ls p v some there))
+value_deep ls p v some h = value_some (nat_lt 0) ls p v (lt-ltb 0 v some) h
 
 pub shown : (d v : ℕ) → cond (nat_lt 0 d) (Some d) None ≡ Some v → (d ≡ v) × (0 < v)
 shown d v e = grind arith
@@ -60,7 +36,7 @@ module _ (spans : List Span) (size : ℕ) where
   unfolding depth_of
   deep_levels =
       let all = are_levels (depth_of true spans) size in
-      grind (arith, only_levels, (some_disjoint is_deep 0 (levels_of (depth_of true spans) size) all.disjoint), deep_value, value_deep)
+      grind (arith, only_levels, (some_disjoint (nat_lt 0) 0 (levels_of (depth_of true spans) size) all.disjoint), deep_value, value_deep)
 
 map_filter : (name : List ℕ) (ls : List Level) → map (depth_on name) (filter is_deep ls) ≡ filter (λ (r : DepthInterval). nat_lt 0 r.depth) (map (depth_on name) ls)
 map_filter name [] = refl
@@ -68,9 +44,7 @@ map_filter name (l ∷ ls) = grind (arith, (map_filter name ls))
 
 deep_all : (strand : Option Strand) (records : List Feature) (entries : List Entry) → flat_map (depths_on false strand records) entries ≡ filter (λ (r : DepthInterval). nat_lt 0 r.depth) (flat_map (depths_on true strand records) entries)
 deep_all strand records [] = refl
-deep_all strand records (e ∷ es) =
-    ap₂ (λ a b. a ++ b) (ap (map (depth_on e.name)) (deep_levels (counted_on strand e.name records) e.length) ∙ map_filter e.name (levels_of (depth_of true (counted_on strand e.name records)) e.length)) (deep_all strand records es)
-    ∙ sym (filter-append (λ (r : DepthInterval). nat_lt 0 r.depth) (depths_on true strand records e) (flat_map (depths_on true strand records) es))
+deep_all strand records (e ∷ es) = grind (arith, (deep_levels (counted_on strand e.name records) e.length), (map_filter e.name (levels_of (depth_of true (counted_on strand e.name records)) e.length)), (deep_all strand records es), filter-append, nat_lt)
 
 pub deep_coverage : (strand : Option Strand) (entries : List Entry) (records : List Feature) → coverage false strand entries records ≡ filter (λ (r : DepthInterval). nat_lt 0 r.depth) (coverage true strand entries records)
 unfolding coverage

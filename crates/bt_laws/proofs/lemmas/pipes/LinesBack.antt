@@ -1,18 +1,17 @@
 -- Lines and numbers have no line feed.
-use Rattle.bt_lines.proofs.Std.{common_steps, rules, ◌≡◌, ℕ, Bool, true, false, List, [], ◌∷◌, ◌++◌, refl, sym, subst, eqb, zero, suc, ◌+◌, ◌/◌, ◌%◌, ◌<◌, ◌≤◌, cond, arith, decimal, AllByRecursion, ends_with_byte, strip_last, All-append, All-cons, All-head, All-tail, All-nil, All-from_recursion, digit_glyph, digits_onto, lt-ltb, ◌||◌, length, Option, Some, None, Ok, ap, ◌∙◌, append_assoc, append-nil, IsTrue, ◌==◌, codes, decimal_is_IsNumeral, get_or-append-add, length-append, Err, map, filter, flat_map, flat_map-map, Result, join_with_byte, join_with_byte-slice_split}
+use Rattle.bt_lines.proofs.Std.{common_steps, rules, ◌≡◌, ℕ, Bool, true, false, List, [], ◌∷◌, ◌++◌, refl, sym, subst, eqb, suc, ◌<◌, ◌≤◌, cond, arith, decimal, AllByRecursion, ends_with_byte, strip_last, All-append, All-cons, All-head, All-tail, All-nil, ◌||◌, length, Option, Some, None, Ok, ap, ◌∙◌, append_assoc, append-nil, IsTrue, ◌==◌, decimal_is_IsNumeral, get_or-append-add, length-append, Err, map, filter, flat_map, flat_map-map, Result, join_with_byte, join_with_byte-slice_split}
 use Rattle.bt_lines.specs.calls.Line.{NoLineFeed}
 use Rattle.bt_lines.specs.model.Lines.{TextLine, last_line, lines_from, whole_lines_from, fed_line, text_lines, Handed, lines_handed, pieces, value_of}
-use Rattle.bt_lines.proofs.lemmas.reader.lines.TextLemmas.{lines_from-fed, lines_from-last, by_lines, whole_lines_from-fed, whole_lines_from-last, IsColumn, IsInside, lines_from-nil}
-use Rattle.std.specs.Fmt.{digits}
+use Rattle.bt_lines.proofs.lemmas.reader.lines.TextLemmas.{lines_from-fed, lines_from-last, by_lines, whole_lines_from-fed, whole_lines_from-last, lines_from-nil}
 use Rattle.bt_runs.proofs.lemmas.Lists.{all_so, all_any, all_map, map_map, flat_map_same}
 use Rattle.bt_bed.specs.model.Feature.{Feature, interval_of, intervals_of, Interval}
-use Rattle.bt_bed.specs.model.BedLine.{ends_word, first_word, is_header, is_header_word, record_of, strand_of}
+use Rattle.bt_bed.specs.model.BedLine.{is_header, is_header_word, record_of, strand_of}
 use Rattle.bt_bed.specs.calls.Features.{IsName, columns_in, is_kept, IsFeature}
-use Rattle.bt_bed.proofs.lemmas.parse.FeatureLemmas.{header_says, of_word, record_said, said_is_feature, said_stands, pieces_are_columns}
-use Rattle.bt_laws.proofs.lemmas.single.Records.{written_feature}
+use Rattle.bt_bed.proofs.lemmas.parse.FeatureLemmas.{header_says, record_said, said_is_feature, said_stands, pieces_are_columns}
+use Rattle.bt_laws.proofs.lemmas.single.Records.{written_feature, until_tab, IsDigit, decimal_digits, columns_text}
 use Rattle.bt_lines.specs.declared.fault.Input.{Input}
 use Rattle.bt_bed.specs.model.Good.{Good, good, good_from, good_with, items_in, bed_format, line_says, locus_at, said_after, bed_good}
-use Rattle.bt_bed.specs.model.Sorted.{Locus, falls_in, sorting_of, Sorting}
+use Rattle.bt_bed.specs.model.Sorted.{Locus, falls_in, sorting_of}
 use Rattle.bt_bed.specs.calls.Orders.{ArePlaced, IsPlacedBefore, IsTotal}
 use Rattle.bt_bed.specs.model.Order.{Order}
 use Rattle.bt_runs.proofs.lemmas.order.FileOrder.{some_placed}
@@ -21,6 +20,7 @@ use Rattle.bt_lines.specs.model.Fault.{FaultValue}
 use Rattle.bt_lines.specs.declared.fault.Kind.{Kind}
 use Rattle.bt_bed.specs.model.Genome.{Entry, columns_give, entry_from, entry_of, genome_from, genome_handed, genome_with, new_entry}
 use Rattle.bt_bed.proofs.lemmas.Definitions.{line_said}
+use Rattle.bt_laws.proofs.lemmas.parts.PartLines.{items_so}
 
 pub clear_front : (xs ys : List ℕ) → NoLineFeed (xs ++ ys) → NoLineFeed xs
 clear_front [] ys h = All-nil (λ b. eqb b 10 ≡ false)
@@ -59,21 +59,7 @@ clear_whole n bytes = by_lines (λ n bytes. AreClear (whole_lines_from n bytes))
     (λ n piece rest clear is. subst AreClear (sym (whole_lines_from-fed n piece rest clear)) (clear_strip 13 piece clear, is))
     n bytes
 
--- ---- a number's text has digits alone
-
-abbrev pub IsDigit : ℕ → Type 0
-IsDigit c = (48 ≤ c) × (c ≤ 57)
-
-glyph_is_digit : (d : ℕ) → d < 10 → IsDigit (digit_glyph false d)
-glyph_is_digit d below = subst (λ b. IsDigit (cond b (48 + d) (87 + d))) (sym (lt-ltb d 10 below)) (omega arith, omega (arith, below))
-
-onto_digits : (k n : ℕ) (acc : List ℕ) → AllByRecursion IsDigit acc → AllByRecursion IsDigit (digits_onto k 10 false n acc)
-onto_digits zero n acc h = h
-onto_digits (suc k) n acc h = grind (arith, (onto_digits k (n / 10) (digit_glyph false (n % 10) ∷ acc) ((glyph_is_digit (n % 10) (omega arith)), h)))
-
-pub decimal_digits : (n : ℕ) → AllByRecursion IsDigit (decimal n)
-unfolding digits
-decimal_digits n = onto_digits 64 n [] tt
+-- ---- a number
 
 clear_digits : (ds : List ℕ) → AllByRecursion IsDigit ds → NoLineFeed ds
 clear_digits ds h = grind (arith, common_steps)
@@ -95,13 +81,6 @@ strip_number n = strip_none_by (9 ∷ decimal n) (ends_with_byte 13 (9 ∷ decim
 pub strip_decimal : (n : ℕ) → strip_last 13 (decimal n) ≡ decimal n
 strip_decimal n = strip_none_by (decimal n) (ends_with_byte 13 (decimal n)) refl (digits_none (decimal n) (decimal_digits n))
 
-digits_inside : (ds : List ℕ) → AllByRecursion IsDigit ds → AllByRecursion IsInside ds
-digits_inside [] h = tt
-digits_inside (c ∷ cs) h = ((grind arith), digits_inside cs h.1)
-
-pub number_column : (n : ℕ) → IsColumn (decimal n)
-number_column n = All-from_recursion IsInside (decimal n) (digits_inside (decimal n) (decimal_digits n))
-
 -- What a line says that begins with a name and two numbers.
 
 -- ---- a byte at the end
@@ -119,19 +98,11 @@ some_digits n small = (decimal_is_IsNumeral n (omega arith)).0.0
 
 -- ---- the first word
 
-until_tab : (chrom tail : List ℕ) → first_word (chrom ++ 9 ∷ tail) ≡ first_word chrom
-until_tab [] tail = refl
-until_tab (byte ∷ chrom) tail = grind (arith, (of_word byte (chrom ++ 9 ∷ tail) (ends_word byte) refl), (until_tab chrom tail), (of_word byte chrom (ends_word byte) refl))
-
 pub header_of_name : (chrom tail : List ℕ) → 0 < length chrom → is_header (chrom ++ 9 ∷ tail) ≡ is_header chrom
 header_of_name [] tail some = absurd (omega arith)
 header_of_name (byte ∷ chrom) tail some = ap (λ word. (byte == 35) || is_header_word word) (until_tab (byte ∷ chrom) tail)
 
 -- ---- a line
-
--- a name, two numbers, and what follows them
-abbrev pub columns_text : List ℕ → ℕ → ℕ → List ℕ → List ℕ
-columns_text chrom start stop tail = chrom ++ codes "\t" ++ decimal start ++ codes "\t" ++ decimal stop ++ tail
 
 -- the record of these columns
 abbrev pub record_with : List ℕ → ℕ → ℕ → List ℕ → Feature
@@ -210,7 +181,7 @@ module _ (order : Order) (total : IsTotal order) where
       good_written : (n : ℕ) (last : Option Locus) (xs : List X) → AllByRecursion SaysLine xs → Follow last (said_of xs)
           → IsGood (said_of xs) (good_from (bed_format (sorting_of order)) input last (lines_from n (flat_map line_for xs)))
       unfolding good_from line_says
-      good_written n last [] says follow = subst (λ ls. IsGood [] (good_from (bed_format (sorting_of order)) input last ls)) (sym (lines_from-nil n)) (record { items = refl; faultless = refl })
+      good_written n last [] says follow = grind (arith, (lines_from-nil n))
       good_written n last (x ∷ xs) says follow =
           let behind = flat_map line_for xs in
           let lines : lines_from n (line_for x ++ behind) ≡ fed_line n (text x) ∷ lines_from (suc n) behind =
@@ -278,12 +249,7 @@ module _ (order : Order) (total : IsTotal order) where
   pub written_back : {A : Type 0} (line : A → List ℕ) (columns : A → Columns) (back : A → Feature) (items : List A) → ((a : A) → line a ≡ text_of_columns (columns a) ++ 10 ∷ [])
       → AllByRecursion (λ a. record_back (columns a) ≡ back a) items → AllByRecursion (λ a. IsColumns (columns a)) items → ArePlaced order (map (λ a. (columns a).at) items)
       → IsInput order (flat_map line items) (filter is_no_header (map back items))
-  written_back line columns back items as_line as_read are placed =
-      let text : Columns → List ℕ = λ line. text_of_columns line ++ 10 ∷ [] in
-      subst (λ bytes. IsInput order bytes (filter is_no_header (map back items))) (flat_map-map text columns items ∙ sym (flat_map_same line (λ a. text (columns a)) items (all_any _ items as_line)))
-      (subst (λ rs. IsInput order (flat_map text (map columns items)) (filter is_no_header rs)) (map_map columns record_back back items as_read)
-      (lines_back (map columns items) (all_map IsColumns columns items are)
-      (subst (ArePlaced order) (sym (map_map columns (λ line. line.at) (λ a. (columns a).at) items (all_any _ items (λ a. refl)))) placed)))
+  written_back line columns back items as_line as_read are placed = grind (arith, flat_map-map, flat_map_same, (all_any _ items as_line), (map_map columns record_back back items as_read), lines_back, (all_map IsColumns columns items are), map_map, all_any)
 
 -- What is known of each good record of an input, and of each chromosome of a genome file.
 
@@ -307,24 +273,13 @@ line_is_said text r clear e =
       clear_rest = clear_back (r.chrom ++ 9 ∷ stands.0) r.rest (subst NoLineFeed stands.1 clear);
     }
 
-module _ (input : Input) (sorting : Sorting) where
-  said_with : (n : ℕ) (last : Option Locus) (text : List ℕ) (said : Result (Option Feature) Kind) (rest : Option Locus → Good Feature) → NoLineFeed text → line_says sorting last text ≡ said
-      → ((now : Option Locus) → AllByRecursion IsSaid (items_in (rest now))) → AllByRecursion IsSaid (items_in (good_with (bed_format sorting) input n last said rest))
-  said_with n last text (Err kind) rest clear e h = tt
-  said_with n last text (Ok None) rest clear e h = h last
-  said_with n last text (Ok (Some r)) rest clear e h = (line_is_said text r clear (line_said sorting last text r e).says, h ((bed_format sorting).after last r))
-
-  said_lines : (last : Option Locus) (lines : List TextLine) → AreClear lines → AllByRecursion IsSaid (items_in (good_from (bed_format sorting) input last lines))
-  unfolding good_from
-  said_lines last [] clear = tt
-  said_lines last (line ∷ lines) clear =
-      said_with line.number last line.text (line_says sorting last line.text) (λ now. good_from (bed_format sorting) input now lines) clear.0 refl (λ now. said_lines now lines clear.1)
-
 pub clear_handed : (handed : Handed) → AreClear (lines_handed handed)
 clear_handed handed = grind (arith, clear_whole, clear_lines)
 
 pub good_are_said : (input : Input) (order : Order) (handed : Handed) → AllByRecursion IsSaid (items_in (bed_good input order handed))
-good_are_said input order handed = said_lines input (sorting_of order) None (lines_handed handed) (clear_handed handed)
+good_are_said input order handed =
+    items_so (bed_format (sorting_of order)) input IsSaid None (lines_handed handed)
+    (all_so _ _ (lines_handed handed) (λ line clear last r e. line_is_said line.text r clear (line_said (sorting_of order) last line.text r e).says) (clear_handed handed))
 
 -- ---- chromosomes of a genome file
 

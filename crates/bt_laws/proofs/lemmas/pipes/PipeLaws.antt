@@ -29,20 +29,20 @@ use Rattle.bt_sweep.specs.declared.output.shape.Shape.{Shape}
 use Rattle.bt_sweep.specs.declared.output.shape.Shape.TheVariants.{Pieces, Whole}
 use Rattle.bt_sweep.proofs.lemmas.definitions.HitLemmas.{faultless_all}
 use Rattle.bt_tool.specs.model.Report.{behaviour_of, entries_in, order_of, Inputs, or_empty, chromosomes_of, report_of, report_on}
-use Rattle.bt_tool.specs.model.Written.{Report, report_by, met_within, Written, coverage_written, merge_written}
+use Rattle.bt_tool.specs.model.Written.{Report, report_by, met_within, Written, merge_written}
 use Rattle.bt_tool.specs.declared.planning.plan_type.Command.{Command}
 use Rattle.bt_tool.specs.declared.planning.plan_type.Command.TheVariants.{Complement, Coverage, Intersect, Merge, Subtract}
 use Rattle.bt_laws.specs.WholeRuns.{RunsWithoutFault, first_records, second_records}
 use Rattle.bt_laws.specs.Pipes.{complement_is_input, cut_intersect_is_input, cut_strands_stay, genomecov_is_input, intersect_is_input, kept_places_stay, kept_records_stay, kept_strands_stay, merge_is_input, subtract_is_input, whole_subtract_is_input, begins_with_a, records_written, AreSeparate, AreDisjoint, IsInput, four_columns, is_no_header, three_columns, complement_writes_disjoint, genomecov_writes_disjoint, merge_writes_disjoint}
 use Rattle.bt_runs.proofs.lemmas.Lists.{EachPair, pairs_all, pairs_each}
-use Rattle.bt_laws.proofs.lemmas.pipes.RunsBack.{coverage_back, depths_disjoint, gaps_back, gaps_pairs, intervals_back, merge_apart, merge_back, runs_back, strands_written}
+use Rattle.bt_laws.proofs.lemmas.pipes.RunsBack.{coverage_back, depths_in_order, gaps_back, gaps_in_order, intervals_back, merge_in_order, merge_back, runs_back, strands_written}
 use Rattle.bt_laws.proofs.lemmas.pipes.LinesBack.{IsChrom, IsSaid, genome_chroms, good_are_said}
 use Rattle.bt_laws.proofs.lemmas.pipes.SweepBack.{cut_back, kept_back, pieces_back}
 use Rattle.bt_laws.proofs.lemmas.pipes.SweepRead.{all_read, cut_stay, places_stay, records_stay, strands_stay}
 use Rattle.bt_laws.proofs.lemmas.parts.PartTexts.{order_total}
 use Rattle.bt_laws.proofs.lemmas.pipes.Placing.{pairs_filter, pairs_from_map, pairs_map}
 use Rattle.bt_runs.proofs.lemmas.merge.Bridging.{are_runs, bridged_here, is_covered-Decides, only_runs}
-use Rattle.bt_laws.proofs.lemmas.single.LevelLemmas.{covered_depth}
+use Rattle.bt_laws.proofs.lemmas.single.LevelLemmas.{covered_depth, bridged_covered}
 use Rattle.bt_runs.proofs.lemmas.complement.Walks.{are_gaps, only_gaps}
 use Rattle.bt_laws.proofs.lemmas.single.Records.{distinct_genome}
 
@@ -56,24 +56,22 @@ chroms_of genome entries e = grind (arith, genome_chroms, distinct_genome)
 whole_by : {A : Type 0} (written : Written A) (members : List A) (fault : Option FaultValue) → (report_by written members fault).fault ≡ None → (report_by written members fault).output ≡ written.whole members
 whole_by written members fault e = grind arith
 
-module _ (command : Command) (inputs : Inputs) (chromosomes : Option (List Entry)) (well : RunsWithoutFault command inputs chromosomes) where
-  pub report_is : report_of command inputs ≡ (behaviour_of command chromosomes).report inputs.first inputs.second
-  unfolding report_of
-  report_is = ap (λ found. report_on command found inputs.first inputs.second) well.genome
+pub report_there : (command : Command) (inputs : Inputs) (chromosomes : Option (List Entry)) → chromosomes_of inputs.genome ≡ Ok chromosomes → report_of command inputs ≡ (behaviour_of command chromosomes).report inputs.first inputs.second
+unfolding report_of
+report_there command inputs chromosomes genome = ap (λ found. report_on command found inputs.first inputs.second) genome
 
+module _ (command : Command) (inputs : Inputs) (chromosomes : Option (List Entry)) (well : RunsWithoutFault command inputs chromosomes) where
   pub well_there : ((behaviour_of command chromosomes).report inputs.first inputs.second).fault ≡ None
-  well_there = ap (λ (r : Report). r.fault) (sym report_is) ∙ well.faultless
+  well_there = ap (λ (r : Report). r.fault) (sym (report_there command inputs chromosomes well.genome)) ∙ well.faultless
 
   pub output_is : (report_of command inputs).output ≡ ((behaviour_of command chromosomes).report inputs.first inputs.second).output
-  output_is = ap (λ (r : Report). r.output) report_is
+  output_is = ap (λ (r : Report). r.output) (report_there command inputs chromosomes well.genome)
 
 -- ---- merge
 
 pub merge_whole : (d : ℕ) (strand : MergeStrand) (inputs : Inputs) (chromosomes : Option (List Entry)) → RunsWithoutFault (Merge d strand) inputs chromosomes
     → (report_of (Merge d strand) inputs).output ≡ (merge_written (order_of chromosomes) d strand).whole (first_records chromosomes inputs)
-merge_whole d strand inputs chromosomes well =
-    output_is (Merge d strand) inputs chromosomes well
-    ∙ whole_by (merge_written (order_of chromosomes) d strand) (first_records chromosomes inputs) (bed_good First (order_of chromosomes) inputs.first).fault (well_there (Merge d strand) inputs chromosomes well)
+merge_whole d strand inputs chromosomes well = grind (arith, (output_is (Merge d strand) inputs chromosomes well), whole_by, (well_there (Merge d strand) inputs chromosomes well))
 
 module _ (d : ℕ) (inputs : Inputs) (chromosomes : Option (List Entry)) where
   abbrev order_used : Order
@@ -93,16 +91,13 @@ module _ (d : ℕ) (inputs : Inputs) (chromosomes : Option (List Entry)) where
   pooled strand e = (
     e,
     subst (λ text. IsInput order_used text (map three_columns (ordered_runs order_used d strand merged_records))) (sym e) (merge_back order_used total d strand merged_records (good_are_said First order_used inputs.first) placed),
-    λ other. pairs_all AreSeparate (ordered_runs order_used d strand merged_records) (merge_apart order_used total d strand merged_records (good_are_said First order_used inputs.first) placed),
+    λ other. pairs_all AreSeparate (ordered_runs order_used d strand merged_records) (merge_in_order order_used total d strand merged_records (good_are_said First order_used inputs.first) placed).pairs,
   )
 
 pub merge_input : merge_is_input
 merge_input d All inputs chromosomes well = pooled d inputs chromosomes All (merge_whole d All inputs chromosomes well)
 merge_input d (One strand) inputs chromosomes well = pooled d inputs chromosomes (One strand) (merge_whole d (One strand) inputs chromosomes well)
-merge_input d Each inputs chromosomes well =
-    let total = order_total chromosomes in
-    let e = merge_whole d Each inputs chromosomes well in
-    grind (arith, runs_back, strands_written, good_are_said, in_order, placed_good, non_empty_good)
+merge_input d Each inputs chromosomes well = grind (arith, (order_total chromosomes), (merge_whole d Each inputs chromosomes well), runs_back, strands_written, good_are_said, in_order, placed_good, non_empty_good)
 
 -- ---- complement and genomecov
 
@@ -118,9 +113,7 @@ gaps_input : (limit : Bool) (genome : Option Handed) (chromosomes : Option (List
     × EachPair AreSeparate (complement limit (entries_in chromosomes) records)
 unfolding complement
 gaps_input limit genome None records e = (intervals_back byte_order bytes_total [] tt tt, tt)
-gaps_input limit genome (Some entries) records e =
-    let known = chroms_of genome entries e in
-    (gaps_back entries known.0 known.1 limit records, gaps_pairs entries known.0 known.1 limit records)
+gaps_input limit genome (Some entries) records e = grind (arith, (chroms_of genome entries e), gaps_back, gaps_in_order)
 
 pub complement_input : complement_is_input
 complement_input limit inputs chromosomes well =
@@ -133,15 +126,11 @@ depths_input : (zeros : Bool) (strand : Option Strand) (genome : Option Handed) 
     × EachPair AreDisjoint (map interval_at (coverage zeros strand (entries_in chromosomes) records))
 unfolding coverage
 depths_input zeros strand genome None records e = (intervals_back byte_order bytes_total [] tt tt, tt)
-depths_input zeros strand genome (Some entries) records e =
-    let known = chroms_of genome entries e in
-    (coverage_back entries known.0 known.1 zeros strand records, depths_disjoint entries known.0 known.1 zeros strand records)
+depths_input zeros strand genome (Some entries) records e = grind (arith, (chroms_of genome entries e), coverage_back, depths_in_order)
 
 pub genomecov_whole : (zeros : Bool) (strand : Option Strand) (inputs : Inputs) (chromosomes : Option (List Entry)) → RunsWithoutFault (Coverage zeros strand) inputs chromosomes
     → (report_of (Coverage zeros strand) inputs).output ≡ depth_lines (coverage zeros strand (entries_in chromosomes) (first_records chromosomes inputs))
-genomecov_whole zeros strand inputs chromosomes well =
-    output_is (Coverage zeros strand) inputs chromosomes well
-    ∙ whole_by (coverage_written (entries_in chromosomes) zeros strand) (first_records chromosomes inputs) (bed_good First (order_of chromosomes) inputs.first).fault (well_there (Coverage zeros strand) inputs chromosomes well)
+genomecov_whole zeros strand inputs chromosomes well = grind (arith, (output_is (Coverage zeros strand) inputs chromosomes well), whole_by, (well_there (Coverage zeros strand) inputs chromosomes well))
 
 pub genomecov_input : genomecov_is_input
 genomecov_input zeros strand inputs chromosomes well =
@@ -214,14 +203,10 @@ subtract_whole whole rule held inputs chromosomes well =
     ∙ swept_whole (order_of chromosomes) (subtract_shape whole) rule held (bed_good First (order_of chromosomes) inputs.first) (bed_good Second (order_of chromosomes) (or_empty inputs.second)) (well_there (Subtract whole rule held) inputs chromosomes well)
 
 pub intersect_input : intersect_is_input
-intersect_input shape rule held inputs chromosomes begins well =
-    subst (λ text. IsInput (order_of chromosomes) text (records_written shape rule (first_records chromosomes inputs) (second_records chromosomes inputs))) (sym (intersect_whole shape rule held inputs chromosomes well))
-    (kept_input shape rule chromosomes inputs begins)
+intersect_input shape rule held inputs chromosomes begins well = grind (arith, (intersect_whole shape rule held inputs chromosomes well), (kept_input shape rule chromosomes inputs begins))
 
 pub whole_subtract_input : whole_subtract_is_input
-whole_subtract_input rule held inputs chromosomes well =
-    subst (λ text. IsInput (order_of chromosomes) text (records_written Whole rule (first_records chromosomes inputs) (second_records chromosomes inputs))) (sym (subtract_whole true rule held inputs chromosomes well))
-    (kept_input Whole rule chromosomes inputs refl)
+whole_subtract_input rule held inputs chromosomes well = grind (arith, (subtract_whole true rule held inputs chromosomes well), (kept_input Whole rule chromosomes inputs refl))
 
 pub kept_records : kept_records_stay
 kept_records shape rule inputs chromosomes alone plain = records_stay shape rule (first_records chromosomes inputs) (second_records chromosomes inputs) alone (said shape rule chromosomes inputs) plain
@@ -238,8 +223,7 @@ cut_strands shape rule inputs chromosomes cuts keeps =
     cut_stay shape rule (first_records chromosomes inputs) (second_records chromosomes inputs) cuts (said shape rule chromosomes inputs) (said_second shape rule chromosomes inputs) keeps
 
 pub cut_intersect_input : cut_intersect_is_input
-cut_intersect_input shape rule held inputs chromosomes cuts well apart =
-    subst (λ text. IsInput (order_of chromosomes) text (records_written shape rule (first_records chromosomes inputs) (second_records chromosomes inputs))) (sym (intersect_whole shape rule held inputs chromosomes well)) (cut_input shape rule chromosomes inputs cuts apart)
+cut_intersect_input shape rule held inputs chromosomes cuts well apart = grind (arith, (intersect_whole shape rule held inputs chromosomes well), (cut_input shape rule chromosomes inputs cuts apart))
 
 pub subtract_input : subtract_is_input
 subtract_input rule held inputs chromosomes well apart =
@@ -259,7 +243,7 @@ of_three : (rs : List Interval) → EachPair AreDisjoint rs → EachPair (λ (r 
 of_three rs h = pairs_map (λ (r s : Feature). AreDisjoint (interval_of r) (interval_of s)) three_columns rs h
 
 of_four : (rs : List DepthInterval) → EachPair AreDisjoint (map interval_at rs) → EachPair (λ (r s : Feature). AreDisjoint (interval_of r) (interval_of s)) (map four_columns rs)
-of_four rs h = pairs_map (λ (r s : Feature). AreDisjoint (interval_of r) (interval_of s)) four_columns rs (pairs_from_map AreDisjoint interval_at rs h)
+of_four rs h = grind (arith, pairs_map, (pairs_from_map AreDisjoint interval_at rs h))
 
 -- the places of records that are read of these
 places_apart : (rs : List Feature) → EachPair (λ (r s : Feature). AreDisjoint (interval_of r) (interval_of s)) rs → AllPairs AreDisjoint (intervals_of rs)
@@ -297,9 +281,6 @@ again_by gap spans p b l r = grind (arith, (cases_lt l.right p), (cases_lt p r.l
 
 pub runs_again : (gap : ℕ) (spans : List Span) → runs_of gap (runs_of gap spans) ≡ runs_of gap spans
 runs_again gap spans = grind (arith, (are_runs gap spans), only_runs, again_by)
-
-bridged_covered : (spans : List Span) (p : ℕ) → Bridged 0 spans p → IsCovered spans p
-bridged_covered spans p b = grind arith
 
 -- without a gap the runs cover what the spans cover
 pub runs_cover : (spans : List Span) → SameCover (runs_of 0 spans) spans

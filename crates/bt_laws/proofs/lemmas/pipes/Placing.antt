@@ -21,6 +21,10 @@ pub pairs_so : {A : Type 0} (P : A → Type 0) (R S : A → A → Type 0) (xs : 
 pairs_so P R S [] f ps h = tt
 pairs_so P R S (x ∷ xs) f ps h = (all_with P R S x xs (λ y q r. f x y ps.0 q r) ps.1 h.0, pairs_so P R S xs f ps.1 h.1)
 
+pub pairs_any : {A : Type 0} (P : A → Type 0) (R : A → A → Type 0) (xs : List A) → ((x y : A) → P x → P y → R x y) → AllByRecursion P xs → EachPair R xs
+pairs_any P R [] f h = tt
+pairs_any P R (x ∷ xs) f h = (all_so P (R x) xs (λ y q. f x y h.0 q) h.1, pairs_any P R xs f h.1)
+
 pairs_by : {A : Type 0} (R : A → A → Type 0) (b : Bool) (x : A) (xs : List A) → AllByRecursion (R x) xs → EachPair R xs → EachPair R (cond b (x ∷ xs) xs)
 pairs_by R b x xs h k = grind arith
 
@@ -48,7 +52,7 @@ module _ (order : Order) where
 
   later_all : IsTotal order → (n m : List ℕ) (ns : List (List ℕ)) → IsTrue (order.knows n) → IsTrue (order.knows m) → AreKnown order ns → Earlier n m → AllByRecursion (Earlier m) ns → AllByRecursion (Earlier n) ns
   later_all total n m [] known mid knowns less later = tt
-  later_all total n m (k ∷ ns) known mid knowns less later = (total.ascends n m k known mid knowns.0 less later.0, later_all total n m ns known mid knowns.1 less later.1)
+  later_all total n m (k ∷ ns) known mid knowns less later = grind (arith, (later_all total n m ns known mid knowns.1 less later.1))
 
   pub ascending_pairs : IsTotal order → (names : List (List ℕ)) → AreKnown order names → AreAscending order names → EachPair Earlier names
   ascending_pairs total [] known up = tt
@@ -71,6 +75,11 @@ names_pairs (n ∷ ns) distinct = grind (arith, (others n ns distinct.0), (rank_
 
 -- ---- intervals chromosome by chromosome
 
+-- intervals in order, each pair of which is so
+pub record AreInOrder (order : Order) (R : Interval → Interval → Type 0) (rs : List Interval) : Type 0 where
+  pub placed : ArePlaced order rs
+  pub pairs : EachPair R rs
+
 module _ (order : Order) (total : IsTotal order) where
   placed_both : (xs ys : List Interval) → ArePlaced order xs → ArePlaced order ys → AllByRecursion (λ r. AllByRecursion (λ s. Earlier order r.chrom s.chrom) ys) xs → ArePlaced order (xs ++ ys)
   placed_both [] ys one two early = two
@@ -86,24 +95,24 @@ module _ (order : Order) (total : IsTotal order) where
         (λ j less. all_so (λ s. s.chrom ≡ name j) (λ s. Earlier order r.chrom s.chrom) (part j) (λ s there. rw (here, there) less) (on j)) later))
         (on k)
 
-    pub parts_placed : (ks : List K) → EachPair (λ j k. Earlier order (name j) (name k)) ks → AllByRecursion (λ k. ArePlaced order (part k)) ks → ArePlaced order (flat_map part ks)
-    parts_placed [] early placed = tt
-    parts_placed (k ∷ ks) early placed = placed_both (part k) (flat_map part ks) placed.0 (parts_placed ks early.1 placed.1) (behind_parts k ks early.0)
-
     -- pairs of different chromosomes are as they may be
-    pub parts_pairs : (R : Interval → Interval → Type 0) → ((r s : Interval) → (r.chrom ≡ s.chrom → ⊥) → R r s) → (ks : List K) → AllByRecursion (λ k. IsTrue (order.knows (name k))) ks
-        → EachPair (λ j k. Earlier order (name j) (name k)) ks → AllByRecursion (λ k. EachPair R (part k)) ks → EachPair R (flat_map part ks)
-    parts_pairs R other [] known early pairs = tt
-    parts_pairs R other (k ∷ ks) known early pairs =
-        pairs_both R (part k) (flat_map part ks) pairs.0 (parts_pairs R other ks known.1 early.1 pairs.1)
-        (all_zip (λ r. r.chrom ≡ name k) (λ r. AllByRecursion (λ s. Earlier order r.chrom s.chrom) (flat_map part ks)) (λ r. AllByRecursion (R r) (flat_map part ks)) (part k)
-        (λ r here later. all_so (λ s. Earlier order r.chrom s.chrom) (R r) (flat_map part ks) (λ s less. other r s (grind arith)) later)
-        (on k) (behind_parts k ks early.0))
+    pub parts_in_order : (R : Interval → Interval → Type 0) → ((r s : Interval) → (r.chrom ≡ s.chrom → ⊥) → R r s) → (ks : List K) → AllByRecursion (λ k. IsTrue (order.knows (name k))) ks
+        → EachPair (λ j k. Earlier order (name j) (name k)) ks → AllByRecursion (λ k. AreInOrder order R (part k)) ks → AreInOrder order R (flat_map part ks)
+    parts_in_order R other [] known early are = record { placed = tt; pairs = tt }
+    parts_in_order R other (k ∷ ks) known early are =
+        let rest = parts_in_order R other ks known.1 early.1 are.1 in
+        let behind = behind_parts k ks early.0 in
+        record {
+          placed = placed_both (part k) (flat_map part ks) are.0.placed rest.placed behind;
+          pairs = pairs_both R (part k) (flat_map part ks) are.0.pairs rest.pairs
+              (all_zip (λ r. r.chrom ≡ name k) (λ r. AllByRecursion (λ s. Earlier order r.chrom s.chrom) (flat_map part ks)) (λ r. AllByRecursion (R r) (flat_map part ks)) (part k)
+              (λ r here later. all_so (λ s. Earlier order r.chrom s.chrom) (R r) (flat_map part ks) (λ s less. other r s (grind arith)) later) (on k) behind);
+        }
 
 -- ---- spans of one chromosome
 
 pub on_name : (name : List ℕ) (spans : List Span) → AllByRecursion (λ (r : Interval). r.chrom ≡ name) (map (placed_on name) spans)
-on_name name spans = all_map (λ (r : Interval). r.chrom ≡ name) (placed_on name) spans (all_any (λ s. name ≡ name) spans (λ s. refl))
+on_name name spans = grind (arith, all_map, all_any)
 
 apart_behind : (first stop : ℕ) (spans : List Span) → stop < first → AreApartFrom first spans → AllByRecursion (λ (t : Span). stop < t.start) spans
 apart_behind first stop [] up h = tt
@@ -113,7 +122,7 @@ pub apart_pairs : (first : ℕ) (spans : List Span) → AreApartFrom first spans
 apart_pairs first [] h = tt
 apart_pairs first (s ∷ ss) h = (apart_behind (s.stop + 1) s.stop ss (omega arith) h.2, apart_pairs (s.stop + 1) ss h.2)
 
-pub spans_apart : (name : List ℕ) (spans : List Span) → EachPair (λ (s t : Span). s.stop < t.start) spans → EachPair AreSeparate (map (placed_on name) spans)
+spans_apart : (name : List ℕ) (spans : List Span) → EachPair (λ (s t : Span). s.stop < t.start) spans → EachPair AreSeparate (map (placed_on name) spans)
 spans_apart name spans h = pairs_map AreSeparate (placed_on name) spans (pairs_so (λ s. Unit {0}) (λ (s t : Span). s.stop < t.start) (λ s t. AreSeparate (placed_on name s) (placed_on name t)) spans (λ s t p q less same. less) (all_any (λ s. Unit {0}) spans (λ s. tt)) h)
 
 module _ (order : Order) (name : List ℕ) (known : IsTrue (order.knows name)) where
@@ -121,6 +130,9 @@ module _ (order : Order) (name : List ℕ) (known : IsTrue (order.knows name)) w
   spans_before first s [] up h = tt
   spans_before first s (t ∷ ts) up h = inr (refl, omega (arith, up, h.0))
 
-  pub spans_placed : (first : ℕ) (spans : List Span) → AreApartFrom first spans → ArePlaced order (map (placed_on name) spans)
+  spans_placed : (first : ℕ) (spans : List Span) → AreApartFrom first spans → ArePlaced order (map (placed_on name) spans)
   spans_placed first [] h = tt
   spans_placed first (s ∷ ss) h = (known, spans_before (s.stop + 1) s ss (omega (arith, h.1)) h.2, spans_placed (s.stop + 1) ss h.2)
+
+  pub spans_in_order : (spans : List Span) → AreApartFrom 0 spans → AreInOrder order AreSeparate (map (placed_on name) spans)
+  spans_in_order spans h = record { placed = spans_placed 0 spans h; pairs = spans_apart name spans (apart_pairs 0 spans h) }

@@ -1,5 +1,5 @@
 -- What merge, complement and genomecov write is an input of the next command.
-use Rattle.bt_lines.proofs.Std.{◌≡◌, ℕ, ◌+◌, ◌-◌, ◌<◌, ◌≤◌, Bool, true, false, not, List, [], ◌∷◌, ◌++◌, map, filter, refl, sym, ap, subst, inl, inr, arith, eqb, append-nil, decimal, Option, append_assoc, IsTrue, codes, flat_map, AllByRecursion, All-nil, map-id, map-append, slice_split_none}
+use Rattle.bt_lines.proofs.Std.{◌≡◌, ℕ, ◌+◌, ◌-◌, ◌<◌, ◌≤◌, Bool, true, false, not, List, [], ◌∷◌, ◌++◌, map, filter, refl, sym, ap, subst, inl, inr, arith, eqb, append-nil, decimal, Option, append_assoc, IsTrue, codes, flat_map, AllByRecursion, map-id, map-append, slice_split_none}
 use Rattle.bt_lines.specs.calls.Line.{NoLineFeed}
 use Rattle.bt_bed.specs.model.Feature.{Feature, intervals_of, Interval, Span, placed_on, spans_on}
 use Rattle.bt_bed.specs.model.Positions.{stretches_from}
@@ -9,16 +9,16 @@ use Rattle.bt_bed.specs.calls.Features.{IsName}
 use Rattle.bt_bed.specs.calls.Orders.{ArePlaced, IsPlacedBefore, IsTotal, AreDistinct}
 use Rattle.bt_bed.specs.model.Order.{Order, rank_order}
 use Rattle.bt_bed.proofs.lemmas.Definitions.{scan_finds}
-use Rattle.bt_runs.specs.model.Merged.{counted, is_counted, chromosomes, end_of, merged, runs_of, runs_on, in_order, ordered_runs, put_in_order, StrandRun, places_of, runs_of_strand, strand_runs}
+use Rattle.bt_runs.specs.model.Merged.{counted, is_counted, chromosomes, end_of, merged, runs_of, runs_on, in_order, ordered_runs, StrandRun, places_of, runs_of_strand, strand_runs}
 use Rattle.bt_runs.specs.declared.merge.merge_strand.MergeStrand.{MergeStrand}
 use Rattle.bt_runs.specs.declared.merge.merge_strand.MergeStrand.TheVariants.{One}
 use Rattle.bt_bed.specs.declared.record.strand.Strand.{Strand}
 use Rattle.bt_runs.proofs.lemmas.order.FileOrder.{some_placed, distinct_chromosomes}
-use Rattle.bt_laws.proofs.lemmas.single.StrandOrder.{names_in_order}
+use Rattle.bt_laws.proofs.lemmas.single.StrandOrder.{names_in_order, ordered_all}
 use Rattle.bt_laws.specs.Pipes.{AreSeparate, IsInput, is_no_header, three_columns, AreDisjoint, four_columns}
 use Rattle.bt_runs.proofs.lemmas.Lists.{EachPair, all_any, all_filter, all_flat_map, all_map, all_so, filter_all, all_zip, all_unmap, map_map}
-use Rattle.bt_laws.proofs.lemmas.pipes.LinesBack.{Columns, IsColumns, text_of_columns, placed_known, written_back, record_back, IsSaid, IsChrom, clear_tab, clear_number, strip_number, number_column}
-use Rattle.bt_laws.proofs.lemmas.pipes.Placing.{Earlier, apart_pairs, ascending_pairs, on_name, parts_pairs, parts_placed, spans_apart, spans_placed, known_names, names_pairs, pairs_filter, pairs_from_map, pairs_map, pairs_so}
+use Rattle.bt_laws.proofs.lemmas.pipes.LinesBack.{Columns, IsColumns, text_of_columns, placed_known, written_back, record_back, IsSaid, IsChrom, clear_tab, clear_number, strip_number}
+use Rattle.bt_laws.proofs.lemmas.pipes.Placing.{Earlier, ascending_pairs, on_name, known_names, names_pairs, pairs_filter, pairs_from_map, pairs_map, pairs_so, AreInOrder, parts_in_order, spans_in_order}
 use Rattle.bt_laws.proofs.lemmas.parts.PartMerge.{named_all, listed_all}
 use Rattle.bt_lines.specs.model.Lines.{pieces}
 use Rattle.bt_bed.specs.model.Genome.{Entry, genome_names}
@@ -28,6 +28,7 @@ use Rattle.bt_laws.specs.Runs.{interval_at}
 use Rattle.bt_runs.specs.model.Depth.{DepthInterval, coverage, depth_line, depth_lines, depth_of, depths_on, counted_on, levels_of}
 use Rattle.bt_runs.specs.model.Gaps.{complement, gaps_of, gaps_on, is_asked}
 use Rattle.bt_laws.proofs.lemmas.single.LevelLemmas.{are_levels}
+use Rattle.bt_laws.proofs.lemmas.single.Records.{number_column}
 
 -- ---- lines of three columns
 
@@ -42,7 +43,7 @@ abbrev pub alone : Interval → Columns
 alone r = record { at = r; tail = [] }
 
 alone_columns : (r : Interval) → IsWritten r → IsColumns (alone r)
-alone_columns r is = record { named = is.named; clear = is.clear; below = is.below; small = is.small; kept = refl; clear_tail = All-nil (λ b. eqb b 10 ≡ false) }
+alone_columns r is = grind (arith, eqb)
 
 alone_line : (r : Interval) → interval_line r ≡ text_of_columns (alone r) ++ 10 ∷ []
 alone_line r = ap (λ l. l ++ 10 ∷ []) (sym (append-nil (r.chrom ++ codes "\t" ++ decimal r.start ++ codes "\t" ++ decimal r.stop)))
@@ -61,7 +62,7 @@ stops_within first n (s ∷ ss) apart h =
     ((apart.1, omega (arith, last, apart.1)), stops_within (s.stop + 1) n ss apart.2 (λ p c. h p (inr c)))
 
 pub scanned : (test : ℕ → Bool) (n : ℕ) → AreApartFrom 0 (stretches_from test 0 n) × AllByRecursion (λ (s : Span). (s.start < s.stop) × (s.stop ≤ n)) (stretches_from test 0 n)
-scanned test n = let found = scan_finds test n in (found.apart, stops_within 0 n (stretches_from test 0 n) found.apart (λ p c. (found.within p c).0))
+scanned test n = grind (arith, (scan_finds test n), stops_within)
 
 pub on_written : (name : List ℕ) (n : ℕ) (spans : List Span) → IsName name → NoLineFeed name → n ≤ 999999999999 → AllByRecursion (λ (s : Span). (s.start < s.stop) × (s.stop ≤ n)) spans → AllByRecursion IsWritten (map (placed_on name) spans)
 on_written name n spans named clear small h = grind (arith, all_map, all_so)
@@ -81,14 +82,6 @@ end_small name (r ∷ rs) h = grind (arith, (end_small name rs h.1))
 runs_apart : (gap : ℕ) (spans : List Span) → AreApartFrom 0 (runs_of gap spans) × AllByRecursion (λ (s : Span). (s.start < s.stop) × (s.stop ≤ end_of spans)) (runs_of gap spans)
 unfolding runs_of
 runs_apart gap spans = scanned _ (end_of spans)
-
-put_all : (P : List ℕ → Type 0) (order : Order) (name : List ℕ) (names : List (List ℕ)) → P name → AllByRecursion P names → AllByRecursion P (put_in_order order name names)
-put_all P order name [] one all = (one, tt)
-put_all P order name (n ∷ ns) one all = grind (arith, (put_all P order name ns one all.1))
-
-pub ordered_all : (P : List ℕ → Type 0) (order : Order) (names : List (List ℕ)) → AllByRecursion P names → AllByRecursion P (in_order order names)
-ordered_all P order [] all = tt
-ordered_all P order (n ∷ ns) all = put_all P order n (in_order order ns) all.0 (ordered_all P order ns all.1)
 
 -- a run, whose name is no header word
 pub record IsRun (r : Interval) : Type 0 where
@@ -114,7 +107,7 @@ no_headers rs runs = filter_all is_no_header (map three_columns rs) (all_map (λ
 
 module _ (order : Order) (total : IsTotal order) where
   pub runs_back : (rs : List Interval) → AllByRecursion IsRun rs → ArePlaced order rs → IsInput order (interval_lines rs) (map three_columns rs)
-  runs_back rs runs placed = subst (IsInput order (interval_lines rs)) (no_headers rs runs) (intervals_back order total rs (all_so IsRun IsWritten rs (λ r is. is.written) runs) placed)
+  runs_back rs runs placed = grind (arith, (no_headers rs runs), intervals_back, all_so)
 
   module _ (gap : ℕ) (strand : MergeStrand) (records : List Feature) (said : AllByRecursion IsSaid records) (placed : ArePlaced order (intervals_of records)) where
     names : List (List ℕ)
@@ -125,7 +118,7 @@ module _ (order : Order) (total : IsTotal order) where
 
     known_in_order : AllByRecursion (λ name. IsTrue (order.knows name)) names
     unfolding names
-    known_in_order = ordered_all (λ name. IsTrue (order.knows name)) order (chromosomes (counted strand records)) names_known
+    known_in_order = grind (arith, ordered_all, names_known)
 
     names_earlier : EachPair (Earlier order) names
     unfolding names
@@ -134,15 +127,11 @@ module _ (order : Order) (total : IsTotal order) where
     part : List ℕ → List Interval
     part name = runs_on name gap (counted strand records)
 
-    pub merge_placed : ArePlaced order (ordered_runs order gap strand records)
+    pub merge_in_order : AreInOrder order AreSeparate (ordered_runs order gap strand records)
     unfolding ordered_runs merged names part
-    merge_placed = parts_placed order total (λ name. name) part (λ name. on_name name (runs_of gap (spans_on name (counted strand records)))) names names_earlier
-        (all_so (λ name. IsTrue (order.knows name)) (λ name. ArePlaced order (part name)) names (λ name known. spans_placed order name known 0 (runs_of gap (spans_on name (counted strand records))) (runs_apart gap (spans_on name (counted strand records))).0) known_in_order)
-
-    pub merge_apart : EachPair AreSeparate (ordered_runs order gap strand records)
-    unfolding ordered_runs merged names part
-    merge_apart = parts_pairs order total (λ name. name) part (λ name. on_name name (runs_of gap (spans_on name (counted strand records)))) AreSeparate (λ r s other same. absurd (other same)) names known_in_order names_earlier
-        (all_any (λ name. EachPair AreSeparate (part name)) names (λ name. spans_apart name (runs_of gap (spans_on name (counted strand records))) (apart_pairs 0 (runs_of gap (spans_on name (counted strand records))) (runs_apart gap (spans_on name (counted strand records))).0)))
+    merge_in_order = parts_in_order order total (λ name. name) part (λ name. on_name name (runs_of gap (spans_on name (counted strand records)))) AreSeparate (λ r s other same. absurd (other same)) names known_in_order names_earlier
+        (all_so (λ name. IsTrue (order.knows name)) (λ name. AreInOrder order AreSeparate (part name)) names
+        (λ name known. spans_in_order order name known (runs_of gap (spans_on name (counted strand records))) (runs_apart gap (spans_on name (counted strand records))).0) known_in_order)
 
     pub merge_runs : AllByRecursion IsRun (ordered_runs order gap strand records)
     unfolding ordered_runs
@@ -150,7 +139,7 @@ module _ (order : Order) (total : IsTotal order) where
 
     -- what merge writes
     pub merge_back : IsInput order (interval_lines (ordered_runs order gap strand records)) (map three_columns (ordered_runs order gap strand records))
-    merge_back = runs_back (ordered_runs order gap strand records) merge_runs merge_placed
+    merge_back = runs_back (ordered_runs order gap strand records) merge_runs merge_in_order.placed
 
   -- each strand separately
   strand_written : (gap : ℕ) (records : List Feature) → AllByRecursion IsSaid records → (strand : Strand) → AllByRecursion (λ (item : StrandRun). IsRun item.run) (runs_of_strand gap records strand)
@@ -175,10 +164,10 @@ module _ (entries : List Entry) (chroms : AllByRecursion IsChrom entries) (disti
   file_total = ranks_total (genome_names entries)
 
   entries_known : AllByRecursion (λ (e : Entry). IsTrue (file_order.knows e.name)) entries
-  entries_known = all_unmap (λ name. IsTrue (file_order.knows name)) (λ (e : Entry). e.name) entries (known_names (genome_names entries))
+  entries_known = grind (arith, all_unmap, (known_names (genome_names entries)))
 
   entries_earlier : EachPair (λ (d e : Entry). Earlier file_order d.name e.name) entries
-  entries_earlier = pairs_from_map (Earlier file_order) (λ (e : Entry). e.name) entries (names_pairs (genome_names entries) distinct)
+  entries_earlier = grind (arith, pairs_from_map, (names_pairs (genome_names entries) distinct))
 
   module _ (limit : Bool) (records : List Feature) where
     abbrev asked : Entry → Bool
@@ -191,17 +180,14 @@ module _ (entries : List Entry) (chroms : AllByRecursion IsChrom entries) (disti
     unfolding gaps_part
     on_entry e = on_name e.name (gaps_of e.length (spans_on e.name (intervals_of records)))
 
-    pub gaps_placed : ArePlaced file_order (complement limit entries records)
+    pub gaps_in_order : AreInOrder file_order AreSeparate (complement limit entries records)
     unfolding complement gaps_part
-    gaps_placed = parts_placed file_order file_total (λ (e : Entry). e.name) gaps_part on_entry (filter asked entries) (pairs_filter (λ (d e : Entry). Earlier file_order d.name e.name) asked entries entries_earlier)
-        (all_filter (λ e. ArePlaced file_order (gaps_part e)) asked entries (all_so (λ (e : Entry). IsTrue (file_order.knows e.name)) (λ e. ArePlaced file_order (gaps_part e)) entries
-        (λ e known. spans_placed file_order e.name known 0 (gaps_of e.length (spans_on e.name (intervals_of records))) (gaps_apart e.length (spans_on e.name (intervals_of records))).0) entries_known))
-
-    pub gaps_pairs : EachPair AreSeparate (complement limit entries records)
-    unfolding complement gaps_part
-    gaps_pairs = parts_pairs file_order file_total (λ (e : Entry). e.name) gaps_part on_entry AreSeparate (λ r s other same. absurd (other same)) (filter asked entries) (all_filter (λ (e : Entry). IsTrue (file_order.knows e.name)) asked entries entries_known)
+    gaps_in_order =
+        let known = all_filter (λ (e : Entry). IsTrue (file_order.knows e.name)) asked entries entries_known in
+        parts_in_order file_order file_total (λ (e : Entry). e.name) gaps_part on_entry AreSeparate (λ r s other same. absurd (other same)) (filter asked entries) known
         (pairs_filter (λ (d e : Entry). Earlier file_order d.name e.name) asked entries entries_earlier)
-        (all_any (λ e. EachPair AreSeparate (gaps_part e)) (filter asked entries) (λ e. spans_apart e.name (gaps_of e.length (spans_on e.name (intervals_of records))) (apart_pairs 0 (gaps_of e.length (spans_on e.name (intervals_of records))) (gaps_apart e.length (spans_on e.name (intervals_of records))).0)))
+        (all_so (λ (e : Entry). IsTrue (file_order.knows e.name)) (λ e. AreInOrder file_order AreSeparate (gaps_part e)) (filter asked entries)
+        (λ e known. spans_in_order file_order e.name known (gaps_of e.length (spans_on e.name (intervals_of records))) (gaps_apart e.length (spans_on e.name (intervals_of records))).0) known)
 
     gaps_written : AllByRecursion IsWritten (complement limit entries records)
     unfolding complement gaps_part
@@ -209,7 +195,7 @@ module _ (entries : List Entry) (chroms : AllByRecursion IsChrom entries) (disti
         (λ e is. on_written e.name e.length (gaps_of e.length (spans_on e.name (intervals_of records))) is.named is.clear is.small (gaps_apart e.length (spans_on e.name (intervals_of records))).1) chroms))
 
     pub gaps_back : IsInput file_order (interval_lines (complement limit entries records)) (filter is_no_header (map three_columns (complement limit entries records)))
-    gaps_back = intervals_back file_order file_total (complement limit entries records) gaps_written gaps_placed
+    gaps_back = intervals_back file_order file_total (complement limit entries records) gaps_written gaps_in_order.placed
 
 -- ---- lines of four columns
 
@@ -217,7 +203,7 @@ abbrev pub with_depth : DepthInterval → Columns
 with_depth r = record { at = interval_at r; tail = codes "\t" ++ decimal r.depth }
 
 depth_columns : (r : DepthInterval) → IsWritten (interval_at r) → IsColumns (with_depth r)
-depth_columns r is = record { named = is.named; clear = is.clear; below = is.below; small = is.small; kept = refl; clear_tail = clear_tab (decimal r.depth) (clear_number r.depth) }
+depth_columns r is = grind (arith, (clear_tab (decimal r.depth) (clear_number r.depth)), (decimal r.depth), (clear_number r.depth))
 
 depth_as : (r : DepthInterval) → depth_line r ≡ text_of_columns (with_depth r) ++ 10 ∷ []
 depth_as r = simp append_assoc
@@ -281,22 +267,18 @@ module _ (entries : List Entry) (chroms : AllByRecursion IsChrom entries) (disti
 
   on_level : (e : Entry) → AllByRecursion (λ (r : Interval). r.chrom ≡ e.name) (level_part e)
   unfolding level_part
-  on_level e = all_map (λ (r : Interval). r.chrom ≡ e.name) (level_place e.name) (levels_for e) (all_any (λ l. e.name ≡ e.name) (levels_for e) (λ l. refl))
-
-  pub depths_placed : ArePlaced names_order (map interval_at (coverage zeros strand entries records))
-  unfolding coverage level_part
-  depths_placed = subst (ArePlaced names_order) (sym (places_of_all entries))
-      (parts_placed names_order (ranks_total (genome_names entries)) (λ (e : Entry). e.name) level_part on_level entries (entries_earlier entries chroms distinct)
-      (all_so (λ (e : Entry). IsTrue (names_order.knows e.name)) (λ e. ArePlaced names_order (level_part e)) entries (λ e known. levels_placed names_order e.name known 0 (levels_for e) (levels_are_so e).disjoint) (entries_known entries chroms distinct)))
+  on_level e = grind (arith, all_map, all_any)
 
   level_disjoint : (e : Entry) → EachPair AreDisjoint (level_part e)
   unfolding level_part
   level_disjoint e = grind (arith, pairs_map, pairs_so, (all_any (λ l. Unit {0}) (levels_for e) (λ l. tt)), (levels_pairs 0 (levels_for e) (levels_are_so e).disjoint))
 
-  pub depths_disjoint : EachPair AreDisjoint (map interval_at (coverage zeros strand entries records))
+  pub depths_in_order : AreInOrder names_order AreDisjoint (map interval_at (coverage zeros strand entries records))
   unfolding coverage level_part
-  depths_disjoint = subst (EachPair AreDisjoint) (sym (places_of_all entries))
-      (parts_pairs names_order (ranks_total (genome_names entries)) (λ (e : Entry). e.name) level_part on_level AreDisjoint (λ r s other same. absurd (other same)) entries (entries_known entries chroms distinct) (entries_earlier entries chroms distinct) (all_any (λ e. EachPair AreDisjoint (level_part e)) entries level_disjoint))
+  depths_in_order = subst (AreInOrder names_order AreDisjoint) (sym (places_of_all entries))
+      (parts_in_order names_order (ranks_total (genome_names entries)) (λ (e : Entry). e.name) level_part on_level AreDisjoint (λ r s other same. absurd (other same)) entries (entries_known entries chroms distinct) (entries_earlier entries chroms distinct)
+      (all_so (λ (e : Entry). IsTrue (names_order.knows e.name)) (λ e. AreInOrder names_order AreDisjoint (level_part e)) entries
+      (λ e known. record { placed = levels_placed names_order e.name known 0 (levels_for e) (levels_are_so e).disjoint; pairs = level_disjoint e }) (entries_known entries chroms distinct)))
 
   level_written : (e : Entry) → IsChrom e → AllByRecursion IsWritten (level_part e)
   unfolding level_part
@@ -307,4 +289,4 @@ module _ (entries : List Entry) (chroms : AllByRecursion IsChrom entries) (disti
   depths_written = subst (AllByRecursion IsWritten) (sym (places_of_all entries)) (all_flat_map IsWritten level_part entries (all_so IsChrom (λ e. AllByRecursion IsWritten (level_part e)) entries level_written chroms))
 
   pub coverage_back : IsInput names_order (depth_lines (coverage zeros strand entries records)) (filter is_no_header (map four_columns (coverage zeros strand entries records)))
-  coverage_back = depth_lines_back names_order (ranks_total (genome_names entries)) (coverage zeros strand entries records) (all_unmap IsWritten interval_at (coverage zeros strand entries records) depths_written) depths_placed
+  coverage_back = depth_lines_back names_order (ranks_total (genome_names entries)) (coverage zeros strand entries records) (all_unmap IsWritten interval_at (coverage zeros strand entries records) depths_written) depths_in_order.placed

@@ -1,5 +1,5 @@
 -- What intersect and subtract write is an input of the next command.
-use Rattle.bt_lines.proofs.Std.{◌≡◌, ℕ, zero, suc, ◌+◌, ◌-◌, ◌<◌, ◌≤◌, Bool, true, false, cond, not, List, [], ◌∷◌, ◌++◌, map, filter, length, max, min, refl, sym, ap, ap₂, ◌∙◌, subst, inl, inr, arith, append_assoc, append-nil, decimal, IsTrue, flat_map, replicate, AllByRecursion, bytes_decides, flat_map-append}
+use Rattle.bt_lines.proofs.Std.{◌≡◌, ℕ, ◌+◌, ◌-◌, ◌<◌, ◌≤◌, Bool, true, false, cond, not, List, [], ◌∷◌, ◌++◌, map, filter, length, max, min, refl, sym, ap, ap₂, ◌∙◌, subst, inl, inr, arith, append_assoc, append-nil, decimal, IsTrue, flat_map, AllByRecursion, bytes_decides, flat_map-append}
 use Rattle.bt_lines.specs.calls.Line.{NoLineFeed}
 use Rattle.bt_bed.specs.model.Feature.{Feature, interval_of, intervals_of, Interval, Span}
 use Rattle.bt_bed.specs.calls.Stretches.{AreApartFrom, IsCovered}
@@ -17,10 +17,10 @@ use Rattle.bt_sweep.specs.declared.output.shape.Shape.{Shape}
 use Rattle.bt_sweep.specs.declared.output.shape.Shape.TheVariants.{Count, Cut, CutAndB, Missing, Once, OrigA, OrigBoth, Overlap, Pieces, Whole}
 use Rattle.bt_sweep.proofs.lemmas.definitions.PieceLemmas.{are_pieces}
 use Rattle.bt_sweep.proofs.lemmas.definitions.HitLemmas.{hit_overlaps, overlap_parts}
-use Rattle.bt_laws.specs.Pipes.{begins_with_a, line_count, AreDisjoint, IsInput, is_no_header}
-use Rattle.bt_runs.proofs.lemmas.Lists.{EachPair, all_any, all_both, all_flat_map, all_map, all_so, filter_all, all_zip, map_flat, map_map, all_unmap}
+use Rattle.bt_laws.specs.Pipes.{begins_with_a, AreDisjoint, IsInput, is_no_header}
+use Rattle.bt_runs.proofs.lemmas.Lists.{EachPair, all_any, all_both, all_flat_map, all_map, all_so, filter_all, all_zip, map_map, all_unmap}
 use Rattle.bt_laws.proofs.lemmas.pipes.LinesBack.{clear_both, clear_number, Columns, IsColumns, lines_back, record_back, text_of_columns, placed_known, IsSaid, tail_clear}
-use Rattle.bt_laws.proofs.lemmas.pipes.Placing.{apart_pairs, pairs_both, pairs_filter, pairs_from_map, pairs_map, pairs_so}
+use Rattle.bt_laws.proofs.lemmas.pipes.Placing.{apart_pairs, pairs_both, pairs_filter, pairs_from_map, pairs_map, pairs_so, pairs_any}
 
 -- ---- pairs of a list of lists
 
@@ -131,7 +131,7 @@ clear_record : (b : Feature) → IsSaid b → NoLineFeed (bed_text b)
 clear_record b is = tail_clear b.chrom b.start b.stop is.feature.named is.feature.non_empty is.feature.in_range b.rest is.clear_name is.clear_rest
 
 said_columns : (a : Feature) (start stop : ℕ) (more : List ℕ) → IsSaid a → start < stop → stop ≤ a.stop → IsTrue (is_kept more) → NoLineFeed more → IsColumns (columns_at (cut_to start stop a) more)
-said_columns a start stop more is below up kept clear = record { named = is.feature.named; clear = is.clear_name; below = below; small = omega (arith, up, is.feature.in_range); kept = kept; clear_tail = clear }
+said_columns a start stop more is below up kept clear = grind arith
 
 abbrev pub Hit : HitRule → Feature → Feature → Type 0
 Hit rule a b = IsSaid b × (hits rule a b ≡ true)
@@ -179,33 +179,9 @@ all_hits rule a (b ∷ bs) h = hits_by rule a b (hits_among rule a bs) (hits rul
 
 -- ---- where the lines of one record lie, if they begin with it
 
-map_at : (shape : Shape) (a : Feature) (found : List Feature) → ((b : Feature) → (hit_columns shape a b).at ≡ interval_of a) → map (λ line. line.at) (map (hit_columns shape a) found) ≡ replicate (length found) (interval_of a)
-map_at shape a [] h = refl
-map_at shape a (b ∷ bs) h = ap₂ (λ x y. x ∷ y) (h b) (map_at shape a bs h)
-
-part_at : (shape : Shape) (a : Feature) (found : List Feature) → begins_with_a shape ≡ true → map (λ line. line.at) (columns_for shape a found) ≡ replicate (line_count shape (length found)) (interval_of a)
+part_at : (shape : Shape) (a : Feature) (found : List Feature) → begins_with_a shape ≡ true → AllByRecursion (λ (line : Columns). line.at ≡ interval_of a) (columns_for shape a found)
 unfolding columns_for hit_columns
-part_at Cut a found e = cc
-part_at OrigA a found e = map_at OrigA a found (λ b. refl)
-part_at CutAndB a found e = cc
-part_at OrigBoth a found e = map_at OrigBoth a found (λ b. refl)
-part_at Overlap a found e = map_at Overlap a found (λ b. refl)
-part_at Once a [] e = refl
-part_at Once a (b ∷ more) e = refl
-part_at Missing a [] e = refl
-part_at Missing a (b ∷ more) e = refl
-part_at Count a found e = refl
-part_at Pieces a found e = cc
-part_at Whole a [] e = refl
-part_at Whole a (b ∷ more) e = refl
-
-repeated : {A : Type 0} (P : A → Type 0) (n : ℕ) (x : A) → P x → AllByRecursion P (replicate n x)
-repeated P zero x p = tt
-repeated P (suc n) x p = (p, repeated P n x p)
-
-repeated_pairs : {A : Type 0} (R : A → A → Type 0) (n : ℕ) (x : A) → R x x → EachPair R (replicate n x)
-repeated_pairs R zero x p = tt
-repeated_pairs R (suc n) x p = (repeated (R x) n x p, repeated_pairs R n x p)
+part_at shape a found begins = grind (arith, all_map, all_any)
 
 no_headers : (lines : List Columns) → AllByRecursion (λ (line : Columns). is_header line.at.chrom ≡ false) lines → filter is_no_header (map record_back lines) ≡ map record_back lines
 no_headers lines h = filter_all is_no_header (map record_back lines) (all_map (λ r. is_no_header r ≡ true) record_back lines (all_so (λ (line : Columns). is_header line.at.chrom ≡ false) (λ line. not (is_header line.at.chrom) ≡ true) lines (λ line e. ap not e) h))
@@ -217,6 +193,26 @@ pairs_of_places order total as_read h = pairs_from_map (UpTo order total) interv
 part_named : (shape : Shape) (a : Feature) (found : List Feature) → AllByRecursion (λ (line : Columns). line.at.chrom ≡ a.chrom) (columns_for shape a found)
 unfolding columns_for hit_columns piece_columns
 part_named shape a found = grind (arith, all_map, all_any)
+
+-- ---- lines of records in order
+
+module _ (order : Order) (total : IsTotal order) where
+  abbrev LineUpTo : Columns → Columns → Type 0
+  LineUpTo k l = UpTo order total k.at l.at
+
+  module _ (part : Feature → List Columns) (Of : Feature → Columns → Type 0) (Follows : Feature → Feature → Type 0) (first : List Feature) (of : AllByRecursion (λ a. AllByRecursion (Of a) (part a)) first) (follow : EachPair Follows first) where
+    cross_all : (R : Columns → Columns → Type 0) → ((a b : Feature) (k l : Columns) → Follows a b → Of a k → Of b l → R k l) → EachPair (λ a b. AllByRecursion (λ k. AllByRecursion (R k) (part b)) (part a)) first
+    cross_all R f = pairs_so (λ a. AllByRecursion (Of a) (part a)) Follows (λ a b. AllByRecursion (λ k. AllByRecursion (R k) (part b)) (part a)) first
+        (λ a b one two follows. all_so (Of a) (λ k. AllByRecursion (R k) (part b)) (part a) (λ k w. all_so (Of b) (R k) (part b) (λ l v. f a b k l follows w v) two) one) of follow
+
+    lines_placed : ((a : Feature) (line : Columns) → Of a line → line.at.chrom ≡ a.chrom) → ((a b : Feature) (k l : Columns) → Follows a b → Of a k → Of b l → LineUpTo k l)
+        → AllByRecursion (λ (a : Feature). IsTrue (order.knows a.chrom)) first → AllByRecursion (λ a. EachPair LineUpTo (part a)) first → ArePlaced order (map (λ (line : Columns). line.at) (flat_map part first))
+    lines_placed named cross known own = pairs_placed order total (map (λ (line : Columns). line.at) (flat_map part first))
+        (all_map (λ (r : Interval). IsTrue (order.knows r.chrom)) (λ (line : Columns). line.at) (flat_map part first)
+        (all_flat_map (λ (line : Columns). IsTrue (order.knows line.at.chrom)) part first
+        (all_zip (λ a. AllByRecursion (Of a) (part a)) (λ (a : Feature). IsTrue (order.knows a.chrom)) (λ a. AllByRecursion (λ (line : Columns). IsTrue (order.knows line.at.chrom)) (part a)) first
+        (λ a all k. all_so (Of a) (λ (line : Columns). IsTrue (order.knows line.at.chrom)) (part a) (λ line is. subst (λ name. IsTrue (order.knows name)) (sym (named a line is)) k) all) of known)))
+        (pairs_map (UpTo order total) (λ (line : Columns). line.at) (flat_map part first) (pairs_flat LineUpTo part first own (cross_all LineUpTo cross)))
 
 module _ (order : Order) (total : IsTotal order) (shape : Shape) (rule : HitRule) (first second : List Feature) (said : AllByRecursion IsSaid first) (said_second : AllByRecursion IsSaid second) (placed : ArePlaced order (intervals_of first)) where
   lines : List Columns
@@ -236,26 +232,13 @@ module _ (order : Order) (total : IsTotal order) (shape : Shape) (rule : HitRule
 
   -- lines that begin with records of the first input
   module _ (begins : begins_with_a shape ≡ true) where
-    abbrev copies : Feature → List Interval
-    copies a = replicate (line_count shape (length (hits_among rule a second))) (interval_of a)
-
-    places_are : map (λ (line : Columns). line.at) lines ≡ flat_map copies first
-    unfolding lines all_columns part
-    places_are = map_flat (λ (line : Columns). line.at) (part shape rule second) copies first (λ a. part_at shape a (hits_among rule a second) begins)
-
-    copies_placed : ArePlaced order (flat_map copies first)
-    copies_placed = pairs_placed order total (flat_map copies first)
-        (all_flat_map (λ (r : Interval). IsTrue (order.knows r.chrom)) copies first (all_so (λ (a : Feature). IsTrue (order.knows a.chrom)) (λ a. AllByRecursion (λ (r : Interval). IsTrue (order.knows r.chrom)) (copies a)) first
-        (λ a known. repeated (λ (r : Interval). IsTrue (order.knows r.chrom)) (line_count shape (length (hits_among rule a second))) (interval_of a) known) (all_unmap _ interval_of first (placed_known order (intervals_of first) placed))))
-        (pairs_flat (UpTo order total) copies first
-        (all_any (λ a. EachPair (UpTo order total) (copies a)) first (λ a. repeated_pairs (UpTo order total) (line_count shape (length (hits_among rule a second))) (interval_of a) (inr (refl, omega arith))))
-        (pairs_so (λ a. Unit {0}) (λ a b. UpTo order total (interval_of a) (interval_of b)) (λ a b. AllByRecursion (λ r. AllByRecursion (UpTo order total r) (copies b)) (copies a)) first
-        (λ a b p q up. repeated (λ r. AllByRecursion (UpTo order total r) (copies b)) (line_count shape (length (hits_among rule a second))) (interval_of a) (repeated (UpTo order total (interval_of a)) (line_count shape (length (hits_among rule b second))) (interval_of b) up))
-        (all_any (λ a. Unit {0}) first (λ a. tt)) (pairs_of_places order total first (placed_pairs order total (intervals_of first) placed))))
-
     pub kept_back : IsInput order (intersect shape rule first second) (map record_back (all_columns shape rule second first))
-    unfolding lines
-    kept_back = lines_input (subst (ArePlaced order) (sym places_are) copies_placed)
+    unfolding lines all_columns part
+    kept_back =
+        let at : AllByRecursion (λ a. AllByRecursion (λ (line : Columns). line.at ≡ interval_of a) (part shape rule second a)) first = all_any _ first (λ a. part_at shape a (hits_among rule a second) begins) in
+        lines_input (lines_placed order total (part shape rule second) (λ a line. line.at ≡ interval_of a) (λ a b. UpTo order total (interval_of a) (interval_of b)) first at (pairs_of_places order total first (placed_pairs order total (intervals_of first) placed))
+        (λ a line is. ap (λ (r : Interval). r.chrom) is) (λ a b k l up one two. rw (one, two) up) (all_unmap _ interval_of first (placed_known order (intervals_of first) placed))
+        (all_so (λ a. AllByRecursion (λ (line : Columns). line.at ≡ interval_of a) (part shape rule second a)) (λ a. EachPair (LineUpTo order total) (part shape rule second a)) first (λ a all. pairs_any (λ (line : Columns). line.at ≡ interval_of a) (LineUpTo order total) (part shape rule second a) (λ k l one two. rw (one, two) (inr (refl, omega arith))) all) at))
 
 -- ---- lines whose start and end are cut, of records that have no base in common
 
@@ -265,7 +248,7 @@ apart_some first (s ∷ ss) h = (h.1, apart_some (s.stop + 1) ss h.2)
 
 pairs_zip : {A : Type 0} (R S : A → A → Type 0) (xs : List A) → EachPair R xs → EachPair S xs → EachPair (λ x y. R x y × S x y) xs
 pairs_zip R S [] h k = tt
-pairs_zip R S (x ∷ xs) h k = (all_zip (R x) (S x) (λ y. R x y × S x y) xs (λ y r s. (r, s)) h.0 k.0, pairs_zip R S xs h.1 k.1)
+pairs_zip R S (x ∷ xs) h k = grind (arith, all_zip, (pairs_zip R S xs h.1 k.1))
 
 -- a line lies within the record
 pub record IsWithin (a : Feature) (line : Columns) : Type 0 where
@@ -275,21 +258,14 @@ pub record IsWithin (a : Feature) (line : Columns) : Type 0 where
   pub to_stop : line.at.stop ≤ a.stop
 
 cut_within : (rule : HitRule) (a b : Feature) (tail : List ℕ) → Hit rule a b → IsWithin a (columns_at (cut a b) tail)
-cut_within rule a b tail hit = record { same = refl; from_start = omega arith; non_empty = cut_bounds rule a b hit.1; to_stop = omega arith }
+cut_within rule a b tail hit = grind (arith, (cut_bounds rule a b hit.1))
 
 part_within : (shape : Shape) (rule : HitRule) (a : Feature) (is : IsSaid a) (found : List Feature) → begins_with_a shape ≡ false → AllByRecursion (Hit rule a) found → AllByRecursion (IsWithin a) (columns_for shape a found)
 unfolding columns_for hit_columns piece_columns
 part_within Cut rule a is found e h = all_map (IsWithin a) (hit_columns Cut a) found (all_so (Hit rule a) (λ b. IsWithin a (hit_columns Cut a b)) found (λ b k. cut_within rule a b a.rest k) h)
 part_within CutAndB rule a is found e h = all_map (IsWithin a) (hit_columns CutAndB a) found (all_so (Hit rule a) (λ b. IsWithin a (hit_columns CutAndB a b)) found (λ b k. cut_within rule a b (a.rest ++ 9 ∷ bed_text b) k) h)
-part_within Pieces rule a is found e h = all_map (IsWithin a) (piece_columns a) (pieces a found) (all_so (λ (p : Span). (a.start ≤ p.start) × (p.start < p.stop) × (p.stop ≤ a.stop)) (λ p. IsWithin a (piece_columns a p)) (pieces a found)
-    (λ p k. record { same = refl; from_start = k.0; non_empty = k.1; to_stop = k.2 }) (piece_bounds rule a is found))
-part_within OrigA rule a is found e h = cc
-part_within OrigBoth rule a is found e h = cc
-part_within Overlap rule a is found e h = cc
-part_within Once rule a is found e h = cc
-part_within Missing rule a is found e h = cc
-part_within Count rule a is found e h = cc
-part_within Whole rule a is found e h = cc
+part_within Pieces rule a is found e h = grind (arith, all_map, all_so, (piece_bounds rule a is found))
+part_within _ rule a is found e h = cc
 
 -- starts that don't fall
 abbrev Rise : Feature → Feature → Type 0
@@ -299,26 +275,17 @@ module _ (order : Order) (total : IsTotal order) where
   hits_rise : (rule : HitRule) (a : Feature) (bs : List Feature) → IsTrue (order.knows a.chrom) → AllByRecursion IsSaid bs → ArePlaced order (intervals_of bs) → EachPair Rise (hits_among rule a bs)
   hits_rise rule a bs known said placed = grind (arith, pairs_so, same_name, (all_hits rule a bs said), pairs_filter, (pairs_of_places order total bs (placed_pairs order total (intervals_of bs) placed)))
 
-  abbrev LineUpTo : Columns → Columns → Type 0
-  LineUpTo k l = UpTo order total k.at l.at
-
-  part_rises : (shape : Shape) (a : Feature) (found : List Feature) → begins_with_a shape ≡ false → EachPair Rise found → EachPair LineUpTo (columns_for shape a found)
+  part_rises : (shape : Shape) (a : Feature) (found : List Feature) → begins_with_a shape ≡ false → EachPair Rise found → EachPair (LineUpTo order total) (columns_for shape a found)
   unfolding columns_for hit_columns piece_columns
-  part_rises Cut a found e h = pairs_map LineUpTo (hit_columns Cut a) found (pairs_so (λ b. Unit {0}) Rise (λ b c. LineUpTo (hit_columns Cut a b) (hit_columns Cut a c)) found (λ b c p q up. inr (refl, omega (arith, up))) (all_any (λ b. Unit {0}) found (λ b. tt)) h)
-  part_rises CutAndB a found e h = pairs_map LineUpTo (hit_columns CutAndB a) found (pairs_so (λ b. Unit {0}) Rise (λ b c. LineUpTo (hit_columns CutAndB a b) (hit_columns CutAndB a c)) found (λ b c p q up. inr (refl, omega (arith, up))) (all_any (λ b. Unit {0}) found (λ b. tt)) h)
+  part_rises Cut a found e h = pairs_map (LineUpTo order total) (hit_columns Cut a) found (pairs_so (λ b. Unit {0}) Rise (λ b c. LineUpTo order total (hit_columns Cut a b) (hit_columns Cut a c)) found (λ b c p q up. inr (refl, omega (arith, up))) (all_any (λ b. Unit {0}) found (λ b. tt)) h)
+  part_rises CutAndB a found e h = pairs_map (LineUpTo order total) (hit_columns CutAndB a) found (pairs_so (λ b. Unit {0}) Rise (λ b c. LineUpTo order total (hit_columns CutAndB a b) (hit_columns CutAndB a c)) found (λ b c p q up. inr (refl, omega (arith, up))) (all_any (λ b. Unit {0}) found (λ b. tt)) h)
   part_rises Pieces a found e h = grind (arith, pairs_map, pairs_so, (apart_some 0 (pieces a found) (are_pieces a found).apart), (apart_pairs 0 (pieces a found) (are_pieces a found).apart))
-  part_rises OrigA a found e h = cc
-  part_rises OrigBoth a found e h = cc
-  part_rises Overlap a found e h = cc
-  part_rises Once a found e h = cc
-  part_rises Missing a found e h = cc
-  part_rises Count a found e h = cc
-  part_rises Whole a found e h = cc
+  part_rises _ a found e h = cc
 
   abbrev FollowsApart : Feature → Feature → Type 0
   FollowsApart a b = UpTo order total (interval_of a) (interval_of b) × AreDisjoint (interval_of a) (interval_of b)
 
-  cross_up : (a b : Feature) (k l : Columns) → FollowsApart a b → IsWithin a k → IsWithin b l → LineUpTo k l
+  cross_up : (a b : Feature) (k l : Columns) → FollowsApart a b → IsWithin a k → IsWithin b l → LineUpTo order total k l
   cross_up a b k l p1 one two = grind arith
 
   cross_apart : (a b : Feature) (k l : Columns) → FollowsApart a b → IsWithin a k → IsWithin b l → AreDisjoint k.at l.at
@@ -330,29 +297,20 @@ module _ (order : Order) (total : IsTotal order) where
     cut_part a = columns_for shape a (hits_among rule a second)
 
     all_within : AllByRecursion (λ a. AllByRecursion (IsWithin a) (cut_part a)) first
-    all_within = all_so IsSaid (λ a. AllByRecursion (IsWithin a) (cut_part a)) first (λ a is. part_within shape rule a is (hits_among rule a second) cuts (all_hits rule a second said_second)) said
+    all_within = grind (arith, all_so, part_within, all_hits)
 
     follow_apart : EachPair FollowsApart first
-    follow_apart = pairs_zip (λ a b. UpTo order total (interval_of a) (interval_of b)) (λ a b. AreDisjoint (interval_of a) (interval_of b)) first (pairs_of_places order total first (placed_pairs order total (intervals_of first) placed)) (pairs_from_map AreDisjoint interval_of first apart)
-
-    cross_all : (R : Columns → Columns → Type 0) → ((a b : Feature) (k l : Columns) → FollowsApart a b → IsWithin a k → IsWithin b l → R k l) → EachPair (λ a b. AllByRecursion (λ k. AllByRecursion (R k) (cut_part b)) (cut_part a)) first
-    cross_all R f = pairs_so (λ a. AllByRecursion (IsWithin a) (cut_part a)) FollowsApart (λ a b. AllByRecursion (λ k. AllByRecursion (R k) (cut_part b)) (cut_part a)) first
-        (λ a b one two follows. all_so (IsWithin a) (λ k. AllByRecursion (R k) (cut_part b)) (cut_part a) (λ k w. all_so (IsWithin b) (R k) (cut_part b) (λ l v. f a b k l follows w v) two) one) all_within follow_apart
+    follow_apart = grind (arith, pairs_zip, (pairs_of_places order total first (placed_pairs order total (intervals_of first) placed)), (placed_pairs order total (intervals_of first) placed), (pairs_from_map AreDisjoint interval_of first apart))
 
     cut_lines : List Columns
     cut_lines = flat_map cut_part first
 
-    cut_pairs : EachPair LineUpTo cut_lines
-    unfolding cut_lines
-    cut_pairs = grind (arith, pairs_flat, all_so, part_rises, hits_rise, (all_unmap _ interval_of first (placed_known order (intervals_of first) placed)), (cross_all LineUpTo cross_up))
-
     cut_placed : ArePlaced order (map (λ (line : Columns). line.at) cut_lines)
     unfolding cut_lines
-    cut_placed = pairs_placed order total (map (λ (line : Columns). line.at) cut_lines)
-        (all_map (λ (r : Interval). IsTrue (order.knows r.chrom)) (λ (line : Columns). line.at) cut_lines
-        (all_flat_map (λ (line : Columns). IsTrue (order.knows line.at.chrom)) cut_part first (all_zip (λ a. AllByRecursion (IsWithin a) (cut_part a)) (λ (a : Feature). IsTrue (order.knows a.chrom)) (λ a. AllByRecursion (λ (line : Columns). IsTrue (order.knows line.at.chrom)) (cut_part a)) first
-        (λ a within known. all_so (IsWithin a) (λ (line : Columns). IsTrue (order.knows line.at.chrom)) (cut_part a) (λ line w. subst (λ name. IsTrue (order.knows name)) (sym w.same) known) within) all_within (all_unmap _ interval_of first (placed_known order (intervals_of first) placed)))))
-        (pairs_map (UpTo order total) (λ (line : Columns). line.at) cut_lines cut_pairs)
+    cut_placed =
+        let known = all_unmap _ interval_of first (placed_known order (intervals_of first) placed) in
+        lines_placed order total cut_part IsWithin FollowsApart first all_within follow_apart (λ a line w. w.same) cross_up known
+        (all_so _ (λ a. EachPair (LineUpTo order total) (cut_part a)) first (λ a k. part_rises shape a (hits_among rule a second) cuts (hits_rise rule a second k said_second placed_second)) known)
 
   pub cut_back : (shape : Shape) (rule : HitRule) (first second : List Feature) (said : AllByRecursion IsSaid first) (said_second : AllByRecursion IsSaid second) (placed : ArePlaced order (intervals_of first)) (placed_second : ArePlaced order (intervals_of second))
       (apart : EachPair AreDisjoint (intervals_of first)) (cuts : begins_with_a shape ≡ false) → IsInput order (intersect shape rule first second) (map record_back (all_columns shape rule second first))
@@ -372,4 +330,5 @@ module _ (order : Order) (total : IsTotal order) where
       (all_any _ first (λ a. pairs_map (λ k l. AreDisjoint k.at l.at) (piece_columns a) (pieces a (hits_among rule a second))
       (pairs_so (λ p. Unit {0}) (λ (s t : Span). s.stop < t.start) (λ s t. AreDisjoint (piece_columns a s).at (piece_columns a t).at) (pieces a (hits_among rule a second)) (λ s t p q up same. omega (arith, up)) (all_any (λ p. Unit {0}) (pieces a (hits_among rule a second)) (λ p. tt))
       (apart_pairs 0 (pieces a (hits_among rule a second)) (are_pieces a (hits_among rule a second)).apart))))
-      (cross_all Pieces rule first second said said_second placed placed_second apart refl (λ k l. AreDisjoint k.at l.at) cross_apart)))
+      (cross_all order total (cut_part Pieces rule first second said said_second placed placed_second apart refl) IsWithin FollowsApart first (all_within Pieces rule first second said said_second placed placed_second apart refl)
+      (follow_apart Pieces rule first second said said_second placed placed_second apart refl) (λ k l. AreDisjoint k.at l.at) cross_apart)))

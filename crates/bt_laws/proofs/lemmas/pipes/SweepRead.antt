@@ -2,21 +2,21 @@
 use Rattle.bt_lines.proofs.Std.{rules, ◌≡◌, ℕ, ◌<◌, true, false, List, [], ◌∷◌, ◌++◌, map, length, refl, sym, ap, ap₂, ◌∙◌, subst, arith, append_assoc, append-nil, decimal, eqb, IsTrue, flat_map, replicate, AllByRecursion, ends_with_byte, strip_last, map-append, slice_split_at}
 use Rattle.bt_lines.specs.model.Lines.{pieces as columns_of}
 use Rattle.bt_lines.proofs.lemmas.reader.lines.TextLemmas.{IsColumn}
-use Rattle.bt_bed.specs.model.Feature.{Span, Feature, intervals_of}
-use Rattle.bt_bed.specs.model.BedLine.{bed_text, cut_to, kept_columns, strand_named, strand_of}
+use Rattle.bt_bed.specs.model.Feature.{Feature, intervals_of}
+use Rattle.bt_bed.specs.model.BedLine.{bed_text, kept_columns, strand_named, strand_of}
 use Rattle.bt_bed.specs.calls.Features.{IsName, columns_in, is_kept}
 use Rattle.bt_bed.specs.declared.record.strand.Strand.TheVariants.{Dot}
 use Rattle.bt_bed.proofs.lemmas.parse.FeatureLemmas.{kept_is_cut, pieces_are_columns}
 use Rattle.bt_bed.proofs.lemmas.read.ColumnLemmas.{kept_again}
-use Rattle.bt_sweep.specs.model.Hits.{hits_among, shared_bases}
-use Rattle.bt_sweep.specs.model.Lines.{cut, pieces}
+use Rattle.bt_sweep.specs.model.Hits.{hits_among}
 use Rattle.bt_sweep.specs.declared.hits.hit_rule.HitRule.{HitRule}
 use Rattle.bt_sweep.specs.declared.output.shape.Shape.{Shape}
-use Rattle.bt_sweep.specs.declared.output.shape.Shape.TheVariants.{Count, Cut, CutAndB, Missing, Once, OrigA, OrigBoth, Overlap, Pieces, Whole}
+use Rattle.bt_sweep.specs.declared.output.shape.Shape.TheVariants.{Count, Cut, CutAndB, OrigBoth, Overlap, Pieces}
 use Rattle.bt_laws.specs.Pipes.{EndsPlain, KeepsStrand, TakesNoStrand, begins_with_a, copies_written, is_a_alone, line_count, read_alone, read_before, records_for, records_written}
-use Rattle.bt_laws.proofs.lemmas.pipes.LinesBack.{IsDigit, decimal_digits, strip_number, number_column, record_back, IsSaid, columns_text, kept_by, name_first, record_with, strip_both, strip_columns}
+use Rattle.bt_laws.proofs.lemmas.pipes.LinesBack.{strip_number, record_back, IsSaid, kept_by, name_first, record_with, strip_both, strip_columns}
 use Rattle.bt_laws.proofs.lemmas.pipes.SweepBack.{Hit, all_columns, all_hits, columns_at, columns_for, hit_columns, part, piece_columns, same_name}
 use Rattle.bt_runs.proofs.lemmas.Lists.{all_any, all_map, all_so, flat_map_same, all_zip, map_map, map_flat}
+use Rattle.bt_laws.proofs.lemmas.single.Records.{IsDigit, decimal_digits, number_column, columns_text, line_columns}
 
 -- ---- the columns of a line, read again
 
@@ -29,7 +29,7 @@ read_as shape a found = grind (arith, map_map, all_any, before_tail)
 
 pub all_read : (shape : Shape) (rule : HitRule) (first second : List Feature) → map record_back (all_columns shape rule second first) ≡ records_written shape rule first second
 unfolding all_columns part
-all_read shape rule first second = map_flat record_back (λ a. columns_for shape a (hits_among rule a second)) (λ a. records_for shape a (hits_among rule a second)) first (λ a. read_as shape a (hits_among rule a second))
+all_read shape rule first second = grind (arith, map_flat, record_back, columns_for, read_as)
 
 -- ---- copies of a record
 
@@ -44,7 +44,7 @@ same_all f a (b ∷ found) e = ap₂ (λ x y. x ∷ y) (e b) (same_all f a found
 
 map_flat_same : {X : Type 0} (h : Feature → X) (f g : Feature → List Feature) (first : List Feature) → AllByRecursion (λ a. map h (f a) ≡ map h (g a)) first → map h (flat_map f first) ≡ map h (flat_map g first)
 map_flat_same h f g [] e = refl
-map_flat_same h f g (a ∷ first) e = map-append h (f a) (flat_map f first) ∙ ap₂ (λ x y. x ++ y) e.0 (map_flat_same h f g first e.1) ∙ sym (map-append h (g a) (flat_map g first))
+map_flat_same h f g (a ∷ first) e = grind (arith, (map-append h (f a) (flat_map f first)), (map_flat_same h f g first e.1), (map-append h (g a) (flat_map g first)))
 
 -- ---- places
 
@@ -72,11 +72,8 @@ number_unsigned n = digits_unsigned (decimal n) (decimal_digits n)
 
 -- ---- the columns of a text that goes on
 
-pub rest_columns : (rest : List ℕ) → AllByRecursion IsColumn (columns_in rest)
-rest_columns rest = grind (arith, pieces_are_columns)
-
 more_from : (x : List ℕ) (xs : List (List ℕ)) → IsColumn x → AllByRecursion IsColumn xs → (text : List ℕ) → columns_of 9 ((x ++ kept_columns xs) ++ 9 ∷ text) ≡ x ∷ (xs ++ columns_of 9 text)
-more_from x [] h hs text = ap (λ l. columns_of 9 (l ++ 9 ∷ text)) (append-nil x) ∙ slice_split_at (λ byte. eqb byte 9) x 9 text h refl
+more_from x [] h hs text = grind (arith, (append-nil x), slice_split_at, eqb)
 more_from x (y ∷ ys) h hs text = grind (arith, (more_from y ys hs.0 hs.1 text), append_assoc, slice_split_at)
 
 more_columns : (xs : List (List ℕ)) → AllByRecursion IsColumn xs → (text : List ℕ) → columns_in (kept_columns xs ++ 9 ∷ text) ≡ xs ++ columns_of 9 text
@@ -84,14 +81,7 @@ more_columns [] h text = refl
 more_columns (x ∷ xs) h text = more_from x xs h.0 h.1 text
 
 columns_both : (rest text : List ℕ) → IsTrue (is_kept rest) → columns_in (rest ++ 9 ∷ text) ≡ columns_in rest ++ columns_of 9 text
-columns_both rest text kept = ap (λ l. columns_in (l ++ 9 ∷ text)) (sym (kept_again rest kept)) ∙ more_columns (columns_in rest) (grind (arith, pieces_are_columns)) text
-
--- a name, two numbers, and what follows them
-line_columns : (chrom : List ℕ) (start stop : ℕ) (tail : List ℕ) → IsName chrom → IsTrue (is_kept tail) → columns_of 9 (columns_text chrom start stop tail) ≡ chrom ∷ decimal start ∷ decimal stop ∷ columns_in tail
-line_columns chrom start stop tail named kept =
-    let text : columns_text chrom start stop tail ≡ chrom ++ kept_columns (decimal start ∷ decimal stop ∷ columns_in tail) =
-    ap (λ l. chrom ++ 9 ∷ [] ++ decimal start ++ 9 ∷ [] ++ decimal stop ++ l) (sym (kept_again tail kept)) ∙ simp append_assoc in
-    ap (columns_of 9) text ∙ kept_is_cut chrom (decimal start ∷ decimal stop ∷ columns_in tail) named.one_column (number_column start, (number_column stop, rest_columns tail))
+columns_both rest text kept = grind (arith, (kept_again rest kept), more_columns, pieces_are_columns)
 
 -- ---- strands
 
@@ -123,40 +113,21 @@ module _ (a : Feature) (is : IsSaid a) where
 
   strands_for : (rule : HitRule) (shape : Shape) (found : List Feature) → begins_with_a shape ≡ true → is_a_alone shape ≡ false → TakesNoStrand shape a → AllByRecursion (Hit rule a) found
       → map (λ (r : Feature). r.strand) (records_for shape a found) ≡ map (λ (r : Feature). r.strand) (replicate (line_count shape (length found)) a)
-  strands_for rule Cut found e alone unsigned h = cc
-  strands_for rule OrigA found e alone unsigned h = cc
-  strands_for rule CutAndB found e alone unsigned h = cc
   strands_for rule OrigBoth found e alone unsigned h = grind (arith, same_copies, (all_so (Hit rule a) (λ b. (read_before (bed_text b) a).strand ≡ a.strand) found (λ b hit. both_strand rule unsigned b hit) h))
-  strands_for rule Overlap found e alone unsigned h =
-      same_copies (λ (r : Feature). r.strand) (λ b. read_before (bed_text b ++ 9 ∷ decimal (shared_bases a b)) a) a found
-      (all_so (Hit rule a) (λ b. (read_before (bed_text b ++ 9 ∷ decimal (shared_bases a b)) a).strand ≡ a.strand) found (λ b hit. overlap_strand rule unsigned b hit (shared_bases a b)) h)
-  strands_for rule Once found e alone unsigned h = cc
-  strands_for rule Missing found e alone unsigned h = cc
+  strands_for rule Overlap found e alone unsigned h = grind (arith, same_copies, decimal, all_so, overlap_strand)
   strands_for rule Count found e alone unsigned h = ap (λ s. s ∷ []) (after_number (length found))
-  strands_for rule Pieces found e alone unsigned h = cc
-  strands_for rule Whole found e alone unsigned h = cc
+  strands_for rule _ found e alone unsigned h = cc
 
   cut_strands_for : (rule : HitRule) (shape : Shape) (found : List Feature) → begins_with_a shape ≡ false → KeepsStrand shape a → AllByRecursion (Hit rule a) found → AllByRecursion (λ (r : Feature). r.strand ≡ a.strand) (records_for shape a found)
-  cut_strands_for rule Cut found e plain h = all_map (λ (r : Feature). r.strand ≡ a.strand) (λ b. read_alone (cut a b)) found (all_any _ found (λ b. ap (λ (r : Feature). r.strand) (alone_same a is plain)))
-  cut_strands_for rule CutAndB found e unsigned h = all_map (λ (r : Feature). r.strand ≡ a.strand) (λ b. read_before (bed_text b) (cut a b)) found (all_so (Hit rule a) (λ b. (read_before (bed_text b) a).strand ≡ a.strand) found (λ b hit. both_strand rule unsigned b hit) h)
-  cut_strands_for rule Pieces found e plain h = all_map (λ (r : Feature). r.strand ≡ a.strand) (λ (p : Span). read_alone (cut_to p.start p.stop a)) (pieces a found) (all_any _ (pieces a found) (λ p. ap (λ (r : Feature). r.strand) (alone_same a is plain)))
-  cut_strands_for rule OrigA found e plain h = cc
-  cut_strands_for rule OrigBoth found e plain h = cc
-  cut_strands_for rule Overlap found e plain h = cc
-  cut_strands_for rule Once found e plain h = cc
-  cut_strands_for rule Missing found e plain h = cc
-  cut_strands_for rule Count found e plain h = cc
-  cut_strands_for rule Whole found e plain h = cc
+  cut_strands_for rule Cut found e plain h = grind (arith, all_map, all_any, (alone_same a is plain))
+  cut_strands_for rule CutAndB found e unsigned h = grind (arith, all_map, all_so, both_strand)
+  cut_strands_for rule Pieces found e plain h = grind (arith, all_map, all_any, (alone_same a is plain))
+  cut_strands_for rule _ found e plain h = cc
 
 pub cut_stay : (shape : Shape) (rule : HitRule) (first second : List Feature) → begins_with_a shape ≡ false → AllByRecursion IsSaid first → AllByRecursion IsSaid second → AllByRecursion (KeepsStrand shape) first
     → AllByRecursion (λ a. AllByRecursion (λ (r : Feature). r.strand ≡ a.strand) (records_for shape a (hits_among rule a second))) first
-cut_stay shape rule first second e said said_second keeps =
-    all_zip IsSaid (KeepsStrand shape) (λ a. AllByRecursion (λ (r : Feature). r.strand ≡ a.strand) (records_for shape a (hits_among rule a second))) first
-    (λ a is keeps_it. cut_strands_for a is rule shape (hits_among rule a second) e keeps_it (all_hits rule a second said_second)) said keeps
+cut_stay shape rule first second e said said_second keeps = grind (arith, all_zip, cut_strands_for, all_hits)
 
 pub strands_stay : (shape : Shape) (rule : HitRule) (first second : List Feature) → begins_with_a shape ≡ true → is_a_alone shape ≡ false → AllByRecursion IsSaid first → AllByRecursion IsSaid second → AllByRecursion (TakesNoStrand shape) first
     → map (λ (r : Feature). r.strand) (records_written shape rule first second) ≡ map (λ (r : Feature). r.strand) (copies_written shape rule first second)
-strands_stay shape rule first second e alone said said_second unsigned =
-    map_flat_same (λ (r : Feature). r.strand) (λ a. records_for shape a (hits_among rule a second)) (λ a. replicate (line_count shape (length (hits_among rule a second))) a) first
-    (all_zip IsSaid (TakesNoStrand shape) (λ a. map (λ (r : Feature). r.strand) (records_for shape a (hits_among rule a second)) ≡ map (λ (r : Feature). r.strand) (replicate (line_count shape (length (hits_among rule a second))) a)) first
-    (λ a is takes. strands_for a is rule shape (hits_among rule a second) e alone takes (all_hits rule a second said_second)) said unsigned)
+strands_stay shape rule first second e alone said said_second unsigned = grind (arith, map_flat_same, replicate, length, all_zip, strands_for, all_hits)

@@ -2,7 +2,7 @@
 use Rattle.bt_lines.proofs.Std.{rules, ◌≡◌, ℕ, ◌+◌, ◌<◌, ◌≤◌, false, List, [], ◌∷◌, append-nil, map, filter, max, min, Some, None, Ok, refl, sym, ap, ◌∙◌, subst, inl, inr, arith, bytes_eq, flat_map, AllByRecursion, or_parts, flat_map-map}
 use Rattle.bt_lines.specs.model.Lines.{whole_text}
 use Rattle.bt_lines.specs.declared.fault.Input.TheVariants.{First, Second}
-use Rattle.bt_bed.specs.model.Feature.{Feature, interval_of, intervals_of, Interval, Span, spans_on}
+use Rattle.bt_bed.specs.model.Feature.{Feature, interval_of, intervals_of, Interval, Span, spans_on, placed_on}
 use Rattle.bt_bed.specs.model.Positions.{stretches_from}
 use Rattle.bt_bed.specs.calls.Stretches.{AreApartFrom, IsCovered}
 use Rattle.bt_bed.specs.model.BedLine.{is_header, interval_lines}
@@ -11,7 +11,7 @@ use Rattle.bt_bed.specs.model.Good.{bed_good}
 use Rattle.bt_bed.specs.model.Order.{Order, is_among}
 use Rattle.bt_bed.specs.calls.Orders.{AreDistinct}
 use Rattle.bt_bed.proofs.lemmas.parse.NameLemmas.{cases_name}
-use Rattle.bt_runs.specs.model.Gaps.{complement, gaps_of, gaps_on, is_asked}
+use Rattle.bt_runs.specs.model.Gaps.{complement, gaps_of}
 use Rattle.bt_runs.specs.calls.Complementing.{length_in}
 use Rattle.bt_runs.proofs.lemmas.order.FileOrder.{spans_on-append}
 use Rattle.bt_runs.proofs.lemmas.complement.Walks.{are_gaps}
@@ -27,10 +27,10 @@ use Rattle.bt_laws.specs.WholeRuns.{first_records, second_records, RunWrites, of
 use Rattle.bt_laws.specs.Same.{LieWithinLengths, subtract_by_complement}
 use Rattle.bt_laws.specs.Pipes.{AreSeparate, IsInput, is_no_header, three_columns}
 use Rattle.bt_runs.proofs.lemmas.Lists.{EachPair, all_any, all_map, all_so, filter_all, flat_map_same, all_zip}
-use Rattle.bt_laws.proofs.lemmas.pipes.RunsBack.{gaps_back, gaps_pairs}
-use Rattle.bt_laws.proofs.lemmas.pipes.PipeLaws.{chroms_of, intersect_whole, subtract_whole, well_there}
+use Rattle.bt_laws.proofs.lemmas.pipes.RunsBack.{gaps_back, gaps_in_order}
+use Rattle.bt_laws.proofs.lemmas.pipes.PipeLaws.{chroms_of, intersect_whole, subtract_whole, well_there, report_there}
 use Rattle.bt_laws.proofs.lemmas.pipes.Placing.{pairs_filter, pairs_map, pairs_so}
-use Rattle.bt_laws.proofs.lemmas.same.SameRuns.{here_all, none_there, report_there}
+use Rattle.bt_laws.proofs.lemmas.same.SameRuns.{here_all, none_there}
 use Rattle.bt_laws.proofs.lemmas.pipes.LinesBack.{IsChrom, IsSaid, good_are_said}
 use Rattle.bt_laws.proofs.lemmas.same.SameSweeps.{hit_back, hit_to, met_none, nones, other_input, sweeps_from}
 use Rattle.bt_laws.proofs.lemmas.pipes.SweepBack.{Hit, all_hits, cut_bounds, same_name as hit_name}
@@ -41,21 +41,23 @@ no_gaps : (spans : List Span) → gaps_of 0 spans ≡ []
 unfolding gaps_of stretches_from
 no_gaps spans = refl
 
-module _ (records : List Interval) where
-  gaps_absent : (name : List ℕ) (entries : List Entry) → is_among (genome_names entries) name ≡ false → spans_on name (flat_map (gaps_on records) entries) ≡ []
-  gaps_absent name [] e = refl
-  gaps_absent name (entry ∷ entries) e =
-      grind (arith, (gaps_absent name entries (or_parts (bytes_eq entry.name name) (is_among (genome_names entries) name) e).1), spans_on-append, none_there)
+-- spans of the chromosomes of a genome file, by their names and lengths
+module _ (spans : List ℕ → ℕ → List Span) (none : (name : List ℕ) → spans name 0 ≡ []) where
+  abbrev pub on_entry : Entry → List Interval
+  on_entry e = map (placed_on e.name) (spans e.name e.length)
 
-  pub gaps_there : (name : List ℕ) (entries : List Entry) → AreDistinct (genome_names entries) → spans_on name (flat_map (gaps_on records) entries) ≡ gaps_of (length_in entries name) (spans_on name records)
-  gaps_there name [] distinct = sym (no_gaps (spans_on name records))
-  gaps_there name (entry ∷ entries) distinct = grind (arith, (gaps_there name entries distinct.1), cases_name, spans_on-append, here_all, gaps_absent, append-nil, none_there)
+  spans_absent : (name : List ℕ) (entries : List Entry) → is_among (genome_names entries) name ≡ false → spans_on name (flat_map on_entry entries) ≡ []
+  spans_absent name [] e = refl
+  spans_absent name (entry ∷ entries) e =
+      grind (arith, (spans_absent name entries (or_parts (bytes_eq entry.name name) (is_among (genome_names entries) name) e).1), spans_on-append, none_there)
+
+  pub spans_there : (name : List ℕ) (entries : List Entry) → AreDistinct (genome_names entries) → spans_on name (flat_map on_entry entries) ≡ spans name (length_in entries name)
+  spans_there name [] distinct = sym (none name)
+  spans_there name (entry ∷ entries) distinct = grind (arith, (spans_there name entries distinct.1), cases_name, spans_on-append, here_all, spans_absent, append-nil, none_there)
 
 pub complement_spans : (entries : List Entry) (records : List Feature) (name : List ℕ) → AreDistinct (genome_names entries) → spans_on name (complement false entries records) ≡ gaps_of (length_in entries name) (spans_on name (intervals_of records))
 unfolding complement
-complement_spans entries records name distinct =
-    ap (λ es. spans_on name (flat_map (gaps_on (intervals_of records)) es)) (filter_all (is_asked false (intervals_of records)) entries (all_any _ entries (λ e. refl)))
-    ∙ gaps_there (intervals_of records) name entries distinct
+complement_spans entries records name distinct = grind (arith, filter_all, all_any, (spans_there (λ n size. gaps_of size (spans_on n (intervals_of records))) (λ n. no_gaps (spans_on n (intervals_of records))) name entries distinct))
 
 -- lines of header words hide nothing of another chromosome
 pub unhidden : (name : List ℕ) (rs : List Interval) → is_header name ≡ false → spans_on name (intervals_of (filter is_no_header (map three_columns rs))) ≡ spans_on name rs
@@ -116,19 +118,19 @@ module _ (inputs : Inputs) (entries : List Entry) (genome : chromosomes_of input
   alone = record { genome = inputs.genome; first = or_empty inputs.second; second = None }
 
   second_is : of_second (Complement false) inputs ≡ interval_lines gaps
-  second_is = grind (arith, (other_input order (or_empty inputs.second) none), (report_there (Complement false) alone (Some entries) genome))
+  second_is = grind (arith, (other_input order Second First (or_empty inputs.second) none), (report_there (Complement false) alone (Some entries) genome))
 
   known : AllByRecursion IsChrom entries × AreDistinct (genome_names entries)
   known = chroms_of inputs.genome entries genome
 
   second_input : IsInput order (of_second (Complement false) inputs) gap_records
-  second_input = subst (λ text. IsInput order text gap_records) (sym second_is) (gaps_back entries known.0 known.1 false seconds)
+  second_input = grind (arith, second_is, (gaps_back entries known.0 known.1 false seconds))
 
   gaps_said : AllByRecursion IsSaid gap_records
   gaps_said = subst (AllByRecursion IsSaid) (second_input.records_are Second) (good_are_said Second order (whole_text (of_second (Complement false) inputs)))
 
   gaps_far : EachPair (λ (g h : Feature). AreSeparate (interval_of g) (interval_of h)) gap_records
-  gaps_far = grind (arith, pairs_filter, (pairs_map (λ (g h : Feature). AreSeparate (interval_of g) (interval_of h)) three_columns gaps (gaps_pairs entries known.0 known.1 false seconds)))
+  gaps_far = grind (arith, pairs_filter, (pairs_map (λ (g h : Feature). AreSeparate (interval_of g) (interval_of h)) three_columns gaps (gaps_in_order entries known.0 known.1 false seconds).pairs))
 
   one_line : (a : Feature) → IsSaid a → a.stop ≤ length_in entries a.chrom → lines_for Cut any_overlap a gap_records ≡ lines_for Pieces any_overlap a seconds
   unfolding lines_for
@@ -147,7 +149,4 @@ module _ (inputs : Inputs) (entries : List Entry) (genome : chromosomes_of input
       ∙ all_lines (first_records (Some entries) inputs) (good_are_said First order inputs.first) within)
 
 pub subtract_gaps : subtract_by_complement
-subtract_gaps held inputs entries well within =
-    let none = nones Pieces held inputs (Some entries) (well_there (Subtract false any_overlap held) inputs (Some entries) well) in
-    subst (RunWrites (Intersect Cut any_overlap None) (with_second (Complement false) inputs)) (sym (subtract_whole false any_overlap held inputs (Some entries) well))
-    (by_gaps inputs entries well.genome none.1 none.0 within)
+subtract_gaps held inputs entries well within = grind (arith, (nones Pieces held inputs (Some entries) (well_there (Subtract false any_overlap held) inputs (Some entries) well)), (well_there (Subtract false any_overlap held) inputs (Some entries) well), (subtract_whole false any_overlap held inputs (Some entries) well), by_gaps)

@@ -1,5 +1,5 @@
 -- Gaps of gaps, and merged depths.
-use Rattle.bt_lines.proofs.Std.{◌≡◌, ℕ, ◌+◌, ◌<◌, ◌≤◌, true, false, cond, List, [], ◌∷◌, ◌++◌, map, filter, min, Some, None, refl, sym, ap, ◌∙◌, subst, inl, inr, arith, append-nil, bytes_eq, flat_map, nat_lt, AllByRecursion, cases_Bool, cases_lt, le-ltb, lt-ltb, or_parts, flat_map-append, map-append, rules}
+use Rattle.bt_lines.proofs.Std.{◌≡◌, ℕ, ◌+◌, ◌<◌, ◌≤◌, true, false, cond, List, [], ◌∷◌, ◌++◌, map, filter, min, Some, None, refl, sym, ap, ◌∙◌, subst, inl, inr, arith, bytes_eq, flat_map, nat_lt, AllByRecursion, cases_Bool, cases_lt, le-ltb, lt-ltb, or_parts, flat_map-append, rules}
 use Rattle.bt_lines.specs.declared.fault.Input.TheVariants.{First}
 use Rattle.bt_bed.specs.model.Feature.{Feature, intervals_of, interval_of, Interval, Span, placed_on, spans_on, span_of}
 use Rattle.bt_bed.specs.calls.Stretches.{AreApartFrom, IsCovered}
@@ -25,16 +25,15 @@ use Rattle.bt_laws.specs.WholeRuns.{first_records, piped}
 use Rattle.bt_laws.specs.Pipes.{IsInput, is_no_header, three_columns, four_columns}
 use Rattle.bt_laws.proofs.lemmas.pipes.PipeLaws.{runs_cover, SameCover, covered_some, some_covered, chroms_of, complement_whole, merge_whole, genomecov_whole}
 use Rattle.bt_laws.proofs.lemmas.pipes.RunsBack.{gaps_back, coverage_back}
-use Rattle.bt_laws.proofs.lemmas.same.GapsHit.{complement_spans, unhidden}
-use Rattle.bt_runs.proofs.lemmas.Lists.{all_any, filter_all, flat_map_same, all_zip}
-use Rattle.bt_laws.proofs.lemmas.same.SameRuns.{alike_merged, complement_on, fault_as, told_same, writes_is, here_all, merge_on, none_there, all_counted}
+use Rattle.bt_laws.proofs.lemmas.same.GapsHit.{complement_spans, unhidden, on_entry, spans_there}
+use Rattle.bt_runs.proofs.lemmas.Lists.{all_any, filter_all, flat_map_same, all_zip, map_flat}
+use Rattle.bt_laws.proofs.lemmas.same.SameRuns.{alike_merged, complement_on, fault_as, told_same, writes_is, merge_on, all_counted}
 use Rattle.bt_laws.proofs.lemmas.parts.PartTexts.{order_total}
 use Rattle.bt_lines.specs.model.Lines.{whole_text}
 use Rattle.bt_bed.specs.model.Levels.{HasValue, Level}
 use Rattle.bt_laws.specs.Runs.{interval_at}
 use Rattle.bt_bed.specs.calls.LevelScan.{begun_after, ended_after}
 use Rattle.bt_runs.specs.model.Depth.{DepthInterval, counted_on, coverage, depth_at, depth_of, depth_on, depths_on, levels_of}
-use Rattle.bt_runs.proofs.lemmas.order.FileOrder.{spans_on-append}
 use Rattle.bt_laws.proofs.lemmas.single.LevelLemmas.{are_levels}
 use Rattle.bt_laws.proofs.lemmas.pipes.DepthParts.{shown}
 use Rattle.bt_laws.proofs.lemmas.pipes.LinesBack.{IsSaid, good_are_said}
@@ -67,7 +66,7 @@ cut_to size (s ∷ ss) p c = elim (cases_lt s.start size) [
 
 cut_back : (size : ℕ) (spans : List Span) (p : ℕ) → p < size → IsCovered spans p → IsCovered (cut_spans size spans) p
 cut_back size [] p within c = absurd c
-cut_back size (s ∷ ss) p within (inl here) = subst (λ b. IsCovered (cond b (record { start = s.start; stop = min s.stop size } ∷ []) [] ++ cut_spans size ss) p) (sym (lt-ltb s.start size (omega (arith, here.0, within)))) (inl (here.0, omega (arith, here.1, within)))
+cut_back size (s ∷ ss) p within (inl here) = grind (arith, cond, (min s.stop size), (lt-ltb s.start size (omega (arith, here.0, within))))
 cut_back size (s ∷ ss) p within (inr there) = grind (arith, (cut_back size ss p within there))
 
 -- the gaps of the gaps are the runs, cut at the length
@@ -120,7 +119,7 @@ module _ (entries : List Entry) (distinct : AreDistinct (genome_names entries)) 
 
   by_entries : ordered_runs order 0 All records ≡ flat_map (λ name. runs_on name 0 (intervals_of records)) (genome_names entries)
   unfolding merged
-  by_entries = sym (file_ordered (genome_names entries) 0 All records distinct placed) ∙ ap (merged (genome_names entries) 0) (all_counted records)
+  by_entries = grind (arith, (file_ordered (genome_names entries) 0 All records distinct placed), (all_counted records))
 
   gap_twice : (e : Entry) → is_header e.name ≡ false → length_in entries e.name ≡ e.length → gaps_on (intervals_of gap_records) e ≡ map (placed_on e.name) (cut_spans e.length (runs_of 0 (spans_on e.name (intervals_of records))))
   gap_twice e plain size = grind (arith, unhidden, complement_spans, gaps_twice)
@@ -183,20 +182,8 @@ module _ (records : List Feature) where
   unfolding ended_after begun_after
   no_levels name = refl
 
-  at_both : (entry : Entry) (es : List Entry) → map interval_at (flat_map (depths_on false None records) (entry ∷ es)) ≡ map (placed_on entry.name) (spans_for entry.name entry.length) ++ map interval_at (flat_map (depths_on false None records) es)
-  at_both entry es = map-append interval_at (depths_on false None records entry) (flat_map (depths_on false None records) es) ∙ ap (λ l. l ++ map interval_at (flat_map (depths_on false None records) es)) (parts_at entry)
-
-  depths_absent : (name : List ℕ) (entries : List Entry) → is_among (genome_names entries) name ≡ false → spans_on name (map interval_at (flat_map (depths_on false None records) entries)) ≡ []
-  depths_absent name [] e = refl
-  depths_absent name (entry ∷ entries) e =
-      grind (arith, (depths_absent name entries (or_parts (bytes_eq entry.name name) (is_among (genome_names entries) name) e).1), at_both, spans_on-append, none_there)
-
   depths_there : (name : List ℕ) (entries : List Entry) → AreDistinct (genome_names entries) → spans_on name (map interval_at (flat_map (depths_on false None records) entries)) ≡ spans_for name (length_in entries name)
-  depths_there name [] distinct = sym (no_levels name)
-  depths_there name (entry ∷ entries) distinct = grind (arith, (depths_there name entries distinct.1), at_both, spans_on-append, cases_name, here_all, depths_absent, append-nil, none_there)
-
-  counted_all : (name : List ℕ) → counted_on None name records ≡ spans_on name (intervals_of records)
-  counted_all name = ap (λ rs. spans_on name (intervals_of rs)) (filter_all (λ (r : Feature). true) records (all_any _ records (λ r. refl)))
+  depths_there name entries distinct = ap (spans_on name) (map_flat interval_at (depths_on false None records) (on_entry spans_for no_levels) entries parts_at) ∙ spans_there spans_for no_levels name entries distinct
 
   -- within the lengths the records cover what has a depth
   depth_cover : (name : List ℕ) (size : ℕ) → ((p : ℕ) → IsCovered (spans_on name (intervals_of records)) p → p < size) → SameCover (spans_for name size) (spans_on name (intervals_of records))
@@ -207,9 +194,9 @@ module _ (records : List Feature) where
         to = λ p c.
             let has = covered_value (levels_for name size) p c in
             let deep = shown (depth_at (counted_on None name records) p) has.0 (are.within p has.0 has.1).1 in
-            subst (λ l. IsCovered l p) (counted_all name) (some_covered (counted_on None name records) p (subst (λ n. 0 < n) (sym deep.0) deep.1));
+            subst (λ l. IsCovered l p) (ap (spans_on name) (all_counted records)) (some_covered (counted_on None name records) p (subst (λ n. 0 < n) (sym deep.0) deep.1));
         back = λ p c.
-            let deep = covered_some (counted_on None name records) p (subst (λ l. IsCovered l p) (sym (counted_all name)) c) in
+            let deep = covered_some (counted_on None name records) p (subst (λ l. IsCovered l p) (sym (ap (spans_on name) (all_counted records))) c) in
             value_covered (levels_for name size) p (depth_at (counted_on None name records) p)
             (are.whole p (depth_at (counted_on None name records) p) (below p c) (ap (λ b. cond b (Some (depth_at (counted_on None name records) p)) None) (lt-ltb 0 (depth_at (counted_on None name records) p) deep)));
       }
@@ -249,10 +236,7 @@ module _ (entries : List Entry) (distinct : AreDistinct (genome_names entries)) 
   lengths_order = rank_order (genome_names entries)
 
   pub same_merge : (d : ℕ) → ArePlaced lengths_order (intervals_of records) → ArePlaced lengths_order (intervals_of read) → ordered_runs lengths_order d All read ≡ ordered_runs lengths_order d All records
-  same_merge d placed read_placed =
-      sym (file_ordered (genome_names entries) d All read distinct read_placed) ∙ ap (merged (genome_names entries) d) (all_counted read)
-      ∙ alike_merged (genome_names entries) d (intervals_of read) (intervals_of records) same_bases
-      ∙ sym (ap (merged (genome_names entries) d) (all_counted records)) ∙ file_ordered (genome_names entries) d All records distinct placed
+  same_merge d placed read_placed = grind (arith, (file_ordered (genome_names entries) d All read distinct read_placed), (all_counted read), (alike_merged (genome_names entries) d (intervals_of read) (intervals_of records) same_bases), same_bases, (all_counted records), (file_ordered (genome_names entries) d All records distinct placed))
 
 pub genomecov_merged : merge_of_genomecov
 genomecov_merged d inputs entries well within =

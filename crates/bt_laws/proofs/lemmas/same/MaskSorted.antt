@@ -3,24 +3,18 @@ use Rattle.bt_lines.proofs.Std.{common_steps, ◌≡◌, ◌||◌, ◌&&◌, ℕ
 use Rattle.bt_lines.specs.model.Lines.{lines_handed}
 use Rattle.bt_lines.specs.declared.fault.Input.TheVariants.{First}
 use Rattle.bt_bed.specs.model.Feature.{Feature}
-use Rattle.bt_bed.specs.model.Genome.{Entry}
 use Rattle.bt_bed.specs.model.Order.{is_among}
 use Rattle.bt_bed.proofs.lemmas.parse.NameLemmas.{cases_name, name_eq, name_ne-sym}
-use Rattle.bt_seq.specs.model.Masked.{covers, names_of, no_sequence, Block, Owned, blocks_by, items_if_last, names_behind, own_records, owned_from, SequenceLine, bases_up_to}
+use Rattle.bt_seq.specs.model.Masked.{covers, names_of, Block, Owned, blocks_by, items_if_last, names_behind, own_records, owned_from, SequenceLine, bases_up_to}
 use Rattle.bt_seq.specs.calls.MaskState.{left_at_last}
 use Rattle.bt_laws.specs.Sequences.{AreOfChrom, items_of}
-use Rattle.bt_seq.specs.declared.mask.mask_how.MaskHow.{MaskHow}
 use Rattle.bt_seq.proofs.lemmas.definitions.KnowsLemmas.{leave, leave_all}
 use Rattle.bt_laws.proofs.lemmas.single.Sequences.{maximal_runs}
-use Rattle.bt_tool.specs.model.Report.{Inputs}
-use Rattle.bt_tool.specs.declared.planning.plan_type.Command.TheVariants.{MaskFasta}
-use Rattle.bt_laws.specs.WholeRuns.{RunsWithoutFault}
 use Rattle.bt_laws.specs.Same.{NamesOne, bed_records, is_masked, masked_by_sorted, sequence_lines, with_bed}
 use Rattle.bt_laws.proofs.lemmas.parts.PartGenomes.{off_behind}
-use Rattle.bt_laws.proofs.lemmas.parts.PartMasked.{none_owned}
 use Rattle.bt_runs.proofs.lemmas.Lists.{all_so}
 use Rattle.bt_laws.proofs.lemmas.parts.PartSequences.{names_begin}
-use Rattle.bt_laws.proofs.lemmas.same.MaskTwice.{bed_of, by_both, or_last, nones}
+use Rattle.bt_laws.proofs.lemmas.same.MaskTwice.{by_both, sound}
 
 abbrev Names : Type 0
 Names = List (List ℕ)
@@ -215,13 +209,6 @@ module _ (t : Feature → Bool) (rs ss : List Feature) {both : List Feature} (pe
 
 -- ---- the runs
 
-module _ (how : MaskHow) (full : Bool) (inputs : Inputs) (chromosomes : Option (List Entry)) (well : RunsWithoutFault (MaskFasta how full) inputs chromosomes) where
-  all_owned : is_some (leave (Some (names_of (sequence_lines full inputs))) None (bed_records inputs)) ≡ true
-  all_owned =
-      let bed = bed_of inputs in
-      let names = names_of (sequence_lines full inputs) in
-      none_owned names bed.members (or_last (no_sequence names bed.members) bed.fault (nones how full inputs chromosomes well).1)
-
 pub by_sorted : masked_by_sorted
 by_sorted how full inputs other both chromosomes keeps ones one two three permuted =
     let lines = sequence_lines full inputs in
@@ -229,5 +216,5 @@ by_sorted how full inputs other both chromosomes keeps ones one two three permut
     by_both how full inputs other both chromosomes keeps one two three
     (all_so (λ (line : SequenceLine). (more : Names) × (names ≡ line.names ++ more)) (λ line. (p : ℕ) → line.before ≤ p → p < bases_up_to line → is_masked both line p ≡ (is_masked inputs line p || is_masked other line p)) lines
     (λ line begins p from to. both_own (covers p) (bed_records inputs) (bed_records other) permuted ones
-    (all_owned how full inputs chromosomes one) (all_owned how full (with_bed inputs other) chromosomes two) (all_owned how full (with_bed inputs both) chromosomes three) line.names begins.0 begins.1)
+    (sound how full inputs chromosomes one).owned (sound how full (with_bed inputs other) chromosomes two).owned (sound how full (with_bed inputs both) chromosomes three).owned line.names begins.0 begins.1)
     (names_begin full First (lines_handed inputs.first)))

@@ -1,30 +1,27 @@
 -- What maskfasta writes has the lines of its input, and is masked already.
-use Rattle.bt_lines.proofs.Std.{common_steps, ◌≡◌, ◌||◌, ℕ, suc, ◌+◌, ◌≤◌, Bool, true, false, List, [], ◌∷◌, ◌++◌, map, length, Option, Some, None, refl, sym, ap, ap₂, ◌∙◌, arith, eqb, flat_map, if◌then◌else◌, list_all, list_any, option_or, ends_with_byte, All-head, All-nil, All-tail, ◌<◌, Result, subst, is_some, AllByRecursion, flat_map-map}
+use Rattle.bt_lines.proofs.Std.{common_steps, ◌≡◌, ◌||◌, ℕ, suc, ◌+◌, ◌≤◌, Bool, false, List, [], ◌∷◌, ◌++◌, map, length, Option, Some, None, refl, sym, ap, ap₂, ◌∙◌, arith, eqb, flat_map, if◌then◌else◌, list_any, ends_with_byte, All-head, All-nil, All-tail, ◌<◌, Result, subst, is_some, AllByRecursion, flat_map-map}
 use Rattle.bt_lines.specs.model.Fault.{FaultValue}
-use Rattle.bt_lines.specs.model.Lines.{Handed, cut_fault, lines_handed, whole_text, TextLine, end_bytes, text_lines}
+use Rattle.bt_lines.specs.model.Lines.{Handed, cut_fault, lines_handed, whole_text, end_bytes, text_lines}
 use Rattle.bt_lines.specs.calls.Line.{NoLineFeed}
 use Rattle.bt_lines.specs.declared.fault.Input.TheVariants.{First, Second}
 use Rattle.bt_bed.specs.model.Feature.{Feature, intervals_of, Interval, spans_on}
-use Rattle.bt_bed.specs.model.BedLine.{record_of}
 use Rattle.bt_bed.specs.model.Genome.{Entry}
-use Rattle.bt_bed.specs.model.Good.{Good, good, items_in, or_else, block_good, good_from, good_with, block_format, bed_format, bed_good, line_says, said_after}
-use Rattle.bt_bed.specs.model.Meeting.{Met, Rule, join_report, written}
-use Rattle.bt_seq.specs.model.Masked.{covers, mask_met, mask_rule, masked_byte, masked_from, masked_line, masked_text, names_of, no_sequence, own_records, SequenceLine, sequence_format, sequence_good, bases_up_to}
+use Rattle.bt_bed.specs.model.Good.{Good, good, items_in, block_good, bed_good, said_after}
+use Rattle.bt_bed.specs.model.Meeting.{written}
+use Rattle.bt_seq.specs.model.Masked.{covers, masked_byte, masked_from, masked_line, masked_text, names_of, own_records, SequenceLine, sequence_format, sequence_good, bases_up_to}
 use Rattle.bt_seq.specs.declared.mask.mask_how.MaskHow.{MaskHow}
 use Rattle.bt_seq.specs.declared.mask.mask_how.MaskHow.TheVariants.{Soft, Hard}
 use Rattle.bt_tool.specs.model.Report.{Inputs, or_empty, report_of, order_of}
-use Rattle.bt_tool.specs.model.Written.{Report, met_report, report_by, Written, merge_written}
+use Rattle.bt_tool.specs.model.Written.{Report, report_by, Written}
 use Rattle.bt_tool.specs.declared.planning.plan_type.Command.TheVariants.{MaskFasta, Merge}
 use Rattle.bt_laws.specs.Same.{KeepsLines, layout_of, masked_keep_layout, masked_twice, sequence_lines, masked_by_both, masked_by_positions, masked_goes_on, with_bed, masked_by_merged, with_merged_bed}
-use Rattle.bt_laws.specs.WholeRuns.{RunsWithoutFault, RunWrites, piped, second_alone}
+use Rattle.bt_laws.specs.WholeRuns.{RunsWithoutFault, piped, second_alone}
 use Rattle.bt_laws.proofs.lemmas.pipes.ConvertPipes.{IsAgain, Stands, again_lines, with_text}
-use Rattle.bt_laws.proofs.lemmas.pipes.PipeLaws.{report_is, well_there, SameCover, runs_cover, same_sym, merge_whole}
-use Rattle.bt_laws.proofs.lemmas.same.SameRuns.{report_there, writes_is, back, run_names, run_spans, all_counted}
+use Rattle.bt_laws.proofs.lemmas.pipes.PipeLaws.{well_there, SameCover, runs_cover, same_sym, merge_whole, output_is, report_there}
+use Rattle.bt_laws.proofs.lemmas.same.SameRuns.{back, run_names, run_spans, all_counted}
 use Rattle.bt_laws.proofs.lemmas.pipes.LinesBack.{ends_both, IsSaid, good_are_said}
-use Rattle.bt_laws.proofs.lemmas.parts.PartSweep.{all_true}
 use Rattle.bt_runs.proofs.lemmas.Lists.{all_any, flat_map_same, all_so}
-use Rattle.bt_laws.proofs.lemmas.same.SameSweeps.{cut_none, leave_alike, own_alike}
-use Rattle.bt_lines.specs.declared.fault.Input.{Input}
+use Rattle.bt_laws.proofs.lemmas.same.SameSweeps.{cut_none, leave_alike, own_alike, IsLike, SaidToo, read_again}
 use Rattle.bt_lines.specs.declared.fault.Kind.{Kind}
 use Rattle.bt_bed.specs.model.Sorted.{Locus, block_sorting, sorting_of}
 use Rattle.bt_bed.specs.calls.Orders.{AreContiguous, ArePlaced, IsTotal}
@@ -35,9 +32,9 @@ use Rattle.bt_runs.specs.model.Merged.{counted, chromosomes, ordered_runs}
 use Rattle.bt_runs.specs.declared.merge.merge_strand.MergeStrand.TheVariants.{All}
 use Rattle.bt_seq.proofs.lemmas.definitions.KnowsLemmas.{leave}
 use Rattle.bt_laws.specs.Pipes.{IsInput, three_columns}
-use Rattle.bt_laws.proofs.lemmas.pipes.RunsBack.{merge_back, merge_placed}
-use Rattle.bt_laws.proofs.lemmas.parts.PartMasked.{none_owned, owned_none}
+use Rattle.bt_laws.proofs.lemmas.pipes.RunsBack.{merge_back, merge_in_order}
 use Rattle.bt_laws.proofs.lemmas.parts.PartTexts.{order_total}
+use Rattle.bt_laws.proofs.lemmas.parts.PartMasked.{IsSound, report_sound, sound_report, sound_output}
 
 -- ---- a masked byte
 
@@ -47,6 +44,10 @@ IsNot Soft byte = Unit {0}
 IsNot (Hard mask) byte = mask ≡ byte → ⊥
 
 -- ---- masked bases
+
+size_of : (how : MaskHow) (records : List Feature) (position : ℕ) (bases : List ℕ) → length (masked_from how records position bases) ≡ length bases
+size_of how records position [] = refl
+size_of how records position (base ∷ bases) = ap suc (size_of how records (suc position) bases)
 
 record KeepsApart (how : MaskHow) : Type 0 where
   feed : IsNot how 10
@@ -64,10 +65,6 @@ module _ (how : MaskHow) (keeps : KeepsLines how) where
     kept_not : (position base byte : ℕ) → IsNot how byte → byte ≤ 64 → eqb base byte ≡ false → eqb (kept_base position base) byte ≡ false
     kept_not position base byte is low other = grind arith
 
-    size_from : (position : ℕ) (bases : List ℕ) → length (masked_from how records position bases) ≡ length bases
-    size_from position [] = refl
-    size_from position (base ∷ bases) = ap suc (size_from (suc position) bases)
-
     clear_from : (position : ℕ) (bases : List ℕ) → NoLineFeed bases → NoLineFeed (masked_from how records position bases)
     clear_from position [] h = All-nil (λ b. eqb b 10 ≡ false)
     clear_from position (base ∷ bases) h = grind (arith, (clear_from (suc position) bases (All-tail (λ b. eqb b 10 ≡ false) base bases h)), All-head)
@@ -75,37 +72,11 @@ module _ (how : MaskHow) (keeps : KeepsLines how) where
     last_from : (position : ℕ) (bases : List ℕ) → ends_with_byte 13 bases ≡ false → ends_with_byte 13 (masked_from how records position bases) ≡ false
     last_from position [] e = e
     last_from position (base ∷ []) e = kept_not position base 13 apart.return (omega arith) e
-    last_from position (base ∷ next ∷ bases) e = grind (arith, common_steps, (last_from (suc position) (next ∷ bases) (sym (ends_both 13 (base ∷ []) (next ∷ bases) (omega arith)) ∙ e)), size_from)
-
-    from_again : (position : ℕ) (bases : List ℕ) → masked_from how records position (masked_from how records position bases) ≡ masked_from how records position bases
-    from_again position [] = refl
-    from_again position (base ∷ bases) = ap₂ (λ a b. a ∷ b) (grind arith) (from_again (suc position) bases)
+    last_from position (base ∷ next ∷ bases) e = grind (arith, common_steps, (last_from (suc position) (next ∷ bases) (sym (ends_both 13 (base ∷ []) (next ∷ bases) (omega arith)) ∙ e)), size_of)
 
   module _ (records : List Feature) where
-    abbrev text_by : Bool → SequenceLine → List ℕ
-    text_by header line = if header then line.text else masked_from how (own_records line.names records) line.before line.text
-
     safe_text : (line : SequenceLine) → NoLineFeed line.text → Stands line.text (masked_text how records line)
-    safe_text line clear = grind (arith, clear_from, size_from, last_from)
-
-    text_again : (line : SequenceLine) → masked_line how records (with_text line (masked_text how records line)) ≡ masked_line how records line
-    text_again line = ap (λ t. t ++ end_bytes line.ending) (grind (arith, from_again))
-
--- ---- a run without a fault
-
-abbrev met_of : Bool → List ℕ → List ℕ → Option FaultValue → Option FaultValue → Option FaultValue → Met ℕ FaultValue
-met_of b lines other one last stop = if b then record { lines = lines; fault = option_or one last } else record { lines = other; fault = stop }
-
--- without a fault of its own the second input decides all
-module _ (how : MaskHow) (names : List (List ℕ)) (second : Good Feature) where
-  abbrev rule : Rule SequenceLine ℕ FaultValue
-  rule = mask_rule how names second
-
-  second_by : (b : Bool) (lines other : List ℕ) (one one_more stop : Option FaultValue) → (met_of b lines other one (or_else one_more stop) stop).fault ≡ None → stop ≡ None
-  second_by b lines other one one_more stop e = grind arith
-
-  pub met_all : (items : List SequenceLine) (fault : Option FaultValue) → second.fault ≡ None → join_report rule items fault ≡ record { lines = flat_map (masked_line how (items_in second)) items; fault = option_or fault rule.last }
-  met_all items fault none = grind (arith, all_true, all_any)
+    safe_text line clear = grind (arith, clear_from, size_of, last_from)
 
 -- the last names stay
 pub names_same : (f : SequenceLine → List ℕ) (items : List SequenceLine) → names_of (map (λ line. with_text line (f line)) items) ≡ names_of items
@@ -113,15 +84,10 @@ names_same f [] = refl
 names_same f (line ∷ []) = refl
 names_same f (line ∷ next ∷ lines) = names_same f (next ∷ lines)
 
-both_none : (one last : Option FaultValue) → option_or one last ≡ None → (one ≡ None) × (last ≡ None)
-both_none one last e = grind arith
+-- ---- a run without a fault
 
 uncut_lines : (handed : Handed) → cut_fault First handed ≡ None → lines_handed handed ≡ text_lines handed.text
 uncut_lines handed e = grind arith
-
-size_of : (how : MaskHow) (records : List Feature) (position : ℕ) (bases : List ℕ) → length (masked_from how records position bases) ≡ length bases
-size_of how records position [] = refl
-size_of how records position (base ∷ bases) = ap suc (size_of how records (suc position) bases)
 
 module _ (how : MaskHow) (full : Bool) (inputs : Inputs) (chromosomes : Option (List Entry)) (well : RunsWithoutFault (MaskFasta how full) inputs chromosomes) where
   abbrev first : Good SequenceLine
@@ -136,9 +102,6 @@ module _ (how : MaskHow) (full : Bool) (inputs : Inputs) (chromosomes : Option (
   abbrev items : List SequenceLine
   items = items_in first
 
-  abbrev names : List (List ℕ)
-  names = names_of items
-
   abbrev new_text : SequenceLine → List ℕ
   new_text line = masked_text how records line
 
@@ -148,23 +111,14 @@ module _ (how : MaskHow) (full : Bool) (inputs : Inputs) (chromosomes : Option (
   abbrev output : List ℕ
   output = flat_map (masked_line how records) items
 
-  no_fault : (mask_met how first second).fault ≡ None
-  no_fault = well_there (MaskFasta how full) inputs chromosomes well
-
-  pub second_none : second.fault ≡ None
-  second_none = second_by how names second (list_all (mask_rule how names second).decided items) (flat_map (mask_rule how names second).lines items) (written (mask_rule how names second) items) first.fault (no_sequence names second.members) second.fault no_fault
-
-  met_is : mask_met how first second ≡ record { lines = output; fault = option_or first.fault (mask_rule how names second).last }
-  met_is = met_all how names second items first.fault second_none
-
-  pub nones : (first.fault ≡ None) × ((mask_rule how names second).last ≡ None)
-  nones = both_none first.fault (mask_rule how names second).last (ap (λ (m : Met ℕ FaultValue). m.fault) (sym met_is) ∙ no_fault)
+  pub sound : IsSound first second
+  sound = report_sound how first second (well_there (MaskFasta how full) inputs chromosomes well)
 
   pub output_there : (report_of (MaskFasta how full) inputs).output ≡ output
-  output_there = ap (λ (r : Report). r.output) (report_is (MaskFasta how full) inputs chromosomes well) ∙ ap (λ (m : Met ℕ FaultValue). m.lines) met_is
+  output_there = output_is (MaskFasta how full) inputs chromosomes well ∙ sound_output how first second sound.records
 
   parts : ((good (sequence_format full) First (lines_handed inputs.first)).fault ≡ None) × (cut_fault First inputs.first ≡ None)
-  parts = cut_none (good (sequence_format full) First (lines_handed inputs.first)).fault (cut_fault First inputs.first) nones.0
+  parts = cut_none (good (sequence_format full) First (lines_handed inputs.first)).fault (cut_fault First inputs.first) sound.lines
 
   abbrev all_lines : Good SequenceLine
   all_lines = good (sequence_format full) First (text_lines inputs.first.text)
@@ -172,45 +126,33 @@ module _ (how : MaskHow) (full : Bool) (inputs : Inputs) (chromosomes : Option (
   same_items : items ≡ items_in all_lines
   same_items = ap (λ ls. items_in (good (sequence_format full) First ls)) (uncut_lines inputs.first parts.1)
 
+  -- what is read of the output
   abbrev read : Good SequenceLine
-  read = sequence_good full First (whole_text output)
+  read = sequence_good full First (whole_text (report_of (MaskFasta how full) inputs).output)
 
   module _ (keeps : KeepsLines how) where
     is_again : IsAgain full First new_text (safe_text how keeps records) (items_in all_lines) (good (sequence_format full) First (text_lines (flat_map (masked_line how records) (items_in all_lines))))
     is_again = again_lines full First new_text (safe_text how keeps records) 1 inputs.first.text 1 (sequence_format full).begin (ap (λ ls. (good (sequence_format full) First ls).fault) (sym (uncut_lines inputs.first parts.1)) ∙ parts.0)
 
     pub read_items : items_in read ≡ map again_line items
-    read_items = grind (arith, same_items, is_again)
+    read_items = grind (arith, output_there, same_items, is_again)
 
     pub read_none : read.fault ≡ None
-    read_none = grind (arith, same_items, is_again)
+    read_none = grind (arith, output_there, same_items, is_again)
 
     layouts : (all : List SequenceLine) → map layout_of (map again_line all) ≡ map layout_of all
     layouts [] = refl
-    layouts (line ∷ all) = ap₂ (λ n rest. record { names = line.names; before = line.before; bytes = n; ending = line.ending } ∷ rest) (grind (arith, size_of)) (layouts all)
+    layouts (line ∷ all) = grind (arith, size_of, (layouts all))
 
-    lines_again : (all : List SequenceLine) → flat_map (masked_line how records) (map again_line all) ≡ flat_map (masked_line how records) all
-    lines_again [] = refl
-    lines_again (line ∷ all) = ap₂ (λ a b. a ++ b) (text_again how keeps records line) (lines_again all)
+    pub layout : (read.fault ≡ None) × (map layout_of (items_in read) ≡ map layout_of items)
+    layout = (read_none, ap (map layout_of) read_items ∙ layouts items)
 
-    met_again : mask_met how read second ≡ record { lines = output; fault = None }
-    met_again =
-        met_all how (names_of (items_in read)) second (items_in read) read.fault second_none
-        ∙ ap₂ (λ is fault. record { lines = flat_map (masked_line how records) is; fault = option_or fault (mask_rule how (names_of is) second).last }) read_items read_none
-        ∙ ap₂ (λ l fault. record { lines = l; fault = fault }) (lines_again items) (ap (λ ns. (mask_rule how ns second).last) (names_same new_text items) ∙ nones.1)
-
-    pub twice : RunWrites (MaskFasta how full) (piped (MaskFasta how full) inputs) (report_of (MaskFasta how full) inputs).output
-    twice = grind (arith, (report_there (MaskFasta how full) (piped (MaskFasta how full) inputs) chromosomes well.genome), output_there, met_again)
-
-    pub layout : ((sequence_good full First (whole_text (report_of (MaskFasta how full) inputs).output)).fault ≡ None)
-        × (map layout_of (items_in (sequence_good full First (whole_text (report_of (MaskFasta how full) inputs).output))) ≡ map layout_of items)
-    layout = grind (arith, output_there, read_none, read_items, layouts)
+    -- records that have sequences in the input have them in the output
+    pub read_sound : (other : Good Feature) → IsSound first other → IsSound read other
+    read_sound other is = grind (arith, read_none, is_some, leave, read_items, (names_same new_text items))
 
 pub layout_kept : masked_keep_layout
 layout_kept how full inputs chromosomes keeps well = layout how full inputs chromosomes well keeps
-
-pub mask_twice : masked_twice
-mask_twice how full inputs chromosomes keeps well = twice how full inputs chromosomes well keeps
 
 -- BEDs that mask the same: two and one, and a merged one.
 
@@ -242,70 +184,40 @@ by_positions how full inputs other chromosomes one two same =
     ∙ flat_map_same _ _ (sequence_lines full inputs) (all_so _ _ (sequence_lines full inputs) (same_line how (items_in (bed_of inputs)) (items_in (bed_of other))) same)
     ∙ sym (output_there how full (with_bed inputs other) chromosomes two)
 
+pub goes_on : masked_goes_on
+goes_on how next full inputs other chromosomes keeps one two = record {
+  genome = one.genome;
+  faultless = ap (λ (r : Report). r.fault) (report_there (MaskFasta next full) (with_bed (piped (MaskFasta how full) inputs) other) chromosomes one.genome)
+      ∙ sound_report next (read how full inputs chromosomes one) (bed_of other) (read_sound how full inputs chromosomes one keeps (bed_of other) (sound next full (with_bed inputs other) chromosomes two));
+}
+
 pub by_both : masked_by_both
 by_both how full inputs other both chromosomes keeps one two three same =
     let lines = sequence_lines full inputs in
-    let mask = items_in (bed_of inputs) in
-    let read = sequence_good full First (whole_text (flat_map (masked_line how mask) lines)) in
-    let met : mask_met how read (bed_of other) ≡ record { lines = flat_map (masked_line how (items_in (bed_of both))) lines; fault = None } =
-    met_all how (names_of (items_in read)) (bed_of other) (items_in read) read.fault (second_none how full (with_bed inputs other) chromosomes two)
-    ∙ ap₂ (λ is fault. record { lines = flat_map (masked_line how (items_in (bed_of other))) is; fault = option_or fault (mask_rule how (names_of is) (bed_of other)).last }) (read_items how full inputs chromosomes one keeps) (read_none how full inputs chromosomes one keeps)
-    ∙ ap₂ (λ l fault. record { lines = l; fault = fault }) (flat_map-map _ _ lines ∙ flat_map_same _ _ lines (all_so _ _ lines (both_line how keeps mask (items_in (bed_of other)) (items_in (bed_of both))) same))
-    (ap (λ ns. (mask_rule how ns (bed_of other)).last) (names_same (masked_text how mask) lines) ∙ (nones how full (with_bed inputs other) chromosomes two).1) in
-    writes_is (MaskFasta how full) (with_bed (piped (MaskFasta how full) inputs) other) (report_of (MaskFasta how full) (with_bed inputs both)).output
-    (report_there (MaskFasta how full) (with_bed (piped (MaskFasta how full) inputs) other) chromosomes one.genome
-    ∙ ap (λ t. met_report (mask_met how (sequence_good full First (whole_text t)) (bed_of other))) (output_there how full inputs chromosomes one)
-    ∙ ap met_report met
-    ∙ ap (λ bytes. record { output = bytes; fault = None }) (sym (output_there how full (with_bed inputs both) chromosomes three)))
-
-pub goes_on : masked_goes_on
-goes_on how next full inputs other chromosomes keeps one two =
-    let lines = sequence_lines full inputs in
-    let mask = items_in (bed_of inputs) in
-    let read = sequence_good full First (whole_text (flat_map (masked_line how mask) lines)) in
-    let none : (mask_met next read (bed_of other)).fault ≡ None =
-    ap (λ (m : Met ℕ FaultValue). m.fault) (met_all next (names_of (items_in read)) (bed_of other) (items_in read) read.fault (second_none next full (with_bed inputs other) chromosomes two))
-    ∙ ap₂ (λ is fault. option_or fault (mask_rule next (names_of is) (bed_of other)).last) (read_items how full inputs chromosomes one keeps) (read_none how full inputs chromosomes one keeps)
-    ∙ (ap (λ ns. (mask_rule next ns (bed_of other)).last) (names_same (masked_text how mask) lines) ∙ (nones next full (with_bed inputs other) chromosomes two).1) in
+    let again = goes_on how how full inputs other chromosomes keeps one two in
     record {
-      genome = one.genome;
-      faultless = ap (λ (r : Report). r.fault) (report_there (MaskFasta next full) (with_bed (piped (MaskFasta how full) inputs) other) chromosomes one.genome
-          ∙ ap (λ t. met_report (mask_met next (sequence_good full First (whole_text t)) (bed_of other))) (output_there how full inputs chromosomes one)) ∙ none;
+      output = output_there how full (with_bed (piped (MaskFasta how full) inputs) other) chromosomes again
+          ∙ ap (flat_map (masked_line how (items_in (bed_of other)))) (read_items how full inputs chromosomes one keeps) ∙ flat_map-map _ _ lines
+          ∙ flat_map_same _ _ lines (all_so _ _ lines (both_line how keeps (items_in (bed_of inputs)) (items_in (bed_of other)) (items_in (bed_of both))) same)
+          ∙ sym (output_there how full (with_bed inputs both) chromosomes three);
+      faultless = again.faultless;
     }
+
+pub mask_twice : masked_twice
+mask_twice how full inputs chromosomes keeps well = grind (arith, by_both, all_any)
 
 -- ---- records in an order, read in blocks
 
--- the same records, and no fault
-record IsLike (one other : Good Feature) : Type 0 where
-  items : items_in other ≡ items_in one
-  faultless : other.fault ≡ None
-
-module _ (order : Order) (one other : Input) where
-  line_by : (n : ℕ) (last : Option Locus) (said : Result (Option Feature) Kind) (ls ms : Option Locus → Good Feature)
-      → ((now : Option Locus) → (ls now).fault ≡ None → IsLike (ls now) (ms now))
-      → (good_with (bed_format (sorting_of order)) one n last (said_after (sorting_of order) last said) ls).fault ≡ None
-      → IsLike (good_with (bed_format (sorting_of order)) one n last (said_after (sorting_of order) last said) ls) (good_with block_format other n last (said_after block_sorting last said) ms)
-  line_by n last said ls ms h e = grind arith
-
-  lines_by : (last : Option Locus) (lines : List TextLine) → (good_from (bed_format (sorting_of order)) one last lines).fault ≡ None → IsLike (good_from (bed_format (sorting_of order)) one last lines) (good_from block_format other last lines)
-  unfolding good_from line_says
-  lines_by last [] e = record { items = refl; faultless = refl }
-  lines_by last (line ∷ lines) e =
-      line_by line.number last (record_of line.text) (λ now. good_from (bed_format (sorting_of order)) one now lines) (λ now. good_from block_format other now lines) (λ now none. lines_by now lines none) e
-
 in_blocks : (order : Order) (handed : Handed) → (bed_good First order handed).fault ≡ None → IsLike (bed_good First order handed) (block_good Second handed)
-in_blocks order handed e =
-    let lines = lines_handed handed in
-    let like = lines_by order First Second None lines (cut_none (good (bed_format (sorting_of order)) First lines).fault (cut_fault First handed) e).0 in
-    grind arith
+in_blocks order = read_again (sorting_of order) block_sorting blocks_too First Second
+  where
+    blocks_too : (last : Option Locus) (said : Result (Option Feature) Kind) → SaidToo (said_after (sorting_of order) last said) (said_after block_sorting last said)
+    blocks_too last said = grind arith
 
 -- ---- a BED and what merge makes of it
 
 none_by : (written : Written Feature) (members : List Feature) (fault : Option FaultValue) → (report_by written members fault).fault ≡ None → fault ≡ None
 none_by written members fault e = grind arith
-
-pub or_last : (one last : Option FaultValue) → or_else one last ≡ None → one ≡ None
-or_last one last e = grind arith
 
 module _ (inputs : Inputs) (genome : Option Handed) (merging : Option (List Entry)) (merged : RunsWithoutFault (Merge 0 All) (second_alone genome inputs) merging) where
   abbrev order : Order
@@ -333,7 +245,7 @@ module _ (inputs : Inputs) (genome : Option Handed) (merging : Option (List Entr
   placed = placed_good First order bed total
 
   bed_is : IsLike (bed_good First order bed) (block_good Second bed)
-  bed_is = in_blocks order bed (none_by (merge_written order 0 All) as_read (bed_good First order bed).fault (well_there (Merge 0 All) (second_alone genome inputs) merging merged))
+  bed_is = grind (arith, in_blocks, none_by, (well_there (Merge 0 All) (second_alone genome inputs) merging merged))
 
   input : IsInput order text (map three_columns runs)
   input = subst (λ t. IsInput order t (map three_columns runs)) (sym (merge_whole 0 All (second_alone genome inputs) merging merged)) (merge_back order total 0 All as_read said placed)
@@ -354,7 +266,7 @@ module _ (inputs : Inputs) (genome : Option Handed) (merging : Option (List Entr
   bed_contiguous = placed_contiguous order (intervals_of as_read) total placed
 
   runs_contiguous : AreContiguous (intervals_of (map three_columns runs))
-  runs_contiguous = subst AreContiguous (sym (back runs)) (placed_contiguous order runs total (merge_placed order total 0 All as_read said placed))
+  runs_contiguous = subst AreContiguous (sym (back runs)) (placed_contiguous order runs total (merge_in_order order total 0 All as_read said placed).placed)
 
   same_chroms : chromosomes (intervals_of (map three_columns runs)) ≡ chromosomes (intervals_of as_read)
   same_chroms = ap chromosomes (back runs) ∙ run_names order total 0 All as_read placed full ∙ ap chromosomes all
@@ -370,17 +282,16 @@ module _ (inputs : Inputs) (genome : Option Handed) (merging : Option (List Entr
 
 pub by_merged : masked_by_merged
 by_merged how full inputs chromosomes genome merging well merged =
-    let first = sequence_good full First inputs.first in
-    let lines = items_in first in
-    let names = names_of lines in
-    let old = bed_of inputs in
-    let new = bed_of (with_merged_bed genome inputs) in
-    let new_none = (runs_are inputs genome merging merged).faultless in
-    let sound = nones how full inputs chromosomes well in
-    let owned : is_some (leave (Some names) None (items_in new)) ≡ true = ap is_some (leaves inputs genome merging merged names) ∙ none_owned names old.members (or_last (no_sequence names old.members) old.fault sound.1) in
-    let last : (mask_rule how names new).last ≡ None = ap₂ (λ one other. or_else one other) (owned_none names new.members owned) new_none in
-    let same = flat_map_same _ _ lines (all_any _ lines (λ line. same_line how (items_in old) (items_in new) line (λ p from to. own_covers inputs genome merging merged line.names p))) in
-    writes_is (MaskFasta how full) (with_merged_bed genome inputs) (report_of (MaskFasta how full) inputs).output
-    (report_there (MaskFasta how full) (with_merged_bed genome inputs) chromosomes well.genome
-    ∙ ap met_report (met_all how names new lines first.fault new_none ∙ ap₂ (λ l fault. record { lines = l; fault = fault }) (sym same) (ap₂ (λ one other. option_or one other) sound.0 last))
-    ∙ ap (λ bytes. record { output = bytes; fault = None }) (sym (output_there how full inputs chromosomes well)))
+    let lines = sequence_lines full inputs in
+    let bed = bed_of (with_merged_bed genome inputs) in
+    let old = sound how full inputs chromosomes well in
+    let new : IsSound (sequence_good full First inputs.first) bed =
+    record { lines = old.lines; records = (runs_are inputs genome merging merged).faultless; owned = ap is_some (leaves inputs genome merging merged (names_of lines)) ∙ old.owned } in
+    let again : RunsWithoutFault (MaskFasta how full) (with_merged_bed genome inputs) chromosomes = record {
+      genome = well.genome;
+      faultless = ap (λ (r : Report). r.fault) (report_there (MaskFasta how full) (with_merged_bed genome inputs) chromosomes well.genome) ∙ sound_report how (sequence_good full First inputs.first) bed new;
+    } in
+    record {
+      output = sym (by_positions how full inputs (with_merged_bed genome inputs) chromosomes well again (all_any _ lines (λ line p from to. own_covers inputs genome merging merged line.names p)));
+      faultless = again.faultless;
+    }

@@ -5,10 +5,10 @@ use Rattle.bt_bed.specs.model.Sorted.{has_records}
 use Rattle.bt_bed.specs.calls.Orders.{ArePlaced, IsTotal, AreDistinct}
 use Rattle.bt_bed.proofs.lemmas.Definitions.{placed_good}
 use Rattle.bt_bed.proofs.lemmas.parse.NameLemmas.{cases_name, name_eq, name_ne-sym}
-use Rattle.bt_laws.proofs.lemmas.single.StrandOrder.{names_in_order}
+use Rattle.bt_laws.proofs.lemmas.single.StrandOrder.{names_in_order, ordered_all}
 use Rattle.bt_runs.proofs.lemmas.order.FileOrder.{distinct_chromosomes, among_chromosomes, spans_on-append, some_placed, spans_on-here, spans_on-elsewhere, spans_on-none, without-here, runs_of-nil, without_absent, ordered_come}
-use Rattle.bt_laws.proofs.lemmas.pipes.LinesBack.{placed_known, IsSaid, good_are_said}
-use Rattle.bt_laws.proofs.lemmas.pipes.RunsBack.{ordered_all, merge_back, merge_placed}
+use Rattle.bt_laws.proofs.lemmas.pipes.LinesBack.{placed_known, good_are_said}
+use Rattle.bt_laws.proofs.lemmas.pipes.RunsBack.{merge_back, merge_in_order}
 use Rattle.bt_laws.proofs.lemmas.parts.PartMerge.{named_all}
 use Rattle.bt_laws.proofs.lemmas.pipes.Placing.{Earlier, ascending_pairs}
 use Rattle.bt_bed.specs.model.Feature.{Feature, interval_of, intervals_of, Interval, placed_on, spans_on, Span, span_of}
@@ -17,18 +17,18 @@ use Rattle.bt_bed.specs.model.BedLine.{interval_lines}
 use Rattle.bt_bed.specs.model.Genome.{Entry}
 use Rattle.bt_bed.specs.model.Order.{Order, is_among}
 use Rattle.bt_bed.specs.declared.record.strand.Strand.{Strand}
-use Rattle.bt_runs.specs.model.Merged.{counted, is_counted, chromosomes, merged, runs_on, in_order, ordered_runs, without, runs_of}
-use Rattle.bt_runs.specs.model.Depth.{coverage, depth_at, depth_lines, depth_of, depth_on, depths_on, is_counted_by, reported}
+use Rattle.bt_runs.specs.model.Merged.{counted, chromosomes, merged, runs_on, in_order, ordered_runs, without, runs_of}
+use Rattle.bt_runs.specs.model.Depth.{coverage, depth_at, depth_of, depth_on, depths_on, is_counted_by, reported}
 use Rattle.bt_runs.specs.model.Gaps.{complement}
 use Rattle.bt_laws.specs.Runs.{AreKnown}
 use Rattle.bt_runs.specs.declared.merge.merge_strand.MergeStrand.{MergeStrand}
 use Rattle.bt_runs.specs.declared.merge.merge_strand.MergeStrand.TheVariants.{All, Each, One}
-use Rattle.bt_tool.specs.model.Report.{entries_in, order_of, Inputs, report_of, behaviour_of, chromosomes_of, report_on}
+use Rattle.bt_tool.specs.model.Report.{entries_in, order_of, Inputs, report_of, behaviour_of, chromosomes_of}
 use Rattle.bt_tool.specs.declared.planning.plan_type.Command.TheVariants.{Complement, Merge}
 use Rattle.bt_laws.specs.WholeRuns.{RunsWithoutFault, first_records, RunWrites, piped}
 use Rattle.bt_laws.specs.Same.{IsRepeated, exchanged_complement, exchanged_genomecov, exchanged_merge, repeated_complement, repeated_merge, complement_of_merge, merge_of_merge}
-use Rattle.bt_laws.proofs.lemmas.pipes.PipeLaws.{SameCover, depth_both, same_by_depth, same_gaps, same_levels, complement_whole, genomecov_whole, merge_whole, runs_again, runs_cover}
-use Rattle.bt_runs.proofs.lemmas.Lists.{EachPair, all_any, filter_all, flat_map_same, all_filter, all_map, all_so}
+use Rattle.bt_laws.proofs.lemmas.pipes.PipeLaws.{SameCover, depth_both, same_by_depth, same_gaps, same_levels, complement_whole, genomecov_whole, merge_whole, runs_again, runs_cover, report_there}
+use Rattle.bt_runs.proofs.lemmas.Lists.{EachPair, all_any, filter_all, flat_map_same, all_filter, all_map, all_so, filter_passes}
 use Rattle.bt_laws.proofs.lemmas.parts.PartTexts.{order_total}
 use Rattle.bt_lines.specs.model.Fault.{FaultValue}
 use Rattle.bt_lines.specs.model.Lines.{whole_text}
@@ -74,7 +74,7 @@ module _ (keep : Feature → Bool) where
   exchanged_has rs ss is name = has_any name rs ∙ list_any-IsPermutation (has_one name) rs ss is ∙ sym (has_any name ss)
 
   pub exchanged_depth : (rs ss : List Feature) → IsPermutation rs ss → (name : List ℕ) (p : ℕ) → depth_in name rs p ≡ depth_in name ss p
-  exchanged_depth rs ss is name p = depth_sum name rs p ∙ sym (sum_by-IsPermutation (λ r. depth_in name (r ∷ []) p) rs ss is) ∙ sym (depth_sum name ss p)
+  exchanged_depth rs ss is name p = grind (arith, (depth_sum name rs p), sum_by-IsPermutation, (depth_sum name ss p))
 
   repeated_has : (rs ss : List Feature) → IsRepeated rs ss → (name : List ℕ) → has_records name (kept rs) ≡ has_records name (kept ss)
   repeated_has rs ss is name = grind (arith, (has_any name rs), common_steps, (list_any-IsPermutation (has_one name) (is.twice ∷ rs) ss is.second), (has_any name ss))
@@ -94,7 +94,7 @@ pub record IsAlike (rs ss : List Feature) : Type 0 where
   pub cover : (keep : Feature → Bool) (name : List ℕ) → SameCover (spans_on name (kept keep rs)) (spans_on name (kept keep ss))
 
 exchanged_alike : (rs ss : List Feature) → IsPermutation rs ss → IsAlike rs ss
-exchanged_alike rs ss is = record { has = λ keep. exchanged_has keep rs ss is; cover = λ keep. exchanged_cover keep rs ss is }
+exchanged_alike rs ss is = grind (arith, exchanged_has, exchanged_cover)
 
 repeated_alike : (rs ss : List Feature) → IsRepeated rs ss → IsAlike rs ss
 repeated_alike rs ss is = record { has = λ keep. repeated_has keep rs ss is; cover = λ keep. repeated_cover keep rs ss is }
@@ -140,10 +140,7 @@ module _ (order : Order) (total : IsTotal order) where
     named_come = grind (arith, names_in_order, known, distinct_chromosomes, ascending_pairs, known_named, among_chromosomes)
 
   alike_names : (keep : Feature → Bool) (rs ss : List Feature) → ArePlaced order (intervals_of rs) → ArePlaced order (intervals_of ss) → IsAlike rs ss → named keep rs ≡ named keep ss
-  alike_names keep rs ss placed other is =
-      let one = named_come keep rs placed in
-      let two = named_come keep ss other in
-      same_names (named keep rs) (named keep ss) (known_named keep rs placed) (known_named keep ss other) one.0 two.0 (λ name. one.1 name ∙ is.has keep name ∙ sym (two.1 name))
+  alike_names keep rs ss placed other is = grind (arith, (named_come keep rs placed), (named_come keep ss other), same_names, (known_named keep rs placed), (known_named keep ss other))
 
 -- ---- merge, complement and genomecov of them
 
@@ -153,13 +150,10 @@ alike_merged names gap rs ss same = flat_map_same (λ name. runs_on name gap rs)
 
 alike_runs : (order : Order) → IsTotal order → (gap : ℕ) (strand : MergeStrand) (rs ss : List Feature) → ArePlaced order (intervals_of rs) → ArePlaced order (intervals_of ss) → IsAlike rs ss → ordered_runs order gap strand rs ≡ ordered_runs order gap strand ss
 unfolding ordered_runs
-alike_runs order total gap strand rs ss placed other is =
-    let keep : Feature → Bool = λ r. is_counted strand r.strand in
-    ap (λ names. merged names gap (counted strand rs)) (alike_names order total keep rs ss placed other is)
-    ∙ alike_merged (in_order order (chromosomes (counted strand ss))) gap (counted strand rs) (counted strand ss) (is.cover keep)
+alike_runs order total gap strand rs ss placed other is = grind (arith, alike_names, alike_merged)
 
-all_kept : (rs : List Feature) → kept (λ r. true) rs ≡ intervals_of rs
-all_kept rs = ap intervals_of (filter_all (λ r. true) rs (all_any _ rs (λ r. refl)))
+pub all_counted : (rs : List Feature) → counted All rs ≡ intervals_of rs
+all_counted rs = ap intervals_of (filter_all (λ r. true) rs (all_any _ rs (λ r. refl)))
 
 pub gaps_by : (limit : Bool) (entries : List Entry) (rs ss : List Feature) → ((name : List ℕ) → has_records name (intervals_of rs) ≡ has_records name (intervals_of ss))
     → ((name : List ℕ) → SameCover (spans_on name (intervals_of rs)) (spans_on name (intervals_of ss))) → complement limit entries rs ≡ complement limit entries ss
@@ -167,7 +161,7 @@ unfolding complement
 gaps_by limit entries rs ss has cover = grind (arith, same_gaps)
 
 alike_gaps : (limit : Bool) (entries : List Entry) (rs ss : List Feature) → IsAlike rs ss → complement limit entries rs ≡ complement limit entries ss
-alike_gaps limit entries rs ss is = grind (arith, gaps_by, (all_kept rs), (all_kept ss))
+alike_gaps limit entries rs ss is = grind (arith, gaps_by, (all_counted rs), (all_counted ss))
 
 exchanged_depths : (zeros : Bool) (strand : Option Strand) (entries : List Entry) (rs ss : List Feature) → IsPermutation rs ss → coverage zeros strand entries rs ≡ coverage zeros strand entries ss
 unfolding coverage depth_of
@@ -181,18 +175,22 @@ exchanged_depths zeros strand entries rs ss is =
 placed_first : (chromosomes : Option (List Entry)) (inputs : Inputs) → ArePlaced (order_of chromosomes) (intervals_of (first_records chromosomes inputs))
 placed_first chromosomes inputs = placed_good First (order_of chromosomes) inputs.first (order_total chromosomes)
 
+-- all runs at once, or those of one strand
+pub merge_pooled : (d : ℕ) (strand : MergeStrand) (inputs : Inputs) (chromosomes : Option (List Entry)) → strand ≢ Each → RunsWithoutFault (Merge d strand) inputs chromosomes
+    → (report_of (Merge d strand) inputs).output ≡ interval_lines (ordered_runs (order_of chromosomes) d strand (first_records chromosomes inputs))
+merge_pooled d Each inputs chromosomes other well = absurd (other refl)
+merge_pooled d All inputs chromosomes other well = merge_whole d All inputs chromosomes well
+merge_pooled d (One strand) inputs chromosomes other well = merge_whole d (One strand) inputs chromosomes well
+
 merge_alike : (d : ℕ) (strand : MergeStrand) (inputs others : Inputs) (chromosomes : Option (List Entry)) → strand ≢ Each → RunsWithoutFault (Merge d strand) inputs chromosomes → RunsWithoutFault (Merge d strand) others chromosomes
     → IsAlike (first_records chromosomes inputs) (first_records chromosomes others) → (report_of (Merge d strand) inputs).output ≡ (report_of (Merge d strand) others).output
-merge_alike d Each inputs others chromosomes other one two is = absurd (other refl)
-merge_alike d All inputs others chromosomes other one two is =
-    merge_whole d All inputs chromosomes one ∙ ap interval_lines (alike_runs (order_of chromosomes) (order_total chromosomes) d All (first_records chromosomes inputs) (first_records chromosomes others) (placed_first chromosomes inputs) (placed_first chromosomes others) is) ∙ sym (merge_whole d All others chromosomes two)
-merge_alike d (One strand) inputs others chromosomes other one two is =
-    merge_whole d (One strand) inputs chromosomes one ∙ ap interval_lines (alike_runs (order_of chromosomes) (order_total chromosomes) d (One strand) (first_records chromosomes inputs) (first_records chromosomes others) (placed_first chromosomes inputs) (placed_first chromosomes others) is) ∙ sym (merge_whole d (One strand) others chromosomes two)
+merge_alike d strand inputs others chromosomes other one two is =
+    merge_pooled d strand inputs chromosomes other one ∙ ap interval_lines (alike_runs (order_of chromosomes) (order_total chromosomes) d strand (first_records chromosomes inputs) (first_records chromosomes others) (placed_first chromosomes inputs) (placed_first chromosomes others) is)
+    ∙ sym (merge_pooled d strand others chromosomes other two)
 
 complement_alike : (limit : Bool) (inputs others : Inputs) (chromosomes : Option (List Entry)) → RunsWithoutFault (Complement limit) inputs chromosomes → RunsWithoutFault (Complement limit) others chromosomes
     → IsAlike (first_records chromosomes inputs) (first_records chromosomes others) → (report_of (Complement limit) inputs).output ≡ (report_of (Complement limit) others).output
-complement_alike limit inputs others chromosomes one two is =
-    complement_whole limit inputs chromosomes one ∙ ap interval_lines (alike_gaps limit (entries_in chromosomes) (first_records chromosomes inputs) (first_records chromosomes others) is) ∙ sym (complement_whole limit others chromosomes two)
+complement_alike limit inputs others chromosomes one two is = grind (arith, (complement_whole limit inputs chromosomes one), (alike_gaps limit (entries_in chromosomes) (first_records chromosomes inputs) (first_records chromosomes others) is), (complement_whole limit others chromosomes two))
 
 pub merge_exchanged : exchanged_merge
 merge_exchanged d strand other inputs others chromosomes one two is = grind (arith, merge_alike, (exchanged_alike (first_records chromosomes inputs) (first_records chromosomes others) is))
@@ -202,10 +200,7 @@ complement_exchanged limit inputs others chromosomes one two is =
     grind (arith, (complement_alike limit inputs others chromosomes one two (exchanged_alike (first_records chromosomes inputs) (first_records chromosomes others) is)))
 
 pub genomecov_exchanged : exchanged_genomecov
-genomecov_exchanged zeros strand inputs others chromosomes one two is =
-    genomecov_whole zeros strand inputs chromosomes one
-    ∙ ap depth_lines (exchanged_depths zeros strand (entries_in chromosomes) (first_records chromosomes inputs) (first_records chromosomes others) is)
-    ∙ sym (genomecov_whole zeros strand others chromosomes two)
+genomecov_exchanged zeros strand inputs others chromosomes one two is = grind (arith, (genomecov_whole zeros strand inputs chromosomes one), (exchanged_depths zeros strand (entries_in chromosomes) (first_records chromosomes inputs) (first_records chromosomes others) is), (genomecov_whole zeros strand others chromosomes two))
 
 pub merge_repeated : repeated_merge
 merge_repeated d strand other inputs others chromosomes one two is = grind (arith, merge_alike, (repeated_alike (first_records chromosomes inputs) (first_records chromosomes others) is))
@@ -216,24 +211,14 @@ complement_repeated limit inputs others chromosomes one two is =
 
 -- Outputs of merge: merged again, and their gaps.
 
-pub all_counted : (rs : List Feature) → counted All rs ≡ intervals_of rs
-all_counted rs = ap intervals_of (filter_all (λ r. true) rs (all_any _ rs (λ r. refl)))
-
 -- ---- merged again
-
-kept_one : {A : Type 0} (t : A → Bool) (x : A) (xs : List A) (b : Bool) → t x ≡ b → AllByRecursion (λ y. t y ≡ true) xs → AllByRecursion (λ y. t y ≡ true) (cond b (x ∷ xs) xs)
-kept_one t x xs b e h = grind arith
-
-pub kept_pass : {A : Type 0} (t : A → Bool) (xs : List A) → AllByRecursion (λ y. t y ≡ true) (filter t xs)
-kept_pass t [] = tt
-kept_pass t (x ∷ xs) = kept_one t x (filter t xs) (t x) refl (kept_pass t xs)
 
 pub back : (rs : List Interval) → intervals_of (map three_columns rs) ≡ rs
 back [] = refl
 back (r ∷ rs) = ap (λ l. r ∷ l) (back rs)
 
 again : (name : List ℕ) (ns : List (List ℕ)) → without name (without name ns) ≡ without name ns
-again name ns = filter_all (λ other. not (bytes_eq other name)) (without name ns) (kept_pass (λ other. not (bytes_eq other name)) ns)
+again name ns = grind (arith, filter_all, not, bytes_eq, filter_passes)
 
 -- what holds of each name that has records
 names_so : (P : List ℕ → Type 0) (rs : List Interval) → ((name : List ℕ) → has_records name rs ≡ true → P name) → AllByRecursion P (chromosomes rs)
@@ -302,7 +287,7 @@ some_run gap [] some full = absurd (omega arith)
 some_run gap (x ∷ xs) some full = some_spans (runs_of gap (x ∷ xs)) x.start ((are_runs gap (x ∷ xs)).whole x.start (bridged_here gap (x ∷ xs) x.start (inl (omega arith, full.0))))
 
 counted_full : (strand : MergeStrand) (records : List Feature) → AllByRecursion (λ (r : Feature). r.start < r.stop) records → AllByRecursion (λ (r : Interval). r.start < r.stop) (counted strand records)
-counted_full strand records h = all_map (λ (r : Interval). r.start < r.stop) interval_of (filter (λ r. is_counted strand r.strand) records) (all_filter (λ (r : Feature). r.start < r.stop) (λ r. is_counted strand r.strand) records h)
+counted_full strand records h = grind (arith, all_map, all_filter)
 
 all_of_them : (rs : List Interval) → counted All (map three_columns rs) ≡ rs
 all_of_them rs = all_counted (map three_columns rs) ∙ back rs
@@ -331,7 +316,7 @@ module _ (order : Order) (total : IsTotal order) (gap : ℕ) (strand : MergeStra
   run_spans name = grind (arith, runs_are_by, distinct_chromosomes, spans_on-none, among_chromosomes, runs_of-nil, spans_present, spans_absent)
 
   pub run_has : (name : List ℕ) → has_records name (ordered_runs order gap strand records) ≡ has_records name used
-  run_has name = sym (among_chromosomes name (ordered_runs order gap strand records)) ∙ ap (λ ns. is_among ns name) run_names ∙ among_chromosomes name used
+  run_has name = grind (arith, (among_chromosomes name (ordered_runs order gap strand records)), run_names, (among_chromosomes name used))
 
   -- merged again they stay as they are
   pub merged_again : ArePlaced order (ordered_runs order gap strand records) → ordered_runs order gap All (map three_columns (ordered_runs order gap strand records)) ≡ ordered_runs order gap strand records
@@ -339,11 +324,6 @@ module _ (order : Order) (total : IsTotal order) (gap : ℕ) (strand : MergeStra
   merged_again there = grind (arith, ordered_come, back, all_of_them, run_names, run_spans, runs_again)
 
 -- ---- a run on an output
-
-module _ (command : Command) (inputs : Inputs) (chromosomes : Option (List Entry)) (genome : chromosomes_of inputs.genome ≡ Ok chromosomes) where
-  pub report_there : report_of command inputs ≡ (behaviour_of command chromosomes).report inputs.first inputs.second
-  unfolding report_of
-  report_there = ap (λ found. report_on command found inputs.first inputs.second) genome
 
 pub merge_on : (d : ℕ) (strand : MergeStrand) (inputs : Inputs) (chromosomes : Option (List Entry)) (text : List ℕ) (records : List Feature) → chromosomes_of inputs.genome ≡ Ok chromosomes → inputs.first ≡ whole_text text → IsInput (order_of chromosomes) text records
     → report_of (Merge d strand) inputs ≡ record { output = (merge_written (order_of chromosomes) d strand).whole records; fault = None }
@@ -372,10 +352,10 @@ module _ (chromosomes_in : Option (List Entry)) (inputs : Inputs) where
   read_placed = placed_good First order_in inputs.first (order_total chromosomes_in)
 
   read_full : AllByRecursion (λ (r : Feature). r.start < r.stop) as_read
-  read_full = all_so IsSaid (λ (r : Feature). r.start < r.stop) as_read (λ r is. is.feature.non_empty) (good_are_said First order_in inputs.first)
+  read_full = grind (arith, all_so, (good_are_said First order_in inputs.first))
 
   there_placed : (d : ℕ) (strand : MergeStrand) → ArePlaced order_in (ordered_runs order_in d strand as_read)
-  there_placed d strand = merge_placed order_in (order_total chromosomes_in) d strand as_read (good_are_said First order_in inputs.first) read_placed
+  there_placed d strand = (merge_in_order order_in (order_total chromosomes_in) d strand as_read (good_are_said First order_in inputs.first) read_placed).placed
 
   there_input : (d : ℕ) (strand : MergeStrand) → IsInput order_in (interval_lines (ordered_runs order_in d strand as_read)) (map three_columns (ordered_runs order_in d strand as_read))
   there_input d strand = merge_back order_in (order_total chromosomes_in) d strand as_read (good_are_said First order_in inputs.first) read_placed
@@ -393,31 +373,21 @@ merged_by d strand inputs chromosomes_in well e =
     ∙ ap (λ bytes. record { output = bytes; fault = None }) (sym e))
 
 pub merge_twice : merge_of_merge
-merge_twice = grind (arith, merged_by, merge_whole)
+merge_twice d strand inputs chromosomes other well = merged_by d strand inputs chromosomes well (merge_pooled d strand inputs chromosomes other well)
 
 -- ---- complement of merge
 
 pub fault_as : (command other : Command) (inputs : Inputs) (chromosomes_in : Option (List Entry)) → RunsWithoutFault command inputs chromosomes_in
     → (((behaviour_of command chromosomes_in).report inputs.first inputs.second).fault ≡ ((behaviour_of other chromosomes_in).report inputs.first inputs.second).fault)
     → RunsWithoutFault other inputs chromosomes_in
-fault_as command other inputs chromosomes_in well same = record {
-  genome = well.genome;
-  faultless =
-      ap (λ (r : Report). r.fault) (report_there other inputs chromosomes_in well.genome) ∙ sym same
-      ∙ ap (λ (r : Report). r.fault) (sym (report_there command inputs chromosomes_in well.genome)) ∙ well.faultless;
-}
+fault_as command other inputs chromosomes_in well same = grind (arith, (report_there other inputs chromosomes_in well.genome), (report_there command inputs chromosomes_in well.genome))
 
 pub told_same : (one other : Written Feature) (members : List Feature) (fault : Option FaultValue) → (report_by one members fault).fault ≡ (report_by other members fault).fault
 told_same one other members fault = grind arith
 
 gaps_again : (limit : Bool) (entries : List Entry) (order : Order) (total : IsTotal order) (records : List Feature) (placed : ArePlaced order (intervals_of records)) (full : AllByRecursion (λ (r : Feature). r.start < r.stop) records)
     → complement limit entries (map three_columns (ordered_runs order 0 All records)) ≡ complement limit entries records
-gaps_again limit entries order total records placed full =
-    let result = ordered_runs order 0 All records in
-    let all : counted All records ≡ intervals_of records = all_counted records in
-    gaps_by limit entries (map three_columns result) records
-    (λ name. ap (has_records name) (back result) ∙ run_has order total 0 All records placed full name ∙ ap (has_records name) all)
-    (λ name. subst (λ l. SameCover l (spans_on name (intervals_of records))) (sym (ap (spans_on name) (back result) ∙ run_spans order total 0 All records placed full name ∙ ap (λ l. runs_of 0 (spans_on name l)) all)) (runs_cover (spans_on name (intervals_of records))))
+gaps_again limit entries order total records placed full = grind (arith, (all_counted records), gaps_by, back, run_has, run_spans, runs_cover)
 
 pub complement_merged : complement_of_merge
 complement_merged limit inputs chromosomes_in well =

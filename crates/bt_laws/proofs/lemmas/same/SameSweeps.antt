@@ -5,14 +5,14 @@ use Rattle.bt_lines.specs.model.Lines.{Handed, cut_fault, lines_handed, whole_te
 use Rattle.bt_lines.specs.declared.fault.Input.TheVariants.{First, Second}
 use Rattle.bt_bed.specs.model.Feature.{Feature, interval_of, intervals_of, Interval, span_of, spans_on}
 use Rattle.bt_bed.specs.calls.Stretches.{IsCovered}
-use Rattle.bt_bed.specs.model.BedLine.{bed_text, interval_lines}
+use Rattle.bt_bed.specs.model.BedLine.{bed_text, interval_lines, record_of}
 use Rattle.bt_bed.specs.model.Genome.{Entry}
-use Rattle.bt_bed.specs.model.Good.{Good, items_in, good, good_from, good_with, or_else, bed_good, bed_format, line_says}
+use Rattle.bt_bed.specs.model.Good.{Good, items_in, good, good_from, good_with, or_else, bed_good, bed_format, line_says, said_after, good_handed}
 use Rattle.bt_bed.specs.model.Meeting.{join_report, written}
 use Rattle.bt_bed.specs.model.Order.{Order, is_among}
 use Rattle.bt_sweep.specs.model.Hits.{hits_among, hits, strands_agree}
 use Rattle.bt_sweep.specs.calls.Sweeping.{any_overlap}
-use Rattle.bt_sweep.specs.model.Lines.{hit_line, intersect, line_with, lines_for, lines_of, piece_line, sweep_rule, pieces}
+use Rattle.bt_sweep.specs.model.Lines.{hit_line, intersect, line_with, lines_for, lines_of, sweep_rule, pieces}
 use Rattle.bt_sweep.specs.calls.LineLaws.{spans_of}
 use Rattle.bt_sweep.specs.declared.hits.hit_rule.HitRule.{HitRule}
 use Rattle.bt_sweep.specs.declared.output.shape.Shape.{Shape}
@@ -22,16 +22,16 @@ use Rattle.bt_tool.specs.model.Written.{met_report, met_within, Report, report_b
 use Rattle.bt_tool.specs.declared.planning.plan_type.Command.TheVariants.{Intersect, Subtract, Merge}
 use Rattle.bt_laws.specs.WholeRuns.{RunsWithoutFault, first_records, second_records, RunWrites, of_second, with_second}
 use Rattle.bt_laws.specs.Same.{Counted, counts_say_all, missing_is_whole, own_line, with_hits, merged_second_missing, merged_second_once, merged_second_subtract, one_base}
-use Rattle.bt_runs.proofs.lemmas.Lists.{all_any, flat_map_same, map_map, all_so}
+use Rattle.bt_runs.proofs.lemmas.Lists.{all_any, flat_map_same, map_map, all_so, filter_passes}
 use Rattle.bt_laws.proofs.lemmas.parts.PartSweep.{all_true}
-use Rattle.bt_laws.proofs.lemmas.pipes.PipeLaws.{intersect_whole, limit_whole, subtract_whole, well_there, SameCover, runs_cover, same_sym}
+use Rattle.bt_laws.proofs.lemmas.pipes.PipeLaws.{intersect_whole, limit_whole, subtract_whole, well_there, SameCover, runs_cover, same_sym, report_there}
 use Rattle.bt_lines.specs.declared.fault.Input.{Input}
 use Rattle.bt_lines.specs.declared.fault.Kind.{Kind}
 use Rattle.bt_bed.specs.model.Sorted.{Locus, Sorting, sorting_of, has_records}
 use Rattle.bt_bed.specs.calls.Orders.{AreContiguous, IsFollowed}
 use Rattle.bt_bed.proofs.lemmas.Definitions.{placed_good}
 use Rattle.bt_bed.proofs.lemmas.parse.NameLemmas.{cases_name, name_eq, name_ne-sym}
-use Rattle.bt_runs.specs.model.Merged.{ordered_runs, chromosomes, is_covered, without}
+use Rattle.bt_runs.specs.model.Merged.{ordered_runs, chromosomes, is_covered}
 use Rattle.bt_runs.specs.declared.merge.merge_strand.MergeStrand.TheVariants.{All}
 use Rattle.bt_runs.proofs.lemmas.order.FileOrder.{spans_on-here, spans_on-elsewhere, among_chromosomes, same_chromosome, without_absent}
 use Rattle.bt_sweep.proofs.lemmas.definitions.PieceLemmas.{are_pieces, only_pieces}
@@ -39,7 +39,7 @@ use Rattle.bt_sweep.proofs.lemmas.definitions.HitLemmas.{enough_of_nothing}
 use Rattle.bt_laws.proofs.lemmas.single.Sweeps.{of_nothing}
 use Rattle.bt_tool.specs.declared.planning.plan_type.Command.{Command}
 use Rattle.bt_laws.specs.Pipes.{IsInput, three_columns}
-use Rattle.bt_laws.proofs.lemmas.same.SameRuns.{back, report_there, run_spans, all_counted, kept_pass}
+use Rattle.bt_laws.proofs.lemmas.same.SameRuns.{back, run_spans, all_counted}
 use Rattle.bt_laws.proofs.lemmas.pipes.RunsBack.{merge_back}
 use Rattle.bt_laws.proofs.lemmas.pipes.LinesBack.{IsSaid, good_are_said}
 use Rattle.bt_laws.proofs.lemmas.pipes.SweepBack.{Hit, all_hits, cut_bounds, same_name}
@@ -72,7 +72,7 @@ other_shape one other rule held inputs chromosomes well = grind arith
 
 pub writes_lines : (shape : Shape) (rule : HitRule) (held : Option ℕ) (inputs : Inputs) (chromosomes : Option (List Entry)) → RunsWithoutFault (Intersect shape rule held) inputs chromosomes
     → RunWrites (Intersect shape rule held) inputs (intersect shape rule (first_records chromosomes inputs) (second_records chromosomes inputs))
-writes_lines shape rule held inputs chromosomes well = record { output = intersect_whole shape rule held inputs chromosomes well; faultless = well.faultless }
+writes_lines shape rule held inputs chromosomes well = grind (arith, (intersect_whole shape rule held inputs chromosomes well))
 
 -- ---- numbers of hits
 
@@ -184,15 +184,15 @@ pub record SeesBases (shape : Shape) : Type 0 where
 
 once_sees : SeesBases Once
 unfolding lines_for
-once_sees = record { sees = λ a bs cs one two same. (once_same a (hits_among any_overlap a bs) (hits_among any_overlap a cs) (some_to a bs cs one same) (some_to a cs bs two (same_sym (spans_on a.chrom (intervals_of bs)) (spans_on a.chrom (intervals_of cs)) same))).0 }
+once_sees = grind (arith, once_same, some_to, same_sym)
 
 missing_sees : SeesBases Missing
 unfolding lines_for
-missing_sees = record { sees = λ a bs cs one two same. (once_same a (hits_among any_overlap a bs) (hits_among any_overlap a cs) (some_to a bs cs one same) (some_to a cs bs two (same_sym (spans_on a.chrom (intervals_of bs)) (spans_on a.chrom (intervals_of cs)) same))).1 }
+missing_sees = grind (arith, once_same, some_to, same_sym)
 
 pieces_see : SeesBases Pieces
 unfolding lines_for
-pieces_see = record { sees = λ a bs cs one two same. ap (flat_map (piece_line a)) (pieces_same a bs cs one same) }
+pieces_see = grind (arith, pieces_same)
 
 pub intersect_sees : (shape : Shape) → SeesBases shape → (first bs cs : List Feature) → AllByRecursion IsSaid bs → AllByRecursion IsSaid cs → ((name : List ℕ) → SameCover (spans_on name (intervals_of bs)) (spans_on name (intervals_of cs)))
     → intersect shape any_overlap first bs ≡ intersect shape any_overlap first cs
@@ -210,26 +210,42 @@ met_none order shape rule first second one two = grind arith
 pub met_faultless : (order : Order) (shape : Shape) (rule : HitRule) (limit : Option ℕ) (first second : Good Feature) → (met_within order shape rule limit first second).fault ≡ None → (first.fault ≡ None) × (second.fault ≡ None)
 met_faultless order shape rule limit first second e = grind (arith, first_none, limit_whole)
 
--- a text without a fault as one input has none as another, and the same records
-like_with : (sorting : Sorting) (n : ℕ) (last : Option Locus) (one other : Input) (said : Result (Option Feature) Kind) (ls ms : Option Locus → Good Feature) → ((now : Option Locus) → (ls now).fault ≡ None → (items_in (ms now) ≡ items_in (ls now)) × ((ms now).fault ≡ None))
-    → (good_with (bed_format sorting) one n last said ls).fault ≡ None → (items_in (good_with (bed_format sorting) other n last said ms) ≡ items_in (good_with (bed_format sorting) one n last said ls)) × ((good_with (bed_format sorting) other n last said ms).fault ≡ None)
-like_with sorting n last one other said ls ms h e = grind arith
+-- a text without a fault in one form has none in another, and the same records
 
-pub like_from : (sorting : Sorting) (one other : Input) (last : Option Locus) (lines : List TextLine) → (good_from (bed_format sorting) one last lines).fault ≡ None
-    → (items_in (good_from (bed_format sorting) other last lines) ≡ items_in (good_from (bed_format sorting) one last lines)) × ((good_from (bed_format sorting) other last lines).fault ≡ None)
-unfolding good_from
-like_from sorting one other last [] e = (refl, refl)
-like_from sorting one other last (line ∷ lines) e =
-    like_with sorting line.number last one other (line_says sorting last line.text) (λ now. good_from (bed_format sorting) one now lines) (λ now. good_from (bed_format sorting) other now lines) (λ now none. like_from sorting one other now lines none) e
+-- the same records, and no fault
+pub record IsLike (one other : Good Feature) : Type 0 where
+  pub items : items_in other ≡ items_in one
+  pub faultless : other.fault ≡ None
+
+-- what is said without a fault is said too
+abbrev pub SaidToo : Result (Option Feature) Kind → Result (Option Feature) Kind → Type 0
+SaidToo (Err kind) too = Unit {0}
+SaidToo (Ok said) too = too ≡ Ok said
+
+said_itself : (said : Result (Option Feature) Kind) → SaidToo said said
+said_itself (Err kind) = tt
+said_itself (Ok said) = refl
 
 pub cut_none : (fault cut : Option FaultValue) → or_else fault cut ≡ None → (fault ≡ None) × (cut ≡ None)
 cut_none fault cut e = grind arith
 
-pub other_input : (order : Order) (handed : Handed) → (bed_good Second order handed).fault ≡ None → (items_in (bed_good First order handed) ≡ items_in (bed_good Second order handed)) × ((bed_good First order handed).fault ≡ None)
-other_input order handed e =
-    let lines = lines_handed handed in
-    let parts = cut_none (good (bed_format (sorting_of order)) Second lines).fault (cut_fault Second handed) e in
-    grind (arith, (like_from (sorting_of order) Second First None lines parts.0))
+module _ (one other : Sorting) (too : (last : Option Locus) (said : Result (Option Feature) Kind) → SaidToo (said_after one last said) (said_after other last said)) (from to : Input) where
+  like_with : (n : ℕ) (last : Option Locus) (said again : Result (Option Feature) Kind) (ls ms : Option Locus → Good Feature) → SaidToo said again → ((now : Option Locus) → (ls now).fault ≡ None → IsLike (ls now) (ms now))
+      → (good_with (bed_format one) from n last said ls).fault ≡ None → IsLike (good_with (bed_format one) from n last said ls) (good_with (bed_format other) to n last again ms)
+  like_with n last said again ls ms is h e = grind arith
+
+  like_from : (last : Option Locus) (lines : List TextLine) → (good_from (bed_format one) from last lines).fault ≡ None → IsLike (good_from (bed_format one) from last lines) (good_from (bed_format other) to last lines)
+  unfolding good_from line_says
+  like_from last [] e = record { items = refl; faultless = refl }
+  like_from last (line ∷ lines) e =
+      let said = record_of line.text in
+      like_with line.number last (said_after one last said) (said_after other last said) (λ now. good_from (bed_format one) from now lines) (λ now. good_from (bed_format other) to now lines) (too last said) (λ now none. like_from now lines none) e
+
+  pub read_again : (handed : Handed) → (good_handed (bed_format one) from handed).fault ≡ None → IsLike (good_handed (bed_format one) from handed) (good_handed (bed_format other) to handed)
+  read_again handed e = grind (arith, (like_from None (lines_handed handed) (cut_none (good (bed_format one) from (lines_handed handed)).fault (cut_fault from handed) e).0))
+
+pub other_input : (order : Order) (from to : Input) (handed : Handed) → (bed_good from order handed).fault ≡ None → IsLike (bed_good from order handed) (bed_good to order handed)
+other_input order = read_again (sorting_of order) (sorting_of order) (λ last said. said_itself (said_after (sorting_of order) last said))
 
 pub output_by : (written : Written Feature) (members : List Feature) (fault : Option FaultValue) → fault ≡ None → (report_by written members fault).output ≡ written.whole members
 output_by written members fault e = grind arith
@@ -252,13 +268,13 @@ module _ (inputs : Inputs) (chromosomes : Option (List Entry)) (genome : chromos
   alone = record { genome = inputs.genome; first = or_empty inputs.second; second = None }
 
   -- the records of the second input, read as a first one
-  seconds_first : (items_in (bed_good First order (or_empty inputs.second)) ≡ seconds) × ((bed_good First order (or_empty inputs.second)).fault ≡ None)
-  seconds_first = other_input order (or_empty inputs.second) none
+  seconds_first : IsLike (bed_good Second order (or_empty inputs.second)) (bed_good First order (or_empty inputs.second))
+  seconds_first = other_input order Second First (or_empty inputs.second) none
 
   second_is : of_second (Merge 0 All) inputs ≡ interval_lines runs
   second_is =
       let good = bed_good First order (or_empty inputs.second) in
-      ap (λ (r : Report). r.output) (report_there (Merge 0 All) alone chromosomes genome) ∙ output_by (merge_written order 0 All) (items_in good) good.fault seconds_first.1 ∙ ap (λ rs. interval_lines (ordered_runs order 0 All rs)) seconds_first.0
+      ap (λ (r : Report). r.output) (report_there (Merge 0 All) alone chromosomes genome) ∙ output_by (merge_written order 0 All) (items_in good) good.fault seconds_first.faultless ∙ ap (λ rs. interval_lines (ordered_runs order 0 All rs)) seconds_first.items
 
   second_input : IsInput order (of_second (Merge 0 All) inputs) (map three_columns runs)
   second_input = grind (arith, second_is, merge_back, order_total, good_are_said, placed_good)
@@ -308,10 +324,7 @@ pub missing_merged : merged_second_missing
 missing_merged both held inputs chromosomes well = by_intersect Missing held inputs chromosomes both missing_sees well
 
 pub subtracts_merged : merged_second_subtract
-subtracts_merged held inputs chromosomes well =
-    let none = nones Pieces held inputs chromosomes (well_there (Subtract false any_overlap held) inputs chromosomes well) in
-    subst (RunWrites (Subtract false any_overlap None) (with_second (Merge 0 All) inputs)) (sym (subtract_whole false any_overlap held inputs chromosomes well))
-    (subtract_merged inputs chromosomes well.genome none.1 none.0)
+subtracts_merged held inputs chromosomes well = grind (arith, (nones Pieces held inputs chromosomes (well_there (Subtract false any_overlap held) inputs chromosomes well)), (well_there (Subtract false any_overlap held) inputs chromosomes well), (subtract_whole false any_overlap held inputs chromosomes well), subtract_merged)
 
 -- The blocks of records that are contiguous: one for each chromosome.
 
@@ -328,7 +341,7 @@ blocks rs = blocks_by (λ r. r.chrom) rs
 
 elsewhere : (r : Feature) (rs : List Feature) (names : List (List ℕ)) → AllByRecursion (λ n. bytes_eq r.chrom n ≡ false) names → map (block_of (r ∷ rs)) names ≡ map (block_of rs) names
 elsewhere r rs [] h = refl
-elsewhere r rs (n ∷ ns) h = ap₂ (λ (b : Bool) more. record { chrom = n; items = cond b (r ∷ on_name n rs) (on_name n rs) } ∷ more) h.0 (elsewhere r rs ns h.1)
+elsewhere r rs (n ∷ ns) h = grind (arith, cond, (elsewhere r rs ns h.1))
 
 none_on : (name : List ℕ) (rs : List Feature) → has_records name (intervals_of rs) ≡ false → on_name name rs ≡ []
 none_on name [] e = refl
@@ -338,11 +351,7 @@ none_on name (r ∷ rs) e = grind (arith, (none_on name rs (or_parts (bytes_eq r
 
 followed : (r s : Feature) (ss : List Feature) → IsFollowed (interval_of r) (intervals_of (s ∷ ss)) → blocks (s ∷ ss) ≡ map (block_of (s ∷ ss)) (chromosomes (intervals_of (s ∷ ss)))
     → blocks (r ∷ s ∷ ss) ≡ map (block_of (r ∷ s ∷ ss)) (chromosomes (intervals_of (r ∷ s ∷ ss)))
-followed r s ss (inl same) e =
-    let rest = without s.chrom (chromosomes (intervals_of ss)) in
-    let here = name_eq r.chrom s.chrom (sym same.0) in
-    let apart : AllByRecursion (λ n. bytes_eq r.chrom n ≡ false) rest = subst (λ name. AllByRecursion (λ n. bytes_eq name n ≡ false) rest) same.0 (grind (arith, all_so, name_ne-sym, kept_pass)) in
-    grind (arith, (elsewhere r (s ∷ ss) rest apart), (same_chromosome (interval_of r) (interval_of s) (intervals_of ss) (sym same.0)))
+followed r s ss (inl same) e = grind (arith, (name_eq r.chrom s.chrom (sym same.0)), bytes_eq, all_so, name_ne-sym, filter_passes, elsewhere, (same_chromosome (interval_of r) (interval_of s) (intervals_of ss) (sym same.0)))
 followed r s ss (inr off) e =
     let later = s ∷ ss in
     let names = chromosomes (intervals_of later) in
@@ -352,7 +361,7 @@ followed r s ss (inr off) e =
 
 pub together_blocks : (rs : List Feature) → AreContiguous (intervals_of rs) → blocks rs ≡ map (block_of rs) (chromosomes (intervals_of rs))
 together_blocks [] h = refl
-together_blocks (r ∷ []) h = ap (λ (b : Bool). record { chrom = r.chrom; items = cond b (r ∷ []) [] } ∷ []) (sym (name_eq r.chrom r.chrom refl))
+together_blocks (r ∷ []) h = grind (arith, cond, (name_eq r.chrom r.chrom refl))
 together_blocks (r ∷ s ∷ ss) h = followed r s ss h.0 (together_blocks (s ∷ ss) h.1)
 
 -- ---- what they cover

@@ -1,11 +1,11 @@
 -- The intervals of equal value are the one list that has the values; of one value they are stretches; runs and gaps are so too.
-use Rattle.bt_lines.proofs.Std.{◌≡◌, ℕ, ◌+◌, ◌≤◌, inl, inr, List, [], ◌∷◌, refl, sym, ap, ◌∙◌, arith, map, Bool, true, ◌==◌, Some, None, cases_Bool, eq-eqb, eqb-true, filter, flat_map, map-append, filter-append}
+use Rattle.bt_lines.proofs.Std.{◌≡◌, ℕ, ◌+◌, ◌≤◌, inl, inr, List, [], ◌∷◌, refl, sym, ap, ◌∙◌, arith, map, Bool, true, ◌==◌, Some, None, cases_Bool, eq-eqb, eqb-true, filter, flat_map, map-append, filter-append, ◌<◌, subst}
 use Rattle.bt_bed.specs.model.Feature.{Span, Feature, intervals_of, Interval, placed_on}
 use Rattle.bt_bed.specs.calls.Stretches.{AreApartFrom, IsCovered}
 use Rattle.bt_bed.specs.model.Levels.{AreDisjointFrom, DiffersFromNext, HasValue, Level}
 use Rattle.bt_laws.specs.Runs.{level_on, levels_are, levels_only, stretches_are_levels, covered_have_depth, gaps_are_levels, gaps_have_depth_0, interval_at, is_bare, one_value, touching_runs_are_levels, one_place_is_kept}
 use Rattle.bt_runs.specs.model.Depth.{levels_of, the_levels, DepthInterval, coverage, depth_of, depth_on, depths_on}
-use Rattle.bt_bed.proofs.lemmas.LevelScans.{looser, value_from}
+use Rattle.bt_bed.proofs.lemmas.LevelScans.{looser}
 use Rattle.bt_bed.specs.model.Genome.{Entry}
 use Rattle.bt_runs.specs.model.Gaps.{complement, gaps_of, gaps_on}
 use Rattle.bt_runs.specs.calls.Complementing.{kept_place}
@@ -50,7 +50,7 @@ levels_of_stretches test size spans h = grind (arith, only_levels, (apart_disjoi
 -- The merged runs and the gaps of a chromosome are intervals of equal value.
 
 -- if nothing is bridged, a bridged position is covered
-bridged_covered : (spans : List Span) (p : ℕ) → Bridged 0 spans p → IsCovered spans p
+pub bridged_covered : (spans : List Span) (p : ℕ) → Bridged 0 spans p → IsCovered spans p
 bridged_covered spans p b = grind arith
 
 pub plain_runs_levels : touching_runs_are_levels
@@ -74,38 +74,45 @@ pub covered_depth : covered_have_depth
 covered_depth [] p = refl
 covered_depth (s ∷ ss) p = grind (arith, (covered_depth ss p))
 
+-- intervals whose values pass a test
+module _ (t : ℕ → Bool) where
+  pub some_value : (ls : List Level) (p v : ℕ) → HasValue (filter (λ (l : Level). t l.value) ls) p v → HasValue ls p v × (t v ≡ true)
+  some_value [] p v h = absurd h
+  some_value (l ∷ ls) p v h = elim (cases_Bool (t l.value)) [
+    | inl e ↦ elim (rw e at h) [
+      | inl w ↦ (inl w, subst (λ n. t n ≡ true) w.2 e)
+      | inr w ↦ let r = some_value ls p v w in (inr r.0, r.1)
+    ]
+    | inr f ↦ let r = some_value ls p v (rw f at h) in (inr r.0, r.1)
+  ]
+
+  pub value_some : (ls : List Level) (p v : ℕ) → t v ≡ true → HasValue ls p v → HasValue (filter (λ (l : Level). t l.value) ls) p v
+  value_some [] p v e h = absurd h
+  value_some (l ∷ ls) p v e (inl w) = rw (ap t w.2 ∙ e) (inl w)
+  value_some (l ∷ ls) p v e (inr w) = grind (arith, (value_some ls p v e w))
+
+  -- what starts past a level doesn't touch it
+  differs_far : (l : Level) (first : ℕ) (ms : List Level) → l.stop < first → AreDisjointFrom first ms → DiffersFromNext l (filter (λ (l : Level). t l.value) ms)
+  differs_far l first [] far d = tt
+  differs_far l first (m ∷ ms) far d = grind (arith, (differs_far l m.stop ms (omega (arith, far, d.0, d.1)) d.3))
+
+  differs_some : (l : Level) (ms : List Level) → DiffersFromNext l ms → AreDisjointFrom l.stop ms → DiffersFromNext l (filter (λ (l : Level). t l.value) ms)
+  differs_some l [] differs d = tt
+  differs_some l (m ∷ ms) differs d = grind (arith, (differs_far l m.stop ms (omega (arith, d.0, d.1)) d.3))
+
+  pub some_disjoint : (first : ℕ) (ls : List Level) → AreDisjointFrom first ls → AreDisjointFrom first (filter (λ (l : Level). t l.value) ls)
+  some_disjoint first [] d = tt
+  some_disjoint first (l ∷ ls) d = grind (arith, (some_disjoint l.stop ls d.3), differs_some, looser)
+
 -- the intervals of one value, among those of all values
 abbrev has : ℕ → Level → Bool
 has value l = l.value == value
 
-kept_has : (value : ℕ) (ls : List Level) (p v : ℕ) → HasValue (filter (has value) ls) p v
-    → HasValue ls p v × (value ≡ v)
-kept_has value [] p v h = absurd h
-kept_has value (l ∷ ls) p v h = elim (cases_Bool (has value l)) [
-  | inl t ↦ elim (rw t at h) [
-    | inl w ↦ (inl w, sym (eqb-true l.value value t) ∙ w.2)
-    | inr w ↦ let r = kept_has value ls p v w in (inr r.0, r.1)
-  ]
-  | inr f ↦ let r = kept_has value ls p v (rw f at h) in (inr r.0, r.1)
-]
+kept_has : (value : ℕ) (ls : List Level) (p v : ℕ) → HasValue (filter (has value) ls) p v → HasValue ls p v × (value ≡ v)
+kept_has value ls p v h = let some = some_value (λ n. n == value) ls p v h in (some.0, sym (eqb-true v value some.1))
 
-has_kept : (value : ℕ) (ls : List Level) (p : ℕ) → HasValue ls p value
-    → HasValue (filter (has value) ls) p value
-has_kept value [] p h = absurd h
-has_kept value (l ∷ ls) p (inl w) = rw (eq-eqb l.value value w.2) (inl w)
-has_kept value (l ∷ ls) p (inr w) = grind (arith, (has_kept value ls p w))
-
--- an interval differs from the next if its value isn't found at its stop
-differs_from : (first : ℕ) (l : Level) (ms : List Level) → (HasValue ms l.stop l.value → ⊥)
-    → AreDisjointFrom first ms → DiffersFromNext l ms
-differs_from first l ms none d = grind arith
-
-kept_disjoint : (value first : ℕ) (ls : List Level) → AreDisjointFrom first ls
-    → AreDisjointFrom first (filter (has value) ls)
-kept_disjoint value first [] d = tt
-kept_disjoint value first (l ∷ ls) d =
-    let behind = kept_disjoint value l.stop ls d.3 in
-    grind (arith, kept_has, differs_from, value_from, (looser l.stop first (filter (has value) ls) (omega (arith, d.0, d.1)) behind))
+has_kept : (value : ℕ) (ls : List Level) (p : ℕ) → HasValue ls p value → HasValue (filter (has value) ls) p value
+has_kept value ls p h = value_some (λ n. n == value) ls p value (eq-eqb value value refl) h
 
 -- depth 0 is that of the bare positions
 bare_depth : (spans : List Span) (p v : ℕ) → depth_of true spans p ≡ Some v → 0 ≡ v
@@ -121,7 +128,7 @@ gaps_by_depth : (size : ℕ) (spans : List Span)
     → filter (has 0) (levels_of (depth_of true spans) size) ≡ map (level_on 0) (gaps_of size spans)
 gaps_by_depth size spans =
     let all = are_levels (depth_of true spans) size in
-    grind (arith, only_levels, (kept_disjoint 0 0 (levels_of (depth_of true spans) size) all.disjoint), kept_has, bare_depth, has_kept, depth_bare, (gaps_levels size spans))
+    grind (arith, only_levels, (some_disjoint (λ n. n == 0) 0 (levels_of (depth_of true spans) size) all.disjoint), kept_has, bare_depth, has_kept, depth_bare, (gaps_levels size spans))
 
 -- on the chromosome of a name
 level_place : List ℕ → Level → Interval

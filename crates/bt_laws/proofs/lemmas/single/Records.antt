@@ -1,5 +1,5 @@
 -- Lemmas on lines, records and their orders.
-use Rattle.bt_lines.proofs.Std.{◌≡◌, ℕ, Bool, true, false, cond, List, [], ◌∷◌, Option, Some, None, Result, Ok, Err, refl, sym, ap, ◌∙◌, ⊤, ◌≢◌, IfSome, length, arith, zero, suc, ◌+◌, ◌<◌, ◌≤◌, take, ◌++◌, append_assoc, append-nil, IfErr, decimal, lt-ltb, decimal_is_IsNumeral, All-cons, digit_from_value, is_ascii_digit, IsInRange, AllByRecursion, list_all, AllDigits, digits_value, false≢true, nat_cmp_total, tied_itself, slice_cmp, nat_cmp, ordering_then, IsTrue, ◌⊎◌, inl, inr, bytes_eq, or_parts, or_from}
+use Rattle.bt_lines.proofs.Std.{◌≡◌, ℕ, Bool, true, false, cond, List, [], ◌∷◌, Option, Some, None, Result, Ok, Err, refl, sym, ap, ◌∙◌, ⊤, ◌≢◌, IfSome, length, arith, zero, suc, ◌+◌, ◌<◌, ◌≤◌, take, ◌++◌, append_assoc, append-nil, IfErr, decimal, lt-ltb, decimal_is_IsNumeral, digit_from_value, is_ascii_digit, IsInRange, AllByRecursion, list_all, AllDigits, digits_value, false≢true, nat_cmp_total, tied_itself, slice_cmp, nat_cmp, ordering_then, IsTrue, ◌⊎◌, inl, inr, bytes_eq, or_parts, or_from, digit_glyph, digits_onto, ◌/◌, ◌%◌, All-from_recursion, codes}
 use Rattle.bt_lines.specs.model.Fault.{FaultValue}
 use Rattle.bt_lines.specs.model.Lines.{lines_handed, TextLine, pieces, value_of, text_lines}
 use Rattle.bt_lines.specs.calls.Line.{AreNumbered}
@@ -8,7 +8,7 @@ use Rattle.bt_lines.specs.declared.fault.Kind.{Kind}
 use Rattle.bt_lines.specs.declared.fault.Kind.TheVariants.{OutOfOrder, UnknownChrom}
 use Rattle.bt_bed.specs.model.Feature.{Feature, Interval, last_from}
 use Rattle.bt_bed.specs.model.BedLine.{is_header, columns_say, not_skipped, record_of, ends_word, first_word, bed_text, kept_columns}
-use Rattle.bt_bed.specs.calls.Features.{IsFeature, columns_in, said_are_features}
+use Rattle.bt_bed.specs.calls.Features.{IsFeature, columns_in, said_are_features, IsName, is_kept}
 use Rattle.bt_bed.specs.model.Good.{Good, good_from, good_with, line_says, said_after, block_format, bed_format}
 use Rattle.bt_bed.specs.model.Meeting.{Rule, join_report, written}
 use Rattle.bt_laws.specs.Records.{blocks_know_each_chromosome, good_stand_on_lines, first_lines_have_the_first, good_in_blocks_are_non_empty, good_in_blocks_stand_on_lines, genome_names_are_distinct, first_lines_make_entries, read_are_rewritten, written_are_read, StaysDecided, bytes_know_each_chromosome, first_difference_decides, prefixes_come_first, shared_are_common, stretches_are_one, contiguous_grows}
@@ -26,6 +26,7 @@ use Rattle.bt_bed.proofs.lemmas.parse.FeatureLemmas.{columns_of_line, record_sai
 use Rattle.std.specs.declared.cmp.Ordering.TheVariants.{Less}
 use Rattle.bt_bed.proofs.lemmas.parse.NameLemmas.{name_ne, name_ne-sym}
 use Rattle.bt_bed.proofs.lemmas.order.OrderLemmas.{has_records-last}
+use Rattle.std.specs.Fmt.{digits}
 
 -- In blocks no chromosome is unknown.
 
@@ -170,10 +171,6 @@ digits_pass : (ds : List ℕ) → AllDigits 10 ds → list_all is_ascii_digit ds
 digits_pass [] h = refl
 digits_pass (c ∷ cs) h = rw (in_range_digit c (digit_from_value c h.0), digits_pass cs h.1) refl
 
-digits_are_column : (ds : List ℕ) → AllDigits 10 ds → IsColumn ds
-digits_are_column [] h = λ k d l. absurd (omega arith)
-digits_are_column (c ∷ cs) h = All-cons IsInside c cs (grind arith) (digits_are_column cs h.1)
-
 -- the digits of a number denote it
 value_of_text : (text : List ℕ) (n : ℕ) → 0 < length text → AllDigits 10 text → digits_value 10 text ≡ n → n ≤ 999999999999 → value_of text ≡ Some n
 unfolding value_of
@@ -182,20 +179,43 @@ value_of_text text n some digits e small = grind (arith, digits_pass)
 value_of_decimal : (n : ℕ) → n ≤ 999999999999 → value_of (decimal n) ≡ Some n
 value_of_decimal n small = let d = decimal_is_IsNumeral n (omega arith) in value_of_text (decimal n) n d.0.0 d.0.1 d.1 small
 
-decimal_is_column : (n : ℕ) → n ≤ 999999999999 → IsColumn (decimal n)
-decimal_is_column n small = digits_are_column (decimal n) (decimal_is_IsNumeral n (omega arith)).0.1
+-- ---- a number's text has digits alone
 
--- the columns of a record's bytes
-columns_of_text : (f : Feature) → IsFeature f → pieces 9 (bed_text f) ≡ f.chrom ∷ decimal f.start ∷ decimal f.stop ∷ columns_in f.rest
-columns_of_text f is =
-    let text : bed_text f ≡ f.chrom ++ kept_columns (decimal f.start ∷ decimal f.stop ∷ columns_in f.rest) =
-    ap (λ l. f.chrom ++ 9 ∷ [] ++ decimal f.start ++ 9 ∷ [] ++ decimal f.stop ++ l) (sym (kept_again f.rest is.kept)) ∙ simp append_assoc in
-    ap (pieces 9) text
-    ∙ kept_is_cut f.chrom (decimal f.start ∷ decimal f.stop ∷ columns_in f.rest) is.named.one_column
-    (decimal_is_column f.start (omega (arith, is.non_empty, is.in_range)), (decimal_is_column f.stop is.in_range, grind (arith, pieces_are_columns)))
+abbrev pub IsDigit : ℕ → Type 0
+IsDigit c = (48 ≤ c) × (c ≤ 57)
+
+glyph_is_digit : (d : ℕ) → d < 10 → IsDigit (digit_glyph false d)
+glyph_is_digit d below = grind (arith, cond, (lt-ltb d 10 below))
+
+onto_digits : (k n : ℕ) (acc : List ℕ) → AllByRecursion IsDigit acc → AllByRecursion IsDigit (digits_onto k 10 false n acc)
+onto_digits zero n acc h = h
+onto_digits (suc k) n acc h = grind (arith, (onto_digits k (n / 10) (digit_glyph false (n % 10) ∷ acc) ((glyph_is_digit (n % 10) (omega arith)), h)))
+
+pub decimal_digits : (n : ℕ) → AllByRecursion IsDigit (decimal n)
+unfolding digits
+decimal_digits n = onto_digits 64 n [] tt
+
+digits_inside : (ds : List ℕ) → AllByRecursion IsDigit ds → AllByRecursion IsInside ds
+digits_inside [] h = tt
+digits_inside (c ∷ cs) h = ((grind arith), digits_inside cs h.1)
+
+pub number_column : (n : ℕ) → IsColumn (decimal n)
+number_column n = All-from_recursion IsInside (decimal n) (digits_inside (decimal n) (decimal_digits n))
+
+-- ---- a line
+
+-- a name, two numbers, and what follows them
+abbrev pub columns_text : List ℕ → ℕ → ℕ → List ℕ → List ℕ
+columns_text chrom start stop tail = chrom ++ codes "\t" ++ decimal start ++ codes "\t" ++ decimal stop ++ tail
+
+pub line_columns : (chrom : List ℕ) (start stop : ℕ) (tail : List ℕ) → IsName chrom → IsTrue (is_kept tail) → pieces 9 (columns_text chrom start stop tail) ≡ chrom ∷ decimal start ∷ decimal stop ∷ columns_in tail
+line_columns chrom start stop tail named kept =
+    let text : columns_text chrom start stop tail ≡ chrom ++ kept_columns (decimal start ∷ decimal stop ∷ columns_in tail) =
+    ap (λ l. chrom ++ 9 ∷ [] ++ decimal start ++ 9 ∷ [] ++ decimal stop ++ l) (sym (kept_again tail kept)) ∙ simp append_assoc in
+    ap (pieces 9) text ∙ kept_is_cut chrom (decimal start ∷ decimal stop ∷ columns_in tail) named.one_column (number_column start, (number_column stop, grind (arith, pieces_are_columns)))
 
 text_says : (f : Feature) → IsFeature f → columns_say (pieces 9 (bed_text f)) ≡ Ok f
-text_says f is = grind (arith, columns_of_text, value_of_decimal, kept_again)
+text_says f is = grind (arith, (line_columns f.chrom f.start f.stop f.rest is.named is.kept), value_of_decimal, kept_again)
 
 pub said_feature : said_are_features
 said_feature text f e = said_is_feature text f (record_said text f e).1
@@ -204,7 +224,7 @@ pub written_feature : written_are_read
 written_feature f is header = columns_of_line (bed_text f) header ∙ ap not_skipped (text_says f is)
 
 -- what follows a tab doesn't change the first word
-until_tab : (chrom tail : List ℕ) → first_word (chrom ++ 9 ∷ tail) ≡ first_word chrom
+pub until_tab : (chrom tail : List ℕ) → first_word (chrom ++ 9 ∷ tail) ≡ first_word chrom
 until_tab [] tail = refl
 until_tab (byte ∷ chrom) tail = grind (arith, (of_word byte (chrom ++ 9 ∷ tail) (ends_word byte) refl), (until_tab chrom tail), (of_word byte chrom (ends_word byte) refl))
 
@@ -217,9 +237,7 @@ no_header_again : (text : List ℕ) (f : Feature) (between : List ℕ) → text 
 no_header_again text f between e = grind (arith, append_assoc, header_until_tab)
 
 pub rewritten_feature : read_are_rewritten
-rewritten_feature text f e =
-    let s = record_said text f e in
-    grind (arith, (written_feature f (said_is_feature text f s.1) (no_header_again text f (said_stands text f s.1).0 (said_stands text f s.1).1 ∙ s.0)))
+rewritten_feature text f e = grind (arith, (record_said text f e), written_feature, said_is_feature, no_header_again, said_stands)
 
 -- Lemmas on what is written early of two inputs.
 

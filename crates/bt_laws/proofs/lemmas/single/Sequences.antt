@@ -80,12 +80,10 @@ module _ {A : Type 0} where
   last_first_by : (b : Block A) (bs : List (Block A)) (names more rest : List (List ℕ)) → ((left : List (List ℕ)) → at_last (Some (left ++ more)) bs ≡ Some (rest ++ more) → at_last (Some left) bs ≡ Some rest)
       → (o : Option (List (List ℕ))) → names_behind b.chrom (names ++ more) ≡ o → at_last o bs ≡ Some (rest ++ more) → at_last (names_behind b.chrom names) bs ≡ Some rest
   last_first_by b bs names more rest next None is e = absurd (let apart : None ≡ Some (rest ++ more) = sym (none_at_last bs) ∙ e in cc)
-  last_first_by b bs names more rest next (Some all) is e =
-      let w = behind_within b.chrom names more all (omega (arith, last_fewer (rest ++ more) bs all e, length-append rest more)) is in
-      ap (λ o. at_last o bs) w.found ∙ next w.left (ap (λ l. at_last (Some l) bs) (sym w.is) ∙ e)
+  last_first_by b bs names more rest next (Some all) is e = grind (arith, (behind_within b.chrom names more all (omega (arith, last_fewer (rest ++ more) bs all e, length-append rest more)) is), (last_fewer (rest ++ more) bs all e), (length-append rest more))
 
   last_first : (more rest : List (List ℕ)) (bs : List (Block A)) (names : List (List ℕ)) → at_last (Some (names ++ more)) bs ≡ Some (rest ++ more) → at_last (Some names) bs ≡ Some rest
-  last_first more rest [] names e = let same : names ++ more ≡ rest ++ more = cc in ap Some (append_cancel_right names rest more same)
+  last_first more rest [] names e = grind (arith, append_cancel_right)
   last_first more rest (b ∷ bs) names e = last_first_by b bs names more rest (last_first more rest bs) (names_behind b.chrom (names ++ more)) refl e
 
 pub owners_stay_so : owners_stay
@@ -109,16 +107,7 @@ between_by k operation operations start stop last e h skipped more = grind (arit
 
 open_between : (start stop : ℕ) (operations : List Operation) → start ≤ stop → AreBetween start (stop + reference_length operations) (open_blocks start stop operations)
 open_between start stop [] h = grind arith
-open_between start stop (operation ∷ operations) h =
-    let last = stop + reference_length (operation ∷ operations) in
-    let size = sum_by-cons covered_by operation operations in
-    between_by (is_skip operation) operation operations start stop last refl h
-    (λ e.
-    let same : stop + operation.length + reference_length operations ≡ last = omega (arith, size, skip_covers operation e) in
-    rw (← same) (open_between (stop + operation.length) (stop + operation.length) operations (omega arith)))
-    (λ e.
-    let same : stop + covered_by operation + reference_length operations ≡ last = omega (arith, size) in
-    rw (← same) (open_between start (stop + covered_by operation) operations (omega arith)))
+open_between start stop (operation ∷ operations) h = grind (arith, (sum_by-cons covered_by operation operations), between_by, skip_covers, (open_between (stop + operation.length) (stop + operation.length) operations (omega arith)), (open_between start (stop + covered_by operation) operations (omega arith)))
 
 pub within : blocks_are_within
 within = grind (arith, blocks_open, open_between)
@@ -147,7 +136,7 @@ pub parts_found : (text : List ℕ) (parts : List Part) → Divides text parts �
 parts_found text parts d = ap parts_of (sym d.whole) ∙ found_parts parts d.all
 
 pub one_division : division_is_one
-one_division text parts others p q = let same : Some parts ≡ Some others = sym (parts_found text parts p) ∙ parts_found text others q in cc
+one_division text parts others p q = grind (arith, (parts_found text parts p), (parts_found text others q))
 
 pub division_found : division_is_found
 unfolding operations_in
@@ -224,7 +213,7 @@ module _ (how : MaskHow) (names : List (List ℕ)) (second : Good Feature) where
   all_stay [] seen more is placed = tt
   all_stay (line ∷ lines) seen more is placed = grind (arith, late_decided, masked_stay, (all_stay lines seen more is placed))
 
-  all_decided : (first : List SequenceLine) → second.fault ≡ None → list_all (mask_rule how names second).decided first ≡ true
+  pub all_decided : (first : List SequenceLine) → second.fault ≡ None → list_all (mask_rule how names second).decided first ≡ true
   all_decided [] e = refl
   all_decided (line ∷ lines) e = grind (arith, (all_decided lines e))
 

@@ -9,7 +9,7 @@ use Rattle.bt_runs.specs.model.Merged.{StrandRun, is_in, places_of, strand_runs,
 use Rattle.bt_runs.specs.calls.MergedRuns.{AreTaken}
 use Rattle.bt_laws.specs.Merges.{first_place, first_start, strand_runs_come_in_order, strand_runs_come_in_turn, strand_runs_start_with_records}
 use Rattle.bt_runs.specs.inside.merge.StrandStep.{run_from}
-use Rattle.bt_runs.proofs.lemmas.Lists.{Some_of, all_and, all_both, all_map, all_so, none_each, some_weaker}
+use Rattle.bt_runs.proofs.lemmas.Lists.{Some_of, all_and, all_both, all_map, all_so, none_each, some_weaker, map_same, map_map}
 use Rattle.bt_runs.proofs.lemmas.order.FileOrder.{skips, in_file_order, ordered_come}
 use Rattle.bt_runs.proofs.lemmas.merge.StrandListing.{joined_to, new_run, reaches, IsWithinOrFar, Lies, Listed, are_listed, lies_true, listing_next, not_in_new, same_in, some_base, up}
 use Rattle.bt_runs.proofs.lemmas.merge.SettledRuns.{taken_front}
@@ -79,16 +79,6 @@ rise_increases (n ∷ []) r k h = absurd (omega arith)
 rise_increases (n ∷ m ∷ ms) r zero h = r.0.0
 rise_increases (n ∷ m ∷ ms) r (suc k) h = grind (arith, (rise_increases (m ∷ ms) r.1 k (omega arith)))
 
-map_same : {A B : Type 0} (f g : A → B) (xs : List A) → AllByRecursion (λ x. f x ≡ g x) xs
-    → map f xs ≡ map g xs
-map_same f g [] e = refl
-map_same f g (x ∷ xs) e = ap₂ (λ y ys. y ∷ ys) e.0 (map_same f g xs e.1)
-
-map_changed : {A B : Type 0} (h : A → A) (f g : A → B) (xs : List A) → AllByRecursion (λ x. f (h x) ≡ g x) xs
-    → map f (map h xs) ≡ map g xs
-map_changed h f g [] e = refl
-map_changed h f g (x ∷ xs) e = ap₂ (λ y ys. y ∷ ys) e.0 (map_changed h f g xs e.1)
-
 -- a run keeps its start with a record that is joined to it
 same_start : (gap : ℕ) (r : Feature) (item : StrandRun)
     → locus_of (joined_to gap r item).run ≡ locus_of item.run
@@ -144,7 +134,7 @@ module _ (gap : ℕ) (past : List Feature) (r : Feature)
 
   places_old : map (first_place (past ++ r ∷ [])) (map (joined_to gap r) old)
       ≡ map (first_place past) old
-  places_old = grind (arith, map_changed, all_so, all_same)
+  places_old = grind (arith, map_map, all_so, all_same)
 
   starts_old : AllByRecursion (λ item. first_start past item ≡ Some (locus_of item.run)) old
       → AllByRecursion (λ item. first_start (past ++ r ∷ []) item ≡ Some (locus_of item.run))
@@ -161,7 +151,7 @@ module _ (gap : ℕ) (past : List Feature) (r : Feature)
             let is : strand_runs gap next ≡ joined =
             more ∙ ap (λ b. joined ++ new_run b r) t ∙ append-nil joined in
             record {
-              rise = subst (λ l. Rise l) (sym (ap (map (first_place next)) is ∙ (grind (arith, map_changed, all_so, all_same))))
+              rise = subst (λ l. Rise l) (sym (ap (map (first_place next)) is ∙ (grind (arith, map_map, all_so, all_same))))
                   firsts.rise;
               start = rw is (starts_old firsts.start);
             }
@@ -260,6 +250,14 @@ in_order order gap records total placed full =
 
 -- Names that are put in order: each comes before the next, and none is lost.
 
+put_all : (P : List ℕ → Type 0) (order : Order) (name : List ℕ) (names : List (List ℕ)) → P name → AllByRecursion P names → AllByRecursion P (put_in_order order name names)
+put_all P order name [] one all = (one, tt)
+put_all P order name (n ∷ ns) one all = grind (arith, (put_all P order name ns one all.1))
+
+pub ordered_all : (P : List ℕ → Type 0) (order : Order) (names : List (List ℕ)) → AllByRecursion P names → AllByRecursion P (runs_in_order order names)
+ordered_all P order [] all = tt
+ordered_all P order (n ∷ ns) all = put_all P order n (runs_in_order order ns) all.0 (ordered_all P order ns all.1)
+
 module _ (order : Order) where
   among_if : (c : Bool) (name n x : List ℕ) (ns : List (List ℕ))
       → is_among (put_in_order order name ns) x ≡ is_among (name ∷ ns) x
@@ -274,19 +272,6 @@ module _ (order : Order) where
   among_order x [] = refl
   among_order x (n ∷ ns) = among_put n x (runs_in_order order ns) ∙ ap (λ b. bytes_eq n x || b) (among_order x ns)
 
-  known_if : (c : Bool) (name n : List ℕ) (ns : List (List ℕ)) → IsTrue (order.knows name) → AreKnown order (n ∷ ns)
-      → AreKnown order (put_in_order order name ns)
-      → AreKnown order (if c then name ∷ n ∷ ns else n ∷ put_in_order order name ns)
-  known_if c name n ns one known rest = grind arith
-
-  known_put : (name : List ℕ) (ns : List (List ℕ)) → IsTrue (order.knows name) → AreKnown order ns → AreKnown order (put_in_order order name ns)
-  known_put name [] one known = (one, tt)
-  known_put name (n ∷ ns) one known = known_if (is_lt (order.compare name n)) name n ns one known (known_put name ns one known.1)
-
-  known_order : (ns : List (List ℕ)) → AreKnown order ns → AreKnown order (runs_in_order order ns)
-  known_order [] known = tt
-  known_order (n ∷ ns) known = known_put n (runs_in_order order ns) known.0 (known_order ns known.1)
-
   ascending_put : IsTotal order → (name : List ℕ) (ns : List (List ℕ)) → IsTrue (order.knows name) → AreKnown order ns
       → is_among ns name ≡ false → AreAscending order ns → AreAscending order (put_in_order order name ns)
   ascending_put total name [] one known none old = (tt, tt)
@@ -294,7 +279,7 @@ module _ (order : Order) where
 
   ascending_order : IsTotal order → (ns : List (List ℕ)) → AreKnown order ns → AreDistinct ns → AreAscending order (runs_in_order order ns)
   ascending_order total [] known distinct = tt
-  ascending_order total (n ∷ ns) known distinct = grind (arith, (ascending_order total ns known.1 distinct.1), ascending_put, known_order, among_order)
+  ascending_order total (n ∷ ns) known distinct = grind (arith, (ascending_order total ns known.1 distinct.1), ascending_put, (ordered_all (λ name. IsTrue (order.knows name)) order ns known.1), among_order)
 
 pub names_in_order : names_come_in_order
 names_in_order order names total known distinct = (ascending_order order total names known distinct, λ name. among_order order name names)

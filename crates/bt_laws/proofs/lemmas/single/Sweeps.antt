@@ -1,5 +1,5 @@
 -- Lemmas on what a sweep decides, takes and writes.
-use Rattle.bt_lines.proofs.Std.{arith, false, List, [], ◌∷◌, ◌++◌, Option, refl, sym, ◌∙◌, not, ◌||◌, ap, AllByRecursion, or_left, list_any-append, inl, inr, ◌≡◌, Bool, true, cond, subst, append_assoc, IsTrue, list_all, take_while, and_parts, or_from, cases_Bool, take_while-cons, ℕ, Some, filter, length, map, nat_lt, find, false≢true, and_from, lt-ltb, ltb-true}
+use Rattle.bt_lines.proofs.Std.{arith, false, List, [], ◌∷◌, ◌++◌, Option, refl, sym, ◌∙◌, not, ◌||◌, ap, AllByRecursion, or_left, list_any-append, inl, inr, ◌≡◌, Bool, true, cond, append_assoc, IsTrue, list_all, take_while, and_parts, or_from, cases_Bool, take_while-cons, ℕ, Some, filter, length, map, nat_lt, find, false≢true, and_from, lt-ltb, ltb-true}
 use Rattle.bt_lines.specs.model.Fault.{FaultValue}
 use Rattle.bt_bed.specs.model.Feature.{Feature, intervals_of}
 use Rattle.bt_bed.specs.model.BedLine.{fault_at_line}
@@ -60,9 +60,7 @@ module _ (p : Feature → Bool) (b : Feature) (more : List Feature) (stops : p b
   before_stop (x ∷ xs) all = grind (arith, (take_while-cons p x (xs ++ b ∷ more)), (before_stop xs (and_parts (p x) (list_all p xs) all).1))
 
 pub first_taken : taken_are_first
-first_taken order given taken more next total pg placed reached all =
-    let pb = front_placed order (taken ++ next ∷ []) more (subst (λ (l : List Feature). ArePlaced order (intervals_of l)) (sym (append_assoc taken (next ∷ []) more)) placed) in
-    before_stop (leaves_some order given) next more (leaves_none order given taken next total pg pb all) taken reached
+first_taken order given taken more next total pg placed reached all = grind (arith, front_placed, (append_assoc taken (next ∷ []) more), before_stop, leaves_none)
 
 -- Lemmas on a limit on how many records are held.
 
@@ -101,7 +99,7 @@ limit_kept order most first second enough =
     (λ front m rest e. enough_few order most (map (λ m. m.item) (front ++ m ∷ [])) first (enough (front ++ m ∷ []) rest (e ∙ sym (append_assoc front (m ∷ []) rest))))
 
 met_is : (met : Met ℕ FaultValue) (lines : List ℕ) (fault : Option FaultValue) → met.lines ≡ lines → met.fault ≡ fault → met ≡ record { lines = lines; fault = fault }
-met_is met lines fault e f = ap (λ l. record { lines = l; fault = met.fault }) e ∙ ap (λ (o : Option FaultValue). record { lines = lines; fault = o }) f
+met_is met lines fault e f = grind arith
 
 -- if a record is undecided, and the second input has a fault
 met_stops : (order : Order) (shape : Shape) (rule : HitRule) (first second : Good Feature) (before after : List Feature) (a : Feature) (fault : FaultValue) → items_in first ≡ before ++ a ∷ after → second.fault ≡ Some fault

@@ -10,15 +10,15 @@ use Rattle.std.specs.Fmt.{digits}
 use Rattle.bt_laws.proofs.worked.gaps.Goals as goal
 
 pub returns-clause-gaps : goal.returns-clause-gaps
-unfolding report_of lines_from value_of good_from line_says record_of digits stretches_from with_position genome_from entry_of gaps_of complement settled_gaps
+unfolding report_of lines_from value_of good_from line_says record_of digits stretches_from with_position genome_from entry_of gaps_of complement
 returns-clause-gaps c = refl
 
 pub returns-clause-with_records : goal.returns-clause-with_records
-unfolding report_of lines_from value_of good_from line_says record_of digits stretches_from with_position genome_from entry_of gaps_of complement settled_gaps
+unfolding report_of lines_from value_of good_from line_says record_of digits stretches_from with_position genome_from entry_of gaps_of complement
 returns-clause-with_records c = refl
 
 pub returns-clause-empty : goal.returns-clause-empty
-unfolding report_of lines_from value_of good_from line_says record_of digits stretches_from with_position genome_from entry_of gaps_of complement settled_gaps
+unfolding report_of lines_from value_of good_from record_of digits stretches_from with_position genome_from entry_of gaps_of complement
 returns-clause-empty c = refl
 
 pub returns-clause-settled : goal.returns-clause-settled

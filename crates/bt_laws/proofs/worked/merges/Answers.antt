@@ -10,65 +10,41 @@ use Rattle.std.specs.Fmt.{digits}
 use Rattle.bt_laws.proofs.worked.merges.Goals as goal
 
 pub returns-clause-touching : goal.returns-clause-touching
-unfolding report_of lines_from value_of good_from line_says record_of digits stretches_from with_position is_bridged runs_of merged ordered_runs strand_runs settled_strand_runs genome_from entry_of
+unfolding report_of lines_from value_of good_from line_says record_of digits stretches_from with_position is_bridged runs_of merged ordered_runs
 returns-clause-touching c = refl
 
 pub returns-clause-across_a_gap : goal.returns-clause-across_a_gap
-unfolding report_of lines_from value_of good_from line_says record_of digits stretches_from with_position is_bridged runs_of merged ordered_runs strand_runs settled_strand_runs genome_from entry_of
+unfolding report_of lines_from value_of good_from line_says record_of digits stretches_from with_position is_bridged runs_of merged ordered_runs
 returns-clause-across_a_gap c = refl
 
 pub returns-clause-each_strand : goal.returns-clause-each_strand
-unfolding report_of lines_from value_of good_from line_says record_of digits stretches_from with_position is_bridged runs_of merged ordered_runs strand_runs settled_strand_runs genome_from entry_of
+unfolding report_of lines_from value_of good_from line_says record_of digits stretches_from with_position is_bridged runs_of merged strand_runs
 returns-clause-each_strand c = refl
 
 pub returns-clause-one_strand : goal.returns-clause-one_strand
-unfolding report_of lines_from value_of good_from line_says record_of digits stretches_from with_position is_bridged runs_of merged ordered_runs strand_runs settled_strand_runs genome_from entry_of
+unfolding report_of lines_from value_of good_from line_says record_of digits stretches_from with_position is_bridged runs_of merged ordered_runs
 returns-clause-one_strand c = refl
 
 pub returns-clause-without_strands : goal.returns-clause-without_strands
-unfolding report_of lines_from value_of good_from line_says record_of digits stretches_from with_position is_bridged runs_of merged ordered_runs strand_runs settled_strand_runs genome_from entry_of
+unfolding report_of lines_from value_of good_from line_says record_of digits stretches_from with_position is_bridged runs_of merged strand_runs
 returns-clause-without_strands c = refl
 
 pub returns-clause-by_name : goal.returns-clause-by_name
-unfolding report_of lines_from value_of good_from line_says record_of digits stretches_from with_position is_bridged runs_of merged ordered_runs strand_runs settled_strand_runs genome_from entry_of
+unfolding report_of lines_from value_of good_from line_says record_of digits stretches_from with_position is_bridged runs_of merged ordered_runs
 returns-clause-by_name c = refl
 
 pub returns-clause-by_rank : goal.returns-clause-by_rank
-unfolding report_of lines_from value_of good_from line_says record_of digits stretches_from with_position is_bridged runs_of merged ordered_runs strand_runs settled_strand_runs genome_from entry_of
+unfolding report_of lines_from value_of good_from line_says record_of digits stretches_from with_position is_bridged runs_of merged ordered_runs genome_from entry_of
 returns-clause-by_rank c = refl
 
 pub returns-clause-out_of_order : goal.returns-clause-out_of_order
-unfolding report_of lines_from value_of good_from line_says record_of digits stretches_from with_position is_bridged runs_of merged ordered_runs strand_runs settled_strand_runs genome_from entry_of
+unfolding report_of lines_from value_of good_from line_says record_of digits stretches_from with_position is_bridged runs_of merged ordered_runs
 returns-clause-out_of_order c = refl
 
-pub returns-clause-not_settled : goal.returns-clause-not_settled
-unfolding report_of lines_from value_of good_from line_says record_of digits stretches_from with_position is_bridged runs_of merged ordered_runs strand_runs settled_strand_runs genome_from entry_of
-returns-clause-not_settled c = refl
-
 pub returns-clause-settled_strands : goal.returns-clause-settled_strands
-unfolding report_of lines_from value_of good_from line_says record_of digits stretches_from with_position is_bridged runs_of merged ordered_runs strand_runs settled_strand_runs genome_from entry_of
+unfolding report_of lines_from value_of good_from line_says record_of digits stretches_from with_position is_bridged runs_of merged strand_runs settled_strand_runs
 returns-clause-settled_strands c = refl
 
-pub returns-clause-unknown : goal.returns-clause-unknown
-unfolding report_of lines_from value_of good_from line_says record_of digits stretches_from with_position is_bridged runs_of merged ordered_runs strand_runs settled_strand_runs genome_from entry_of
-returns-clause-unknown c = refl
-
-pub returns-clause-no_length : goal.returns-clause-no_length
-unfolding report_of lines_from value_of good_from line_says record_of digits stretches_from with_position is_bridged runs_of merged ordered_runs strand_runs settled_strand_runs genome_from entry_of
-returns-clause-no_length c = refl
-
-pub returns-clause-one_column : goal.returns-clause-one_column
-unfolding report_of lines_from value_of good_from line_says record_of digits stretches_from with_position is_bridged runs_of merged ordered_runs strand_runs settled_strand_runs genome_from entry_of
-returns-clause-one_column c = refl
-
-pub returns-clause-no_name : goal.returns-clause-no_name
-unfolding report_of lines_from value_of good_from line_says record_of digits stretches_from with_position is_bridged runs_of merged ordered_runs strand_runs settled_strand_runs genome_from entry_of
-returns-clause-no_name c = refl
-
-pub returns-clause-repeated : goal.returns-clause-repeated
-unfolding report_of lines_from value_of good_from line_says record_of digits stretches_from with_position is_bridged runs_of merged ordered_runs strand_runs settled_strand_runs genome_from entry_of
-returns-clause-repeated c = refl
-
 pub returns-clause-an_index : goal.returns-clause-an_index
-unfolding report_of lines_from value_of good_from line_says record_of digits stretches_from with_position is_bridged runs_of merged ordered_runs strand_runs settled_strand_runs genome_from entry_of
+unfolding report_of lines_from value_of good_from line_says record_of digits stretches_from with_position is_bridged runs_of merged ordered_runs genome_from entry_of
 returns-clause-an_index c = refl

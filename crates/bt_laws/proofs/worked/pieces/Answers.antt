@@ -14,11 +14,11 @@ unfolding report_of lines_from value_of good_from line_says record_of digits lin
 returns-clause-pieces c = refl
 
 pub returns-clause-nothing : goal.returns-clause-nothing
-unfolding report_of lines_from value_of good_from line_says record_of digits lines_for hits strands_agree is_enough has_fraction stretches_from with_position pieces
+unfolding report_of lines_from value_of good_from line_says record_of lines_for hits strands_agree is_enough has_fraction stretches_from with_position pieces
 returns-clause-nothing c = refl
 
 pub returns-clause-other_chromosome : goal.returns-clause-other_chromosome
-unfolding report_of lines_from value_of good_from line_says record_of digits lines_for hits strands_agree is_enough has_fraction stretches_from with_position pieces
+unfolding report_of lines_from value_of good_from line_says record_of digits lines_for hits stretches_from with_position pieces
 returns-clause-other_chromosome c = refl
 
 pub returns-clause-too_little : goal.returns-clause-too_little

@@ -10,43 +10,27 @@ use Rattle.std.specs.Fmt.{digits}
 use Rattle.bt_laws.proofs.worked.strands.Goals as goal
 
 pub returns-clause-both_plus : goal.returns-clause-both_plus
-unfolding report_of lines_from value_of good_from line_says record_of digits lines_for hits strands_agree is_enough has_fraction stretches_from with_position pieces
+unfolding report_of lines_from value_of good_from line_says record_of digits lines_for hits strands_agree is_enough has_fraction with_position
 returns-clause-both_plus c = refl
 
 pub returns-clause-both_minus : goal.returns-clause-both_minus
-unfolding report_of lines_from value_of good_from line_says record_of digits lines_for hits strands_agree is_enough has_fraction stretches_from with_position pieces
+unfolding report_of lines_from value_of good_from line_says record_of digits lines_for hits strands_agree is_enough has_fraction with_position
 returns-clause-both_minus c = refl
 
-pub returns-clause-plus_beside_minus : goal.returns-clause-plus_beside_minus
-unfolding report_of lines_from value_of good_from line_says record_of digits lines_for hits strands_agree is_enough has_fraction stretches_from with_position pieces
-returns-clause-plus_beside_minus c = refl
-
-pub returns-clause-minus_beside_plus : goal.returns-clause-minus_beside_plus
-unfolding report_of lines_from value_of good_from line_says record_of digits lines_for hits strands_agree is_enough has_fraction stretches_from with_position pieces
-returns-clause-minus_beside_plus c = refl
-
 pub returns-clause-without_a_strand : goal.returns-clause-without_a_strand
-unfolding report_of lines_from value_of good_from line_says record_of digits lines_for hits strands_agree is_enough has_fraction stretches_from with_position pieces
+unfolding report_of lines_from value_of good_from line_says record_of digits lines_for hits strands_agree is_enough has_fraction with_position
 returns-clause-without_a_strand c = refl
 
 pub returns-clause-none_beside_a_point : goal.returns-clause-none_beside_a_point
-unfolding report_of lines_from value_of good_from line_says record_of digits lines_for hits strands_agree is_enough has_fraction stretches_from with_position pieces
+unfolding report_of lines_from value_of good_from line_says record_of digits lines_for hits strands_agree is_enough has_fraction with_position
 returns-clause-none_beside_a_point c = refl
 
-pub returns-clause-none_beside_plus : goal.returns-clause-none_beside_plus
-unfolding report_of lines_from value_of good_from line_says record_of digits lines_for hits strands_agree is_enough has_fraction stretches_from with_position pieces
-returns-clause-none_beside_plus c = refl
-
-pub returns-clause-minus_beside_none : goal.returns-clause-minus_beside_none
-unfolding report_of lines_from value_of good_from line_says record_of digits lines_for hits strands_agree is_enough has_fraction stretches_from with_position pieces
-returns-clause-minus_beside_none c = refl
-
 pub returns-clause-not_asked : goal.returns-clause-not_asked
-unfolding report_of lines_from value_of good_from line_says record_of digits lines_for hits strands_agree is_enough has_fraction stretches_from with_position pieces
+unfolding report_of lines_from value_of good_from line_says record_of digits lines_for hits strands_agree is_enough has_fraction with_position
 returns-clause-not_asked c = refl
 
 pub returns-clause-left_by_the_other : goal.returns-clause-left_by_the_other
-unfolding report_of lines_from value_of good_from line_says record_of digits lines_for hits strands_agree is_enough has_fraction stretches_from with_position pieces
+unfolding report_of lines_from value_of good_from line_says record_of digits lines_for hits strands_agree stretches_from with_position pieces
 returns-clause-left_by_the_other c = refl
 
 pub returns-clause-cut_by_its_own : goal.returns-clause-cut_by_its_own
