@@ -48,12 +48,17 @@ find_copies() {
 }
 
 # count_stream FILE: sets `dk_odd` if it is the one that was counted before, or none that can be copied
+# shellcheck disable=SC3013
 count_stream() {
     dk_streams=$((dk_streams + 1))
     case $1 in - | stdin | /dev/std* | /dev/fd/0 | /proc/*) set -- /dev/fd/0 ;; esac
-    [ "$1" != "$dk_one" ] || dk_odd='two of its inputs are one stream'
-    # Each waits for its writer, and bedtools may open them in another order.
-    ! is_named_pipe "$1" || ! is_named_pipe "$dk_one" || dk_odd='two of its inputs are named pipes'
+    if [ "$1" = "$dk_one" ] || is_named_pipe "$1" && [ "$1" -ef "$dk_one" ]; then
+        dk_odd='two of its inputs are one stream'
+    fi
+    # A link may lead to standard input, which no process in the background has.
+    if is_named_pipe "$1" && is_named_pipe "$dk_one" && { [ -h "$1" ] || [ -h "$dk_one" ]; }; then
+        dk_odd='one of two named pipes is a link'
+    fi
     dk_one=$1
     [ -r "$1" ] && [ ! -c "$1" ] || dk_odd="$1 is no stream that can be copied"
 }
@@ -64,28 +69,41 @@ is_named_pipe() { case $1 in /dev/fd/*) return 1 ;; *) [ -p "$1" ] ;; esac; }
 # is_head_exact: whether head leaves in a pipe what it isn't told to read
 is_head_exact() { [ "$(printf ab | { head -c 1 > /dev/null && cat; })" = b ]; }
 
-# open_copies WORD..: opens each stream, and a file for the copy of each stream and gzip file. Nothing is read yet.
+# open_copies WORD..: opens a file for the copy of each stream and gzip file, then each stream. Nothing is read yet.
 open_copies() {
     dk_from='' dk_copies='' dk_before=''
     [ "$dk_copied" = 1 ] || return 0
     for dk_word; do
         kind_of_input "$dk_before" "$dk_word"
-        [ "$dk_kind" != stream ] || open_stream "$dk_word" || return
         if [ -n "$dk_kind" ]; then
             open_files copy || return
             dk_copies="${dk_copies:+$dk_copies }$dk_copy"
         fi
         dk_before=$dk_word
     done
-    open_notes
+    open_notes || return
+    # The last that is opened: bedtools couldn't open a named pipe again, once its writer is gone.
+    dk_before=''
+    for dk_word; do
+        kind_of_input "$dk_before" "$dk_word"
+        [ "$dk_kind" != stream ] || open_stream "$dk_word" || return
+        dk_before=$dk_word
+    done
+    free_descriptor
 }
 
-# open_stream FILE: puts its descriptor at the end of `dk_from`
+# open_stream FILE: puts its descriptor at the end of `dk_from`. Of two streams a named pipe is opened later, in the
+# background: it waits for its writer, which may be that of the other one, too. Until then `dk_name_N` has its name.
 open_stream() {
     free_descriptor || return
+    eval "dk_name_$dk_free=''"
     case $1 in
     - | stdin) eval "command exec $dk_free<&0" ;;
-    *) eval "command exec $dk_free< \"\$1\"" ;;
+    *)
+        [ "$dk_streams" = 1 ] || ! is_named_pipe "$1" || [ -h "$1" ] ||
+            { eval "dk_name_$dk_free=\$1" && set -- /dev/null; }
+        eval "command exec $dk_free< \"\$1\""
+        ;;
     esac 2> /dev/null || return
     dk_from="${dk_from:+$dk_from }$dk_free"
 }
@@ -150,11 +168,10 @@ is_one_part() {
 # copy_streams WORD..: copies all streams at once, each in a process of its own. A long one goes to the original, behind
 # its copy.
 copy_streams() {
-    dk_copiers='' dk_long='' dk_lost='' dk_pairs="$dk_from/$dk_to"
+    dk_copiers='' dk_openers='' dk_long='' dk_lost='' dk_pairs="$dk_from/$dk_to"
     while next_copy; do
-        head -c "$((dk_room + 1))" <&"$dk_stream" > "$dk_copy" 2> /dev/null &
-        dk_children="$dk_children $!"
-        dk_copiers="${dk_copiers:+$dk_copiers }$!:$dk_copy"
+        eval "dk_name=\$dk_name_$dk_stream"
+        if [ -z "$dk_name" ]; then start_copier; else start_opener; fi
     done
     await_copies
     if [ -n "$dk_lost" ]; then
@@ -180,20 +197,71 @@ next_copy() {
     dk_from=${dk_from# } dk_to=${dk_to# }
 }
 
-# await_copies: waits until all copiers have ended, or one copy is too long, or one is lost. One that is too long may
+# start_copier: copies `dk_stream` to `dk_copy` in the background
+start_copier() {
+    head -c "$((dk_room + 1))" <&"$dk_stream" > "$dk_copy" 2> /dev/null &
+    dk_children="$dk_children $!"
+    dk_copiers="${dk_copiers:+$dk_copiers }$!:$dk_copy"
+}
+
+# start_opener: opens the named pipe `dk_name` as `dk_stream` in the background, and holds it open for this shell
+start_opener() {
+    eval "sleep 60 > /dev/null 2>&1 $dk_stream< \"\$dk_name\" &"
+    dk_children="$dk_children $!"
+    dk_openers="${dk_openers:+$dk_openers }$!:$dk_stream:$dk_copy"
+}
+
+# open_pipes: opens and copies the named pipes that an opener has open by now; these leave the list `dk_openers`. Sets
+# `dk_lost` if one can't be opened.
+open_pipes() {
+    dk_waiting=''
+    for dk_opener in $dk_openers; do
+        read_opener
+        if is_waiting; then dk_waiting="${dk_waiting:+$dk_waiting }$dk_opener"
+        elif take_over; then start_copier
+        else dk_lost=1
+        fi
+    done
+    dk_openers=$dk_waiting
+}
+
+# read_opener: sets `dk_process`, `dk_stream` and `dk_copy` to what `dk_opener` has
+read_opener() {
+    dk_process=${dk_opener%%:*} dk_copy=${dk_opener#*:}
+    dk_stream=${dk_copy%%:*} dk_copy=${dk_copy#*:}
+}
+
+# is_waiting: whether `dk_process` is there, and hasn't opened the named pipe
+is_waiting() { [ ! -p "/proc/$dk_process/fd/$dk_stream" ] && is_running "$dk_process"; }
+
+# take_over: opens the named pipe that `dk_process` has open, and ends it. If its writer is gone, it has none but this
+# shell for that moment.
+take_over() {
+    free_descriptor && [ -p "/proc/$dk_process/fd/$dk_stream" ] || return
+    dk_line=/proc/$dk_process/fd/$dk_stream
+    eval "command exec $dk_free<> \"\$dk_line\" && command exec $dk_stream< \"\$dk_line\" && exec $dk_free<&-" || return
+    kill "$dk_process"
+    wait "$dk_process" || :
+} 2> /dev/null
+
+# await_copies: waits until all streams are copied, or one copy is too long, or one is lost. One that is too long may
 # keep its producer from the others, so that none of several is waited for alone.
 await_copies() {
-    case $dk_copiers in *' '*) ;; *) end_copier "$dk_copiers"; dk_copiers=''; return ;; esac
+    if [ "$dk_streams" = 1 ]; then end_copier "$dk_copiers"; dk_copiers=''; return; fi
     dk_pause=0.02
-    until copies_are_over; do
+    while
+        open_pipes
+        end_copiers
+        [ -z "$dk_long$dk_lost" ] && [ -n "$dk_copiers$dk_openers" ]
+    do
         sleep "$dk_pause" 2> /dev/null || sleep 1 &
         wait $!
         case $dk_pause in 0.02) dk_pause=0.05 ;; 0.05) dk_pause=0.2 ;; esac
     done
 }
 
-# copies_are_over: whether that holds. Those that have ended leave the list `dk_copiers`.
-copies_are_over() {
+# end_copiers: ends those that have copied all they may: they leave the list `dk_copiers`
+end_copiers() {
     dk_running=''
     for dk_copier in $dk_copiers; do
         if is_running "${dk_copier%%:*}"; then dk_running="${dk_running:+$dk_running }$dk_copier"
@@ -201,7 +269,6 @@ copies_are_over() {
         fi
     done
     dk_copiers=$dk_running
-    [ -n "$dk_long$dk_lost" ] || [ -z "$dk_copiers" ]
 }
 
 # end_copier COPIER: waits for its end. Sets `dk_lost` if it failed, and `dk_long` if its copy is too long.
