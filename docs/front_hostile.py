@@ -202,10 +202,17 @@ def try_streams(place, folder, count):
         count.expect(f"a pipe of a shell: {line}, STREAMS", 0, call(["bash", "-c", f"bedtools {line}"], folder, {**alone, "DUNEKETTLE_STREAMS": "1"})[2])
     os.mkfifo(folder / "pipe")
     count.expect("a named pipe", 0, shell("cat f.bed > pipe & bedtools complement -i pipe -g g.txt", folder, alone)[2])
-    # The writers of two may wait for the order in which bedtools opens them.
+    # The writer of two may open them in any order, and two links aren't opened in the background.
     os.mkfifo(folder / "other")
-    script = f"(cat g.txt > other; cat f.bed > pipe) & {shutil.which('timeout')} 20 bedtools complement -i pipe -g other; status=$?; cat other pipe > /dev/null; exit $status"
-    count.expect("two named pipes", 7, shell(script, folder, alone)[2])
+    for first, second in ("g.txt > other", "f.bed > pipe"), ("f.bed > pipe", "g.txt > other"):
+        found = shell(f"(cat {first}; cat {second}) & {shutil.which('timeout')} 20 bedtools complement -i pipe -g other", folder, alone)
+        count.expect(f"two named pipes, {first} first", 0, found[2])
+    for name in ("pipe", "other"):
+        (folder / f"link to {name}").symlink_to(name)
+    found = shell("bedtools complement -i 'link to pipe' -g 'link to other'", folder, alone)
+    count.expect("links to two named pipes", 7, found[2])
+    (folder / "link to pipe").unlink()
+    (folder / "link to other").unlink()
     (folder / "pipe").unlink()
     (folder / "other").unlink()
     lost = "dunekettle: a stream is lost: it cannot be read, or TMPDIR has no room for it\n"
@@ -415,7 +422,7 @@ def try_awks(place, folder, count):
             "genomecov -bga -i late.bed -g g.txt", "genomecov -bg -split -i blocks.bed -g g.txt")
     theirs = ("complement -i past.bed -g g.txt", "intersect -s -u -a d.bed -b dot.bed", "intersect -a f.bed -b f.bed",
               "intersect -f 0.25000001 -u -a long.bed -b f.bed", "maskfasta -fi two.fa -bed d.bed -fo masked.fa", "bamtobed -i zero.sam", "merge -i crlf.bed",
-              "merge -i numbers.vcf", "merge -i wide.bed")
+              "merge -i numbers.vcf", "merge -i wide.bed", "intersect -u -a d.bed -b bare.bed", "subtract -a bare.bed -b d.bed")
     (folder / "past.bed").write_bytes(b"chr1\t25\t30\n")
     (folder / "long.bed").write_bytes(b"chr1\t0\t70\n")
     (folder / "crlf2.bed").write_bytes(b"chr1\t2\t6\r\n")

@@ -11,7 +11,7 @@
 
 # plan COMMAND WORD..: becomes the program or the original
 plan() {
-    dk_command=$1 dk_why='' dk_children='' dk_folder='' dk_notes='' dk_stdin='' dk_ordered=''
+    dk_command=$1 dk_why='' dk_children='' dk_folder='' dk_notes='' dk_stdin='' dk_ordered='' dk_prefix=''
     for dk_free in 3 4 5 6 7 8 9; do unset "dk_word_$dk_free"; done
     dk_room=${DUNEKETTLE_ROOM:-67108864} dk_small=${DUNEKETTLE_SMALL:-262144}
     shift

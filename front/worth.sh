@@ -41,15 +41,22 @@ judge_worth() {
 }
 
 # least_bytes: sets `dk_least` to the bytes from which a look at the files costs no more than the original, as measured
-# for each kind of call. Copies are paid by then.
+# for each kind of call with lines of 50 bytes. Copies are paid by then.
 least_bytes() {
     case $dk_command$dk_words in
-    intersect*' -f '* | intersect*' -s '* | subtract*' -f '* | subtract*' -s '*) dk_least=12 ;;
-    intersect*' -u '* | intersect*' -v '* | intersect*' -c '*) dk_least=4 ;;
-    intersect*) dk_least=16 ;;
-    merge* | subtract*) dk_least=2 ;;
-    *) dk_least=1 ;;
+    merge*) dk_least=7 ;;
+    complement*) dk_least=4 ;;
+    subtract*' -f '* | subtract*' -s '*) dk_least=12 ;;
+    subtract*) dk_least=6 ;;
+    intersect*' -sorted '*) if has_word -f || has_word -s; then dk_least=48; else dk_least=22; fi ;;
+    intersect*' -f '* | intersect*' -s '*) dk_least=18 ;;
+    intersect*) dk_least=8 ;;
+    bamtobed*' -split '*) dk_least=12 ;;
+    bamtobed*) dk_least=18 ;;
+    *) dk_least=6 ;;
     esac
+    # A record with several hits ends the look, and bedtools takes the call.
+    ! lists_hits || dk_least=64
     dk_least=$((dk_small * dk_least))
     [ -z "$dk_copied" ] || dk_least=$((dk_least / 2))
 }
