@@ -95,7 +95,7 @@ look_at_lines() {
     has_short_lines "$1" || dk_why="$1 has a line of over 1,023 bytes"
 }
 
-# has_short_lines FILE: whether no line has a kilobyte, with x for each byte. The one that comes last says that all came.
+# has_short_lines FILE: whether no line has a kilobyte, with x for each byte. One that comes last says that all came.
 has_short_lines() {
     { LC_ALL=C tr -c '\n' x < "$1" && printf '\n%s\n' "$dk_kilobyte"; } |
         LC_ALL=C grep -caF "$dk_kilobyte" > "$dk_spare" &

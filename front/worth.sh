@@ -8,7 +8,7 @@ judge_first() {
         dk_why="there is no $dk_program"
         return
     fi
-    for dk_tool in awk cat cut df grep head mktemp rm sort tail tr uniq wc; do
+    for dk_tool in awk cat cut df grep head mktemp rm sleep sort tail tr uniq wc; do
         command -v "$dk_tool" > /dev/null || { dk_why="there is no $dk_tool"; return; }
     done
     case $dk_command$dk_words in
