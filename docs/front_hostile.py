@@ -96,6 +96,22 @@ def try_originals(place, folder, count):
     count.expect("TELL in a file", True, " takes merge: " in (top / "told.txt").read_text(encoding="utf-8"))
 
 
+def try_versions(place, folder, count):
+    """Of a version that nothing was compared with, Dunekettle takes only what all versions write the same."""
+    top, same = folder.parent, ("merge -i f.bed", "merge -d 3 -i f.bed", "complement -i f.bed -g g.txt", "subtract -a f.bed -b f2.bed", "genomecov -bg -i f.bed -g g.txt",
+                                "intersect -u -a f.bed -b f.bed", "intersect -v -a f.bed -b f.bed", "intersect -c -a f.bed -b f.bed", "intersect -sorted -a f.bed -b f.bed")
+    others = ("intersect -a f.bed -b f2.bed", "intersect -wa -wb -a f.bed -b f2.bed", "intersect -u -f 0.5 -a f.bed -b f2.bed", "intersect -u -r -f 0.5 -a f.bed -b f2.bed",
+              "subtract -f 0.5 -a f.bed -b f2.bed", "genomecov -bga -i f.bed -g g.txt", "genomecov -i f.bed -g g.txt", "genomecov -d -i f.bed -g g.txt", "genomecov -bg -scale 2 -i f.bed -g g.txt")
+    for version, is_known in (("2.29.2", False), ("2.30.0", True), ("2.31.1", True), ("2.32.0", False)):
+        made = top / f"version {version}"
+        made.mkdir()
+        (made / "bedtools").write_text(f"#!/bin/sh\ncase $* in --version) echo bedtools v{version}; exit ;; esac\nexit 7\n", encoding="utf-8")
+        (made / "bedtools").chmod(0o755)
+        env = {**looking(), "PATH": os.pathsep.join(map(str, [drop_in(place), made, top / "tools"]))}
+        for line in (*same, *others):
+            count.expect(f"version {version}: {line}", 0 if is_known or line in same else 7, call(["bedtools", *line.split()], folder, env)[2])
+
+
 def try_paths(place, folder, count):
     """Empty entries of PATH, tools that are missing, and installations that were copied in part or broken."""
     top = folder.parent
@@ -509,6 +525,7 @@ def main():
         try_hints(place, folder, count)
         try_help(place, folder, count)
         try_originals(place, folder, count)
+        try_versions(place, folder, count)
         try_paths(place, folder, count)
         try_names(place, folder, count)
         try_streams(place, folder, count)

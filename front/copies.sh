@@ -254,8 +254,11 @@ await_copies() {
         end_copiers
         [ -z "$dk_long$dk_lost" ] && [ -n "$dk_copiers$dk_openers" ]
     do
+        dk_others=$dk_children
         sleep "$dk_pause" 2> /dev/null || sleep 1 &
+        dk_children="$dk_others $!"
         wait $!
+        dk_children=$dk_others
         case $dk_pause in 0.02) dk_pause=0.05 ;; 0.05) dk_pause=0.2 ;; esac
     done
 }
