@@ -135,7 +135,7 @@ def try_paths(place, folder, count):
                      "maskfasta -fi cut.fa -bed cut.bed -fo masked.fa", "bamtobed -i zero_pos.sam"):
             env = {**looking(), "PATH": f"{drop_in(place)}:{few}:{says}"}
             count.expect(f"no {missing}: {line}", 7, call(["bedtools", *line.split()], folder, env)[2])
-    parts = [f"lib/dunekettle/{name}.sh" for name in ("words", "worth", "files", "copies", "pour", "judge", "plan", "hints")]
+    parts = [f"lib/dunekettle/{name}.sh" for name in ("words", "worth", "files", "copies", "streams", "pour", "judge", "plan", "hints")]
     for part in (*parts, "bin/dunekettle-bedtools", "lib/dunekettle/help.txt"):
         for how in ("missing", "empty", "half", "a folder"):
             broken = install(top / f"{Path(part).name} {how}")

@@ -4,7 +4,8 @@
 #
 #     words.sh    what its words say
 #     worth.sh    whether a look at the files pays
-#     copies.sh   streams and gzip files become files; pour.sh gives long streams to the original
+#     copies.sh   which streams and gzip files become files
+#     streams.sh  how streams do; pour.sh gives long ones to the original
 #     judge.sh    what is in the files
 #     genomecov.sh, bamtobed.sh   the same of these commands, and the forms of the first
 #     files.sh    what all of these use
