@@ -175,12 +175,11 @@ find_hits() {
 # bedtools takes any: so it does without -g and -sorted
 find_order() {
     [ -z "$dk_g" ] && [ "$dk_copied" != known ] && ! has_word -sorted || return
-    : > "$dk_spare"
     for dk_file; do
-        { LC_ALL=C cut -f 1 < "$dk_file" | LC_ALL=C uniq; printf '\t\n'; } >> "$dk_spare" 2> /dev/null &
-        await $! || return
-    done
-    LC_ALL=C awk -f "$dk_files/common_order.awk" < "$dk_spare" > "$dk_genome" 2> /dev/null || return
+        LC_ALL=C cut -f 1 < "$dk_file" | LC_ALL=C uniq
+        printf '\t\n'
+    done 2> /dev/null | LC_ALL=C awk -f "$dk_files/common_order.awk" > "$dk_genome" 2> /dev/null &
+    await $! || return
     # What was cut off lacks chromosomes, or their order: the next look finds that.
     dk_why='' dk_g=$dk_genome dk_ordered=1
 }
