@@ -2,13 +2,17 @@
 
 import gzip
 import random
+import re
 import subprocess
 from pathlib import Path
 
-# A genome of a thousand million bases, about that of a chicken.
+# A genome of a thousand million bases, about that of a chicken. Its annotation and its repeats are as many as a chicken
+# has; reads and fragments are fewer, so that a trial ends.
 SIZES = {"chr1": 130_000_000, "chr2": 120_000_000, "chr3": 110_000_000, "chr4": 105_000_000, "chr5": 100_000_000, "chr6": 95_000_000,
          "chr10": 90_000_000, "chr11": 85_000_000, "chr12": 80_000_000, "chrX": 85_000_000}
 SMALL = {"chr1": 120_000, "chr10": 60_000, "chr2": 90_000}
+# What reads have their bases and qualities of.
+BASES, QUALITIES = ("".join(random.Random(5).choices(letters, k=1_000_000)) for letters in ("ACGT", "FFFFFFFF:,#"))
 
 
 def write(folder, name, rows):
@@ -32,6 +36,17 @@ def spread(draw, count, shortest, longest):
         yield number, chromosome, start, start + length, "+-"[draw.random() < 0.5]
 
 
+def splicings(draw, start, end):
+    """The exons of the transcripts of a gene: the first has all, the others lack some behind the first exon."""
+    parts, at = [], start
+    while at + 150 < end:
+        parts.append((at, min(at + draw.randrange(80, 400), end)))
+        at = parts[-1][1] + draw.randrange(300, 6000)
+    yield parts
+    for _ in range(draw.randrange(4)):
+        yield [part for number, part in enumerate(parts) if not number or draw.random() < 0.8]
+
+
 def make_features(folder, draw):
     """Peaks, genes, their exons and transcripts, a blacklist, and windows in no order. Returns the transcripts."""
     for sample in range(1, 9):
@@ -41,19 +56,15 @@ def make_features(folder, draw):
     peaks = Path(folder, "peaks_1.narrowPeak").read_bytes()
     subprocess.run(["gzip", "-c"], input=peaks, stdout=Path(folder, "peaks.bed.gz").open("wb"), check=True)
     write(folder, "blacklist.bed", by_bytes([c, s, e] for _, c, s, e, _ in spread(draw, 300, 500, 5000)))
-    genes = list(spread(draw, 24_000, 2_000, 40_000))
+    genes = list(spread(draw, 30_000, 2_000, 40_000))
     write(folder, "genes.bed", by_bytes([c, s, e, f"gene{n}", 0, strand] for n, c, s, e, strand in genes))
     exons, transcripts, lines = [], [], ["##description: genes of a trial"]
     for n, c, s, e, strand in genes:
-        parts, at = [], s
-        while at + 150 < e:
-            parts.append((at, min(at + draw.randrange(80, 400), e)))
-            at = parts[-1][1] + draw.randrange(300, 6000)
-        end = parts[-1][1]
-        exons += [[c, low, high, f"gene{n}", 0, strand] for low, high in parts]
-        transcripts.append([c, s, end, f"tx{n}", 0, strand, s, end, "0", len(parts), "".join(f"{high - low}," for low, high in parts),
-                            "".join(f"{low - s}," for low, _ in parts)])
-        if n < 2_000:
+        for number, parts in enumerate(splicings(draw, s, e)):
+            end = parts[-1][1]
+            exons += [[c, low, high, f"gene{n}", 0, strand] for low, high in parts]
+            transcripts.append([c, s, end, f"tx{n}.{number}", 0, strand, s, end, "0", len(parts), "".join(f"{high - low}," for low, high in parts),
+                                "".join(f"{low - s}," for low, _ in parts)])
             lines.append(f'{c}\ttrial\ttranscript\t{s + 1}\t{end}\t.\t{strand}\t.\tgene_id "gene{n}";')
             lines += [f'{c}\ttrial\texon\t{low + 1}\t{high}\t.\t{strand}\t.\tgene_id "gene{n}";' for low, high in parts]
     write(folder, "exons.bed", by_bytes(exons))
@@ -72,7 +83,7 @@ def make_others(folder, draw):
     lines = [f"@SQ\tSN:{c}\tLN:{size}" for c, size in SIZES.items()]
     for number, (rank, start, strand) in enumerate(reads):
         cigar = draw.choice(["75M"] * 6 + ["30M2D45M", "40M1200N35M", "20M4I51M", "5S70M"])
-        lines.append(f"r{number}\t{16 if strand == '-' else 0}\t{order[rank]}\t{start + 1}\t{draw.randrange(61)}\t{cigar}\t*\t0\t0\t*\t*")
+        lines.append(f"r{number}\t{16 if strand == '-' else 0}\t{order[rank]}\t{start + 1}\t{draw.randrange(61)}\t{cigar}\t*\t0\t0\t{read_bases(number, 75)}")
     Path(folder, "reads.sam").write_text("\n".join(lines) + "\n", encoding="utf-8")
     subprocess.run(["samtools", "view", "-b", "-o", "reads.bam", "reads.sam"], cwd=folder, check=True)
     variants = by_bytes([c, s + 1, f"rs{n}", draw.choice("ACGT"), draw.choice("ACGT"), 50, "PASS", "DP=9"] for n, c, s, _, _ in spread(draw, 20_000, 1, 2))
@@ -92,12 +103,19 @@ def make_sequences(folder, draw, fasta, bed, sizes):
     write(folder, bed, by_bytes(repeats))
 
 
+def read_bases(number, length):
+    """The bases and the qualities of a read."""
+    at = number * 17 % (len(BASES) - length)
+    return f"{BASES[at : at + length]}\t{QUALITIES[at : at + length]}"
+
+
 def write_bam(folder, name, sizes, reads):
     """A BAM file of reads, each as chromosome, start, CIGAR and strand, in the order of a genome."""
     rank = {chromosome: number for number, chromosome in enumerate(sizes)}
     lines = ["@HD\tVN:1.6\tSO:coordinate", *(f"@SQ\tSN:{c}\tLN:{size}" for c, size in sizes.items())]
     for number, (c, start, cigar, strand) in enumerate(sorted(reads, key=lambda read: (rank[read[0]], read[1]))):
-        lines.append(f"r{number}\t{16 if strand == '-' else 0}\t{c}\t{start + 1}\t60\t{cigar}\t*\t0\t0\t*\t*")
+        length = sum(int(count) for count, letter in re.findall(r"(\d+)(.)", cigar) if letter == "M")
+        lines.append(f"r{number}\t{16 if strand == '-' else 0}\t{c}\t{start + 1}\t60\t{cigar}\t*\t0\t0\t{read_bases(number, length)}")
     text = ("\n".join(lines) + "\n").encode()
     subprocess.run(["samtools", "view", "-b", "-o", name, "-"], input=text, cwd=folder, check=True)
 
@@ -122,7 +140,7 @@ def make_reads(folder, draw, transcripts):
     write_bam(folder, "chip.bam", SIZES, ((c, s, "50M", strand) for _, c, s, _, strand in spread(draw, 700_000, 50, 51)))
     write_bam(folder, "input.bam", SIZES, ((c, s, "50M", strand) for _, c, s, _, strand in spread(draw, 500_000, 50, 51)))
     write_bam(folder, "rna.bam", SIZES, spliced(draw, transcripts, 400_000))
-    targets = [(c, s, e) for _, c, s, e, _ in spread(draw, 20_000, 200, 500) if s > 200]
+    targets = [(c, s, e) for _, c, s, e, _ in spread(draw, 200_000, 100, 400) if s > 200]
     write(folder, "targets.bed", by_bytes([c, s, e, f"target{n}"] for n, (c, s, e) in enumerate(targets)))
     reads = ((c, draw.randrange(s - 70, e), draw.choice(["100M"] * 9 + ["60M2D40M"]), draw.choice("+-")) for c, s, e in (draw.choice(targets) for _ in range(500_000)))
     write_bam(folder, "capture.bam", SIZES, reads)
@@ -136,7 +154,7 @@ def make_rest(folder, draw):
     write(folder, "segments.bed", by_bytes([c, s, e, f"segment{n}"] for n, c, s, e, _ in spread(draw, 800, 100_000, 2_000_000)))
     write(folder, "gaps.bed", by_bytes([c, s, e] for _, c, s, e, _ in spread(draw, 60, 10_000, 50_000)))
     families = ("Alu", "L1", "MIR", "simple", "LTR")
-    repeats = by_bytes([c, s, e, families[n % 5], draw.randrange(9999), strand] for n, c, s, e, strand in spread(draw, 250_000, 30, 900))
+    repeats = by_bytes([c, s, e, families[n % 5], draw.randrange(9999), strand] for n, c, s, e, strand in spread(draw, 600_000, 30, 900))
     Path(folder, "rmsk.bed.gz").write_bytes(gzip.compress("".join("\t".join(map(str, row)) + "\n" for row in repeats).encode(), 6))
     make_sequences(folder, draw, "contigs.fa", "contig.repeats.bed", {"contig1": 12_000_000, "contig2": 9_000_000, "contig3": 6_000_000})
     virus = {"NC_045512.2": 29_903}

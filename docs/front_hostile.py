@@ -96,6 +96,22 @@ def try_originals(place, folder, count):
     count.expect("TELL in a file", True, " takes merge: " in (top / "told.txt").read_text(encoding="utf-8"))
 
 
+def try_versions(place, folder, count):
+    """Of a version that nothing was compared with, Dunekettle takes only what all versions write the same."""
+    top, same = folder.parent, ("merge -i f.bed", "merge -d 3 -i f.bed", "complement -i f.bed -g g.txt", "subtract -a f.bed -b f2.bed", "genomecov -bg -i f.bed -g g.txt",
+                                "intersect -u -a f.bed -b f.bed", "intersect -v -a f.bed -b f.bed", "intersect -c -a f.bed -b f.bed", "intersect -sorted -a f.bed -b f.bed")
+    others = ("intersect -a f.bed -b f2.bed", "intersect -wa -wb -a f.bed -b f2.bed", "intersect -u -f 0.5 -a f.bed -b f2.bed", "intersect -u -r -f 0.5 -a f.bed -b f2.bed",
+              "subtract -f 0.5 -a f.bed -b f2.bed", "genomecov -bga -i f.bed -g g.txt", "genomecov -i f.bed -g g.txt", "genomecov -d -i f.bed -g g.txt", "genomecov -bg -scale 2 -i f.bed -g g.txt")
+    for version, is_known in (("2.29.2", False), ("2.30.0", True), ("2.31.1", True), ("2.32.0", False)):
+        made = top / f"version {version}"
+        made.mkdir()
+        (made / "bedtools").write_text(f"#!/bin/sh\ncase $* in --version) echo bedtools v{version}; exit ;; esac\nexit 7\n", encoding="utf-8")
+        (made / "bedtools").chmod(0o755)
+        env = {**looking(), "PATH": os.pathsep.join(map(str, [drop_in(place), made, top / "tools"]))}
+        for line in (*same, *others):
+            count.expect(f"version {version}: {line}", 0 if is_known or line in same else 7, call(["bedtools", *line.split()], folder, env)[2])
+
+
 def try_paths(place, folder, count):
     """Empty entries of PATH, tools that are missing, and installations that were copied in part or broken."""
     top = folder.parent
@@ -119,7 +135,7 @@ def try_paths(place, folder, count):
                      "maskfasta -fi cut.fa -bed cut.bed -fo masked.fa", "bamtobed -i zero_pos.sam"):
             env = {**looking(), "PATH": f"{drop_in(place)}:{few}:{says}"}
             count.expect(f"no {missing}: {line}", 7, call(["bedtools", *line.split()], folder, env)[2])
-    parts = [f"lib/dunekettle/{name}.sh" for name in ("words", "worth", "files", "copies", "pour", "judge", "plan", "hints")]
+    parts = [f"lib/dunekettle/{name}.sh" for name in ("words", "worth", "files", "copies", "streams", "pour", "judge", "plan", "hints")]
     for part in (*parts, "bin/dunekettle-bedtools", "lib/dunekettle/help.txt"):
         for how in ("missing", "empty", "half", "a folder"):
             broken = install(top / f"{Path(part).name} {how}")
@@ -202,10 +218,17 @@ def try_streams(place, folder, count):
         count.expect(f"a pipe of a shell: {line}, STREAMS", 0, call(["bash", "-c", f"bedtools {line}"], folder, {**alone, "DUNEKETTLE_STREAMS": "1"})[2])
     os.mkfifo(folder / "pipe")
     count.expect("a named pipe", 0, shell("cat f.bed > pipe & bedtools complement -i pipe -g g.txt", folder, alone)[2])
-    # The writers of two may wait for the order in which bedtools opens them.
+    # The writer of two may open them in any order, and two links aren't opened in the background.
     os.mkfifo(folder / "other")
-    script = f"(cat g.txt > other; cat f.bed > pipe) & {shutil.which('timeout')} 20 bedtools complement -i pipe -g other; status=$?; cat other pipe > /dev/null; exit $status"
-    count.expect("two named pipes", 7, shell(script, folder, alone)[2])
+    for first, second in ("g.txt > other", "f.bed > pipe"), ("f.bed > pipe", "g.txt > other"):
+        found = shell(f"(cat {first}; cat {second}) & {shutil.which('timeout')} 20 bedtools complement -i pipe -g other", folder, alone)
+        count.expect(f"two named pipes, {first} first", 0, found[2])
+    for name in ("pipe", "other"):
+        (folder / f"link to {name}").symlink_to(name)
+    found = shell("bedtools complement -i 'link to pipe' -g 'link to other'", folder, alone)
+    count.expect("links to two named pipes", 7, found[2])
+    (folder / "link to pipe").unlink()
+    (folder / "link to other").unlink()
     (folder / "pipe").unlink()
     (folder / "other").unlink()
     lost = "dunekettle: a stream is lost: it cannot be read, or TMPDIR has no room for it\n"
@@ -415,7 +438,7 @@ def try_awks(place, folder, count):
             "genomecov -bga -i late.bed -g g.txt", "genomecov -bg -split -i blocks.bed -g g.txt")
     theirs = ("complement -i past.bed -g g.txt", "intersect -s -u -a d.bed -b dot.bed", "intersect -a f.bed -b f.bed",
               "intersect -f 0.25000001 -u -a long.bed -b f.bed", "maskfasta -fi two.fa -bed d.bed -fo masked.fa", "bamtobed -i zero.sam", "merge -i crlf.bed",
-              "merge -i numbers.vcf", "merge -i wide.bed")
+              "merge -i numbers.vcf", "merge -i wide.bed", "intersect -u -a d.bed -b bare.bed", "subtract -a bare.bed -b d.bed")
     (folder / "past.bed").write_bytes(b"chr1\t25\t30\n")
     (folder / "long.bed").write_bytes(b"chr1\t0\t70\n")
     (folder / "crlf2.bed").write_bytes(b"chr1\t2\t6\r\n")
@@ -502,6 +525,7 @@ def main():
         try_hints(place, folder, count)
         try_help(place, folder, count)
         try_originals(place, folder, count)
+        try_versions(place, folder, count)
         try_paths(place, folder, count)
         try_names(place, folder, count)
         try_streams(place, folder, count)

@@ -21,6 +21,7 @@ from pathlib import Path
 
 from front_tools import TOLD, Count, call, drop_in, install, is_busy, looking, original
 
+SHELLS = ("dash", "bash --posix", "busybox sh")
 # Each stream is longer than a pipe holds.
 ROWS = "".join(f"chr1\t{50 * n}\t{50 * n + 20}\tr{n}\t0\t{'+-'[n % 2]}\n" for n in range(8000))
 ENDLESS = "awk 'BEGIN { for (;;) printf \"chr1\\t%d\\t%d\\n\", 50 * n, 50 * n++ + 20 }'"
@@ -35,8 +36,15 @@ SCRIPTS = [
 ]
 
 
-# Two streams of one producer: bedtools alone waits for ever.
-TWINS = "rm -f p q; mkfifo p q; tee q < a.bed > p & timeout 60 PROGRAM intersect -sorted -u -a <(cat p) -b <(cat q)"
+# Two named pipes, or streams of them, of one producer, which opens and writes them one by one or side by side, and how
+# much of a stream each way needs room for. bedtools alone waits for ever, unless the first is that of -g.
+TWINS = [
+    ("tee q < a.bed > p", "intersect -sorted -u -a p -b q", 0), ("tee q < a.bed > p", "intersect -sorted -u -a q -b p", 0), ("tee q < a.bed > p", "intersect -sorted -u -a <(cat p) -b <(cat q)", 0),
+    ("cat a.bed > p; cat a.bed > q", "intersect -sorted -u -a p -b q", 1_000_000), ("cat a.bed > q; cat a.bed > p", "intersect -sorted -u -a p -b q", 1_000_000),
+    ("cat long.txt > q; cat a.bed > p", "complement -i p -g q", 0), ("cat a.bed > p; cat long.txt > q", "complement -i p -g q", 1_000_000),
+    (": > p; sleep 0.2; cat a.bed > q", "intersect -sorted -v -a q -b p", 0), ("cat a.bed > p; rm p", "intersect -sorted -u -a a.bed -b p", 0),
+    ("head -n 9 a.bed > p; rm p; sleep 0.2; cat a.bed > q", "intersect -sorted -u -a q -b p", 0), ("cat a.bed > p", "intersect -sorted -u -a <(cat a.bed) -b p", 0),
+]
 
 
 def compare(name, script, theirs, place, folder, count, **more):
@@ -56,9 +64,7 @@ def try_rooms(theirs, place, folder, count):
             more = {"DUNEKETTLE_ROOM": room} if room else {}
             compare(f"room {room}", script, theirs, place, folder, count, TMPDIR=str(temporary), **more)
             count.expect(f"what {script} leaves", [], list(temporary.iterdir()))
-    for room in ("1000000", "200", "70000"):
-        found = call(["bash", "-c", TWINS.replace("PROGRAM", str(drop_in(place) / "bedtools"))], folder, looking(drop_in(place), DUNEKETTLE_ROOM=room))
-        count.expect(f"two streams of one producer, room {room}", (ROWS.encode(), 0), (found[0], found[2]))
+    try_twins(theirs, place, folder, temporary, count)
     rooms = {"missing": "/nowhere", "a file": str(folder / "a.bed"), "read-only": "/proc", "a folder with a space": str(folder.parent / "a b")}
     (folder.parent / "a b").mkdir()
     full = folder.parent / "full"
@@ -72,6 +78,25 @@ def try_rooms(theirs, place, folder, count):
             compare(f"TMPDIR {name}", script, theirs, place, folder, count, TMPDIR=where)
     if "full" in rooms:
         subprocess.run(["umount", full], check=True)
+
+
+def try_twins(theirs, place, folder, temporary, count):
+    """Two streams of one producer, in each shell: the same as of files."""
+    (folder / "long.txt").write_text("chr1\t500000\n" + "".join(f"contig{n}\t5000\n" for n in range(20_000)), encoding="utf-8")
+    for producer, line, needed in TWINS:
+        files = {"p": "a.bed", "q": "long.txt" if "-g q" in line else "a.bed"}
+        files["p"] = "few.bed" if "head" in producer else "none.bed" if ": >" in producer else files["p"]
+        (folder / "few.bed").write_text("".join(ROWS.splitlines(keepends=True)[:9]), encoding="utf-8")
+        (folder / "none.bed").write_text("", encoding="utf-8")
+        words = [files.get(word, word) for word in line.replace("<(cat ", "").replace(")", "").split()]
+        wanted = call([theirs, *words], folder, looking())
+        for shell in SHELLS:
+            for room in ("1000000", "200", "70000"):
+                if int(room) < needed or not shutil.which(shell.split()[0]):
+                    continue
+                script = f"rm -f p q; mkfifo p q; ({producer}) & timeout 60 {shell} {drop_in(place) / 'bedtools'} {line}"
+                found = call(["bash", "-c", script], folder, looking(drop_in(place), DUNEKETTLE_ROOM=room, TMPDIR=str(temporary)))
+                count.expect(f"{producer}: {shell} {line}, room {room}", (wanted[0], 0, []), (found[0], found[2], list(temporary.iterdir())))
 
 
 def fake(folder, name, script):
@@ -88,7 +113,7 @@ def try_losses(place, folder, count):
     env = looking(drop_in(place), broken)
     for script in ("cat a.bed | bedtools merge", "bedtools intersect -u -a <(cat a.bed) -b <(cat a.bed)"):
         found = call(["bash", "-c", script], folder, env)
-        count.expect(f"a copy that fails: {script}", (b"", 1, True), (found[0], found[2], "which is lost" in found[1]))
+        count.expect(f"a copy that fails: {script}", (b"", 1, True), (found[0], found[2], "a stream is lost" in found[1]))
     # A head that takes more than it is told, as that of busybox, gets no stream.
     greedy = fake(folder.parent / "greedy head", "head", f'{shutil.which("dd")} bs=4096 count=1 2> /dev/null | {shutil.which("head")} "$@"')
     for script in ("cat a.bed | bedtools merge", "bedtools intersect -u -a <(cat a.bed) -b <(cat a.bed)"):
@@ -135,6 +160,7 @@ def try_signals(place, folder, count):
     awk = fake(folder.parent / "slow awk", "awk", f'case "$*" in *histogram*) exec sleep 60 ;; esac; exec {shutil.which("awk")} "$@"')
     scripts = {
         "copies": ("exec bedtools merge -i <(sleep 60)", ()), "two copies": ("exec bedtools intersect -a <(sleep 60) -b <(cat a.bed)", ()),
+        "opens": ("rm -f p q; mkfifo p q; cat a.bed > p & exec bedtools intersect -a p -b q", ()),
         "looks": ("exec bedtools merge -i a.bed", (slow,)), "writes": ("exec bedtools genomecov -i a.bed -g g.txt", (awk,)),
         "pours": ("exec bedtools merge -i <(tee < a.bed; sleep 60)", ()), "pours two": ("exec bedtools intersect -sorted -a <(tee < a.bed; sleep 60) -b <(sleep 60)", ()),
     }
@@ -160,7 +186,7 @@ def try_signals(place, folder, count):
 
 def try_shells(theirs, place, folder, count):
     """The same in other shells."""
-    for shell in ("dash", "bash --posix", "busybox sh"):
+    for shell in SHELLS:
         if not shutil.which(shell.split()[0]):
             print(f"no {shell}: passed over")
             continue

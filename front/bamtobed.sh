@@ -1,6 +1,6 @@
 # shellcheck shell=sh disable=SC2034,SC2154
-# bamtobed of SAM text that samtools writes as it is, and with -split of the text that it makes of BAM: read by the
-# drop-in of `dunekettle`.
+# bamtobed of SAM text that samtools writes as it is, and of the text that it makes of BAM: read by the drop-in of
+# `dunekettle`.
 
 # The first five columns of an alignment, and CIGARs without a base, or with a block without one: bedtools writes lines
 # for these, Dunekettle none.
@@ -18,7 +18,10 @@ take_bamtobed() {
         [ -n "$dk_why" ] || take 'samtools writes its file as it is' "$@"
     else
         write_text
-        [ -n "$dk_why" ] || take 'samtools makes text of it' -i "$dk_sam" -split
+        [ -z "$dk_why" ] || return 0
+        set -- -i "$dk_sam"
+        for dk_word in -split -cigar; do ! has_word "$dk_word" || set -- "$@" "$dk_word"; done
+        take 'samtools makes text of it' "$@"
     fi
 }
 

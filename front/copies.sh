@@ -48,12 +48,17 @@ find_copies() {
 }
 
 # count_stream FILE: sets `dk_odd` if it is the one that was counted before, or none that can be copied
+# shellcheck disable=SC3013
 count_stream() {
     dk_streams=$((dk_streams + 1))
     case $1 in - | stdin | /dev/std* | /dev/fd/0 | /proc/*) set -- /dev/fd/0 ;; esac
-    [ "$1" != "$dk_one" ] || dk_odd='two of its inputs are one stream'
-    # Each waits for its writer, and bedtools may open them in another order.
-    ! is_named_pipe "$1" || ! is_named_pipe "$dk_one" || dk_odd='two of its inputs are named pipes'
+    if [ "$1" = "$dk_one" ] || is_named_pipe "$1" && [ "$1" -ef "$dk_one" ]; then
+        dk_odd='two of its inputs are one stream'
+    fi
+    # A link may lead to standard input, which no process in the background has.
+    if is_named_pipe "$1" && is_named_pipe "$dk_one" && { [ -h "$1" ] || [ -h "$dk_one" ]; }; then
+        dk_odd='one of two named pipes is a link'
+    fi
     dk_one=$1
     [ -r "$1" ] && [ ! -c "$1" ] || dk_odd="$1 is no stream that can be copied"
 }
@@ -64,28 +69,41 @@ is_named_pipe() { case $1 in /dev/fd/*) return 1 ;; *) [ -p "$1" ] ;; esac; }
 # is_head_exact: whether head leaves in a pipe what it isn't told to read
 is_head_exact() { [ "$(printf ab | { head -c 1 > /dev/null && cat; })" = b ]; }
 
-# open_copies WORD..: opens each stream, and a file for the copy of each stream and gzip file. Nothing is read yet.
+# open_copies WORD..: opens a file for the copy of each stream and gzip file, then each stream. Nothing is read yet.
 open_copies() {
     dk_from='' dk_copies='' dk_before=''
     [ "$dk_copied" = 1 ] || return 0
     for dk_word; do
         kind_of_input "$dk_before" "$dk_word"
-        [ "$dk_kind" != stream ] || open_stream "$dk_word" || return
         if [ -n "$dk_kind" ]; then
             open_files copy || return
             dk_copies="${dk_copies:+$dk_copies }$dk_copy"
         fi
         dk_before=$dk_word
     done
-    open_notes
+    open_notes || return
+    # The last that is opened: bedtools couldn't open a named pipe again, once its writer is gone.
+    dk_before=''
+    for dk_word; do
+        kind_of_input "$dk_before" "$dk_word"
+        [ "$dk_kind" != stream ] || open_stream "$dk_word" || return
+        dk_before=$dk_word
+    done
+    free_descriptor
 }
 
-# open_stream FILE: puts its descriptor at the end of `dk_from`
+# open_stream FILE: puts its descriptor at the end of `dk_from`. Of two streams a named pipe is opened later, in the
+# background: it waits for its writer, which may be that of the other one, too. Until then `dk_fifo_N` has its name.
 open_stream() {
     free_descriptor || return
+    eval "dk_fifo_$dk_free=''"
     case $1 in
     - | stdin) eval "command exec $dk_free<&0" ;;
-    *) eval "command exec $dk_free< \"\$1\"" ;;
+    *)
+        [ "$dk_streams" = 1 ] || ! is_named_pipe "$1" || [ -h "$1" ] ||
+            { eval "dk_fifo_$dk_free=\$1" && set -- /dev/null; }
+        eval "command exec $dk_free< \"\$1\""
+        ;;
     esac 2> /dev/null || return
     dk_from="${dk_from:+$dk_from }$dk_free"
 }
@@ -145,68 +163,5 @@ is_one_part() {
     [ "$(od -A n -t x1 -N 4 < "$1" | tr -d ' \n')" != 1f8b0804 ] || return 0
     dk_length=$(tail -c 4 < "$1" | od -A n -t u1 | awk '{ print $1 + 256 * ($2 + 256 * ($3 + 256 * $4)) }')
     [ "$dk_length" = "$(wc -c < "$2")" ]
-}
-
-# copy_streams WORD..: copies all streams at once, each in a process of its own. A long one goes to the original, behind
-# its copy.
-copy_streams() {
-    dk_copiers='' dk_long='' dk_lost='' dk_pairs="$dk_from/$dk_to"
-    while next_copy; do
-        head -c "$((dk_room + 1))" <&"$dk_stream" > "$dk_copy" 2> /dev/null &
-        dk_children="$dk_children $!"
-        dk_copiers="${dk_copiers:+$dk_copiers }$!:$dk_copy"
-    done
-    await_copies
-    if [ -n "$dk_lost" ]; then
-        end_children
-        say 'a stream is lost: it cannot be read, or TMPDIR has no room for it'
-        exit 1
-    fi
-    dk_from=${dk_pairs%%/*} dk_to=${dk_pairs#*/}
-    # bedtools reads a gzip file, but no gzip stream: it gets one as it came.
-    for dk_copy in $dk_to; do ! is_zipped "$dk_copy" || dk_why='its stream is gzip'; done
-    [ -z "$dk_long" ] || dk_why='its stream is long'
-    case $dk_why in 'its stream is '*) pour_out "$@" ;; esac
-    dk_children=''
-    # shellcheck disable=SC2086
-    close_files $dk_from
-}
-
-# next_copy: takes the next stream and its copy from the lists `dk_from` and `dk_to`
-next_copy() {
-    [ -n "$dk_to" ] || return
-    dk_stream=${dk_from%% *} dk_copy=${dk_to%% *}
-    dk_from=${dk_from#"$dk_stream"} dk_to=${dk_to#"$dk_copy"}
-    dk_from=${dk_from# } dk_to=${dk_to# }
-}
-
-# await_copies: waits until all copiers have ended, or one copy is too long, or one is lost. One that is too long may
-# keep its producer from the others, so that none of several is waited for alone.
-await_copies() {
-    case $dk_copiers in *' '*) ;; *) end_copier "$dk_copiers"; dk_copiers=''; return ;; esac
-    dk_pause=0.02
-    until copies_are_over; do
-        sleep "$dk_pause" 2> /dev/null || sleep 1 &
-        wait $!
-        case $dk_pause in 0.02) dk_pause=0.05 ;; 0.05) dk_pause=0.2 ;; esac
-    done
-}
-
-# copies_are_over: whether that holds. Those that have ended leave the list `dk_copiers`.
-copies_are_over() {
-    dk_running=''
-    for dk_copier in $dk_copiers; do
-        if is_running "${dk_copier%%:*}"; then dk_running="${dk_running:+$dk_running }$dk_copier"
-        else end_copier "$dk_copier"
-        fi
-    done
-    dk_copiers=$dk_running
-    [ -n "$dk_long$dk_lost" ] || [ -z "$dk_copiers" ]
-}
-
-# end_copier COPIER: waits for its end. Sets `dk_lost` if it failed, and `dk_long` if its copy is too long.
-end_copier() {
-    wait "${1%%:*}" || dk_lost=1
-    [ "$(wc -c < "${1#*:}")" -le "$dk_room" ] || dk_long=1
 }
 dk_part=copies.sh

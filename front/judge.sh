@@ -62,12 +62,21 @@ find_spans() {
     await $! || failed "$(tail -n 1 "$dk_spare")"
 }
 
-# look_at_names FILE: chromosomes that bedtools passes over, and ends for which its bins may lack a hit
+# look_at_names FILE: chromosomes that bedtools passes over, ends for which its bins may lack a hit, and names that all
+# begin with chr, where none of another input does
 look_at_names() {
     LC_ALL=C awk -F '\t' '
-        tolower($1) ~ /^(track|browser|visibility|!|>|chr[ \013\014\r]|chrom([ \013\014\r]|$))/ { exit 1 }
-        $3 > 536870912 { exit 1 }' < "$dk_spans" > /dev/null ||
-        dk_why="$1 has lines that bedtools passes over, or an end above 536,870,912"
+        tolower($1) ~ /^(track|browser|visibility|!|>|chr[ \013\014\r]|chrom([ \013\014\r]|$))/ { is_odd = 1; exit }
+        $3 > 536870912 { is_odd = 1; exit }
+        tolower($1) ~ /^chr/ { with_chr++ }
+        END { exit is_odd ? 1 : NR && with_chr == NR ? 20 : NR && !with_chr ? 21 : 0 }' < "$dk_spans" > /dev/null
+    case $?$dk_prefix in
+    2021 | 2120) dk_why='the names of one input begin with chr, and those of the other do not: bedtools warns' ;;
+    20*) dk_prefix=20 ;;
+    21*) dk_prefix=21 ;;
+    0*) ;;
+    *) dk_why="$1 has lines that bedtools passes over, or an end above 536,870,912" ;;
+    esac
 }
 
 # look_at_lines FILE
@@ -83,11 +92,15 @@ look_at_lines() {
     LC_ALL=C grep -qaE "^.?\$|$dk_cr$dk_cr|^##fileformat=VCF" < "$1" &
     await $!
     [ $? = 1 ] || { dk_why="$1 has a blank line, CR CR, or a header line of VCF"; return; }
-    writes_none "^$dk_kilobyte" outline "$1" || dk_why="$1 has a line of over 1,023 bytes"
+    has_short_lines "$1" || dk_why="$1 has a line of over 1,023 bytes"
 }
 
-# outline FILE: writes x for each byte of its lines
-outline() { LC_ALL=C tr -c '\n' x < "$1"; }
+# has_short_lines FILE: whether no line has a kilobyte, with x for each byte. One that comes last says that all came.
+has_short_lines() {
+    { LC_ALL=C tr -c '\n' x < "$1" && printf '\n%s\n' "$dk_kilobyte"; } |
+        LC_ALL=C grep -caF "$dk_kilobyte" > "$dk_spare" &
+    await $! && IFS= read -r dk_line < "$dk_spare" && [ "$dk_line" = 1 ]
+}
 
 # look_at_genome FILE: a comment with a tab is a chromosome of bedtools
 look_at_genome() {
@@ -162,24 +175,21 @@ find_hits() {
 # bedtools takes any: so it does without -g and -sorted
 find_order() {
     [ -z "$dk_g" ] && [ "$dk_copied" != known ] && ! has_word -sorted || return
-    : > "$dk_spare"
     for dk_file; do
-        { LC_ALL=C cut -f 1 < "$dk_file" | LC_ALL=C uniq; printf '\t\n'; } >> "$dk_spare" 2> /dev/null &
-        await $! || return
-    done
-    LC_ALL=C awk -f "$dk_files/common_order.awk" < "$dk_spare" > "$dk_genome" 2> /dev/null || return
+        LC_ALL=C cut -f 1 < "$dk_file" | LC_ALL=C uniq
+        printf '\t\n'
+    done 2> /dev/null | LC_ALL=C awk -f "$dk_files/common_order.awk" > "$dk_genome" 2> /dev/null &
+    await $! || return
     # What was cut off lacks chromosomes, or their order: the next look finds that.
     dk_why='' dk_g=$dk_genome dk_ordered=1
 }
 
-# judge_alignments: sets `dk_why` unless the input of bamtobed begins as SAM text, or as BAM with -split. Of BAM without
-# -split bedtools is as quick.
+# judge_alignments: sets `dk_why` unless the input of bamtobed begins as SAM text, or as BAM
 judge_alignments() {
     dk_line=''
     IFS= read -r dk_line < "$dk_i"
     case $dk_line in
-    @*) ;;
-    "$dk_zipped"*) has_word -split || dk_why='bedtools is as quick with BAM, except with -split' ;;
+    @* | "$dk_zipped"*) ;;
     *) dk_why="$dk_i isn't SAM text with header lines, and no BAM" ;;
     esac
 } 2> /dev/null

@@ -4,14 +4,15 @@
 #
 #     words.sh    what its words say
 #     worth.sh    whether a look at the files pays
-#     copies.sh   streams and gzip files become files; pour.sh gives long streams to the original
+#     copies.sh   which streams and gzip files become files
+#     streams.sh  how streams do; pour.sh gives long ones to the original
 #     judge.sh    what is in the files
 #     genomecov.sh, bamtobed.sh   the same of these commands, and the forms of the first
 #     files.sh    what all of these use
 
 # plan COMMAND WORD..: becomes the program or the original
 plan() {
-    dk_command=$1 dk_why='' dk_children='' dk_folder='' dk_notes='' dk_stdin='' dk_ordered=''
+    dk_command=$1 dk_why='' dk_children='' dk_folder='' dk_notes='' dk_stdin='' dk_ordered='' dk_prefix=''
     for dk_free in 3 4 5 6 7 8 9; do unset "dk_word_$dk_free"; done
     dk_room=${DUNEKETTLE_ROOM:-67108864} dk_small=${DUNEKETTLE_SMALL:-262144}
     shift

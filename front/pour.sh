@@ -8,9 +8,12 @@ pour_out() {
     dk_children="$dk_children $dk_taker"
     wait "$dk_taker"
     dk_status=$?
-    copies_are_over || :
+    end_copiers
     dk_children=''
     for dk_copier in $dk_copiers; do dk_children="$dk_children ${dk_copier%%:*}"; done
+    for dk_opener in $dk_openers; do
+        ! is_running "${dk_opener%%:*}" || dk_children="$dk_children ${dk_opener%%:*}"
+    done
     end_children
     [ -z "$dk_lost" ] || { say 'a stream was lost'; exit 1; }
     finish "$dk_status"
@@ -49,7 +52,17 @@ feed() {
         cat || return
         sleep 0.1 || sleep 1
     done
-    cat && cat <&"$1"
+    cat && await_pipe "$1" && cat <&"$1"
+}
+
+# await_pipe STREAM: waits until its named pipe is open, if it is one that still waited for its writer
+await_pipe() {
+    for dk_opener in $dk_openers; do
+        read_opener
+        [ "$dk_stream" = "$1" ] || continue
+        while is_waiting; do sleep 0.1 || sleep 1; done
+        take_over || return
+    done
 }
 
 # is_copied COPY: whether something may still come into it

@@ -7,7 +7,7 @@
 
 BEGIN {
     # What comes right after the name of a file in a reason
-    SAID = " (has (a|lines|records|alignments|odd) |goes past |begins as |isn't (SAM|plain) |can't be read$)" \
+    SAID = " (has (a|lines|records|alignments|odd) |goes past |begins (as|out of) |isn't (SAM|plain) |can't be read$)" \
         "| is (VCF,|SAM text|a long gzip|odd,|no (file|stream|BAM))"
     count = split("merge complement intersect subtract genomecov bamtobed maskfasta", commands, " ")
     for (at = 1; at <= count; at++) is_ours[commands[at]]

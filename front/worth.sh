@@ -8,7 +8,7 @@ judge_first() {
         dk_why="there is no $dk_program"
         return
     fi
-    for dk_tool in awk cat cut df grep head mktemp rm sort tail tr uniq wc; do
+    for dk_tool in awk cat cut df grep head mktemp rm sleep sort tail tr uniq wc; do
         command -v "$dk_tool" > /dev/null || { dk_why="there is no $dk_tool"; return; }
     done
     case $dk_command$dk_words in
@@ -34,22 +34,58 @@ judge_worth() {
         return
     fi
     least_bytes
-    [ "$dk_bytes" -lt "$dk_least" ] || return 0
+    [ "$dk_bytes" -lt "$dk_least" ] || { judge_beginnings "$@"; return; }
     if [ "$dk_command" = genomecov ] && is_large_genome; then return; fi
     find_original
     [ -z "$dk_original" ] || dk_why='its inputs are small'
 }
 
+# judge_beginnings FILE..: sets `dk_why` if bedtools takes any order, and a file begins unsorted, which is cheap to see
+judge_beginnings() {
+    case $dk_command$dk_words in *' -sorted '*) return ;; intersect* | subtract*) ;; *) return ;; esac
+    for dk_input; do ! begins_unsorted "$dk_input" || dk_why="$dk_input begins out of order"; done
+}
+
+# begins_unsorted FILE: whether its first lines go back on a chromosome, or to one that they left
+begins_unsorted() {
+    dk_lines=$(head -c 1000 < "$1")
+    dk_seen=' ' dk_last='' dk_start=0
+    while IFS=$dk_tab read -r dk_word dk_count dk_line; do
+        is_count "$dk_count" || continue
+        case "$dk_word$dk_seen" in
+        "$dk_last "*) [ "$dk_count" -ge "$dk_start" ] || return 0 ;;
+        *" $dk_word "*) return 0 ;;
+        *) dk_seen=" $dk_word$dk_seen" ;;
+        esac
+        dk_last=$dk_word dk_start=$dk_count
+    done << END
+${dk_lines%"$dk_nl"*}
+END
+    return 1
+} 2> /dev/null
+
 # least_bytes: sets `dk_least` to the bytes from which a look at the files costs no more than the original, as measured
-# for each kind of call. Copies are paid by then.
+# for each kind of call with lines of 50 bytes. Copies are paid by then.
 least_bytes() {
     case $dk_command$dk_words in
-    intersect*' -f '* | intersect*' -s '* | subtract*' -f '* | subtract*' -s '*) dk_least=12 ;;
-    intersect*' -u '* | intersect*' -v '* | intersect*' -c '*) dk_least=4 ;;
-    intersect*) dk_least=16 ;;
-    merge* | subtract*) dk_least=2 ;;
-    *) dk_least=1 ;;
+    merge*) dk_least=7 ;;
+    complement*) dk_least=4 ;;
+    subtract*' -f '* | subtract*' -s '*) dk_least=12 ;;
+    subtract*) dk_least=6 ;;
+    intersect*' -sorted '*)
+        if has_word -f || has_word -s; then dk_least=48
+        elif has_word -c; then dk_least=14
+        else dk_least=22
+        fi
+        ;;
+    intersect*' -f '* | intersect*' -s '*) dk_least=18 ;;
+    intersect*) dk_least=8 ;;
+    bamtobed*' -split '*) dk_least=12 ;;
+    bamtobed*) dk_least=18 ;;
+    *) dk_least=6 ;;
     esac
+    # A record with several hits ends the look, and bedtools takes the call.
+    ! lists_hits || dk_least=64
     dk_least=$((dk_small * dk_least))
     [ -z "$dk_copied" ] || dk_least=$((dk_least / 2))
 }
