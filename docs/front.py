@@ -139,7 +139,7 @@ def summary(rows):
     calls, taken, small, quick, plain, fronted = sums(rows)
     return (f"{len(rows)} pipelines: of {calls} calls of the seven commands Dunekettle took {taken} ({100 * taken / max(calls, 1):.0f} percent); "
             f"{plain:.0f} seconds of processor became {fronted:.0f} ({100 * fronted / max(plain, 0.01):.0f} percent). "
-            f"Of the other {calls - taken}, {small} are below the size from which a look pays, and {quick} are as quick in bedtools at any size. "
+            f"Of the other {calls - taken}, {small} are too small for a look to pay. In bedtools {quick} are as quick at any size. "
             f"The last {calls - taken - small - quick} have options or files that Dunekettle doesn't take")
 
 
