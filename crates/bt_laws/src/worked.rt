@@ -275,6 +275,7 @@ pub fn usage()
     ensures missing_first { AreRefused (codes "merge" ∷ codes "-g" ∷ codes "-" ∷ []) (codes "bedtools: standard input named twice\n") }
     ensures high_fraction { AreRefused (codes "intersect" ∷ codes "-a" ∷ codes "x" ∷ codes "-b" ∷ codes "y" ∷ codes "-f" ∷ codes "1.5" ∷ []) (codes "bedtools: bad value: -f\n") }
     ensures long_fraction { AreRefused (codes "subtract" ∷ codes "-a" ∷ codes "x" ∷ codes "-b" ∷ codes "y" ∷ codes "-f" ∷ codes "0.5000000000" ∷ []) (codes "bedtools: bad value: -f\n") }
+    ensures least_long_fraction { AreRefused (codes "subtract" ∷ codes "-a" ∷ codes "x" ∷ codes "-b" ∷ codes "y" ∷ codes "-f" ∷ codes "0.0000000005" ∷ []) (codes "bedtools: bad value: -f\n") }
     ensures two_characters { AreRefused (codes "maskfasta" ∷ codes "-fi" ∷ codes "a" ∷ codes "-bed" ∷ codes "b" ∷ codes "-mc" ∷ codes "xy" ∷ []) (codes "bedtools: bad value: -mc\n") }
     ensures no_character { AreRefused (codes "maskfasta" ∷ codes "-fi" ∷ codes "a" ∷ codes "-bed" ∷ codes "b" ∷ codes "-mc" ∷ codes " " ∷ []) (codes "bedtools: bad value: -mc\n") }
     ensures soft_character { AreRefused (codes "maskfasta" ∷ codes "-fi" ∷ codes "a" ∷ codes "-bed" ∷ codes "b" ∷ codes "-soft" ∷ codes "-mc" ∷ codes "x" ∷ []) (codes "bedtools: options exclude one another\n") }
