@@ -9,6 +9,7 @@ use Rattle.bt_lines.specs.calls.Output.{Output, FailsToAdd, Grown}
 use Rattle.bt_lines.specs.declared.fault.Fault.{Fault}
 use Rattle.bt_bed.specs.model.Feature.{Feature, intervals_of}
 use Rattle.bt_bed.specs.declared.read.cursor.Cursor.{Ghosts as Cursor}
+use Rattle.bt_bed.specs.declared.record.Record.{Ghosts as Record}
 use Rattle.bt_bed.specs.model.BedLine.{bed_text}
 use Rattle.bt_bed.specs.calls.Orders.{ArePlaced, IsTotal}
 use Rattle.bt_bed.specs.model.Order.{Order}
@@ -16,6 +17,7 @@ use Rattle.bt_sweep.specs.calls.Sweeping.{Proceeds, SharesBase, AreDecided, Cann
 use Rattle.bt_sweep.specs.calls.Held.{CanHit}
 use Rattle.bt_sweep.specs.model.Lines.{intersect, line_with, lines_of}
 use Rattle.bt_sweep.specs.declared.output.shape.Shape.{Shape}
+use Rattle.bt_sweep.specs.declared.sweep.pending.Pending.{Pending}
 use Rattle.bt_sweep.specs.declared.sweep.state.Phase.TheVariants.{Over, SecondEnded}
 use Rattle.bt_sweep.specs.declared.output.unmatched.Unmatched.{Unmatched}
 use Rattle.bt_sweep.specs.declared.output.unmatched.Unmatched.TheVariants.{Nothing, Itself, Counted}
@@ -129,18 +131,31 @@ abbrev pub waiting_in : {R : Type 0} → R → Result Bool Fault → Result (Opt
 waiting_in r (Ok is_left) = Ok (then_some is_left r)
 waiting_in r (Err fault) = Err fault
 
+-- where a sweep stands: what it keeps, its inputs, the lines of the first that are left pending, and the output
+pub record SweepAt (I : Type 0) : Type 0 where
+  pub sweep : Sweeping
+  pub inputs : I
+  pub pending : List ℕ
+  pub out : Output
+
+-- where it stands with these lines pending
+abbrev pub stands : {I : Type 0} → Sweeping → I → List ℕ → Output → SweepAt I
+stands sweep inputs pending out = record { sweep = sweep; inputs = inputs; pending = pending; out = out }
+
 -- one waits that ends after the place, or there is none
 abbrev pub StopsBehind : {A R : Type 0} → Cursor A R → ℕ → Option Feature → A → Type 0
 StopsBehind cursor place None to = cursor.has_ended to
 StopsBehind cursor place (Some a) to = (place < a.stop) × (a.stop ≤ max_number)
 
-abbrev pub WritesUpTo : {A R : Type 0} → Cursor A R → (R → Feature) → ℕ → Sweeping → Feature → A → List ℕ → Output
-    → Result (Option R) Fault → Sweeping → A → List ℕ → Output → Type 0
-WritesUpTo cursor feature place old first from pending out (Ok waiting) new to left grown =
-    WritesSo cursor place old first from pending out (option_map feature waiting) new to left grown
-    × StopsBehind cursor place (option_map feature waiting) to
-WritesUpTo cursor feature place old first from pending out (Err fault) new to left grown =
-    CutsOff cursor place old first from pending out (fault_value fault) to grown
+abbrev pub WritesUpTo : {A R : Type 0} → Cursor A R → (R → Feature) → ℕ → Feature → SweepAt A
+    → Result (Option R) Fault → SweepAt A → Type 0
+WritesUpTo cursor feature place first before (Ok waiting) after =
+    WritesSo cursor place before.sweep first before.inputs before.pending before.out (option_map feature waiting)
+    after.sweep after.inputs after.pending after.out
+    × StopsBehind cursor place (option_map feature waiting) after.inputs
+WritesUpTo cursor feature place first before (Err fault) after =
+    CutsOff cursor place before.sweep first before.inputs before.pending before.out (fault_value fault) after.inputs
+    after.out
 
 -- all records that there were are given
 pub record SkipsAll {B S : Type 0} (cursor : Cursor B S) (from to : B) : Type 0 where
@@ -187,17 +202,16 @@ StopsAt cursor_a cursor_b None to_a to_b = cursor_a.has_ended to_a
 StopsAt cursor_a cursor_b (Some a) to_a to_b = cursor_b.has_ended to_b
 
 abbrev pub Joins : {A B R S : Type 0} → Cursor A R → Cursor B S → (Order → Type 0)
-    → (List Feature → List Feature → Type 0) → (List Feature → Feature → Type 0) → (R → Feature) → Sweeping → Feature
-    → A → B → List ℕ → Output → Result (Option R) Fault → Sweeping → A → B → List ℕ → Output → Type 0
-Joins cursor_a cursor_b For Settles Leaves feature old first from_a from_b pending out (Ok waiting) new to_a to_b left
-    grown =
-    (j : JoinsSo cursor_a cursor_b For Settles old first from_a from_b pending out (option_map feature waiting) new to_a
-    to_b left grown)
-    × StopsAt cursor_a cursor_b (option_map feature waiting) to_a to_b
+    → (List Feature → List Feature → Type 0) → (List Feature → Feature → Type 0) → (R → Feature) → Feature
+    → SweepAt (A × B) → Result (Option R) Fault → SweepAt (A × B) → Type 0
+Joins cursor_a cursor_b For Settles Leaves feature first before (Ok waiting) after =
+    (j : JoinsSo cursor_a cursor_b For Settles before.sweep first before.inputs.0 before.inputs.1 before.pending
+    before.out (option_map feature waiting) after.sweep after.inputs.0 after.inputs.1 after.pending after.out)
+    × StopsAt cursor_a cursor_b (option_map feature waiting) after.inputs.0 after.inputs.1
     × IfSome (option_map feature waiting) (Leaves j.proceeds.seconds)
-Joins cursor_a cursor_b For Settles Leaves feature old first from_a from_b pending out (Err fault) new to_a to_b left
-    grown =
-    Breaks cursor_a cursor_b For Settles old first from_a from_b pending out (fault_value fault) to_a to_b left grown
+Joins cursor_a cursor_b For Settles Leaves feature first before (Err fault) after =
+    Breaks cursor_a cursor_b For Settles before.sweep first before.inputs.0 before.inputs.1 before.pending before.out
+    (fault_value fault) after.inputs.0 after.inputs.1 after.pending after.out
 
 -- the last of these leaves it undecided, in every order that knows its chromosome
 abbrev pub LeavesOn : List Feature → Feature → Type 0
@@ -259,6 +273,10 @@ KeepsOne old a (Err fault) new = (new ≡ stopped old) × (fault_value fault ≡
 -- the bytes between two offsets
 unfoldable pub pending_in : List ℕ → ℕ → ℕ → List ℕ
 pending_in consumed from to = drop from (take to consumed)
+
+-- the lines that are pending there
+abbrev pub lines_pending : {A R : Type 0} {cursor : Cursor A R} {reads : Record R} → Pending A R cursor reads → List ℕ
+lines_pending {cursor = cursor} firsts = pending_in (cursor.consumed firsts.cursor) firsts.from firsts.to
 
 -- the line that follows them
 unfoldable pub line_in : List ℕ → ℕ → List ℕ

@@ -52,7 +52,7 @@ impl<'o, H: Held, O: ChromOrder> Sweep<'o, H, O> {
     ghost use Rattle.bt_bed.specs.calls.Stage.{at_start, given, Stage, with_first_ended, with_second};
     ghost use Rattle.bt_sweep.specs.calls.SweepView.{order_of, state_of};
     ghost use Rattle.bt_sweep.specs.calls.Held.{CanHit};
-    ghost use Rattle.bt_sweep.specs.inside.Joining.{Joins, going_on, line_in, pending_in};
+    ghost use Rattle.bt_sweep.specs.inside.Joining.{Joins, going_on, line_in, lines_pending, stands};
 
     /// A sweep that was given nothing, over an empty list of held records. With a limit no more records
     /// than that are held. It doesn't allocate.
@@ -269,12 +269,13 @@ impl<'o, H: Held, O: ChromOrder> Sweep<'o, H, O> {
         requires hits { All (CanHit (A.Record.feature first)) (state_of self.old).held }
         requires on { A.name a.old.cursor ≡ (A.Record.feature first).chrom }
         requires line { line_in (A.consumed a.old.cursor) a.old.to ≡ A.Record.raw first }
-        requires pending { pending_in (A.consumed a.old.cursor) a.old.from a.old.to ≡ [] }
+        requires pending { lines_pending a.old ≡ [] }
         requires known { IsTrue ((order_of self.old).knows (A.Record.feature first).chrom) }
         requires known_b { GivesKnown B.Cursor (order_of self.old) b.old }
         ensures joins { Joins A.Cursor (going_on (state_of self.old).phase B.Cursor) (IsThis (order_of self.old)) (Settles (order_of self.old) (state_of self.old).phase)
-            (LeavesLast (order_of self.old)) A.Record.feature (state_of self.old) (A.Record.feature first) a.old.cursor b.old [] out.old.output result (state_of self.new)
-            a.new.cursor b.new [] out.new.output }
+            (LeavesLast (order_of self.old)) A.Record.feature (A.Record.feature first)
+            (stands (state_of self.old) (a.old.cursor, b.old) [] out.old.output) result
+            (stands (state_of self.new) (a.new.cursor, b.new) [] out.new.output) }
         ensures none { (state_of self.new).current ≡ None }
         ensures phase { OnOk result ((state_of self.new).phase ≡ (state_of self.old).phase) }
         ensures stops { OnErr result (want_in (state_of self.new) ≡ Want.Nothing) }

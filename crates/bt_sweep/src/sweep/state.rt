@@ -8,7 +8,7 @@ ghost use Rattle.bt_bed.specs.model.BedLine.{fault_at_line};
 ghost use Rattle.bt_bed.specs.calls.Orders.{IsTotal};
 ghost use Rattle.bt_sweep.specs.calls.Held.{AreReady, AreRising, CanHit, CanHitAt};
 ghost use Rattle.bt_sweep.specs.model.Lines.{lines_for};
-ghost use Rattle.bt_sweep.specs.inside.Joining.{AddsWith, AreDecidedOn, Joins, LeavesOn, SkipsAll, WritesUpTo, waiting_in, IsQuiet, PutsOr, line_in, pending_in, KeepsOne, Takes, are_on, has_room_in, held_with, stopped};
+ghost use Rattle.bt_sweep.specs.inside.Joining.{AddsWith, AreDecidedOn, Joins, LeavesOn, SkipsAll, WritesUpTo, waiting_in, IsQuiet, PutsOr, line_in, lines_pending, KeepsOne, Takes, are_on, has_room_in, held_with, stands, stopped};
 ghost use Rattle.bt_sweep.specs.calls.Sweeping.{want_in};
 
 use crate::active::held::Held;
@@ -302,16 +302,16 @@ impl<H: Held> State<H> {
         requires filled { (A.Record.feature a.now).start < (A.Record.feature a.now).stop }
         requires hits { All (CanHit (A.Record.feature a.now)) self.old.held }
         requires line { line_in (A.consumed firsts.old.cursor) firsts.old.to ≡ A.Record.raw a.now }
-        requires quiet { IsQuiet self.old.shape (pending_in (A.consumed firsts.old.cursor) firsts.old.from firsts.old.to) }
+        requires quiet { IsQuiet self.old.shape (lines_pending firsts.old) }
         ensures same { OnOk result (self.new ≡ self.old) }
         ensures stops { OnErr result (self.new ≡ stopped self.old) }
         ensures cursor { firsts.new.cursor ≡ firsts.old.cursor }
         ensures line { OnOk result (line_in (A.consumed firsts.new.cursor) firsts.new.to ≡ []) }
-        ensures quiet { OnOk result (IsQuiet self.old.shape (pending_in (A.consumed firsts.new.cursor) firsts.new.from firsts.new.to)) }
+        ensures quiet { OnOk result (IsQuiet self.old.shape (lines_pending firsts.new)) }
         ensures puts { AreRising self.old.held
-            → AddsWith (pending_in (A.consumed firsts.old.cursor) firsts.old.from firsts.old.to) out.old.output
+            → AddsWith (lines_pending firsts.old) out.old.output
             (lines_for self.old.shape self.old.rule (A.Record.feature a.now) self.old.held) result
-            (pending_in (A.consumed firsts.new.cursor) firsts.new.from firsts.new.to) out.new.output }
+            (lines_pending firsts.new) out.new.output }
     {
         if self.held.len() == 0 {
             match unmatched_in(self.shape) {
@@ -379,13 +379,13 @@ impl<H: Held> State<H> {
         requires hits { All (CanHit (A.Record.feature first.old)) self.old.held }
         requires on { A.name firsts.old.cursor ≡ (A.Record.feature first.old).chrom }
         requires line { line_in (A.consumed firsts.old.cursor) firsts.old.to ≡ A.Record.raw first.old }
-        requires quiet { IsQuiet self.old.shape (pending_in (A.consumed firsts.old.cursor) firsts.old.from firsts.old.to) }
-        ensures writes { WritesUpTo A.Cursor A.Record.feature place self.old (A.Record.feature first.old) firsts.old.cursor
-            (pending_in (A.consumed firsts.old.cursor) firsts.old.from firsts.old.to) out.old.output (waiting_in first.new result) self.new firsts.new.cursor
-            (pending_in (A.consumed firsts.new.cursor) firsts.new.from firsts.new.to) out.new.output }
+        requires quiet { IsQuiet self.old.shape (lines_pending firsts.old) }
+        ensures writes { WritesUpTo A.Cursor A.Record.feature place (A.Record.feature first.old)
+            (stands self.old firsts.old.cursor (lines_pending firsts.old) out.old.output) (waiting_in first.new result)
+            (stands self.new firsts.new.cursor (lines_pending firsts.new) out.new.output) }
         ensures on { A.name firsts.new.cursor ≡ A.name firsts.old.cursor }
         ensures line { IfOk result (λ is_left. is_left ≡ true → line_in (A.consumed firsts.new.cursor) firsts.new.to ≡ A.Record.raw first.new) }
-        ensures quiet { OnOk result (IsQuiet self.new.shape (pending_in (A.consumed firsts.new.cursor) firsts.new.from firsts.new.to)) }
+        ensures quiet { OnOk result (IsQuiet self.new.shape (lines_pending firsts.new)) }
         ensures none { self.new.current ≡ None }
         ensures phase { OnOk result (self.new.phase ≡ self.old.phase) }
         ensures stops { OnErr result (self.new.phase ≡ Phase.Over) }
@@ -416,9 +416,9 @@ impl<H: Held> State<H> {
         requires hits { All (CanHit (A.Record.feature first)) self.old.held }
         requires on { A.name firsts.old.cursor ≡ (A.Record.feature first).chrom }
         requires line { line_in (A.consumed firsts.old.cursor) firsts.old.to ≡ A.Record.raw first }
-        requires pending { pending_in (A.consumed firsts.old.cursor) firsts.old.from firsts.old.to ≡ [] }
-        ensures writes { WritesUpTo A.Cursor A.Record.feature max_number self.old (A.Record.feature first) firsts.old.cursor
-            [] out.old.output result self.new firsts.new.cursor [] out.new.output }
+        requires pending { lines_pending firsts.old ≡ [] }
+        ensures writes { WritesUpTo A.Cursor A.Record.feature max_number (A.Record.feature first)
+            (stands self.old firsts.old.cursor [] out.old.output) result (stands self.new firsts.new.cursor [] out.new.output) }
         ensures none { self.new.current ≡ None }
         ensures phase { OnOk result (self.new.phase ≡ self.old.phase) }
         ensures stops { OnErr result (self.new.phase ≡ Phase.Over) }
@@ -444,10 +444,10 @@ impl<H: Held> State<H> {
         requires on { A.name firsts.old.cursor ≡ (A.Record.feature first).chrom }
         requires beside { B.name seconds.old ≡ (A.Record.feature first).chrom }
         requires line { line_in (A.consumed firsts.old.cursor) firsts.old.to ≡ A.Record.raw first }
-        requires pending { pending_in (A.consumed firsts.old.cursor) firsts.old.from firsts.old.to ≡ [] }
+        requires pending { lines_pending firsts.old ≡ [] }
         ensures joins { Joins A.Cursor B.Cursor IsTotal (AreDecidedOn (A.Record.feature first).chrom) LeavesOn
-            A.Record.feature self.old (A.Record.feature first) firsts.old.cursor seconds.old [] out.old.output result self.new
-            firsts.new.cursor seconds.new [] out.new.output }
+            A.Record.feature (A.Record.feature first) (stands self.old (firsts.old.cursor, seconds.old) [] out.old.output)
+            result (stands self.new (firsts.new.cursor, seconds.new) [] out.new.output) }
         ensures none { self.new.current ≡ None }
         ensures phase { OnOk result (self.new.phase ≡ self.old.phase) }
         ensures stops { OnErr result (self.new.phase ≡ Phase.Over) }
@@ -474,11 +474,11 @@ impl<H: Held> State<H> {
         requires on { A.name firsts.old.cursor ≡ (A.Record.feature first).chrom }
         requires beside { B.name seconds.old ≡ (A.Record.feature first).chrom }
         requires line { line_in (A.consumed firsts.old.cursor) firsts.old.to ≡ A.Record.raw first }
-        requires quiet { IsQuiet self.old.shape (pending_in (A.consumed firsts.old.cursor) firsts.old.from firsts.old.to) }
+        requires quiet { IsQuiet self.old.shape (lines_pending firsts.old) }
         ensures joins { Joins A.Cursor B.Cursor IsTotal (AreDecidedOn (A.Record.feature first).chrom) LeavesOn
-            A.Record.feature self.old (A.Record.feature first) firsts.old.cursor seconds.old
-            (pending_in (A.consumed firsts.old.cursor) firsts.old.from firsts.old.to) out.old.output result self.new
-            firsts.new.cursor seconds.new (pending_in (A.consumed firsts.new.cursor) firsts.new.from firsts.new.to) out.new.output }
+            A.Record.feature (A.Record.feature first)
+            (stands self.old (firsts.old.cursor, seconds.old) (lines_pending firsts.old) out.old.output) result
+            (stands self.new (firsts.new.cursor, seconds.new) (lines_pending firsts.new) out.new.output) }
         ensures none { self.new.current ≡ None }
         ensures phase { OnOk result (self.new.phase ≡ self.old.phase) }
         ensures stops { OnErr result (self.new.phase ≡ Phase.Over) }

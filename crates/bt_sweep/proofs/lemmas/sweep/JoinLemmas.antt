@@ -12,7 +12,7 @@ use Rattle.bt_sweep.specs.model.Hits.{decides}
 use Rattle.bt_sweep.specs.calls.Held.{CanHit}
 use Rattle.bt_sweep.specs.model.Lines.{intersect}
 use Rattle.bt_sweep.specs.calls.Sweeping.{AreDecided, CannotBeHeld, CannotHold, GivesKnown, LeavesLast, TakenEach, TakenFor, has_room, held_for, is_held, Sweeping}
-use Rattle.bt_sweep.specs.inside.Joining.{AreDecidedOn, GivenLast, Breaks, CutsOff, EndUpTo, Holds, Joins, JoinsSo, Keeps, LeavesOn, LieOn, Proceeded, WritesSo, has_room_in, holding}
+use Rattle.bt_sweep.specs.inside.Joining.{AreDecidedOn, GivenLast, Breaks, CutsOff, EndUpTo, Holds, Joins, JoinsSo, Keeps, LeavesOn, LieOn, Proceeded, WritesSo, has_room_in, holding, stands}
 use Rattle.bt_sweep.proofs.lemmas.definitions.HitLemmas.{placed_back, front_placed}
 use Rattle.bt_sweep.proofs.lemmas.sweep.KeepLemmas.{cut_both, decided_before, decided_behind, decided_both, keeps_held, keeps_taken, lines_both, lines_stay_so, undecided_beside, fails_again, with_none, with_rest, with_rest_cut, fewer_firsts, fewer_seconds, goes_none, same_as, same_rules, split_last, split_more, writes_first}
 
@@ -286,7 +286,7 @@ module _ {A B R S : Type 0} {cursor_a : Cursor A R} {cursor_b : Cursor B S} {old
 module _ {A B R S : Type 0} (cursor_a : Cursor A R) (cursor_b : Cursor B S) (feature : R → Feature) (old : Sweeping) (first : Feature) (from_a : A) (from_b : B) (pending : List ℕ) (out : Output)
     (s : Sweeping) (to_a : A) (to_b : B) (left : List ℕ) (grown now : Output) where
   abbrev Answers : Result (Option R) Fault → List ℕ → Output → Type 0
-  Answers result rest put = Joins cursor_a cursor_b IsTotal (AreDecidedOn first.chrom) LeavesOn feature old first from_a from_b pending out result s to_a to_b rest put
+  Answers result rest put = Joins cursor_a cursor_b IsTotal (AreDecidedOn first.chrom) LeavesOn feature first (stands old (from_a, from_b) pending out) result (stands s (to_a, to_b) rest put)
 
   pub joins_rest : (result : Result (Option R) Fault) → Answers result left grown → Grown grown left now → Answers result [] now
   joins_rest (Ok waiting) (j, stops, leaves) puts = (record { proceeds = j.proceeds; waits = j.waits; goes = j.goes; writes = λ at. with_rest (j.writes at) puts }, stops, leaves)

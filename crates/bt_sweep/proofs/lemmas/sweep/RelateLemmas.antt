@@ -14,7 +14,7 @@ use Rattle.bt_bed.proofs.lemmas.parse.NameLemmas.{name_ne}
 use Rattle.bt_sweep.specs.calls.Sweeping.{IsThis, Settles, AreDecided, ComesNext, LeavesLast, TakenEach, HoldsFor, is_held, Sweeping}
 use Rattle.bt_sweep.specs.model.Hits.{decides}
 use Rattle.bt_sweep.specs.calls.Held.{CanHit}
-use Rattle.bt_sweep.specs.inside.Joining.{AreDecidedOn, GivenLast, EndUpTo, Holds, Joins, Keeps, LeavesOn, LieOn, Proceeded, SkipsAll, WritesUpTo, Compares, Relates, going_on}
+use Rattle.bt_sweep.specs.inside.Joining.{AreDecidedOn, GivenLast, EndUpTo, Holds, Joins, Keeps, LeavesOn, LieOn, Proceeded, SkipsAll, WritesUpTo, Compares, Relates, going_on, stands}
 use Rattle.bt_sweep.specs.declared.sweep.state.Phase.TheVariants.{SecondEnded}
 use Rattle.bt_sweep.specs.declared.sweep.relation.Relation.TheVariants.{After}
 use Rattle.bt_sweep.proofs.lemmas.sweep.JoinLemmas.{joins_first, leaves_none}
@@ -68,7 +68,7 @@ module _ {A B R S : Type 0} (cursor_a : Cursor A R) (cursor_b : Cursor B S) (fea
   first = feature r
 
   abbrev Decides : Result (Option R) Fault → Sweeping → A → B → Output → Type 0
-  Decides result new to_a to_b grown = Joins cursor_a (going_on old.phase cursor_b) (IsThis order) (Settles order old.phase) (LeavesLast order) feature old first from_a from_b [] out result new to_a to_b [] grown
+  Decides result new to_a to_b grown = Joins cursor_a (going_on old.phase cursor_b) (IsThis order) (Settles order old.phase) (LeavesLast order) feature first (stands old (from_a, from_b) [] out) result (stands new (to_a, to_b) [] grown)
 
   -- none of the second input was there
   pub decides_none : ((x : A) → cursor_a.gives x [] x) → ((x : B) → cursor_b.gives x [] x) → cursor_b.has_ended from_b × (old.phase ≡ SecondEnded → ⊥) → Decides (Ok (Some r)) old from_a from_b out
@@ -125,7 +125,7 @@ module _ {A B R S : Type 0} (cursor_a : Cursor A R) (cursor_b : Cursor B S) (fea
 
   -- they lie beside
   pub decides_beside : (result : Result (Option R) Fault) (new : Sweeping) (to_a : A) (to_b : B) (grown : Output) → (old.phase ≡ SecondEnded → ⊥)
-      → Joins cursor_a cursor_b IsTotal (AreDecidedOn first.chrom) LeavesOn feature old first from_a from_b [] out result new to_a to_b [] grown → Decides result new to_a to_b grown
+      → Joins cursor_a cursor_b IsTotal (AreDecidedOn first.chrom) LeavesOn feature first (stands old (from_a, from_b) [] out) result (stands new (to_a, to_b) [] grown) → Decides result new to_a to_b grown
   decides_beside (Ok waiting) new to_a to_b grown going (j, stops, leaves) = (
     record { proceeds = proceeds_beside j.proceeds; waits = j.waits; goes = λ at. j.goes (to_total total at); writes = λ at. j.writes (to_total total at) },
     grind arith,
@@ -170,7 +170,7 @@ module _ {A B R S : Type 0} (cursor_a : Cursor A R) (cursor_b : Cursor B S) (fea
   }
 
   -- each is written
-  pub decides_after : ((x : B) → cursor_b.gives x [] x) → (result : Result (Option R) Fault) (new : Sweeping) (to_a : A) (grown : Output) → IsBehind → WritesUpTo cursor_a feature max_number old first from_a [] out result new to_a [] grown
+  pub decides_after : ((x : B) → cursor_b.gives x [] x) → (result : Result (Option R) Fault) (new : Sweeping) (to_a : A) (grown : Output) → IsBehind → WritesUpTo cursor_a feature max_number first (stands old from_a [] out) result (stands new to_a [] grown)
       → Decides result new to_a from_b grown
   decides_after b_none (Ok (Some a)) new to_a grown behind w = absurd (omega (arith, w.1.0, w.1.1))
   decides_after b_none (Ok None) new to_a grown behind (w, ended) = (

@@ -1,6 +1,6 @@
 use Rattle.bt_lines.proofs.Std.{arith, [], ◌<◌, ◌∷◌, ℕ, ap, refl, subst, ◌∙◌, err_from_is_err_and}
 use Rattle.bt_lines.specs.calls.Names.{fault_value}
-use Rattle.bt_sweep.specs.inside.Joining.{LeavesOn, pending_in, NeedsHit, has_room_in}
+use Rattle.bt_sweep.specs.inside.Joining.{LeavesOn, lines_pending, NeedsHit, has_room_in}
 use Rattle.bt_sweep.specs.calls.Sweeping.{CannotHold, Sweeping}
 use Rattle.bt_sweep.proofs.lemmas.sweep.JoinLemmas.{breaks_take, breaks_write, joins_first, joins_past, joins_take, joins_write, leaves_none}
 use Rattle.bt_sweep.proofs.sweep.state.State.join_pending.Goals.{else-stop-start-via-then-stop-start+in_ok-write_up_to+else-not-branch, else-stop-start-via-else-stop-start}
@@ -21,7 +21,7 @@ loop-next-init g c = record {
 pub returns-in_err-write_up_to-clause-joins : goal.returns-in_err-write_up_to-clause-joins
 returns-in_err-write_up_to-clause-joins g c =
     let inv = c.loop-next.invariant in
-    let rest = pending_in (g.A.Cursor.consumed c.write_up_to.new.firsts.cursor) c.write_up_to.new.firsts.from c.write_up_to.new.firsts.to in
+    let rest = lines_pending c.write_up_to.new.firsts in
     let gives_b = subst (λ (x : g.row.B.Denot). g.B.Cursor.gives x ((g.B.Record.Record.feature c.in-Some.next) ∷ []) c.next.new.self) inv.same c.in-Some.ensures.some in
     let e = err_from_is_err_and c.from_residual.result c.from_residual.ensures.1 in
     let cut = rw c.start-then-stop-start.ensures at c.in_err-write_up_to.ensures.writes in
@@ -38,7 +38,7 @@ pub returns-in_err-take-clause-joins : goal.returns-in_err-take-clause-joins
 returns-in_err-take-clause-joins g c =
     let inv = c.loop-next.invariant in
     let past = c.else-stop-start in
-    let rest = pending_in (g.A.Cursor.consumed past.firsts.cursor) past.firsts.from past.firsts.to in
+    let rest = lines_pending past.firsts in
     let b = g.B.Record.Record.feature c.in-Some.next in
     let cur2 = g.A.Record.Record.feature past.current in
     let gives_b = subst (λ (x : g.row.B.Denot). g.B.Cursor.gives x (b ∷ []) c.next.new.self) inv.same c.in-Some.ensures.some in
@@ -62,7 +62,7 @@ pub loop-next-preserved : goal.loop-next-preserved
 loop-next-preserved g c =
     let inv = c.loop-next.invariant in
     let past = c.else-stop-start in
-    let rest = pending_in (g.A.Cursor.consumed past.firsts.cursor) past.firsts.from past.firsts.to in
+    let rest = lines_pending past.firsts in
     let b = g.B.Record.Record.feature c.in-Some.next in
     let cur2 = g.A.Record.Record.feature past.current in
     let gives_b = subst (λ (x : g.row.B.Denot). g.B.Cursor.gives x (b ∷ []) c.next.new.self) inv.same c.in-Some.ensures.some in
