@@ -15,10 +15,12 @@ use Rattle.bt_runs.specs.model.Gaps.{is_over_at, complement, gaps_on, is_asked, 
 use Rattle.bt_runs.specs.calls.Complementing.{AreTaken}
 use Rattle.bt_tool.specs.model.Written.{Written, complement_written, coverage_written, merge_written, pooled_written, Report, good_report, members_report}
 use Rattle.bt_laws.proofs.lemmas.parts.PartGenomes.{agree_first, agree_second, apart_both, entry_less, names_both, among_append, no_first, agree_good, records_both, within_before, last_behind, last_is, none_has, has_append, records_away, spans_first, spans_second}
-use Rattle.bt_runs.proofs.lemmas.Lists.{all_flat_map, all_so, filter_all, filter_none, filter_same, flat_map_same, all_any, all_both, all_map, map_same}
+use Rattle.bt_runs.proofs.lemmas.Lists.{all_flat_map, all_so, filter_all, filter_none, filter_same, flat_map_same, all_any, all_both, all_map, map_same, all_unmap, all_zip}
 use Rattle.bt_laws.proofs.lemmas.parts.PartReports.{Splits, nothing, parts_both, splits_as, Joins, good_joins}
-use Rattle.bt_laws.proofs.lemmas.parts.PartBed.{reversed_less, Earlier, bed_joint, good_earlier, items_all}
-use Rattle.bt_lines.specs.model.Lines.{Handed, lines_from, text_lines}
+use Rattle.bt_laws.proofs.lemmas.parts.PartBed.{reversed_less, Earlier, bed_joint, good_earlier, items_all, records_on}
+use Rattle.bt_laws.proofs.lemmas.parts.PartSequences.{sound_from}
+use Rattle.bt_lines.specs.model.Lines.{Handed, TextLine, lines_from, text_lines}
+use Rattle.bt_lines.specs.declared.fault.Input.{Input}
 use Rattle.bt_lines.specs.declared.fault.Input.TheVariants.{First}
 use Rattle.bt_bed.specs.model.Good.{Good, good, good_from, items_in, bed_format}
 use Rattle.bt_bed.specs.declared.record.strand.Strand.{Strand}
@@ -32,7 +34,7 @@ use Rattle.bt_runs.proofs.lemmas.order.FileOrder.{ordered_come}
 use Rattle.bt_runs.proofs.lemmas.coverage.DepthSteps.{settles_depths}
 use Rattle.bt_runs.proofs.lemmas.complement.GapRuleLemmas.{settles_gaps}
 use Rattle.bt_runs.proofs.lemmas.definitions.Standing.{begins}
-use Rattle.bt_laws.specs.Parts.{AreShards, LiesWithin, Shard, ShardsAddUp, all_entries, complement_divides, genomecov_divides, merge_genomes_divide, shard_texts, AreOfLines, StandsBefore, joined, said_records, on_text, AddUp, StopWithin}
+use Rattle.bt_laws.specs.Parts.{AreShards, LiesWithin, Shard, ShardsAddUp, all_entries, complement_divides, genomecov_divides, merge_genomes_divide, shard_texts, AreOfLines, StandsBefore, joined, said_records, on_text, AddUp, StopWithin, ShardsSuffice}
 use Rattle.bt_tool.specs.model.Report.{chromosomes_of, report_of, report_on}
 use Rattle.bt_tool.specs.declared.planning.plan_type.Command.{Command}
 use Rattle.bt_tool.specs.declared.planning.plan_type.Command.TheVariants.{Complement, Coverage, Merge}
@@ -341,6 +343,16 @@ module _ {X : Type 0} (entries : X → List Entry) (records : X → List Feature
       (parts_both join report Fit empty alone fit_less (λ x y xs fit. two x y xs fit.lines fit.distinct fit.within.0 (records_all _ (y ∷ xs) (less x (y ∷ xs) fit.lines) (within_all _ (y ∷ xs) fit.within.1)))
       xs (record { distinct = distinct; lines = lines; within = within }))
 
+-- ---- records without a fault lie on known chromosomes
+
+known_from : (order : Order) (input : Input) (ms : List TextLine) → (good (bed_format (sorting_of order)) input ms).fault ≡ None → AllByRecursion (λ r. IsTrue (order.knows r.chrom)) (records_on ms)
+known_from order input ms e =
+    subst (AllByRecursion (λ r. IsTrue (order.knows r.chrom))) (sound_from (sorting_of order) input None ms e) (items_all (sorting_of order) input (λ r. IsTrue (order.knows r.chrom)) None ms (all_any _ _ (λ r known. known)))
+
+-- on those of the part's genome file
+pub lies : (own whole : List Entry) (input : Input) (text : List ℕ) → (good (bed_format (sorting_of (rank_order (genome_names own)))) input (text_lines text)).fault ≡ None → AllByRecursion (LiesWithin own whole) (said_records text)
+lies own whole input text e = grind (arith, all_so, among_ranked, (known_from (rank_order (genome_names own)) input (text_lines text) e))
+
 -- ---- any command that writes so
 
 module _ (W : List Entry → Written Feature) (command : Command)
@@ -412,6 +424,15 @@ module _ (W : List Entry → Written Feature) (command : Command)
       both_reports s.entries later s.text rest lines.0 distinct one two (splits s.entries later (items_in (good_of s.entries s.text)) (items_in (good_of later rest)) (own s.entries later s.text rest lines.0 distinct one two)))
       (λ s. on_text command (Some s.genome) s.text) (on_text command (Some genome) (joined (shard_texts shards))) shards (all_so _ _ shards (λ s has. text_report s.genome s.entries s.text has) are.parts)
       (text_report genome (all_entries shards) (joined (shard_texts shards)) are.whole) (distinct_in genome (all_entries shards) are.whole) are.lines are.within
+
+  -- runs on the parts without a fault suffice
+  shard_lies : (whole : List Entry) (shard : Shard) → chromosomes_of (Some shard.genome) ≡ Ok (Some shard.entries) → (on_text command (Some shard.genome) shard.text).fault ≡ None
+      → AllByRecursion (LiesWithin shard.entries whole) (said_records shard.text)
+  shard_lies whole shard has e =
+      lies shard.entries whole First shard.text (sym (grind arith) ∙ ap (λ (r : Report). r.fault) (sym (text_report shard.genome shard.entries shard.text has)) ∙ e)
+
+  pub shards_suffice : ((genome : Handed) (shards : List Shard) → AreShards genome shards → ShardsAddUp command genome shards) → ShardsSuffice command
+  shards_suffice add genome shards are all = grind (arith, (all_zip _ _ _ shards (λ shard has e. shard_lies (all_entries shards) shard has e) are.parts (all_unmap _ _ shards all)))
 
 pub complement_parts : complement_divides
 unfolding lines_from good_from complement

@@ -33,7 +33,7 @@ use Rattle.bt_tool.specs.declared.planning.plan_type.Command.{Command}
 use Rattle.bt_lines.specs.model.Fault.{FaultValue}
 use Rattle.bt_seq.specs.declared.mask.mask_how.MaskHow.{MaskHow}
 use Rattle.bt_laws.proofs.lemmas.parts.PartMasked.{mask_is}
-use Rattle.bt_laws.proofs.lemmas.parts.PartMaskReports.{Lacks, faulty_first, lacks_kind, sound_goes, sound_stops, AreTwo, mask_adds, texts_report, two_suffice}
+use Rattle.bt_laws.proofs.lemmas.parts.PartMaskReports.{Lacks, faulty_first, lacks_kind, sound_goes, sound_stops, AreTwo, mask_adds, report_on, two_suffice}
 
 module _ (split cigar : Bool) where
   on_sam : List ℕ → Report
@@ -201,7 +201,7 @@ subtract_parts whole rule genome chromosomes parts has =
 
 module _ (how : MaskHow) (full : Bool) where
   abbrev T : Texts → Report
-  T texts = texts_report how full texts
+  T texts = report_on how full texts
 
   on_is : (parts : List Texts) → map (on_texts (MaskFasta how full) None) parts ≡ map T parts
   on_is parts = grind (arith, mask_is)
@@ -301,6 +301,6 @@ mask_divides how full parts lines headers own =
 
 pub repeated_divide : repeated_names_divide
 repeated_divide how full parts lines headers none all =
-    let sound = all_unmap _ (texts_report how full) parts (rw (on_is how full parts) at all) in
+    let sound = all_unmap _ (report_on how full) parts (rw (on_is how full parts) at all) in
     let whole = suffice_all how full parts (record { fit = record { lines = lines; headers = headers }; none = none }) sound in
-    rw (on_is how full parts, mask_is how full (joined_texts parts)) (whole.0, whole.1 ∙ sym (flat_map-map (λ (part : Report). part.output) (texts_report how full) parts))
+    rw (on_is how full parts, mask_is how full (joined_texts parts)) (whole.0, whole.1 ∙ sym (flat_map-map (λ (part : Report). part.output) (report_on how full) parts))

@@ -17,8 +17,7 @@ use Rattle.bt_bed.specs.model.Order.{Order}
 use Rattle.bt_runs.proofs.lemmas.order.FileOrder.{some_placed}
 use Rattle.bt_laws.specs.Pipes.{IsInput, is_no_header}
 use Rattle.bt_lines.specs.model.Fault.{FaultValue}
-use Rattle.bt_lines.specs.declared.fault.Kind.{Kind}
-use Rattle.bt_bed.specs.model.Genome.{Entry, columns_give, entry_from, entry_of, genome_from, genome_handed, genome_with, new_entry}
+use Rattle.bt_bed.specs.model.Genome.{Entry, columns_give, entry_from, entry_of, genome_from, genome_handed}
 use Rattle.bt_bed.proofs.lemmas.Definitions.{line_said}
 use Rattle.bt_laws.proofs.lemmas.parts.PartLines.{items_so}
 
@@ -76,7 +75,7 @@ strip_none_by ds b e h = grind (arith, common_steps)
 
 -- no carriage return ends it, with a tab before it
 pub strip_number : (n : ℕ) → strip_last 13 (9 ∷ decimal n) ≡ 9 ∷ decimal n
-strip_number n = strip_none_by (9 ∷ decimal n) (ends_with_byte 13 (9 ∷ decimal n)) refl (refl, digits_none (decimal n) (decimal_digits n))
+strip_number n = grind (arith, common_steps, (digits_none (decimal n) (decimal_digits n)))
 
 pub strip_decimal : (n : ℕ) → strip_last 13 (decimal n) ≡ decimal n
 strip_decimal n = strip_none_by (decimal n) (ends_with_byte 13 (decimal n)) refl (digits_none (decimal n) (decimal_digits n))
@@ -317,15 +316,11 @@ abbrev pub AreChroms : Result (List Entry) FaultValue → Type 0
 AreChroms (Ok entries) = AllByRecursion IsChrom entries
 AreChroms (Err fault) = Unit {0}
 
-new_chrom : (input : Input) (n : ℕ) (names : List (List ℕ)) (text : List ℕ) (said : Result (Option Entry) Kind) (rest : List (List ℕ) → Result (List Entry) FaultValue) → NoLineFeed text → entry_of text ≡ said
-    → ((now : List (List ℕ)) → AreChroms (rest now)) → AreChroms (genome_with input n names (new_entry names said) rest)
-new_chrom input n names text said rest clear e h = grind (arith, line_is_chrom)
-
 chroms_from : (input : Input) (names : List (List ℕ)) (lines : List TextLine) → AreClear lines → AreChroms (genome_from input names lines)
 unfolding genome_from
 chroms_from input names [] clear = tt
 chroms_from input names (line ∷ lines) clear =
-    new_chrom input line.number names line.text (entry_of line.text) (λ now. genome_from input now lines) clear.0 refl (λ now. chroms_from input now lines clear.1)
+    grind (arith, (entry_of line.text), line_is_chrom, (λ (now : List (List ℕ)). chroms_from input now lines clear.1))
 
 pub genome_chroms : (input : Input) (handed : Handed) (entries : List Entry) → genome_handed input handed ≡ Ok entries → AllByRecursion IsChrom entries
 genome_chroms input handed entries e = grind (arith, chroms_from, clear_handed)

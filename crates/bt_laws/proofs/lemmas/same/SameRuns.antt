@@ -1,5 +1,5 @@
 -- Records that differ in their order, or in one that comes twice.
-use Rattle.bt_lines.proofs.Std.{common_steps, ◌≡◌, inl, inr, ◌||◌, ℕ, ◌+◌, ◌<◌, Bool, true, false, cond, not, List, [], ◌∷◌, ◌++◌, map, filter, Option, refl, sym, ap, ◌∙◌, subst, arith, ◌≢◌, bytes_eq, flat_map, sum_by, IsPermutation, IsTrue, map-append, filter-append, AllByRecursion, list_any, cases_Bool, list_any-IsPermutation, sum_by-IsPermutation, sum_by-cons, append-nil, None, Ok, ap₂, length, or_parts}
+use Rattle.bt_lines.proofs.Std.{common_steps, ◌≡◌, inl, inr, ◌||◌, ℕ, ◌+◌, ◌<◌, ◌≤◌, Bool, true, false, cond, not, List, [], ◌∷◌, ◌++◌, map, filter, Option, refl, sym, ap, ◌∙◌, subst, arith, ◌≢◌, bytes_eq, flat_map, sum_by, IsPermutation, IsTrue, map-append, filter-append, AllByRecursion, list_any, cases_Bool, list_any-IsPermutation, sum_by-IsPermutation, sum_by-cons, append-nil, None, Ok, ap₂, length, or_parts}
 use Rattle.bt_lines.specs.declared.fault.Input.TheVariants.{First}
 use Rattle.bt_bed.specs.model.Sorted.{has_records}
 use Rattle.bt_bed.specs.calls.Orders.{ArePlaced, IsTotal, AreDistinct}
@@ -28,7 +28,7 @@ use Rattle.bt_tool.specs.declared.planning.plan_type.Command.TheVariants.{Comple
 use Rattle.bt_laws.specs.WholeRuns.{RunsWithoutFault, first_records, RunWrites, piped}
 use Rattle.bt_laws.specs.Same.{IsRepeated, exchanged_complement, exchanged_genomecov, exchanged_merge, repeated_complement, repeated_merge, complement_of_merge, merge_of_merge}
 use Rattle.bt_laws.proofs.lemmas.pipes.PipeLaws.{SameCover, depth_both, same_by_depth, same_gaps, same_levels, complement_whole, genomecov_whole, merge_whole, runs_again, runs_cover, report_there}
-use Rattle.bt_runs.proofs.lemmas.Lists.{EachPair, all_any, filter_all, flat_map_same, all_filter, all_map, all_so, filter_passes}
+use Rattle.bt_runs.proofs.lemmas.Lists.{EachPair, Some_of, all_any, filter_all, flat_map_same, all_filter, all_map, all_so, filter_passes}
 use Rattle.bt_laws.proofs.lemmas.parts.PartTexts.{order_total}
 use Rattle.bt_lines.specs.model.Fault.{FaultValue}
 use Rattle.bt_lines.specs.model.Lines.{whole_text}
@@ -234,6 +234,20 @@ here_all name (s ∷ ss) = spans_on-here name (placed_on name s) (map (placed_on
 pub none_there : (name other : List ℕ) (ss : List Span) → bytes_eq other name ≡ false → spans_on name (map (placed_on other) ss) ≡ []
 none_there name other [] e = refl
 none_there name other (s ∷ ss) e = spans_on-elsewhere name (placed_on other s) (map (placed_on other) ss) e ∙ none_there name other ss e
+
+-- ---- which record covers a position of a chromosome
+
+abbrev pub CoversOn : List ℕ → ℕ → Feature → Type 0
+CoversOn name p r = (r.chrom ≡ name) × (r.start ≤ p) × (p < r.stop)
+
+module _ (name : List ℕ) (p : ℕ) where
+  pub some_covers : (rs : List Feature) → IsCovered (spans_on name (intervals_of rs)) p → Some_of (CoversOn name p) rs
+  some_covers [] c = absurd c
+  some_covers (r ∷ rs) c = grind (arith, (some_covers rs), (cases_name r.chrom name), name_eq)
+
+  pub covered_by_some : (rs : List Feature) → Some_of (CoversOn name p) rs → IsCovered (spans_on name (intervals_of rs)) p
+  covered_by_some [] w = absurd w
+  covered_by_some (r ∷ rs) w = grind (arith, (covered_by_some rs), (cases_name r.chrom name), name_eq)
 
 module _ (f : List ℕ → List Span) where
   abbrev pub placed_by : List ℕ → List Interval

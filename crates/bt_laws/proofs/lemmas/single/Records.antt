@@ -9,7 +9,7 @@ use Rattle.bt_lines.specs.declared.fault.Kind.TheVariants.{OutOfOrder, UnknownCh
 use Rattle.bt_bed.specs.model.Feature.{Feature, Interval, last_from}
 use Rattle.bt_bed.specs.model.BedLine.{is_header, columns_say, not_skipped, record_of, ends_word, first_word, bed_text, kept_columns}
 use Rattle.bt_bed.specs.calls.Features.{IsFeature, columns_in, said_are_features, IsName, is_kept}
-use Rattle.bt_bed.specs.model.Good.{Good, good_from, good_with, line_says, said_after, block_format, bed_format}
+use Rattle.bt_bed.specs.model.Good.{good_from, line_says, said_after, block_format, bed_format}
 use Rattle.bt_bed.specs.model.Meeting.{Rule, join_report, written}
 use Rattle.bt_laws.specs.Records.{blocks_know_each_chromosome, good_stand_on_lines, first_lines_have_the_first, good_in_blocks_are_non_empty, good_in_blocks_stand_on_lines, genome_names_are_distinct, first_lines_make_entries, read_are_rewritten, written_are_read, StaysDecided, bytes_know_each_chromosome, first_difference_decides, prefixes_come_first, shared_are_common, stretches_are_one, contiguous_grows}
 use Rattle.bt_bed.specs.model.Sorted.{Locus, block_sorting, sorting_of, has_records}
@@ -67,15 +67,10 @@ line_other : (last : Option Locus) (text : List ℕ) → Other (line_says block_
 unfolding line_says
 line_other last text = said_other last (record_of text) (record_other text)
 
-with_other : (input : Input) (line : ℕ) (last : Option Locus) (said : Result (Option Feature) Kind) (rest : Option Locus → Good Feature) → Other said → ((now : Option Locus) → Tells (rest now).fault)
-    → Tells (good_with block_format input line last said rest).fault
-with_other input line last said rest h k = grind arith
-
 from_other : (input : Input) (last : Option Locus) (lines : List TextLine) → Tells (good_from block_format input last lines).fault
 unfolding good_from
 from_other input last [] = tt
-from_other input last (line ∷ lines) =
-    with_other input line.number last (line_says block_sorting last line.text) (λ now. good_from block_format input now lines) (line_other last line.text) (λ now. from_other input now lines)
+from_other input last (line ∷ lines) = grind (arith, (line_other last line.text), (λ (now : Option Locus). from_other input now lines))
 
 never_unknown : (fault : Option FaultValue) → Tells fault → IfSome fault (λ fault. fault.kind ≢ UnknownChrom)
 unfolding is_other

@@ -21,22 +21,14 @@ use Rattle.std.specs.List.{last_or}
 -- A block belongs to the same sequence among the names up to a line and among all names.
 
 -- ---- one name
-more_by : (b : Bool) (name : List ℕ) (names more rest : List (List ℕ)) → (names_behind name names ≡ Some rest → names_behind name (names ++ more) ≡ Some (rest ++ more))
-    → cond b (Some names) (names_behind name names) ≡ Some rest → cond b (Some (names ++ more)) (names_behind name (names ++ more)) ≡ Some (rest ++ more)
-more_by b name names more rest next e = grind arith
-
 behind_more : (name : List ℕ) (names more rest : List (List ℕ)) → names_behind name names ≡ Some rest → names_behind name (names ++ more) ≡ Some (rest ++ more)
 behind_more name [] more rest e = cc
-behind_more name (n ∷ ns) more rest e = more_by (bytes_eq n name) name ns more rest (behind_more name ns more rest) e
+behind_more name (n ∷ ns) more rest e = grind (arith, (behind_more name ns more rest))
 
 -- fewer names come after the one that is found than there are
-fewer_by : (b : Bool) (name : List ℕ) (names rest : List (List ℕ)) → (names_behind name names ≡ Some rest → length rest < length names)
-    → cond b (Some names) (names_behind name names) ≡ Some rest → length rest ≤ length names
-fewer_by b name names rest next e = grind arith
-
 behind_fewer : (name : List ℕ) (names rest : List (List ℕ)) → names_behind name names ≡ Some rest → length rest < length names
 behind_fewer name [] rest e = cc
-behind_fewer name (n ∷ ns) rest e = let few = fewer_by (bytes_eq n name) name ns rest (behind_fewer name ns rest) e in omega (arith, few)
+behind_fewer name (n ∷ ns) rest e = grind (arith, (behind_fewer name ns rest))
 
 -- if as many names come after it as there are others, it is one of the first
 record Within (name : List ℕ) (names more all : List (List ℕ)) : Type 0 where
@@ -44,13 +36,9 @@ record Within (name : List ℕ) (names more all : List (List ℕ)) : Type 0 wher
   is : all ≡ left ++ more
   found : names_behind name names ≡ Some left
 
-within_by : (b : Bool) (name n : List ℕ) (names more all : List (List ℕ)) → (names_behind name (names ++ more) ≡ Some all → Within name names more all)
-    → bytes_eq n name ≡ b → cond b (Some (names ++ more)) (names_behind name (names ++ more)) ≡ Some all → Within name (n ∷ names) more all
-within_by b name n names more all next is e = grind arith
-
 behind_within : (name : List ℕ) (names more all : List (List ℕ)) → length more ≤ length all → names_behind name (names ++ more) ≡ Some all → Within name names more all
 behind_within name [] more all least e = absurd (let few = behind_fewer name more all e in omega (arith, few, least))
-behind_within name (n ∷ ns) more all least e = within_by (bytes_eq n name) name n ns more all (behind_within name ns more all least) refl e
+behind_within name (n ∷ ns) more all least e = grind (arith, (behind_within name ns more all least))
 
 -- ---- blocks
 module _ {A : Type 0} where
@@ -61,21 +49,13 @@ module _ {A : Type 0} where
   abbrev at_last : Option (List (List ℕ)) → List (Block A) → Option (List (List ℕ))
   at_last o bs = left_at_last o (owned_from o bs)
 
-  last_fewer_by : (b : Block A) (bs : List (Block A)) (names rest : List (List ℕ)) → ((left : List (List ℕ)) → at_last (Some left) bs ≡ Some rest → length rest ≤ length left)
-      → (o : Option (List (List ℕ))) → names_behind b.chrom names ≡ o → at_last o bs ≡ Some rest → length rest ≤ length names
-  last_fewer_by b bs names rest next o is e = grind (arith, none_at_last, behind_fewer)
-
   last_fewer : (rest : List (List ℕ)) (bs : List (Block A)) (names : List (List ℕ)) → at_last (Some names) bs ≡ Some rest → length rest ≤ length names
   last_fewer rest [] names e = let same : names ≡ rest = cc in omega (arith, ap length same)
-  last_fewer rest (b ∷ bs) names e = last_fewer_by b bs names rest (last_fewer rest bs) (names_behind b.chrom names) refl e
-
-  last_more_by : (b : Block A) (bs : List (Block A)) (names more rest : List (List ℕ)) → ((left : List (List ℕ)) → at_last (Some left) bs ≡ Some rest → at_last (Some (left ++ more)) bs ≡ Some (rest ++ more))
-      → (o : Option (List (List ℕ))) → names_behind b.chrom names ≡ o → at_last o bs ≡ Some rest → at_last (names_behind b.chrom (names ++ more)) bs ≡ Some (rest ++ more)
-  last_more_by b bs names more rest next o is e = grind (arith, none_at_last, behind_more)
+  last_fewer rest (b ∷ bs) names e = grind (arith, none_at_last, behind_fewer, (names_behind b.chrom names), (last_fewer rest bs))
 
   last_more : (more rest : List (List ℕ)) (bs : List (Block A)) (names : List (List ℕ)) → at_last (Some names) bs ≡ Some rest → at_last (Some (names ++ more)) bs ≡ Some (rest ++ more)
   last_more more rest [] names e = let same : names ≡ rest = cc in ap (λ l. Some (l ++ more)) same
-  last_more more rest (b ∷ bs) names e = last_more_by b bs names more rest (last_more more rest bs) (names_behind b.chrom names) refl e
+  last_more more rest (b ∷ bs) names e = grind (arith, none_at_last, behind_more, (names_behind b.chrom names), (last_more more rest bs))
 
   last_first_by : (b : Block A) (bs : List (Block A)) (names more rest : List (List ℕ)) → ((left : List (List ℕ)) → at_last (Some (left ++ more)) bs ≡ Some (rest ++ more) → at_last (Some left) bs ≡ Some rest)
       → (o : Option (List (List ℕ))) → names_behind b.chrom (names ++ more) ≡ o → at_last o bs ≡ Some (rest ++ more) → at_last (names_behind b.chrom names) bs ≡ Some rest
@@ -266,13 +246,9 @@ module _ (name : List ℕ) where
   found [] behind others = rw ((bytes_decides name name).1 refl) refl
   found (n ∷ ns) behind others = rw (apart_names n name others.0 (bytes_eq n name) refl) (found ns behind others.1)
 
-  none_with : (n : List ℕ) (ns : List (List ℕ)) → (names_behind name ns ≡ None → AllByRecursion (λ (other : List ℕ). other ≢ name) ns)
-      → (t : Bool) → bytes_eq n name ≡ t → cond t (Some ns) (names_behind name ns) ≡ None → AllByRecursion (λ (other : List ℕ). other ≢ name) (n ∷ ns)
-  none_with n ns later t e is = search rules
-
   none_has : (names : List (List ℕ)) → names_behind name names ≡ None → AllByRecursion (λ (other : List ℕ). other ≢ name) names
   none_has [] is = tt
-  none_has (n ∷ ns) is = none_with n ns (none_has ns) (bytes_eq n name) refl is
+  none_has (n ∷ ns) is = grind (arith, (none_has ns), other_name)
 
   none_found : (names : List (List ℕ)) → AllByRecursion (λ (other : List ℕ). other ≢ name) names → names_behind name names ≡ None
   none_found [] others = refl
