@@ -1,5 +1,5 @@
 -- Records of parts, each with its own part of the genome file.
-use Rattle.bt_lines.proofs.Std.{rules, ◌≡◌, ℕ, suc, ◌+◌, ◌<◌, Bool, true, false, cond, List, [], ◌∷◌, ◌++◌, ◌||◌, length, Option, Some, None, inl, refl, sym, ap, ◌∙◌, arith, subst, IsTrue, bytes_eq, is_some, option_map, or_parts, AllByRecursion, map-append, flat_map-append, append-nil, ⊤, list_any, list_any-append}
+use Rattle.bt_lines.proofs.Std.{rules, ◌≡◌, ℕ, suc, ◌+◌, ◌<◌, true, false, cond, List, [], ◌∷◌, ◌++◌, ◌||◌, length, Option, Some, None, inl, refl, sym, ap, ◌∙◌, arith, subst, IsTrue, bytes_eq, is_some, option_map, or_parts, AllByRecursion, map-append, flat_map-append, append-nil, ⊤, list_any, list_any-append}
 use Rattle.std.specs.declared.cmp.Ordering.TheVariants.{Less}
 use Rattle.bt_bed.specs.model.Order.{Order, is_among, rank_of, rank_order}
 use Rattle.bt_bed.specs.calls.Orders.{AreDistinct, IsTotal, ArePlaced, IsPlacedBefore}
@@ -272,19 +272,8 @@ lost_more left more last (r ∷ rs) off e =
 -- a record that is named as no sequence belongs to none
 lost_by : (left : Names) (last : Option (List ℕ)) (ones : List Feature) (r : Feature) → is_last last r.chrom ≡ false → is_among left r.chrom ≡ false → leave (Some left) last (ones ++ r ∷ []) ≡ None
 lost_by left last [] r apart off = ap (λ b. cond b (Some left) (sequences_behind r.chrom left)) apart ∙ off_found r.chrom left off
-lost_by left last (s ∷ ss) r apart off = by_last (is_last last s.chrom) refl (λ now clear rest. lost_by now (Some s.chrom) ss r clear rest)
-  where
-    on_last : (l : Option (List ℕ)) → is_last l s.chrom ≡ true → is_last l r.chrom ≡ false → bytes_eq s.chrom r.chrom ≡ false
-    on_last None is apart = cc
-    on_last (Some name) is apart = ap (λ n. bytes_eq n r.chrom) (sym (same_name name s.chrom is)) ∙ apart
-
-    by_found : (o : Option Names) → sequences_behind s.chrom left ≡ o → ((now : Names) → bytes_eq s.chrom r.chrom ≡ false → is_among now r.chrom ≡ false → leave (Some now) (Some s.chrom) (ss ++ r ∷ []) ≡ None) → leave o (Some s.chrom) (ss ++ r ∷ []) ≡ None
-    by_found None is next = none_leaves (Some s.chrom) (ss ++ r ∷ [])
-    by_found (Some now) is next = grind (arith, off_behind)
-
-    by_last : (b : Bool) → is_last last s.chrom ≡ b → ((now : Names) → bytes_eq s.chrom r.chrom ≡ false → is_among now r.chrom ≡ false → leave (Some now) (Some s.chrom) (ss ++ r ∷ []) ≡ None) → leave (cond b (Some left) (sequences_behind s.chrom left)) (Some s.chrom) (ss ++ r ∷ []) ≡ None
-    by_last true is next = next left (on_last last is apart) off
-    by_last false is next = by_found (sequences_behind s.chrom left) refl next
+lost_by left last (s ∷ ss) r apart off =
+    grind (arith, (sequences_behind s.chrom left), none_leaves, off_behind, (same_name s.chrom r.chrom), (λ (now : Names). lost_by now (Some s.chrom) ss r))
 
 pub lost_off : (names : Names) (ones twos : List Feature) → AreOff names twos → IsLost names ones twos
 lost_off names ones twos off = grind (arith, lost_by)

@@ -1,6 +1,6 @@
 -- Lines of two concatenated texts, of which the first is empty or ends with a line feed.
 use Rattle.bt_lines.proofs.Std.{arith, ◌≡◌, ℕ, suc, false, List, [], ◌∷◌, ◌++◌, refl, sym, ap, ◌∙◌, append-nil, append_assoc, eqb, IsTrue, All-head, All-tail, Option, Some, None, Ok, is_none, AllByRecursion, map-append}
-use Rattle.bt_lines.specs.model.Lines.{TextLine, fed_line, last_line, lines_from, numbered, pieces, text_lines}
+use Rattle.bt_lines.specs.model.Lines.{TextLine, fed_line, lines_from, numbered, pieces, text_lines}
 use Rattle.bt_lines.specs.calls.Line.{NoLineFeed}
 use Rattle.bt_lines.proofs.lemmas.reader.lines.TextLemmas.{lines_from-fed, lines_from-nil, by_lines}
 use Rattle.bt_laws.specs.Parts.{StandsBefore, ends_line}
@@ -15,12 +15,9 @@ AreAlike [] (m ∷ ms) = ⊥
 AreAlike (l ∷ ls) [] = ⊥
 AreAlike (l ∷ ls) (m ∷ ms) = (l.text ≡ m.text) × (l.ending ≡ m.ending) × AreAlike ls ms
 
-alike_last : (n m : ℕ) (piece : List ℕ) → AreAlike (last_line n piece) (last_line m piece)
-alike_last n m piece = grind arith
-
 alike_numbered : (n m : ℕ) (parts : List (List ℕ)) → AreAlike (numbered n parts) (numbered m parts)
 alike_numbered n m [] = tt
-alike_numbered n m (piece ∷ []) = alike_last n m piece
+alike_numbered n m (piece ∷ []) = grind arith
 alike_numbered n m (piece ∷ next ∷ rest) = (refl, refl, alike_numbered (suc n) (suc m) (next ∷ rest))
 
 pub alike_lines : (n m : ℕ) (bytes : List ℕ) → AreAlike (lines_from n bytes) (lines_from m bytes)

@@ -34,14 +34,10 @@ begins_elsewhere names rest ones kept (r ∷ rs) lost = apart_next names rest on
 
 module _ (mine yours : Rule SequenceLine ℕ FaultValue) (move : SequenceLine → SequenceLine) where
   -- lines that were moved, by a rule that says the same of them
-  moved_at : (x : SequenceLine) (xs : List SequenceLine) (b : Bool) → mine.decided (move x) ≡ b → yours.decided x ≡ b → mine.lines (move x) ≡ yours.lines x → written mine (map move xs) ≡ written yours xs
-      → written mine (move x ∷ map move xs) ≡ written yours (x ∷ xs)
-  moved_at x xs true e d same more = grind (arith, (written_at mine (move x) (map move xs) true e), (written_at yours x xs true d))
-  moved_at x xs false e d same more = written_at mine (move x) (map move xs) false e ∙ sym (written_at yours x xs false d)
-
   written_moved : (xs : List SequenceLine) → AllByRecursion (λ x. (mine.decided (move x) ≡ yours.decided x) × (mine.lines (move x) ≡ yours.lines x)) xs → written mine (map move xs) ≡ written yours xs
   written_moved [] h = refl
-  written_moved (x ∷ xs) h = moved_at x xs (yours.decided x) h.0.0 refl h.0.1 (written_moved xs h.1)
+  written_moved (x ∷ xs) h =
+      grind (arith, (written_at mine (move x) (map move xs) (mine.decided (move x)) refl), (written_at yours x xs (yours.decided x) refl), (written_moved xs h.1))
 
 none_written : (rule : Rule SequenceLine ℕ FaultValue) (xs : List SequenceLine) → AllByRecursion (λ x. rule.decided x ≡ false) xs → written rule xs ≡ []
 none_written rule xs h = grind arith
@@ -107,10 +103,6 @@ module _ (how : MaskHow) (full : Bool) where
 
     pub names_of_both : (F one.first).fault ≡ None → N (one.first ++ two.first) ≡ N one.first ++ N two.first
     names_of_both e = ap names_of (lines_of_both e).0 ∙ names_both full First (items_in (F one.first)) (items_in (F two.first))
-
-    first_lines_sound : (fault : Option FaultValue) → (F one.first).fault ≡ fault → (F (one.first ++ two.first)).fault ≡ None → fault ≡ None
-    first_lines_sound None is e = refl
-    first_lines_sound (Some f) is e = grind (arith, (fasta_both full First one.first two.first are.first are.begins))
 
     named_two : AllByRecursion (λ line. is_unnamed line.names ≡ false) (items_in (F two.first))
     named_two = second_named full First one.first two.first are.first are.begins
@@ -293,7 +285,7 @@ module _ (how : MaskHow) (full : Bool) where
       -- if both are sound, so is each part
       module _ (whole : IsSound (F (one.first ++ two.first)) (B (one.second ++ two.second))) where
         lines_one : (F one.first).fault ≡ None
-        lines_one = first_lines_sound (F one.first).fault refl whole.lines
+        lines_one = grind (arith, (fasta_both full First one.first two.first are.first are.begins), ((F one.first).fault))
 
         calm : ((B one.second).fault ≡ None) × ((B two.second).fault ≡ None) × (R (one.second ++ two.second) ≡ R one.second ++ R two.second)
         calm = calm_joint Second one.second two.second are.second whole.records

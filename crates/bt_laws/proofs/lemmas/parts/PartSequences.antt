@@ -1,12 +1,12 @@
 -- What is good of two concatenated FASTA texts.
-use Rattle.bt_lines.proofs.Std.{common_steps, ◌≡◌, ℕ, Bool, true, false, cond, List, [], ◌∷◌, ◌++◌, map, append-nil, append_assoc, Option, Some, None, Ok, Err, refl, sym, ap, ap₂, ◌∙◌, subst, arith, IsTrue, ⊤, flat_map, AllByRecursion, map-append, is_none, option_map}
+use Rattle.bt_lines.proofs.Std.{common_steps, ◌≡◌, ℕ, Bool, true, false, cond, List, [], ◌∷◌, ◌++◌, map, append-nil, append_assoc, Option, Some, None, Ok, Err, refl, sym, ap, ap₂, ◌∙◌, arith, IsTrue, ⊤, flat_map, AllByRecursion, map-append, is_none, option_map}
 use Rattle.bt_lines.specs.model.Fault.{FaultValue}
 use Rattle.bt_lines.specs.model.Lines.{TextLine, lines_from, text_lines}
 use Rattle.bt_lines.specs.declared.fault.Input.{Input}
 use Rattle.bt_lines.specs.declared.fault.Kind.TheVariants.{TextBeforeHeader}
 use Rattle.bt_lines.proofs.lemmas.reader.lines.TextLemmas.{lines_from-fed, lines_from-last, by_lines}
 use Rattle.bt_bed.specs.model.Good.{Format, Good, good, good_from, items_in, line_says as record_says, locus_at, block_format, bed_format}
-use Rattle.bt_seq.specs.model.Masked.{is_unnamed, names_of, Reached, SequenceLine, header_behind, is_header, line_behind, line_says, may_stand, name_in, sequence_format}
+use Rattle.bt_seq.specs.model.Masked.{is_unnamed, names_of, Reached, SequenceLine, header_behind, is_header, line_behind, line_says, may_stand, sequence_format}
 use Rattle.bt_laws.specs.Parts.{begins_sequence, name_on, sequence_names, StandsBefore, said_records}
 use Rattle.bt_laws.proofs.lemmas.parts.PartLines.{like_from, alike_lines, lines_join, IsLike, put_on, reached, go_from}
 use Rattle.bt_bed.specs.model.Feature.{Feature}
@@ -47,33 +47,17 @@ module _ (full : Bool) (input : Input) where
   abbrev Fasta : Format SequenceLine Reached
   Fasta = sequence_format full
 
-  -- what a line says after a named sequence, and after more names
-  record Moves (names : List (List ℕ)) (s : Reached) (line : TextLine) : Type 0 where
-    it : SequenceLine
-    here : line_says full s line ≡ Ok (Some it)
-    there : line_says full (reached_after names s) line ≡ Ok (Some (line_after names it))
-    named : is_unnamed it.names ≡ false
-
   says_header : (s : Reached) (line : TextLine) → is_header line.text ≡ true → line_says full s line ≡ Ok (Some (header_behind full s line))
   says_header s line e = grind (arith, cond, (cond (may_stand s.names line.text) (Ok (Some (line_behind s line))) (Err TextBeforeHeader)))
 
   says_bases : (s : Reached) (line : TextLine) → is_header line.text ≡ false → is_unnamed s.names ≡ false → line_says full s line ≡ Ok (Some (line_behind s line))
   says_bases s line e named = grind arith
 
-  header_moves : (names : List (List ℕ)) (s : Reached) (line : TextLine) → is_header line.text ≡ true → Moves names s line
-  header_moves names s line e =
-      grind (arith, (says_header s line e), (append_assoc names s.names (name_in full line.text ∷ [])))
-
-  moves_by : (names : List (List ℕ)) (s : Reached) (line : TextLine) → is_unnamed s.names ≡ false → (h : Bool) → is_header line.text ≡ h → Moves names s line
-  moves_by names s line named true e = header_moves names s line e
-  moves_by names s line named false e = grind (arith, (says_bases s line e named), (says_bases (reached_after names s) line e (named_more names s.names named)))
-
   moved_from : (names : List (List ℕ)) (s : Reached) (ls : List TextLine) → is_unnamed s.names ≡ false → AreMoved names (good_from Fasta input (reached_after names s) ls) (good_from Fasta input s ls)
   unfolding good_from
   moved_from names s [] named = record { items = refl; none = refl; same = refl; named = tt }
   moved_from names s (l ∷ ls) named =
-      let m = moves_by names s l named (is_header l.text) refl in
-      grind (arith, (moved_from names (Fasta.after s m.it) ls m.named))
+      grind (arith, (says_header s l), (says_header (reached_after names s) l), (says_bases s l), (says_bases (reached_after names s) l), named_more, append_assoc, (λ (now : Reached). moved_from names now ls))
 
   -- from a header on
   moved_header : (r : Reached) (ls : List TextLine) → BeginsAtHeader ls → AreMoved r.names (good_from Fasta input r ls) (good_from Fasta input Fasta.begin ls)
@@ -142,10 +126,8 @@ module _ (full : Bool) (input : Input) where
   -- ---- two texts
 
   header_first : (n : ℕ) (text : List ℕ) → IsTrue (begins_sequence text) → BeginsAtHeader (lines_from n text)
-  header_first n text = by_lines (λ n bytes. IsTrue (begins_sequence bytes) → BeginsAtHeader (lines_from n bytes))
-      (λ n piece clear e. subst BeginsAtHeader (sym (lines_from-last n piece clear)) (grind arith))
-      (λ n piece rest clear is e. subst BeginsAtHeader (sym (lines_from-fed n piece rest clear)) (grind (arith, common_steps)))
-      n text
+  header_first n text =
+      by_lines (λ n bytes. IsTrue (begins_sequence bytes) → BeginsAtHeader (lines_from n bytes)) (λ n piece clear e. grind (arith, (lines_from-last n piece clear))) (λ n piece rest clear is e. grind (arith, common_steps, (lines_from-fed n piece rest clear))) n text
 
   -- the lines of the second text, whatever the numbers of its lines
   moved_lines : (r : Reached) (n : ℕ) (two : List ℕ) → IsTrue (begins_sequence two) → AreMoved r.names (good_from Fasta input r (lines_from n two)) (good Fasta input (text_lines two))

@@ -1,6 +1,5 @@
 -- Parts with their own parts of the genome file: complement, genomecov and merge.
 use Rattle.bt_lines.proofs.Std.{arith, ◌≡◌, ℕ, Bool, true, false, List, [], ◌∷◌, ◌++◌, filter, append-nil, Option, Some, None, refl, sym, ap, ap₂, ◌∙◌, cond, map, Ok, subst, IsTrue, bytes_eq, flat_map, nat_le, nat_lt, AllByRecursion, or_left, or_right, flat_map-append, map-append, filter-append, or_parts}
-use Rattle.std.specs.declared.cmp.Ordering.{Ordering}
 use Rattle.std.specs.declared.cmp.Ordering.TheVariants.{Less, Greater}
 use Rattle.bt_bed.specs.model.Feature.{Feature, interval_of, intervals_of, Interval, last_from, last_of}
 use Rattle.bt_bed.specs.model.BedLine.{interval_line, interval_lines}
@@ -46,12 +45,6 @@ use Rattle.bt_laws.proofs.lemmas.parts.PartMerge.{fewer, pooled_split, strands_s
 own_names : (es : List Entry) (all : List (List ℕ)) → ((n : List ℕ) → is_among (genome_names es) n ≡ true → is_among all n ≡ true) → AllByRecursion (λ e. is_among all e.name ≡ true) es
 own_names [] all f = tt
 own_names (e ∷ es) all f = grind (arith, (own_names es all (λ n h. f n (or_right (bytes_eq e.name n) (is_among (genome_names es) n) h))), name_eq)
-
-over_less : (o : Ordering) (b : Bool) → o ≡ Less → is_over_at o b ≡ true
-over_less o b e = grind arith
-
-over_greater : (o : Ordering) (b : Bool) → o ≡ Greater → is_over_at o b ≡ false
-over_greater o b e = grind arith
 
 module _ {T : Type 0} (chrom : T → List ℕ) (ends : Interval → T → Bool) (line : T → List ℕ) (F : List Feature → Entry → List T) where
   -- what is written of a genome file's chromosomes
@@ -131,7 +124,7 @@ module _ {T : Type 0} (chrom : T → List ℕ) (ends : Interval → T → Bool) 
         ∙ filter-append (is_ended Both last) (whole_of e_one (q ∷ qs)) (whole_of e_two (q ∷ qs))
         ∙ ap₂ (λ a b. a ++ b)
         (filter_same (is_ended Both last) (is_ended One-names last) (whole_of e_one (q ∷ qs)) (all_so _ _ (whole_of e_one (q ∷ qs)) (λ t is. ap (λ o. is_over_at o (ends last t)) ((agree_first e_one e_two).compare (chrom t) last.chrom (λ w. is) (λ w. at))) (items_named One-names e_one (q ∷ qs) own_one)))
-        (filter_none (is_ended Both last) (whole_of e_two (q ∷ qs)) (all_so _ _ (whole_of e_two (q ∷ qs)) (λ t is. over_greater _ (ends last t) (greater (chrom t) last.chrom is at)) (items_named Two-names e_two (q ∷ qs) own_two)))
+        (filter_none (is_ended Both last) (whole_of e_two (q ∷ qs)) (all_so _ _ (whole_of e_two (q ∷ qs)) (λ t is. ap (λ o. is_over_at o (ends last t)) (greater (chrom t) last.chrom is at)) (items_named Two-names e_two (q ∷ qs) own_two)))
         ∙ append-nil (filter (is_ended One-names last) (whole_of e_one (q ∷ qs)))
 
     settled_both : (ones : List Feature) (s : Feature) (twos : List Feature) → AllByRecursion (λ r. is_among One-names r.chrom ≡ true) (intervals_of ones) → AllByRecursion (λ r. is_among Two-names r.chrom ≡ true) (intervals_of (s ∷ twos))
@@ -143,7 +136,7 @@ module _ {T : Type 0} (chrom : T → List ℕ) (ends : Interval → T → Bool) 
         ∙ ap (filter (is_ended Both last)) (whole_both ones (s ∷ twos) in_one in_two)
         ∙ filter-append (is_ended Both last) (whole_of e_one ones) (whole_of e_two (s ∷ twos))
         ∙ ap₂ (λ a b. a ++ b)
-        (filter_all (is_ended Both last) (whole_of e_one ones) (all_so _ _ (whole_of e_one ones) (λ t is. over_less _ (ends last t) (less (chrom t) last.chrom is at)) (items_named One-names e_one ones own_one)))
+        (filter_all (is_ended Both last) (whole_of e_one ones) (all_so _ _ (whole_of e_one ones) (λ t is. ap (λ o. is_over_at o (ends last t)) (less (chrom t) last.chrom is at)) (items_named One-names e_one ones own_one)))
         (filter_same (is_ended Both last) (is_ended Two-names last) (whole_of e_two (s ∷ twos)) (all_so _ _ (whole_of e_two (s ∷ twos)) (λ t is. ap (λ o. is_over_at o (ends last t)) ((agree_second e_one e_two distinct).compare (chrom t) last.chrom (λ w. is) (λ w. at))) (items_named Two-names e_two (s ∷ twos) own_two)))
 
     lines_both : (xs ys : List T) → flat_map line (xs ++ ys) ≡ flat_map line xs ++ flat_map line ys
@@ -164,11 +157,7 @@ module _ {T : Type 0} (chrom : T → List ℕ) (ends : Interval → T → Bool) 
 
 flat_filter : {A B : Type 0} (g : A → List B) (t : A → Bool) (xs : List A) → flat_map g (filter t xs) ≡ flat_map (λ x. cond (t x) (g x) []) xs
 flat_filter g t [] = refl
-flat_filter g t (x ∷ xs) = by (t x) ∙ ap (λ l. cond (t x) (g x) [] ++ l) (flat_filter g t xs)
-  where
-    by : (b : Bool) → flat_map g (cond b (x ∷ filter t xs) (filter t xs)) ≡ cond b (g x) [] ++ flat_map g (filter t xs)
-    by true = refl
-    by false = refl
+flat_filter g t (x ∷ xs) = grind (arith, (flat_filter g t xs))
 
 -- records of parts, each known to its own genome file
 pub record OwnParts (e_one e_two : List Entry) (ones twos : List Feature) : Type 0 where

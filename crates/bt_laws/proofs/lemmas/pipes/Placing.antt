@@ -64,7 +64,8 @@ module _ (order : Order) where
 
   later_all : IsTotal order → (n m : List ℕ) (ns : List (List ℕ)) → IsTrue (order.knows n) → IsTrue (order.knows m) → AreKnown order ns → Earlier n m → AllByRecursion (Earlier m) ns → AllByRecursion (Earlier n) ns
   later_all total n m [] known mid knowns less later = tt
-  later_all total n m (k ∷ ns) known mid knowns less later = grind (arith, (later_all total n m ns known mid knowns.1 less later.1))
+  later_all total n m (k ∷ ns) known mid knowns less later =
+      (total.ascends n m k known mid knowns.0 less later.0, later_all total n m ns known mid knowns.1 less later.1)
 
   pub ascending_pairs : IsTotal order → (names : List (List ℕ)) → AreKnown order names → AreAscending order names → EachPair Earlier names
   ascending_pairs total [] known up = tt

@@ -1,5 +1,5 @@
 -- Gaps of gaps, and merged depths.
-use Rattle.bt_lines.proofs.Std.{◌≡◌, ℕ, ◌+◌, ◌<◌, ◌≤◌, true, false, cond, List, [], ◌∷◌, ◌++◌, map, filter, min, Some, None, refl, sym, ap, ◌∙◌, subst, inl, inr, arith, bytes_eq, flat_map, nat_lt, AllByRecursion, cases_Bool, cases_lt, le-ltb, lt-ltb, or_parts, flat_map-append, rules}
+use Rattle.bt_lines.proofs.Std.{◌≡◌, ℕ, ◌+◌, ◌<◌, ◌≤◌, true, false, cond, List, [], ◌∷◌, map, filter, min, Some, None, refl, sym, ap, ◌∙◌, subst, inl, inr, arith, flat_map, nat_lt, AllByRecursion, cases_Bool, cases_lt, le-ltb, lt-ltb, flat_map-append, rules}
 use Rattle.bt_lines.specs.declared.fault.Input.TheVariants.{First}
 use Rattle.bt_bed.specs.model.Feature.{Feature, intervals_of, Interval, Span, placed_on, spans_on}
 use Rattle.bt_bed.specs.calls.Stretches.{AreApartFrom, IsCovered}
@@ -50,19 +50,13 @@ nearer : (first low : ℕ) (spans : List Span) → low ≤ first → AreApartFro
 nearer first low [] up h = tt
 nearer first low (s ∷ ss) up h = (omega (arith, up, h.0), h.1, h.2)
 
-one_more : (size : ℕ) (s : Span) (ss : List Span) (p : ℕ) → IsCovered (record { start = s.start; stop = min s.stop size } ∷ cut_spans size ss) p → (IsCovered (cut_spans size ss) p → IsCovered ss p × (p < size)) → IsCovered (s ∷ ss) p × (p < size)
-one_more size s ss p p1 more = grind arith
-
 cut_apart : (size first : ℕ) (spans : List Span) → AreApartFrom first spans → AreApartFrom first (cut_spans size spans)
 cut_apart size first [] h = tt
 cut_apart size first (s ∷ ss) h = grind (arith, (cut_apart size (s.stop + 1) ss h.2), nearer)
 
 cut_to : (size : ℕ) (spans : List Span) (p : ℕ) → IsCovered (cut_spans size spans) p → IsCovered spans p × (p < size)
 cut_to size [] p c = absurd c
-cut_to size (s ∷ ss) p c = elim (cases_lt s.start size) [
-  | inl below ↦ one_more size s ss p (subst (λ b. IsCovered (cond b (record { start = s.start; stop = min s.stop size } ∷ []) [] ++ cut_spans size ss) p) (lt-ltb s.start size below) c) (cut_to size ss p)
-  | inr past ↦ grind (arith, (cut_to size ss p (subst (λ b. IsCovered (cond b (record { start = s.start; stop = min s.stop size } ∷ []) [] ++ cut_spans size ss) p) (le-ltb s.start size past) c)))
-]
+cut_to size (s ∷ ss) p c = grind (arith, cond, (cut_to size ss p), (cases_lt s.start size), (lt-ltb s.start size), (le-ltb s.start size))
 
 cut_back : (size : ℕ) (spans : List Span) (p : ℕ) → p < size → IsCovered spans p → IsCovered (cut_spans size spans) p
 cut_back size [] p within c = absurd c
@@ -94,14 +88,9 @@ module _ (all : List Entry) (used : List Interval) where
   cut_all [] h = refl
   cut_all (e ∷ es) h = grind (arith, (cut_all es h.1), flat_map-append, cut_placed)
 
-length_past : (e f : Entry) (es : List Entry) → bytes_eq e.name f.name ≡ false → length_in es f.name ≡ f.length → length_in (e ∷ es) f.name ≡ f.length
-length_past e f es other is = ap (λ b. cond b e.length (length_in es f.name)) other ∙ is
-
 lengths_more : (e : Entry) (es fs : List Entry) → is_among (genome_names fs) e.name ≡ false → AllByRecursion (λ (f : Entry). length_in es f.name ≡ f.length) fs → AllByRecursion (λ (f : Entry). length_in (e ∷ es) f.name ≡ f.length) fs
 lengths_more e es [] absent h = tt
-lengths_more e es (f ∷ fs) absent h =
-    let parts = or_parts (bytes_eq f.name e.name) (is_among (genome_names fs) e.name) absent in
-    (length_past e f es (name_ne-sym f.name e.name parts.0) h.0, lengths_more e es fs parts.1 h.1)
+lengths_more e es (f ∷ fs) absent h = grind (arith, name_ne-sym, (lengths_more e es fs))
 
 lengths_are : (entries : List Entry) → AreDistinct (genome_names entries) → AllByRecursion (λ (e : Entry). length_in entries e.name ≡ e.length) entries
 lengths_are [] distinct = tt

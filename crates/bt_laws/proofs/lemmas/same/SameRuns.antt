@@ -1,5 +1,5 @@
 -- Records that differ in their order, or in one that comes twice.
-use Rattle.bt_lines.proofs.Std.{common_steps, ◌≡◌, inl, inr, ◌||◌, ℕ, ◌+◌, ◌<◌, ◌≤◌, Bool, true, false, cond, not, List, [], ◌∷◌, ◌++◌, map, filter, Option, refl, sym, ap, ◌∙◌, subst, arith, ◌≢◌, bytes_eq, flat_map, sum_by, IsPermutation, IsTrue, map-append, filter-append, AllByRecursion, list_any, cases_Bool, list_any-IsPermutation, sum_by-IsPermutation, sum_by-cons, append-nil, None, Ok, ap₂, length, or_parts}
+use Rattle.bt_lines.proofs.Std.{common_steps, ◌≡◌, inl, inr, ◌||◌, ℕ, ◌+◌, ◌<◌, ◌≤◌, Bool, true, false, not, List, [], ◌∷◌, ◌++◌, map, filter, Option, refl, sym, ap, ◌∙◌, subst, arith, ◌≢◌, bytes_eq, flat_map, sum_by, IsPermutation, IsTrue, map-append, filter-append, AllByRecursion, list_any, list_any-IsPermutation, sum_by-IsPermutation, sum_by-cons, append-nil, None, Ok, ap₂, length, or_parts}
 use Rattle.bt_lines.specs.declared.fault.Input.TheVariants.{First}
 use Rattle.bt_bed.specs.model.Sorted.{has_records}
 use Rattle.bt_bed.specs.calls.Orders.{ArePlaced, IsTotal, AreDistinct}
@@ -11,7 +11,7 @@ use Rattle.bt_laws.proofs.lemmas.pipes.LinesBack.{placed_known, good_are_said}
 use Rattle.bt_laws.proofs.lemmas.pipes.RunsBack.{merge_back, merge_in_order}
 use Rattle.bt_laws.proofs.lemmas.parts.PartMerge.{named_all}
 use Rattle.bt_laws.proofs.lemmas.pipes.Placing.{Earlier, ascending_pairs}
-use Rattle.bt_bed.specs.model.Feature.{Feature, interval_of, intervals_of, Interval, placed_on, spans_on, Span, span_of}
+use Rattle.bt_bed.specs.model.Feature.{Feature, interval_of, intervals_of, Interval, placed_on, spans_on, Span}
 use Rattle.bt_bed.specs.calls.Stretches.{IsCovered}
 use Rattle.bt_bed.specs.model.BedLine.{interval_lines}
 use Rattle.bt_bed.specs.model.Genome.{Entry}
@@ -291,10 +291,7 @@ spans_full name (r ∷ rs) h = grind (arith, (spans_full name rs h.1))
 
 has_spans : (name : List ℕ) (rs : List Interval) → has_records name rs ≡ true → 0 < length (spans_on name rs)
 has_spans name [] e = cc
-has_spans name (r ∷ rs) e = elim (cases_Bool (bytes_eq r.chrom name)) [
-  | inl t ↦ subst (λ b. 0 < length (cond b (span_of r ∷ spans_on name rs) (spans_on name rs))) (sym t) (omega arith)
-  | inr f ↦ subst (λ b. 0 < length (cond b (span_of r ∷ spans_on name rs) (spans_on name rs))) (sym f) (has_spans name rs (ap (λ b. b || has_records name rs) (sym f) ∙ e))
-]
+has_spans name (r ∷ rs) e = grind (arith, (has_spans name rs))
 
 some_run : (gap : ℕ) (xs : List Span) → 0 < length xs → AllByRecursion (λ (s : Span). s.start < s.stop) xs → 0 < length (runs_of gap xs)
 some_run gap [] some full = absurd (omega arith)

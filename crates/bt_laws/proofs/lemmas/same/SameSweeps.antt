@@ -7,7 +7,7 @@ use Rattle.bt_bed.specs.model.Feature.{Feature, interval_of, intervals_of, Inter
 use Rattle.bt_bed.specs.calls.Stretches.{IsCovered}
 use Rattle.bt_bed.specs.model.BedLine.{bed_text, interval_lines, record_of}
 use Rattle.bt_bed.specs.model.Genome.{Entry}
-use Rattle.bt_bed.specs.model.Good.{Good, items_in, good, good_from, good_with, or_else, bed_good, bed_format, line_says, said_after, good_handed}
+use Rattle.bt_bed.specs.model.Good.{Good, items_in, good, good_from, or_else, bed_good, bed_format, line_says, said_after, good_handed}
 use Rattle.bt_bed.specs.model.Meeting.{join_report, written}
 use Rattle.bt_bed.specs.model.Order.{Order, is_among}
 use Rattle.bt_sweep.specs.model.Hits.{hits_among, hits, strands_agree}
@@ -221,16 +221,11 @@ pub cut_none : (fault cut : Option FaultValue) → or_else fault cut ≡ None �
 cut_none fault cut e = grind arith
 
 module _ (one other : Sorting) (too : (last : Option Locus) (said : Result (Option Feature) Kind) → SaidToo (said_after one last said) (said_after other last said)) (from to : Input) where
-  like_with : (n : ℕ) (last : Option Locus) (said again : Result (Option Feature) Kind) (ls ms : Option Locus → Good Feature) → SaidToo said again → ((now : Option Locus) → (ls now).fault ≡ None → IsLike (ls now) (ms now))
-      → (good_with (bed_format one) from n last said ls).fault ≡ None → IsLike (good_with (bed_format one) from n last said ls) (good_with (bed_format other) to n last again ms)
-  like_with n last said again ls ms is h e = grind arith
-
   like_from : (last : Option Locus) (lines : List TextLine) → (good_from (bed_format one) from last lines).fault ≡ None → IsLike (good_from (bed_format one) from last lines) (good_from (bed_format other) to last lines)
   unfolding good_from line_says
   like_from last [] e = record { items = refl; faultless = refl }
   like_from last (line ∷ lines) e =
-      let said = record_of line.text in
-      like_with line.number last (said_after one last said) (said_after other last said) (λ now. good_from (bed_format one) from now lines) (λ now. good_from (bed_format other) to now lines) (too last said) (λ now none. like_from now lines none) e
+      grind (arith, (too last (record_of line.text)), (said_after one last (record_of line.text)), (λ (now : Option Locus). like_from now lines))
 
   pub read_again : (handed : Handed) → (good_handed (bed_format one) from handed).fault ≡ None → IsLike (good_handed (bed_format one) from handed) (good_handed (bed_format other) to handed)
   read_again handed e = grind (arith, (like_from None (lines_handed handed) (cut_none (good (bed_format one) from (lines_handed handed)).fault (cut_fault from handed) e).0))

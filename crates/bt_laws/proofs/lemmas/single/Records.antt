@@ -1,5 +1,5 @@
 -- Lemmas on lines, records and their orders.
-use Rattle.bt_lines.proofs.Std.{◌≡◌, ℕ, Bool, true, false, cond, List, [], ◌∷◌, Option, Some, None, Result, Ok, Err, refl, sym, ap, ◌∙◌, ⊤, ◌≢◌, IfSome, length, arith, zero, suc, ◌+◌, ◌<◌, ◌≤◌, take, ◌++◌, append_assoc, append-nil, IfErr, decimal, lt-ltb, decimal_is_IsNumeral, digit_from_value, is_ascii_digit, IsInRange, AllByRecursion, list_all, AllDigits, digits_value, false≢true, nat_cmp_total, tied_itself, slice_cmp, nat_cmp, ordering_then, IsTrue, ◌⊎◌, inl, inr, bytes_eq, or_parts, or_from, digit_glyph, digits_onto, ◌/◌, ◌%◌, All-from_recursion, codes}
+use Rattle.bt_lines.proofs.Std.{◌≡◌, ℕ, Bool, true, false, cond, List, [], ◌∷◌, Option, Some, None, Result, Ok, Err, refl, sym, ap, ◌∙◌, ⊤, ◌≢◌, IfSome, length, arith, zero, suc, ◌+◌, ◌<◌, ◌≤◌, take, ◌++◌, append_assoc, append-nil, IfErr, decimal, lt-ltb, decimal_is_IsNumeral, digit_from_value, is_ascii_digit, AllByRecursion, list_all, AllDigits, digits_value, false≢true, nat_cmp_total, tied_itself, slice_cmp, nat_cmp, ordering_then, IsTrue, ◌⊎◌, inl, inr, bytes_eq, or_parts, or_from, digit_glyph, digits_onto, ◌/◌, ◌%◌, All-from_recursion, codes}
 use Rattle.bt_lines.specs.model.Fault.{FaultValue}
 use Rattle.bt_lines.specs.model.Lines.{lines_handed, TextLine, pieces, value_of, text_lines}
 use Rattle.bt_lines.specs.calls.Line.{AreNumbered}
@@ -159,12 +159,9 @@ first_make_entries input count text beyond = first_entries_from input count coun
 -- What a line says is said by its bytes, written anew.
 
 -- a decimal digit is a digit and no tab
-in_range_digit : (c : ℕ) → IsInRange 48 57 c → is_ascii_digit c ≡ true
-in_range_digit c h = grind arith
-
 digits_pass : (ds : List ℕ) → AllDigits 10 ds → list_all is_ascii_digit ds ≡ true
 digits_pass [] h = refl
-digits_pass (c ∷ cs) h = rw (in_range_digit c (digit_from_value c h.0), digits_pass cs h.1) refl
+digits_pass (c ∷ cs) h = grind (arith, (digit_from_value c), (digits_pass cs h.1))
 
 -- the digits of a number denote it
 value_of_text : (text : List ℕ) (n : ℕ) → 0 < length text → AllDigits 10 text → digits_value 10 text ≡ n → n ≤ 999999999999 → value_of text ≡ Some n
