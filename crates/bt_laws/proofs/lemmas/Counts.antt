@@ -1,12 +1,12 @@
 -- Sums, pairs and bases.
-use Rattle.bt_lines.proofs.Std.{common_steps, rules, ◌≡◌, ℕ, zero, suc, ◌+◌, ◌-◌, ◌*◌, ◌<◌, ◌≤◌, Bool, false, cond, List, [], ◌∷◌, map, filter, max, min, Option, Some, None, inl, inr, refl, sym, ap, ap₂, ◌∙◌, arith, ◌⊎◌, bytes_eq, flat_map, sum_by, or_parts, mul-suc, sum_by-append, sum_by-cons, ◌++◌, append_assoc, subst, IsPermutation, flat_map-append, map-append, IsPermutation-append_comm, IsPermutation-append_left, IsPermutation-append_right, IsPermutation-refl, IsPermutation-trans, flat_map-map, cases_Bool, false≢true}
-use Rattle.bt_bed.specs.model.Feature.{Feature, interval_of, intervals_of, Interval, Span, span_of, spans_on, placed_on}
+use Rattle.bt_lines.proofs.Std.{common_steps, ◌≡◌, ℕ, zero, suc, ◌+◌, ◌-◌, ◌*◌, ◌<◌, ◌≤◌, Bool, false, cond, List, [], ◌∷◌, map, filter, max, min, Option, Some, None, inl, inr, refl, sym, ap, ap₂, ◌∙◌, arith, ◌⊎◌, bytes_eq, flat_map, sum_by, or_parts, mul-suc, sum_by-append, sum_by-cons, ◌++◌, append_assoc, subst, IsPermutation, flat_map-append, map-append, IsPermutation-append_comm, IsPermutation-append_left, IsPermutation-append_right, IsPermutation-refl, IsPermutation-trans, flat_map-map, cases_Bool, false≢true}
+use Rattle.bt_bed.specs.model.Feature.{Feature, intervals_of, Interval, Span, spans_on, placed_on}
 use Rattle.bt_bed.specs.calls.Stretches.{IsCovered}
 use Rattle.bt_bed.specs.model.Genome.{Entry, genome_names}
 use Rattle.bt_bed.specs.model.Order.{is_among}
 use Rattle.bt_bed.specs.calls.Orders.{AreDistinct}
 use Rattle.bt_bed.specs.declared.record.strand.Strand.{Strand}
-use Rattle.bt_bed.proofs.lemmas.parse.NameLemmas.{cases_name, name_eq, name_eq-sym}
+use Rattle.bt_bed.proofs.lemmas.parse.NameLemmas.{cases_name, name_eq-sym}
 use Rattle.bt_bed.specs.model.Levels.{Level}
 use Rattle.bt_bed.specs.calls.LevelScan.{Begun, begun_after, ended_after, levels_from, next_begun, next_ended}
 use Rattle.bt_runs.specs.model.Depth.{coverage, covers, depth_at, depth_of, depths_on, is_counted_by, levels_of}
@@ -33,8 +33,8 @@ use Rattle.bt_runs.proofs.lemmas.merge.Bridging.{covered_left, covered_parts, co
 use Rattle.bt_sweep.proofs.lemmas.definitions.PieceLemmas.{are_pieces}
 use Rattle.bt_laws.specs.Pipes.{records_for, records_written}
 use Rattle.bt_laws.proofs.lemmas.same.GapsHit.{covered_cut, cut_covered, cut_span}
-use Rattle.bt_laws.proofs.lemmas.same.SameRuns.{here_all, none_there}
-use Rattle.bt_runs.proofs.lemmas.Lists.{map_flat, map_map, all_any}
+use Rattle.bt_laws.proofs.lemmas.same.SameRuns.{CoversOn, some_covers, here_all, none_there, covered_by_some}
+use Rattle.bt_runs.proofs.lemmas.Lists.{Some_of, all_any, map_flat, map_map, some_out, some_weaker}
 
 -- Depth times length, added up.
 
@@ -259,25 +259,31 @@ module _ (S : Feature → List Span) where
   abbrev pub places : List Feature → List Interval
   places as_read = flat_map part_at as_read
 
-  spans_here : (name : List ℕ) (a : Feature) (more : List Feature) → a.chrom ≡ name → spans_on name (places (a ∷ more)) ≡ S a ++ spans_on name (places more)
-  spans_here name a more same = grind (arith, (spans_on-append name (part_at a) (places more)), (here_all a.chrom (S a)))
+  -- some record lies on the chromosome, and its spans cover the position
+  module _ (name : List ℕ) (p : ℕ) where
+    abbrev HasAt : Feature → Type 0
+    HasAt a = (a.chrom ≡ name) × IsCovered (S a) p
 
-  spans_there : (name : List ℕ) (a : Feature) (more : List Feature) → bytes_eq a.chrom name ≡ false → spans_on name (places (a ∷ more)) ≡ spans_on name (places more)
-  spans_there name a more other = grind (arith, (spans_on-append name (part_at a) (places more)), (none_there name a.chrom (S a) other))
+    at_part : (a : Feature) → IsCovered (spans_on name (part_at a)) p → HasAt a
+    at_part a c = grind (arith, (cases_name a.chrom name), here_all, none_there)
 
-  here_so : (P : List ℕ → ℕ → Type 0) (a : Feature) (more : List Feature) → ((a : Feature) (p : ℕ) → IsCovered (S a) p → (a.start ≤ p) × (p < a.stop) × P a.chrom p) → (name : List ℕ) (p : ℕ) → a.chrom ≡ name
-      → IsCovered (S a) p ⊎ IsCovered (spans_on name (places more)) p → (IsCovered (spans_on name (places more)) p → IsCovered (spans_on name (intervals_of more)) p × P name p)
-      → IsCovered (spans_on name (intervals_of (a ∷ more))) p × P name p
-  here_so P a more h name p same p1 rest = search rules
+    place_some : (as_read : List Feature) → IsCovered (spans_on name (places as_read)) p → Some_of HasAt as_read
+    place_some [] c = absurd c
+    place_some (a ∷ more) c = grind (arith, spans_on-append, covered_parts, at_part, (place_some more))
+
+    some_place : (as_read : List Feature) → Some_of HasAt as_read → IsCovered (spans_on name (places as_read)) p
+    some_place [] w = absurd w
+    some_place (a ∷ more) (inl w) = grind (arith, spans_on-append, covered_left, here_all)
+    some_place (a ∷ more) (inr w) = grind (arith, spans_on-append, covered_right, (some_place more w))
 
   -- what holds of each position of each record's spans
   places_so : (P : List ℕ → ℕ → Type 0) → (as_read : List Feature) → ((a : Feature) (p : ℕ) → IsCovered (S a) p → (a.start ≤ p) × (p < a.stop) × P a.chrom p)
       → (name : List ℕ) (p : ℕ) → IsCovered (spans_on name (places as_read)) p → IsCovered (spans_on name (intervals_of as_read)) p × P name p
-  places_so P [] h name p c = absurd c
-  places_so P (a ∷ more) h name p c = elim (cases_name a.chrom name) [
-    | inl same ↦ here_so P a more h name p same (covered_parts (S a) (spans_on name (places more)) p (subst (λ l. IsCovered l p) (spans_here name a more same) c)) (places_so P more h name p)
-    | inr other ↦ grind (arith, (places_so P more h name p (subst (λ l. IsCovered l p) (spans_there name a more other) c)))
-  ]
+  places_so P as_read h name p c =
+      let some = place_some name p as_read c in (
+        covered_by_some name p as_read (some_weaker (HasAt name p) (CoversOn name p) (λ a w. let is = h a p w.1 in (w.0, is.0, is.1)) as_read some),
+        some_out (HasAt name p) (P name p) (λ a w. subst (λ n. P n p) w.0 (h a p w.1).2) as_read some,
+      )
 
 module _ (bs : List Feature) where
   abbrev pub cuts : Feature → List Span
@@ -298,29 +304,16 @@ module _ (bs : List Feature) where
   one_of : (a : Feature) (p : ℕ) → a.start ≤ p → p < a.stop → IsCovered (cuts a) p ⊎ IsCovered (lefts a) p
   one_of a p from to = grind (arith, (cases_Bool (is_covered (spans_of (hits_among any_overlap a bs)) p)), covered_cut, (is_covered-Decides (spans_of (hits_among any_overlap a bs)) p), (are_pieces a (hits_among any_overlap a bs)), false≢true)
 
-  either_here : (a : Feature) (more : List Feature) (name : List ℕ) (p : ℕ) → a.chrom ≡ name → IsCovered (cuts a) p ⊎ IsCovered (lefts a) p → IsCovered (spans_on name (places cuts (a ∷ more))) p ⊎ IsCovered (spans_on name (places lefts (a ∷ more))) p
-  either_here a more name p same (inl c) = grind (arith, (spans_here cuts name a more same), (covered_left (cuts a) (spans_on name (places cuts more)) p c))
-  either_here a more name p same (inr c) = grind (arith, (spans_here lefts name a more same), (covered_left (lefts a) (spans_on name (places lefts more)) p c))
+  each_at : (name : List ℕ) (p : ℕ) (as_read : List Feature) → Some_of (CoversOn name p) as_read → Some_of (HasAt cuts name p) as_read ⊎ Some_of (HasAt lefts name p) as_read
+  each_at name p [] w = absurd w
+  each_at name p (a ∷ more) (inl w) = elim (one_of a p w.1 w.2) [ inl c ↦ inl (inl (w.0, c)) | inr c ↦ inr (inl (w.0, c)) ]
+  each_at name p (a ∷ more) (inr w) = elim (each_at name p more w) [ inl c ↦ inl (inr c) | inr c ↦ inr (inr c) ]
 
-  either_later : (a : Feature) (more : List Feature) (name : List ℕ) (p : ℕ) → a.chrom ≡ name → IsCovered (spans_on name (places cuts more)) p ⊎ IsCovered (spans_on name (places lefts more)) p → IsCovered (spans_on name (places cuts (a ∷ more))) p ⊎ IsCovered (spans_on name (places lefts (a ∷ more))) p
-  either_later a more name p same (inl c) = grind (arith, (spans_here cuts name a more same), (covered_right (cuts a) (spans_on name (places cuts more)) p c))
-  either_later a more name p same (inr c) = grind (arith, (spans_here lefts name a more same), (covered_right (lefts a) (spans_on name (places lefts more)) p c))
-
-  first_of : (a : Feature) (more : List Feature) (name : List ℕ) (p : ℕ) → a.chrom ≡ name → IsCovered (span_of (interval_of a) ∷ spans_on name (intervals_of more)) p
-      → (IsCovered (spans_on name (intervals_of more)) p → IsCovered (spans_on name (places cuts more)) p ⊎ IsCovered (spans_on name (places lefts more)) p)
-      → IsCovered (spans_on name (places cuts (a ∷ more))) p ⊎ IsCovered (spans_on name (places lefts (a ∷ more))) p
-  first_of a more name p same p1 rest = grind (arith, either_here, one_of, either_later)
-
-  later_of : (a : Feature) (more : List Feature) (name : List ℕ) (p : ℕ) → bytes_eq a.chrom name ≡ false → IsCovered (spans_on name (places cuts more)) p ⊎ IsCovered (spans_on name (places lefts more)) p
-      → IsCovered (spans_on name (places cuts (a ∷ more))) p ⊎ IsCovered (spans_on name (places lefts (a ∷ more))) p
-  later_of a more name p other (inl c) = inl (subst (λ l. IsCovered l p) (sym (spans_there cuts name a more other)) c)
-  later_of a more name p other (inr c) = inr (subst (λ l. IsCovered l p) (sym (spans_there lefts name a more other)) c)
-
-  each_of : (as_read : List Feature) (name : List ℕ) (p : ℕ) → IsCovered (spans_on name (intervals_of as_read)) p → IsCovered (spans_on name (places cuts as_read)) p ⊎ IsCovered (spans_on name (places lefts as_read)) p
-  each_of [] name p c = absurd c
-  each_of (a ∷ more) name p c = elim (cases_name a.chrom name) [
-    | inl same ↦ first_of a more name p same (subst (λ b. IsCovered (cond b (span_of (interval_of a) ∷ spans_on name (intervals_of more)) (spans_on name (intervals_of more))) p) (name_eq a.chrom name same) c) (each_of more name p)
-    | inr other ↦ later_of a more name p other (each_of more name p (subst (λ b. IsCovered (cond b (span_of (interval_of a) ∷ spans_on name (intervals_of more)) (spans_on name (intervals_of more))) p) other c))
+  each_of : (as_read : List Feature) (name : List ℕ) (p : ℕ) → IsCovered (spans_on name (intervals_of as_read)) p
+      → IsCovered (spans_on name (places cuts as_read)) p ⊎ IsCovered (spans_on name (places lefts as_read)) p
+  each_of as_read name p c = elim (each_at name p as_read (some_covers name p as_read c)) [
+    | inl w ↦ inl (some_place cuts name p as_read w)
+    | inr w ↦ inr (some_place lefts name p as_read w)
   ]
 
   pub bases_part : (as_read : List Feature) → PartBases (intervals_of as_read) (places cuts as_read) (places lefts as_read)

@@ -1,5 +1,5 @@
 -- Records of parts, each with its own part of the genome file.
-use Rattle.bt_lines.proofs.Std.{rules, ◌≡◌, ℕ, suc, ◌+◌, ◌<◌, Bool, true, false, cond, List, [], ◌∷◌, ◌++◌, ◌||◌, ◌⊎◌, length, Option, Some, None, inl, inr, refl, sym, ap, ◌∙◌, arith, Result, subst, IsTrue, bytes_eq, is_some, option_map, or_parts, cases_Bool, AllByRecursion, map-append, flat_map-append, append-nil, ⊤, list_any, list_any-append}
+use Rattle.bt_lines.proofs.Std.{rules, ◌≡◌, ℕ, suc, ◌+◌, ◌<◌, true, false, cond, List, [], ◌∷◌, ◌++◌, ◌||◌, length, Option, Some, None, inl, refl, sym, ap, ◌∙◌, arith, subst, IsTrue, bytes_eq, is_some, option_map, or_parts, AllByRecursion, map-append, flat_map-append, append-nil, ⊤, list_any, list_any-append}
 use Rattle.std.specs.declared.cmp.Ordering.TheVariants.{Less}
 use Rattle.bt_bed.specs.model.Order.{Order, is_among, rank_of, rank_order}
 use Rattle.bt_bed.specs.calls.Orders.{AreDistinct, IsTotal, ArePlaced, IsPlacedBefore}
@@ -9,13 +9,12 @@ use Rattle.bt_runs.proofs.lemmas.order.FileOrder.{spans_on-append, spans_on-none
 use Rattle.bt_runs.proofs.lemmas.definitions.Standing.{known_rank}
 use Rattle.bt_lines.specs.model.Lines.{TextLine}
 use Rattle.bt_lines.specs.declared.fault.Input.{Input}
-use Rattle.bt_lines.specs.declared.fault.Kind.{Kind}
 use Rattle.bt_bed.specs.model.Feature.{Feature, interval_of, intervals_of, Interval, last_from, last_of, spans_on}
 use Rattle.bt_bed.specs.model.BedLine.{record_of}
 use Rattle.bt_bed.specs.model.Genome.{Entry, genome_names}
-use Rattle.bt_bed.specs.model.Good.{Good, good_from, good_with, bed_format, line_says, said_after}
+use Rattle.bt_bed.specs.model.Good.{good_from, bed_format, line_says}
 use Rattle.bt_bed.specs.model.Sorted.{Locus, sorting_of, has_records}
-use Rattle.bt_laws.specs.Parts.{LiesWithin, ComeBefore, StandsBefore, said_record, said_records}
+use Rattle.bt_laws.specs.Parts.{LiesWithin, ComeBefore, StandsBefore, said_records}
 use Rattle.bt_laws.proofs.lemmas.parts.PartBed.{alike_records, records_on, Earlier}
 use Rattle.bt_laws.proofs.lemmas.parts.PartLines.{alike_lines, lines_join}
 use Rattle.bt_runs.proofs.lemmas.Lists.{all_back, all_front, all_so, all_map, all_swapped}
@@ -34,11 +33,7 @@ among_append [] ys name = refl
 among_append (x ∷ xs) ys name = ap (λ b. bytes_eq x name || b) (among_append xs ys name) ∙ (grind arith)
 
 rank_none : (xs : List (List ℕ)) (name : List ℕ) → is_among xs name ≡ false → rank_of xs name ≡ None
-rank_none xs name e = none_by (rank_of xs name) (among_ranked xs name ∙ e)
-  where
-    none_by : (o : Option ℕ) → is_some o ≡ false → o ≡ None
-    none_by None e = refl
-    none_by (Some r) e = cc
+rank_none xs name e = grind (arith, (among_ranked xs name), (rank_of xs name))
 
 -- the rank of a name that isn't among the first names
 pub rank_behind : (xs ys : List (List ℕ)) (name : List ℕ) → is_among xs name ≡ false → rank_of (xs ++ ys) name ≡ shifted (length xs) (rank_of ys name)
@@ -53,11 +48,7 @@ rank_before (x ∷ xs) ys name e = ap (λ o. cond (bytes_eq x name) (Some 0) (op
 -- of one that is among the first ones
 pub rank_first : (xs ys : List (List ℕ)) (name : List ℕ) → is_among xs name ≡ true → rank_of (xs ++ ys) name ≡ rank_of xs name
 rank_first [] ys name e = cc
-rank_first (x ∷ xs) ys name e = by_first (bytes_eq x name) refl (rank_first xs ys name)
-  where
-    by_first : (b : Bool) → bytes_eq x name ≡ b → (is_among xs name ≡ true → rank_of (xs ++ ys) name ≡ rank_of xs name) → rank_of (x ∷ xs ++ ys) name ≡ rank_of (x ∷ xs) name
-    by_first true is more = ap (λ b. cond b (Some 0) (option_map (λ r. suc r) (rank_of (xs ++ ys) name))) is ∙ sym (ap (λ b. cond b (Some 0) (option_map (λ r. suc r) (rank_of xs name))) is)
-    by_first false is more = ap (λ o. cond (bytes_eq x name) (Some 0) (option_map (λ r. suc r) o)) (more (sym (ap (λ b. b || is_among xs name) is) ∙ e))
+rank_first (x ∷ xs) ys name e = grind (arith, (rank_first xs ys name))
 
 -- what is among all names is among those of the part
 abbrev pub Within : List (List ℕ) → List (List ℕ) → List ℕ → Type 0
@@ -76,11 +67,7 @@ module _ (xs ys : List (List ℕ)) where
     -- no name is among both
     not_first : (xs ys : List (List ℕ)) (name : List ℕ) → AreDistinct (xs ++ ys) → is_among ys name ≡ true → is_among xs name ≡ false
     not_first [] ys name distinct e = refl
-    not_first (x ∷ xs) ys name distinct e = by_first (cases_Bool (bytes_eq x name)) (not_first xs ys name distinct.1 e)
-      where
-        by_first : (bytes_eq x name ≡ true) ⊎ (bytes_eq x name ≡ false) → is_among xs name ≡ false → is_among (x ∷ xs) name ≡ false
-        by_first (inl is) more = grind (arith, (same_name x name is), among_append)
-        by_first (inr is) more = ap (λ b. b || is_among xs name) is ∙ more
+    not_first (x ∷ xs) ys name distinct e = grind (arith, (not_first xs ys name distinct.1 e), (same_name x name), among_append)
 
     pub no_first : (name : List ℕ) → is_among ys name ≡ true → is_among xs name ≡ false
     no_first name e = not_first xs ys name distinct e
@@ -90,12 +77,7 @@ module _ (xs ys : List (List ℕ)) where
 
   rank_low : (xs : List (List ℕ)) (name : List ℕ) (i : ℕ) → rank_of xs name ≡ Some i → i < length xs
   rank_low [] name i e = cc
-  rank_low (x ∷ xs) name i e = by_first (bytes_eq x name) (rank_of xs name) refl e (rank_low xs name)
-    where
-      by_first : (b : Bool) (o : Option ℕ) → rank_of xs name ≡ o → cond b (Some 0) (option_map (λ r. suc r) o) ≡ Some i → ((i : ℕ) → rank_of xs name ≡ Some i → i < length xs) → i < length (x ∷ xs)
-      by_first true o is e low = let zero_is : 0 ≡ i = cc in omega arith
-      by_first false None is e low = cc
-      by_first false (Some r) is e low = let next : suc r ≡ i = cc in let less = low r is in omega arith
+  rank_low (x ∷ xs) name i e = grind (arith, (rank_of xs name), (rank_low xs name))
 
   -- a name of the first part comes before one of the second
   pub first_less : (a b : List ℕ) → AreDistinct (xs ++ ys) → is_among xs a ≡ true → is_among ys b ≡ true → (rank_order (xs ++ ys)).compare a b ≡ Less
@@ -116,19 +98,11 @@ module _ (mine yours : Order) (P : List ℕ → Type 0) (agree : Agree mine your
   Mine None = Unit {0}
   Mine (Some last) = P last.chrom
 
-  agree_with : (n : ℕ) (last : Option Locus) (said : Result (Option Feature) Kind) (ms ys : Option Locus → Good Feature) → Mine last → AllByRecursion (λ r. P r.chrom) (said_record said)
-      → ((now : Option Locus) → Mine now → ms now ≡ ys now)
-      → good_with (bed_format (sorting_of mine)) input n last (said_after (sorting_of mine) last said) ms ≡ good_with (bed_format (sorting_of yours)) input n last (said_after (sorting_of yours) last said) ys
-  agree_with n last said ms ys m p h = grind arith
-
   -- what is good depends on the order by the names that come alone
   pub agree_good : (last : Option Locus) (lines : List TextLine) → Mine last → AllByRecursion (λ r. P r.chrom) (records_on lines) → good_from (bed_format (sorting_of mine)) input last lines ≡ good_from (bed_format (sorting_of yours)) input last lines
   unfolding good_from line_says
   agree_good last [] m p = refl
-  agree_good last (line ∷ lines) m p =
-      agree_with line.number last (record_of line.text) (λ now. good_from (bed_format (sorting_of mine)) input now lines) (λ now. good_from (bed_format (sorting_of yours)) input now lines) m
-      (all_front _ (said_record (record_of line.text)) (records_on lines) p)
-      (λ now is. agree_good now lines is (all_back _ (said_record (record_of line.text)) (records_on lines) p))
+  agree_good last (line ∷ lines) m p = grind (arith, (record_of line.text), all_front, all_back, (λ (now : Option Locus). agree_good now lines))
 
 -- names of the entries of both parts
 pub names_both : (ones twos : List Entry) → genome_names (ones ++ twos) ≡ genome_names ones ++ genome_names twos
@@ -161,11 +135,7 @@ Names = List (List ℕ)
 
 none_found : (name : List ℕ) (xs ys : Names) → sequences_behind name xs ≡ None → sequences_behind name (xs ++ ys) ≡ sequences_behind name ys
 none_found name [] ys e = refl
-none_found name (x ∷ xs) ys e = by_first (bytes_eq x name) e (none_found name xs ys)
-  where
-    by_first : (b : Bool) → cond b (Some xs) (sequences_behind name xs) ≡ None → (sequences_behind name xs ≡ None → sequences_behind name (xs ++ ys) ≡ sequences_behind name ys) → cond b (Some (xs ++ ys)) (sequences_behind name (xs ++ ys)) ≡ sequences_behind name ys
-    by_first true e next = cc
-    by_first false e next = next e
+none_found name (x ∷ xs) ys e = grind (arith, (none_found name xs ys))
 
 pub off_found : (name : List ℕ) (xs : Names) → is_among xs name ≡ false → sequences_behind name xs ≡ None
 off_found name [] e = refl
@@ -174,14 +144,7 @@ off_found name (x ∷ xs) e = grind (arith, (off_found name xs (or_parts (bytes_
 -- what isn't among names isn't among those after one of them
 pub off_behind : (name other : List ℕ) (xs now : Names) → is_among xs name ≡ false → sequences_behind other xs ≡ Some now → (is_among now name ≡ false) × (bytes_eq other name ≡ false)
 off_behind name other [] now off e = cc
-off_behind name other (x ∷ xs) now off e =
-    let parts = or_parts (bytes_eq x name) (is_among xs name) off in
-    by_first (bytes_eq x other) refl parts.0 parts.1 e (λ d. off_behind name other xs now parts.1 d)
-  where
-    by_first : (b : Bool) → bytes_eq x other ≡ b → bytes_eq x name ≡ false → is_among xs name ≡ false → cond b (Some xs) (sequences_behind other xs) ≡ Some now → (sequences_behind other xs ≡ Some now → (is_among now name ≡ false) × (bytes_eq other name ≡ false))
-        → (is_among now name ≡ false) × (bytes_eq other name ≡ false)
-    by_first true is apart rest e next = grind (arith, (same_name x other is))
-    by_first false is apart rest e next = next e
+off_behind name other (x ∷ xs) now off e = grind (arith, (off_behind name other xs now), (same_name x other))
 
 -- ---- what records leave
 
@@ -213,11 +176,7 @@ own_first names ones twos lost = grind (arith, own_tagged, tags_first, flat_map-
 -- ---- after more names
 
 next_more : (left now more : Names) (last : Option (List ℕ)) (r : Feature) → one_leaves (Some left) last r ≡ Some now → one_leaves (Some (left ++ more)) last r ≡ Some (now ++ more)
-next_more left now more last r e = by_last (is_last last r.chrom) e
-  where
-    by_last : (b : Bool) → cond b (Some left) (sequences_behind r.chrom left) ≡ Some now → cond b (Some (left ++ more)) (sequences_behind r.chrom (left ++ more)) ≡ Some (now ++ more)
-    by_last true e = let same : left ≡ now = cc in ap (λ l. Some (l ++ more)) same
-    by_last false e = owners_stay_so left more (r ∷ []) now e
+next_more left now more last r e = grind (arith, (owners_stay_so left more (r ∷ []) now))
 
 -- the names left end with these
 abbrev pub EndsWith : Names → Tagged Feature → Type 0
@@ -269,11 +228,7 @@ module _ (names rest : Names) (ones : List Feature) (kept : leave (Some names) N
 
   -- the first of the later records lies on another chromosome than the last of the first ones
   pub apart_next : (r : Feature) (rs : List Feature) → IsLost names ones (r ∷ rs) → is_last (last_tagged None ones) r.chrom ≡ false
-  apart_next r rs lost = by_last (is_last (last_tagged None ones) r.chrom) (lost_next r rs lost)
-    where
-      by_last : (b : Bool) → cond b (Some rest) (sequences_behind r.chrom rest) ≡ None → b ≡ false
-      by_last true e = cc
-      by_last false e = refl
+  apart_next r rs lost = grind (arith, (lost_next r rs lost))
 
   later_tags : (more : Names) (twos : List Feature) → IsLost names ones twos → tags chrom_of (leave (Some (names ++ more)) None ones) (last_tagged None ones) twos ≡ tags_of more twos
   later_tags more [] lost = refl
@@ -311,29 +266,14 @@ AreOff names rs = AllByRecursion (λ r. is_among names r.chrom ≡ false) rs
 -- records without a sequence have none after it either
 pub lost_more : (left more : Names) (last : Option (List ℕ)) (rs : List Feature) → AreOff more rs → leave (Some left) last rs ≡ None → leave (Some (left ++ more)) last rs ≡ None
 lost_more left more last [] off e = cc
-lost_more left more last (r ∷ rs) off e = by_next (one_leaves (Some left) last r) refl e (λ now d. lost_more now more (Some r.chrom) rs off.1 d)
-  where
-    by_next : (o : Option Names) → one_leaves (Some left) last r ≡ o → leave o (Some r.chrom) rs ≡ None → ((now : Names) → leave (Some now) (Some r.chrom) rs ≡ None → leave (Some (now ++ more)) (Some r.chrom) rs ≡ None)
-        → leave (one_leaves (Some (left ++ more)) last r) (Some r.chrom) rs ≡ None
-    by_next None is e next = grind (arith, next_enters, off_found)
-    by_next (Some now) is e next = ap (λ o. leave o (Some r.chrom) rs) (next_more left now more last r is) ∙ next now e
+lost_more left more last (r ∷ rs) off e =
+    grind (arith, (one_leaves (Some left) last r), next_enters, off_found, next_more, (λ (now : Names). lost_more now more (Some r.chrom) rs off.1))
 
 -- a record that is named as no sequence belongs to none
 lost_by : (left : Names) (last : Option (List ℕ)) (ones : List Feature) (r : Feature) → is_last last r.chrom ≡ false → is_among left r.chrom ≡ false → leave (Some left) last (ones ++ r ∷ []) ≡ None
 lost_by left last [] r apart off = ap (λ b. cond b (Some left) (sequences_behind r.chrom left)) apart ∙ off_found r.chrom left off
-lost_by left last (s ∷ ss) r apart off = by_last (is_last last s.chrom) refl (λ now clear rest. lost_by now (Some s.chrom) ss r clear rest)
-  where
-    on_last : (l : Option (List ℕ)) → is_last l s.chrom ≡ true → is_last l r.chrom ≡ false → bytes_eq s.chrom r.chrom ≡ false
-    on_last None is apart = cc
-    on_last (Some name) is apart = ap (λ n. bytes_eq n r.chrom) (sym (same_name name s.chrom is)) ∙ apart
-
-    by_found : (o : Option Names) → sequences_behind s.chrom left ≡ o → ((now : Names) → bytes_eq s.chrom r.chrom ≡ false → is_among now r.chrom ≡ false → leave (Some now) (Some s.chrom) (ss ++ r ∷ []) ≡ None) → leave o (Some s.chrom) (ss ++ r ∷ []) ≡ None
-    by_found None is next = none_leaves (Some s.chrom) (ss ++ r ∷ [])
-    by_found (Some now) is next = grind (arith, off_behind)
-
-    by_last : (b : Bool) → is_last last s.chrom ≡ b → ((now : Names) → bytes_eq s.chrom r.chrom ≡ false → is_among now r.chrom ≡ false → leave (Some now) (Some s.chrom) (ss ++ r ∷ []) ≡ None) → leave (cond b (Some left) (sequences_behind s.chrom left)) (Some s.chrom) (ss ++ r ∷ []) ≡ None
-    by_last true is next = next left (on_last last is apart) off
-    by_last false is next = by_found (sequences_behind s.chrom left) refl next
+lost_by left last (s ∷ ss) r apart off =
+    grind (arith, (sequences_behind s.chrom left), none_leaves, off_behind, (same_name s.chrom r.chrom), (λ (now : Names). lost_by now (Some s.chrom) ss r))
 
 pub lost_off : (names : Names) (ones twos : List Feature) → AreOff names twos → IsLost names ones twos
 lost_off names ones twos off = grind (arith, lost_by)
@@ -356,13 +296,7 @@ none_behind names ones more e = grind (arith, leave_append, none_leaves)
 -- a record that belongs to none decides each line
 any_none : (bases : ℕ) (left : Names) (last : Option (List ℕ)) (rs : List Feature) → leave (Some left) last rs ≡ None → list_any (tag_decides bases) (tags chrom_of (Some left) last rs) ≡ true
 any_none bases left last [] e = cc
-any_none bases left last (r ∷ rs) e = by_next (one_leaves (Some left) last r) refl e (λ now d. any_none bases now (Some r.chrom) rs d)
-  where
-    by_next : (o : Option Names) → one_leaves (Some left) last r ≡ o → leave o (Some r.chrom) rs ≡ None
-        → ((now : Names) → leave (Some now) (Some r.chrom) rs ≡ None → list_any (tag_decides bases) (tags chrom_of (Some now) (Some r.chrom) rs) ≡ true)
-        → list_any (tag_decides bases) (tags chrom_of (Some left) last (r ∷ rs)) ≡ true
-    by_next None is e next = ap (λ o. list_any (tag_decides bases) (record { item = r; left = o } ∷ tags chrom_of o (Some r.chrom) rs)) is
-    by_next (Some now) is e next = grind arith
+any_none bases left last (r ∷ rs) e = grind (arith, (one_leaves (Some left) last r), (λ (now : Names). any_none bases now (Some r.chrom) rs))
 
 pub any_lost : (bases : ℕ) (names more own : Names) (rs : List Feature) → names ≡ own ++ more → leave (Some names) None rs ≡ None → list_any (tag_decides bases) (tags_of own rs) ≡ true
 any_lost bases names more own rs is e = any_none bases own None rs (left_fewer own more rs (subst (λ ns. leave (Some ns) None rs ≡ None) is e))

@@ -1,13 +1,12 @@
 -- Lines of two concatenated texts, of which the first is empty or ends with a line feed.
-use Rattle.bt_lines.proofs.Std.{arith, ◌≡◌, ℕ, suc, false, List, [], ◌∷◌, ◌++◌, refl, sym, ap, ◌∙◌, append-nil, append_assoc, eqb, IsTrue, All-head, All-tail, Option, Some, None, Result, Ok, subst, is_none, AllByRecursion, map-append, Err}
-use Rattle.bt_lines.specs.model.Lines.{TextLine, fed_line, last_line, lines_from, numbered, pieces, text_lines}
+use Rattle.bt_lines.proofs.Std.{arith, ◌≡◌, ℕ, suc, false, List, [], ◌∷◌, ◌++◌, refl, sym, ap, ◌∙◌, append-nil, append_assoc, eqb, IsTrue, All-head, All-tail, Option, Some, None, Ok, is_none, AllByRecursion, map-append}
+use Rattle.bt_lines.specs.model.Lines.{TextLine, fed_line, lines_from, numbered, pieces, text_lines}
 use Rattle.bt_lines.specs.calls.Line.{NoLineFeed}
 use Rattle.bt_lines.proofs.lemmas.reader.lines.TextLemmas.{lines_from-fed, lines_from-nil, by_lines}
 use Rattle.bt_laws.specs.Parts.{StandsBefore, ends_line}
 use Rattle.bt_lines.specs.model.Fault.{FaultValue}
 use Rattle.bt_lines.specs.declared.fault.Input.{Input}
-use Rattle.bt_lines.specs.declared.fault.Kind.{Kind}
-use Rattle.bt_bed.specs.model.Good.{Format, Good, good, good_from, good_with, items_in}
+use Rattle.bt_bed.specs.model.Good.{Format, Good, good, good_from, items_in}
 
 -- lines that differ in their numbers alone
 abbrev pub AreAlike : List TextLine → List TextLine → Type 0
@@ -16,12 +15,9 @@ AreAlike [] (m ∷ ms) = ⊥
 AreAlike (l ∷ ls) [] = ⊥
 AreAlike (l ∷ ls) (m ∷ ms) = (l.text ≡ m.text) × (l.ending ≡ m.ending) × AreAlike ls ms
 
-alike_last : (n m : ℕ) (piece : List ℕ) → AreAlike (last_line n piece) (last_line m piece)
-alike_last n m piece = grind arith
-
 alike_numbered : (n m : ℕ) (parts : List (List ℕ)) → AreAlike (numbered n parts) (numbered m parts)
 alike_numbered n m [] = tt
-alike_numbered n m (piece ∷ []) = alike_last n m piece
+alike_numbered n m (piece ∷ []) = grind arith
 alike_numbered n m (piece ∷ next ∷ rest) = (refl, refl, alike_numbered (suc n) (suc m) (next ∷ rest))
 
 pub alike_lines : (n m : ℕ) (bytes : List ℕ) → AreAlike (lines_from n bytes) (lines_from m bytes)
@@ -90,18 +86,13 @@ module _ {A State : Type 0} (format : Format A State) where
   abbrev pub IsNumberless : Type 0
   IsNumberless = (state : State) (l m : TextLine) → l.text ≡ m.text → l.ending ≡ m.ending → format.says state l ≡ format.says state m
 
-  like_with : (input : Input) (state : State) (n m : ℕ) (said : Result (Option A) Kind) (ls ms : State → Good A) → ((now : State) → IsLike (ls now) (ms now)) → IsLike (good_with format input n state said ls) (good_with format input m state said ms)
-  like_with input state n m said ls ms h = grind arith
-
   pub like_from : (input : Input) (state : State) (ls ms : List TextLine) → IsNumberless → AreAlike ls ms → IsLike (good_from format input state ls) (good_from format input state ms)
   unfolding good_from
   like_from input state [] [] free alike = record { items = refl; fault = refl }
   like_from input state [] (m ∷ ms) free alike = absurd alike
   like_from input state (l ∷ ls) [] free alike = absurd alike
   like_from input state (l ∷ ls) (m ∷ ms) free alike =
-      subst (λ said. IsLike (good_with format input l.number state (format.says state l) (λ now. good_from format input now ls)) (good_with format input m.number state said (λ now. good_from format input now ms)))
-      (free state l m alike.0 alike.1)
-      (like_with input state l.number m.number (format.says state l) (λ now. good_from format input now ls) (λ now. good_from format input now ms) (λ now. like_from input now ls ms free alike.2))
+      grind (arith, (free state l m alike.0 alike.1), (format.says state l), (λ (now : State). like_from input now ls ms free alike.2))
 
   -- what is known after members
   abbrev pub reached : State → List A → State
@@ -109,18 +100,12 @@ module _ {A State : Type 0} (format : Format A State) where
   reached state (x ∷ xs) = reached (format.after state x) xs
 
   module _ (input : Input) where
-    go_with : (n : ℕ) (state : State) (said : Result (Option A) Kind) (ms : List TextLine) (whole ones : State → Good A)
-        → ((now : State) → whole now ≡ put_on (ones now).fault (ones now) (good_from format input (reached now (items_in (ones now))) ms))
-        → good_with format input n state said whole ≡ put_on (good_with format input n state said ones).fault (good_with format input n state said ones) (good_from format input (reached state (items_in (good_with format input n state said ones))) ms)
-    go_with n state said ms whole ones h = grind arith
-
     -- what is good of lines and of others after them
     pub go_from : (state : State) (ls ms : List TextLine) → good_from format input state (ls ++ ms)
         ≡ put_on (good_from format input state ls).fault (good_from format input state ls) (good_from format input (reached state (items_in (good_from format input state ls))) ms)
     unfolding good_from
     go_from state [] ms = refl
-    go_from state (l ∷ ls) ms =
-        go_with l.number state (format.says state l) ms (λ now. good_from format input now (ls ++ ms)) (λ now. good_from format input now ls) (λ now. go_from now ls ms)
+    go_from state (l ∷ ls) ms = grind (arith, (format.says state l), (λ (now : State). go_from now ls ms))
 
     -- of two texts, if what is good of the second is so after the members of the first
     pub good_joint : (one two : List ℕ) → StandsBefore one two → IsNumberless
@@ -130,13 +115,7 @@ module _ {A State : Type 0} (format : Format A State) where
 
     -- what holds of each member that a line says, holds of the good members
     module _ (Q : A → Type 0) where
-      items_with : (n : ℕ) (state : State) (said : Result (Option A) Kind) (rest : State → Good A) → ((x : A) → said ≡ Ok (Some x) → Q x) → ((now : State) → AllByRecursion Q (items_in (rest now)))
-          → AllByRecursion Q (items_in (good_with format input n state said rest))
-      items_with n state (Err kind) rest q h = tt
-      items_with n state (Ok None) rest q h = h state
-      items_with n state (Ok (Some x)) rest q h = (q x refl, h (format.after state x))
-
       pub items_so : (state : State) (ls : List TextLine) → AllByRecursion (λ l. (now : State) (x : A) → format.says now l ≡ Ok (Some x) → Q x) ls → AllByRecursion Q (items_in (good_from format input state ls))
       unfolding good_from
       items_so state [] q = tt
-      items_so state (l ∷ ls) q = items_with l.number state (format.says state l) (λ now. good_from format input now ls) (q.0 state) (λ now. items_so now ls q.1)
+      items_so state (l ∷ ls) q = grind (arith, (q.0 state), (format.says state l), (λ (now : State). items_so now ls q.1))

@@ -1,5 +1,5 @@
 -- The reports of maskfasta on two parts, and on both.
-use Rattle.bt_lines.proofs.Std.{arith, ◌≡◌, ℕ, Bool, true, false, List, [], ◌∷◌, ◌++◌, map, Option, Some, None, refl, sym, ap, ap₂, ◌∙◌, subst, ◌||◌, ◌⊎◌, append-nil, inl, IsTrue, flat_map, is_some, is_none, option_map, AllByRecursion, list_all, list_any, flat_map-append, list_any-append}
+use Rattle.bt_lines.proofs.Std.{arith, ◌≡◌, ℕ, Bool, true, false, List, [], ◌∷◌, ◌++◌, map, Option, Some, None, refl, sym, ap, ap₂, ◌∙◌, subst, ◌||◌, ◌⊎◌, append-nil, inl, inr, IsTrue, flat_map, is_some, is_none, option_map, AllByRecursion, list_all, list_any, flat_map-append, list_any-append}
 use Rattle.bt_laws.proofs.lemmas.parts.PartLines.{none_like}
 use Rattle.bt_seq.proofs.lemmas.mask.steps.LineStepLemmas.{some_list}
 use Rattle.bt_lines.specs.model.Fault.{FaultValue}
@@ -30,181 +30,35 @@ begins_elsewhere : (names rest : List (List ℕ)) (ones : List Feature) → leav
 begins_elsewhere names rest ones kept [] lost = tt
 begins_elsewhere names rest ones kept (r ∷ rs) lost = apart_next names rest ones kept r rs lost
 
-module _ (how : MaskHow) (full : Bool) where
-  -- what is good of FASTA text, and of records in blocks
-  abbrev pub fasta_of : List ℕ → Good SequenceLine
-  fasta_of text = good (sequence_format full) First (text_lines text)
-
-  abbrev pub blocks_of : List ℕ → Good Feature
-  blocks_of text = good block_format Second (text_lines text)
-
-  abbrev pub texts_report : Texts → Report
-  texts_report texts = mask_good how (fasta_of texts.first) (blocks_of texts.second)
-
-  -- the names, and the records
-  abbrev pub fasta_names : List ℕ → List (List ℕ)
-  fasta_names text = names_of (items_in (fasta_of text))
-
-  abbrev pub block_records : List ℕ → List Feature
-  block_records text = items_in (blocks_of text)
-
-  -- two parts, and both
-  pub record AreTwo (one two : Texts) : Type 0 where
-    pub first : StandsBefore one.first two.first
-    pub second : StandsBefore one.second two.second
-    pub begins : IsTrue (begins_sequence two.first)
-
-  abbrev pub joined_two : Texts → Texts → Texts
-  joined_two one two = record { first = one.first ++ two.first; second = one.second ++ two.second }
-
-  module _ (one two : Texts) (are : AreTwo one two) where
-    sound_lines : (fault : Option FaultValue) → (fasta_of one.first).fault ≡ fault → fault ≡ None
-        → (items_in (fasta_of (one.first ++ two.first)) ≡ items_in (fasta_of one.first) ++ map (line_after (fasta_names one.first)) (items_in (fasta_of two.first))) × ((fasta_of (one.first ++ two.first)).fault ≡ None)
-    sound_lines None is e = grind (arith, (fasta_both full First one.first two.first are.first are.begins))
-    sound_lines (Some f) is e = cc
-
-    -- the lines of both, if the first part has no fault
-    pub lines_of_both : (fasta_of one.first).fault ≡ None
-        → (items_in (fasta_of (one.first ++ two.first)) ≡ items_in (fasta_of one.first) ++ map (line_after (fasta_names one.first)) (items_in (fasta_of two.first))) × ((fasta_of (one.first ++ two.first)).fault ≡ None)
-    lines_of_both e = sound_lines (fasta_of one.first).fault refl e
-
-    pub names_of_both : (fasta_of one.first).fault ≡ None → fasta_names (one.first ++ two.first) ≡ fasta_names one.first ++ fasta_names two.first
-    names_of_both e = ap names_of (lines_of_both e).0 ∙ names_both full First (items_in (fasta_of one.first)) (items_in (fasta_of two.first))
-
-    first_lines_sound : (fault : Option FaultValue) → (fasta_of one.first).fault ≡ fault → (fasta_of (one.first ++ two.first)).fault ≡ None → fault ≡ None
-    first_lines_sound None is e = refl
-    first_lines_sound (Some f) is e = grind (arith, (fasta_both full First one.first two.first are.first are.begins))
-
-    -- both parts are sound, and no record of the second belongs to a sequence of the first
-    module _ (first : IsSound (fasta_of one.first) (blocks_of one.second)) (second : IsSound (fasta_of two.first) (blocks_of two.second))
-        (lost : IsLost (fasta_names one.first) (block_records one.second) (block_records two.second)) where
-      rest_of : (rest : List (List ℕ)) × (leave (Some (fasta_names one.first)) None (block_records one.second) ≡ Some rest)
-      rest_of = some_list (leave (Some (fasta_names one.first)) None (block_records one.second)) first.owned
-
-      records_two : block_records two.second ≡ said_records two.second
-      records_two = sound_from block_sorting Second None (text_lines two.second) second.records
-
-      records_both : (block_records (one.second ++ two.second) ≡ block_records one.second ++ block_records two.second) × ((blocks_of (one.second ++ two.second)).fault ≡ None)
-      records_both =
-          let joint = fresh_joint Second one.second two.second are.second first.records (subst (BeginsElsewhere (last_from None (block_records one.second))) records_two (begins_elsewhere (fasta_names one.first) rest_of.0 (block_records one.second) rest_of.1 (block_records two.second) lost)) in
-          (joint.0, grind arith)
-
-      pub whole_sound : IsSound (fasta_of (one.first ++ two.first)) (blocks_of (one.second ++ two.second))
-      whole_sound = grind (arith, lines_of_both, records_both, names_of_both, both_owned)
-
-      pub whole_output : (texts_report (joined_two one two)).output ≡ (texts_report one).output ++ (texts_report two).output
-      whole_output =
-          sound_output how (fasta_of (one.first ++ two.first)) (blocks_of (one.second ++ two.second)) records_both.1
-          ∙ ap₂ (λ records lines. flat_map (masked_line how records) lines) records_both.0 (lines_of_both first.lines).0
-          ∙ lines_both how (fasta_names one.first) rest_of.0 (block_records one.second) (block_records two.second) (items_in (fasta_of one.first)) (items_in (fasta_of two.first)) rest_of.1 lost
-          (names_begin full First (text_lines one.first)) (second_named full First one.first two.first are.first are.begins)
-          ∙ sym (ap₂ (λ a b. a ++ b) (sound_output how (fasta_of one.first) (blocks_of one.second) first.records) (sound_output how (fasta_of two.first) (blocks_of two.second) second.records))
-
-    -- names may be repeated
-    pub two_suffice : BelongsToNone (sequence_names full one.first) (said_records one.second) (said_records two.second) → (texts_report one).fault ≡ None → (texts_report two).fault ≡ None
-        → ((texts_report (joined_two one two)).fault ≡ None) × ((texts_report (joined_two one two)).output ≡ (texts_report one).output ++ (texts_report two).output)
-    two_suffice has e d =
-        let first = report_sound how (fasta_of one.first) (blocks_of one.second) e in
-        let second = report_sound how (fasta_of two.first) (blocks_of two.second) d in
-        let lost = lost_here first second has in
-        (sound_report how (fasta_of (one.first ++ two.first)) (blocks_of (one.second ++ two.second)) (whole_sound first second lost), whole_output first second lost)
-      where
-        as_lost : (names : List (List ℕ)) (ones twos : List Feature) → BelongsToNone names ones twos → IsLost names ones twos
-        as_lost names ones [] has = tt
-        as_lost names ones (r ∷ twos) has = leave_all (Some names) (ones ++ r ∷ []) ∙ has
-
-        lost_here : IsSound (fasta_of one.first) (blocks_of one.second) → IsSound (fasta_of two.first) (blocks_of two.second) → BelongsToNone (sequence_names full one.first) (said_records one.second) (said_records two.second)
-            → IsLost (fasta_names one.first) (block_records one.second) (block_records two.second)
-        lost_here first second has = grind (arith, names_grown, sound_from, as_lost)
-
-    -- no record is named as a sequence of the other part
-    module _ (off_two : MasksNone full one two) (off_one : MasksNone full two one) where
-      ones_away : AreOff (fasta_names two.first) (block_records one.second)
-      ones_away =
-          subst (λ names. AreOff names (block_records one.second)) (sym (names_grown full First two.first (second_sound full First one.first two.first are.first are.begins)))
-          (among Second _ (text_lines one.second) off_two)
-
-      lost_names : (fasta_of one.first).fault ≡ None → (twos : List Feature) → AreOff (sequence_names full one.first) twos → IsLost (fasta_names one.first) (block_records one.second) twos
-      lost_names e twos off = grind (arith, lost_off, (names_grown full First one.first e))
-
-      lost_sound : IsSound (fasta_of one.first) (blocks_of one.second) → IsSound (fasta_of two.first) (blocks_of two.second) → IsLost (fasta_names one.first) (block_records one.second) (block_records two.second)
-      lost_sound first second = grind (arith, lost_names, (sound_from block_sorting Second None (text_lines two.second) second.records))
-
-      -- if both are sound, so is each part
-      module _ (whole : IsSound (fasta_of (one.first ++ two.first)) (blocks_of (one.second ++ two.second))) where
-        lines_one : (fasta_of one.first).fault ≡ None
-        lines_one = first_lines_sound (fasta_of one.first).fault refl whole.lines
-
-        calm : ((blocks_of one.second).fault ≡ None) × ((blocks_of two.second).fault ≡ None) × (block_records (one.second ++ two.second) ≡ block_records one.second ++ block_records two.second)
-        calm = calm_joint Second one.second two.second are.second whole.records
-
-        owned_both : is_some (leave (Some (fasta_names one.first ++ fasta_names two.first)) None (block_records one.second ++ block_records two.second)) ≡ true
-        owned_both = sym (ap₂ (λ names records. is_some (leave (Some names) None records)) (names_of_both lines_one) calm.2) ∙ whole.owned
-
-        twos_lost : IsLost (fasta_names one.first) (block_records one.second) (block_records two.second)
-        twos_lost = grind (arith, lost_names, lines_one, (sound_from block_sorting Second None (text_lines two.second) calm.1))
-
-        by_left : (o : Option (List (List ℕ))) → leave (Some (fasta_names one.first)) None (block_records one.second) ≡ o
-            → IsSound (fasta_of one.first) (blocks_of one.second) × IsSound (fasta_of two.first) (blocks_of two.second)
-        by_left None is = grind (arith, lost_more, ones_away, leave_append, none_leaves, owned_both)
-        by_left (Some rest) is = (
-          record { lines = lines_one; records = calm.0; owned = ap is_some is },
-          record {
-            lines = second_sound full First one.first two.first are.first are.begins;
-            records = calm.1;
-            owned = sym (both_owned (fasta_names one.first) rest (block_records one.second) is (fasta_names two.first) (block_records two.second) twos_lost) ∙ owned_both;
-          },
-        )
-
-        pub parts_sound : IsSound (fasta_of one.first) (blocks_of one.second) × IsSound (fasta_of two.first) (blocks_of two.second)
-        parts_sound = by_left (leave (Some (fasta_names one.first)) None (block_records one.second)) refl
-
-      pub mask_adds : Adds (texts_report one) (texts_report two) (texts_report (joined_two one two))
-      mask_adds = record {
-        parts = λ e.
-            let sound = parts_sound (report_sound how (fasta_of (one.first ++ two.first)) (blocks_of (one.second ++ two.second)) e) in
-            (sound_report how (fasta_of one.first) (blocks_of one.second) sound.0, sound_report how (fasta_of two.first) (blocks_of two.second) sound.1);
-        both = λ e d.
-            let first = report_sound how (fasta_of one.first) (blocks_of one.second) e in
-            let second = report_sound how (fasta_of two.first) (blocks_of two.second) d in
-            sound_report how (fasta_of (one.first ++ two.first)) (blocks_of (one.second ++ two.second)) (whole_sound first second (lost_sound first second));
-        output = λ e d.
-            let first = report_sound how (fasta_of one.first) (blocks_of one.second) e in
-            let second = report_sound how (fasta_of two.first) (blocks_of two.second) d in
-            whole_output first second (lost_sound first second);
-      }
-
 -- ---- written lines
 
 module _ (mine yours : Rule SequenceLine ℕ FaultValue) (move : SequenceLine → SequenceLine) where
   -- lines that were moved, by a rule that says the same of them
-  moved_at : (x : SequenceLine) (xs : List SequenceLine) (b : Bool) → mine.decided (move x) ≡ b → yours.decided x ≡ b → mine.lines (move x) ≡ yours.lines x → written mine (map move xs) ≡ written yours xs
-      → written mine (move x ∷ map move xs) ≡ written yours (x ∷ xs)
-  moved_at x xs true e d same more = grind (arith, (written_at mine (move x) (map move xs) true e), (written_at yours x xs true d))
-  moved_at x xs false e d same more = written_at mine (move x) (map move xs) false e ∙ sym (written_at yours x xs false d)
-
   written_moved : (xs : List SequenceLine) → AllByRecursion (λ x. (mine.decided (move x) ≡ yours.decided x) × (mine.lines (move x) ≡ yours.lines x)) xs → written mine (map move xs) ≡ written yours xs
   written_moved [] h = refl
-  written_moved (x ∷ xs) h = moved_at x xs (yours.decided x) h.0.0 refl h.0.1 (written_moved xs h.1)
+  written_moved (x ∷ xs) h =
+      grind (arith, (written_at mine (move x) (map move xs) (mine.decided (move x)) refl), (written_at yours x xs (yours.decided x) refl), (written_moved xs h.1))
 
 none_written : (rule : Rule SequenceLine ℕ FaultValue) (xs : List SequenceLine) → AllByRecursion (λ x. rule.decided x ≡ false) xs → written rule xs ≡ []
 none_written rule xs h = grind arith
 
 module _ (how : MaskHow) (full : Bool) where
-  abbrev report_on : Texts → Report
-  report_on texts = texts_report how full texts
+  -- what is good of FASTA text, and of records in blocks
+  abbrev pub F : List ℕ → Good SequenceLine
+  F text = good (sequence_format full) First (text_lines text)
 
-  abbrev F : List ℕ → Good SequenceLine
-  F text = fasta_of how full text
+  abbrev pub B : List ℕ → Good Feature
+  B text = good block_format Second (text_lines text)
 
-  abbrev B : List ℕ → Good Feature
-  B text = blocks_of how full text
+  abbrev pub report_on : Texts → Report
+  report_on texts = mask_good how (F texts.first) (B texts.second)
 
-  abbrev N : List ℕ → List (List ℕ)
-  N text = fasta_names how full text
+  -- the names, and the records
+  abbrev pub N : List ℕ → List (List ℕ)
+  N text = names_of (items_in (F text))
 
-  abbrev R : List ℕ → List Feature
-  R text = block_records how full text
+  abbrev pub R : List ℕ → List Feature
+  R text = items_in (B text)
 
   -- the rule for two texts
   abbrev rule_on : Texts → Rule SequenceLine ℕ FaultValue
@@ -229,37 +83,29 @@ module _ (how : MaskHow) (full : Bool) where
   pub lacks_kind : (texts : Texts) → Lacks texts → option_map (λ fault. fault.kind) (report_on texts).fault ≡ Some NoSequence
   lacks_kind texts lacks = grind (arith, (lacks_decided texts lacks), (told_lost (N texts.first) (B texts.second).members lacks.lost))
 
-  module _ (one two : Texts) (are : AreTwo how full one two) (off_two : MasksNone full one two) (off_one : MasksNone full two one) where
+  -- two parts, and both
+  pub record AreTwo (one two : Texts) : Type 0 where
+    pub first : StandsBefore one.first two.first
+    pub second : StandsBefore one.second two.second
+    pub begins : IsTrue (begins_sequence two.first)
+
+  abbrev pub joined_two : Texts → Texts → Texts
+  joined_two one two = record { first = one.first ++ two.first; second = one.second ++ two.second }
+
+  module _ (one two : Texts) (are : AreTwo one two) where
     abbrev both : Texts
-    both = joined_two how full one two
+    both = joined_two one two
+
+    -- the lines of both, if the first part has no fault
+    pub lines_of_both : (F one.first).fault ≡ None
+        → (items_in (F (one.first ++ two.first)) ≡ items_in (F one.first) ++ map (line_after (N one.first)) (items_in (F two.first))) × ((F (one.first ++ two.first)).fault ≡ None)
+    lines_of_both e = grind (arith, (fasta_both full First one.first two.first are.first are.begins))
+
+    pub names_of_both : (F one.first).fault ≡ None → N (one.first ++ two.first) ≡ N one.first ++ N two.first
+    names_of_both e = ap names_of (lines_of_both e).0 ∙ names_both full First (items_in (F one.first)) (items_in (F two.first))
 
     named_two : AllByRecursion (λ line. is_unnamed line.names ≡ false) (items_in (F two.first))
     named_two = second_named full First one.first two.first are.first are.begins
-
-    -- ---- the first part lacks a sequence
-
-    module _ (lacks : Lacks one) where
-      whole_lacks : Lacks both
-      whole_lacks = record {
-        lines = (lines_of_both how full one two are lacks.lines).1;
-        lost =
-            let more = first_front Second one.second two.second are.second in
-            ap₂ (λ names records. leave (Some names) None records) (names_of_both how full one two are lacks.lines) more.1
-            ∙ none_behind (N one.first ++ N two.first) (R one.second) more.0 (lost_more (N one.first) (N two.first) None (R one.second) (ones_away how full one two are off_two off_one) lacks.lost);
-      }
-
-      goes_on : (more : List ℕ) × ((report_on both).output ≡ (report_on one).output ++ more)
-      goes_on =
-          let more = first_front Second one.second two.second are.second in
-          let later = map (line_after (N one.first)) (items_in (F two.first)) in (
-            flat_map (masked_line how (R one.second ++ more.0)) later,
-            lacks_output both whole_lacks
-                ∙ ap₂ (λ records lines. flat_map (masked_line how records) lines) more.1 (lines_of_both how full one two are lacks.lines).0
-                ∙ flat_map-append (masked_line how (R one.second ++ more.0)) (items_in (F one.first)) later
-                ∙ ap (λ l. l ++ flat_map (masked_line how (R one.second ++ more.0)) later)
-                (lines_first how (N one.first) (R one.second) more.0 (items_in (F one.first)) (grind (arith, none_behind)) (names_begin full First (text_lines one.first))
-                ∙ sym (lacks_output one lacks)),
-          )
 
     -- ---- text before its first header
 
@@ -296,16 +142,14 @@ module _ (how : MaskHow) (full : Bool) where
           let same : B (one.second ++ two.second) ≡ B one.second = faulty_same Second one.second two.second are.second fault e in
           met_lines (rule_on one) (items_in (F one.first)) (F one.first).fault
           ∙ sym (met_lines (rule_on both) (items_in (F (one.first ++ two.first))) (F (one.first ++ two.first)).fault
-          ∙ ap₂ (λ (g : Good Feature) ls. written (mask_rule how (N (one.first ++ two.first)) g) ls) same (lines_of_both how full one two are lines).0
+          ∙ ap₂ (λ (g : Good Feature) ls. written (mask_rule how (N (one.first ++ two.first)) g) ls) same (lines_of_both lines).0
           ∙ written_before (mask_rule how (N (one.first ++ two.first)) (B one.second)) (items_in (F one.first)) (map (line_after (N one.first)) (items_in (F two.first)))
           (undecided fault (B one.second) e refl (N (one.first ++ two.first))))
 
-      module _ (records : (B one.second).fault ≡ None) where
-        lost : IsLost (N one.first) (R one.second) (R two.second)
-        lost = lost_names how full one two are off_two off_one lines (R two.second) (among Second _ (text_lines two.second) off_one)
-
+      -- none is, and no record of the second part belongs to a sequence of it
+      module _ (records : (B one.second).fault ≡ None) (lost : IsLost (N one.first) (R one.second) (R two.second)) (said : IsLost (N one.first) (R one.second) (said_records two.second)) where
         joint : (R (one.second ++ two.second) ≡ R one.second ++ R two.second) × (is_none (B (one.second ++ two.second)).fault ≡ is_none (B two.second).fault)
-        joint = fresh_joint Second one.second two.second are.second records (begins_elsewhere (N one.first) rest (R one.second) kept (said_records two.second) (lost_names how full one two are off_two off_one lines (said_records two.second) off_one))
+        joint = fresh_joint Second one.second two.second are.second records (begins_elsewhere (N one.first) rest (R one.second) kept (said_records two.second) said)
 
         first_output : (report_on one).output ≡ flat_map (masked_line how (R one.second)) (items_in (F one.first))
         first_output = sound_output how (F one.first) (B one.second) records
@@ -313,14 +157,14 @@ module _ (how : MaskHow) (full : Bool) where
         all_lines : flat_map (masked_line how (R (one.second ++ two.second))) (items_in (F (one.first ++ two.first)))
             ≡ flat_map (masked_line how (R one.second)) (items_in (F one.first)) ++ flat_map (masked_line how (R two.second)) (items_in (F two.first))
         all_lines =
-            ap₂ (λ records lines. flat_map (masked_line how records) lines) joint.0 (lines_of_both how full one two are lines).0
+            ap₂ (λ records lines. flat_map (masked_line how records) lines) joint.0 (lines_of_both lines).0
             ∙ lines_both how (N one.first) rest (R one.second) (R two.second) (items_in (F one.first)) (items_in (F two.first)) kept lost (names_begin full First (text_lines one.first)) named_two
 
         -- the second part lacks a sequence: so does the whole
         both_lack : Lacks two → Lacks both
         both_lack lacks = record {
-          lines = (lines_of_both how full one two are lines).1;
-          lost = ap₂ (λ names records. leave (Some names) None records) (names_of_both how full one two are lines) joint.0 ∙ by_records (R two.second) lost lacks.lost;
+          lines = (lines_of_both lines).1;
+          lost = ap₂ (λ names records. leave (Some names) None records) (names_of_both lines) joint.0 ∙ by_records (R two.second) lost lacks.lost;
         }
           where
             by_records : (twos : List Feature) → IsLost (N one.first) (R one.second) twos → leave (Some (N two.first)) None twos ≡ None → leave (Some (N one.first ++ N two.first)) None (R one.second ++ twos) ≡ None
@@ -341,7 +185,7 @@ module _ (how : MaskHow) (full : Bool) where
         first_lines = grind (arith, joint, lines_first, lost, names_begin, first_output)
 
         whole_written : (report_on both).output ≡ written W (items_in (F one.first) ++ map (line_after (N one.first)) (items_in (F two.first)))
-        whole_written = met_lines W (items_in (F (one.first ++ two.first))) (F (one.first ++ two.first)).fault ∙ ap (written W) (lines_of_both how full one two are lines).0
+        whole_written = met_lines W (items_in (F (one.first ++ two.first))) (F (one.first ++ two.first)).fault ∙ ap (written W) (lines_of_both lines).0
 
         -- after the first of the later records
         past_first : (r : Feature) (rs : List Feature) → R two.second ≡ r ∷ rs → (report_on both).output ≡ (report_on one).output ++ (report_on two).output
@@ -388,10 +232,14 @@ module _ (how : MaskHow) (full : Bool) where
               undecided told.0 (B (one.second ++ two.second)) told.1 (joint.0 ∙ ap (λ twos. R one.second ++ twos) is ∙ append-nil (R one.second)) (N (one.first ++ two.first))))),
         )
 
+        none_of_both : (B two.second).fault ≡ None → (B (one.second ++ two.second)).fault ≡ None
+        none_of_both e = none_like (B two.second).fault (B (one.second ++ two.second)).fault (sym joint.1) e
+
         no_fault : (B two.second).fault ≡ None → (report_on both).output ≡ (report_on one).output ++ (report_on two).output
-        no_fault e =
-            sound_output how (F (one.first ++ two.first)) (B (one.second ++ two.second)) (none_like (B two.second).fault (B (one.second ++ two.second)).fault (sym joint.1) e)
-            ∙ all_lines ∙ sym (ap₂ (λ a b. a ++ b) first_output (sound_output how (F two.first) (B two.second) e))
+        no_fault e = sound_output how (F (one.first ++ two.first)) (B (one.second ++ two.second)) (none_of_both e) ∙ all_lines ∙ sym (ap₂ (λ a b. a ++ b) first_output (sound_output how (F two.first) (B two.second) e))
+
+        whole_sound : IsSound (F two.first) (B two.second) → IsSound (F (one.first ++ two.first)) (B (one.second ++ two.second))
+        whole_sound second = grind (arith, lines_of_both, joint, none_of_both, names_of_both, both_owned)
 
         either : (g : Option FaultValue) → (B two.second).fault ≡ g → (ts : List Feature) → R two.second ≡ ts → (rest : List ℕ) × ((report_on one).output ++ (report_on two).output ≡ (report_on both).output ++ rest)
         either None e ts is = ([], sym (no_fault e) ∙ sym (append-nil (report_on both).output))
@@ -401,31 +249,146 @@ module _ (how : MaskHow) (full : Bool) where
         pub stops_sound : (report_on one).fault ≡ None → Stops (report_on one) (report_on two) (report_on both)
         stops_sound none = grind (arith, (either (B two.second).fault refl (R two.second) refl))
 
-    -- ---- any fault of the first part
+    -- both parts are sound
+    both_sound : IsSound (F one.first) (B one.second) → IsSound (F two.first) (B two.second) → IsLost (N one.first) (R one.second) (said_records two.second)
+        → IsSound (F (one.first ++ two.first)) (B (one.second ++ two.second)) × ((report_on both).output ≡ (report_on one).output ++ (report_on two).output)
+    both_sound first second said =
+        let left = some_list (leave (Some (N one.first)) None (R one.second)) first.owned in
+        let lost = subst (IsLost (N one.first) (R one.second)) (sym (sound_from block_sorting Second None (text_lines two.second) second.records)) said in
+        (whole_sound first.lines left.0 left.1 first.records lost said second, no_fault first.lines left.0 left.1 first.records lost said second.records)
 
-    -- it stops the whole, or the whole goes on without a sequence for some record
-    abbrev pub StopsOrGoes : Type 0
-    StopsOrGoes = ((rest : List ℕ) × ((report_on one).output ≡ (report_on both).output ++ rest))
-        ⊎ (Lacks both × ((more : List ℕ) × ((report_on both).output ≡ (report_on one).output ++ more)))
-
-    pub faulty_first : ((report_on one).fault ≡ None → ⊥) → StopsOrGoes
-    faulty_first some = by_lines (F one.first).fault refl
+    -- names may be repeated
+    pub two_suffice : BelongsToNone (sequence_names full one.first) (said_records one.second) (said_records two.second) → (report_on one).fault ≡ None → (report_on two).fault ≡ None
+        → ((report_on both).fault ≡ None) × ((report_on both).output ≡ (report_on one).output ++ (report_on two).output)
+    two_suffice has e d =
+        let first = report_sound how (F one.first) (B one.second) e in
+        let all = both_sound first (report_sound how (F two.first) (B two.second) d) (said_lost first has) in
+        (sound_report how (F (one.first ++ two.first)) (B (one.second ++ two.second)) all.0, all.1)
       where
-        by_records : (g : Option FaultValue) → (B one.second).fault ≡ g → (F one.first).fault ≡ None → (rest : List (List ℕ)) → leave (Some (N one.first)) None (R one.second) ≡ Some rest → StopsOrGoes
-        by_records None e lines rest kept = absurd (some (sound_report how (F one.first) (B one.second) (record { lines = lines; records = e; owned = ap is_some kept })))
-        by_records (Some fault) e lines rest kept = inl ([], stops_faulty lines rest kept fault e ∙ sym (append-nil (report_on both).output))
+        as_lost : (names : List (List ℕ)) (ones twos : List Feature) → BelongsToNone names ones twos → IsLost names ones twos
+        as_lost names ones [] has = tt
+        as_lost names ones (r ∷ twos) has = leave_all (Some names) (ones ++ r ∷ []) ∙ has
 
-        by_left : (o : Option (List (List ℕ))) → leave (Some (N one.first)) None (R one.second) ≡ o → (F one.first).fault ≡ None → StopsOrGoes
-        by_left None e lines = grind (arith, lost, whole_lacks, goes_on)
-        by_left (Some rest) e lines = by_records (B one.second).fault refl lines rest e
+        said_lost : IsSound (F one.first) (B one.second) → BelongsToNone (sequence_names full one.first) (said_records one.second) (said_records two.second) → IsLost (N one.first) (R one.second) (said_records two.second)
+        said_lost first has = grind (arith, names_grown, sound_from, as_lost)
 
-        by_lines : (g : Option FaultValue) → (F one.first).fault ≡ g → StopsOrGoes
-        by_lines None e = by_left (leave (Some (N one.first)) None (R one.second)) refl e
-        by_lines (Some fault) e = inl ([], stops_unnamed fault e ∙ sym (append-nil (report_on both).output))
+    -- no record is named as a sequence of the other part
+    module _ (off_two : MasksNone full one two) (off_one : MasksNone full two one) where
+      ones_away : AreOff (N two.first) (R one.second)
+      ones_away =
+          subst (λ names. AreOff names (R one.second)) (sym (names_grown full First two.first (second_sound full First one.first two.first are.first are.begins)))
+          (among Second _ (text_lines one.second) off_two)
 
-    -- the first part has none: what the second part does, the whole does
-    pub sound_stops : (report_on one).fault ≡ None → Stops (report_on one) (report_on two) (report_on both)
-    sound_stops none = grind (arith, (report_sound how (F one.first) (B one.second) none), some_list, (leave (Some (N one.first)) None (R one.second)), stops_sound)
+      lost_names : (F one.first).fault ≡ None → (twos : List Feature) → AreOff (sequence_names full one.first) twos → IsLost (N one.first) (R one.second) twos
+      lost_names e twos off = grind (arith, lost_off, (names_grown full First one.first e))
 
-    pub sound_goes : (report_on one).fault ≡ None → Lacks two → Lacks both × ((report_on both).output ≡ (report_on one).output ++ (report_on two).output)
-    sound_goes none lacks = grind (arith, (report_sound how (F one.first) (B one.second) none), some_list, (leave (Some (N one.first)) None (R one.second)), both_lack, both_lines)
+      -- if both are sound, so is each part
+      module _ (whole : IsSound (F (one.first ++ two.first)) (B (one.second ++ two.second))) where
+        lines_one : (F one.first).fault ≡ None
+        lines_one = grind (arith, (fasta_both full First one.first two.first are.first are.begins), ((F one.first).fault))
+
+        calm : ((B one.second).fault ≡ None) × ((B two.second).fault ≡ None) × (R (one.second ++ two.second) ≡ R one.second ++ R two.second)
+        calm = calm_joint Second one.second two.second are.second whole.records
+
+        owned_both : is_some (leave (Some (N one.first ++ N two.first)) None (R one.second ++ R two.second)) ≡ true
+        owned_both = sym (ap₂ (λ names records. is_some (leave (Some names) None records)) (names_of_both lines_one) calm.2) ∙ whole.owned
+
+        twos_lost : IsLost (N one.first) (R one.second) (R two.second)
+        twos_lost = grind (arith, lost_names, lines_one, (sound_from block_sorting Second None (text_lines two.second) calm.1))
+
+        sound_by : (o : Option (List (List ℕ))) → leave (Some (N one.first)) None (R one.second) ≡ o
+            → IsSound (F one.first) (B one.second) × IsSound (F two.first) (B two.second)
+        sound_by None is = grind (arith, lost_more, ones_away, leave_append, none_leaves, owned_both)
+        sound_by (Some rest) is = (
+          record { lines = lines_one; records = calm.0; owned = ap is_some is },
+          record {
+            lines = second_sound full First one.first two.first are.first are.begins;
+            records = calm.1;
+            owned = sym (both_owned (N one.first) rest (R one.second) is (N two.first) (R two.second) twos_lost) ∙ owned_both;
+          },
+        )
+
+        pub parts_sound : IsSound (F one.first) (B one.second) × IsSound (F two.first) (B two.second)
+        parts_sound = sound_by (leave (Some (N one.first)) None (R one.second)) refl
+
+      -- both parts are without a fault
+      both_hold : (report_on one).fault ≡ None → (report_on two).fault ≡ None → IsSound (F (one.first ++ two.first)) (B (one.second ++ two.second)) × ((report_on both).output ≡ (report_on one).output ++ (report_on two).output)
+      both_hold e d =
+          let first = report_sound how (F one.first) (B one.second) e in
+          both_sound first (report_sound how (F two.first) (B two.second) d) (lost_names first.lines (said_records two.second) off_one)
+
+      pub mask_adds : Adds (report_on one) (report_on two) (report_on both)
+      mask_adds = record {
+        parts = λ e.
+            let sound = parts_sound (report_sound how (F (one.first ++ two.first)) (B (one.second ++ two.second)) e) in
+            (sound_report how (F one.first) (B one.second) sound.0, sound_report how (F two.first) (B two.second) sound.1);
+        both = λ e d. sound_report how (F (one.first ++ two.first)) (B (one.second ++ two.second)) (both_hold e d).0;
+        output = λ e d. (both_hold e d).1;
+      }
+
+      -- ---- the first part lacks a sequence
+
+      module _ (lacks : Lacks one) where
+        whole_lacks : Lacks both
+        whole_lacks = record {
+          lines = (lines_of_both lacks.lines).1;
+          lost =
+              let more = first_front Second one.second two.second are.second in
+              ap₂ (λ names records. leave (Some names) None records) (names_of_both lacks.lines) more.1
+              ∙ none_behind (N one.first ++ N two.first) (R one.second) more.0 (lost_more (N one.first) (N two.first) None (R one.second) ones_away lacks.lost);
+        }
+
+        goes_on : (more : List ℕ) × ((report_on both).output ≡ (report_on one).output ++ more)
+        goes_on =
+            let more = first_front Second one.second two.second are.second in
+            let later = map (line_after (N one.first)) (items_in (F two.first)) in (
+              flat_map (masked_line how (R one.second ++ more.0)) later,
+              lacks_output both whole_lacks
+                  ∙ ap₂ (λ records lines. flat_map (masked_line how records) lines) more.1 (lines_of_both lacks.lines).0
+                  ∙ flat_map-append (masked_line how (R one.second ++ more.0)) (items_in (F one.first)) later
+                  ∙ ap (λ l. l ++ flat_map (masked_line how (R one.second ++ more.0)) later)
+                  (lines_first how (N one.first) (R one.second) more.0 (items_in (F one.first)) (grind (arith, none_behind)) (names_begin full First (text_lines one.first))
+                  ∙ sym (lacks_output one lacks)),
+            )
+
+      -- ---- any fault of the first part
+
+      -- it stops the whole, or the whole goes on without a sequence for some record
+      abbrev pub StopsOrGoes : Type 0
+      StopsOrGoes = ((rest : List ℕ) × ((report_on one).output ≡ (report_on both).output ++ rest))
+          ⊎ (Lacks both × ((more : List ℕ) × ((report_on both).output ≡ (report_on one).output ++ more)))
+
+      pub faulty_first : ((report_on one).fault ≡ None → ⊥) → StopsOrGoes
+      faulty_first some = by_lines (F one.first).fault refl
+        where
+          by_records : (g : Option FaultValue) → (B one.second).fault ≡ g → (F one.first).fault ≡ None → (rest : List (List ℕ)) → leave (Some (N one.first)) None (R one.second) ≡ Some rest → StopsOrGoes
+          by_records None e lines rest kept = absurd (some (sound_report how (F one.first) (B one.second) (record { lines = lines; records = e; owned = ap is_some kept })))
+          by_records (Some fault) e lines rest kept = inl ([], stops_faulty lines rest kept fault e ∙ sym (append-nil (report_on both).output))
+
+          by_left : (o : Option (List (List ℕ))) → leave (Some (N one.first)) None (R one.second) ≡ o → (F one.first).fault ≡ None → StopsOrGoes
+          by_left None e lines = let lacks : Lacks one = record { lines = lines; lost = e } in inr (whole_lacks lacks, goes_on lacks)
+          by_left (Some rest) e lines = by_records (B one.second).fault refl lines rest e
+
+          by_lines : (g : Option FaultValue) → (F one.first).fault ≡ g → StopsOrGoes
+          by_lines None e = by_left (leave (Some (N one.first)) None (R one.second)) refl e
+          by_lines (Some fault) e = inl ([], stops_unnamed fault e ∙ sym (append-nil (report_on both).output))
+
+      -- the first part has none: what the second part does, the whole does
+      module _ (none : (report_on one).fault ≡ None) where
+        first : IsSound (F one.first) (B one.second)
+        first = report_sound how (F one.first) (B one.second) none
+
+        left : (rest : List (List ℕ)) × (leave (Some (N one.first)) None (R one.second) ≡ Some rest)
+        left = some_list (leave (Some (N one.first)) None (R one.second)) first.owned
+
+        lost_in : IsLost (N one.first) (R one.second) (R two.second)
+        lost_in = lost_names first.lines (R two.second) (among Second _ (text_lines two.second) off_one)
+
+        said_in : IsLost (N one.first) (R one.second) (said_records two.second)
+        said_in = lost_names first.lines (said_records two.second) off_one
+
+        pub sound_stops : Stops (report_on one) (report_on two) (report_on both)
+        sound_stops = stops_sound first.lines left.0 left.1 first.records lost_in said_in none
+
+        pub sound_goes : Lacks two → Lacks both × ((report_on both).output ≡ (report_on one).output ++ (report_on two).output)
+        sound_goes lacks = (both_lack first.lines left.0 left.1 first.records lost_in said_in lacks, both_lines first.lines left.0 left.1 first.records lost_in said_in lacks)

@@ -1,12 +1,12 @@
 -- What maskfasta writes and tells of two parts.
-use Rattle.bt_lines.proofs.Std.{arith, ◌≡◌, ℕ, Bool, true, false, List, [], ◌∷◌, ◌++◌, map, append-nil, append_assoc, Option, Some, None, refl, sym, ap, ap₂, ◌∙◌, flat_map, is_some, AllByRecursion, option_or, flat_map-append, flat_map-map}
+use Rattle.bt_lines.proofs.Std.{arith, ◌≡◌, ℕ, Bool, true, false, List, [], ◌∷◌, ◌++◌, map, append-nil, append_assoc, Option, Some, None, refl, sym, ap, ap₂, ◌∙◌, flat_map, is_some, AllByRecursion, flat_map-append, flat_map-map}
 use Rattle.bt_lines.specs.model.Fault.{FaultValue}
 use Rattle.bt_lines.specs.model.Lines.{text_lines}
 use Rattle.bt_lines.specs.declared.fault.Input.TheVariants.{First, Second}
 use Rattle.bt_lines.specs.declared.fault.Kind.TheVariants.{NoSequence}
 use Rattle.bt_bed.specs.model.Feature.{Feature}
 use Rattle.bt_bed.specs.model.BedLine.{fault_at_line}
-use Rattle.bt_bed.specs.model.Good.{Good, Member, good, items_in, or_else, block_format}
+use Rattle.bt_bed.specs.model.Good.{Good, Member, good, items_in, block_format}
 use Rattle.bt_bed.specs.model.Meeting.{Rule, join_report}
 use Rattle.bt_bed.proofs.lemmas.Definitions.{met_fault_all}
 use Rattle.bt_seq.proofs.lemmas.definitions.KnowsLemmas.{leave, leave_all}
@@ -38,12 +38,10 @@ module _ (how : MaskHow) where
   abbrev pub rule_of : List (List ℕ) → List (Member Feature) → Option FaultValue → Rule SequenceLine ℕ FaultValue
   rule_of names members fault = mask_rule how names (record { members = members; fault = fault })
 
-  both_none : (fault other : Option FaultValue) → option_or fault (or_else other None) ≡ None → (fault ≡ None) × (other ≡ None)
-  both_none fault other e = grind arith
-
   sound_by : (names : List (List ℕ)) (lines : List SequenceLine) (fault : Option FaultValue) (members : List (Member Feature)) (second : Option FaultValue)
       → (join_report (rule_of names members second) lines fault).fault ≡ None → (fault ≡ None) × (second ≡ None) × (no_sequence names members ≡ None)
-  sound_by names lines fault members None e = grind (arith, (both_none fault (no_sequence names members) (sym (met_fault_all (rule_of names members None) lines fault (all_decided how names (record { members = members; fault = None }) lines refl)) ∙ e)))
+  sound_by names lines fault members None e =
+      grind (arith, (met_fault_all (rule_of names members None) lines fault (all_decided how names (record { members = members; fault = None }) lines refl)))
   sound_by names lines fault members (Some f) e = absurd (grind arith)
 
   none_by : (names : List (List ℕ)) (lines : List SequenceLine) (fault : Option FaultValue) (members : List (Member Feature)) (second : Option FaultValue)
@@ -81,14 +79,11 @@ told_lost names ms lost =
           (sym (leave_all (Some names) (items (f.past ++ f.it ∷ []))) ∙ f.lost),
     )
 
-some_left : (o : Option (List (List ℕ))) → (o ≡ None → ⊥) → is_some o ≡ true
-some_left o h = grind arith
-
 pub owned_none : (names : List (List ℕ)) (ms : List (Member Feature)) → is_some (leave (Some names) None (items ms)) ≡ true → no_sequence names ms ≡ None
 owned_none names ms e = lack_none names ms (ap is_some (sym (leave_all (Some names) (items ms))) ∙ e)
 
 pub none_owned : (names : List (List ℕ)) (ms : List (Member Feature)) → no_sequence names ms ≡ None → is_some (leave (Some names) None (items ms)) ≡ true
-none_owned names ms e = grind (arith, some_left, (leave (Some names) None (items ms)), (items ms), told_lost)
+none_owned names ms e = grind (arith, (leave (Some names) None (items ms)), told_lost)
 
 -- ---- a report without a fault
 

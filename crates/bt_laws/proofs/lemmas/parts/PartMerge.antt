@@ -13,7 +13,7 @@ use Rattle.bt_runs.proofs.lemmas.order.FileOrder.{among_chromosomes, without_abs
 use Rattle.bt_runs.proofs.lemmas.definitions.Standing.{placed_elsewhere, counted-append, passed_elsewhere}
 use Rattle.bt_runs.proofs.lemmas.merge.SettledRuns.{runs_begin}
 use Rattle.bt_laws.proofs.lemmas.parts.PartBed.{Earlier}
-use Rattle.bt_runs.proofs.lemmas.Lists.{all_filter, all_map, all_so, flat_map_same, all_unmap, all_any, all_both, all_flat_map, filter_none, filter_same}
+use Rattle.bt_runs.proofs.lemmas.Lists.{all_filter, all_map, all_so, flat_map_same, all_unmap, all_any, all_both, all_flat_map, all_swapped, filter_none, filter_same}
 use Rattle.bt_laws.proofs.lemmas.parts.PartGenomes.{Away, has_none, last_behind, last_is, none_has, placed_both, records_away, spans_first, spans_second}
 use Rattle.bt_laws.proofs.lemmas.parts.PartReports.{Splits}
 use Rattle.bt_tool.specs.model.Written.{pooled_written, strands_written}
@@ -135,15 +135,8 @@ module _ (gap : ℕ) where
 
     -- no record of the first part lies in a run of the second
     none_first : (strand : Strand) → AllByRecursion (λ item. AllByRecursion (λ r. is_in item r ≡ false) ones) (runs_of_strand gap twos strand)
-    none_first strand = swapped ones (all_unmap _ interval_of ones away.first)
-      where
-        swapped : (rs : List Feature) → AllByRecursion (λ r. has_records r.chrom (intervals_of twos) ≡ false) rs → AllByRecursion (λ item. AllByRecursion (λ r. is_in item r ≡ false) rs) (runs_of_strand gap twos strand)
-        swapped [] h = all_any _ (runs_of_strand gap twos strand) (λ item. tt)
-        swapped (r ∷ rs) h = with_one (runs_of_strand gap twos strand) (items_elsewhere r.chrom twos strand h.0) (swapped rs h.1)
-          where
-            with_one : (items : List StrandRun) → AllByRecursion (Elsewhere r.chrom) items → AllByRecursion (λ item. AllByRecursion (λ r. is_in item r ≡ false) rs) items → AllByRecursion (λ item. AllByRecursion (λ r. is_in item r ≡ false) (r ∷ rs)) items
-            with_one [] e k = tt
-            with_one (item ∷ items) e k = ((not_in item r e.0, k.0), with_one items e.1 k.1)
+    none_first strand =
+        all_swapped (λ r item. is_in item r ≡ false) ones (runs_of_strand gap twos strand) (all_so (λ r. has_records r.chrom (intervals_of twos) ≡ false) (λ r. AllByRecursion (λ item. is_in item r ≡ false) (runs_of_strand gap twos strand)) ones (λ r e. all_so (Elsewhere r.chrom) (λ item. is_in item r ≡ false) (runs_of_strand gap twos strand) (λ item out. not_in item r out) (items_elsewhere r.chrom twos strand e)) (all_unmap _ interval_of ones away.first))
 
     begun_second : (before : List Feature) (r : Feature) → has_records r.chrom (intervals_of ones) ≡ false → begun_by (runs_of_strand gap (ones ++ twos) r.strand) (ones ++ before) r ≡ begun_by (runs_of_strand gap twos r.strand) before r
     begun_second before r e =

@@ -1,34 +1,32 @@
 -- Two inputs of which each part has its own part of the genome file.
-use Rattle.bt_lines.proofs.Std.{arith, ◌≡◌, ℕ, Bool, not, ◌&&◌, List, [], ◌∷◌, ◌++◌, map, append-nil, Option, Some, None, Ok, refl, sym, ap, ap₂, ◌∙◌, IsTrue, AllByRecursion, list_all, subst}
+use Rattle.bt_lines.proofs.Std.{arith, ◌≡◌, ℕ, Bool, not, ◌&&◌, List, [], ◌∷◌, ◌++◌, map, append-nil, Option, Some, None, Ok, refl, sym, ap, ap₂, ◌∙◌, AllByRecursion, list_all, subst}
 use Rattle.bt_lines.specs.model.Fault.{FaultValue}
-use Rattle.bt_lines.specs.model.Lines.{Handed, text_lines, TextLine}
+use Rattle.bt_lines.specs.model.Lines.{Handed, text_lines}
 use Rattle.bt_lines.specs.declared.fault.Input.{Input}
 use Rattle.bt_lines.specs.declared.fault.Input.TheVariants.{First, Second}
 use Rattle.bt_bed.specs.model.Feature.{Feature}
 use Rattle.bt_bed.specs.model.Genome.{Entry, genome_names}
 use Rattle.bt_bed.specs.model.Good.{Good, good, items_in, bed_format}
 use Rattle.bt_bed.specs.model.Sorted.{is_below_at, sorting_of}
-use Rattle.bt_bed.specs.model.Order.{rank_order, Order}
+use Rattle.bt_bed.specs.model.Order.{rank_order}
 use Rattle.bt_bed.specs.calls.Orders.{AreDistinct}
 use Rattle.bt_bed.specs.inside.RankTotal.{ranks_total}
-use Rattle.bt_bed.proofs.lemmas.order.OrderLemmas.{among_ranked}
 use Rattle.bt_sweep.specs.model.Hits.{decided, decides}
 use Rattle.bt_sweep.specs.model.Lines.{subtract_shape}
 use Rattle.bt_sweep.specs.declared.hits.hit_rule.HitRule.{HitRule}
 use Rattle.bt_sweep.specs.declared.output.shape.Shape.{Shape}
-use Rattle.bt_laws.specs.Parts.{LiesWithin, AreShards, Shard, ShardsAddUp, all_entries, PairShard, intersect_genomes_divide, pair_entries, pair_texts, subtract_genomes_divide, PairShardsAddUp, PairShardsSuffice, ShardsSuffice, complement_shards_suffice, genomecov_shards_suffice, intersect_shards_suffice, merge_shards_suffice, subtract_shards_suffice, joined, said_records, ArePairs, Texts, joined_texts, on_texts, records_of, on_text, on_pairs, StandsBefore}
-use Rattle.bt_tool.specs.model.Written.{Report, Written, complement_written, coverage_written, merge_written, members_report}
-use Rattle.bt_tool.specs.model.Report.{chromosomes_of, report_on}
+use Rattle.bt_laws.specs.Parts.{LiesWithin, PairShard, intersect_genomes_divide, pair_entries, pair_texts, subtract_genomes_divide, PairShardsAddUp, PairShardsSuffice, complement_shards_suffice, genomecov_shards_suffice, intersect_shards_suffice, merge_shards_suffice, subtract_shards_suffice, joined, said_records, ArePairs, Texts, joined_texts, on_texts, records_of, on_pairs, StandsBefore}
+use Rattle.bt_tool.specs.model.Written.{Report, complement_written, coverage_written, merge_written}
+use Rattle.bt_tool.specs.model.Report.{chromosomes_of}
 use Rattle.bt_tool.specs.declared.planning.plan_type.Command.TheVariants.{Intersect, Subtract, Complement, Coverage, Merge}
-use Rattle.bt_laws.proofs.lemmas.parts.PartBed.{items_all, records_on}
+use Rattle.bt_laws.proofs.lemmas.parts.PartBed.{items_all}
 use Rattle.bt_laws.proofs.lemmas.parts.PartGenomes.{agree_good, Agree, Within, agree_first, agree_second, within_before}
-use Rattle.bt_runs.proofs.lemmas.Lists.{all_back, all_both, all_front, all_so, all_map, all_unmap, all_zip, any_same, all_any}
+use Rattle.bt_runs.proofs.lemmas.Lists.{all_back, all_both, all_front, all_so, all_map, all_unmap, all_zip, any_same}
 use Rattle.bt_laws.proofs.lemmas.parts.PartTexts.{intersect_is, pair_report, subtract_is, pair_joins, pair_empty, join_one}
-use Rattle.bt_laws.proofs.lemmas.parts.PartShards.{distinct_in, complement_parts, genomecov_parts, merge_genome_parts, own_add, joined_all, text_report}
+use Rattle.bt_laws.proofs.lemmas.parts.PartShards.{distinct_in, complement_parts, genomecov_parts, joined_all, lies, merge_genome_parts, own_add, shards_suffice}
 use Rattle.bt_laws.proofs.lemmas.parts.PartSweep.{sweep_report, take_same, report_none}
 use Rattle.bt_tool.specs.declared.planning.plan_type.Command.{Command}
 use Rattle.bt_laws.proofs.lemmas.parts.PartReports.{Joins}
-use Rattle.bt_laws.proofs.lemmas.parts.PartSequences.{sound_from}
 
 -- ---- two rules that agree
 
@@ -107,49 +105,6 @@ module _ (command : Command) (shape : Shape) (rule : HitRule)
       (λ s. on_texts command (Some s.genome) s.texts) (on_pairs command genome shards) shards (all_so _ _ shards (λ s has. is s.genome s.entries has s.texts) are.parts)
       (is genome (pair_entries shards) are.whole (joined_texts (pair_texts shards))) (distinct_in genome (pair_entries shards) are.whole) are.lines lies
 
-pub intersect_genome_parts : intersect_genomes_divide
-intersect_genome_parts shape rule = own_parts (Intersect shape rule None) shape rule (λ genome entries has. intersect_is (Some genome) (Some entries) has shape rule)
-
-pub subtract_genome_parts : subtract_genomes_divide
-subtract_genome_parts whole rule = own_parts (Subtract whole rule None) (subtract_shape whole) rule (λ genome entries has. subtract_is (Some genome) (Some entries) has whole rule)
-
--- ---- records without a fault lie on known chromosomes
-
-known_from : (order : Order) (input : Input) (ms : List TextLine) → (good (bed_format (sorting_of order)) input ms).fault ≡ None → AllByRecursion (λ r. IsTrue (order.knows r.chrom)) (records_on ms)
-known_from order input ms e =
-    subst (AllByRecursion (λ r. IsTrue (order.knows r.chrom))) (sound_from (sorting_of order) input None ms e) (items_all (sorting_of order) input (λ r. IsTrue (order.knows r.chrom)) None ms (all_any _ _ (λ r known. known)))
-
--- on those of the part's genome file
-lies : (own whole : List Entry) (input : Input) (text : List ℕ) → (good (bed_format (sorting_of (rank_order (genome_names own)))) input (text_lines text)).fault ≡ None → AllByRecursion (LiesWithin own whole) (said_records text)
-lies own whole input text e = grind (arith, all_so, among_ranked, (known_from (rank_order (genome_names own)) input (text_lines text) e))
-
--- ---- commands of one input
-
-module _ (W : List Entry → Written Feature) (command : Command)
-    (is : (entries : List Entry) (first : Handed) → report_on command (Ok (Some entries)) first None ≡ members_report (W entries) (bed_format (sorting_of (rank_order (genome_names entries)))) first)
-    (add : (genome : Handed) (shards : List Shard) → AreShards genome shards → ShardsAddUp command genome shards) where
-  shard_lies : (whole : List Entry) (shard : Shard) → chromosomes_of (Some shard.genome) ≡ Ok (Some shard.entries) → (on_text command (Some shard.genome) shard.text).fault ≡ None
-      → AllByRecursion (LiesWithin shard.entries whole) (said_records shard.text)
-  shard_lies whole shard has e =
-      lies shard.entries whole First shard.text (sym (grind arith) ∙ ap (λ (r : Report). r.fault) (sym (text_report W command is shard.genome shard.entries shard.text has)) ∙ e)
-
-  shards_suffice : ShardsSuffice command
-  shards_suffice genome shards are all = grind (arith, (all_zip _ _ _ shards (λ shard has e. shard_lies (all_entries shards) shard has e) are.parts (all_unmap _ _ shards all)))
-
-pub merge_suffice : merge_shards_suffice
-merge_suffice d strand = shards_suffice (λ entries. merge_written (rank_order (genome_names entries)) d strand) (Merge d strand) (λ entries first. refl) (merge_genome_parts d strand)
-
-pub complement_suffice : complement_shards_suffice
-complement_suffice limit = shards_suffice (λ entries. complement_written entries limit) (Complement limit) (λ entries first. refl) (complement_parts limit)
-
-pub genomecov_suffice : genomecov_shards_suffice
-genomecov_suffice zeros strand = shards_suffice (λ entries. coverage_written entries zeros strand) (Coverage zeros strand) (λ entries first. refl) (genomecov_parts zeros strand)
-
--- ---- of two
-
-module _ (command : Command) (shape : Shape) (rule : HitRule)
-    (is : (genome : Handed) (entries : List Entry) → chromosomes_of (Some genome) ≡ Ok (Some entries) → (texts : Texts) → on_texts command (Some genome) texts ≡ pair_report (rank_order (genome_names entries)) (ranks_total (genome_names entries)) shape rule texts.first texts.second)
-    (add : PairShardsAddUp command) where
   pair_lies : (whole : List Entry) (shard : PairShard) → chromosomes_of (Some shard.genome) ≡ Ok (Some shard.entries) → (on_texts command (Some shard.genome) shard.texts).fault ≡ None
       → AllByRecursion (LiesWithin shard.entries whole) (records_of shard.texts)
   pair_lies whole shard has e =
@@ -160,10 +115,27 @@ module _ (command : Command) (shape : Shape) (rule : HitRule)
       all_both _ (said_records shard.texts.first) (said_records shard.texts.second) (lies shard.entries whole First shard.texts.first none.0) (lies shard.entries whole Second shard.texts.second none.1)
 
   pairs_suffice : PairShardsSuffice command
-  pairs_suffice genome shards are all = grind (arith, (all_zip _ _ _ shards (λ shard has e. pair_lies (pair_entries shards) shard has e) are.parts (all_unmap _ _ shards all)))
+  pairs_suffice genome shards are all = grind (arith, own_parts, (all_zip _ _ _ shards (λ shard has e. pair_lies (pair_entries shards) shard has e) are.parts (all_unmap _ _ shards all)))
+
+pub intersect_genome_parts : intersect_genomes_divide
+intersect_genome_parts shape rule = own_parts (Intersect shape rule None) shape rule (λ genome entries has. intersect_is (Some genome) (Some entries) has shape rule)
+
+pub subtract_genome_parts : subtract_genomes_divide
+subtract_genome_parts whole rule = own_parts (Subtract whole rule None) (subtract_shape whole) rule (λ genome entries has. subtract_is (Some genome) (Some entries) has whole rule)
+
+-- ---- runs on the parts without a fault
+
+pub merge_suffice : merge_shards_suffice
+merge_suffice d strand = shards_suffice (λ entries. merge_written (rank_order (genome_names entries)) d strand) (Merge d strand) (λ entries first. refl) (merge_genome_parts d strand)
+
+pub complement_suffice : complement_shards_suffice
+complement_suffice limit = shards_suffice (λ entries. complement_written entries limit) (Complement limit) (λ entries first. refl) (complement_parts limit)
+
+pub genomecov_suffice : genomecov_shards_suffice
+genomecov_suffice zeros strand = shards_suffice (λ entries. coverage_written entries zeros strand) (Coverage zeros strand) (λ entries first. refl) (genomecov_parts zeros strand)
 
 pub intersect_suffice : intersect_shards_suffice
-intersect_suffice shape rule = pairs_suffice (Intersect shape rule None) shape rule (λ genome entries has. intersect_is (Some genome) (Some entries) has shape rule) (intersect_genome_parts shape rule)
+intersect_suffice shape rule = pairs_suffice (Intersect shape rule None) shape rule (λ genome entries has. intersect_is (Some genome) (Some entries) has shape rule)
 
 pub subtract_suffice : subtract_shards_suffice
-subtract_suffice whole rule = pairs_suffice (Subtract whole rule None) (subtract_shape whole) rule (λ genome entries has. subtract_is (Some genome) (Some entries) has whole rule) (subtract_genome_parts whole rule)
+subtract_suffice whole rule = pairs_suffice (Subtract whole rule None) (subtract_shape whole) rule (λ genome entries has. subtract_is (Some genome) (Some entries) has whole rule)

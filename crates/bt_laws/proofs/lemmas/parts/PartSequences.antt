@@ -1,14 +1,13 @@
 -- What is good of two concatenated FASTA texts.
-use Rattle.bt_lines.proofs.Std.{common_steps, ◌≡◌, ℕ, Bool, true, false, cond, List, [], ◌∷◌, ◌++◌, map, append-nil, append_assoc, Option, Some, None, Result, Ok, Err, refl, sym, ap, ap₂, ◌∙◌, subst, arith, IsTrue, ⊤, flat_map, AllByRecursion, map-append, is_none, option_map}
+use Rattle.bt_lines.proofs.Std.{common_steps, ◌≡◌, ℕ, Bool, true, false, cond, List, [], ◌∷◌, ◌++◌, map, append-nil, append_assoc, Option, Some, None, Ok, Err, refl, sym, ap, ap₂, ◌∙◌, arith, IsTrue, ⊤, flat_map, AllByRecursion, map-append, is_none, option_map}
 use Rattle.bt_lines.specs.model.Fault.{FaultValue}
 use Rattle.bt_lines.specs.model.Lines.{TextLine, lines_from, text_lines}
 use Rattle.bt_lines.specs.declared.fault.Input.{Input}
-use Rattle.bt_lines.specs.declared.fault.Kind.{Kind}
 use Rattle.bt_lines.specs.declared.fault.Kind.TheVariants.{TextBeforeHeader}
 use Rattle.bt_lines.proofs.lemmas.reader.lines.TextLemmas.{lines_from-fed, lines_from-last, by_lines}
-use Rattle.bt_bed.specs.model.Good.{Format, Good, good, good_from, good_with, items_in, line_says as record_says, locus_at, said_after, block_format, bed_format}
-use Rattle.bt_seq.specs.model.Masked.{is_unnamed, names_of, Reached, SequenceLine, header_behind, is_header, line_behind, line_says, may_stand, name_in, sequence_format}
-use Rattle.bt_laws.specs.Parts.{begins_sequence, name_on, sequence_names, StandsBefore, said_record, said_records}
+use Rattle.bt_bed.specs.model.Good.{Format, Good, good, good_from, items_in, line_says as record_says, locus_at, block_format, bed_format}
+use Rattle.bt_seq.specs.model.Masked.{is_unnamed, names_of, Reached, SequenceLine, header_behind, is_header, line_behind, line_says, may_stand, sequence_format}
+use Rattle.bt_laws.specs.Parts.{begins_sequence, name_on, sequence_names, StandsBefore, said_records}
 use Rattle.bt_laws.proofs.lemmas.parts.PartLines.{like_from, alike_lines, lines_join, IsLike, put_on, reached, go_from}
 use Rattle.bt_bed.specs.model.Feature.{Feature}
 use Rattle.bt_bed.specs.model.BedLine.{record_of}
@@ -48,33 +47,17 @@ module _ (full : Bool) (input : Input) where
   abbrev Fasta : Format SequenceLine Reached
   Fasta = sequence_format full
 
-  -- what a line says after a named sequence, and after more names
-  record Moves (names : List (List ℕ)) (s : Reached) (line : TextLine) : Type 0 where
-    it : SequenceLine
-    here : line_says full s line ≡ Ok (Some it)
-    there : line_says full (reached_after names s) line ≡ Ok (Some (line_after names it))
-    named : is_unnamed it.names ≡ false
-
   says_header : (s : Reached) (line : TextLine) → is_header line.text ≡ true → line_says full s line ≡ Ok (Some (header_behind full s line))
   says_header s line e = grind (arith, cond, (cond (may_stand s.names line.text) (Ok (Some (line_behind s line))) (Err TextBeforeHeader)))
 
   says_bases : (s : Reached) (line : TextLine) → is_header line.text ≡ false → is_unnamed s.names ≡ false → line_says full s line ≡ Ok (Some (line_behind s line))
   says_bases s line e named = grind arith
 
-  header_moves : (names : List (List ℕ)) (s : Reached) (line : TextLine) → is_header line.text ≡ true → Moves names s line
-  header_moves names s line e =
-      grind (arith, (says_header s line e), (append_assoc names s.names (name_in full line.text ∷ [])))
-
-  moves_by : (names : List (List ℕ)) (s : Reached) (line : TextLine) → is_unnamed s.names ≡ false → (h : Bool) → is_header line.text ≡ h → Moves names s line
-  moves_by names s line named true e = header_moves names s line e
-  moves_by names s line named false e = grind (arith, (says_bases s line e named), (says_bases (reached_after names s) line e (named_more names s.names named)))
-
   moved_from : (names : List (List ℕ)) (s : Reached) (ls : List TextLine) → is_unnamed s.names ≡ false → AreMoved names (good_from Fasta input (reached_after names s) ls) (good_from Fasta input s ls)
   unfolding good_from
   moved_from names s [] named = record { items = refl; none = refl; same = refl; named = tt }
   moved_from names s (l ∷ ls) named =
-      let m = moves_by names s l named (is_header l.text) refl in
-      grind (arith, (moved_from names (Fasta.after s m.it) ls m.named))
+      grind (arith, (says_header s l), (says_header (reached_after names s) l), (says_bases s l), (says_bases (reached_after names s) l), named_more, append_assoc, (λ (now : Reached). moved_from names now ls))
 
   -- from a header on
   moved_header : (r : Reached) (ls : List TextLine) → BeginsAtHeader ls → AreMoved r.names (good_from Fasta input r ls) (good_from Fasta input Fasta.begin ls)
@@ -83,20 +66,10 @@ module _ (full : Bool) (input : Input) where
   moved_header r (l ∷ ls) h = grind (arith, (moved_from r.names (Fasta.after Fasta.begin (header_behind full Fasta.begin l)) ls refl))
 
   -- if a line is at fault, no line before it has a sequence
-  unnamed_with : (s : Reached) (l : TextLine) (rest : Reached → Good SequenceLine) (fault : FaultValue)
-      → ((now : Reached) → (rest now).fault ≡ Some fault → AllByRecursion (λ line. is_unnamed line.names ≡ true) (items_in (rest now)))
-      → ((now : Reached) → is_unnamed now.names ≡ false → (rest now).fault ≡ None)
-      → (h m u : Bool) → is_unnamed s.names ≡ u
-      → (good_with Fasta input l.number s (cond h (Ok (Some (header_behind full s l))) (cond m (Ok (Some (line_behind s l))) (Err TextBeforeHeader))) rest).fault ≡ Some fault
-      → AllByRecursion (λ line. is_unnamed line.names ≡ true) (items_in (good_with Fasta input l.number s (cond h (Ok (Some (header_behind full s l))) (cond m (Ok (Some (line_behind s l))) (Err TextBeforeHeader))) rest))
-  unnamed_with s l rest fault next sound h m u is e = grind arith
-
   pub unnamed_from : (s : Reached) (ls : List TextLine) (fault : FaultValue) → (good_from Fasta input s ls).fault ≡ Some fault → AllByRecursion (λ line. is_unnamed line.names ≡ true) (items_in (good_from Fasta input s ls))
   unfolding good_from
   unnamed_from s [] fault e = tt
-  unnamed_from s (l ∷ ls) fault e =
-      unnamed_with s l (λ now. good_from Fasta input now ls) fault (λ now d. unnamed_from now ls fault d) (λ now named. (moved_from [] now ls named).same)
-      (is_header l.text) (may_stand s.names l.text) (is_unnamed s.names) refl e
+  unnamed_from s (l ∷ ls) fault e = grind (arith, (λ (now : Reached). unnamed_from now ls fault), (λ (now : Reached). moved_from [] now ls))
 
   -- ---- names
 
@@ -109,19 +82,11 @@ module _ (full : Bool) (input : Input) where
   begin_names (x ∷ xs) = reached_names Fasta.begin x xs
 
   -- the names after lines without a fault
-  grown_with : (s : Reached) (l : TextLine) (ls : List TextLine) (rest : Reached → Good SequenceLine)
-      → ((now : Reached) → (rest now).fault ≡ None → (reached Fasta now (items_in (rest now))).names ≡ now.names ++ flat_map (λ line. name_on full line.text) ls)
-      → (h m : Bool) → is_header l.text ≡ h
-      → (good_with Fasta input l.number s (cond h (Ok (Some (header_behind full s l))) (cond m (Ok (Some (line_behind s l))) (Err TextBeforeHeader))) rest).fault ≡ None
-      → (reached Fasta s (items_in (good_with Fasta input l.number s (cond h (Ok (Some (header_behind full s l))) (cond m (Ok (Some (line_behind s l))) (Err TextBeforeHeader))) rest))).names
-      ≡ s.names ++ (name_on full l.text ++ flat_map (λ line. name_on full line.text) ls)
-  grown_with s l ls rest next h m e none = grind (arith, append_assoc)
-
   grown_from : (s : Reached) (ls : List TextLine) → (good_from Fasta input s ls).fault ≡ None
       → (reached Fasta s (items_in (good_from Fasta input s ls))).names ≡ s.names ++ flat_map (λ line. name_on full line.text) ls
   unfolding good_from
   grown_from s [] none = sym (append-nil s.names)
-  grown_from s (l ∷ ls) none = grown_with s l ls (λ now. good_from Fasta input now ls) (λ now. grown_from now ls) (is_header l.text) (may_stand s.names l.text) refl none
+  grown_from s (l ∷ ls) none = grind (arith, append_assoc, (λ (now : Reached). grown_from now ls))
 
   -- without a fault the names are those of the headers
   pub names_grown : (text : List ℕ) → (good Fasta input (text_lines text)).fault ≡ None → names_of (items_in (good Fasta input (text_lines text))) ≡ sequence_names full text
@@ -136,14 +101,10 @@ module _ (full : Bool) (input : Input) where
     is : (reached Fasta s xs).names ≡ s.names ++ more
     all : AllByRecursion (Begins (reached Fasta s xs).names) xs
 
-  grows_with : (s : Reached) (l : TextLine) (rest : Reached → Good SequenceLine) → ((now : Reached) → Grows now (items_in (rest now))) → (h m : Bool)
-      → Grows s (items_in (good_with Fasta input l.number s (cond h (Ok (Some (header_behind full s l))) (cond m (Ok (Some (line_behind s l))) (Err TextBeforeHeader))) rest))
-  grows_with s l rest next h m = grind (arith, append-nil, append_assoc)
-
   grows_from : (s : Reached) (ls : List TextLine) → Grows s (items_in (good_from Fasta input s ls))
   unfolding good_from
   grows_from s [] = record { more = []; is = sym (append-nil s.names); all = tt }
-  grows_from s (l ∷ ls) = grows_with s l (λ now. good_from Fasta input now ls) (λ now. grows_from now ls) (is_header l.text) (may_stand s.names l.text)
+  grows_from s (l ∷ ls) = grind (arith, append-nil, append_assoc, (λ (now : Reached). grows_from now ls))
 
   pub names_begin : (ls : List TextLine) → AllByRecursion (Begins (names_of (items_in (good Fasta input ls)))) (items_in (good Fasta input ls))
   names_begin ls = grind (arith, (begin_names (items_in (good Fasta input ls))), (grows_from Fasta.begin ls))
@@ -165,10 +126,8 @@ module _ (full : Bool) (input : Input) where
   -- ---- two texts
 
   header_first : (n : ℕ) (text : List ℕ) → IsTrue (begins_sequence text) → BeginsAtHeader (lines_from n text)
-  header_first n text = by_lines (λ n bytes. IsTrue (begins_sequence bytes) → BeginsAtHeader (lines_from n bytes))
-      (λ n piece clear e. subst BeginsAtHeader (sym (lines_from-last n piece clear)) (grind arith))
-      (λ n piece rest clear is e. subst BeginsAtHeader (sym (lines_from-fed n piece rest clear)) (grind (arith, common_steps)))
-      n text
+  header_first n text =
+      by_lines (λ n bytes. IsTrue (begins_sequence bytes) → BeginsAtHeader (lines_from n bytes)) (λ n piece clear e. grind (arith, (lines_from-last n piece clear))) (λ n piece rest clear is e. grind (arith, common_steps, (lines_from-fed n piece rest clear))) n text
 
   -- the lines of the second text, whatever the numbers of its lines
   moved_lines : (r : Reached) (n : ℕ) (two : List ℕ) → IsTrue (begins_sequence two) → AreMoved r.names (good_from Fasta input r (lines_from n two)) (good Fasta input (text_lines two))
@@ -211,42 +170,28 @@ BeginsElsewhere last [] = ⊤
 BeginsElsewhere last (r ∷ rs) = is_last last r.chrom ≡ false
 
 module _ (sorting : Sorting) (input : Input) where
-  sound_with : (n : ℕ) (last : Option Locus) (said : Result (Option Feature) Kind) (rest : Option Locus → Good Feature) (more : List Feature) → ((now : Option Locus) → (rest now).fault ≡ None → items_in (rest now) ≡ more)
-      → (good_with (bed_format sorting) input n last (said_after sorting last said) rest).fault ≡ None → items_in (good_with (bed_format sorting) input n last (said_after sorting last said) rest) ≡ said_record said ++ more
-  sound_with n last said rest more same e = grind arith
-
   -- without a fault the records are all that the lines say
   pub sound_from : (last : Option Locus) (ms : List TextLine) → (good_from (bed_format sorting) input last ms).fault ≡ None → items_in (good_from (bed_format sorting) input last ms) ≡ records_on ms
   unfolding good_from record_says
   sound_from last [] e = refl
-  sound_from last (m ∷ ms) e = sound_with m.number last (record_of m.text) (λ now. good_from (bed_format sorting) input now ms) (records_on ms) (λ now d. sound_from now ms d) e
+  sound_from last (m ∷ ms) e = grind (arith, (record_of m.text), (λ (now : Option Locus). sound_from now ms))
 
 -- what holds of all that the lines say, holds of the good records
 pub among : (input : Input) (P : Feature → Type 0) (ms : List TextLine) → AllByRecursion P (records_on ms) → AllByRecursion P (items_in (good block_format input ms))
 among input P ms h = items_all block_sorting input P None ms (all_so _ _ (records_on ms) (λ r p known. p) h)
 
 module _ (input : Input) where
-  fresh_with : (n : ℕ) (last : Option Locus) (said : Result (Option Feature) Kind) (rest : Option Locus → Good Feature) (more : List Feature)
-      → (BeginsElsewhere (name_at last) more → rest last ≡ rest None) → BeginsElsewhere (name_at last) (said_record said ++ more)
-      → good_with block_format input n last (said_after block_sorting last said) rest ≡ good_with block_format input n None (said_after block_sorting None said) rest
-  fresh_with n last said rest more same h = grind arith
-
   -- records of which the first lies on another chromosome are as good as without those before
   pub fresh_from : (last : Option Locus) (ms : List TextLine) → BeginsElsewhere (name_at last) (records_on ms) → good_from block_format input last ms ≡ good_from block_format input None ms
   unfolding good_from record_says
   fresh_from last [] h = refl
-  fresh_from last (m ∷ ms) h = grind (arith, fresh_with, (records_on ms), (fresh_from last ms))
-
-  calm_with : (n : ℕ) (last : Option Locus) (said : Result (Option Feature) Kind) (rest : Option Locus → Good Feature) → ((rest last).fault ≡ None → rest last ≡ rest None)
-      → (good_with block_format input n last (said_after block_sorting last said) rest).fault ≡ None
-      → good_with block_format input n last (said_after block_sorting last said) rest ≡ good_with block_format input n None (said_after block_sorting None said) rest
-  calm_with n last said rest same e = grind arith
+  fresh_from last (m ∷ ms) h = grind (arith, (record_of m.text), (records_on ms), (fresh_from last ms))
 
   -- and so are records without a fault
   pub calm_from : (last : Option Locus) (ms : List TextLine) → (good_from block_format input last ms).fault ≡ None → good_from block_format input last ms ≡ good_from block_format input None ms
   unfolding good_from record_says
   calm_from last [] e = refl
-  calm_from last (m ∷ ms) e = grind (arith, calm_with, (calm_from last ms))
+  calm_from last (m ∷ ms) e = grind (arith, (record_of m.text), (calm_from last ms))
 
   -- ---- two texts
 

@@ -1,6 +1,5 @@
 -- Parts with their own parts of the genome file: complement, genomecov and merge.
 use Rattle.bt_lines.proofs.Std.{arith, ◌≡◌, ℕ, Bool, true, false, List, [], ◌∷◌, ◌++◌, filter, append-nil, Option, Some, None, refl, sym, ap, ap₂, ◌∙◌, cond, map, Ok, subst, IsTrue, bytes_eq, flat_map, nat_le, nat_lt, AllByRecursion, or_left, or_right, flat_map-append, map-append, filter-append, or_parts}
-use Rattle.std.specs.declared.cmp.Ordering.{Ordering}
 use Rattle.std.specs.declared.cmp.Ordering.TheVariants.{Less, Greater}
 use Rattle.bt_bed.specs.model.Feature.{Feature, interval_of, intervals_of, Interval, last_from, last_of}
 use Rattle.bt_bed.specs.model.BedLine.{interval_line, interval_lines}
@@ -15,10 +14,12 @@ use Rattle.bt_runs.specs.model.Gaps.{is_over_at, complement, gaps_on, is_asked, 
 use Rattle.bt_runs.specs.calls.Complementing.{AreTaken}
 use Rattle.bt_tool.specs.model.Written.{Written, complement_written, coverage_written, merge_written, pooled_written, Report, good_report, members_report}
 use Rattle.bt_laws.proofs.lemmas.parts.PartGenomes.{agree_first, agree_second, apart_both, entry_less, names_both, among_append, no_first, agree_good, records_both, within_before, last_behind, last_is, none_has, has_append, records_away, spans_first, spans_second}
-use Rattle.bt_runs.proofs.lemmas.Lists.{all_flat_map, all_so, filter_all, filter_none, filter_same, flat_map_same, all_any, all_both, all_map, map_same}
+use Rattle.bt_runs.proofs.lemmas.Lists.{all_flat_map, all_so, filter_all, filter_none, filter_same, flat_map_same, all_any, all_both, all_map, map_same, all_unmap, all_zip}
 use Rattle.bt_laws.proofs.lemmas.parts.PartReports.{Splits, nothing, parts_both, splits_as, Joins, good_joins}
-use Rattle.bt_laws.proofs.lemmas.parts.PartBed.{reversed_less, Earlier, bed_joint, good_earlier, items_all}
-use Rattle.bt_lines.specs.model.Lines.{Handed, lines_from, text_lines}
+use Rattle.bt_laws.proofs.lemmas.parts.PartBed.{reversed_less, Earlier, bed_joint, good_earlier, items_all, records_on}
+use Rattle.bt_laws.proofs.lemmas.parts.PartSequences.{sound_from}
+use Rattle.bt_lines.specs.model.Lines.{Handed, TextLine, lines_from, text_lines}
+use Rattle.bt_lines.specs.declared.fault.Input.{Input}
 use Rattle.bt_lines.specs.declared.fault.Input.TheVariants.{First}
 use Rattle.bt_bed.specs.model.Good.{Good, good, good_from, items_in, bed_format}
 use Rattle.bt_bed.specs.declared.record.strand.Strand.{Strand}
@@ -32,7 +33,7 @@ use Rattle.bt_runs.proofs.lemmas.order.FileOrder.{ordered_come}
 use Rattle.bt_runs.proofs.lemmas.coverage.DepthSteps.{settles_depths}
 use Rattle.bt_runs.proofs.lemmas.complement.GapRuleLemmas.{settles_gaps}
 use Rattle.bt_runs.proofs.lemmas.definitions.Standing.{begins}
-use Rattle.bt_laws.specs.Parts.{AreShards, LiesWithin, Shard, ShardsAddUp, all_entries, complement_divides, genomecov_divides, merge_genomes_divide, shard_texts, AreOfLines, StandsBefore, joined, said_records, on_text, AddUp, StopWithin}
+use Rattle.bt_laws.specs.Parts.{AreShards, LiesWithin, Shard, ShardsAddUp, all_entries, complement_divides, genomecov_divides, merge_genomes_divide, shard_texts, AreOfLines, StandsBefore, joined, said_records, on_text, AddUp, StopWithin, ShardsSuffice}
 use Rattle.bt_tool.specs.model.Report.{chromosomes_of, report_of, report_on}
 use Rattle.bt_tool.specs.declared.planning.plan_type.Command.{Command}
 use Rattle.bt_tool.specs.declared.planning.plan_type.Command.TheVariants.{Complement, Coverage, Merge}
@@ -44,12 +45,6 @@ use Rattle.bt_laws.proofs.lemmas.parts.PartMerge.{fewer, pooled_split, strands_s
 own_names : (es : List Entry) (all : List (List ℕ)) → ((n : List ℕ) → is_among (genome_names es) n ≡ true → is_among all n ≡ true) → AllByRecursion (λ e. is_among all e.name ≡ true) es
 own_names [] all f = tt
 own_names (e ∷ es) all f = grind (arith, (own_names es all (λ n h. f n (or_right (bytes_eq e.name n) (is_among (genome_names es) n) h))), name_eq)
-
-over_less : (o : Ordering) (b : Bool) → o ≡ Less → is_over_at o b ≡ true
-over_less o b e = grind arith
-
-over_greater : (o : Ordering) (b : Bool) → o ≡ Greater → is_over_at o b ≡ false
-over_greater o b e = grind arith
 
 module _ {T : Type 0} (chrom : T → List ℕ) (ends : Interval → T → Bool) (line : T → List ℕ) (F : List Feature → Entry → List T) where
   -- what is written of a genome file's chromosomes
@@ -129,7 +124,7 @@ module _ {T : Type 0} (chrom : T → List ℕ) (ends : Interval → T → Bool) 
         ∙ filter-append (is_ended Both last) (whole_of e_one (q ∷ qs)) (whole_of e_two (q ∷ qs))
         ∙ ap₂ (λ a b. a ++ b)
         (filter_same (is_ended Both last) (is_ended One-names last) (whole_of e_one (q ∷ qs)) (all_so _ _ (whole_of e_one (q ∷ qs)) (λ t is. ap (λ o. is_over_at o (ends last t)) ((agree_first e_one e_two).compare (chrom t) last.chrom (λ w. is) (λ w. at))) (items_named One-names e_one (q ∷ qs) own_one)))
-        (filter_none (is_ended Both last) (whole_of e_two (q ∷ qs)) (all_so _ _ (whole_of e_two (q ∷ qs)) (λ t is. over_greater _ (ends last t) (greater (chrom t) last.chrom is at)) (items_named Two-names e_two (q ∷ qs) own_two)))
+        (filter_none (is_ended Both last) (whole_of e_two (q ∷ qs)) (all_so _ _ (whole_of e_two (q ∷ qs)) (λ t is. ap (λ o. is_over_at o (ends last t)) (greater (chrom t) last.chrom is at)) (items_named Two-names e_two (q ∷ qs) own_two)))
         ∙ append-nil (filter (is_ended One-names last) (whole_of e_one (q ∷ qs)))
 
     settled_both : (ones : List Feature) (s : Feature) (twos : List Feature) → AllByRecursion (λ r. is_among One-names r.chrom ≡ true) (intervals_of ones) → AllByRecursion (λ r. is_among Two-names r.chrom ≡ true) (intervals_of (s ∷ twos))
@@ -141,7 +136,7 @@ module _ {T : Type 0} (chrom : T → List ℕ) (ends : Interval → T → Bool) 
         ∙ ap (filter (is_ended Both last)) (whole_both ones (s ∷ twos) in_one in_two)
         ∙ filter-append (is_ended Both last) (whole_of e_one ones) (whole_of e_two (s ∷ twos))
         ∙ ap₂ (λ a b. a ++ b)
-        (filter_all (is_ended Both last) (whole_of e_one ones) (all_so _ _ (whole_of e_one ones) (λ t is. over_less _ (ends last t) (less (chrom t) last.chrom is at)) (items_named One-names e_one ones own_one)))
+        (filter_all (is_ended Both last) (whole_of e_one ones) (all_so _ _ (whole_of e_one ones) (λ t is. ap (λ o. is_over_at o (ends last t)) (less (chrom t) last.chrom is at)) (items_named One-names e_one ones own_one)))
         (filter_same (is_ended Both last) (is_ended Two-names last) (whole_of e_two (s ∷ twos)) (all_so _ _ (whole_of e_two (s ∷ twos)) (λ t is. ap (λ o. is_over_at o (ends last t)) ((agree_second e_one e_two distinct).compare (chrom t) last.chrom (λ w. is) (λ w. at))) (items_named Two-names e_two (s ∷ twos) own_two)))
 
     lines_both : (xs ys : List T) → flat_map line (xs ++ ys) ≡ flat_map line xs ++ flat_map line ys
@@ -162,11 +157,7 @@ module _ {T : Type 0} (chrom : T → List ℕ) (ends : Interval → T → Bool) 
 
 flat_filter : {A B : Type 0} (g : A → List B) (t : A → Bool) (xs : List A) → flat_map g (filter t xs) ≡ flat_map (λ x. cond (t x) (g x) []) xs
 flat_filter g t [] = refl
-flat_filter g t (x ∷ xs) = by (t x) ∙ ap (λ l. cond (t x) (g x) [] ++ l) (flat_filter g t xs)
-  where
-    by : (b : Bool) → flat_map g (cond b (x ∷ filter t xs) (filter t xs)) ≡ cond b (g x) [] ++ flat_map g (filter t xs)
-    by true = refl
-    by false = refl
+flat_filter g t (x ∷ xs) = grind (arith, (flat_filter g t xs))
 
 -- records of parts, each known to its own genome file
 pub record OwnParts (e_one e_two : List Entry) (ones twos : List Feature) : Type 0 where
@@ -341,6 +332,16 @@ module _ {X : Type 0} (entries : X → List Entry) (records : X → List Feature
       (parts_both join report Fit empty alone fit_less (λ x y xs fit. two x y xs fit.lines fit.distinct fit.within.0 (records_all _ (y ∷ xs) (less x (y ∷ xs) fit.lines) (within_all _ (y ∷ xs) fit.within.1)))
       xs (record { distinct = distinct; lines = lines; within = within }))
 
+-- ---- records without a fault lie on known chromosomes
+
+known_from : (order : Order) (input : Input) (ms : List TextLine) → (good (bed_format (sorting_of order)) input ms).fault ≡ None → AllByRecursion (λ r. IsTrue (order.knows r.chrom)) (records_on ms)
+known_from order input ms e =
+    subst (AllByRecursion (λ r. IsTrue (order.knows r.chrom))) (sound_from (sorting_of order) input None ms e) (items_all (sorting_of order) input (λ r. IsTrue (order.knows r.chrom)) None ms (all_any _ _ (λ r known. known)))
+
+-- on those of the part's genome file
+pub lies : (own whole : List Entry) (input : Input) (text : List ℕ) → (good (bed_format (sorting_of (rank_order (genome_names own)))) input (text_lines text)).fault ≡ None → AllByRecursion (LiesWithin own whole) (said_records text)
+lies own whole input text e = grind (arith, all_so, among_ranked, (known_from (rank_order (genome_names own)) input (text_lines text) e))
+
 -- ---- any command that writes so
 
 module _ (W : List Entry → Written Feature) (command : Command)
@@ -412,6 +413,15 @@ module _ (W : List Entry → Written Feature) (command : Command)
       both_reports s.entries later s.text rest lines.0 distinct one two (splits s.entries later (items_in (good_of s.entries s.text)) (items_in (good_of later rest)) (own s.entries later s.text rest lines.0 distinct one two)))
       (λ s. on_text command (Some s.genome) s.text) (on_text command (Some genome) (joined (shard_texts shards))) shards (all_so _ _ shards (λ s has. text_report s.genome s.entries s.text has) are.parts)
       (text_report genome (all_entries shards) (joined (shard_texts shards)) are.whole) (distinct_in genome (all_entries shards) are.whole) are.lines are.within
+
+  -- runs on the parts without a fault suffice
+  shard_lies : (whole : List Entry) (shard : Shard) → chromosomes_of (Some shard.genome) ≡ Ok (Some shard.entries) → (on_text command (Some shard.genome) shard.text).fault ≡ None
+      → AllByRecursion (LiesWithin shard.entries whole) (said_records shard.text)
+  shard_lies whole shard has e =
+      lies shard.entries whole First shard.text (sym (grind arith) ∙ ap (λ (r : Report). r.fault) (sym (text_report shard.genome shard.entries shard.text has)) ∙ e)
+
+  pub shards_suffice : ((genome : Handed) (shards : List Shard) → AreShards genome shards → ShardsAddUp command genome shards) → ShardsSuffice command
+  shards_suffice add genome shards are all = grind (arith, (all_zip _ _ _ shards (λ shard has e. shard_lies (all_entries shards) shard has e) are.parts (all_unmap _ _ shards all)))
 
 pub complement_parts : complement_divides
 unfolding lines_from good_from complement

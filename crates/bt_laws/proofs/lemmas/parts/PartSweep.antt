@@ -15,7 +15,7 @@ use Rattle.bt_sweep.specs.declared.output.shape.Shape.{Shape}
 use Rattle.bt_laws.specs.Parts.{unless_fault}
 use Rattle.bt_tool.specs.model.Written.{Report, met_report}
 use Rattle.bt_laws.proofs.lemmas.parts.PartBed.{Earlier}
-use Rattle.bt_runs.proofs.lemmas.Lists.{all_any, all_so, all_swapped, filter_none, flat_map_same, none_from}
+use Rattle.bt_runs.proofs.lemmas.Lists.{all_any, all_so, all_swapped, all_zip, filter_none, flat_map_same, none_from}
 use Rattle.bt_laws.proofs.lemmas.parts.PartReports.{Adds, Stops, Contiguous, Joins}
 
 -- ---- lists up to the first that fails a test
@@ -105,14 +105,8 @@ module _ {order : Order} {total : IsTotal order} (shape : Shape) (rule : HitRule
 
   -- the first of the others decides all before it
   first_decided : (b : Feature) (bs : List Feature) → btwos ≡ b ∷ bs → AllByRecursion (λ a. decided order a (bones ++ btwos) ≡ true) aones
-  first_decided b bs e = from aones split.known_first split.first_second
-    where
-      one : (a : Feature) → IsTrue (order.knows a.chrom) → AllByRecursion (λ s. order.compare a.chrom s.chrom ≡ Less) btwos → decided order a (bones ++ btwos) ≡ true
-      one a known less = grind (arith, common_steps)
-
-      from : (given : List Feature) → AllByRecursion (λ r. IsTrue (order.knows r.chrom)) given → Earlier order total given btwos → AllByRecursion (λ a. decided order a (bones ++ btwos) ≡ true) given
-      from [] known early = tt
-      from (a ∷ given) known early = (one a known.0 early.0, from given known.1 early.1)
+  first_decided b bs e =
+      all_zip (λ r. IsTrue (order.knows r.chrom)) (λ r. AllByRecursion (λ s. order.compare r.chrom s.chrom ≡ Less) btwos) (λ a. decided order a (bones ++ btwos) ≡ true) aones (λ a known less. grind (arith, common_steps)) split.known_first split.first_second
 
   module _ (fa1 fa2 fa fb1 fb2 fb : Option FaultValue) (all bs : List Feature) (ja : Contiguous fa1 fa2 fa aones atwos all) (jb : Contiguous fb1 fb2 fb bones btwos bs) where
     abbrev One : Report
@@ -153,15 +147,15 @@ module _ {order : Order} {total : IsTotal order} (shape : Shape) (rule : HitRule
     front = grind (arith, (take_front Rule-of-both.decided Rule-of-both.lines aones), flat_map_same, all_so, lines_first, lines_none)
 
     second_same : written Rule-of-both atwos ≡ written (sweep_rule order shape rule btwos fb2) atwos
-    second_same = written_same Rule-of-both (sweep_rule order shape rule btwos fb2) atwos (each atwos none_second split.apart_second)
-      where
-        each : (given : List Feature) → AllByRecursion (λ a. AllByRecursion (λ b. decides order a b ≡ false) bones) given → AllByRecursion (λ a. AllByRecursion (λ b. bytes_eq a.chrom b.chrom ≡ false) bones) given
-            → AllByRecursion (λ a. (Rule-of-both.decided a ≡ (sweep_rule order shape rule btwos fb2).decided a) × (Rule-of-both.lines a ≡ (sweep_rule order shape rule btwos fb2).lines a)) given
-        each [] h k = tt
-        each (a ∷ given) h k = (
-          (ap₂ (λ b d. b || d) jb.1 (ap (decided order a) jb.0 ∙ any_behind (decides order a) bones btwos h.0), ap (lines_for shape rule a) jb.0 ∙ lines_second shape rule a bones btwos k.0),
-          each given h.1 k.1,
-        )
+    second_same =
+        let own = sweep_rule order shape rule btwos fb2 in
+        written_same Rule-of-both own atwos
+        (all_zip (λ a. AllByRecursion (λ b. decides order a b ≡ false) bones) (λ a. AllByRecursion (λ b. bytes_eq a.chrom b.chrom ≡ false) bones)
+        (λ a. (Rule-of-both.decided a ≡ own.decided a) × (Rule-of-both.lines a ≡ own.lines a)) atwos
+        (λ a h k. (
+          ap₂ (λ b d. b || d) jb.1 (ap (decided order a) jb.0 ∙ any_behind (decides order a) bones btwos h),
+          ap (lines_for shape rule a) jb.0 ∙ lines_second shape rule a bones btwos k,
+        )) none_second split.apart_second)
 
     -- all of the first part is decided
     past_first : AllByRecursion (λ a. Rule-of-both.decided a ≡ true) aones → all ≡ aones ++ atwos → (rest : List ℕ) × (first_report.output ++ second_report.output ≡ (sweep_report order shape rule all fa bs fb).output ++ rest)

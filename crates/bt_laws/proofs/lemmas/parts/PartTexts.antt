@@ -5,10 +5,10 @@ use Rattle.bt_lines.specs.declared.fault.Input.TheVariants.{First, Second}
 use Rattle.bt_bed.specs.model.Good.{Good, good, good_from, items_in, bed_format}
 use Rattle.bt_seq.specs.model.Alignment.{Alignment, alignment_of, sam_format}
 use Rattle.bt_laws.specs.Parts.{AreOfLines, StandsBefore, joined, ComeBefore, said_records, bamtobed_divides, on_text, ArePairs, PairsAscend, Texts, TextsAscend, intersect_divides, joined_texts, merge_divides, on_texts, subtract_divides, PairsAddUp, AreAtHeaders, WritesOn, MaskTheirOwn, NoneMoves, begins_sequence, maskfasta_divides, repeated_names_divide, AddUp, StopWithin, outputs_to_fault}
-use Rattle.bt_tool.specs.model.Written.{Report, good_report, alignments_written, merge_written}
+use Rattle.bt_tool.specs.model.Written.{Report, Written, good_report, alignments_written, merge_written}
 use Rattle.bt_tool.specs.model.Report.{report_of, chromosomes_of, order_of}
 use Rattle.bt_tool.specs.declared.planning.plan_type.Command.TheVariants.{BamToBed, Intersect, Merge, Subtract, MaskFasta}
-use Rattle.bt_laws.proofs.lemmas.parts.PartLines.{IsJoint, good_joint}
+use Rattle.bt_laws.proofs.lemmas.parts.PartLines.{good_joint}
 use Rattle.bt_laws.proofs.lemmas.parts.PartReports.{Splits, parts_both, Joins, good_joins, nothing, together, parts_add, stop_more, stop_none, stop_one}
 use Rattle.bt_runs.proofs.lemmas.Lists.{all_any, all_back, all_front, all_so, all_unmap}
 use Rattle.bt_lines.specs.declared.fault.Input.{Input}
@@ -33,29 +33,28 @@ use Rattle.bt_tool.specs.declared.planning.plan_type.Command.{Command}
 use Rattle.bt_lines.specs.model.Fault.{FaultValue}
 use Rattle.bt_seq.specs.declared.mask.mask_how.MaskHow.{MaskHow}
 use Rattle.bt_laws.proofs.lemmas.parts.PartMasked.{mask_is}
-use Rattle.bt_laws.proofs.lemmas.parts.PartMaskReports.{Lacks, faulty_first, lacks_kind, sound_goes, sound_stops, AreTwo, mask_adds, texts_report, two_suffice}
+use Rattle.bt_laws.proofs.lemmas.parts.PartMaskReports.{Lacks, faulty_first, lacks_kind, sound_goes, sound_stops, AreTwo, mask_adds, report_on, two_suffice}
 
 module _ (split cigar : Bool) where
-  on_sam : List ℕ → Report
-  on_sam text = good_report (alignments_written split cigar) (good sam_format First (text_lines text))
+  abbrev sam_of : List ℕ → Good Alignment
+  sam_of text = good sam_format First (text_lines text)
 
-  sam_is : (text : List ℕ) → on_text (BamToBed split cigar) None text ≡ on_sam text
-  unfolding report_of on_sam
+  abbrev sam_written : Written Alignment
+  sam_written = alignments_written split cigar
+
+  sam_is : (text : List ℕ) → on_text (BamToBed split cigar) None text ≡ good_report sam_written (sam_of text)
+  unfolding report_of
   sam_is text = grind arith
 
-  lines_split : (ones twos : List Alignment) → Splits (alignments_written split cigar) (alignments_written split cigar) (alignments_written split cigar) ones twos
+  lines_split : (ones twos : List Alignment) → Splits sam_written sam_written sam_written ones twos
   lines_split ones twos = grind (arith, flat_map-append, append-nil)
 
-  sam_joint : (one two : List ℕ) → StandsBefore one two → IsJoint (good sam_format First (text_lines one)) (good sam_format First (text_lines two)) (good sam_format First (text_lines (one ++ two)))
-  sam_joint one two ends = good_joint sam_format First one two ends (λ state l m e d. ap alignment_of e) (λ n. refl)
-
-  sam_joins : (one two : List ℕ) → StandsBefore one two → Joins (on_sam one) (on_sam two) (on_sam (one ++ two))
-  unfolding on_sam
-  sam_joins one two ends =
-      good_joins (alignments_written split cigar) (alignments_written split cigar) (alignments_written split cigar) (good sam_format First (text_lines one)) (good sam_format First (text_lines two)) (good sam_format First (text_lines (one ++ two))) (sam_joint one two ends) (lines_split _ _)
-
-  text_joins : (one two : List ℕ) → StandsBefore one two → Joins (on_text (BamToBed split cigar) None one) (on_text (BamToBed split cigar) None two) (on_text (BamToBed split cigar) None (one ++ two))
-  text_joins one two ends = rw (sam_is one, sam_is two, sam_is (one ++ two)) (sam_joins one two ends)
+  text_joins : (one two : List ℕ) → StandsBefore one two
+      → Joins (on_text (BamToBed split cigar) None one) (on_text (BamToBed split cigar) None two) (on_text (BamToBed split cigar) None (one ++ two))
+  text_joins one two ends =
+      rw (sam_is one, sam_is two, sam_is (one ++ two))
+      (good_joins sam_written sam_written sam_written (sam_of one) (sam_of two) (sam_of (one ++ two))
+      (good_joint sam_format First one two ends (λ state l m e d. ap alignment_of e) (λ n. refl)) (lines_split _ _))
 
 pub lines_less : (text : List ℕ) (texts : List (List ℕ)) → AreOfLines (text ∷ texts) → AreOfLines texts
 lines_less text texts lines = lines.1
@@ -201,7 +200,7 @@ subtract_parts whole rule genome chromosomes parts has =
 
 module _ (how : MaskHow) (full : Bool) where
   abbrev T : Texts → Report
-  T texts = texts_report how full texts
+  T texts = report_on how full texts
 
   on_is : (parts : List Texts) → map (on_texts (MaskFasta how full) None) parts ≡ map T parts
   on_is parts = grind (arith, mask_is)
@@ -301,6 +300,6 @@ mask_divides how full parts lines headers own =
 
 pub repeated_divide : repeated_names_divide
 repeated_divide how full parts lines headers none all =
-    let sound = all_unmap _ (texts_report how full) parts (rw (on_is how full parts) at all) in
+    let sound = all_unmap _ (report_on how full) parts (rw (on_is how full parts) at all) in
     let whole = suffice_all how full parts (record { fit = record { lines = lines; headers = headers }; none = none }) sound in
-    rw (on_is how full parts, mask_is how full (joined_texts parts)) (whole.0, whole.1 ∙ sym (flat_map-map (λ (part : Report). part.output) (texts_report how full) parts))
+    rw (on_is how full parts, mask_is how full (joined_texts parts)) (whole.0, whole.1 ∙ sym (flat_map-map (λ (part : Report). part.output) (report_on how full) parts))

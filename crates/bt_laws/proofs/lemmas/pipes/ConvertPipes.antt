@@ -241,15 +241,10 @@ module _ (full : Bool) (input : Input) (f : SequenceLine → List ℕ) (safe : (
   unfolding good_from
   none_again m reached = grind (arith, (lines_from-nil m))
 
-  one_again : (n m : ℕ) (byte : ℕ) (bytes : List ℕ) (reached : Reached) → NoLineFeed (byte ∷ bytes) → (goods reached (last_line n (byte ∷ bytes))).fault ≡ None
-      → ReadAgain m reached (last_line n (byte ∷ bytes))
-  unfolding good_from
-  one_again n m byte bytes reached clear none = grind (arith, (clear_strip 13 (byte ∷ bytes) clear), append-nil, last_by)
-
   piece_again : (n : ℕ) (piece : List ℕ) → NoLineFeed piece → ReadsAgain (last_line n piece)
   unfolding good_from
   piece_again n [] clear m reached none = none_again m reached
-  piece_again n (byte ∷ bytes) clear m reached none = one_again n m byte bytes reached clear none
+  piece_again n (byte ∷ bytes) clear m reached none = grind (arith, (clear_strip 13 (byte ∷ bytes) clear), append-nil, last_by)
 
   next_again : (n : ℕ) (piece rest : List ℕ) → NoLineFeed piece → ReadsAgain (lines_from (suc n) rest) → ReadsAgain (fed_line n piece ∷ lines_from (suc n) rest)
   unfolding good_from

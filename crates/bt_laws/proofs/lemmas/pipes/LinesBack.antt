@@ -1,7 +1,7 @@
 -- Lines and numbers have no line feed.
 use Rattle.bt_lines.proofs.Std.{common_steps, rules, ◌≡◌, ℕ, Bool, true, false, List, [], ◌∷◌, ◌++◌, refl, sym, subst, eqb, suc, ◌<◌, ◌≤◌, cond, arith, decimal, AllByRecursion, ends_with_byte, strip_last, All-append, All-cons, All-head, All-tail, All-nil, ◌||◌, length, Option, Some, None, Ok, ap, ◌∙◌, append_assoc, append-nil, IsTrue, ◌==◌, decimal_is_IsNumeral, get_or-append-add, length-append, Err, map, filter, flat_map, flat_map-map, Result, join_with_byte, join_with_byte-slice_split}
 use Rattle.bt_lines.specs.calls.Line.{NoLineFeed}
-use Rattle.bt_lines.specs.model.Lines.{TextLine, last_line, lines_from, whole_lines_from, fed_line, text_lines, Handed, lines_handed, pieces, value_of}
+use Rattle.bt_lines.specs.model.Lines.{TextLine, last_line, lines_from, whole_lines_from, text_lines, Handed, lines_handed, pieces, value_of}
 use Rattle.bt_lines.proofs.lemmas.reader.lines.TextLemmas.{lines_from-fed, lines_from-last, by_lines, whole_lines_from-fed, whole_lines_from-last, lines_from-nil}
 use Rattle.bt_runs.proofs.lemmas.Lists.{all_so, all_any, all_map, map_map, flat_map_same}
 use Rattle.bt_bed.specs.model.Feature.{Feature, interval_of, intervals_of, Interval}
@@ -10,15 +10,14 @@ use Rattle.bt_bed.specs.calls.Features.{IsName, columns_in, is_kept, IsFeature}
 use Rattle.bt_bed.proofs.lemmas.parse.FeatureLemmas.{header_says, record_said, said_is_feature, said_stands, pieces_are_columns}
 use Rattle.bt_laws.proofs.lemmas.single.Records.{written_feature, until_tab, IsDigit, decimal_digits, columns_text}
 use Rattle.bt_lines.specs.declared.fault.Input.{Input}
-use Rattle.bt_bed.specs.model.Good.{Good, good, good_from, good_with, items_in, bed_format, line_says, locus_at, said_after, bed_good}
+use Rattle.bt_bed.specs.model.Good.{Good, good, good_from, items_in, bed_format, line_says, locus_at, bed_good}
 use Rattle.bt_bed.specs.model.Sorted.{Locus, falls_in, sorting_of}
 use Rattle.bt_bed.specs.calls.Orders.{ArePlaced, IsPlacedBefore, IsTotal}
 use Rattle.bt_bed.specs.model.Order.{Order}
 use Rattle.bt_runs.proofs.lemmas.order.FileOrder.{some_placed}
 use Rattle.bt_laws.specs.Pipes.{IsInput, is_no_header}
 use Rattle.bt_lines.specs.model.Fault.{FaultValue}
-use Rattle.bt_lines.specs.declared.fault.Kind.{Kind}
-use Rattle.bt_bed.specs.model.Genome.{Entry, columns_give, entry_from, entry_of, genome_from, genome_handed, genome_with, new_entry}
+use Rattle.bt_bed.specs.model.Genome.{Entry, columns_give, entry_of, genome_from, genome_handed}
 use Rattle.bt_bed.proofs.lemmas.Definitions.{line_said}
 use Rattle.bt_laws.proofs.lemmas.parts.PartLines.{items_so}
 
@@ -61,25 +60,19 @@ clear_whole n bytes = by_lines (λ n bytes. AreClear (whole_lines_from n bytes))
 
 -- ---- a number
 
-clear_digits : (ds : List ℕ) → AllByRecursion IsDigit ds → NoLineFeed ds
-clear_digits ds h = grind (arith, common_steps)
-
 pub clear_number : (n : ℕ) → NoLineFeed (decimal n)
-clear_number n = clear_digits (decimal n) (decimal_digits n)
+clear_number n = grind (arith, common_steps, (decimal_digits n))
 
 digits_none : (ds : List ℕ) → AllByRecursion IsDigit ds → AllByRecursion (λ b. eqb b 13 ≡ false) ds
 digits_none [] h = tt
 digits_none (c ∷ cs) h = ((grind arith), digits_none cs h.1)
 
-strip_none_by : (ds : List ℕ) (b : Bool) → ends_with_byte 13 ds ≡ b → AllByRecursion (λ b. eqb b 13 ≡ false) ds → strip_last 13 ds ≡ ds
-strip_none_by ds b e h = grind (arith, common_steps)
-
 -- no carriage return ends it, with a tab before it
 pub strip_number : (n : ℕ) → strip_last 13 (9 ∷ decimal n) ≡ 9 ∷ decimal n
-strip_number n = strip_none_by (9 ∷ decimal n) (ends_with_byte 13 (9 ∷ decimal n)) refl (refl, digits_none (decimal n) (decimal_digits n))
+strip_number n = grind (arith, common_steps, (digits_none (decimal n) (decimal_digits n)))
 
 pub strip_decimal : (n : ℕ) → strip_last 13 (decimal n) ≡ decimal n
-strip_decimal n = strip_none_by (decimal n) (ends_with_byte 13 (decimal n)) refl (digits_none (decimal n) (decimal_digits n))
+strip_decimal n = grind (arith, common_steps, (digits_none (decimal n) (decimal_digits n)))
 
 -- What a line says that begins with a name and two numbers.
 
@@ -173,22 +166,12 @@ module _ (order : Order) (total : IsTotal order) where
       pub faultless : g.fault ≡ None
 
     module _ (input : Input) where
-      says_on : (n : ℕ) (last : Option Locus) (o : Option Feature) (rest : Option Locus → Good Feature) (rs : List Feature)
-          → Follow last (some_said o ++ rs) → ((now : Option Locus) → Follow now rs → IsGood rs (rest now))
-          → IsGood (some_said o ++ rs) (good_with (bed_format (sorting_of order)) input n last (said_after (sorting_of order) last (Ok o)) rest)
-      says_on n last o rest rs follow more = grind arith
-
       good_written : (n : ℕ) (last : Option Locus) (xs : List X) → AllByRecursion SaysLine xs → Follow last (said_of xs)
           → IsGood (said_of xs) (good_from (bed_format (sorting_of order)) input last (lines_from n (flat_map line_for xs)))
       unfolding good_from line_says
       good_written n last [] says follow = grind (arith, (lines_from-nil n))
       good_written n last (x ∷ xs) says follow =
-          let behind = flat_map line_for xs in
-          let lines : lines_from n (line_for x ++ behind) ≡ fed_line n (text x) ∷ lines_from (suc n) behind =
-          ap (lines_from n) (append_assoc (text x) (10 ∷ []) behind) ∙ lines_from-fed n (text x) behind says.0.clear in
-          subst (λ ls. IsGood (some_said (said x) ++ said_of xs) (good_from (bed_format (sorting_of order)) input last ls)) (sym lines)
-          (subst (λ s. IsGood (some_said (said x) ++ said_of xs) (good_with (bed_format (sorting_of order)) input n last (said_after (sorting_of order) last s) (λ now. good_from (bed_format (sorting_of order)) input now (lines_from (suc n) behind)))) (sym says.0.says)
-          (says_on n last (said x) (λ now. good_from (bed_format (sorting_of order)) input now (lines_from (suc n) behind)) (said_of xs) follow (λ now follows. good_written (suc n) now xs says.1 follows)))
+          grind (arith, (append_assoc (text x) (10 ∷ []) (flat_map line_for xs)), (lines_from-fed n (text x) (flat_map line_for xs) says.0.clear), (says.0.says), (said x), (λ (now : Option Locus). good_written (suc n) now xs says.1))
 
       -- what is good of these lines
       pub good_lines : (xs : List X) → AllByRecursion SaysLine xs → ArePlaced order (intervals_of (said_of xs))
@@ -293,20 +276,11 @@ value_at_most : (text : List ℕ) (n : ℕ) → value_of text ≡ Some n → n �
 unfolding value_of
 value_at_most text n e = grind arith
 
-entry_said : (name : List ℕ) (size : Option ℕ) (entry : Entry) → entry_from name size ≡ Ok entry → (name ≡ entry.name) × (size ≡ Some entry.length) × (0 < length name) × (0 < entry.length)
-entry_said name size entry e = grind arith
-
-joined_name : (name size : List ℕ) (rest : List (List ℕ)) → (more : List ℕ) × (join_with_byte 9 (name ∷ size ∷ rest) ≡ name ++ 9 ∷ more)
-joined_name name size rest = (join_with_byte 9 (size ∷ rest), refl)
-
 columns_said : (text : List ℕ) (columns : List (List ℕ)) (entry : Entry) → NoLineFeed text → pieces 9 text ≡ columns → columns_give columns ≡ Ok entry → IsChrom entry
 columns_said text [] entry clear cut e = cc
 columns_said text (name ∷ []) entry clear cut e = cc
 columns_said text (name ∷ size ∷ rest) entry clear cut e =
-    let is = entry_said name (value_of size) entry e in
-    let whole = joined_name name size rest in
-    let split : text ≡ name ++ 9 ∷ whole.0 = sym (join_with_byte-slice_split 9 text) ∙ ap (join_with_byte 9) cut ∙ whole.1 in
-    grind (arith, (pieces_are_columns text), (clear_front name (9 ∷ whole.0) (subst NoLineFeed split clear)), (value_at_most size entry.length is.1))
+    grind (arith, (value_of size), (join_with_byte-slice_split 9 text), (pieces_are_columns text), (clear_front name (9 ∷ join_with_byte 9 (size ∷ rest))), (value_at_most size))
 
 line_is_chrom : (text : List ℕ) (entry : Entry) → NoLineFeed text → entry_of text ≡ Ok (Some entry) → IsChrom entry
 unfolding entry_of
@@ -317,15 +291,11 @@ abbrev pub AreChroms : Result (List Entry) FaultValue → Type 0
 AreChroms (Ok entries) = AllByRecursion IsChrom entries
 AreChroms (Err fault) = Unit {0}
 
-new_chrom : (input : Input) (n : ℕ) (names : List (List ℕ)) (text : List ℕ) (said : Result (Option Entry) Kind) (rest : List (List ℕ) → Result (List Entry) FaultValue) → NoLineFeed text → entry_of text ≡ said
-    → ((now : List (List ℕ)) → AreChroms (rest now)) → AreChroms (genome_with input n names (new_entry names said) rest)
-new_chrom input n names text said rest clear e h = grind (arith, line_is_chrom)
-
 chroms_from : (input : Input) (names : List (List ℕ)) (lines : List TextLine) → AreClear lines → AreChroms (genome_from input names lines)
 unfolding genome_from
 chroms_from input names [] clear = tt
 chroms_from input names (line ∷ lines) clear =
-    new_chrom input line.number names line.text (entry_of line.text) (λ now. genome_from input now lines) clear.0 refl (λ now. chroms_from input now lines clear.1)
+    grind (arith, (entry_of line.text), line_is_chrom, (λ (now : List (List ℕ)). chroms_from input now lines clear.1))
 
 pub genome_chroms : (input : Input) (handed : Handed) (entries : List Entry) → genome_handed input handed ≡ Ok entries → AllByRecursion IsChrom entries
 genome_chroms input handed entries e = grind (arith, chroms_from, clear_handed)

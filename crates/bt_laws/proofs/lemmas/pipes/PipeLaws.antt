@@ -1,5 +1,5 @@
 -- The reports whose outputs go on as inputs.
-use Rattle.bt_lines.proofs.Std.{append-nil, append_assoc, ◌≡◌, ℕ, Bool, true, false, List, [], ◌∷◌, ◌++◌, map, filter, Option, Some, None, Ok, refl, sym, ap, ◌∙◌, subst, ◌≢◌, if◌then◌else◌, AllByRecursion, AllPairs, ◌+◌, ◌<◌, length, arith, length-append, cases_lt, lt-ltb, ltb-true, filter-append}
+use Rattle.bt_lines.proofs.Std.{append-nil, append_assoc, ◌≡◌, ℕ, Bool, true, false, List, [], ◌∷◌, ◌++◌, map, filter, Option, Some, None, Ok, refl, sym, ap, ◌∙◌, subst, ◌≢◌, AllByRecursion, AllPairs, ◌+◌, ◌<◌, length, arith, length-append, cases_lt, lt-ltb, ltb-true, filter-append}
 use Rattle.bt_lines.specs.model.Fault.{FaultValue}
 use Rattle.bt_lines.specs.model.Lines.{Handed}
 use Rattle.bt_lines.specs.declared.fault.Input.TheVariants.{First, Second}
@@ -7,11 +7,10 @@ use Rattle.bt_bed.specs.model.Order.{byte_order, Order}
 use Rattle.bt_bed.specs.calls.Orders.{bytes_total, IsTotal, AreDistinct, ArePlaced}
 use Rattle.bt_bed.specs.model.Feature.{Feature, intervals_of, interval_of, Interval, Span}
 use Rattle.bt_bed.specs.calls.Stretches.{IsCovered}
-use Rattle.bt_bed.specs.model.BedLine.{interval_lines, fault_at_line}
+use Rattle.bt_bed.specs.model.BedLine.{interval_lines}
 use Rattle.bt_bed.specs.model.Genome.{Entry, genome_names}
 use Rattle.bt_bed.specs.model.Good.{Good, Member, items_in, bed_good}
 use Rattle.bt_bed.specs.model.Meeting.{written}
-use Rattle.bt_lines.specs.declared.fault.Kind.TheVariants.{TooManyHeld}
 use Rattle.bt_bed.specs.declared.record.strand.Strand.{Strand}
 use Rattle.bt_bed.proofs.lemmas.Definitions.{non_empty_good, placed_good}
 use Rattle.bt_laws.specs.Runs.{interval_at}
@@ -141,19 +140,10 @@ genomecov_input zeros strand inputs chromosomes well =
 
 -- ---- two inputs
 
-abbrev cut_either : Bool → Good Feature → Good Feature → Good Feature
-cut_either t one other = if t then one else other
-
-cut_whole_by : (t : Bool) (past : List (Member Feature)) (found : FaultValue) (rest whole : Good Feature) → (rest.fault ≡ None → rest ≡ whole)
-    → (cut_either t (record { members = past; fault = Some found }) rest).fault ≡ None → cut_either t (record { members = past; fault = Some found }) rest ≡ whole
-cut_whole_by t past found rest whole h e = grind arith
-
 -- a limit without a fault of its own changes nothing
 cut_whole : (too : List Feature → Bool) (past members : List (Member Feature)) (fault : Option FaultValue) → (cut_behind too past members fault).fault ≡ None → cut_behind too past members fault ≡ record { members = past ++ members; fault = fault }
 cut_whole too past [] fault e = ap (λ ms. record { members = ms; fault = fault }) (sym (append-nil past))
-cut_whole too past (m ∷ more) fault e =
-    cut_whole_by (too (map (λ (m : Member Feature). m.item) (past ++ m ∷ []))) (past ++ m ∷ []) (fault_at_line Second m.line TooManyHeld) (cut_behind too (past ++ m ∷ []) more fault) (record { members = past ++ m ∷ more; fault = fault })
-    (λ none. cut_whole too (past ++ m ∷ []) more fault none ∙ ap (λ (ms : List (Member Feature)). record { members = ms; fault = fault }) (append_assoc past (m ∷ []) more)) e
+cut_whole too past (m ∷ more) fault e = grind (arith, append_assoc, (cut_whole too (past ++ m ∷ []) more fault))
 
 pub limit_whole : (order : Order) (limit : Option ℕ) (first : List Feature) (second : Good Feature) → (limited order limit first second).fault ≡ None → limited order limit first second ≡ second
 limit_whole order limit first second e = grind (arith, cut_whole)

@@ -1,14 +1,14 @@
 -- Intervals chromosome by chromosome: they are in order, and those of different chromosomes have nothing in common.
-use Rattle.bt_lines.proofs.Std.{◌≡◌, ℕ, ◌+◌, ◌<◌, ◌≤◌, Bool, false, cond, List, [], ◌∷◌, ◌++◌, map, filter, refl, inr, arith, IsTrue, flat_map, bytes_eq, AllByRecursion, or_parts}
+use Rattle.bt_lines.proofs.Std.{◌≡◌, ℕ, ◌+◌, ◌<◌, ◌≤◌, Bool, false, List, [], ◌∷◌, ◌++◌, map, filter, refl, inl, inr, arith, IsTrue, flat_map, bytes_eq, AllByRecursion, or_parts}
 use Rattle.std.specs.declared.cmp.Ordering.TheVariants.{Less}
 use Rattle.bt_bed.specs.model.Feature.{Interval, Span, placed_on}
 use Rattle.bt_bed.specs.calls.Stretches.{AreApartFrom}
-use Rattle.bt_bed.specs.calls.Orders.{ArePlaced, IsPlacedBefore, IsTotal, AreDistinct}
+use Rattle.bt_bed.specs.model.Sorted.{locus_of}
+use Rattle.bt_bed.specs.calls.Orders.{ArePlaced, IsUpTo, IsTotal, AreDistinct}
 use Rattle.bt_bed.specs.model.Order.{Order, is_among, rank_order}
 use Rattle.bt_bed.proofs.lemmas.parse.NameLemmas.{name_ne-sym}
 use Rattle.bt_laws.specs.Runs.{AreAscending, AreKnown}
-use Rattle.bt_runs.proofs.lemmas.order.FileOrder.{rank_of-here}
-use Rattle.bt_laws.specs.Pipes.{AreSeparate}
+use Rattle.bt_runs.proofs.lemmas.order.FileOrder.{rank_of-here, skips}
 use Rattle.bt_runs.proofs.lemmas.Lists.{EachPair, all_any, all_both, all_filter, all_flat_map, all_map, all_so, all_unmap, all_zip}
 
 -- ---- pairs
@@ -21,16 +21,16 @@ pub pairs_so : {A : Type 0} (P : A → Type 0) (R S : A → A → Type 0) (xs : 
 pairs_so P R S [] f ps h = tt
 pairs_so P R S (x ∷ xs) f ps h = (all_with P R S x xs (λ y q r. f x y ps.0 q r) ps.1 h.0, pairs_so P R S xs f ps.1 h.1)
 
+pub pairs_weaker : {A : Type 0} (R S : A → A → Type 0) (xs : List A) → ((x y : A) → R x y → S x y) → EachPair R xs → EachPair S xs
+pairs_weaker R S xs f h = pairs_so (λ x. Unit {0}) R S xs (λ x y p q r. f x y r) (all_any (λ x. Unit {0}) xs (λ x. tt)) h
+
 pub pairs_any : {A : Type 0} (P : A → Type 0) (R : A → A → Type 0) (xs : List A) → ((x y : A) → P x → P y → R x y) → AllByRecursion P xs → EachPair R xs
 pairs_any P R [] f h = tt
 pairs_any P R (x ∷ xs) f h = (all_so P (R x) xs (λ y q. f x y h.0 q) h.1, pairs_any P R xs f h.1)
 
-pairs_by : {A : Type 0} (R : A → A → Type 0) (b : Bool) (x : A) (xs : List A) → AllByRecursion (R x) xs → EachPair R xs → EachPair R (cond b (x ∷ xs) xs)
-pairs_by R b x xs h k = grind arith
-
 pub pairs_filter : {A : Type 0} (R : A → A → Type 0) (t : A → Bool) (xs : List A) → EachPair R xs → EachPair R (filter t xs)
 pairs_filter R t [] h = tt
-pairs_filter R t (x ∷ xs) h = pairs_by R (t x) x (filter t xs) (all_filter (R x) t xs h.0) (pairs_filter R t xs h.1)
+pairs_filter R t (x ∷ xs) h = grind (arith, (pairs_filter R t xs h.1), (all_filter (R x) t xs h.0))
 
 pub pairs_map : {A B : Type 0} (R : B → B → Type 0) (f : A → B) (xs : List A) → EachPair (λ x y. R (f x) (f y)) xs → EachPair R (map f xs)
 pairs_map R f [] h = tt
@@ -44,6 +44,18 @@ pub pairs_both : {A : Type 0} (R : A → A → Type 0) (xs ys : List A) → Each
 pairs_both R [] ys h k cross = k
 pairs_both R (x ∷ xs) ys h k cross = (all_both (R x) xs ys h.0 cross.0, pairs_both R xs ys h.1 k cross.1)
 
+-- ---- pairs of a list of lists
+
+behind : {A B : Type 0} (R : B → B → Type 0) (part : A → List B) (x : A) (xs : List A) → AllByRecursion (λ y. AllByRecursion (λ r. AllByRecursion (R r) (part y)) (part x)) xs
+    → AllByRecursion (λ r. AllByRecursion (R r) (flat_map part xs)) (part x)
+behind R part x [] cross = all_any _ (part x) (λ r. tt)
+behind R part x (y ∷ ys) cross = grind (arith, all_zip, all_both, (behind R part x ys cross.1))
+
+pub pairs_flat : {A B : Type 0} (R : B → B → Type 0) (part : A → List B) (xs : List A) → AllByRecursion (λ x. EachPair R (part x)) xs
+    → EachPair (λ x y. AllByRecursion (λ r. AllByRecursion (R r) (part y)) (part x)) xs → EachPair R (flat_map part xs)
+pairs_flat R part [] own cross = tt
+pairs_flat R part (x ∷ xs) own cross = grind (arith, (pairs_flat R part xs own.1 cross.1), pairs_both, behind)
+
 -- ---- names in order
 
 module _ (order : Order) where
@@ -52,7 +64,8 @@ module _ (order : Order) where
 
   later_all : IsTotal order → (n m : List ℕ) (ns : List (List ℕ)) → IsTrue (order.knows n) → IsTrue (order.knows m) → AreKnown order ns → Earlier n m → AllByRecursion (Earlier m) ns → AllByRecursion (Earlier n) ns
   later_all total n m [] known mid knowns less later = tt
-  later_all total n m (k ∷ ns) known mid knowns less later = grind (arith, (later_all total n m ns known mid knowns.1 less later.1))
+  later_all total n m (k ∷ ns) known mid knowns less later =
+      (total.ascends n m k known mid knowns.0 less later.0, later_all total n m ns known mid knowns.1 less later.1)
 
   pub ascending_pairs : IsTotal order → (names : List (List ℕ)) → AreKnown order names → AreAscending order names → EachPair Earlier names
   ascending_pairs total [] known up = tt
@@ -73,66 +86,80 @@ pub names_pairs : (names : List (List ℕ)) → AreDistinct names → EachPair (
 names_pairs [] distinct = tt
 names_pairs (n ∷ ns) distinct = grind (arith, (others n ns distinct.0), (rank_of-here n n ns refl), all_zip, (known_names ns), pairs_so, (names_pairs ns distinct.1))
 
--- ---- intervals chromosome by chromosome
+-- ---- records in order, as pairs
+
+module _ (order : Order) (total : IsTotal order) where
+  abbrev pub UpTo : Interval → Interval → Type 0
+  UpTo r s = IsUpTo order (locus_of r) (locus_of s)
+
+  up_to_all : (r : Interval) (rs : List Interval) → ArePlaced order (r ∷ rs) → AllByRecursion (UpTo r) rs
+  up_to_all r [] placed = tt
+  up_to_all r (s ∷ ss) placed = (placed.1, up_to_all r ss (skips order r s ss total placed))
+
+  pub placed_pairs : (rs : List Interval) → ArePlaced order rs → EachPair UpTo rs
+  placed_pairs [] placed = tt
+  placed_pairs (r ∷ rs) placed = (up_to_all r rs placed, placed_pairs rs placed.2)
+
+  pub pairs_placed : (rs : List Interval) → AllByRecursion (λ (r : Interval). IsTrue (order.knows r.chrom)) rs → EachPair UpTo rs → ArePlaced order rs
+  pairs_placed [] known pairs = tt
+  pairs_placed (r ∷ rs) known pairs = (known.0, grind arith, pairs_placed rs known.1 pairs.1)
+
+-- ---- spans chromosome by chromosome
 
 -- intervals in order, each pair of which is so
 pub record AreInOrder (order : Order) (R : Interval → Interval → Type 0) (rs : List Interval) : Type 0 where
   pub placed : ArePlaced order rs
   pub pairs : EachPair R rs
 
-module _ (order : Order) (total : IsTotal order) where
-  placed_both : (xs ys : List Interval) → ArePlaced order xs → ArePlaced order ys → AllByRecursion (λ r. AllByRecursion (λ s. Earlier order r.chrom s.chrom) ys) xs → ArePlaced order (xs ++ ys)
-  placed_both [] ys one two early = two
-  placed_both (r ∷ []) ys one two early = (one.0, grind arith, two)
-  placed_both (r ∷ s ∷ xs) ys one two early = (one.0, one.1, placed_both (s ∷ xs) ys one.2 two early.1)
+-- spans that ascend from a position on, each so far behind the one before, or farther
+abbrev pub AreSpread : ℕ → ℕ → List Span → Type 0
+AreSpread gap first [] = Unit {0}
+AreSpread gap first (s ∷ ss) = (first ≤ s.start) × (s.start < s.stop) × AreSpread gap (s.stop + gap) ss
 
-  module _ {K : Type 0} (name : K → List ℕ) (part : K → List Interval) (on : (k : K) → AllByRecursion (λ r. r.chrom ≡ name k) (part k)) where
-    behind_parts : (k : K) (ks : List K) → AllByRecursion (λ j. Earlier order (name k) (name j)) ks → AllByRecursion (λ r. AllByRecursion (λ s. Earlier order r.chrom s.chrom) (flat_map part ks)) (part k)
-    behind_parts k ks later =
-        all_so (λ r. r.chrom ≡ name k) (λ r. AllByRecursion (λ s. Earlier order r.chrom s.chrom) (flat_map part ks)) (part k)
-        (λ r here. all_flat_map (λ s. Earlier order r.chrom s.chrom) part ks
-        (all_so (λ j. Earlier order (name k) (name j)) (λ j. AllByRecursion (λ s. Earlier order r.chrom s.chrom) (part j)) ks
-        (λ j less. all_so (λ s. s.chrom ≡ name j) (λ s. Earlier order r.chrom s.chrom) (part j) (λ s there. rw (here, there) less) (on j)) later))
-        (on k)
+pub apart_spread : (first : ℕ) (spans : List Span) → AreApartFrom first spans → AreSpread 1 first spans
+apart_spread first [] h = tt
+apart_spread first (s ∷ ss) h = (h.0, h.1, apart_spread (s.stop + 1) ss h.2)
 
-    -- pairs of different chromosomes are as they may be
-    pub parts_in_order : (R : Interval → Interval → Type 0) → ((r s : Interval) → (r.chrom ≡ s.chrom → ⊥) → R r s) → (ks : List K) → AllByRecursion (λ k. IsTrue (order.knows (name k))) ks
-        → EachPair (λ j k. Earlier order (name j) (name k)) ks → AllByRecursion (λ k. AreInOrder order R (part k)) ks → AreInOrder order R (flat_map part ks)
-    parts_in_order R other [] known early are = record { placed = tt; pairs = tt }
-    parts_in_order R other (k ∷ ks) known early are =
-        let rest = parts_in_order R other ks known.1 early.1 are.1 in
-        let behind = behind_parts k ks early.0 in
-        record {
-          placed = placed_both (part k) (flat_map part ks) are.0.placed rest.placed behind;
-          pairs = pairs_both R (part k) (flat_map part ks) are.0.pairs rest.pairs
-              (all_zip (λ r. r.chrom ≡ name k) (λ r. AllByRecursion (λ s. Earlier order r.chrom s.chrom) (flat_map part ks)) (λ r. AllByRecursion (R r) (flat_map part ks)) (part k)
-              (λ r here later. all_so (λ s. Earlier order r.chrom s.chrom) (R r) (flat_map part ks) (λ s less. other r s (grind arith)) later) (on k) behind);
-        }
+abbrev pub IsBehind : ℕ → Span → Span → Type 0
+IsBehind gap s t = (s.start < s.stop) × (s.stop + gap ≤ t.start)
 
--- ---- spans of one chromosome
+spread_behind : (gap first : ℕ) (s : Span) (spans : List Span) → s.start < s.stop → s.stop + gap ≤ first → AreSpread gap first spans → AllByRecursion (IsBehind gap s) spans
+spread_behind gap first s [] some up h = tt
+spread_behind gap first s (t ∷ ts) some up h = ((some, omega (arith, up, h.0)), spread_behind gap (t.stop + gap) s ts some (omega (arith, up, h.0, h.1)) h.2)
 
-pub on_name : (name : List ℕ) (spans : List Span) → AllByRecursion (λ (r : Interval). r.chrom ≡ name) (map (placed_on name) spans)
-on_name name spans = grind (arith, all_map, all_any)
+pub spread_pairs : (gap first : ℕ) (spans : List Span) → AreSpread gap first spans → EachPair (IsBehind gap) spans
+spread_pairs gap first [] h = tt
+spread_pairs gap first (s ∷ ss) h = (spread_behind gap (s.stop + gap) s ss h.1 (omega arith) h.2, spread_pairs gap (s.stop + gap) ss h.2)
 
-apart_behind : (first stop : ℕ) (spans : List Span) → stop < first → AreApartFrom first spans → AllByRecursion (λ (t : Span). stop < t.start) spans
-apart_behind first stop [] up h = tt
-apart_behind first stop (t ∷ ts) up h = (omega (arith, up, h.0), apart_behind (t.stop + 1) stop ts (omega (arith, up, h.0, h.1)) h.2)
+-- spans of each chromosome; those of different ones have nothing in common
+module _ (order : Order) (total : IsTotal order) (R : Interval → Interval → Type 0) (gap : ℕ) (far : (r s : Interval) → (r.chrom ≡ s.chrom → r.stop + gap ≤ s.start) → R r s)
+    {K : Type 0} (name : K → List ℕ) (spans : K → List Span) where
+  abbrev Follows : Interval → Interval → Type 0
+  Follows r s = UpTo order total r s × R r s
 
-pub apart_pairs : (first : ℕ) (spans : List Span) → AreApartFrom first spans → EachPair (λ (s t : Span). s.stop < t.start) spans
-apart_pairs first [] h = tt
-apart_pairs first (s ∷ ss) h = (apart_behind (s.stop + 1) s.stop ss (omega arith) h.2, apart_pairs (s.stop + 1) ss h.2)
+  abbrev pub placed_spans : K → List Interval
+  placed_spans k = map (placed_on (name k)) (spans k)
 
-spans_apart : (name : List ℕ) (spans : List Span) → EachPair (λ (s t : Span). s.stop < t.start) spans → EachPair AreSeparate (map (placed_on name) spans)
-spans_apart name spans h = pairs_map AreSeparate (placed_on name) spans (pairs_so (λ s. Unit {0}) (λ (s t : Span). s.stop < t.start) (λ s t. AreSeparate (placed_on name s) (placed_on name t)) spans (λ s t p q less same. less) (all_any (λ s. Unit {0}) spans (λ s. tt)) h)
+  on_one : (k : K) → AreSpread gap 0 (spans k) → EachPair Follows (placed_spans k)
+  on_one k spread =
+      pairs_map Follows (placed_on (name k)) (spans k)
+      (pairs_weaker (IsBehind gap) (λ s t. Follows (placed_on (name k) s) (placed_on (name k) t)) (spans k)
+      (λ s t b. (inr (refl, omega (arith, b.0, b.1)), far (placed_on (name k) s) (placed_on (name k) t) (λ same. b.1))) (spread_pairs gap 0 (spans k) spread))
 
-module _ (order : Order) (name : List ℕ) (known : IsTrue (order.knows name)) where
-  spans_before : (first : ℕ) (s : Span) (ss : List Span) → s.start ≤ first → AreApartFrom first ss → IsPlacedBefore order (placed_on name s) (map (placed_on name) ss)
-  spans_before first s [] up h = tt
-  spans_before first s (t ∷ ts) up h = inr (refl, omega (arith, up, h.0))
+  on_two : (j k : K) → IsTrue (order.knows (name j)) → Earlier order (name j) (name k) → AllByRecursion (λ r. AllByRecursion (Follows r) (placed_spans k)) (placed_spans j)
+  on_two j k known less =
+      all_map (λ r. AllByRecursion (Follows r) (placed_spans k)) (placed_on (name j)) (spans j)
+      (all_any _ (spans j) (λ s. all_map (Follows (placed_on (name j) s)) (placed_on (name k)) (spans k)
+      (all_any _ (spans k) (λ t. (inl less, far (placed_on (name j) s) (placed_on (name k) t) (λ same. absurd (let tied = total.same (name j) known in grind arith)))))))
 
-  spans_placed : (first : ℕ) (spans : List Span) → AreApartFrom first spans → ArePlaced order (map (placed_on name) spans)
-  spans_placed first [] h = tt
-  spans_placed first (s ∷ ss) h = (known, spans_before (s.stop + 1) s ss (omega (arith, h.1)) h.2, spans_placed (s.stop + 1) ss h.2)
-
-  pub spans_in_order : (spans : List Span) → AreApartFrom 0 spans → AreInOrder order AreSeparate (map (placed_on name) spans)
-  spans_in_order spans h = record { placed = spans_placed 0 spans h; pairs = spans_apart name spans (apart_pairs 0 spans h) }
+  pub spans_in_order : (ks : List K) → AllByRecursion (λ k. IsTrue (order.knows (name k))) ks → EachPair (λ j k. Earlier order (name j) (name k)) ks → AllByRecursion (λ k. AreSpread gap 0 (spans k)) ks → AreInOrder order R (flat_map placed_spans ks)
+  spans_in_order ks known earlier spread =
+      let all = flat_map placed_spans ks in
+      let pairs = pairs_flat Follows placed_spans ks (all_so (λ k. AreSpread gap 0 (spans k)) (λ k. EachPair Follows (placed_spans k)) ks on_one spread)
+      (pairs_so (λ k. IsTrue (order.knows (name k))) (λ j k. Earlier order (name j) (name k)) (λ j k. AllByRecursion (λ r. AllByRecursion (Follows r) (placed_spans k)) (placed_spans j)) ks (λ j k p q less. on_two j k p less) known earlier) in
+      record {
+        placed = pairs_placed order total all
+            (all_flat_map (λ r. IsTrue (order.knows r.chrom)) placed_spans ks (all_so (λ k. IsTrue (order.knows (name k))) (λ k. AllByRecursion (λ r. IsTrue (order.knows r.chrom)) (placed_spans k)) ks (λ k is. all_map (λ r. IsTrue (order.knows r.chrom)) (placed_on (name k)) (spans k) (all_any _ (spans k) (λ s. is))) known))
+            (pairs_weaker Follows (UpTo order total) all (λ r s f. f.0) pairs);
+        pairs = pairs_weaker Follows R all (λ r s f. f.1) pairs;
+      }

@@ -1,14 +1,12 @@
 -- What intersect and subtract write is an input of the next command.
-use Rattle.bt_lines.proofs.Std.{◌≡◌, ℕ, ◌+◌, ◌-◌, ◌<◌, ◌≤◌, Bool, true, false, cond, not, List, [], ◌∷◌, ◌++◌, map, filter, length, max, min, refl, sym, ap, ap₂, ◌∙◌, subst, inl, inr, arith, append_assoc, append-nil, decimal, IsTrue, flat_map, AllByRecursion, bytes_decides, flat_map-append}
+use Rattle.bt_lines.proofs.Std.{◌≡◌, ℕ, ◌+◌, ◌-◌, ◌<◌, ◌≤◌, true, false, not, List, [], ◌∷◌, ◌++◌, map, filter, length, max, min, refl, sym, ap, ap₂, ◌∙◌, subst, inl, inr, arith, append_assoc, append-nil, decimal, IsTrue, flat_map, AllByRecursion, bytes_decides, flat_map-append}
 use Rattle.bt_lines.specs.calls.Line.{NoLineFeed}
 use Rattle.bt_bed.specs.model.Feature.{Feature, interval_of, intervals_of, Interval, Span}
 use Rattle.bt_bed.specs.calls.Stretches.{AreApartFrom, IsCovered}
 use Rattle.bt_bed.specs.model.BedLine.{is_header, bed_text, cut_to}
 use Rattle.bt_bed.specs.calls.Features.{is_kept}
-use Rattle.bt_bed.specs.model.Sorted.{locus_of}
-use Rattle.bt_bed.specs.calls.Orders.{ArePlaced, IsUpTo, IsTotal}
+use Rattle.bt_bed.specs.calls.Orders.{ArePlaced, IsTotal}
 use Rattle.bt_bed.specs.model.Order.{Order}
-use Rattle.bt_runs.proofs.lemmas.order.FileOrder.{skips}
 use Rattle.bt_sweep.specs.model.Hits.{hits, hits_among, shared_bases}
 use Rattle.bt_sweep.specs.model.Lines.{cut, hit_line, intersect, lines_for, lines_of, piece_line, pieces}
 use Rattle.bt_sweep.specs.calls.LineLaws.{IsLeft}
@@ -18,39 +16,9 @@ use Rattle.bt_sweep.specs.declared.output.shape.Shape.TheVariants.{Count, Cut, C
 use Rattle.bt_sweep.proofs.lemmas.definitions.PieceLemmas.{are_pieces}
 use Rattle.bt_sweep.proofs.lemmas.definitions.HitLemmas.{hit_overlaps, overlap_parts}
 use Rattle.bt_laws.specs.Pipes.{begins_with_a, AreDisjoint, IsInput, is_no_header}
-use Rattle.bt_runs.proofs.lemmas.Lists.{EachPair, all_any, all_both, all_flat_map, all_map, all_so, filter_all, all_zip, map_map, all_unmap}
+use Rattle.bt_runs.proofs.lemmas.Lists.{EachPair, all_any, all_flat_map, all_map, all_so, filter_all, all_zip, map_map, all_unmap}
 use Rattle.bt_laws.proofs.lemmas.pipes.LinesBack.{clear_both, clear_number, Columns, IsColumns, lines_back, record_back, text_of_columns, placed_known, IsSaid, tail_clear}
-use Rattle.bt_laws.proofs.lemmas.pipes.Placing.{apart_pairs, pairs_both, pairs_filter, pairs_from_map, pairs_map, pairs_so, pairs_any}
-
--- ---- pairs of a list of lists
-
-behind : {A B : Type 0} (R : B → B → Type 0) (part : A → List B) (x : A) (xs : List A) → AllByRecursion (λ y. AllByRecursion (λ r. AllByRecursion (R r) (part y)) (part x)) xs
-    → AllByRecursion (λ r. AllByRecursion (R r) (flat_map part xs)) (part x)
-behind R part x [] cross = all_any _ (part x) (λ r. tt)
-behind R part x (y ∷ ys) cross = grind (arith, all_zip, all_both, (behind R part x ys cross.1))
-
-pub pairs_flat : {A B : Type 0} (R : B → B → Type 0) (part : A → List B) (xs : List A) → AllByRecursion (λ x. EachPair R (part x)) xs
-    → EachPair (λ x y. AllByRecursion (λ r. AllByRecursion (R r) (part y)) (part x)) xs → EachPair R (flat_map part xs)
-pairs_flat R part [] own cross = tt
-pairs_flat R part (x ∷ xs) own cross = grind (arith, (pairs_flat R part xs own.1 cross.1), pairs_both, behind)
-
--- ---- records in order, as pairs
-
-module _ (order : Order) (total : IsTotal order) where
-  abbrev pub UpTo : Interval → Interval → Type 0
-  UpTo r s = IsUpTo order (locus_of r) (locus_of s)
-
-  up_to_all : (r : Interval) (rs : List Interval) → ArePlaced order (r ∷ rs) → AllByRecursion (UpTo r) rs
-  up_to_all r [] placed = tt
-  up_to_all r (s ∷ ss) placed = (placed.1, up_to_all r ss (skips order r s ss total placed))
-
-  pub placed_pairs : (rs : List Interval) → ArePlaced order rs → EachPair UpTo rs
-  placed_pairs [] placed = tt
-  placed_pairs (r ∷ rs) placed = (up_to_all r rs placed, placed_pairs rs placed.2)
-
-  pub pairs_placed : (rs : List Interval) → AllByRecursion (λ (r : Interval). IsTrue (order.knows r.chrom)) rs → EachPair UpTo rs → ArePlaced order rs
-  pairs_placed [] known pairs = tt
-  pairs_placed (r ∷ rs) known pairs = (known.0, grind arith, pairs_placed rs known.1 pairs.1)
+use Rattle.bt_laws.proofs.lemmas.pipes.Placing.{IsBehind, UpTo, apart_spread, pairs_any, pairs_filter, pairs_flat, pairs_from_map, pairs_map, pairs_placed, pairs_so, pairs_weaker, placed_pairs, spread_pairs}
 
 -- ---- the lines as columns
 
@@ -170,12 +138,9 @@ module _ (rule : HitRule) (a : Feature) (is : IsSaid a) where
 
 -- ---- which are hits
 
-hits_by : (rule : HitRule) (a b : Feature) (found : List Feature) (c : Bool) → hits rule a b ≡ c → IsSaid b → AllByRecursion (Hit rule a) found → AllByRecursion (Hit rule a) (cond c (b ∷ found) found)
-hits_by rule a b found c e is h = grind arith
-
 pub all_hits : (rule : HitRule) (a : Feature) (bs : List Feature) → AllByRecursion IsSaid bs → AllByRecursion (Hit rule a) (hits_among rule a bs)
 all_hits rule a [] h = tt
-all_hits rule a (b ∷ bs) h = hits_by rule a b (hits_among rule a bs) (hits rule a b) refl h.0 (all_hits rule a bs h.1)
+all_hits rule a (b ∷ bs) h = grind (arith, (all_hits rule a bs h.1))
 
 -- ---- where the lines of one record lie, if they begin with it
 
@@ -242,9 +207,8 @@ module _ (order : Order) (total : IsTotal order) (shape : Shape) (rule : HitRule
 
 -- ---- lines whose start and end are cut, of records that have no base in common
 
-apart_some : (first : ℕ) (spans : List Span) → AreApartFrom first spans → AllByRecursion (λ (s : Span). s.start < s.stop) spans
-apart_some first [] h = tt
-apart_some first (s ∷ ss) h = (h.1, apart_some (s.stop + 1) ss h.2)
+pieces_behind : (a : Feature) (found : List Feature) → EachPair (IsBehind 1) (pieces a found)
+pieces_behind a found = spread_pairs 1 0 (pieces a found) (apart_spread 0 (pieces a found) (are_pieces a found).apart)
 
 pairs_zip : {A : Type 0} (R S : A → A → Type 0) (xs : List A) → EachPair R xs → EachPair S xs → EachPair (λ x y. R x y × S x y) xs
 pairs_zip R S [] h k = tt
@@ -277,9 +241,9 @@ module _ (order : Order) (total : IsTotal order) where
 
   part_rises : (shape : Shape) (a : Feature) (found : List Feature) → begins_with_a shape ≡ false → EachPair Rise found → EachPair (LineUpTo order total) (columns_for shape a found)
   unfolding columns_for hit_columns piece_columns
-  part_rises Cut a found e h = pairs_map (LineUpTo order total) (hit_columns Cut a) found (pairs_so (λ b. Unit {0}) Rise (λ b c. LineUpTo order total (hit_columns Cut a b) (hit_columns Cut a c)) found (λ b c p q up. inr (refl, omega (arith, up))) (all_any (λ b. Unit {0}) found (λ b. tt)) h)
-  part_rises CutAndB a found e h = pairs_map (LineUpTo order total) (hit_columns CutAndB a) found (pairs_so (λ b. Unit {0}) Rise (λ b c. LineUpTo order total (hit_columns CutAndB a b) (hit_columns CutAndB a c)) found (λ b c p q up. inr (refl, omega (arith, up))) (all_any (λ b. Unit {0}) found (λ b. tt)) h)
-  part_rises Pieces a found e h = grind (arith, pairs_map, pairs_so, (apart_some 0 (pieces a found) (are_pieces a found).apart), (apart_pairs 0 (pieces a found) (are_pieces a found).apart))
+  part_rises Cut a found e h = pairs_map (LineUpTo order total) (hit_columns Cut a) found (pairs_weaker Rise (λ b c. LineUpTo order total (hit_columns Cut a b) (hit_columns Cut a c)) found (λ b c up. inr (refl, omega (arith, up))) h)
+  part_rises CutAndB a found e h = pairs_map (LineUpTo order total) (hit_columns CutAndB a) found (pairs_weaker Rise (λ b c. LineUpTo order total (hit_columns CutAndB a b) (hit_columns CutAndB a c)) found (λ b c up. inr (refl, omega (arith, up))) h)
+  part_rises Pieces a found e h = pairs_map (LineUpTo order total) (piece_columns a) (pieces a found) (pairs_weaker (IsBehind 1) (λ s t. LineUpTo order total (piece_columns a s) (piece_columns a t)) (pieces a found) (λ s t up. inr (refl, omega (arith, up.0, up.1))) (pieces_behind a found))
   part_rises _ a found e h = cc
 
   abbrev FollowsApart : Feature → Feature → Type 0
@@ -328,7 +292,6 @@ module _ (order : Order) (total : IsTotal order) where
       (pairs_map AreDisjoint (λ (line : Columns). line.at) cut
       (pairs_flat (λ k l. AreDisjoint k.at l.at) (λ a. map (piece_columns a) (pieces a (hits_among rule a second))) first
       (all_any _ first (λ a. pairs_map (λ k l. AreDisjoint k.at l.at) (piece_columns a) (pieces a (hits_among rule a second))
-      (pairs_so (λ p. Unit {0}) (λ (s t : Span). s.stop < t.start) (λ s t. AreDisjoint (piece_columns a s).at (piece_columns a t).at) (pieces a (hits_among rule a second)) (λ s t p q up same. omega (arith, up)) (all_any (λ p. Unit {0}) (pieces a (hits_among rule a second)) (λ p. tt))
-      (apart_pairs 0 (pieces a (hits_among rule a second)) (are_pieces a (hits_among rule a second)).apart))))
+      (pairs_weaker (IsBehind 1) (λ s t. AreDisjoint (piece_columns a s).at (piece_columns a t).at) (pieces a (hits_among rule a second)) (λ s t up same. omega (arith, up.1)) (pieces_behind a (hits_among rule a second)))))
       (cross_all order total (cut_part Pieces rule first second said said_second placed placed_second apart refl) IsWithin FollowsApart first (all_within Pieces rule first second said said_second placed placed_second apart refl)
       (follow_apart Pieces rule first second said said_second placed placed_second apart refl) (λ k l. AreDisjoint k.at l.at) cross_apart)))

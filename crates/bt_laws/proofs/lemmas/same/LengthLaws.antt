@@ -1,7 +1,7 @@
 -- Gaps of gaps, and merged depths.
-use Rattle.bt_lines.proofs.Std.{◌≡◌, ℕ, ◌+◌, ◌<◌, ◌≤◌, true, false, cond, List, [], ◌∷◌, ◌++◌, map, filter, min, Some, None, refl, sym, ap, ◌∙◌, subst, inl, inr, arith, bytes_eq, flat_map, nat_lt, AllByRecursion, cases_Bool, cases_lt, le-ltb, lt-ltb, or_parts, flat_map-append, rules}
+use Rattle.bt_lines.proofs.Std.{◌≡◌, ℕ, ◌+◌, ◌<◌, ◌≤◌, true, false, cond, List, [], ◌∷◌, map, filter, min, Some, None, refl, sym, ap, ◌∙◌, subst, inl, inr, arith, flat_map, nat_lt, AllByRecursion, cases_Bool, cases_lt, le-ltb, lt-ltb, flat_map-append, rules}
 use Rattle.bt_lines.specs.declared.fault.Input.TheVariants.{First}
-use Rattle.bt_bed.specs.model.Feature.{Feature, intervals_of, interval_of, Interval, Span, placed_on, spans_on, span_of}
+use Rattle.bt_bed.specs.model.Feature.{Feature, intervals_of, Interval, Span, placed_on, spans_on}
 use Rattle.bt_bed.specs.calls.Stretches.{AreApartFrom, IsCovered}
 use Rattle.bt_bed.specs.model.BedLine.{is_header, interval_lines}
 use Rattle.bt_bed.specs.model.Genome.{Entry, genome_names}
@@ -24,16 +24,16 @@ use Rattle.bt_laws.specs.Same.{complement_of_complement, cut_at_length, merge_of
 use Rattle.bt_laws.specs.WholeRuns.{first_records, piped}
 use Rattle.bt_laws.specs.Pipes.{IsInput, is_no_header, three_columns, four_columns}
 use Rattle.bt_laws.proofs.lemmas.pipes.PipeLaws.{runs_cover, SameCover, covered_some, some_covered, chroms_of, complement_whole, merge_whole, genomecov_whole}
-use Rattle.bt_laws.proofs.lemmas.pipes.RunsBack.{gaps_back, coverage_back}
+use Rattle.bt_laws.proofs.lemmas.pipes.RunsBack.{covered_value, coverage_back, gaps_back, level_span, places_on}
 use Rattle.bt_laws.proofs.lemmas.same.GapsHit.{complement_spans, unhidden, on_entry, spans_there}
-use Rattle.bt_runs.proofs.lemmas.Lists.{all_any, filter_all, flat_map_same, all_zip, map_flat}
-use Rattle.bt_laws.proofs.lemmas.same.SameRuns.{alike_merged, complement_on, fault_as, told_same, writes_is, merge_on, all_counted}
+use Rattle.bt_runs.proofs.lemmas.Lists.{all_any, filter_all, flat_map_same, all_zip, map_flat, some_each, some_out}
+use Rattle.bt_laws.proofs.lemmas.same.SameRuns.{CoversOn, alike_merged, all_counted, complement_on, fault_as, merge_on, some_covers, told_same, writes_is}
 use Rattle.bt_laws.proofs.lemmas.parts.PartTexts.{order_total}
 use Rattle.bt_lines.specs.model.Lines.{whole_text}
 use Rattle.bt_bed.specs.model.Levels.{HasValue, Level}
 use Rattle.bt_laws.specs.Runs.{interval_at}
 use Rattle.bt_bed.specs.calls.LevelScan.{begun_after, ended_after}
-use Rattle.bt_runs.specs.model.Depth.{DepthInterval, counted_on, coverage, depth_at, depth_of, depth_on, depths_on, levels_of}
+use Rattle.bt_runs.specs.model.Depth.{DepthInterval, counted_on, coverage, depth_at, depth_of, depths_on, levels_of}
 use Rattle.bt_laws.proofs.lemmas.single.LevelLemmas.{are_levels}
 use Rattle.bt_laws.proofs.lemmas.pipes.DepthParts.{shown}
 use Rattle.bt_laws.proofs.lemmas.pipes.LinesBack.{IsSaid, good_are_said}
@@ -50,19 +50,13 @@ nearer : (first low : ℕ) (spans : List Span) → low ≤ first → AreApartFro
 nearer first low [] up h = tt
 nearer first low (s ∷ ss) up h = (omega (arith, up, h.0), h.1, h.2)
 
-one_more : (size : ℕ) (s : Span) (ss : List Span) (p : ℕ) → IsCovered (record { start = s.start; stop = min s.stop size } ∷ cut_spans size ss) p → (IsCovered (cut_spans size ss) p → IsCovered ss p × (p < size)) → IsCovered (s ∷ ss) p × (p < size)
-one_more size s ss p p1 more = grind arith
-
 cut_apart : (size first : ℕ) (spans : List Span) → AreApartFrom first spans → AreApartFrom first (cut_spans size spans)
 cut_apart size first [] h = tt
 cut_apart size first (s ∷ ss) h = grind (arith, (cut_apart size (s.stop + 1) ss h.2), nearer)
 
 cut_to : (size : ℕ) (spans : List Span) (p : ℕ) → IsCovered (cut_spans size spans) p → IsCovered spans p × (p < size)
 cut_to size [] p c = absurd c
-cut_to size (s ∷ ss) p c = elim (cases_lt s.start size) [
-  | inl below ↦ one_more size s ss p (subst (λ b. IsCovered (cond b (record { start = s.start; stop = min s.stop size } ∷ []) [] ++ cut_spans size ss) p) (lt-ltb s.start size below) c) (cut_to size ss p)
-  | inr past ↦ grind (arith, (cut_to size ss p (subst (λ b. IsCovered (cond b (record { start = s.start; stop = min s.stop size } ∷ []) [] ++ cut_spans size ss) p) (le-ltb s.start size past) c)))
-]
+cut_to size (s ∷ ss) p c = grind (arith, cond, (cut_to size ss p), (cases_lt s.start size), (lt-ltb s.start size), (le-ltb s.start size))
 
 cut_back : (size : ℕ) (spans : List Span) (p : ℕ) → p < size → IsCovered spans p → IsCovered (cut_spans size spans) p
 cut_back size [] p within c = absurd c
@@ -94,14 +88,9 @@ module _ (all : List Entry) (used : List Interval) where
   cut_all [] h = refl
   cut_all (e ∷ es) h = grind (arith, (cut_all es h.1), flat_map-append, cut_placed)
 
-length_past : (e f : Entry) (es : List Entry) → bytes_eq e.name f.name ≡ false → length_in es f.name ≡ f.length → length_in (e ∷ es) f.name ≡ f.length
-length_past e f es other is = ap (λ b. cond b e.length (length_in es f.name)) other ∙ is
-
 lengths_more : (e : Entry) (es fs : List Entry) → is_among (genome_names fs) e.name ≡ false → AllByRecursion (λ (f : Entry). length_in es f.name ≡ f.length) fs → AllByRecursion (λ (f : Entry). length_in (e ∷ es) f.name ≡ f.length) fs
 lengths_more e es [] absent h = tt
-lengths_more e es (f ∷ fs) absent h =
-    let parts = or_parts (bytes_eq f.name e.name) (is_among (genome_names fs) e.name) absent in
-    (length_past e f es (name_ne-sym f.name e.name parts.0) h.0, lengths_more e es fs parts.1 h.1)
+lengths_more e es (f ∷ fs) absent h = grind (arith, name_ne-sym, (lengths_more e es fs))
 
 lengths_are : (entries : List Entry) → AreDistinct (genome_names entries) → AllByRecursion (λ (e : Entry). length_in entries e.name ≡ e.length) entries
 lengths_are [] distinct = tt
@@ -151,18 +140,10 @@ complements_twice inputs entries well plain =
 
 -- ---- where levels lie
 
-abbrev level_span : Level → Span
-level_span l = record { start = l.start; stop = l.stop }
-
 value_covered : (ls : List Level) (p v : ℕ) → HasValue ls p v → IsCovered (map level_span ls) p
 value_covered [] p v h = absurd h
 value_covered (l ∷ ls) p v (inl here) = inl (here.0, here.1)
 value_covered (l ∷ ls) p v (inr there) = inr (value_covered ls p v there)
-
-covered_value : (ls : List Level) (p : ℕ) → IsCovered (map level_span ls) p → (v : ℕ) × HasValue ls p v
-covered_value [] p c = absurd c
-covered_value (l ∷ ls) p (inl here) = (l.value, inl (here.0, here.1, refl))
-covered_value (l ∷ ls) p (inr there) = let more = covered_value ls p there in (more.0, inr more.1)
 
 module _ (records : List Feature) where
   abbrev levels_for : List ℕ → ℕ → List Level
@@ -170,10 +151,6 @@ module _ (records : List Feature) where
 
   abbrev spans_for : List ℕ → ℕ → List Span
   spans_for name size = map level_span (levels_for name size)
-
-  places_on : (name : List ℕ) (ls : List Level) → map interval_at (map (depth_on name) ls) ≡ map (placed_on name) (map level_span ls)
-  places_on name [] = refl
-  places_on name (l ∷ ls) = ap (λ rs. placed_on name (level_span l) ∷ rs) (places_on name ls)
 
   parts_at : (entry : Entry) → map interval_at (depths_on false None records entry) ≡ map (placed_on entry.name) (spans_for entry.name entry.length)
   parts_at entry = places_on entry.name (levels_for entry.name entry.length)
@@ -201,17 +178,13 @@ module _ (records : List Feature) where
             (are.whole p (depth_at (counted_on None name records) p) (below p c) (ap (λ b. cond b (Some (depth_at (counted_on None name records) p)) None) (lt-ltb 0 (depth_at (counted_on None name records) p) deep)));
       }
 
-within_by : (entries : List Entry) (name : List ℕ) (r : Feature) (rs : List Feature) (p : ℕ) → r.chrom ≡ name → r.stop ≤ length_in entries r.chrom → IsCovered (span_of (interval_of r) ∷ spans_on name (intervals_of rs)) p
-    → (IsCovered (spans_on name (intervals_of rs)) p → p < length_in entries name) → p < length_in entries name
-within_by entries name r rs p same up p1 more = grind arith
-
 -- what lies within the lengths
-covered_within : (entries : List Entry) (name : List ℕ) (records : List Feature) (p : ℕ) → LieWithinLengths entries records → IsCovered (spans_on name (intervals_of records)) p → p < length_in entries name
-covered_within entries name [] p within c = absurd c
-covered_within entries name (r ∷ rs) p within c = elim (cases_name r.chrom name) [
-  | inl same ↦ within_by entries name r rs p same within.0 (subst (λ b. IsCovered (cond b (span_of (interval_of r) ∷ spans_on name (intervals_of rs)) (spans_on name (intervals_of rs))) p) (name_eq r.chrom name same) c) (covered_within entries name rs p within.1)
-  | inr other ↦ covered_within entries name rs p within.1 (subst (λ b. IsCovered (cond b (span_of (interval_of r) ∷ spans_on name (intervals_of rs)) (spans_on name (intervals_of rs))) p) other c)
-]
+covered_within : (entries : List Entry) (name : List ℕ) (records : List Feature) (p : ℕ) → LieWithinLengths entries records
+    → IsCovered (spans_on name (intervals_of records)) p → p < length_in entries name
+covered_within entries name records p within c =
+    some_out (λ r. p < length_in entries name) (p < length_in entries name) (λ r below. below) records
+    (some_each (CoversOn name p) (λ r. r.stop ≤ length_in entries r.chrom) (λ r. p < length_in entries name)
+    (λ r w up. subst (λ n. p < length_in entries n) w.0 (omega (arith, w.2, up))) records (some_covers name p records c) within)
 
 -- lines of header words
 unhidden_depths : (name : List ℕ) (rs : List DepthInterval) → is_header name ≡ false → spans_on name (intervals_of (filter is_no_header (map four_columns rs))) ≡ spans_on name (map interval_at rs)

@@ -1,5 +1,5 @@
 -- maskfasta by two BEDs, and by one that has the records of both.
-use Rattle.bt_lines.proofs.Std.{common_steps, ◌≡◌, ◌||◌, ◌&&◌, ℕ, ◌<◌, ◌≤◌, Bool, true, false, cond, List, [], ◌∷◌, ◌++◌, append_assoc, Option, Some, None, inl, inr, refl, sym, ap, ap₂, ◌∙◌, subst, length, filter, arith, ◌⊎◌, bytes_eq, flat_map, is_some, IsPermutation, AllByRecursion, list_any, cases_Bool, or_parts, recursion_from_All, list_any-append, list_any-IsPermutation}
+use Rattle.bt_lines.proofs.Std.{common_steps, ◌≡◌, ◌||◌, ◌&&◌, ℕ, ◌<◌, ◌≤◌, Bool, true, false, cond, List, [], ◌∷◌, ◌++◌, append_assoc, Option, Some, None, inl, inr, refl, sym, ap, ap₂, ◌∙◌, subst, length, filter, arith, ◌⊎◌, bytes_eq, flat_map, is_some, IsPermutation, AllByRecursion, list_any, or_parts, recursion_from_All, list_any-append, list_any-IsPermutation}
 use Rattle.bt_lines.specs.model.Lines.{lines_handed}
 use Rattle.bt_lines.specs.declared.fault.Input.TheVariants.{First}
 use Rattle.bt_bed.specs.model.Feature.{Feature}
@@ -146,12 +146,7 @@ none_named : (t : Feature → Bool) (n : List ℕ) (zs : Names) (bs : List (Bloc
     → list_any t (own_of (owned_from (Some (zs ++ n ∷ [])) bs)) ≡ false
 none_named t n zs [] on full e = refl
 none_named t n zs (b ∷ bs) on full e =
-    let off = first_off n b.chrom b.items (items_of bs) on.0 full.0 e in
-    by_other (other_behind b.chrom n zs off.0) (λ rest. none_named t n rest bs on.1 full.1 off.1)
-  where
-    by_other : Other b.chrom n zs → ((rest : Names) → list_any t (own_of (owned_from (Some (rest ++ n ∷ [])) bs)) ≡ false) → list_any t (own_of (owned_from (Some (zs ++ n ∷ [])) (b ∷ bs))) ≡ false
-    by_other (inl found) next = grind (arith, not_last)
-    by_other (inr none) next = ap (λ left. list_any t (items_if_last left b.items ++ own_of (owned_from left bs))) none ∙ ap (list_any t) (none_own bs)
+    grind (arith, (first_off n b.chrom b.items (items_of bs) on.0 full.0 e), (other_behind b.chrom n zs), not_last, none_own, (λ (rest : Names). none_named t n rest bs))
 
 none_on_it : (t : Feature → Bool) (n : List ℕ) (zs : Names) (rs : List Feature) → list_any (is_on n) rs ≡ false → list_any t (own_records (zs ++ n ∷ []) rs) ≡ false
 none_on_it t n zs rs e =
@@ -167,20 +162,14 @@ named n names = filter (λ name. bytes_eq name n) names
 
 none_few : (n : List ℕ) (ys : Names) → length (named n ys) ≤ 0 → is_among ys n ≡ false
 none_few n [] few = refl
-none_few n (y ∷ ys) few = elim (cases_Bool (bytes_eq y n)) [
-  | inl t ↦ absurd (omega (arith, subst (λ b. length (cond b (y ∷ named n ys) (named n ys)) ≤ 0) t few))
-  | inr f ↦ ap₂ (λ a b. a || b) f (none_few n ys (subst (λ b. length (cond b (y ∷ named n ys) (named n ys)) ≤ 0) f few))
-]
+none_few n (y ∷ ys) few = grind (arith, (none_few n ys))
 
 once_around : (n : List ℕ) (xs ys : Names) → length (named n (xs ++ n ∷ ys)) ≤ 1 → (is_among xs n ≡ false) × (is_among ys n ≡ false)
 once_around n xs ys once = grind (arith, common_steps, name_eq, none_few)
 
 once_named : (n : List ℕ) (names : Names) (rs : List Feature) → AllByRecursion (NamesOne names) rs → list_any (is_on n) rs ≡ true → length (named n names) ≤ 1
 once_named n names [] h e = cc
-once_named n names (r ∷ rs) h e = elim (cases_name r.chrom n) [
-  | inl same ↦ subst (λ m. length (named m names) ≤ 1) same h.0
-  | inr other ↦ once_named n names rs h.1 (ap (λ b. b || list_any (is_on n) rs) (sym other) ∙ e)
-]
+once_named n names (r ∷ rs) h e = grind (arith, (cases_name r.chrom n), (once_named n names rs h.1))
 
 -- names, up to the last of them
 record EndsWith (names : Names) : Type 0 where

@@ -1,5 +1,5 @@
 -- Records that differ in their order, or in one that comes twice.
-use Rattle.bt_lines.proofs.Std.{common_steps, ◌≡◌, inl, inr, ◌||◌, ℕ, ◌+◌, ◌<◌, Bool, true, false, cond, not, List, [], ◌∷◌, ◌++◌, map, filter, Option, refl, sym, ap, ◌∙◌, subst, arith, ◌≢◌, bytes_eq, flat_map, sum_by, IsPermutation, IsTrue, map-append, filter-append, AllByRecursion, list_any, cases_Bool, list_any-IsPermutation, sum_by-IsPermutation, sum_by-cons, append-nil, None, Ok, ap₂, length, or_parts}
+use Rattle.bt_lines.proofs.Std.{common_steps, ◌≡◌, inl, inr, ◌||◌, ℕ, ◌+◌, ◌<◌, ◌≤◌, Bool, true, false, not, List, [], ◌∷◌, ◌++◌, map, filter, Option, refl, sym, ap, ◌∙◌, subst, arith, ◌≢◌, bytes_eq, flat_map, sum_by, IsPermutation, IsTrue, map-append, filter-append, AllByRecursion, list_any, list_any-IsPermutation, sum_by-IsPermutation, sum_by-cons, append-nil, None, Ok, ap₂, length, or_parts}
 use Rattle.bt_lines.specs.declared.fault.Input.TheVariants.{First}
 use Rattle.bt_bed.specs.model.Sorted.{has_records}
 use Rattle.bt_bed.specs.calls.Orders.{ArePlaced, IsTotal, AreDistinct}
@@ -11,7 +11,7 @@ use Rattle.bt_laws.proofs.lemmas.pipes.LinesBack.{placed_known, good_are_said}
 use Rattle.bt_laws.proofs.lemmas.pipes.RunsBack.{merge_back, merge_in_order}
 use Rattle.bt_laws.proofs.lemmas.parts.PartMerge.{named_all}
 use Rattle.bt_laws.proofs.lemmas.pipes.Placing.{Earlier, ascending_pairs}
-use Rattle.bt_bed.specs.model.Feature.{Feature, interval_of, intervals_of, Interval, placed_on, spans_on, Span, span_of}
+use Rattle.bt_bed.specs.model.Feature.{Feature, interval_of, intervals_of, Interval, placed_on, spans_on, Span}
 use Rattle.bt_bed.specs.calls.Stretches.{IsCovered}
 use Rattle.bt_bed.specs.model.BedLine.{interval_lines}
 use Rattle.bt_bed.specs.model.Genome.{Entry}
@@ -28,7 +28,7 @@ use Rattle.bt_tool.specs.declared.planning.plan_type.Command.TheVariants.{Comple
 use Rattle.bt_laws.specs.WholeRuns.{RunsWithoutFault, first_records, RunWrites, piped}
 use Rattle.bt_laws.specs.Same.{IsRepeated, exchanged_complement, exchanged_genomecov, exchanged_merge, repeated_complement, repeated_merge, complement_of_merge, merge_of_merge}
 use Rattle.bt_laws.proofs.lemmas.pipes.PipeLaws.{SameCover, depth_both, same_by_depth, same_gaps, same_levels, complement_whole, genomecov_whole, merge_whole, runs_again, runs_cover, report_there}
-use Rattle.bt_runs.proofs.lemmas.Lists.{EachPair, all_any, filter_all, flat_map_same, all_filter, all_map, all_so, filter_passes}
+use Rattle.bt_runs.proofs.lemmas.Lists.{EachPair, Some_of, all_any, filter_all, flat_map_same, all_filter, all_map, all_so, filter_passes}
 use Rattle.bt_laws.proofs.lemmas.parts.PartTexts.{order_total}
 use Rattle.bt_lines.specs.model.Fault.{FaultValue}
 use Rattle.bt_lines.specs.model.Lines.{whole_text}
@@ -235,6 +235,20 @@ pub none_there : (name other : List ℕ) (ss : List Span) → bytes_eq other nam
 none_there name other [] e = refl
 none_there name other (s ∷ ss) e = spans_on-elsewhere name (placed_on other s) (map (placed_on other) ss) e ∙ none_there name other ss e
 
+-- ---- which record covers a position of a chromosome
+
+abbrev pub CoversOn : List ℕ → ℕ → Feature → Type 0
+CoversOn name p r = (r.chrom ≡ name) × (r.start ≤ p) × (p < r.stop)
+
+module _ (name : List ℕ) (p : ℕ) where
+  pub some_covers : (rs : List Feature) → IsCovered (spans_on name (intervals_of rs)) p → Some_of (CoversOn name p) rs
+  some_covers [] c = absurd c
+  some_covers (r ∷ rs) c = grind (arith, (some_covers rs), (cases_name r.chrom name), name_eq)
+
+  pub covered_by_some : (rs : List Feature) → Some_of (CoversOn name p) rs → IsCovered (spans_on name (intervals_of rs)) p
+  covered_by_some [] w = absurd w
+  covered_by_some (r ∷ rs) w = grind (arith, (covered_by_some rs), (cases_name r.chrom name), name_eq)
+
 module _ (f : List ℕ → List Span) where
   abbrev pub placed_by : List ℕ → List Interval
   placed_by name = map (placed_on name) (f name)
@@ -277,10 +291,7 @@ spans_full name (r ∷ rs) h = grind (arith, (spans_full name rs h.1))
 
 has_spans : (name : List ℕ) (rs : List Interval) → has_records name rs ≡ true → 0 < length (spans_on name rs)
 has_spans name [] e = cc
-has_spans name (r ∷ rs) e = elim (cases_Bool (bytes_eq r.chrom name)) [
-  | inl t ↦ subst (λ b. 0 < length (cond b (span_of r ∷ spans_on name rs) (spans_on name rs))) (sym t) (omega arith)
-  | inr f ↦ subst (λ b. 0 < length (cond b (span_of r ∷ spans_on name rs) (spans_on name rs))) (sym f) (has_spans name rs (ap (λ b. b || has_records name rs) (sym f) ∙ e))
-]
+has_spans name (r ∷ rs) e = grind (arith, (has_spans name rs))
 
 some_run : (gap : ℕ) (xs : List Span) → 0 < length xs → AllByRecursion (λ (s : Span). s.start < s.stop) xs → 0 < length (runs_of gap xs)
 some_run gap [] some full = absurd (omega arith)

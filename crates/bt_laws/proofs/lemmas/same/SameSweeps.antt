@@ -3,11 +3,11 @@ use Rattle.bt_lines.proofs.Std.{◌≡◌, ℕ, Bool, true, false, cond, List, [
 use Rattle.bt_lines.specs.model.Fault.{FaultValue}
 use Rattle.bt_lines.specs.model.Lines.{Handed, cut_fault, lines_handed, whole_text, TextLine}
 use Rattle.bt_lines.specs.declared.fault.Input.TheVariants.{First, Second}
-use Rattle.bt_bed.specs.model.Feature.{Feature, interval_of, intervals_of, Interval, span_of, spans_on}
+use Rattle.bt_bed.specs.model.Feature.{Feature, interval_of, intervals_of, Interval, spans_on}
 use Rattle.bt_bed.specs.calls.Stretches.{IsCovered}
 use Rattle.bt_bed.specs.model.BedLine.{bed_text, interval_lines, record_of}
 use Rattle.bt_bed.specs.model.Genome.{Entry}
-use Rattle.bt_bed.specs.model.Good.{Good, items_in, good, good_from, good_with, or_else, bed_good, bed_format, line_says, said_after, good_handed}
+use Rattle.bt_bed.specs.model.Good.{Good, items_in, good, good_from, or_else, bed_good, bed_format, line_says, said_after, good_handed}
 use Rattle.bt_bed.specs.model.Meeting.{join_report, written}
 use Rattle.bt_bed.specs.model.Order.{Order, is_among}
 use Rattle.bt_sweep.specs.model.Hits.{hits_among, hits, strands_agree}
@@ -22,7 +22,7 @@ use Rattle.bt_tool.specs.model.Written.{met_report, met_within, Report, report_b
 use Rattle.bt_tool.specs.declared.planning.plan_type.Command.TheVariants.{Intersect, Subtract, Merge}
 use Rattle.bt_laws.specs.WholeRuns.{RunsWithoutFault, first_records, second_records, RunWrites, of_second, with_second}
 use Rattle.bt_laws.specs.Same.{Counted, counts_say_all, missing_is_whole, own_line, with_hits, merged_second_missing, merged_second_once, merged_second_subtract, one_base}
-use Rattle.bt_runs.proofs.lemmas.Lists.{all_any, flat_map_same, map_map, all_so, filter_passes}
+use Rattle.bt_runs.proofs.lemmas.Lists.{Some_of, all_any, flat_map_same, map_map, all_so, filter_passes}
 use Rattle.bt_laws.proofs.lemmas.parts.PartSweep.{all_true}
 use Rattle.bt_laws.proofs.lemmas.pipes.PipeLaws.{intersect_whole, limit_whole, subtract_whole, well_there, SameCover, runs_cover, same_sym, report_there}
 use Rattle.bt_lines.specs.declared.fault.Input.{Input}
@@ -30,16 +30,16 @@ use Rattle.bt_lines.specs.declared.fault.Kind.{Kind}
 use Rattle.bt_bed.specs.model.Sorted.{Locus, Sorting, sorting_of, has_records}
 use Rattle.bt_bed.specs.calls.Orders.{AreContiguous, IsFollowed}
 use Rattle.bt_bed.proofs.lemmas.Definitions.{placed_good}
-use Rattle.bt_bed.proofs.lemmas.parse.NameLemmas.{cases_name, name_eq, name_ne-sym}
+use Rattle.bt_bed.proofs.lemmas.parse.NameLemmas.{name_eq, name_ne-sym}
 use Rattle.bt_runs.specs.model.Merged.{ordered_runs, chromosomes, is_covered}
 use Rattle.bt_runs.specs.declared.merge.merge_strand.MergeStrand.TheVariants.{All}
-use Rattle.bt_runs.proofs.lemmas.order.FileOrder.{spans_on-here, spans_on-elsewhere, among_chromosomes, same_chromosome, without_absent}
+use Rattle.bt_runs.proofs.lemmas.order.FileOrder.{among_chromosomes, same_chromosome, without_absent}
 use Rattle.bt_sweep.proofs.lemmas.definitions.PieceLemmas.{are_pieces, only_pieces}
 use Rattle.bt_sweep.proofs.lemmas.definitions.HitLemmas.{enough_of_nothing}
 use Rattle.bt_laws.proofs.lemmas.single.Sweeps.{of_nothing}
 use Rattle.bt_tool.specs.declared.planning.plan_type.Command.{Command}
 use Rattle.bt_laws.specs.Pipes.{IsInput, three_columns}
-use Rattle.bt_laws.proofs.lemmas.same.SameRuns.{back, run_spans, all_counted}
+use Rattle.bt_laws.proofs.lemmas.same.SameRuns.{CoversOn, all_counted, back, some_covers, run_spans, covered_by_some}
 use Rattle.bt_laws.proofs.lemmas.pipes.RunsBack.{merge_back}
 use Rattle.bt_laws.proofs.lemmas.pipes.LinesBack.{IsSaid, good_are_said}
 use Rattle.bt_laws.proofs.lemmas.pipes.SweepBack.{Hit, all_hits, cut_bounds, same_name}
@@ -127,33 +127,24 @@ any_hits : (a b : Feature) → a.chrom ≡ b.chrom → max a.start b.start < min
 unfolding hits strands_agree
 any_hits a b same some = grind (arith, name_eq, enough_of_nothing)
 
--- one more record
-first_or : (a b : Feature) (bs : List Feature) (p : ℕ) → IsCovered (spans_of (b ∷ hits_among any_overlap a bs)) p → (IsCovered (spans_of (hits_among any_overlap a bs)) p → IsCovered (spans_on a.chrom (intervals_of bs)) p) → IsCovered (span_of (interval_of b) ∷ spans_on a.chrom (intervals_of bs)) p
-first_or a b bs p p1 more = grind arith
-
 longer : (a b : Feature) (bs : List Feature) (p : ℕ) → IsCovered (spans_of (hits_among any_overlap a bs)) p → IsCovered (spans_of (hits_among any_overlap a (b ∷ bs))) p
 longer a b bs p c = grind arith
 
-here_back : (a b : Feature) (bs : List Feature) (p : ℕ) → a.start ≤ p → p < a.stop → b.chrom ≡ a.chrom → IsCovered (span_of (interval_of b) ∷ spans_on a.chrom (intervals_of bs)) p
-    → (IsCovered (spans_on a.chrom (intervals_of bs)) p → IsCovered (spans_of (hits_among any_overlap a bs)) p) → IsCovered (spans_of (hits_among any_overlap a (b ∷ bs))) p
-here_back a b bs p from to same p1 more = grind (arith, any_hits)
+hit_some : (a : Feature) (bs : List Feature) (p : ℕ) → IsCovered (spans_of (hits_among any_overlap a bs)) p → Some_of (CoversOn a.chrom p) bs
+hit_some a [] p c = absurd c
+hit_some a (b ∷ bs) p c = grind (arith, (hit_some a bs p), (cases_Bool (hits any_overlap a b)), (same_name any_overlap a b))
+
+some_hit : (a : Feature) (bs : List Feature) (p : ℕ) → a.start ≤ p → p < a.stop → Some_of (CoversOn a.chrom p) bs → IsCovered (spans_of (hits_among any_overlap a bs)) p
+some_hit a [] p from to w = absurd w
+some_hit a (b ∷ bs) p from to (inl w) = grind (arith, any_hits)
+some_hit a (b ∷ bs) p from to (inr w) = longer a b bs p (some_hit a bs p from to w)
 
 -- the positions of a that the second input has, and those that its hits have
 pub hit_to : (a : Feature) (bs : List Feature) (p : ℕ) → IsCovered (spans_of (hits_among any_overlap a bs)) p → IsCovered (spans_on a.chrom (intervals_of bs)) p
-hit_to a [] p c = absurd c
-hit_to a (b ∷ bs) p c = elim (cases_Bool (hits any_overlap a b)) [
-  | inl t ↦
-      let there : IsCovered (spans_of (b ∷ hits_among any_overlap a bs)) p = subst (λ h. IsCovered (spans_of (cond h (b ∷ hits_among any_overlap a bs) (hits_among any_overlap a bs))) p) t c in
-      subst (λ l. IsCovered l p) (sym (spans_on-here a.chrom (interval_of b) (intervals_of bs) (sym (same_name any_overlap a b t)))) (first_or a b bs p there (hit_to a bs p))
-  | inr f ↦ grind (arith, (hit_to a bs p (subst (λ h. IsCovered (spans_of (cond h (b ∷ hits_among any_overlap a bs) (hits_among any_overlap a bs))) p) f c)))
-]
+hit_to a bs p c = covered_by_some a.chrom p bs (hit_some a bs p c)
 
 pub hit_back : (a : Feature) (bs : List Feature) (p : ℕ) → a.start ≤ p → p < a.stop → IsCovered (spans_on a.chrom (intervals_of bs)) p → IsCovered (spans_of (hits_among any_overlap a bs)) p
-hit_back a [] p from to c = absurd c
-hit_back a (b ∷ bs) p from to c = elim (cases_name b.chrom a.chrom) [
-  | inl same ↦ here_back a b bs p from to same (subst (λ l. IsCovered l p) (spans_on-here a.chrom (interval_of b) (intervals_of bs) same) c) (hit_back a bs p from to)
-  | inr other ↦ longer a b bs p (hit_back a bs p from to (subst (λ l. IsCovered l p) (spans_on-elsewhere a.chrom (interval_of b) (intervals_of bs) other) c))
-]
+hit_back a bs p from to c = some_hit a bs p from to (some_covers a.chrom p bs c)
 
 -- a hit has a position of a
 first_covered : (a : Feature) (found : List Feature) → 0 < length found → AllByRecursion (Hit any_overlap a) found → (p : ℕ) × (a.start ≤ p) × (p < a.stop) × IsCovered (spans_of found) p
@@ -230,16 +221,11 @@ pub cut_none : (fault cut : Option FaultValue) → or_else fault cut ≡ None �
 cut_none fault cut e = grind arith
 
 module _ (one other : Sorting) (too : (last : Option Locus) (said : Result (Option Feature) Kind) → SaidToo (said_after one last said) (said_after other last said)) (from to : Input) where
-  like_with : (n : ℕ) (last : Option Locus) (said again : Result (Option Feature) Kind) (ls ms : Option Locus → Good Feature) → SaidToo said again → ((now : Option Locus) → (ls now).fault ≡ None → IsLike (ls now) (ms now))
-      → (good_with (bed_format one) from n last said ls).fault ≡ None → IsLike (good_with (bed_format one) from n last said ls) (good_with (bed_format other) to n last again ms)
-  like_with n last said again ls ms is h e = grind arith
-
   like_from : (last : Option Locus) (lines : List TextLine) → (good_from (bed_format one) from last lines).fault ≡ None → IsLike (good_from (bed_format one) from last lines) (good_from (bed_format other) to last lines)
   unfolding good_from line_says
   like_from last [] e = record { items = refl; faultless = refl }
   like_from last (line ∷ lines) e =
-      let said = record_of line.text in
-      like_with line.number last (said_after one last said) (said_after other last said) (λ now. good_from (bed_format one) from now lines) (λ now. good_from (bed_format other) to now lines) (too last said) (λ now none. like_from now lines none) e
+      grind (arith, (too last (record_of line.text)), (said_after one last (record_of line.text)), (λ (now : Option Locus). like_from now lines))
 
   pub read_again : (handed : Handed) → (good_handed (bed_format one) from handed).fault ≡ None → IsLike (good_handed (bed_format one) from handed) (good_handed (bed_format other) to handed)
   read_again handed e = grind (arith, (like_from None (lines_handed handed) (cut_none (good (bed_format one) from (lines_handed handed)).fault (cut_fault from handed) e).0))

@@ -1,5 +1,5 @@
 -- The intervals of equal value are the one list that has the values; of one value they are stretches; runs and gaps are so too.
-use Rattle.bt_lines.proofs.Std.{◌≡◌, ℕ, ◌+◌, ◌≤◌, inl, inr, List, [], ◌∷◌, refl, sym, ap, ◌∙◌, arith, map, Bool, true, ◌==◌, Some, None, cases_Bool, eq-eqb, eqb-true, filter, flat_map, map-append, filter-append, ◌<◌, subst}
+use Rattle.bt_lines.proofs.Std.{◌≡◌, ℕ, ◌+◌, ◌≤◌, inl, inr, List, [], ◌∷◌, refl, sym, ap, ◌∙◌, arith, map, Bool, true, ◌==◌, Some, None, eq-eqb, eqb-true, filter, flat_map, map-append, filter-append, ◌<◌}
 use Rattle.bt_bed.specs.model.Feature.{Span, Feature, intervals_of, Interval, placed_on}
 use Rattle.bt_bed.specs.calls.Stretches.{AreApartFrom, IsCovered}
 use Rattle.bt_bed.specs.model.Levels.{AreDisjointFrom, DiffersFromNext, HasValue, Level}
@@ -78,13 +78,7 @@ covered_depth (s ∷ ss) p = grind (arith, (covered_depth ss p))
 module _ (t : ℕ → Bool) where
   pub some_value : (ls : List Level) (p v : ℕ) → HasValue (filter (λ (l : Level). t l.value) ls) p v → HasValue ls p v × (t v ≡ true)
   some_value [] p v h = absurd h
-  some_value (l ∷ ls) p v h = elim (cases_Bool (t l.value)) [
-    | inl e ↦ elim (rw e at h) [
-      | inl w ↦ (inl w, subst (λ n. t n ≡ true) w.2 e)
-      | inr w ↦ let r = some_value ls p v w in (inr r.0, r.1)
-    ]
-    | inr f ↦ let r = some_value ls p v (rw f at h) in (inr r.0, r.1)
-  ]
+  some_value (l ∷ ls) p v h = grind (arith, (some_value ls p v))
 
   pub value_some : (ls : List Level) (p v : ℕ) → t v ≡ true → HasValue ls p v → HasValue (filter (λ (l : Level). t l.value) ls) p v
   value_some [] p v e h = absurd h

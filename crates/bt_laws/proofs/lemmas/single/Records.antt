@@ -1,5 +1,5 @@
 -- Lemmas on lines, records and their orders.
-use Rattle.bt_lines.proofs.Std.{◌≡◌, ℕ, Bool, true, false, cond, List, [], ◌∷◌, Option, Some, None, Result, Ok, Err, refl, sym, ap, ◌∙◌, ⊤, ◌≢◌, IfSome, length, arith, zero, suc, ◌+◌, ◌<◌, ◌≤◌, take, ◌++◌, append_assoc, append-nil, IfErr, decimal, lt-ltb, decimal_is_IsNumeral, digit_from_value, is_ascii_digit, IsInRange, AllByRecursion, list_all, AllDigits, digits_value, false≢true, nat_cmp_total, tied_itself, slice_cmp, nat_cmp, ordering_then, IsTrue, ◌⊎◌, inl, inr, bytes_eq, or_parts, or_from, digit_glyph, digits_onto, ◌/◌, ◌%◌, All-from_recursion, codes}
+use Rattle.bt_lines.proofs.Std.{◌≡◌, ℕ, Bool, true, false, cond, List, [], ◌∷◌, Option, Some, None, Result, Ok, Err, refl, sym, ap, ◌∙◌, ⊤, ◌≢◌, IfSome, length, arith, zero, suc, ◌+◌, ◌<◌, ◌≤◌, take, ◌++◌, append_assoc, append-nil, IfErr, decimal, lt-ltb, decimal_is_IsNumeral, digit_from_value, is_ascii_digit, AllByRecursion, list_all, AllDigits, digits_value, false≢true, nat_cmp_total, tied_itself, slice_cmp, nat_cmp, ordering_then, IsTrue, ◌⊎◌, inl, inr, bytes_eq, or_parts, or_from, digit_glyph, digits_onto, ◌/◌, ◌%◌, All-from_recursion, codes}
 use Rattle.bt_lines.specs.model.Fault.{FaultValue}
 use Rattle.bt_lines.specs.model.Lines.{lines_handed, TextLine, pieces, value_of, text_lines}
 use Rattle.bt_lines.specs.calls.Line.{AreNumbered}
@@ -9,7 +9,7 @@ use Rattle.bt_lines.specs.declared.fault.Kind.TheVariants.{OutOfOrder, UnknownCh
 use Rattle.bt_bed.specs.model.Feature.{Feature, Interval, last_from}
 use Rattle.bt_bed.specs.model.BedLine.{is_header, columns_say, not_skipped, record_of, ends_word, first_word, bed_text, kept_columns}
 use Rattle.bt_bed.specs.calls.Features.{IsFeature, columns_in, said_are_features, IsName, is_kept}
-use Rattle.bt_bed.specs.model.Good.{Good, good_from, good_with, line_says, said_after, block_format, bed_format}
+use Rattle.bt_bed.specs.model.Good.{good_from, line_says, said_after, block_format, bed_format}
 use Rattle.bt_bed.specs.model.Meeting.{Rule, join_report, written}
 use Rattle.bt_laws.specs.Records.{blocks_know_each_chromosome, good_stand_on_lines, first_lines_have_the_first, good_in_blocks_are_non_empty, good_in_blocks_stand_on_lines, genome_names_are_distinct, first_lines_make_entries, read_are_rewritten, written_are_read, StaysDecided, bytes_know_each_chromosome, first_difference_decides, prefixes_come_first, shared_are_common, stretches_are_one, contiguous_grows}
 use Rattle.bt_bed.specs.model.Sorted.{Locus, block_sorting, sorting_of, has_records}
@@ -67,15 +67,10 @@ line_other : (last : Option Locus) (text : List ℕ) → Other (line_says block_
 unfolding line_says
 line_other last text = said_other last (record_of text) (record_other text)
 
-with_other : (input : Input) (line : ℕ) (last : Option Locus) (said : Result (Option Feature) Kind) (rest : Option Locus → Good Feature) → Other said → ((now : Option Locus) → Tells (rest now).fault)
-    → Tells (good_with block_format input line last said rest).fault
-with_other input line last said rest h k = grind arith
-
 from_other : (input : Input) (last : Option Locus) (lines : List TextLine) → Tells (good_from block_format input last lines).fault
 unfolding good_from
 from_other input last [] = tt
-from_other input last (line ∷ lines) =
-    with_other input line.number last (line_says block_sorting last line.text) (λ now. good_from block_format input now lines) (line_other last line.text) (λ now. from_other input now lines)
+from_other input last (line ∷ lines) = grind (arith, (line_other last line.text), (λ (now : Option Locus). from_other input now lines))
 
 never_unknown : (fault : Option FaultValue) → Tells fault → IfSome fault (λ fault. fault.kind ≢ UnknownChrom)
 unfolding is_other
@@ -164,12 +159,9 @@ first_make_entries input count text beyond = first_entries_from input count coun
 -- What a line says is said by its bytes, written anew.
 
 -- a decimal digit is a digit and no tab
-in_range_digit : (c : ℕ) → IsInRange 48 57 c → is_ascii_digit c ≡ true
-in_range_digit c h = grind arith
-
 digits_pass : (ds : List ℕ) → AllDigits 10 ds → list_all is_ascii_digit ds ≡ true
 digits_pass [] h = refl
-digits_pass (c ∷ cs) h = rw (in_range_digit c (digit_from_value c h.0), digits_pass cs h.1) refl
+digits_pass (c ∷ cs) h = grind (arith, (digit_from_value c), (digits_pass cs h.1))
 
 -- the digits of a number denote it
 value_of_text : (text : List ℕ) (n : ℕ) → 0 < length text → AllDigits 10 text → digits_value 10 text ≡ n → n ≤ 999999999999 → value_of text ≡ Some n

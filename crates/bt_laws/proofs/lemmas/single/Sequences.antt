@@ -4,7 +4,7 @@ use Rattle.bt_bed.specs.model.Feature.{Feature, Span}
 use Rattle.bt_seq.specs.model.Masked.{Block, blocks_by, names_behind, owned_from, decided, mask_rule, SequenceLine}
 use Rattle.bt_seq.specs.calls.MaskState.{left_at_last}
 use Rattle.bt_laws.specs.Sequences.{owners_stay, owners_were, AreBetween, blocks_are_within, unskipped_are_one_block, Divides, division_is_found, division_is_one, is_operation, operations_are_divided, spelled, early_mask_rule, faultless_are_masked, masked_are_a_prefix, AreApart, AreOfChrom, DividesAt, blocks_are_maximal_runs, items_of, owners_are_first, unowned_find_no_name, quiet_records_are_taken, taken_are_first}
-use Rattle.bt_seq.specs.model.Alignment.{is_skip, with_bases, covered_by, reference_length, Part, each_operation, is_letter, onto_part, operation_of, operations_in, parts_of, with_operation, with_part}
+use Rattle.bt_seq.specs.model.Alignment.{is_skip, with_bases, covered_by, reference_length, Part, each_operation, is_letter, onto_part, operation_of, operations_in, parts_of, with_part}
 use Rattle.bt_seq.specs.declared.sam.cigar.Operation.{Operation}
 use Rattle.bt_seq.proofs.lemmas.Sam.{blocks_open, open_blocks, skip_covers, digits_no_letters, parts_cut}
 use Rattle.std.specs.Prelude.{option_and_then}
@@ -21,22 +21,14 @@ use Rattle.std.specs.List.{last_or}
 -- A block belongs to the same sequence among the names up to a line and among all names.
 
 -- ---- one name
-more_by : (b : Bool) (name : List ℕ) (names more rest : List (List ℕ)) → (names_behind name names ≡ Some rest → names_behind name (names ++ more) ≡ Some (rest ++ more))
-    → cond b (Some names) (names_behind name names) ≡ Some rest → cond b (Some (names ++ more)) (names_behind name (names ++ more)) ≡ Some (rest ++ more)
-more_by b name names more rest next e = grind arith
-
 behind_more : (name : List ℕ) (names more rest : List (List ℕ)) → names_behind name names ≡ Some rest → names_behind name (names ++ more) ≡ Some (rest ++ more)
 behind_more name [] more rest e = cc
-behind_more name (n ∷ ns) more rest e = more_by (bytes_eq n name) name ns more rest (behind_more name ns more rest) e
+behind_more name (n ∷ ns) more rest e = grind (arith, (behind_more name ns more rest))
 
 -- fewer names come after the one that is found than there are
-fewer_by : (b : Bool) (name : List ℕ) (names rest : List (List ℕ)) → (names_behind name names ≡ Some rest → length rest < length names)
-    → cond b (Some names) (names_behind name names) ≡ Some rest → length rest ≤ length names
-fewer_by b name names rest next e = grind arith
-
 behind_fewer : (name : List ℕ) (names rest : List (List ℕ)) → names_behind name names ≡ Some rest → length rest < length names
 behind_fewer name [] rest e = cc
-behind_fewer name (n ∷ ns) rest e = let few = fewer_by (bytes_eq n name) name ns rest (behind_fewer name ns rest) e in omega (arith, few)
+behind_fewer name (n ∷ ns) rest e = grind (arith, (behind_fewer name ns rest))
 
 -- if as many names come after it as there are others, it is one of the first
 record Within (name : List ℕ) (names more all : List (List ℕ)) : Type 0 where
@@ -44,13 +36,9 @@ record Within (name : List ℕ) (names more all : List (List ℕ)) : Type 0 wher
   is : all ≡ left ++ more
   found : names_behind name names ≡ Some left
 
-within_by : (b : Bool) (name n : List ℕ) (names more all : List (List ℕ)) → (names_behind name (names ++ more) ≡ Some all → Within name names more all)
-    → bytes_eq n name ≡ b → cond b (Some (names ++ more)) (names_behind name (names ++ more)) ≡ Some all → Within name (n ∷ names) more all
-within_by b name n names more all next is e = grind arith
-
 behind_within : (name : List ℕ) (names more all : List (List ℕ)) → length more ≤ length all → names_behind name (names ++ more) ≡ Some all → Within name names more all
 behind_within name [] more all least e = absurd (let few = behind_fewer name more all e in omega (arith, few, least))
-behind_within name (n ∷ ns) more all least e = within_by (bytes_eq n name) name n ns more all (behind_within name ns more all least) refl e
+behind_within name (n ∷ ns) more all least e = grind (arith, (behind_within name ns more all least))
 
 -- ---- blocks
 module _ {A : Type 0} where
@@ -61,30 +49,18 @@ module _ {A : Type 0} where
   abbrev at_last : Option (List (List ℕ)) → List (Block A) → Option (List (List ℕ))
   at_last o bs = left_at_last o (owned_from o bs)
 
-  last_fewer_by : (b : Block A) (bs : List (Block A)) (names rest : List (List ℕ)) → ((left : List (List ℕ)) → at_last (Some left) bs ≡ Some rest → length rest ≤ length left)
-      → (o : Option (List (List ℕ))) → names_behind b.chrom names ≡ o → at_last o bs ≡ Some rest → length rest ≤ length names
-  last_fewer_by b bs names rest next o is e = grind (arith, none_at_last, behind_fewer)
-
   last_fewer : (rest : List (List ℕ)) (bs : List (Block A)) (names : List (List ℕ)) → at_last (Some names) bs ≡ Some rest → length rest ≤ length names
   last_fewer rest [] names e = let same : names ≡ rest = cc in omega (arith, ap length same)
-  last_fewer rest (b ∷ bs) names e = last_fewer_by b bs names rest (last_fewer rest bs) (names_behind b.chrom names) refl e
-
-  last_more_by : (b : Block A) (bs : List (Block A)) (names more rest : List (List ℕ)) → ((left : List (List ℕ)) → at_last (Some left) bs ≡ Some rest → at_last (Some (left ++ more)) bs ≡ Some (rest ++ more))
-      → (o : Option (List (List ℕ))) → names_behind b.chrom names ≡ o → at_last o bs ≡ Some rest → at_last (names_behind b.chrom (names ++ more)) bs ≡ Some (rest ++ more)
-  last_more_by b bs names more rest next o is e = grind (arith, none_at_last, behind_more)
+  last_fewer rest (b ∷ bs) names e = grind (arith, none_at_last, behind_fewer, (names_behind b.chrom names), (last_fewer rest bs))
 
   last_more : (more rest : List (List ℕ)) (bs : List (Block A)) (names : List (List ℕ)) → at_last (Some names) bs ≡ Some rest → at_last (Some (names ++ more)) bs ≡ Some (rest ++ more)
   last_more more rest [] names e = let same : names ≡ rest = cc in ap (λ l. Some (l ++ more)) same
-  last_more more rest (b ∷ bs) names e = last_more_by b bs names more rest (last_more more rest bs) (names_behind b.chrom names) refl e
-
-  last_first_by : (b : Block A) (bs : List (Block A)) (names more rest : List (List ℕ)) → ((left : List (List ℕ)) → at_last (Some (left ++ more)) bs ≡ Some (rest ++ more) → at_last (Some left) bs ≡ Some rest)
-      → (o : Option (List (List ℕ))) → names_behind b.chrom (names ++ more) ≡ o → at_last o bs ≡ Some (rest ++ more) → at_last (names_behind b.chrom names) bs ≡ Some rest
-  last_first_by b bs names more rest next None is e = absurd (let apart : None ≡ Some (rest ++ more) = sym (none_at_last bs) ∙ e in cc)
-  last_first_by b bs names more rest next (Some all) is e = grind (arith, (behind_within b.chrom names more all (omega (arith, last_fewer (rest ++ more) bs all e, length-append rest more)) is), (last_fewer (rest ++ more) bs all e), (length-append rest more))
+  last_more more rest (b ∷ bs) names e = grind (arith, none_at_last, behind_more, (names_behind b.chrom names), (last_more more rest bs))
 
   last_first : (more rest : List (List ℕ)) (bs : List (Block A)) (names : List (List ℕ)) → at_last (Some (names ++ more)) bs ≡ Some (rest ++ more) → at_last (Some names) bs ≡ Some rest
   last_first more rest [] names e = grind (arith, append_cancel_right)
-  last_first more rest (b ∷ bs) names e = last_first_by b bs names more rest (last_first more rest bs) (names_behind b.chrom (names ++ more)) refl e
+  last_first more rest (b ∷ bs) names e =
+      grind (arith, none_at_last, (λ (all : List (List ℕ)) (is : names_behind b.chrom (names ++ more) ≡ Some all) (e : at_last (Some all) bs ≡ Some (rest ++ more)). behind_within b.chrom names more all (omega (arith, last_fewer (rest ++ more) bs all e, length-append rest more)) is), (names_behind b.chrom (names ++ more)), (last_first more rest bs))
 
 pub owners_stay_so : owners_stay
 owners_stay_so names more records rest e = last_more more rest (blocks_by (λ (r : Feature). r.chrom) records) names e
@@ -151,9 +127,7 @@ byte_whole : (byte : ℕ) (bytes : List ℕ) (found_parts : Option (List Part)) 
     → ((others : List Part) → found_parts ≡ Some others → flat_map spelled others ≡ bytes) → flat_map spelled parts ≡ byte ∷ bytes
 byte_whole byte bytes None parts e h = cc
 byte_whole byte bytes (Some []) parts e h = cc
-byte_whole byte bytes (Some (part ∷ others)) parts e h =
-    let is : record { digits = byte ∷ part.digits; letter = part.letter } ∷ others ≡ parts = cc in
-    ap (flat_map spelled) (sym is) ∙ ap (λ l. byte ∷ l) (h (part ∷ others) refl)
+byte_whole byte bytes (Some (part ∷ others)) parts e h = grind (arith, (h (part ∷ others) refl))
 
 whole_by : (byte : ℕ) (bytes : List ℕ) (b : Bool) (parts : List Part) → cond b (with_part (record { digits = []; letter = byte }) (parts_of bytes)) (onto_part byte (parts_of bytes)) ≡ Some parts
     → ((others : List Part) → parts_of bytes ≡ Some others → flat_map spelled others ≡ bytes) → flat_map spelled parts ≡ byte ∷ bytes
@@ -172,31 +146,20 @@ byte_lettered : (byte : ℕ) (found_parts : Option (List Part)) (parts : List Pa
     → ((others : List Part) → found_parts ≡ Some others → letters others ≡ true) → letters parts ≡ true
 byte_lettered byte None parts e h = cc
 byte_lettered byte (Some []) parts e h = cc
-byte_lettered byte (Some (part ∷ others)) parts e h =
-    let same : record { digits = byte ∷ part.digits; letter = part.letter } ∷ others ≡ parts = cc in
-    ap letters (sym same) ∙ h (part ∷ others) refl
-
-lettered_by : (byte : ℕ) (bytes : List ℕ) (b : Bool) (parts : List Part) → is_letter byte ≡ b → cond b (with_part (record { digits = []; letter = byte }) (parts_of bytes)) (onto_part byte (parts_of bytes)) ≡ Some parts
-    → ((others : List Part) → parts_of bytes ≡ Some others → letters others ≡ true) → letters parts ≡ true
-lettered_by byte bytes b parts is e h = grind (arith, byte_lettered)
+byte_lettered byte (Some (part ∷ others)) parts e h = grind (arith, (h (part ∷ others) refl))
 
 lettered : (text : List ℕ) (parts : List Part) → parts_of text ≡ Some parts → letters parts ≡ true
 lettered [] parts e = let is : [] ≡ parts = cc in ap letters (sym is)
-lettered (byte ∷ bytes) parts e = lettered_by byte bytes (is_letter byte) parts refl e (λ others h. lettered bytes others h)
+lettered (byte ∷ bytes) parts e = grind (arith, (parts_of bytes), byte_lettered, (lettered bytes))
 
 is_number_by : (b : Bool) (digits : List ℕ) → is_number digits ≡ b → (value_of digits ≡ None → ⊥) → b ≡ true
 unfolding value_of
 is_number_by b digits is h = grind arith
 
-rest_there : (first : Option Operation) (rest : Option (List Operation)) (operations : List Operation) → with_operation first rest ≡ Some operations → (others : List Operation) × (rest ≡ Some others)
-rest_there first rest operations e = grind arith
-
 each_is : (parts : List Part) (operations : List Operation) → each_operation parts ≡ Some operations → letters parts ≡ true → list_all is_operation parts ≡ true
 each_is [] operations e h = refl
 each_is (part ∷ parts) operations e h =
-    let l = and_parts (is_letter part.letter) (letters parts) h in
-    let rest = rest_there (operation_of part) (each_operation parts) operations e in
-    grind (arith, (is_number_by (is_number part.digits) part.digits refl (λ none. grind arith)), (each_is parts rest.0 rest.1 l.1))
+    grind (arith, (is_number_by (is_number part.digits) part.digits refl), (operation_of part), (each_operation parts), (each_is parts))
 
 pub divided : operations_are_divided
 unfolding operations_in
@@ -242,10 +205,6 @@ runs_of (r ∷ rs) = runs_step r rs (blocks_by (λ r. r.chrom) rs) refl (runs_of
 pub maximal_runs : blocks_are_maximal_runs
 maximal_runs records = let runs = runs_of records in (runs.items, runs.apart, runs.chroms)
 
--- names that differ are distinguished
-apart_names : (n name : List ℕ) → n ≢ name → (t : Bool) → bytes_eq n name ≡ t → t ≡ false
-apart_names n name differ t e = search rules
-
 other_name : (n name : List ℕ) → bytes_eq n name ≡ false → n ≢ name
 other_name n name e is = let same = (bytes_decides n name).1 is in cc
 
@@ -264,19 +223,15 @@ module _ (name : List ℕ) where
 
   found : (before behind : List (List ℕ)) → AllByRecursion (λ (other : List ℕ). other ≢ name) before → names_behind name (before ++ name ∷ behind) ≡ Some behind
   found [] behind others = rw ((bytes_decides name name).1 refl) refl
-  found (n ∷ ns) behind others = rw (apart_names n name others.0 (bytes_eq n name) refl) (found ns behind others.1)
-
-  none_with : (n : List ℕ) (ns : List (List ℕ)) → (names_behind name ns ≡ None → AllByRecursion (λ (other : List ℕ). other ≢ name) ns)
-      → (t : Bool) → bytes_eq n name ≡ t → cond t (Some ns) (names_behind name ns) ≡ None → AllByRecursion (λ (other : List ℕ). other ≢ name) (n ∷ ns)
-  none_with n ns later t e is = search rules
+  found (n ∷ ns) behind others = grind (arith, (found ns behind others.1), (bytes_decides n name))
 
   none_has : (names : List (List ℕ)) → names_behind name names ≡ None → AllByRecursion (λ (other : List ℕ). other ≢ name) names
   none_has [] is = tt
-  none_has (n ∷ ns) is = none_with n ns (none_has ns) (bytes_eq n name) refl is
+  none_has (n ∷ ns) is = grind (arith, (none_has ns), other_name)
 
   none_found : (names : List (List ℕ)) → AllByRecursion (λ (other : List ℕ). other ≢ name) names → names_behind name names ≡ None
   none_found [] others = refl
-  none_found (n ∷ ns) others = rw (apart_names n name others.0 (bytes_eq n name) refl) (none_found ns others.1)
+  none_found (n ∷ ns) others = grind (arith, (none_found ns others.1), (bytes_decides n name))
 
 pub first_owners : owners_are_first
 first_owners name names behind = (divides name names behind, λ d. rw d.1 (found name d.0 behind d.2))

@@ -1,5 +1,5 @@
 -- The runs of several strands come in the order of their first records.
-use Rattle.bt_lines.proofs.Std.{AllByRecursion, rules, ◌≡◌, ℕ, zero, suc, ◌+◌, ◌<◌, ◌≤◌, inl, inr, refl, sym, ap, ap₂, ◌∙◌, arith, subst, List, [], ◌∷◌, ◌++◌, append_assoc, append-nil, length, map, Bool, true, false, Some, IsTrue, find, list_any, position_or_len, IsStrictlyIncreasing, cases_Bool, map-append, ◌||◌, or_parts, is_lt, bytes_eq, if◌then◌else◌}
+use Rattle.bt_lines.proofs.Std.{AllByRecursion, rules, ◌≡◌, ℕ, zero, suc, ◌+◌, ◌<◌, ◌≤◌, inl, inr, refl, sym, ap, ap₂, ◌∙◌, arith, subst, List, [], ◌∷◌, ◌++◌, append_assoc, append-nil, length, map, Bool, true, false, Some, IsTrue, find, list_any, position_or_len, IsStrictlyIncreasing, cases_Bool, map-append, ◌||◌, or_parts, bytes_eq}
 use Rattle.bt_bed.specs.model.Feature.{Feature, interval_of, intervals_of, Interval}
 use Rattle.bt_bed.specs.model.Sorted.{Locus, locus_of}
 use Rattle.bt_bed.specs.calls.Orders.{ArePlaced, IsPlacedBefore, IsUpTo, IsTotal, AreDistinct}
@@ -33,16 +33,7 @@ module _ {A : Type 0} where
       → (find test (xs ++ ys) ≡ find other xs)
       × (position_or_len test (xs ++ ys) ≡ position_or_len other xs)
   found_same test other [] ys e some = absurd some
-  found_same test other (x ∷ xs) ys e some = elim (cases_Bool (other x)) [
-    | inl t ↦ grind arith
-    | inr f ↦
-        let new = found_later test x (xs ++ ys) (e.0 ∙ f) in
-        let old = found_later other x xs f in
-        let there : Some_of (λ x. other x ≡ true) xs =
-        elim some [ inl t ↦ absurd (cc) | inr w ↦ w ] in
-        let rest = found_same test other xs ys e.1 there in
-        (new.0 ∙ rest.0 ∙ sym old.0, new.1 ∙ ap (λ n. 1 + n) rest.1 ∙ sym old.1)
-  ]
+  found_same test other (x ∷ xs) ys e some = grind (arith, (found_same test other xs ys e.1))
 
   -- or the last is the first that passes
   found_last : (test : A → Bool) (xs : List A) (y : A) → AllByRecursion (λ x. test x ≡ false) xs
@@ -54,15 +45,7 @@ module _ {A : Type 0} where
   found_below : (test : A → Bool) (xs : List A) → Some_of (λ x. test x ≡ true) xs
       → position_or_len test xs < length xs
   found_below test [] some = absurd some
-  found_below test (x ∷ xs) some = elim (cases_Bool (test x)) [
-    | inl t ↦ let is = (found_here test x xs t).1 in omega arith
-    | inr f ↦
-        let is = (found_later test x xs f).1 in
-        let there : Some_of (λ x. test x ≡ true) xs =
-        elim some [ inl t ↦ absurd (cc) | inr w ↦ w ] in
-        let rest = found_below test xs there in
-        omega arith
-  ]
+  found_below test (x ∷ xs) some = grind (arith, (found_below test xs))
 
 -- numbers that rise, in a list that grows at its end
 abbrev Rise : List ℕ → Type 0
@@ -259,14 +242,9 @@ ordered_all P order [] all = tt
 ordered_all P order (n ∷ ns) all = put_all P order n (runs_in_order order ns) all.0 (ordered_all P order ns all.1)
 
 module _ (order : Order) where
-  among_if : (c : Bool) (name n x : List ℕ) (ns : List (List ℕ))
-      → is_among (put_in_order order name ns) x ≡ is_among (name ∷ ns) x
-      → is_among (if c then name ∷ n ∷ ns else n ∷ put_in_order order name ns) x ≡ is_among (name ∷ n ∷ ns) x
-  among_if c name n x ns e = grind arith
-
   among_put : (name x : List ℕ) (ns : List (List ℕ)) → is_among (put_in_order order name ns) x ≡ is_among (name ∷ ns) x
   among_put name x [] = refl
-  among_put name x (n ∷ ns) = among_if (is_lt (order.compare name n)) name n x ns (among_put name x ns)
+  among_put name x (n ∷ ns) = grind (arith, (among_put name x ns))
 
   among_order : (x : List ℕ) (ns : List (List ℕ)) → is_among (runs_in_order order ns) x ≡ is_among ns x
   among_order x [] = refl
